@@ -1,0 +1,8 @@
+-- The addresses that there are.
+use Rattle.std.specs.Prelude.{ℕ, ◌<◌}
+use Rattle.frame_core.specs.declared.place.Address.{Address}
+
+-- an address is one of 8 spaces with 4096 virtual pages each
+pub record InRange (address : Address) : Type 0 where
+  pub space : address.space < 8
+  pub vpage : address.vpage < 4096

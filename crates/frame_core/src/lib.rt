@@ -1,0 +1,18 @@
+//! The words of a page pool: numbers in their ranges, orders, addresses, page flags and frame states.
+//!
+//! Contracts see each number as itself, and a set of flags as its bits.
+#![tactic(auto)]
+
+mod flags;
+mod order;
+mod page;
+mod place;
+mod state;
+#[cfg(test)]
+mod tests;
+
+pub use flags::PageFlags;
+pub use order::Order;
+pub use page::{ClientNo, PageNo, WordNo};
+pub use place::{Address, BlockNo, FrameNo, SpaceNo, VPage, ZoneNo, block_of, first_frame};
+pub use state::{FrameState, Serial};

@@ -1,0 +1,124 @@
+ghost use Rattle.std.specs.Prelude.{◌≡◌, ℕ, ◌<◌, ◌↔◌, IsSome, IfSome};
+
+use std::marker::Model;
+
+const WORDS: u32 = 8;
+
+/// A word's number in its page, 0 to 7.
+#[derive(Clone, Copy, Debug, PartialEq, Eq, PartialOrd, Ord, Hash)]
+pub struct WordNo {
+    word: u8,
+}
+
+impl Model for WordNo {
+    ghost Value = { ℕ };
+
+    ghost view = { λ n. n.word };
+
+    ghost invariant = { λ n. n.word < 8 };
+
+    ghost inverse = { λ n. record { word = n } };
+}
+
+impl WordNo {
+    /// None where the number is out of its range.
+    pub fn new(number: u32) -> Option<Self>
+        ensures valid { IsSome result ↔ (number < 8) }
+        ensures value { IfSome result (λ n. n ≡ number) }
+    {
+        if number < WORDS {
+            Some(WordNo { word: number as u8 })
+        } else {
+            None
+        }
+    }
+
+    pub fn get(self) -> u32
+        ensures value { result ≡ self }
+        ensures range { result < 8 }
+    {
+        u32::from(self.word)
+    }
+}
+
+const PAGES: u32 = 4096;
+
+/// A page's number in its zone, 0 to 4095.
+#[derive(Clone, Copy, Debug, PartialEq, Eq, PartialOrd, Ord, Hash)]
+pub struct PageNo {
+    page: u16,
+}
+
+impl Model for PageNo {
+    ghost Value = { ℕ };
+
+    ghost view = { λ n. n.page };
+
+    ghost invariant = { λ n. n.page < 4096 };
+
+    ghost inverse = { λ n. record { page = n } };
+}
+
+impl PageNo {
+    /// None where the number is out of its range.
+    pub fn new(number: u32) -> Option<Self>
+        ensures valid { IsSome result ↔ (number < 4096) }
+        ensures value { IfSome result (λ n. n ≡ number) }
+    {
+        if number < PAGES {
+            Some(PageNo {
+                page: number as u16,
+            })
+        } else {
+            None
+        }
+    }
+
+    pub fn get(self) -> u32
+        ensures value { result ≡ self }
+        ensures range { result < 4096 }
+    {
+        u32::from(self.page)
+    }
+}
+
+const CLIENTS: u32 = 8;
+
+/// A client's number, 0 to 7.
+#[derive(Clone, Copy, Debug, PartialEq, Eq, PartialOrd, Ord, Hash)]
+pub struct ClientNo {
+    client: u8,
+}
+
+impl Model for ClientNo {
+    ghost Value = { ℕ };
+
+    ghost view = { λ n. n.client };
+
+    ghost invariant = { λ n. n.client < 8 };
+
+    ghost inverse = { λ n. record { client = n } };
+}
+
+impl ClientNo {
+    /// None where the number is out of its range.
+    pub fn new(number: u32) -> Option<Self>
+        ensures valid { IsSome result ↔ (number < 8) }
+        ensures value { IfSome result (λ n. n ≡ number) }
+    {
+        if number < CLIENTS {
+            Some(ClientNo {
+                client: number as u8,
+            })
+        } else {
+            None
+        }
+    }
+
+    pub fn get(self) -> u32
+        ensures value { result ≡ self }
+        ensures range { result < 8 }
+    {
+        u32::from(self.client)
+    }
+}

@@ -1,0 +1,231 @@
+ghost use Rattle.std.specs.Prelude.{◌≡◌, ℕ, ◌*◌, ◌/◌, ◌<◌, ◌↔◌, IsSome, IfSome};
+
+use std::marker::Model;
+
+const ZONES: u32 = 4;
+
+/// A zone's number, 0 to 3.
+#[derive(Clone, Copy, Debug, PartialEq, Eq, PartialOrd, Ord, Hash)]
+pub struct ZoneNo {
+    zone: u8,
+}
+
+impl Model for ZoneNo {
+    ghost Value = { ℕ };
+
+    ghost view = { λ n. n.zone };
+
+    ghost invariant = { λ n. n.zone < 4 };
+
+    ghost inverse = { λ n. record { zone = n } };
+}
+
+impl ZoneNo {
+    /// None where the number is out of its range.
+    pub fn new(number: u32) -> Option<Self>
+        ensures valid { IsSome result ↔ (number < 4) }
+        ensures value { IfSome result (λ n. n ≡ number) }
+    {
+        if number < ZONES {
+            Some(ZoneNo { zone: number as u8 })
+        } else {
+            None
+        }
+    }
+
+    pub fn get(self) -> u32
+        ensures value { result ≡ self }
+        ensures range { result < 4 }
+    {
+        u32::from(self.zone)
+    }
+}
+
+const FRAMES: u32 = 4096;
+
+/// A frame's number in its zone, 0 to 4095.
+#[derive(Clone, Copy, Debug, PartialEq, Eq, PartialOrd, Ord, Hash)]
+pub struct FrameNo {
+    frame: u16,
+}
+
+impl Model for FrameNo {
+    ghost Value = { ℕ };
+
+    ghost view = { λ n. n.frame };
+
+    ghost invariant = { λ n. n.frame < 4096 };
+
+    ghost inverse = { λ n. record { frame = n } };
+}
+
+impl FrameNo {
+    /// None where the number is out of its range.
+    pub fn new(number: u32) -> Option<Self>
+        ensures valid { IsSome result ↔ (number < 4096) }
+        ensures value { IfSome result (λ n. n ≡ number) }
+    {
+        if number < FRAMES {
+            Some(FrameNo {
+                frame: number as u16,
+            })
+        } else {
+            None
+        }
+    }
+
+    pub fn get(self) -> u32
+        ensures value { result ≡ self }
+        ensures range { result < 4096 }
+    {
+        u32::from(self.frame)
+    }
+}
+
+const BLOCKS: u32 = 8;
+
+/// A pageblock's number in its zone, 0 to 7. Block b is the frames 512b to 512b + 511.
+#[derive(Clone, Copy, Debug, PartialEq, Eq, PartialOrd, Ord, Hash)]
+pub struct BlockNo {
+    block: u8,
+}
+
+impl Model for BlockNo {
+    ghost Value = { ℕ };
+
+    ghost view = { λ n. n.block };
+
+    ghost invariant = { λ n. n.block < 8 };
+
+    ghost inverse = { λ n. record { block = n } };
+}
+
+impl BlockNo {
+    /// None where the number is out of its range.
+    pub fn new(number: u32) -> Option<Self>
+        ensures valid { IsSome result ↔ (number < 8) }
+        ensures value { IfSome result (λ n. n ≡ number) }
+    {
+        if number < BLOCKS {
+            Some(BlockNo {
+                block: number as u8,
+            })
+        } else {
+            None
+        }
+    }
+
+    pub fn get(self) -> u32
+        ensures value { result ≡ self }
+        ensures range { result < 8 }
+    {
+        u32::from(self.block)
+    }
+}
+
+const SPACES: u32 = 8;
+
+/// An address space's number in its zone, 0 to 7.
+#[derive(Clone, Copy, Debug, PartialEq, Eq, PartialOrd, Ord, Hash)]
+pub struct SpaceNo {
+    space: u8,
+}
+
+impl Model for SpaceNo {
+    ghost Value = { ℕ };
+
+    ghost view = { λ n. n.space };
+
+    ghost invariant = { λ n. n.space < 8 };
+
+    ghost inverse = { λ n. record { space = n } };
+}
+
+impl SpaceNo {
+    /// None where the number is out of its range.
+    pub fn new(number: u32) -> Option<Self>
+        ensures valid { IsSome result ↔ (number < 8) }
+        ensures value { IfSome result (λ n. n ≡ number) }
+    {
+        if number < SPACES {
+            Some(SpaceNo {
+                space: number as u8,
+            })
+        } else {
+            None
+        }
+    }
+
+    pub fn get(self) -> u32
+        ensures value { result ≡ self }
+        ensures range { result < 8 }
+    {
+        u32::from(self.space)
+    }
+}
+
+const VPAGES: u32 = 4096;
+
+/// A virtual page's number in its space, 0 to 4095.
+#[derive(Clone, Copy, Debug, PartialEq, Eq, PartialOrd, Ord, Hash)]
+pub struct VPage {
+    vpage: u16,
+}
+
+impl Model for VPage {
+    ghost Value = { ℕ };
+
+    ghost view = { λ n. n.vpage };
+
+    ghost invariant = { λ n. n.vpage < 4096 };
+
+    ghost inverse = { λ n. record { vpage = n } };
+}
+
+impl VPage {
+    /// None where the number is out of its range.
+    pub fn new(number: u32) -> Option<Self>
+        ensures valid { IsSome result ↔ (number < 4096) }
+        ensures value { IfSome result (λ n. n ≡ number) }
+    {
+        if number < VPAGES {
+            Some(VPage {
+                vpage: number as u16,
+            })
+        } else {
+            None
+        }
+    }
+
+    pub fn get(self) -> u32
+        ensures value { result ≡ self }
+        ensures range { result < 4096 }
+    {
+        u32::from(self.vpage)
+    }
+}
+
+/// A virtual page of a space: what a client names a page by.
+#[derive(Clone, Copy, Debug, PartialEq, Eq, PartialOrd, Ord, Hash)]
+pub struct Address {
+    pub space: SpaceNo,
+    pub vpage: VPage,
+}
+
+/// The pageblock that a frame stands in.
+pub fn block_of(frame: FrameNo) -> BlockNo
+    ensures { result ≡ frame / 512 }
+{
+    BlockNo {
+        block: (frame.get() / 512) as u8,
+    }
+}
+
+/// The first frame of a pageblock.
+pub fn first_frame(block: BlockNo) -> FrameNo
+    ensures { result ≡ 512 * block }
+{
+    FrameNo {
+        frame: (block.get() * 512) as u16,
+    }
+}

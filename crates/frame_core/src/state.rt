@@ -1,0 +1,19 @@
+use crate::page::PageNo;
+
+/// The number of an isolated page: 0, 1, 2, .. over a zone's life.
+pub type Serial = u32;
+
+/// What a frame is used for.
+#[derive(Clone, Copy, Debug, PartialEq, Eq)]
+pub enum FrameState {
+    /// Nothing: it can be handed out.
+    Free,
+    /// A page that isn't on its way.
+    Holds(PageNo),
+    /// The frame that a page on its way comes from. It keeps the page's words until the move is committed.
+    Source(Serial),
+    /// The frame that a page on its way goes to.
+    Target(Serial),
+    /// A part of a block that was handed out.
+    Huge,
+}

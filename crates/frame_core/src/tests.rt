@@ -1,0 +1,50 @@
+use crate::{
+    BlockNo, ClientNo, FrameNo, Order, PageFlags, PageNo, SpaceNo, VPage, WordNo, ZoneNo, block_of,
+    first_frame,
+};
+use bitflags::Flags;
+
+#[test]
+fn numbers_have_their_ranges(rt: HostRuntime) {
+    assert_eq!(rt; ZoneNo::new(3).map(|n| n.get()), Some(3));
+    assert_eq!(rt; ZoneNo::new(4), None);
+    assert_eq!(rt; FrameNo::new(4095).map(|n| n.get()), Some(4095));
+    assert_eq!(rt; FrameNo::new(4096), None);
+    assert_eq!(rt; BlockNo::new(7).map(|n| n.get()), Some(7));
+    assert_eq!(rt; BlockNo::new(8), None);
+    assert_eq!(rt; SpaceNo::new(7).map(|n| n.get()), Some(7));
+    assert_eq!(rt; SpaceNo::new(8), None);
+    assert_eq!(rt; VPage::new(4095).map(|n| n.get()), Some(4095));
+    assert_eq!(rt; VPage::new(4096), None);
+    assert_eq!(rt; WordNo::new(7).map(|n| n.get()), Some(7));
+    assert_eq!(rt; WordNo::new(8), None);
+    assert_eq!(rt; PageNo::new(4095).map(|n| n.get()), Some(4095));
+    assert_eq!(rt; PageNo::new(4096), None);
+    assert_eq!(rt; ClientNo::new(7).map(|n| n.get()), Some(7));
+    assert_eq!(rt; ClientNo::new(8), None);
+}
+
+#[test]
+fn orders_are_three_to_nine(rt: HostRuntime) {
+    assert_eq!(rt; Order::new(2), None);
+    assert_eq!(rt; Order::new(3).map(|n| n.frames()), Some(8));
+    assert_eq!(rt; Order::new(9).map(|n| n.frames()), Some(512));
+    assert_eq!(rt; Order::new(9).map(|n| n.get()), Some(9));
+    assert_eq!(rt; Order::new(10), None);
+}
+
+#[test]
+fn frames_stand_in_blocks(rt: HostRuntime) {
+    assert_eq!(rt; FrameNo::new(1023).map(block_of), BlockNo::new(1));
+    assert_eq!(rt; FrameNo::new(1024).map(block_of), BlockNo::new(2));
+    assert_eq!(rt; BlockNo::new(7).map(first_frame), FrameNo::new(3584));
+}
+
+#[test]
+fn flags_are_two(rt: HostRuntime) {
+    let mut flags = PageFlags::empty();
+    assert!(rt; !flags.contains(PageFlags::UNMOVABLE));
+    flags.insert(PageFlags::DIRTY);
+    assert!(rt; flags.contains(PageFlags::DIRTY));
+    assert!(rt; !flags.contains(PageFlags::UNMOVABLE));
+}

@@ -1,0 +1,4 @@
+pub mod Journal
+pub mod History
+pub mod Moves
+pub mod Truth

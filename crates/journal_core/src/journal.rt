@@ -1,0 +1,70 @@
+ghost use Rattle.std.specs.Prelude.{◌≡◌, ◌+◌, ◌<◌, [], ◌∷◌, length, slice_get, reverse, IfOk, IsTrue, ◌↔◌, option_copied};
+
+use crate::record::Record;
+use std::alloc::{AllocError, Global};
+use std::marker::Model;
+
+/// Records in order, in room that is made once.
+#[derive(Drop)]
+pub struct Journal {
+    records: Vec<Record>,
+    places: u32,
+}
+
+impl Model for Journal {
+    ghost use Rattle.std.specs.Prelude.{◌≤◌, ◌-◌, reverse, vec_len, vec_capacity};
+    ghost use Rattle.journal_core.specs.Journal.{Journal as Seen};
+
+    ghost Value = { Seen };
+
+    ghost view = { λ j. record { records = reverse j.records.items; room = j.places - vec_len j.records } };
+
+    ghost invariant = { λ j. (vec_len j.records ≤ j.places) × (j.places ≤ vec_capacity j.records) };
+}
+
+impl Journal {
+    /// An empty journal with this many places. Nothing takes memory after it.
+    pub fn open(alloc: Global, places: u32) -> Result<Journal, AllocError>
+        ensures { IfOk result (λ j. j ≡ record { records = []; room = places }) }
+    {
+        let mut records = Vec::new(alloc);
+        records.reserve(places as usize)?;
+        Ok(Journal { records, places })
+    }
+
+    /// The number of records.
+    pub fn len(&self) -> usize
+        ensures { result ≡ length self.now.records }
+    {
+        self.records.len()
+    }
+
+    pub fn is_empty(&self) -> bool
+        ensures { IsTrue result ↔ (self.now.records ≡ []) }
+    {
+        self.records.is_empty()
+    }
+
+    /// The number of places that are left.
+    pub fn room(&self) -> u32
+        ensures { result ≡ self.now.room }
+    {
+        self.places - self.records.len() as u32
+    }
+
+    /// The record at a place, the oldest at 0.
+    pub fn get(&self, index: usize) -> Option<&Record>
+        ensures { option_copied result ≡ slice_get (reverse self.now.records) index }
+    {
+        self.records.get(index)
+    }
+
+    /// Appends a record, and takes no memory.
+    pub fn push(&mut self, entry: Record)
+        requires { 0 < self.old.room }
+        ensures records { self.new.records ≡ entry ∷ self.old.records }
+        ensures room { self.new.room + 1 ≡ self.old.room }
+    {
+        let _ = self.records.push(entry);
+    }
+}

@@ -1,0 +1,23 @@
+-- What contracts see of a zone's tables: the list of their entries.
+use Rattle.std.specs.Prelude.{◌≡◌, ◌≢◌, ℕ, ◌+◌, ◌*◌, ◌<◌, List, slice_get, unwrap_or}
+use Rattle.frame_core.specs.declared.place.Address.{Address}
+use Rattle.table_core.specs.declared.entry.Entry.{Entry}
+use Rattle.table_core.specs.declared.entry.Entry.TheVariants.{Absent}
+
+-- the place of an address in the list: the spaces one after the other
+abbrev pub place_of : Address → ℕ
+place_of address = 4096 * address.space + address.vpage
+
+-- what an address names
+abbrev pub entry_at : List Entry → Address → Entry
+entry_at entries address = unwrap_or (slice_get entries (place_of address)) Absent
+
+-- no address names anything
+abbrev pub IsBlank : List Entry → Type 0
+IsBlank entries = (a : Address) → entry_at entries a ≡ Absent
+
+-- an address names this now, and each other address what it named before
+pub record ChangesOnly (old new : List Entry) (address : Address) (entry : Entry) : Type 0 where
+  pub changed : (a : Address) → a.space ≡ address.space → a.vpage ≡ address.vpage → entry_at new a ≡ entry
+  pub other_spaces : (a : Address) → a.vpage < 4096 → a.space ≢ address.space → entry_at new a ≡ entry_at old a
+  pub other_pages : (a : Address) → a.vpage < 4096 → a.vpage ≢ address.vpage → entry_at new a ≡ entry_at old a

@@ -1,0 +1,12 @@
+//! What each address of a zone names: nothing, a frame, or a page that is on its way.
+//!
+//! Contracts see the tables as the list of their entries, and read it by `entry_at`.
+#![tactic(auto)]
+
+mod entry;
+mod tables;
+#[cfg(test)]
+mod tests;
+
+pub use entry::Entry;
+pub use tables::Tables;

@@ -1,0 +1,70 @@
+ghost use Rattle.std.specs.Prelude.{◌≡◌, ◌<◌, length, IfOk};
+ghost use Rattle.frame_core.specs.Address.{InRange};
+ghost use Rattle.table_core.specs.Tables.{place_of, entry_at, IsBlank, ChangesOnly};
+
+use crate::entry::Entry;
+use frame_core::{Address, FrameNo};
+use std::alloc::{AllocError, Global};
+use std::marker::Model;
+
+/// 8 spaces with 4096 virtual pages each.
+const ENTRIES: usize = 32768;
+
+/// The entry of each address of a zone.
+#[derive(Drop)]
+pub struct Tables {
+    entries: Vec<Entry>,
+}
+
+impl Model for Tables {
+    ghost use Rattle.std.specs.Prelude.{◌≡◌, List, length};
+    ghost use Rattle.table_core.specs.declared.entry.Entry.{Entry as Named};
+
+    ghost Value = { List Named };
+
+    ghost view = { λ t. t.entries.items };
+
+    ghost invariant = { λ t. length t.entries.items ≡ 32768 };
+}
+
+impl Tables {
+    /// Tables in which each address is absent. No other call takes memory.
+    pub fn open(alloc: Global) -> Result<Tables, AllocError>
+        ensures { IfOk result (λ tables. IsBlank tables) }
+    {
+        let entries = blank_entries(alloc, ENTRIES)?;
+        Ok(Tables { entries })
+    }
+
+    pub fn entry(&self, address: Address) -> Entry
+        ensures value { result ≡ entry_at self.now address }
+        ensures range { InRange address }
+    {
+        let index = index_of(&address);
+        self.entries[index]
+    }
+
+    /// Lets an absent address name the page in a frame.
+    pub fn set(&mut self, address: Address, frame: FrameNo)
+        requires { entry_at self.old address ≡ Entry.Absent }
+        ensures set { ChangesOnly self.old self.new address (Entry.Present frame) }
+        ensures range { InRange address }
+    {
+        self.entries[index_of(&address)] = Entry::Present(frame);
+    }
+}
+
+fn blank_entries(alloc: Global, count: usize) -> Result<Vec<Entry>, AllocError>
+    ensures blank { IfOk result (λ entries. IsBlank entries.items) }
+    ensures count { IfOk result (λ entries. length entries.items ≡ count) }
+{
+    vec![in alloc; Entry::Absent; count]
+}
+
+fn index_of(address: &Address) -> usize
+    ensures place { result ≡ place_of address.now }
+    ensures range { result < 32768 }
+    ensures in_range { InRange address.now }
+{
+    4096 * address.space.get() as usize + address.vpage.get() as usize
+}

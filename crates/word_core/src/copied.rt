@@ -1,0 +1,40 @@
+ghost use Rattle.std.specs.Prelude.{◌≡◌};
+
+use crate::page::Page;
+use frame_core::{PageNo, Serial};
+use std::marker::Model;
+
+/// An isolated page that was copied: ready for its new frame.
+#[derive(Drop, Debug)]
+pub struct Copied {
+    pub(crate) serial: Serial,
+    pub(crate) page: Page,
+}
+
+impl Model for Copied {
+    ghost use Rattle.word_core.specs.Page.{OnItsWay};
+
+    ghost Value = { OnItsWay };
+
+    ghost view = { λ p. record { serial = p.serial; page = p.page } };
+}
+
+impl Copied {
+    pub fn serial(&self) -> Serial
+        ensures { result ≡ self.now.serial }
+    {
+        self.serial
+    }
+
+    pub fn page_no(&self) -> PageNo
+        ensures { result ≡ self.now.page.number }
+    {
+        self.page.number()
+    }
+
+    pub fn into_page(self) -> Page
+        ensures { result ≡ self.page }
+    {
+        self.page
+    }
+}

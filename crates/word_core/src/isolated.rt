@@ -1,0 +1,58 @@
+ghost use Rattle.std.specs.Prelude.{◌≡◌};
+
+use crate::copied::Copied;
+use crate::page::Page;
+use frame_core::{PageNo, Serial};
+use std::marker::Model;
+
+/// A page that was taken from its frame, under the serial that its zone gave it.
+#[derive(Drop, Debug)]
+pub struct Isolated {
+    serial: Serial,
+    page: Page,
+}
+
+impl Model for Isolated {
+    ghost use Rattle.word_core.specs.Page.{OnItsWay};
+
+    ghost Value = { OnItsWay };
+
+    ghost view = { λ p. record { serial = p.serial; page = p.page } };
+}
+
+impl Isolated {
+    pub fn new(serial: Serial, page: Page) -> Self
+        ensures serial { result.serial ≡ serial }
+        ensures page { result.page ≡ page }
+    {
+        Isolated { serial, page }
+    }
+
+    pub fn serial(&self) -> Serial
+        ensures { result ≡ self.now.serial }
+    {
+        self.serial
+    }
+
+    pub fn page_no(&self) -> PageNo
+        ensures { result ≡ self.now.page.number }
+    {
+        self.page.number()
+    }
+
+    /// Copies the flags and each word into a new page, under the same serial.
+    pub fn copy_into_new(self) -> Copied
+        ensures { result ≡ self }
+    {
+        Copied {
+            serial: self.serial,
+            page: self.page.copy_into_new(),
+        }
+    }
+
+    pub fn into_page(self) -> Page
+        ensures { result ≡ self.page }
+    {
+        self.page
+    }
+}

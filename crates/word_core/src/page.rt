@@ -1,0 +1,105 @@
+use bitflags::Flags;
+use frame_core::{PageFlags, PageNo, WordNo, ZoneNo};
+use std::marker::Model;
+
+/// A page of a zone: its number, its flags and its eight words.
+#[derive(Drop, Debug)]
+pub struct Page {
+    zone: ZoneNo,
+    number: PageNo,
+    flags: PageFlags,
+    words: [u64; 8],
+}
+
+impl Model for Page {
+    ghost use Rattle.std.specs.Prelude.{◌≡◌, length};
+    ghost use Rattle.word_core.specs.Page.{Page as Seen};
+
+    ghost Value = { Seen };
+
+    ghost view = { λ p. record { zone = p.zone; number = p.number; flags = p.flags; words = p.words } };
+
+    ghost invariant = { λ p. length p.words ≡ 8 };
+}
+
+impl Page {
+    ghost use Rattle.std.specs.Prelude.{◌≡◌, slice_index, slice_set, length};
+    ghost use Rattle.word_core.specs.Page.{blank_page};
+
+    /// The page with no flags, and all its words 0.
+    pub fn new(zone: ZoneNo, number: PageNo) -> Self
+        ensures { result ≡ blank_page zone number }
+    {
+        Page {
+            zone,
+            number,
+            flags: PageFlags::empty(),
+            words: [0; 8],
+        }
+    }
+
+    pub fn zone(&self) -> ZoneNo
+        ensures { result ≡ self.now.zone }
+    {
+        self.zone
+    }
+
+    pub fn number(&self) -> PageNo
+        ensures { result ≡ self.now.number }
+    {
+        self.number
+    }
+
+    pub fn flags(&self) -> PageFlags
+        ensures { result ≡ self.now.flags }
+    {
+        self.flags
+    }
+
+    pub fn set_flags(&mut self, flags: PageFlags)
+        ensures { self.new ≡ record self.old { flags = flags } }
+    {
+        self.flags = flags;
+    }
+
+    pub fn word(&self, word: WordNo) -> u64
+        ensures { result ≡ slice_index self.now.words word }
+    {
+        self.words[word.get() as usize]
+    }
+
+    pub fn set_word(&mut self, word: WordNo, value: u64)
+        ensures { self.new ≡ record self.old { words = slice_set self.old.words word value } }
+    {
+        self.words[word.get() as usize] = value;
+    }
+
+    /// Copies the flags and each word into a new page.
+    pub fn copy_into_new(self) -> Page
+        ensures { result ≡ self }
+    {
+        let mut words = [0; 8];
+        for word in 0..8 {
+            words[word] = self.words[word];
+        }
+        Page {
+            zone: self.zone,
+            number: self.number,
+            flags: self.flags,
+            words,
+        }
+    }
+
+    pub(crate) fn words(&self) -> &[u64; 8]
+        ensures value { result.now ≡ self.now.words }
+        ensures eight { length result.now ≡ 8 }
+    {
+        &self.words
+    }
+
+    pub(crate) fn put_words(&mut self, words: [u64; 8])
+        ensures { self.new ≡ record self.old { words = words } }
+    {
+        self.words = words;
+    }
+}

@@ -1,0 +1,92 @@
+ghost use Rattle.std.specs.Prelude.{◌≡◌, ℕ, ◌<◌, ◌↔◌, List, length, replicate, slice_index, slice_set, IfOk, IsTrue};
+ghost use Rattle.word_core.specs.Page.{blank_words};
+ghost use Rattle.word_core.specs.Words.{words_of, word_of, with_words, with_word};
+
+use crate::page::Page;
+use frame_core::{FrameNo, WordNo};
+use std::alloc::{AllocError, Global};
+use std::marker::Model;
+
+/// The words of a zone's frames: a row of eight for each frame.
+#[derive(Drop)]
+pub struct Words {
+    rows: Vec<[u64; 8]>,
+}
+
+impl Model for Words {
+    ghost use Rattle.std.specs.Prelude.{ℕ, List};
+
+    ghost Value = { List (List ℕ) };
+
+    ghost view = { λ w. w.rows.items };
+}
+
+impl Words {
+    /// Takes the memory for so many frames. No other call takes any.
+    pub fn open(alloc: Global, frames: u32) -> Result<Self, AllocError>
+        ensures blank { IfOk result (λ rows. rows ≡ replicate frames blank_words) }
+        ensures frames { IfOk result (λ rows. length rows ≡ frames) }
+    {
+        let rows = vec![in alloc; [0; 8]; frames as usize]?;
+        Ok(Words { rows })
+    }
+
+    pub fn load(&self, frame: FrameNo, word: WordNo) -> u64
+        requires { frame < length self.now }
+        ensures value { result ≡ word_of self.now frame word }
+        ensures in_range { word < 8 }
+    {
+        self.row(frame)[word.get() as usize]
+    }
+
+    pub fn store(&mut self, frame: FrameNo, word: WordNo, value: u64)
+        requires { frame < length self.old }
+        ensures stored { self.new ≡ with_word self.old frame word value }
+        ensures in_range { word < 8 }
+        ensures frames { length self.new ≡ length self.old }
+    {
+        self.rows[frame.get() as usize][word.get() as usize] = value;
+    }
+
+    /// All words of the frame become 0.
+    pub fn blank(&mut self, frame: FrameNo)
+        requires { frame < length self.old }
+        ensures blank { self.new ≡ with_words self.old frame blank_words }
+        ensures frames { length self.new ≡ length self.old }
+    {
+        self.rows[frame.get() as usize] = [0; 8];
+    }
+
+    /// Copies the frame's words into the page.
+    pub fn read_out(&self, frame: FrameNo, page: &mut Page)
+        requires { frame < length self.now }
+        ensures { page.new ≡ record page.old { words = words_of self.now frame } }
+    {
+        page.put_words(*self.row(frame));
+    }
+
+    /// Whether the frame holds the page's words.
+    pub fn same(&self, frame: FrameNo, page: &Page) -> bool
+        requires { frame < length self.now }
+        ensures { IsTrue result ↔ (words_of self.now frame ≡ page.now.words) }
+    {
+        self.row(frame) == page.words()
+    }
+
+    /// Copies the page's words into the frame.
+    pub fn write_in(&mut self, frame: FrameNo, page: &Page)
+        requires { frame < length self.old }
+        ensures written { self.new ≡ with_words self.old frame page.now.words }
+        ensures frames { length self.new ≡ length self.old }
+        ensures eight { length page.now.words ≡ 8 }
+    {
+        self.rows[frame.get() as usize] = *page.words();
+    }
+
+    fn row(&self, frame: FrameNo) -> &[u64; 8]
+        requires { frame < length self.now }
+        ensures { result.now ≡ words_of self.now frame }
+    {
+        &self.rows[frame.get() as usize]
+    }
+}

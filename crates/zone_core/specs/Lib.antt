@@ -1,0 +1,11 @@
+pub mod ErrorNumber
+pub mod ZoneState
+pub mod Refusals
+pub mod Steps
+pub mod Lawful
+pub mod Seats
+pub mod Tabulated
+pub mod Fits
+pub mod Found
+pub mod Sound
+pub mod Books

@@ -1,0 +1,121 @@
+ghost use Rattle.std.specs.Prelude.{◌≡◌};
+ghost use Rattle.zone_core.specs.Seats.{fresh_scan_seat, fresh_end_seat};
+
+use std::marker::Model;
+use std::sync::ledger::{Blank, Book, Ledger, Share};
+
+/// The ledgers of a zone that is to be opened: its name, which no other zone has.
+#[derive(Drop)]
+pub struct Blanks {
+    pub isolated: Blank,
+    pub rounds: Blank,
+    pub moved: Blank,
+    pub back: Blank,
+    // The share of isolated pages is whole, and those of ended pages are cut into 64 parts.
+    ghost isolated_parts: { isolated.parts ≡ 1 },
+    ghost rounds_parts: { rounds.parts ≡ 1 },
+    ghost moved_parts: { moved.parts ≡ 64 },
+    ghost back_parts: { back.parts ≡ 64 },
+}
+
+impl Blanks {
+    /// Takes no memory.
+    pub fn new() -> Blanks {
+        Blanks {
+            isolated: Blank::new(1),
+            rounds: Blank::new(1),
+            moved: Blank::new(64),
+            back: Blank::new(64),
+        }
+    }
+}
+
+/// What `isolate_next` answered.
+#[derive(Clone, Copy, Debug, PartialEq, Eq)]
+pub enum Scanned {
+    Page,
+    Met,
+    JournalFull,
+}
+
+/// The seat of a zone's scanner. It counts the pages that were isolated with it and the rounds that were begun with it,
+/// and notes the last answer of `isolate_next` since the latest round began. There is one for each opened zone.
+#[derive(Drop)]
+pub struct ScanSeat<I: Ledger, N: Ledger> {
+    isolated: Share<I>,
+    rounds: Book<N>,
+    begun: Share<N>,
+    last: Option<Scanned>,
+}
+
+impl<I: Ledger, N: Ledger> Model for ScanSeat<I, N> {
+    ghost use Rattle.std.specs.Prelude.{◌≡◌};
+    ghost use Rattle.zone_core.specs.Seats.{ScanSeat as Seen};
+
+    ghost Value = { Seen };
+
+    ghost view = { λ s. record { count = s.isolated.amount; rounds = s.rounds.total; last = s.last } };
+
+    ghost invariant = { λ s. (s.isolated.parts ≡ 1) × (s.begun.parts ≡ 1) };
+}
+
+/// A seat of those who end moves. It counts the pages that were moved and put back with it. A zone opens with one of 64
+/// parts.
+#[derive(Drop)]
+pub struct EndSeat<M: Ledger, B: Ledger> {
+    parts: u64,
+    moved: Share<M>,
+    back: Share<B>,
+}
+
+impl<M: Ledger, B: Ledger> Model for EndSeat<M, B> {
+    ghost use Rattle.std.specs.Prelude.{◌≡◌, ◌<◌, ◌≤◌};
+    ghost use Rattle.zone_core.specs.Seats.{EndSeat as Seen};
+
+    ghost Value = { Seen };
+
+    ghost view = { λ s. record { parts = s.parts; moved = s.moved.amount; back = s.back.amount } };
+
+    ghost invariant = { λ s. (0 < s.parts) × (s.parts ≤ 64) × (s.moved.parts ≡ s.parts) × (s.back.parts ≡ s.parts) };
+}
+
+/// The two seats of a zone.
+#[derive(Drop)]
+pub struct Seats<I: Ledger, N: Ledger, M: Ledger, B: Ledger> {
+    pub scan: ScanSeat<I, N>,
+    pub ends: EndSeat<M, B>,
+}
+
+impl<I: Ledger, N: Ledger> ScanSeat<I, N> {
+    /// The seat of a zone that was just opened.
+    pub(crate) fn opened(isolated: Share<I>, rounds: Blank) -> Self
+        requires whole { isolated.parts ≡ 1 }
+        requires unused { isolated.amount ≡ 0 }
+        requires name { rounds.name ≡ N.name }
+        requires parts { (rounds.parts ≡ N.parts) × (rounds.parts ≡ 1) }
+        ensures { result ≡ fresh_scan_seat }
+    {
+        let (rounds, begun) = rounds.open::<N>();
+        ScanSeat {
+            isolated,
+            rounds,
+            begun,
+            last: None,
+        }
+    }
+}
+
+impl<M: Ledger, B: Ledger> EndSeat<M, B> {
+    /// The seat of a zone that was just opened.
+    pub(crate) fn opened(moved: Share<M>, back: Share<B>) -> Self
+        requires whole { (moved.parts ≡ 64) × (back.parts ≡ 64) }
+        requires unused { (moved.amount ≡ 0) × (back.amount ≡ 0) }
+        ensures { result ≡ fresh_end_seat }
+    {
+        EndSeat {
+            parts: 64,
+            moved,
+            back,
+        }
+    }
+}

@@ -1,0 +1,220 @@
+ghost use Rattle.std.specs.Prelude.{◌≡◌, ◌+◌, ◌==◌, ℕ, IfOk, IfErr, OnOk, OnErr};
+ghost use Rattle.std.specs.Int.RustNames.{bit_and};
+ghost use Rattle.zone_core.specs.Books.{IsFor};
+ghost use Rattle.zone_core.specs.Lawful.{IsLawful};
+ghost use Rattle.zone_core.specs.Refusals.{IsOpenable, result_err, map_refusal, map_at_refusal, access_refusal};
+ghost use Rattle.zone_core.specs.Seats.{fresh_scan_seat, fresh_end_seat};
+ghost use Rattle.zone_core.specs.Steps.{opened, mapped, value_at, loaded, stored, info_of, is_unmovable};
+ghost use Rattle.zone_core.specs.ZoneState.{frame_count, lowest_free_frame};
+
+use crate::error::ZoneError;
+use crate::plain::PlainZone;
+use crate::seats::{Blanks, EndSeat, ScanSeat};
+use crate::state::Info;
+use bitflags::Flags;
+use frame_core::{Address, ClientNo, FrameNo, PageFlags, WordNo, ZoneNo};
+use journal_core::Journal;
+use std::alloc::Global;
+use std::marker::Model;
+use std::sync::ledger::{Book, Ledger};
+
+/// A zone of 1 to 8 pageblocks. Its type parameters name its opening: the ledgers of the pages that are isolated, moved and
+/// put back. After `open` no call takes memory.
+#[derive(Drop)]
+pub struct Zone<I: Ledger, M: Ledger, B: Ledger> {
+    plain: PlainZone,
+    isolated: Book<I>,
+    moved: Book<M>,
+    back: Book<B>,
+}
+
+impl<I: Ledger, M: Ledger, B: Ledger> Model for Zone<I, M, B> {
+    ghost use Rattle.zone_core.specs.ZoneState.{ZoneState};
+    ghost use Rattle.zone_core.specs.Books.{AreBooks, AreCut};
+    ghost use Rattle.zone_core.specs.contracts.plain.PlainZone as plain_zone;
+
+    ghost Value = { ZoneState };
+
+    ghost coded = { plain_zone.the_row.coded };
+
+    ghost view = { λ z. z.plain };
+
+    ghost invariant = { λ z. AreBooks z.isolated.total z.moved.total z.back.total z.plain × AreCut I.parts M.parts B.parts };
+}
+
+impl<I: Ledger, M: Ledger, B: Ledger> Zone<I, M, B> {
+    /// An empty zone with so many pageblocks and so many places in its journal, with its seats. The blanks are those of the
+    /// ledgers that the types name; a refusal drops them.
+    pub fn open<N: Ledger>(
+        alloc: Global,
+        number: ZoneNo,
+        blocks: u32,
+        places: u32,
+        blanks: Blanks,
+    ) -> Result<(Zone<I, M, B>, ScanSeat<I, N>, EndSeat<M, B>), ZoneError>
+        requires isolated { IsFor blanks.isolated.name blanks.isolated.parts I.name I.parts }
+        requires rounds { IsFor blanks.rounds.name blanks.rounds.parts N.name N.parts }
+        requires moved { IsFor blanks.moved.name blanks.moved.parts M.name M.parts }
+        requires back { IsFor blanks.back.name blanks.back.parts B.name B.parts }
+        ensures range { ¬ (IsOpenable blocks places) → result ≡ Err ZoneError.Range }
+        ensures memory { IsOpenable blocks places → IfErr result (λ error. error ≡ ZoneError.Memory) }
+        ensures zone { IfOk result (λ opening. opening.0 ≡ opened number blocks places) }
+        ensures scan { IfOk result (λ opening. opening.1 ≡ fresh_scan_seat) }
+        ensures ends { IfOk result (λ opening. opening.2 ≡ fresh_end_seat) }
+    {
+        if blocks < 1 || blocks > 8 || places < 1 || places > 65536 {
+            return Err(ZoneError::Range);
+        }
+        let plain = PlainZone::open(alloc, number, blocks, places)?;
+        Ok(Self::seated(plain, blanks))
+    }
+
+    /// The zone with its ledgers and seats.
+    fn seated<N: Ledger>(
+        plain: PlainZone,
+        blanks: Blanks,
+    ) -> (Zone<I, M, B>, ScanSeat<I, N>, EndSeat<M, B>)
+        requires fresh { (number blocks places : ℕ) × (plain ≡ opened number blocks places) }
+        requires isolated { IsFor blanks.isolated.name blanks.isolated.parts I.name I.parts }
+        requires rounds { IsFor blanks.rounds.name blanks.rounds.parts N.name N.parts }
+        requires moved { IsFor blanks.moved.name blanks.moved.parts M.name M.parts }
+        requires back { IsFor blanks.back.name blanks.back.parts B.name B.parts }
+        ensures zone { result.0 ≡ plain }
+        ensures scan { result.1 ≡ fresh_scan_seat }
+        ensures ends { result.2 ≡ fresh_end_seat }
+    {
+        let Blanks {
+            isolated,
+            rounds,
+            moved,
+            back,
+        } = blanks;
+        let (isolated, isolated_share) = isolated.open::<I>();
+        let (moved, moved_share) = moved.open::<M>();
+        let (back, back_share) = back.open::<B>();
+        let zone = Zone {
+            plain,
+            isolated,
+            moved,
+            back,
+        };
+        let scan = ScanSeat::opened(isolated_share, rounds);
+        let ends = EndSeat::opened(moved_share, back_share);
+        (zone, scan, ends)
+    }
+
+    /// Binds an address to a fresh page in the lowest free frame. The page holds zeros, has no pin and isn't dirty. It is
+    /// unmovable where the flags say so.
+    pub fn map(
+        &mut self,
+        client: ClientNo,
+        address: Address,
+        flags: PageFlags,
+    ) -> Result<FrameNo, ZoneError>
+        requires clean { bit_and flags.0 2 ≡ 0 }
+        ensures refused { result_err result ≡ map_refusal self.old address }
+        ensures err { OnErr result (self.new ≡ self.old) }
+        ensures frame { IfOk result (λ frame. lowest_free_frame self.old ≡ Some frame) }
+        ensures ok { IfOk result (λ frame. self.new ≡ mapped self.old client address (is_unmovable flags) frame) }
+    {
+        if !self.plain.has_room() {
+            return Err(ZoneError::JournalFull);
+        }
+        if self.plain.names_page(&address) {
+            return Err(ZoneError::Occupied);
+        }
+        let Some(frame) = self.plain.find_free() else {
+            return Err(ZoneError::NoFrame);
+        };
+        let unmovable = flags.contains(PageFlags::UNMOVABLE);
+        self.plain.place(client, address, unmovable, frame);
+        Ok(frame)
+    }
+
+    /// Binds an address to a fresh page in the frame that is given.
+    pub fn map_at(
+        &mut self,
+        client: ClientNo,
+        address: Address,
+        flags: PageFlags,
+        frame: FrameNo,
+    ) -> Result<(), ZoneError>
+        requires clean { bit_and flags.0 2 ≡ 0 }
+        ensures refused { result_err result ≡ map_at_refusal self.old address frame }
+        ensures err { OnErr result (self.new ≡ self.old) }
+        ensures ok { OnOk result (self.new ≡ mapped self.old client address (is_unmovable flags) frame) }
+    {
+        if !self.plain.has_frame(frame) {
+            return Err(ZoneError::Range);
+        }
+        if !self.plain.has_room() {
+            return Err(ZoneError::JournalFull);
+        }
+        if self.plain.names_page(&address) {
+            return Err(ZoneError::Occupied);
+        }
+        if !self.plain.is_free(frame) {
+            return Err(ZoneError::NoFrame);
+        }
+        let unmovable = flags.contains(PageFlags::UNMOVABLE);
+        self.plain.place(client, address, unmovable, frame);
+        Ok(())
+    }
+
+    /// Reads a word of the page that an address names.
+    pub fn load(
+        &mut self,
+        client: ClientNo,
+        address: Address,
+        word: WordNo,
+    ) -> Result<u64, ZoneError>
+        ensures refused { result_err result ≡ access_refusal self.old address }
+        ensures err { OnErr result (self.new ≡ self.old) }
+        ensures value { IfOk result (λ value. value ≡ value_at self.old address word) }
+        ensures ok { OnOk result (self.new ≡ loaded self.old client address word) }
+    {
+        if !self.plain.has_room() {
+            return Err(ZoneError::JournalFull);
+        }
+        let frame = self.plain.frame_of(&address)?;
+        Ok(self.plain.read(client, address, frame, word))
+    }
+
+    /// Writes a word of the page that an address names.
+    pub fn store(
+        &mut self,
+        client: ClientNo,
+        address: Address,
+        word: WordNo,
+        value: u64,
+    ) -> Result<(), ZoneError>
+        ensures refused { result_err result ≡ access_refusal self.old address }
+        ensures err { OnErr result (self.new ≡ self.old) }
+        ensures ok { OnOk result (self.new ≡ stored self.old client address word value) }
+    {
+        if !self.plain.has_room() {
+            return Err(ZoneError::JournalFull);
+        }
+        let frame = self.plain.frame_of(&address)?;
+        self.plain.write(client, address, frame, word, value);
+        Ok(())
+    }
+
+    /// The counts of the zone.
+    pub fn info(&self) -> Info
+        ensures counts { result ≡ info_of self.now }
+        // Each frame is free, of a page, or of a block that is handed out, and a page on its way has two.
+        ensures sum { result.free + result.pages + result.moving + result.held ≡ frame_count self.now }
+    {
+        self.plain.info()
+    }
+
+    /// The journal of the zone. Whoever has the zone finds it lawful: each load in the journal gave the last value stored.
+    pub fn journal(&self) -> &Journal
+        ensures records { result.now.records ≡ self.now.records }
+        ensures room { result.now.room ≡ self.now.room }
+        ensures lawful { IsLawful self.now }
+    {
+        self.plain.journal()
+    }
+}
