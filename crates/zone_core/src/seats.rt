@@ -1,4 +1,4 @@
-ghost use Rattle.std.specs.Prelude.{◌≡◌};
+ghost use Rattle.std.specs.Prelude.{◌≡◌, ◌+◌, ◌-◌, ◌<◌, ◌≤◌, ◌↔◌, IsSome, IfSome, OnSome, IfNone};
 ghost use Rattle.zone_core.specs.Seats.{fresh_scan_seat, fresh_end_seat};
 
 use std::marker::Model;
@@ -76,7 +76,10 @@ impl<M: Ledger, B: Ledger> Model for EndSeat<M, B> {
 
     ghost view = { λ s. record { parts = s.parts; moved = s.moved.amount; back = s.back.amount } };
 
-    ghost invariant = { λ s. (0 < s.parts) × (s.parts ≤ 64) × (s.moved.parts ≡ s.parts) × (s.back.parts ≡ s.parts) };
+    ghost invariant = { λ s.
+        (0 < s.parts) × (s.parts ≤ 64) × (s.moved.parts ≡ s.parts) × (s.back.parts ≡ s.parts)
+        × (M.parts ≡ 64) × (B.parts ≡ 64)
+    };
 }
 
 /// The two seats of a zone.
@@ -106,8 +109,43 @@ impl<I: Ledger, N: Ledger> ScanSeat<I, N> {
 }
 
 impl<M: Ledger, B: Ledger> EndSeat<M, B> {
+    /// Gives one part off, as a seat with which nothing was counted. None where this seat has one part.
+    pub fn split(&mut self) -> Option<EndSeat<M, B>>
+        ensures some { IsSome result ↔ (1 < self.old.parts) }
+        ensures part { IfSome result (λ part. part ≡ record { parts = 1; moved = 0; back = 0 }) }
+        ensures rest { OnSome result (self.new ≡ record self.old { parts = self.old.parts - 1 }) }
+        ensures none { IfNone result (self.new ≡ self.old) }
+    {
+        if self.parts <= 1 {
+            return None;
+        }
+        let moved = self.moved.split_off(1, 0);
+        let back = self.back.split_off(1, 0);
+        self.parts -= 1;
+        Some(EndSeat {
+            parts: 1,
+            moved,
+            back,
+        })
+    }
+
+    /// Adds the parts of a seat of the same zone, and what was counted with it.
+    pub fn join(&mut self, other: EndSeat<M, B>)
+        ensures sum { self.new ≡ record {
+            parts = self.old.parts + other.parts;
+            moved = self.old.moved + other.moved;
+            back = self.old.back + other.back } }
+        ensures whole { self.new.parts ≤ 64 }
+    {
+        let EndSeat { parts, moved, back } = other;
+        self.moved.merge(moved);
+        self.back.merge(back);
+        self.parts += parts;
+    }
+
     /// The seat of a zone that was just opened.
     pub(crate) fn opened(moved: Share<M>, back: Share<B>) -> Self
+        requires ledgers { (M.parts ≡ 64) × (B.parts ≡ 64) }
         requires whole { (moved.parts ≡ 64) × (back.parts ≡ 64) }
         requires unused { (moved.amount ≡ 0) × (back.amount ≡ 0) }
         ensures { result ≡ fresh_end_seat }

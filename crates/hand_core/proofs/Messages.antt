@@ -1,0 +1,147 @@
+-- The messages of one sender among all.
+use Rattle.std.proofs.Common.{◌≡◌, ◌≢◌, ℕ, zero, suc, ◌+◌, ◌<◌, Bool, true, false, List, [], ◌∷◌, ◌++◌, map, sym, refl, ap, ◌∙◌, ◌≤◌, append-nil, arith, cond}
+use Rattle.std.specs.Prelude.{◌==◌, ◌||◌, ◌&&◌, take}
+use Rattle.std.specs.List.{list_all}
+use Rattle.std.proofs.lemmas.Bool.{eq-eqb, ne_eqb}
+use Rattle.std.proofs.lemmas.List.Elements.{filter-append}
+use Rattle.std.proofs.lemmas.List.{map-append}
+use Rattle.std.proofs.lemmas.Grind.{flat_map-append}
+use Rattle.word_core.specs.Page.{OnItsWay}
+use Rattle.hand_core.specs.declared.turns.Message.{Message}
+use Rattle.hand_core.specs.declared.turns.Message.TheVariants.{Copy, Mark}
+use Rattle.hand_core.specs.declared.turns.Account.{Account}
+use Rattle.hand_core.specs.Turns.{sender_of, messages_of, all_sent}
+use Rattle.hand_core.specs.DoneEnds.{is_mark_of, has_mark, copies_in_one, copies_in, copies_of}
+use Rattle.hand_core.specs.Pages.{numbers_from}
+use Rattle.hand_core.specs.Receiving.{marks_of_four}
+
+pub messages-append : (sender : ℕ) (xs ys : List Message) → messages_of sender (xs ++ ys) ≡ messages_of sender xs ++ messages_of sender ys
+messages-append sender xs ys = filter-append (λ (m : Message). sender_of m == sender) xs ys
+
+pub messages_own : (sender : ℕ) (x : Message) → sender_of x ≡ sender → messages_of sender (x ∷ []) ≡ x ∷ []
+messages_own sender x own = ap (λ (b : Bool). cond b (x ∷ []) []) (eq-eqb (sender_of x) sender own)
+
+pub messages_other : (sender : ℕ) (x : Message) → sender_of x ≢ sender → messages_of sender (x ∷ []) ≡ []
+messages_other sender x other = ap (λ (b : Bool). cond b (x ∷ []) []) (ne_eqb (sender_of x) sender other)
+
+-- nothing of a sender means that no message is its own
+pub nobody_sent : (sender : ℕ) (before : List Message) (x : Message) (rest : List Message) → messages_of sender (before ++ x ∷ rest) ≡ [] → sender_of x ≢ sender
+nobody_sent sender before x rest none own = nothing none
+  where
+    nothing : messages_of sender (before ++ x ∷ rest) ≡ [] → ⊥
+    nothing e = not_nil (messages_of sender before) (messages_of sender rest)
+        (sym (messages-append sender before (x ∷ rest) ∙ ap (λ l. messages_of sender before ++ l) (messages-append sender (x ∷ []) rest ∙ ap (λ l. l ++ messages_of sender rest) (messages_own sender x own))) ∙ e)
+      where
+        not_nil : (xs ys : List Message) → xs ++ (x ∷ ys) ≡ [] → ⊥
+        not_nil [] ys h = cc
+        not_nil (z ∷ xs) ys h = cc
+
+-- one copy more, of a sender that put no mark
+pub all_sent-copy : (v : Account) (copy : OnItsWay) → v.marked ≡ false → all_sent v ++ Copy v.sender copy ∷ [] ≡ all_sent (record v { sent = v.sent ++ copy ∷ [] })
+all_sent-copy v copy fresh =
+    let Marked : List OnItsWay → Bool → List Message = λ sent b. map (Copy v.sender) sent ++ cond b (Mark v.sender ∷ []) [] in
+    ap (λ l. l ++ Copy v.sender copy ∷ []) (ap (Marked v.sent) fresh ∙ append-nil (map (Copy v.sender) v.sent))
+    ∙ sym (map-append (Copy v.sender) v.sent (copy ∷ []))
+    ∙ sym (append-nil (map (Copy v.sender) (v.sent ++ copy ∷ [])))
+    ∙ sym (ap (Marked (v.sent ++ copy ∷ [])) fresh)
+
+-- its mark
+pub all_sent-mark : (v : Account) → v.marked ≡ false → all_sent v ++ Mark v.sender ∷ [] ≡ all_sent (record v { marked = true })
+all_sent-mark v fresh =
+    ap (λ (b : Bool). (map (Copy v.sender) v.sent ++ cond b (Mark v.sender ∷ []) []) ++ Mark v.sender ∷ []) fresh
+    ∙ ap (λ l. l ++ Mark v.sender ∷ []) (append-nil (map (Copy v.sender) v.sent))
+
+marks-append : (sender : ℕ) (xs ys : List Message) → has_mark (xs ++ ys) sender ≡ (has_mark xs sender || has_mark ys sender)
+marks-append sender [] ys = refl
+marks-append sender (x ∷ xs) ys = ap (λ b. is_mark_of sender x || b) (marks-append sender xs ys) ∙ or_assoc (is_mark_of sender x) (has_mark xs sender) (has_mark ys sender)
+  where
+    or_assoc : (a b c : Bool) → (a || (b || c)) ≡ ((a || b) || c)
+    or_assoc true b c = refl
+    or_assoc false b c = refl
+
+-- a copy is nobody's mark
+pub marks-copy : (sender other : ℕ) (copy : OnItsWay) (came : List Message) → has_mark (came ++ Copy other copy ∷ []) sender ≡ has_mark came sender
+marks-copy sender other copy came = marks-append sender came (Copy other copy ∷ []) ∙ nothing (has_mark came sender)
+  where
+    nothing : (b : Bool) → (b || false) ≡ b
+    nothing true = refl
+    nothing false = refl
+
+pub all_marks-copy : (other : ℕ) (copy : OnItsWay) (came : List Message) (senders : List ℕ) → list_all (has_mark (came ++ Copy other copy ∷ [])) senders ≡ list_all (has_mark came) senders
+all_marks-copy other copy came [] = refl
+all_marks-copy other copy came (sender ∷ senders) = and_both (marks-copy sender other copy came) (all_marks-copy other copy came senders)
+  where
+    and_both : {a b c d : Bool} → a ≡ b → c ≡ d → (a && c) ≡ (b && d)
+    and_both {a} {b} {c} {d} e f = ap (λ x. x && c) e ∙ ap (λ x. b && x) f
+
+-- the marks of the first senders among four
+pub marks_of_first : (came : List Message) (senders : ℕ) → senders ≤ 4 → list_all (λ (m : Bool). m) (take senders (marks_of_four came)) ≡ list_all (has_mark came) (numbers_from 0 senders)
+marks_of_first came zero few = refl
+marks_of_first came (suc zero) few = refl
+marks_of_first came (suc (suc zero)) few = refl
+marks_of_first came (suc (suc (suc zero))) few = refl
+marks_of_first came (suc (suc (suc (suc zero)))) few = refl
+marks_of_first came (suc (suc (suc (suc (suc senders))))) few = absurd (omega arith)
+
+pub copies-append : (xs ys : List Message) → copies_in (xs ++ ys) ≡ copies_in xs ++ copies_in ys
+copies-append xs ys = flat_map-append copies_in_one xs ys
+
+-- a sender's mark is one of its messages
+mark_kept : (sender : ℕ) (messages : List Message) → has_mark (messages_of sender messages) sender ≡ has_mark messages sender
+mark_kept sender [] = refl
+mark_kept sender (Copy other copy ∷ messages) = copied (other == sender) (messages_of sender messages) ∙ mark_kept sender messages
+  where
+    copied : (b : Bool) (rest : List Message) → has_mark (cond b (Copy other copy ∷ rest) rest) sender ≡ has_mark rest sender
+    copied true rest = refl
+    copied false rest = refl
+mark_kept sender (Mark other ∷ messages) = marked (other == sender) refl ∙ ap (λ b. (other == sender) || b) (mark_kept sender messages)
+  where
+    marked : (b : Bool) → (other == sender) ≡ b → has_mark (cond (other == sender) (Mark other ∷ messages_of sender messages) (messages_of sender messages)) sender ≡ ((other == sender) || has_mark (messages_of sender messages) sender)
+    marked true is = ap (λ c. has_mark (cond c (Mark other ∷ messages_of sender messages) (messages_of sender messages)) sender) is
+    marked false is =
+        ap (λ c. has_mark (cond c (Mark other ∷ messages_of sender messages) (messages_of sender messages)) sender) is
+        ∙ ap (λ c. c || has_mark (messages_of sender messages) sender) (sym is)
+
+nil_front : (xs ys : List Message) → xs ++ ys ≡ [] → xs ≡ []
+nil_front [] ys e = refl
+nil_front (x ∷ xs) ys e = absurd (cc)
+
+-- what came off up to the mark is all
+up_to_mark : (sender : ℕ) (sent : List OnItsWay) (marked : Bool) (came queue : List Message)
+    → came ++ queue ≡ map (Copy sender) sent ++ cond marked (Mark sender ∷ []) [] → has_mark came sender ≡ true → copies_in came ≡ sent
+up_to_mark sender [] true [] queue is has = absurd (cc)
+up_to_mark sender [] false [] queue is has = absurd (cc)
+up_to_mark sender [] false (x ∷ came) queue is has = absurd (cc)
+up_to_mark sender [] true (x ∷ came) queue is has =
+    let first : x ≡ Mark sender = cc in
+    let rest : came ≡ [] = nil_front came queue (cc) in
+    ap (λ m. copies_in_one m ++ copies_in came) first ∙ ap copies_in rest
+up_to_mark sender (c ∷ sent) marked [] queue is has = absurd (cc)
+up_to_mark sender (c ∷ sent) marked (x ∷ came) queue is has =
+    let first : x ≡ Copy sender c = cc in
+    let rest : came ++ queue ≡ map (Copy sender) sent ++ cond marked (Mark sender ∷ []) [] = cc in
+    let has_rest : has_mark came sender ≡ true = ap (λ m. is_mark_of sender m || has_mark came sender) (sym first) ∙ has in
+    ap (λ m. copies_in_one m ++ copies_in came) first ∙ ap (λ l. c ∷ l) (up_to_mark sender sent marked came queue rest has_rest)
+
+-- once a sender's mark came off, so did all its copies
+pub all_came : (v : Account) (came queue : List Message) → messages_of v.sender (came ++ queue) ≡ all_sent v → has_mark came v.sender ≡ true → copies_of v.sender came ≡ v.sent
+all_came v came queue is has =
+    up_to_mark v.sender v.sent v.marked (messages_of v.sender came) (messages_of v.sender queue)
+    (sym (messages-append v.sender came queue) ∙ is)
+    (mark_kept v.sender came ∙ has)
+
+-- each of the first numbers passes
+pub each_passes : (test : ℕ → Bool) (first count k : ℕ) → list_all test (numbers_from first count) ≡ true → k < count → test (first + k) ≡ true
+each_passes test first zero k all low = absurd (omega arith)
+each_passes test first (suc count) zero all low = ap test (let e : first + 0 ≡ first = omega arith in e) ∙ both_left (test first) (list_all test (numbers_from (first + 1) count)) all
+  where
+    both_left : (a b : Bool) → (a && b) ≡ true → a ≡ true
+    both_left true b e = refl
+    both_left false b e = e
+each_passes test first (suc count) (suc k) all low =
+    ap test (let e : first + suc k ≡ first + 1 + k = omega arith in e)
+    ∙ each_passes test (first + 1) count k (both_right (test first) (list_all test (numbers_from (first + 1) count)) all) (omega arith)
+  where
+    both_right : (a b : Bool) → (a && b) ≡ true → b ≡ true
+    both_right true b e = e
+    both_right false b e = absurd (cc)

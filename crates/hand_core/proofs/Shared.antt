@@ -1,0 +1,154 @@
+-- What all ends of a hand-over know together, and how one end's step changes it.
+use Rattle.std.proofs.Common.{◌≡◌, ◌≢◌, ℕ, zero, suc, ◌+◌, ◌≤◌, List, [], ◌∷◌, ◌++◌, set, All, sym, refl, ap, ◌∙◌, subst, append_assoc, append-nil, arith}
+use Rattle.std.specs.List.Sorted.{IsPermutation}
+use Rattle.std.proofs.lemmas.List.Sorted.{IsPermutation-refl, IsPermutation-sym, IsPermutation-trans, IsPermutation-append_comm, IsPermutation-append_right}
+use mathlib.Core.Option.{some, some-ne-none, some-injective}
+use lib.ListN.{get_elem?}
+use Rattle.word_core.specs.Page.{OnItsWay}
+use Rattle.hand_core.specs.declared.order.Known.{Known}
+use Rattle.hand_core.specs.Order.{total, all_taken}
+use Rattle.hand_core.specs.EachEnd.{Each}
+use Rattle.hand_core.proofs.Serials.{all_front, all_back}
+
+abbrev Same : List OnItsWay → List OnItsWay → Type 0
+Same xs ys = IsPermutation xs ys
+
+-- equal lists are the same pages
+pub same_is : (xs ys : List OnItsWay) → xs ≡ ys → IsPermutation xs ys
+same_is xs ys e = subst (λ l. IsPermutation xs l) e (IsPermutation-refl xs)
+
+-- a total after one end changed
+pub total_set : (f : Known → ℕ) (ends : List Known) (number : ℕ) (v w : Known) → get_elem? ends number ≡ some v → total f (set ends number w) + f v ≡ total f ends + f w
+total_set f [] number v w at = absurd (some-ne-none v (sym at))
+total_set f (x ∷ ends) zero v w at = let same : f x ≡ f v = ap f (some-injective x v at) in omega arith
+total_set f (x ∷ ends) (suc number) v w at = let h = total_set f ends number v w at in omega arith
+
+pub total_same : (f : Known → ℕ) (ends : List Known) (number : ℕ) (v w : Known) → get_elem? ends number ≡ some v → f w ≡ f v → total f (set ends number w) ≡ total f ends
+total_same f ends number v w at e = let t = total_set f ends number v w at in omega arith
+
+pub total_new : (f : Known → ℕ) (ends : List Known) (new : Known) → total f (ends ++ new ∷ []) ≡ total f ends + f new
+total_new f [] new = omega arith
+total_new f (x ∷ ends) new = let h = total_new f ends new in omega arith
+
+-- no end has more than all together
+total_at_most : (f : Known → ℕ) (ends : List Known) (number : ℕ) (v : Known) → get_elem? ends number ≡ some v → f v ≤ total f ends
+total_at_most f [] number v at = absurd (some-ne-none v (sym at))
+total_at_most f (x ∷ ends) zero v at = let e : f x ≡ f v = ap f (some-injective x v at) in omega arith
+total_at_most f (x ∷ ends) (suc number) v at = let e = total_at_most f ends number v at in omega arith
+
+total_nobody : (f : Known → ℕ) (ends : List Known) → total (λ u. u.shares) ends ≡ 0 → Each ends (λ _ u. u.shares ≡ 0 → f u ≡ 0) → total f ends ≡ 0
+total_nobody f [] none idle = refl
+total_nobody f (x ∷ ends) none idle =
+    let a = idle 0 x refl (omega arith) in
+    let b = total_nobody f ends (omega arith) (λ j u at. idle (suc j) u at) in omega arith
+
+-- where one end has every share, what is nothing for the others is all there is
+pub total_alone : (f : Known → ℕ) (ends : List Known) (number : ℕ) (v : Known) → get_elem? ends number ≡ some v → total (λ u. u.shares) ends ≡ v.shares
+    → Each ends (λ _ u. u.shares ≡ 0 → f u ≡ 0) → total f ends ≡ f v
+total_alone f [] number v at whole idle = absurd (some-ne-none v (sym at))
+total_alone f (x ∷ ends) zero v at whole idle =
+    let is : x ≡ v = some-injective x v at in
+    let shares : x.shares ≡ v.shares = ap (λ (u : Known). u.shares) is in
+    let e : f x ≡ f v = ap f is in
+    let rest = total_nobody f ends (omega arith) (λ j u at. idle (suc j) u at) in omega arith
+total_alone f (x ∷ ends) (suc number) v at whole idle =
+    let most = total_at_most (λ (u : Known). u.shares) ends number v at in
+    let first : f x ≡ 0 = idle 0 x refl (omega arith) in
+    let rest = total_alone f ends number v at (omega arith) (λ j u at. idle (suc j) u at) in omega arith
+
+-- an end's step that takes nothing
+pub taken_same : (ends : List Known) (number : ℕ) (v w : Known) → get_elem? ends number ≡ some v → w.taken ≡ v.taken → all_taken (set ends number w) ≡ all_taken ends
+taken_same [] number v w at e = absurd (some-ne-none v (sym at))
+taken_same (x ∷ ends) zero v w at e = ap (λ l. l ++ all_taken ends) (e ∙ ap (λ (u : Known). u.taken) (sym (some-injective x v at)))
+taken_same (x ∷ ends) (suc number) v w at e = ap (λ l. x.taken ++ l) (taken_same ends number v w at e)
+
+pub taken_new : (ends : List Known) (new : Known) → new.taken ≡ [] → all_taken (ends ++ new ∷ []) ≡ all_taken ends
+taken_new [] new e = append-nil new.taken ∙ e
+taken_new (x ∷ ends) new e = ap (λ l. x.taken ++ l) (taken_new ends new e)
+
+behind : (first rest more : List OnItsWay) → Same ((first ++ more) ++ rest) ((first ++ rest) ++ more)
+behind first rest more =
+    IsPermutation-trans ((first ++ more) ++ rest) (first ++ (rest ++ more)) ((first ++ rest) ++ more)
+    (IsPermutation-trans ((first ++ more) ++ rest) (first ++ (more ++ rest)) (first ++ (rest ++ more))
+    (same_is ((first ++ more) ++ rest) (first ++ (more ++ rest)) (append_assoc first more rest))
+    (IsPermutation-append_right first (more ++ rest) (rest ++ more) (IsPermutation-append_comm more rest)))
+    (same_is (first ++ (rest ++ more)) ((first ++ rest) ++ more) (sym (append_assoc first rest more)))
+
+-- an end's list grows by more pages
+pub taken_longer : (ends : List Known) (number : ℕ) (v w : Known) (more : List OnItsWay) → get_elem? ends number ≡ some v → w.taken ≡ v.taken ++ more
+    → IsPermutation (all_taken (set ends number w)) (all_taken ends ++ more)
+taken_longer [] number v w more at e = absurd (some-ne-none v (sym at))
+taken_longer (x ∷ ends) zero v w more at e =
+    let is : w.taken ≡ x.taken ++ more = e ∙ ap (λ (u : Known). u.taken ++ more) (sym (some-injective x v at)) in
+    subst (λ l. IsPermutation (l ++ all_taken ends) ((x.taken ++ all_taken ends) ++ more)) (sym is) (behind x.taken (all_taken ends) more)
+taken_longer (x ∷ ends) (suc number) v w more at e =
+    subst (λ l. IsPermutation (x.taken ++ all_taken (set ends number w)) l) (sym (append_assoc x.taken (all_taken ends) more))
+    (IsPermutation-append_right x.taken (all_taken (set ends number w)) (all_taken ends ++ more) (taken_longer ends number v w more at e))
+
+-- an end's list is given away
+taken_emptied : (ends : List Known) (number : ℕ) (v w : Known) → get_elem? ends number ≡ some v → w.taken ≡ []
+    → IsPermutation (all_taken ends) (all_taken (set ends number w) ++ v.taken)
+taken_emptied [] number v w at e = absurd (some-ne-none v (sym at))
+taken_emptied (x ∷ ends) zero v w at e =
+    let is : x.taken ≡ v.taken = ap (λ (u : Known). u.taken) (some-injective x v at) in
+    subst (λ l. IsPermutation (x.taken ++ all_taken ends) ((l ++ all_taken ends) ++ v.taken)) (sym e)
+    (subst (λ l. IsPermutation (l ++ all_taken ends) (all_taken ends ++ v.taken)) (sym is) (IsPermutation-append_comm v.taken (all_taken ends)))
+taken_emptied (x ∷ ends) (suc number) v w at e =
+    subst (λ l. IsPermutation (x.taken ++ all_taken ends) l) (sym (append_assoc x.taken (all_taken (set ends number w)) v.taken))
+    (IsPermutation-append_right x.taken (all_taken ends) (all_taken (set ends number w) ++ v.taken) (taken_emptied ends number v w at e))
+
+-- one end's list goes to another end
+pub taken_joined : (ends : List Known) (number other : ℕ) (v u both none : Known) → other ≢ number → get_elem? ends number ≡ some v → get_elem? ends other ≡ some u
+    → both.taken ≡ v.taken ++ u.taken → none.taken ≡ [] → IsPermutation (all_taken (set (set ends number both) other none)) (all_taken ends)
+taken_joined [] number other v u both none apart at at_other joined empty = absurd (some-ne-none v (sym at))
+taken_joined (x ∷ ends) zero zero v u both none apart at at_other joined empty = absurd (apart refl)
+taken_joined (x ∷ ends) zero (suc other) v u both none apart at at_other joined empty =
+    let is : both.taken ≡ x.taken ++ u.taken = joined ∙ ap (λ (y : Known). y.taken ++ u.taken) (sym (some-injective x v at)) in
+    let rest = all_taken (set ends other none) in
+    let moved : IsPermutation (u.taken ++ rest) (all_taken ends) =
+    IsPermutation-trans (u.taken ++ rest) (rest ++ u.taken) (all_taken ends) (IsPermutation-append_comm u.taken rest)
+    (IsPermutation-sym (all_taken ends) (rest ++ u.taken) (taken_emptied ends other u none at_other empty)) in
+    subst (λ l. IsPermutation (l ++ rest) (x.taken ++ all_taken ends)) (sym is)
+    (subst (λ l. IsPermutation l (x.taken ++ all_taken ends)) (sym (append_assoc x.taken u.taken rest))
+    (IsPermutation-append_right x.taken (u.taken ++ rest) (all_taken ends) moved))
+taken_joined (x ∷ ends) (suc number) zero v u both none apart at at_other joined empty =
+    let is : x.taken ≡ u.taken = ap (λ (y : Known). y.taken) (some-injective x u at_other) in
+    let grown = all_taken (set ends number both) in
+    subst (λ l. IsPermutation (l ++ grown) (x.taken ++ all_taken ends)) (sym empty)
+    (subst (λ l. IsPermutation grown (l ++ all_taken ends)) (sym is)
+    (IsPermutation-trans grown (all_taken ends ++ u.taken) (u.taken ++ all_taken ends) (taken_longer ends number v both u.taken at joined)
+    (IsPermutation-append_comm (all_taken ends) u.taken)))
+taken_joined (x ∷ ends) (suc number) (suc other) v u both none apart at at_other joined empty =
+    IsPermutation-append_right x.taken (all_taken (set (set ends number both) other none)) (all_taken ends)
+    (taken_joined ends number other v u both none (λ same. apart (ap suc same)) at at_other joined empty)
+
+taken_nobody : (ends : List Known) → total (λ u. u.shares) ends ≡ 0 → Each ends (λ _ u. u.shares ≡ 0 → u.taken ≡ []) → all_taken ends ≡ []
+taken_nobody [] none idle = refl
+taken_nobody (x ∷ ends) none idle =
+    ap (λ l. l ++ all_taken ends) (idle 0 x refl (omega arith)) ∙ taken_nobody ends (omega arith) (λ j u at. idle (suc j) u at)
+
+-- where one end has every share, its list has all that was taken
+pub taken_alone : (ends : List Known) (number : ℕ) (v : Known) → get_elem? ends number ≡ some v → total (λ u. u.shares) ends ≡ v.shares
+    → Each ends (λ _ u. u.shares ≡ 0 → u.taken ≡ []) → all_taken ends ≡ v.taken
+taken_alone [] number v at whole idle = absurd (some-ne-none v (sym at))
+taken_alone (x ∷ ends) zero v at whole idle =
+    let is : x ≡ v = some-injective x v at in
+    let shares : x.shares ≡ v.shares = ap (λ (u : Known). u.shares) is in
+    ap (λ l. x.taken ++ l) (taken_nobody ends (omega arith) (λ j u at. idle (suc j) u at)) ∙ append-nil x.taken ∙ ap (λ (u : Known). u.taken) is
+taken_alone (x ∷ ends) (suc number) v at whole idle =
+    let most = total_at_most (λ (u : Known). u.shares) ends number v at in
+    ap (λ l. l ++ all_taken ends) (idle 0 x refl (omega arith)) ∙ taken_alone ends number v at (omega arith) (λ j u at. idle (suc j) u at)
+
+-- what holds of all pages that were taken holds of each end's
+pub all_of_end : (holds : OnItsWay → Type 0) (ends : List Known) (number : ℕ) (v : Known) → get_elem? ends number ≡ some v → All holds (all_taken ends) → All holds v.taken
+all_of_end holds [] number v at every = absurd (some-ne-none v (sym at))
+all_of_end holds (x ∷ ends) zero v at every = subst (λ (u : Known). All holds u.taken) (some-injective x v at) (all_front holds x.taken (all_taken ends) every)
+all_of_end holds (x ∷ ends) (suc number) v at every = all_of_end holds ends number v at (all_back holds x.taken (all_taken ends) every)
+
+-- a list that comes back is added to those that came back before
+pub list_back : (mine his before : List OnItsWay) → IsPermutation mine before → IsPermutation (mine ++ his) (his ++ before)
+list_back mine his before h = IsPermutation-trans (mine ++ his) (his ++ mine) (his ++ before) (IsPermutation-append_comm mine his) (IsPermutation-append_right his mine before h)
+
+pub all_cons : {A : Type 0} (P : A → Type 0) (x : A) (xs : List A) → P x → All P xs → All P (x ∷ xs)
+all_cons P x xs first rest zero d lt = first
+all_cons P x xs first rest (suc k) d lt = rest k d (omega arith)

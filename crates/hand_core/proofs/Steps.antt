@@ -1,0 +1,302 @@
+-- Each step of a hand-over keeps its rule.
+use Rattle.std.proofs.Common.{◌≡◌, ◌≢◌, ℕ, zero, suc, ◌+◌, ◌-◌, ◌<◌, true, false, true≢false, List, [], ◌∷◌, ◌++◌, length, map, set, All, sym, refl, ap, ◌∙◌, subst, ⊎_elim, append_assoc, append-nil, arith}
+use Rattle.std.specs.Prelude.{replicate}
+use Rattle.std.proofs.lemmas.List.{map-append, replicate_more}
+use Rattle.std.specs.List.Sorted.{IsPermutation}
+use Rattle.std.proofs.lemmas.List.Sorted.{IsPermutation-refl, IsPermutation-sym, IsPermutation-trans, IsPermutation-append_left, All-permutation}
+use mathlib.Core.Option.{some, some-ne-none}
+use lib.ListN.{get_elem?}
+use Rattle.crossbeam_channel.specs.Fifo.{Pushes, Pops, Forks, Merges, Learns}
+use Rattle.atomic_table.proofs.Lists.{at_set}
+use Rattle.word_core.specs.Page.{OnItsWay}
+use Rattle.hand_core.specs.declared.order.Note.{Note}
+use Rattle.hand_core.specs.declared.order.Note.TheVariants.{Page, Mark}
+use Rattle.hand_core.specs.declared.order.Known.{Known}
+use Rattle.hand_core.specs.Pages.{HasSerialsFrom, IsRising}
+use Rattle.hand_core.specs.Order.{giver_knows, taker_knows, total, all_taken, all_ended, InOrder, after_put, after_take, Takes, joined, nothing_known, Settles}
+use Rattle.hand_core.specs.EachEnd.{Each}
+use Rattle.hand_core.proofs.Numbered.{each_set, each_new}
+use Rattle.hand_core.proofs.Serials.{serials-snoc, serials_front, serial_at, serials_below, rising-snoc, rising-nil}
+use Rattle.hand_core.proofs.Shared.{total_set, total_same, total_new, total_alone, taken_same, taken_new, taken_longer, taken_joined, taken_alone, all_of_end}
+
+abbrev queue_of : List OnItsWay → ℕ → List Note
+queue_of waiting marks = map Page waiting ++ replicate marks Mark
+
+queued_page : (queue : List Note) (waiting : List OnItsWay) (marks : ℕ) (p : OnItsWay) → queue ≡ queue_of waiting marks → marks ≡ 0 → queue ++ Page p ∷ [] ≡ queue_of (waiting ++ p ∷ []) 0
+queued_page queue waiting marks p is none =
+    ap (λ l. l ++ Page p ∷ []) (is ∙ ap (λ m. map Page waiting ++ replicate m Mark) none ∙ append-nil (map Page waiting))
+    ∙ sym (map-append Page waiting (p ∷ []))
+    ∙ sym (append-nil (map Page (waiting ++ p ∷ [])))
+
+queued_mark : (queue : List Note) (waiting : List OnItsWay) (marks : ℕ) → queue ≡ queue_of waiting marks → queue ++ Mark ∷ [] ≡ queue_of waiting (marks + 1)
+queued_mark queue waiting marks is =
+    ap (λ l. l ++ Mark ∷ []) is
+    ∙ append_assoc (map Page waiting) (replicate marks Mark) (Mark ∷ [])
+    ∙ ap (λ l. map Page waiting ++ l) (replicate_more marks Mark)
+
+-- a page in front is the first that waits
+front_page : (waiting : List OnItsWay) (marks : ℕ) (p : OnItsWay) (queue : List Note) → Page p ∷ queue ≡ queue_of waiting marks
+    → (rest : List OnItsWay) × (waiting ≡ p ∷ rest) × (queue ≡ queue_of rest marks)
+front_page [] zero p queue is = absurd (cc)
+front_page [] (suc marks) p queue is = absurd (cc)
+front_page (q ∷ waiting) marks p queue is = (waiting, (cc), (cc))
+
+-- behind an end mark there are only end marks
+front_mark : (waiting : List OnItsWay) (marks : ℕ) (queue : List Note) → Mark ∷ queue ≡ queue_of waiting marks
+    → (rest : ℕ) × (waiting ≡ []) × (marks ≡ suc rest) × (queue ≡ queue_of [] rest)
+front_mark [] zero queue is = absurd (cc)
+front_mark [] (suc marks) queue is = (marks, refl, refl, (cc))
+front_mark (q ∷ waiting) marks queue is = absurd (cc)
+
+abbrev Gave : ℕ → List OnItsWay → ℕ → ℕ → Known → Type 0
+Gave giver given marks number v = v.gives ≡ true → (number ≡ giver) × (v.given ≡ given) × (v.marks ≡ marks)
+
+abbrev Spent : ℕ → Known → Type 0
+Spent number v = v.shares ≡ 0 → (v.taken ≡ []) × (v.ended ≡ 0)
+
+abbrev Rises : ℕ → Known → Type 0
+Rises number v = v.gives ≡ false → IsRising v.taken
+
+-- the giver of one hand-over is one end
+other_giver : (giver : ℕ) (given given_new : List OnItsWay) (marks marks_new number other : ℕ) (u : Known) → number ≡ giver → other ≢ number → Gave giver given marks other u → Gave giver given_new marks_new other u
+other_giver giver given given_new marks marks_new number other u this apart h gives = absurd (apart ((h gives).0 ∙ sym this))
+
+same_giver : (giver : ℕ) (given given_new : List OnItsWay) (marks marks_new other : ℕ) (u : Known) → given ≡ given_new → marks ≡ marks_new → Gave giver given marks other u → Gave giver given_new marks_new other u
+same_giver giver given given_new marks marks_new other u pages count h gives = ((h gives).0, (h gives).1 ∙ pages, (h gives).2 ∙ count)
+
+-- the queue is open, and its one end is the giver
+pub opens : InOrder [] (giver_knows ∷ [])
+opens =
+    let only : (holds : ℕ → Known → Type 0) → holds 0 giver_knows → Each (giver_knows ∷ []) holds = λ holds h. each_set holds (giver_knows ∷ []) 0 giver_knows h (λ j u other at. absurd (none j u other at)) in
+    record {
+      giver = 0;
+      base = 0;
+      off = [];
+      waiting = [];
+      marks = 0;
+      serials = refl;
+      queued = refl;
+      together = IsPermutation-refl [];
+      rising = only Rises (λ plain. rising-nil);
+      done = λ some. refl;
+      given = only (Gave 0 [] 0) (λ _. (refl, refl, refl));
+      shares = refl;
+      spent = only Spent (λ _. (refl, refl));
+    }
+  where
+    none : (j : ℕ) (u : Known) → j ≢ 0 → get_elem? (giver_knows ∷ []) j ≡ some u → ⊥
+    none zero u other at = other refl
+    none (suc j) u other at = some-ne-none u (sym at)
+
+-- a page goes in at the back
+pub page_in : (room number : ℕ) (v : Known) (p : OnItsWay) (base : ℕ) → v.gives ≡ true → v.marks ≡ 0 → HasSerialsFrom base v.given → p.serial ≡ base + length v.given
+    → Pushes InOrder room number v (Page p) (λ w. w ≡ after_put v (Page p))
+page_in room number v p base gives unmarked serials next queue ends short r at =
+    let w = after_put v (Page p) in
+    let this = r.given number v at gives in
+    let count = this.2 in
+    let none : r.marks ≡ 0 = omega arith in
+    let given : v.given ++ p ∷ [] ≡ r.off ++ (r.waiting ++ p ∷ []) = ap (λ l. l ++ p ∷ []) this.1 ∙ append_assoc r.off r.waiting (p ∷ []) in
+    let ended : all_ended (set ends number w) ≡ all_ended ends = total_same (λ u. u.ended) ends number v w at refl in
+    let marks : v.marks ≡ all_ended (set ends number w) + 0 = omega arith in (
+      w,
+      record {
+        giver = r.giver;
+        base = base;
+        off = r.off;
+        waiting = r.waiting ++ p ∷ [];
+        marks = 0;
+        serials = subst (HasSerialsFrom base) given (serials-snoc base v.given p serials next);
+        queued = queued_page queue r.waiting r.marks p r.queued none;
+        together = subst (λ l. IsPermutation l r.off) (sym (taken_same ends number v w at refl)) r.together;
+        rising = each_set Rises ends number w (r.rising number v at) (λ j u other e. r.rising j u e);
+        done = λ some. absurd (omega arith);
+        given = each_set (Gave r.giver (r.off ++ (r.waiting ++ p ∷ [])) (all_ended (set ends number w) + 0)) ends number w
+            (λ _. (this.0, given, marks))
+            (λ j u other e. other_giver r.giver (r.off ++ r.waiting) (r.off ++ (r.waiting ++ p ∷ [])) (all_ended ends + r.marks) (all_ended (set ends number w) + 0) number j u this.0 other (r.given j u e));
+        shares = total_same (λ u. u.shares) ends number v w at refl ∙ r.shares;
+        spent = each_set Spent ends number w (r.spent number v at) (λ j u other e. r.spent j u e);
+      },
+      refl,
+    )
+
+-- an end mark goes in at the back
+pub mark_in : (room number : ℕ) (v : Known) → v.gives ≡ true → Pushes InOrder room number v Mark (λ w. w ≡ after_put v Mark)
+mark_in room number v gives queue ends short r at =
+    let w = after_put v Mark in
+    let this = r.given number v at gives in
+    let count = this.2 in
+    let ended : all_ended (set ends number w) ≡ all_ended ends = total_same (λ u. u.ended) ends number v w at refl in
+    let marks : v.marks + 1 ≡ all_ended (set ends number w) + (r.marks + 1) = omega arith in (
+      w,
+      record {
+        giver = r.giver;
+        base = r.base;
+        off = r.off;
+        waiting = r.waiting;
+        marks = r.marks + 1;
+        serials = r.serials;
+        queued = queued_mark queue r.waiting r.marks r.queued;
+        together = subst (λ l. IsPermutation l r.off) (sym (taken_same ends number v w at refl)) r.together;
+        rising = each_set Rises ends number w (r.rising number v at) (λ j u other e. r.rising j u e);
+        done = λ some. r.done (omega arith);
+        given = each_set (Gave r.giver (r.off ++ r.waiting) (all_ended (set ends number w) + (r.marks + 1))) ends number w
+            (λ _. (this.0, this.1, marks))
+            (λ j u other e. other_giver r.giver (r.off ++ r.waiting) (r.off ++ r.waiting) (all_ended ends + r.marks) (all_ended (set ends number w) + (r.marks + 1)) number j u this.0 other (r.given j u e));
+        shares = total_same (λ u. u.shares) ends number v w at refl ∙ r.shares;
+        spent = each_set Spent ends number w (r.spent number v at) (λ j u other e. r.spent j u e);
+      },
+      refl,
+    )
+
+-- a page comes off the front
+page_off : (number : ℕ) (v : Known) (p : OnItsWay) (queue : List Note) (ends : List Known) → v.gives ≡ false → 0 < v.shares → InOrder (Page p ∷ queue) ends → get_elem? ends number ≡ some v
+    → InOrder queue (set ends number (after_take v (Page p))) × IsRising (v.taken ++ p ∷ [])
+page_off number v p queue ends plain share r at =
+    let w = after_take v (Page p) in
+    let front = front_page r.waiting r.marks p queue r.queued in
+    let rest : List OnItsWay = front.0 in
+    let first : r.waiting ≡ p ∷ rest = front.1 in
+    let moved : r.off ++ r.waiting ≡ (r.off ++ p ∷ []) ++ rest = ap (λ l. r.off ++ l) first ∙ sym (append_assoc r.off (p ∷ []) rest) in
+    let ended : all_ended (set ends number w) ≡ all_ended ends = total_same (λ u. u.ended) ends number v w at refl in
+    let serial : p.serial ≡ r.base + length r.off = serial_at r.base r.off p rest (subst (λ l. HasSerialsFrom r.base (r.off ++ l)) first r.serials) in
+    let below : All (λ (q : OnItsWay). q.serial < r.base + length r.off) v.taken =
+    all_of_end (λ q. q.serial < r.base + length r.off) ends number v at
+    (All-permutation (λ (q : OnItsWay). q.serial < r.base + length r.off) r.off (all_taken ends) (IsPermutation-sym (all_taken ends) r.off r.together)
+    (serials_below r.base r.off (serials_front r.base r.off r.waiting r.serials))) in
+    let rises : IsRising (v.taken ++ p ∷ []) = rising-snoc v.taken p (r.rising number v at plain) (subst (λ n. All (λ (q : OnItsWay). q.serial < n) v.taken) (sym serial) below) in (
+      record {
+        giver = r.giver;
+        base = r.base;
+        off = r.off ++ p ∷ [];
+        waiting = rest;
+        marks = r.marks;
+        serials = subst (HasSerialsFrom r.base) moved r.serials;
+        queued = front.2;
+        together = IsPermutation-trans (all_taken (set ends number w)) (all_taken ends ++ p ∷ []) (r.off ++ p ∷ [])
+            (taken_longer ends number v w (p ∷ []) at refl)
+            (IsPermutation-append_left (p ∷ []) (all_taken ends) r.off r.together);
+        rising = each_set Rises ends number w (λ _. rises) (λ j u other e. r.rising j u e);
+        done = λ some. absurd (nothing (sym first ∙ r.done (omega arith)));
+        given = each_set (Gave r.giver ((r.off ++ p ∷ []) ++ rest) (all_ended (set ends number w) + r.marks)) ends number w
+            (λ gives. absurd (true≢false (sym gives ∙ plain)))
+            (λ j u other e. same_giver r.giver (r.off ++ r.waiting) ((r.off ++ p ∷ []) ++ rest) (all_ended ends + r.marks) (all_ended (set ends number w) + r.marks) j u moved (ap (λ n. n + r.marks) (sym ended)) (r.given j u e));
+        shares = total_same (λ u. u.shares) ends number v w at refl ∙ r.shares;
+        spent = each_set Spent ends number w (λ none. absurd (omega arith)) (λ j u other e. r.spent j u e);
+      },
+      rises,
+    )
+  where
+    nothing : {rest : List OnItsWay} → p ∷ rest ≡ [] → ⊥
+    nothing e = cc
+
+-- an end mark comes off the front
+mark_off : (number : ℕ) (v : Known) (queue : List Note) (ends : List Known) → v.gives ≡ false → 0 < v.shares → InOrder (Mark ∷ queue) ends → get_elem? ends number ≡ some v
+    → InOrder queue (set ends number (after_take v Mark)) × IsRising v.taken
+mark_off number v queue ends plain share r at =
+    let w = after_take v Mark in
+    let front = front_mark r.waiting r.marks queue r.queued in
+    let left : ℕ = front.0 in
+    let none : r.waiting ≡ [] = front.1 in
+    let fewer : r.marks ≡ suc left = front.2 in
+    let one : all_ended (set ends number w) + v.ended ≡ all_ended ends + (v.ended + 1) = total_set (λ u. u.ended) ends number v w at in
+    let marks : all_ended ends + r.marks ≡ all_ended (set ends number w) + left = omega arith in
+    let pages : r.off ++ r.waiting ≡ r.off ++ [] = ap (λ l. r.off ++ l) none in (
+      record {
+        giver = r.giver;
+        base = r.base;
+        off = r.off;
+        waiting = [];
+        marks = left;
+        serials = subst (HasSerialsFrom r.base) pages r.serials;
+        queued = front.3;
+        together = subst (λ l. IsPermutation l r.off) (sym (taken_same ends number v w at refl)) r.together;
+        rising = each_set Rises ends number w (r.rising number v at) (λ j u other e. r.rising j u e);
+        done = λ some. refl;
+        given = each_set (Gave r.giver (r.off ++ []) (all_ended (set ends number w) + left)) ends number w
+            (λ gives. absurd (true≢false (sym gives ∙ plain)))
+            (λ j u other e. same_giver r.giver (r.off ++ r.waiting) (r.off ++ []) (all_ended ends + r.marks) (all_ended (set ends number w) + left) j u pages marks (r.given j u e));
+        shares = total_same (λ u. u.shares) ends number v w at refl ∙ r.shares;
+        spent = each_set Spent ends number w (λ none. absurd (omega arith)) (λ j u other e. r.spent j u e);
+      },
+      r.rising number v at plain,
+    )
+
+-- a taker takes what stands at the front
+pub off : (number : ℕ) (v : Known) → v.gives ≡ false → 0 < v.shares → Pops InOrder number v (Takes v)
+off number v plain share (Page p) queue ends r at = let step = page_off number v p queue ends plain share r at in (after_take v (Page p), step.0, (refl, step.1))
+off number v plain share Mark queue ends r at = let step = mark_off number v queue ends plain share r at in (after_take v Mark, step.0, (refl, step.1))
+
+-- the giver cuts off a share for a taker
+pub cuts : (number : ℕ) (v : Known) → 1 < v.shares → Forks InOrder number v (record v { shares = v.shares - 1 }) taker_knows
+cuts number v shares queue ends r at =
+    let w : Known = record v { shares = v.shares - 1 } in
+    let ws : List Known = set ends number w in
+    let every : (holds : ℕ → Known → Type 0) → holds number w → ((j : ℕ) → holds j taker_knows) → Each ends holds → Each (ws ++ taker_knows ∷ []) holds =
+    λ holds this new old. each_new holds ws taker_knows (each_set holds ends number w this (λ j u other e. old j u e)) new in
+    let ended : all_ended (ws ++ taker_knows ∷ []) ≡ all_ended ends =
+    let a = total_new (λ u. u.ended) ws taker_knows in let b = total_same (λ u. u.ended) ends number v w at refl in omega arith in
+    record {
+      giver = r.giver;
+      base = r.base;
+      off = r.off;
+      waiting = r.waiting;
+      marks = r.marks;
+      serials = r.serials;
+      queued = r.queued;
+      together = subst (λ l. IsPermutation l r.off) (sym (taken_new ws taker_knows refl ∙ taken_same ends number v w at refl)) r.together;
+      rising = every Rises (r.rising number v at) (λ j plain. rising-nil) r.rising;
+      done = λ some. r.done (omega arith);
+      given = every (Gave r.giver (r.off ++ r.waiting) (all_ended (ws ++ taker_knows ∷ []) + r.marks))
+          (same_giver r.giver (r.off ++ r.waiting) (r.off ++ r.waiting) (all_ended ends + r.marks) (all_ended (ws ++ taker_knows ∷ []) + r.marks) number w refl (ap (λ n. n + r.marks) (sym ended)) (r.given number v at))
+          (λ j gives. absurd (true≢false (sym gives)))
+          (λ j u e. same_giver r.giver (r.off ++ r.waiting) (r.off ++ r.waiting) (all_ended ends + r.marks) (all_ended (ws ++ taker_knows ∷ []) + r.marks) j u refl (ap (λ n. n + r.marks) (sym ended)) (r.given j u e));
+      shares = let a = total_new (λ u. u.shares) ws taker_knows in let b = total_set (λ u. u.shares) ends number v w at in let e = r.shares in omega arith;
+      spent = every Spent (λ none. absurd (omega arith)) (λ j none. absurd (omega arith)) r.spent;
+    }
+
+-- the giver takes a share back
+pub joins : (number : ℕ) (v : Known) (other : ℕ) (u : Known) → v.gives ≡ true → 0 < v.shares → Merges InOrder number v other u (joined v u) nothing_known
+joins number v other u gives share queue ends r at apart at_other =
+    let both : Known = joined v u in
+    let vs : List Known = set ends number both in
+    let us : List Known = set vs other nothing_known in
+    let was : get_elem? ends other ≡ some u = ⊎_elim (λ x. absurd (apart x.0)) (λ x. x.1) (at_set ends number other both u at_other) in
+    let every : (holds : ℕ → Known → Type 0) → holds number both → holds other nothing_known → Each ends holds → Each us holds =
+    λ holds this that old. each_set holds vs other nothing_known that (λ j y apart_j e. each_set holds ends number both this (λ i z o e_i. old i z e_i) j y e) in
+    let sums : (f : Known → ℕ) → f nothing_known ≡ 0 → f both ≡ f v + f u → total f us ≡ total f ends =
+    λ f none sum. let a = total_set f vs other u nothing_known at_other in let b = total_set f ends number v both at in omega arith in
+    let ended : all_ended us ≡ all_ended ends = sums (λ y. y.ended) refl refl in
+    record {
+      giver = r.giver;
+      base = r.base;
+      off = r.off;
+      waiting = r.waiting;
+      marks = r.marks;
+      serials = r.serials;
+      queued = r.queued;
+      together = IsPermutation-trans (all_taken us) (all_taken ends) r.off (taken_joined ends number other v u both nothing_known apart at was refl refl) r.together;
+      rising = every Rises (λ plain. absurd (true≢false (sym gives ∙ plain))) (λ plain. rising-nil) r.rising;
+      done = λ some. r.done (omega arith);
+      given = every (Gave r.giver (r.off ++ r.waiting) (all_ended us + r.marks))
+          (same_giver r.giver (r.off ++ r.waiting) (r.off ++ r.waiting) (all_ended ends + r.marks) (all_ended us + r.marks) number both refl (ap (λ n. n + r.marks) (sym ended)) (r.given number v at))
+          (λ none. absurd (true≢false (sym none)))
+          (λ j y e. same_giver r.giver (r.off ++ r.waiting) (r.off ++ r.waiting) (all_ended ends + r.marks) (all_ended us + r.marks) j y refl (ap (λ n. n + r.marks) (sym ended)) (r.given j y e));
+      shares = sums (λ y. y.shares) refl refl ∙ r.shares;
+      spent = every Spent (λ none. absurd (omega arith)) (λ none. (refl, refl)) r.spent;
+    }
+
+-- who has every share knows the whole
+pub settles : (number : ℕ) (v : Known) → v.gives ≡ true → v.shares ≡ 1024 → 0 < v.ended → v.ended ≡ v.marks → Learns InOrder number v (Settles v)
+settles number v gives every has_ended all_marks queue ends r at =
+    let this = r.given number v at gives in
+    let count = this.2 in
+    let whole = r.shares ∙ sym every in
+    let ended : all_ended ends ≡ v.ended = total_alone (λ u. u.ended) ends number v at whole (λ j u e none. (r.spent j u e none).1) in
+    let lists : all_taken ends ≡ v.taken = taken_alone ends number v at whole (λ j u e none. (r.spent j u e none).0) in
+    let empty : r.waiting ≡ [] = r.done (omega arith) in
+    let given : v.given ≡ r.off = this.1 ∙ ap (λ l. r.off ++ l) empty ∙ append-nil r.off in
+    let none : r.marks ≡ 0 = omega arith in (
+      subst (λ l. IsPermutation l v.given) lists (subst (λ l. IsPermutation (all_taken ends) l) (sym given) r.together),
+      r.queued ∙ ap (λ l. map Page l ++ replicate r.marks Mark) empty ∙ ap (λ m. replicate m Mark) none,
+    )

@@ -1,0 +1,9 @@
+use Rattle.std.proofs.Common.{ap, ◌∙◌}
+use Rattle.hand_core.specs.DoneEnds.{DoneSender}
+use Rattle.hand_core.proofs.Turned.{copy_in}
+use Rattle.hand_core.proofs.done_sender.DoneSender.send.Goals as goal
+
+pub send_as-requires-clause-rule : goal.send_as-requires-clause-rule
+send_as-requires-clause-rule g c =
+    let k = c.self.invariant in
+    (copy_in _ _ _ c.self.inside.number c.args.copy k.sends k.sender (k.fresh (ap (λ (s : DoneSender). s.closed) c.self.view_is ∙ c.requires)), λ items views rule at. tt)

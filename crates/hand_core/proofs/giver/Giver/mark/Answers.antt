@@ -1,0 +1,5 @@
+use Rattle.hand_core.proofs.Steps.{mark_in}
+use Rattle.hand_core.proofs.giver.Giver.mark.Goals as goal
+
+pub send_as-requires-clause-rule : goal.send_as-requires-clause-rule
+send_as-requires-clause-rule g c = (mark_in _ _ _ c.self.invariant.gives, λ items views rule at. tt)

@@ -1,0 +1,17 @@
+use Rattle.std.proofs.Common.{◌≡◌, ◌+◌, ◌≤◌, false, [], All, vec_len, vec_capacity}
+use Rattle.crossbeam_channel.specs.Claims.{view, IsSeatAt}
+use Rattle.crossbeam_channel.specs.Ends.{sends_on, receives_on}
+use Rattle.hand_core.specs.Ends.{hand_over_of}
+use Rattle.hand_core.specs.Order.{giver_knows}
+use Rattle.hand_core.proofs.opening.open.Given as goal
+
+abbrev pub invariant-loop-taker : goal.invariant-loop-taker
+invariant-loop-taker g l = record {
+  seat : IsSeatAt (sends_on l.to) l.pass;
+  shares : (view l.pass).shares + l._taker ≡ 1024;
+  knows : view l.pass ≡ record giver_knows { shares = (view l.pass).shares };
+  made : vec_len l.all ≡ l._taker;
+  room : l.takers ≤ vec_capacity l.all;
+  channel : receives_on l.from ≡ sends_on l.to;
+  fresh : All (λ t. t ≡ record { hand_over = hand_over_of (sends_on l.to); taken = []; ended = false }) l.all.items;
+}

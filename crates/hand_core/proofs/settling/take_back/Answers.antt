@@ -1,0 +1,97 @@
+use Rattle.std.proofs.Common.{◌≡◌, ◌++◌, ◌∷◌, [], ◌-◌, List, take, true, All, ap, sym, ◌∙◌, subst, append_assoc, append-nil, arith}
+use Rattle.std.specs.List.Sorted.{IsPermutation}
+use Rattle.std.proofs.lemmas.List.Sorted.{IsPermutation-sym, IsPermutation-trans}
+use Rattle.crossbeam_channel.specs.Claims.{view}
+use Rattle.hand_core.specs.declared.order.Known.{Known}
+use Rattle.hand_core.specs.Ends.{Giver, Taker, taken_by}
+use Rattle.hand_core.specs.Pages.{IsRising}
+use Rattle.hand_core.proofs.Serials.{all_front, all_last}
+use Rattle.hand_core.proofs.Shared.{list_back, all_cons}
+use Rattle.hand_core.proofs.Steps.{joins, settles}
+use Rattle.hand_core.proofs.settling.take_back.Goals as goal
+
+pub absorb-requires-clause-rule : goal.absorb-requires-clause-rule
+absorb-requires-clause-rule c =
+    let shares = c.loop-taker.invariant.shares in
+    let few = c.loop-taker.invariant.few in joins _ _ _ _ c.loop-taker.invariant.gives (omega arith)
+
+pub loop-taker-preserved : goal.loop-taker-preserved
+loop-taker-preserved c =
+    let old = c.loop-taker.invariant in
+    let t = c.in-Some.taker in
+    let inside = c.taker.inside in
+    let his = c.taker.invariant in
+    let is = c.taker.view_is in
+    let e = c.absorb.ensures.rule in
+    let items = c.in-Some.ensures.items in
+    let len = c.in-Some.ensures.len in
+    let mine : Known = view c.loop-taker.pass in
+    let Left : Taker → Type 0 = λ u. (u.hand_over ≡ c.args.giver.hand_over) × (u.ended ≡ true) in
+    let left : All Left (c.pop.new.self.items ++ t ∷ []) = subst (All Left) items old.left in
+    let ended : inside.ended ≡ true = ap (λ (u : Taker). u.ended) is ∙ (all_last Left c.pop.new.self.items t left).1 in
+    let one : (view inside.pass).ended ≡ 1 = rw ended at his.marked in
+    let shares_now = ap (λ (v : Known). v.shares) e in
+    let ended_now = ap (λ (v : Known). v.ended) e in
+    let shares_was = old.shares in
+    let ended_was = old.ended in
+    let few_was = old.few in
+    let share = his.share in
+    let before = old.back in
+    let rising : IsRising t.taken = subst (λ (u : Taker). IsRising u.taken) is his.rising in
+    let taken : IsPermutation (view c.absorb.new.pass).taken (t.taken ++ taken_by before.0) =
+    subst (λ l. IsPermutation l (t.taken ++ taken_by before.0)) (sym (ap (λ (v : Known). v.taken) e))
+    (subst (λ l. IsPermutation (mine.taken ++ l) (t.taken ++ taken_by before.0)) (sym (ap (λ (u : Taker). u.taken) is)) (list_back mine.taken t.taken (taken_by before.0) before.2)) in
+    record {
+      seat = c.absorb.ensures.channel.0;
+      channel = old.channel;
+      gives = ap (λ (v : Known). v.gives) e ∙ old.gives;
+      given = ap (λ (v : Known). v.given) e ∙ old.given;
+      marks = ap (λ (v : Known). v.marks) e ∙ old.marks;
+      shares = omega arith;
+      few = omega arith;
+      ended = omega arith;
+      left = all_front Left c.pop.new.self.items (t ∷ []) left;
+      back = (
+        t ∷ before.0,
+        before.1 ∙ ap (λ l. l ++ before.0) items ∙ append_assoc c.pop.new.self.items (t ∷ []) before.0,
+        taken,
+        all_cons (λ (u : Taker). IsRising u.taken) t before.0 rising before.3,
+      );
+      count = old.count;
+    }
+
+pub learn_as-requires-clause-rule : goal.learn_as-requires-clause-rule
+learn_as-requires-clause-rule c =
+    let old = c.loop-taker.invariant in
+    let none = c.in_default.ensures.cases in
+    let shares = old.shares in
+    let ended = old.ended in
+    let marks = old.marks in
+    let all_put = c.requires.marks.0 in
+    let few = c.giver.invariant.few in
+    let takers = ap (λ (g : Giver). g.takers) c.giver.view_is in settles _ _ old.gives (omega arith) (omega arith) (omega arith)
+
+-- every taker came back
+all_back : (takers left back : List Taker) → takers ≡ left ++ back → left ≡ [] → takers ≡ back
+all_back takers left back is empty = is ∙ ap (λ l. l ++ back) empty
+
+pub returns-clause-pages : goal.returns-clause-pages
+returns-clause-pages c =
+    let left = c.loop-taker.takers in
+    let before = c.loop-taker.invariant.back in
+    let end = c.in_default.ensures in
+    let empty : left.items ≡ [] = end.items ∙ append-nil c.pop.new.self.items ∙ end.rest ∙ ap (λ n. take (n - 1) left.items) end.cases.0 in
+    let same : c.args.takers.items ≡ before.0 = all_back c.args.takers.items left.items before.0 before.1 empty in
+    let knows : Known = view c.loop-taker.pass in
+    let learned : IsPermutation knows.taken knows.given = c.learn_as.ensures.rule.1.0 in
+    subst (λ (l : List Taker). IsPermutation (taken_by l) c.args.giver.given) (sym same)
+    (IsPermutation-trans (taken_by before.0) knows.taken c.args.giver.given (IsPermutation-sym knows.taken (taken_by before.0) before.2)
+    (subst (λ l. IsPermutation knows.taken l) c.loop-taker.invariant.given learned))
+
+pub returns-clause-rising : goal.returns-clause-rising
+returns-clause-rising c =
+    let left = c.loop-taker.takers in
+    let before = c.loop-taker.invariant.back in
+    let end = c.in_default.ensures in
+    let empty : left.items ≡ [] = end.items ∙ append-nil c.pop.new.self.items ∙ end.rest ∙ ap (λ n. take (n - 1) left.items) end.cases.0 in
+    subst (λ (l : List Taker). All (λ (t : Taker). IsRising t.taken) l) (sym (all_back c.args.takers.items left.items before.0 before.1 empty)) before.3

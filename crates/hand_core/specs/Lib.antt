@@ -1,0 +1,13 @@
+pub mod Came
+pub mod DoneEnds
+pub mod EachEnd
+pub mod Ends
+pub mod Errors
+pub mod Giving
+pub mod Order
+pub mod Pages
+pub mod Receiving
+pub mod Sending
+pub mod Taken
+pub mod Taking
+pub mod Turns

@@ -1,0 +1,85 @@
+-- The rule of a hand-over of pages, from one giver to several takers: what holds of its queue and of its ends after each step.
+use Rattle.std.specs.Prelude.{◌≡◌, ℕ, ◌+◌, ◌<◌, Bool, true, false, List, [], ◌∷◌, ◌++◌, map, replicate}
+use Rattle.std.specs.List.{flat_map}
+use Rattle.std.specs.List.Sorted.{IsPermutation}
+use Rattle.word_core.specs.Page.{OnItsWay}
+use Rattle.hand_core.specs.declared.order.Note.{Note}
+use Rattle.hand_core.specs.declared.order.Note.TheVariants.{Page, Mark}
+use Rattle.hand_core.specs.declared.order.Known.{Known}
+use Rattle.hand_core.specs.Pages.{HasSerialsFrom, IsRising}
+use Rattle.hand_core.specs.EachEnd.{Each}
+
+-- what an end knows, part by part
+abbrev pub known : ℕ → Bool → List OnItsWay → ℕ → List OnItsWay → ℕ → Known
+known shares gives given marks taken ended = record { shares = shares; gives = gives; given = given; marks = marks; taken = taken; ended = ended }
+
+-- what the giver knows at first: it has every share
+abbrev pub giver_knows : Known
+giver_knows = known 1024 true [] 0 [] 0
+
+-- what a taker knows at first
+abbrev pub taker_knows : Known
+taker_knows = known 1 false [] 0 [] 0
+
+-- a number of each end, added up
+abbrev pub total : (Known → ℕ) → List Known → ℕ
+total number [] = 0
+total number (v ∷ ends) = number v + total number ends
+
+-- the pages of all takers' lists
+abbrev pub all_taken : List Known → List OnItsWay
+all_taken ends = flat_map (λ (v : Known). v.taken) ends
+
+-- how many takers have ended
+abbrev pub all_ended : List Known → ℕ
+all_ended ends = total (λ v. v.ended) ends
+
+-- Of the pages given, `off` came off and `waiting` stand in the queue, with so many end marks behind them.
+-- The number of the giver's end, and the first serial, are `giver` and `base`.
+pub record InOrder (queue : List Note) (ends : List Known) : Type 0 where
+  pub giver : ℕ
+  pub base : ℕ
+  pub off : List OnItsWay
+  pub waiting : List OnItsWay
+  pub marks : ℕ
+  -- the pages given have the serials base, base + 1, .. in their order
+  pub serials : HasSerialsFrom base (off ++ waiting)
+  -- the queue is the pages that wait, in this order, and then the end marks
+  pub queued : queue ≡ map Page waiting ++ replicate marks Mark
+  -- the takers' lists together are the pages that came off, each whole and once
+  pub together : IsPermutation (all_taken ends) off
+  -- each taker's list is strictly rising
+  pub rising : Each ends (λ _ v. v.gives ≡ false → IsRising v.taken)
+  -- where a taker has ended, no page waits
+  pub done : 0 < all_ended ends → waiting ≡ []
+  -- one end gives: it gave these pages, and put each end mark that waits or that ended a taker
+  pub given : Each ends (λ number v. v.gives ≡ true → (number ≡ giver) × (v.given ≡ off ++ waiting) × (v.marks ≡ all_ended ends + marks))
+  -- an end with no share has taken nothing, so who has every share knows of all lists
+  pub shares : total (λ v. v.shares) ends ≡ 1024
+  pub spent : Each ends (λ _ v. v.shares ≡ 0 → (v.taken ≡ []) × (v.ended ≡ 0))
+
+-- what a page or an end mark that goes in changes for the giver
+abbrev pub after_put : Known → Note → Known
+after_put v (Page p) = record v { given = v.given ++ p ∷ [] }
+after_put v Mark = record v { marks = v.marks + 1 }
+
+-- what a page or an end mark that comes off changes for the taker
+abbrev pub after_take : Known → Note → Known
+after_take v (Page p) = record v { taken = v.taken ++ p ∷ [] }
+after_take v Mark = record v { ended = v.ended + 1 }
+
+-- a taker's step, and that its list still rises
+abbrev pub Takes : Known → Note → Known → Type 0
+Takes v note w = (w ≡ after_take v note) × IsRising w.taken
+
+-- what the giver knows with a taker's share and all that the taker knows
+abbrev pub joined : Known → Known → Known
+joined v taker = record v { shares = v.shares + taker.shares; taken = v.taken ++ taker.taken; ended = v.ended + taker.ended }
+
+-- what an end knows that gave its share back
+abbrev pub nothing_known : Known
+nothing_known = known 0 false [] 0 [] 0
+
+-- what the giver learns once it has every share and each end mark ended a taker: each page given was taken once, and the queue is empty
+abbrev pub Settles : Known → List Note → Type 0
+Settles v queue = IsPermutation v.taken v.given × (queue ≡ [])

@@ -1,0 +1,78 @@
+use crate::error::Gone;
+use crate::turns::{Account, Message, Sends, Turns};
+use crossbeam_channel::{Pass, RuledSender, SendError};
+use std::alloc::Global;
+use std::marker::Model;
+use std::sync::Wait;
+use word_core::Copied;
+
+/// A sending end of the copies' queue.
+#[derive(Drop)]
+pub struct DoneSender {
+    pub(crate) number: usize,
+    pub(crate) closed: bool,
+    pub(crate) to: RuledSender<Message, Account, Turns, Global>,
+    pub(crate) pass: Pass<Message, Account>,
+}
+
+impl Model for DoneSender {
+    ghost use Rattle.crossbeam_channel.specs.Claims.{view as knows};
+    ghost use Rattle.crossbeam_channel.specs.Ends.{sends_on};
+    ghost use Rattle.hand_core.specs.DoneEnds.{DoneSender as Seen, way_of};
+
+    ghost Value = { Seen };
+
+    ghost use Rattle.hand_core.specs.Sending.{IsSending};
+
+    ghost view = { λ s. record { way = way_of (sends_on s.to); number = s.number; sent = (knows s.pass).sent; marked = (knows s.pass).marked; closed = s.closed } };
+
+    ghost invariant = { IsSending };
+}
+
+impl DoneSender {
+    ghost use Rattle.std.specs.Prelude.{◌≡◌, ◌++◌, ◌∷◌, [], true, false, OnOk, OnErr, IfErr};
+
+    /// Puts the copy at the back. Where the taker is gone it hands the copy back.
+    pub fn send<R: Wait>(&mut self, rt: &R, copy: Copied) -> Result<(), Copied>
+        requires { self.old.closed ≡ false }
+        ensures ok { OnOk result (self.new ≡ record self.old { sent = self.old.sent ++ copy ∷ [] }) }
+        ensures back { IfErr result (λ handed_back. handed_back ≡ copy) }
+        ensures err { OnErr result (self.new ≡ self.old) }
+    {
+        let DoneSender {
+            number,
+            to,
+            pass,
+            ..
+        } = self;
+        let Err(refused) = to.send_as::<Sends, R>(rt, pass, Message::Copy(*number, copy)) else {
+            return Ok(());
+        };
+        let SendError::Disconnected(Message::Copy(_, copy)) = refused else {
+            unreachable!()
+        };
+        Err(copy)
+    }
+
+    /// Puts the sender's end mark. After an `Err` too nothing more can be sent.
+    pub fn close<R: Wait>(&mut self, rt: &R) -> Result<(), Gone>
+        requires { self.old.closed ≡ false }
+        ensures ok { OnOk result (self.new ≡ record self.old { closed = true; marked = true }) }
+        ensures err { OnErr result (self.new ≡ record self.old { closed = true }) }
+    {
+        self.closed = true;
+        let DoneSender {
+            number,
+            to,
+            pass,
+            ..
+        } = self;
+        if to
+            .send_as::<Sends, R>(rt, pass, Message::Mark(*number))
+            .is_err()
+        {
+            return Err(Gone);
+        }
+        Ok(())
+    }
+}

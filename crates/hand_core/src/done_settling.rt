@@ -1,0 +1,24 @@
+ghost use Rattle.std.specs.Prelude.{◌≡◌, true, All};
+ghost use Rattle.hand_core.specs.DoneEnds.{copies_of, has_ended};
+
+use crate::done_sender::DoneSender;
+use crate::done_taker::DoneTaker;
+use crate::turns::{Folds, Whole};
+
+/// Once the taker had its end, what came off of each sender is all that it sent, in its order.
+pub fn done_settle(taker: DoneTaker, mut senders: Vec<DoneSender>)
+    requires way { All (λ s. s.way ≡ taker.way) senders.items }
+    requires ended { has_ended taker ≡ true }
+    ensures { All (λ s. copies_of s.number taker.came ≡ s.sent) senders.items }
+{
+    let DoneTaker { mut pass, .. } = taker;
+    while let Some(sender) = senders.pop() {
+        let DoneSender {
+            to,
+            pass: theirs,
+            ..
+        } = sender;
+        to.absorb::<Folds>(&mut pass, theirs);
+        to.learn_as::<Whole>(&mut pass);
+    }
+}

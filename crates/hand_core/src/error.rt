@@ -1,0 +1,30 @@
+use thiserror::Error;
+
+/// Why a hand-over isn't opened.
+#[derive(Clone, Copy, Debug, PartialEq, Eq, Error)]
+pub enum HandError {
+    #[error("out of memory")]
+    Memory,
+    #[error("there are 1 to 4 takers or senders, and room for 1 to 64 pages")]
+    Range,
+}
+
+/// The other side of a hand-over is gone.
+#[derive(Debug, Drop, Error)]
+#[error("the other side is gone")]
+pub struct Gone;
+
+impl HandError {
+    ghost use Rattle.std.specs.Prelude.{◌≡◌};
+    ghost use Rattle.hand_core.specs.Errors.{number_of};
+
+    /// The error's number.
+    pub fn number(&self) -> u16
+        ensures { result ≡ number_of self.now }
+    {
+        match self {
+            HandError::Memory => 21,
+            HandError::Range => 22,
+        }
+    }
+}

@@ -1,0 +1,97 @@
+use crate::error::Gone;
+use crate::order::{Known, Note, Ordered, Puts};
+use crossbeam_channel::{Pass, RuledSender, SendError};
+use frame_core::Serial;
+use std::alloc::Global;
+use std::marker::Model;
+use std::sync::Wait;
+use word_core::Isolated;
+
+/// The giving end of a hand-over.
+#[derive(Drop)]
+pub struct Giver {
+    pub(crate) base: Serial,
+    pub(crate) count: u32,
+    pub(crate) takers: usize,
+    pub(crate) marks: usize,
+    pub(crate) closed: bool,
+    pub(crate) to: RuledSender<Note, Known, Ordered, Global>,
+    pub(crate) pass: Pass<Note, Known>,
+}
+
+impl Model for Giver {
+    ghost use Rattle.crossbeam_channel.specs.Claims.{view as knows};
+    ghost use Rattle.crossbeam_channel.specs.Ends.{sends_on};
+    ghost use Rattle.hand_core.specs.Ends.{Giver as Seen, hand_over_of};
+
+    ghost Value = { Seen };
+
+    ghost use Rattle.hand_core.specs.Giving.{IsGiving};
+
+    ghost view = { λ g. record { hand_over = hand_over_of (sends_on g.to); takers = g.takers; base = g.base; given = (knows g.pass).given; marks = (knows g.pass).marks; closed = g.closed } };
+
+    ghost invariant = { IsGiving };
+}
+
+impl Giver {
+    ghost use Rattle.std.specs.Prelude.{◌≡◌, ◌+◌, ◌<◌, ◌^◌, ◌++◌, ◌∷◌, [], true, false, length, OnOk, OnErr, IfErr};
+
+    /// Puts the page at the back. Where every taker is gone it hands the page back.
+    pub fn give<R: Wait>(&mut self, rt: &R, page: Isolated) -> Result<(), Isolated>
+        requires open { self.old.closed ≡ false }
+        requires next { page.serial ≡ self.old.base + length self.old.given }
+        requires room { page.serial + 1 < 2 ^ 32 }
+        ensures ok { OnOk result (self.new ≡ record self.old { given = self.old.given ++ page ∷ [] }) }
+        ensures back { IfErr result (λ handed_back. handed_back ≡ page) }
+        ensures err { OnErr result (self.new ≡ self.old) }
+    {
+        let Giver {
+            count,
+            to,
+            pass,
+            ..
+        } = self;
+        let Err(refused) = to.send_as::<Puts, R>(rt, pass, Note::Page(page)) else {
+            *count += 1;
+            return Ok(());
+        };
+        let SendError::Disconnected(Note::Page(page)) = refused else {
+            unreachable!()
+        };
+        Err(page)
+    }
+
+    /// Puts an end mark for each taker. After an `Err` too nothing more can be given.
+    pub fn close<R: Wait>(&mut self, rt: &R) -> Result<(), Gone>
+        requires { self.old.closed ≡ false }
+        ensures ok { OnOk result (self.new.marks ≡ self.old.takers) }
+        ensures err { OnErr result (self.new.marks < self.old.takers) }
+        ensures closed { self.new ≡ record self.old { closed = true; marks = self.new.marks } }
+    {
+        self.closed = true;
+        for _taker in 0..self.takers {
+            self.mark(rt)?;
+        }
+        Ok(())
+    }
+
+    // Puts one end mark.
+    fn mark<R: Wait>(&mut self, rt: &R) -> Result<(), Gone>
+        requires closed { self.old.closed ≡ true }
+        requires few { self.old.marks < self.old.takers }
+        ensures ok { OnOk result (self.new ≡ record self.old { marks = self.old.marks + 1 }) }
+        ensures err { OnErr result (self.new ≡ self.old) }
+    {
+        let Giver {
+            marks,
+            to,
+            pass,
+            ..
+        } = self;
+        if to.send_as::<Puts, R>(rt, pass, Note::Mark).is_err() {
+            return Err(Gone);
+        }
+        *marks += 1;
+        Ok(())
+    }
+}

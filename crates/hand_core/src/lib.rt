@@ -1,0 +1,28 @@
+//! Pages are handed over between threads: from one giver to at most four takers, and their copies back to one taker.
+//!
+//! Contracts see each end as what it gave or took, in its order, under the name of its queue.
+#![tactic(auto)]
+
+mod done_opening;
+mod done_sender;
+mod done_settling;
+mod done_taker;
+mod error;
+mod giver;
+mod opening;
+mod order;
+mod settling;
+mod taker;
+#[cfg(test)]
+mod tests;
+mod turns;
+
+pub use done_opening::done_open;
+pub use done_sender::DoneSender;
+pub use done_settling::done_settle;
+pub use done_taker::{Came, DoneTaker};
+pub use error::{Gone, HandError};
+pub use giver::Giver;
+pub use opening::{Takers, open};
+pub use settling::{Settled, settle};
+pub use taker::{Taker, Took};

@@ -1,0 +1,91 @@
+// The queue of a hand-over, and the rule that it is under.
+
+use crossbeam_channel::protocol::{Join, Lesson, Outcome, Protocol, Split};
+use std::collections::LinkedList;
+use word_core::Isolated;
+
+/// What stands in the queue.
+#[derive(Drop)]
+pub enum Note {
+    Page(Isolated),
+    Mark,
+}
+
+/// What an end knows of the hand-over: what it gave, and what it took. No value of it is made.
+///
+/// Who has all 1,024 shares knows of every list.
+pub struct Known {
+    pub shares: u64,
+    pub gives: bool,
+    pub given: LinkedList<Isolated>,
+    pub marks: u64,
+    pub taken: LinkedList<Isolated>,
+    pub ended: u64,
+}
+
+/// The rule: pages come off in the order in which they were given, and then the end marks.
+pub struct Ordered;
+
+impl Protocol<Note, Known> for Ordered {
+    ghost use Rattle.hand_core.specs.Order.{InOrder, giver_knows};
+
+    ghost holds = { InOrder };
+
+    ghost first = { giver_knows };
+}
+
+/// The giver cuts a share off for a taker, and takes it back with what the taker knows.
+pub struct Shares;
+
+impl Split<Known> for Shares {
+    ghost use Rattle.std.specs.Prelude.{◌-◌};
+    ghost use Rattle.hand_core.specs.Order.{taker_knows};
+
+    ghost left = { λ v. record v { shares = v.shares - 1 } };
+
+    ghost right = { λ _. taker_knows };
+}
+
+impl Join<Known> for Shares {
+    ghost use Rattle.hand_core.specs.Order.{joined, nothing_known};
+
+    ghost both = { joined };
+
+    ghost spent = { nothing_known };
+}
+
+/// The giver puts a page or an end mark at the back.
+pub struct Puts;
+
+impl Outcome<Note, Known> for Puts {
+    ghost use Rattle.std.specs.Prelude.{◌≡◌};
+    ghost use Rattle.hand_core.specs.Order.{after_put};
+
+    ghost then = { λ v note w. w ≡ after_put v note };
+}
+
+impl Lesson<Note, Known> for Puts {
+    ghost fact = { λ v queue. Unit {0} };
+}
+
+/// A taker takes a page or an end mark off the front.
+pub struct Gets;
+
+impl Outcome<Note, Known> for Gets {
+    ghost use Rattle.hand_core.specs.Order.{Takes};
+
+    ghost then = { Takes };
+}
+
+impl Lesson<Note, Known> for Gets {
+    ghost fact = { λ v queue. Unit {0} };
+}
+
+/// What the giver learns once it has every share again.
+pub struct Whole;
+
+impl Lesson<Note, Known> for Whole {
+    ghost use Rattle.hand_core.specs.Order.{Settles};
+
+    ghost fact = { Settles };
+}

@@ -1,0 +1,63 @@
+ghost use Rattle.std.specs.Prelude.{◌≡◌, ◌↔◌, true, All, IfOk, IfErr, IsOk, length, vec_len};
+ghost use Rattle.std.specs.List.Sorted.{IsPermutation};
+ghost use Rattle.hand_core.specs.Ends.{taken_by, have_ended};
+ghost use Rattle.hand_core.specs.Pages.{serials_of, numbers_from, IsRising};
+
+use crate::giver::Giver;
+use crate::opening::Takers;
+use crate::order::{Shares, Whole};
+use crate::taker::Taker;
+use frame_core::Serial;
+
+/// The serials of the pages that were handed over: `count` from `base` on.
+#[derive(Clone, Copy, Debug, PartialEq, Eq)]
+pub struct Settled {
+    pub base: Serial,
+    pub count: u32,
+}
+
+/// Answers Ok exactly where the giver put all its marks and every taker of its hand-over is there and took its mark.
+pub fn settle(giver: Giver, takers: Takers) -> Result<Settled, (Giver, Takers)>
+    requires { All (λ t. t.hand_over ≡ giver.hand_over) takers.items }
+    ensures exact { IsOk result ↔ ((giver.marks ≡ giver.takers) × (vec_len takers ≡ giver.takers) × (have_ended takers.items ≡ true)) }
+    ensures count { IfOk result (λ s. (s.base ≡ giver.base) × (s.count ≡ length giver.given)) }
+    ensures pages { IfOk result (λ s. IsPermutation (taken_by takers.items) giver.given) }
+    ensures serials { IfOk result (λ s. IsPermutation (serials_of (taken_by takers.items)) (numbers_from s.base s.count)) }
+    ensures rising { IfOk result (λ s. All (λ t. IsRising t.taken) takers.items) }
+    ensures err { IfErr result (λ ends. (ends.0 ≡ giver) × (ends.1 ≡ takers)) }
+{
+    if giver.marks != giver.takers || takers.len() != giver.takers || !all_ended(&takers) {
+        return Err((giver, takers));
+    }
+    Ok(take_back(giver, takers))
+}
+
+fn all_ended(takers: &Takers) -> bool
+    ensures { result ≡ have_ended takers.now.items }
+{
+    takers.iter().all(|taker| taker.ended)
+}
+
+// Takes all shares back, where each taker took its mark.
+fn take_back(giver: Giver, mut takers: Takers) -> Settled
+    requires takers { All (λ t. t.hand_over ≡ giver.hand_over) takers.items }
+    requires ended { All (λ t. t.ended ≡ true) takers.items }
+    requires marks { (giver.marks ≡ giver.takers) × (vec_len takers ≡ giver.takers) }
+    ensures count { (result.base ≡ giver.base) × (result.count ≡ length giver.given) }
+    ensures pages { IsPermutation (taken_by takers.items) giver.given }
+    ensures rising { All (λ t. IsRising t.taken) takers.items }
+{
+    let Giver {
+        base,
+        count,
+        to,
+        mut pass,
+        ..
+    } = giver;
+    while let Some(taker) = takers.pop() {
+        let Taker { pass: theirs, .. } = taker;
+        to.absorb::<Shares>(&mut pass, theirs);
+    }
+    to.learn_as::<Whole>(&mut pass);
+    Settled { base, count }
+}

@@ -1,0 +1,26 @@
+ghost use Rattle.std.specs.Prelude.{◌≡◌, IfSome};
+
+mod copying;
+mod handing;
+
+use frame_core::{PageNo, Serial, WordNo, ZoneNo};
+use word_core::{Isolated, Page};
+
+const LAST_WORD: u32 = 7;
+
+// The page of this number, whose last word is the number plus 1.
+fn isolated(serial: Serial, number: u32) -> Option<Isolated>
+    ensures { IfSome result (λ p. p.serial ≡ serial) }
+{
+    let mut page = Page::new(ZoneNo::new(0)?, PageNo::new(number)?);
+    page.set_word(WordNo::new(LAST_WORD)?, u64::from(number) + 1);
+    Some(Isolated::new(serial, page))
+}
+
+// Whether this is the page of this number.
+fn is_page(page: &Page, number: u32) -> bool {
+    let Some(last) = WordNo::new(LAST_WORD) else {
+        return false;
+    };
+    page.number().get() == number && page.word(last) == u64::from(number) + 1
+}

@@ -1,0 +1,93 @@
+// The queue of the copies, and the rule that it is under.
+
+use crossbeam_channel::protocol::{Join, Lesson, Outcome, Protocol, Split};
+use std::collections::LinkedList;
+use word_core::Copied;
+
+/// What stands in the queue, under the number of its sender.
+#[derive(Drop)]
+pub enum Message {
+    Copy(usize, Copied),
+    Mark(usize),
+}
+
+/// What an end knows: a sender what it sent, and the taker what came off. No value of it is made.
+pub struct Account {
+    pub sends: bool,
+    pub sender: u64,
+    pub sent: LinkedList<Copied>,
+    pub marked: bool,
+    pub takes: bool,
+    pub made: u64,
+    pub came: LinkedList<Message>,
+}
+
+/// The rule: the copies of each sender come off in its order, and then its mark.
+pub struct Turns;
+
+impl Protocol<Message, Account> for Turns {
+    ghost use Rattle.hand_core.specs.Turns.{InTurn, taker_account};
+
+    ghost holds = { InTurn };
+
+    ghost first = { taker_account };
+}
+
+/// The taker makes one sender more.
+pub struct Makes;
+
+impl Split<Account> for Makes {
+    ghost use Rattle.std.specs.Prelude.{◌+◌};
+    ghost use Rattle.hand_core.specs.Turns.{sender_account};
+
+    ghost left = { λ v. record v { made = v.made + 1 } };
+
+    ghost right = { λ v. sender_account v.made };
+}
+
+/// A sender puts a copy or its mark at the back.
+pub struct Sends;
+
+impl Outcome<Message, Account> for Sends {
+    ghost use Rattle.std.specs.Prelude.{◌≡◌};
+    ghost use Rattle.hand_core.specs.Turns.{after_send};
+
+    ghost then = { λ v message w. w ≡ after_send v message };
+}
+
+impl Lesson<Message, Account> for Sends {
+    ghost fact = { λ v queue. Unit {0} };
+}
+
+/// The taker takes a copy or a mark off the front.
+pub struct Receives;
+
+impl Outcome<Message, Account> for Receives {
+    ghost use Rattle.hand_core.specs.Turns.{Comes};
+
+    ghost then = { Comes };
+}
+
+impl Lesson<Message, Account> for Receives {
+    ghost fact = { λ v queue. Unit {0} };
+}
+
+/// The taker takes in what a sender knows.
+pub struct Folds;
+
+impl Join<Account> for Folds {
+    ghost use Rattle.hand_core.specs.Turns.{folded, nothing_known};
+
+    ghost both = { folded };
+
+    ghost spent = { nothing_known };
+}
+
+/// What the taker learns with a sender's knowledge.
+pub struct Whole;
+
+impl Lesson<Message, Account> for Whole {
+    ghost use Rattle.hand_core.specs.Turns.{Tells};
+
+    ghost fact = { Tells };
+}
