@@ -1,5 +1,5 @@
 -- The addresses that there are.
-use Rattle.std.specs.Prelude.{ℕ, ◌<◌}
+use Rattle.std.specs.Prelude.{◌<◌}
 use Rattle.frame_core.specs.declared.place.Address.{Address}
 
 -- an address is one of 8 spaces with 4096 virtual pages each

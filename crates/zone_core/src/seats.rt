@@ -78,8 +78,7 @@ impl<M: Ledger, B: Ledger> Model for EndSeat<M, B> {
 
     ghost invariant = { λ s.
         (0 < s.parts) × (s.parts ≤ 64) × (s.moved.parts ≡ s.parts) × (s.back.parts ≡ s.parts)
-        × (M.parts ≡ 64) × (B.parts ≡ 64)
-    };
+        × (M.parts ≡ 64) × (B.parts ≡ 64) };
 }
 
 /// The two seats of a zone.
@@ -132,9 +131,10 @@ impl<M: Ledger, B: Ledger> EndSeat<M, B> {
     /// Adds the parts of a seat of the same zone, and what was counted with it.
     pub fn join(&mut self, other: EndSeat<M, B>)
         ensures sum { self.new ≡ record {
-            parts = self.old.parts + other.parts;
-            moved = self.old.moved + other.moved;
-            back = self.old.back + other.back } }
+          parts = self.old.parts + other.parts;
+          moved = self.old.moved + other.moved;
+          back = self.old.back + other.back;
+        } }
         ensures whole { self.new.parts ≤ 64 }
     {
         let EndSeat { parts, moved, back } = other;

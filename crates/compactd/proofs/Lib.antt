@@ -1,0 +1,3 @@
+mod Arguments
+mod Endings
+mod Found

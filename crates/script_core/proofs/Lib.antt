@@ -1,0 +1,10 @@
+pub mod Numbers
+pub mod Words
+pub mod Newlines
+pub mod Variants
+pub mod Waiting
+pub mod Lines
+pub mod Reading
+pub mod Inputs
+pub mod Closing
+pub mod Endings

@@ -1,0 +1,159 @@
+-- The lines of an input, from one to the next.
+use Rattle.std.proofs.Common.{◌≡◌, ℕ, suc, ◌+◌, ◌<◌, ◌≤◌, Bool, true, false, cond, List, [], ◌∷◌, ◌++◌, length, length-append, get_or, take, drop, length-take, add-one, drop-cons, not, refl, sym, ap, ◌∙◌, arith, Option, Some, None, Err}
+use Rattle.std.specs.Prelude.{nat_eq, nat_lt, position, if◌then◌else◌}
+use Rattle.std.specs.List.{All, AllByRecursion, onto_first, position_or_len}
+use Rattle.std.specs.Option.{option_or}
+use Rattle.std.proofs.lemmas.Bool.Decides.{nat_tests}
+use Rattle.std.proofs.lemmas.List.{get_or-take, take_all, take-append-drop}
+use Rattle.std.proofs.lemmas.List.Folds.{length-prefix_len}
+use Rattle.std.proofs.lemmas.List.Quantifiers.{position-Some}
+use Rattle.std.proofs.lemmas.List.Sums.{fails_before_first}
+use Rattle.std.proofs.lemmas.List.Elements.{All-from_recursion}
+use Rattle.std.proofs.lemmas.List.Splits.{slice_split_at, slice_split_none}
+use Rattle.zone_core.specs.ZoneState.{ZoneState}
+use Rattle.script_core.specs.declared.error.ScriptError.TheVariants as of_line
+use Rattle.script_core.specs.declared.error.Fault.TheVariants.{Syntax, LongLine}
+use Rattle.script_core.specs.Line.{line_of, words_say}
+use Rattle.script_core.specs.Word.{words}
+use Rattle.script_core.specs.Machine.{step}
+use Rattle.script_core.specs.Reply.{newlines}
+use Rattle.script_core.specs.Script.{Answer, Numbered, answers_from, commands_from, fault_from, line_fault, onto_commands, parts_of, zone_after}
+use Rattle.script_core.proofs.Newlines.{newlines-append}
+
+newline_first : (b : ℕ) (bytes : List ℕ) → newlines (b ∷ bytes) ≡ 0 → (nat_eq b 10 ≡ false) × (newlines bytes ≡ 0)
+newline_first b bytes e =
+    let parts = newlines-append (b ∷ []) bytes in
+    (grind (arith, nat_tests, parts), omega (arith, parts))
+
+unbroken_by_recursion : (bytes : List ℕ) → newlines bytes ≡ 0 → AllByRecursion (λ b. nat_eq b 10 ≡ false) bytes
+unbroken_by_recursion [] e = tt
+unbroken_by_recursion (b ∷ bytes) e = let first = newline_first b bytes e in (first.0, unbroken_by_recursion bytes first.1)
+
+unbroken : (bytes : List ℕ) → newlines bytes ≡ 0 → All (λ b. nat_eq b 10 ≡ false) bytes
+unbroken bytes e = All-from_recursion (λ b. nat_eq b 10 ≡ false) bytes (unbroken_by_recursion bytes e)
+
+-- the first line
+pub parts-line : (text rest : List ℕ) → newlines text ≡ 0 → parts_of (text ++ 10 ∷ rest) ≡ text ∷ parts_of rest
+parts-line text rest e = slice_split_at (λ b. nat_eq b 10) text 10 rest (unbroken text e) refl
+
+-- what stands behind the last newline
+pub parts-end : (text : List ℕ) → newlines text ≡ 0 → parts_of text ≡ text ∷ []
+parts-end text e = slice_split_none (λ b. nat_eq b 10) text (unbroken text e)
+
+-- there is a first part
+pub record Parts (input : List ℕ) : Type 0 where
+  pub first : List ℕ
+  pub others : List (List ℕ)
+  pub are : parts_of input ≡ first ∷ others
+
+onto_first_is : (b : ℕ) (parts : List (List ℕ)) (first : List ℕ) (others : List (List ℕ)) → parts ≡ first ∷ others → onto_first b parts ≡ (b ∷ first) ∷ others
+onto_first_is b parts first others e = ap (onto_first b) e
+
+pub parts_are : (input : List ℕ) → Parts input
+parts_are [] = record { first = []; others = []; are = refl }
+parts_are (b ∷ input) = by_test (parts_are input) (nat_eq b 10) refl where
+  by_test : Parts input → (t : Bool) → nat_eq b 10 ≡ t → Parts (b ∷ input)
+  by_test p true e = record { first = []; others = parts_of input; are = ap (λ (t : Bool). cond t ([] ∷ parts_of input) (onto_first b (parts_of input))) e }
+  by_test p false e = record { first = b ∷ p.first; others = p.others; are = ap (λ (t : Bool). cond t ([] ∷ parts_of input) (onto_first b (parts_of input))) e ∙ onto_first_is b (parts_of input) p.first p.others p.are }
+
+-- bytes without a newline begin the first part
+pub parts-more : (text rest : List ℕ) (p : Parts rest) → newlines text ≡ 0 → parts_of (text ++ rest) ≡ (text ++ p.first) ∷ p.others
+parts-more [] rest p e = p.are
+parts-more (b ∷ text) rest p e =
+    let first = newline_first b text e in
+    ap (λ (t : Bool). cond t ([] ∷ parts_of (text ++ rest)) (onto_first b (parts_of (text ++ rest)))) first.0
+    ∙ onto_first_is b (parts_of (text ++ rest)) (text ++ p.first) p.others (parts-more text rest p first.1)
+
+commands_at : (n : ℕ) (text : List ℕ) (parts : List (List ℕ)) (first : List ℕ) (others : List (List ℕ)) → parts ≡ first ∷ others → commands_from n (text ∷ parts) ≡ onto_commands n (line_of text) (commands_from (n + 1) parts)
+commands_at n text parts first others e =
+    ap (λ (ps : List (List ℕ)). commands_from n (text ∷ ps)) e ∙ ap (λ (ps : List (List ℕ)). onto_commands n (line_of text) (commands_from (n + 1) ps)) (sym e)
+
+fault_at : (n : ℕ) (text : List ℕ) (parts : List (List ℕ)) (first : List ℕ) (others : List (List ℕ)) → parts ≡ first ∷ others → fault_from n (text ∷ parts) ≡ option_or (line_fault n (line_of text)) (fault_from (n + 1) parts)
+fault_at n text parts first others e =
+    ap (λ (ps : List (List ℕ)). fault_from n (text ∷ ps)) e ∙ ap (λ (ps : List (List ℕ)). option_or (line_fault n (line_of text)) (fault_from (n + 1) ps)) (sym e)
+
+pub commands-line : (n : ℕ) (text rest : List ℕ) → newlines text ≡ 0 → commands_from n (parts_of (text ++ 10 ∷ rest)) ≡ onto_commands n (line_of text) (commands_from (n + 1) (parts_of rest))
+commands-line n text rest e = let p = parts_are rest in ap (commands_from n) (parts-line text rest e) ∙ commands_at n text (parts_of rest) p.first p.others p.are
+
+pub fault-line : (n : ℕ) (text rest : List ℕ) → newlines text ≡ 0 → fault_from n (parts_of (text ++ 10 ∷ rest)) ≡ option_or (line_fault n (line_of text)) (fault_from (n + 1) (parts_of rest))
+fault-line n text rest e = let p = parts_are rest in ap (fault_from n) (parts-line text rest e) ∙ fault_at n text (parts_of rest) p.first p.others p.are
+
+-- more than 200 bytes are a fault however they go on
+line_of-long : (text : List ℕ) → 200 < length text → line_of text ≡ Err of_line.LongLine
+line_of-long text h =
+    let long : nat_lt 200 (length text) ≡ true = grind (arith, nat_tests) in
+    ap (λ (t : Bool). if t then Err of_line.LongLine else words_say (words text)) long
+
+commands_long : (n : ℕ) (text : List ℕ) (others : List (List ℕ)) → 200 < length text → commands_from n (text ∷ others) ≡ []
+commands_long n text [] h = refl
+commands_long n text (next ∷ parts) h = ap (λ l. onto_commands n l (commands_from (n + 1) (next ∷ parts))) (line_of-long text h)
+
+fault_long : (n : ℕ) (text : List ℕ) (others : List (List ℕ)) → 200 < length text → fault_from n (text ∷ others) ≡ Some (record { fault = LongLine; line = n })
+fault_long n [] others h = absurd (omega arith)
+fault_long n (b ∷ bytes) [] h =
+    let long : nat_lt 200 (length (b ∷ bytes)) ≡ true = grind (arith, nat_tests) in
+    ap (λ (t : Bool). Some (record { fault = if t then LongLine else Syntax; line = n })) long
+fault_long n (b ∷ bytes) (next ∷ parts) h = ap (λ l. option_or (line_fault n l) (fault_from (n + 1) (next ∷ parts))) (line_of-long (b ∷ bytes) h)
+
+-- a line that begins with more than 200 bytes is the first fault
+pub commands-long : (n : ℕ) (text rest : List ℕ) → newlines text ≡ 0 → 200 < length text → commands_from n (parts_of (text ++ rest)) ≡ []
+commands-long n text rest e h = let p = parts_are rest in
+    ap (commands_from n) (parts-more text rest p e) ∙ commands_long n (text ++ p.first) p.others (omega (arith, length-append text p.first))
+
+pub fault-long : (n : ℕ) (text rest : List ℕ) → newlines text ≡ 0 → 200 < length text → fault_from n (parts_of (text ++ rest)) ≡ Some (record { fault = LongLine; line = n })
+fault-long n text rest e h = let p = parts_are rest in
+    ap (fault_from n) (parts-more text rest p e) ∙ fault_long n (text ++ p.first) p.others (omega (arith, length-append text p.first))
+
+pub answers_from-append : (places : ℕ) (z : Option ZoneState) (xs ys : List Numbered) → answers_from places z (xs ++ ys) ≡ answers_from places z xs ++ answers_from places (zone_after places z xs) ys
+answers_from-append places z [] ys = refl
+answers_from-append places z (c ∷ xs) ys = ap (λ (r : List Answer). record { line = c.line; reply = (step places z c.command).reply } ∷ r) (answers_from-append places (step places z c.command).zone xs ys)
+
+pub zone_after-append : (places : ℕ) (z : Option ZoneState) (xs ys : List Numbered) → zone_after places z (xs ++ ys) ≡ zone_after places (zone_after places z xs) ys
+zone_after-append places z [] ys = refl
+zone_after-append places z (c ∷ xs) ys = zone_after-append places (step places z c.command).zone xs ys
+
+pub length-answers_from : (places : ℕ) (z : Option ZoneState) (xs : List Numbered) → length (answers_from places z xs) ≡ length xs
+length-answers_from places z [] = refl
+length-answers_from places z (c ∷ xs) = ap suc (length-answers_from places (step places z c.command).zone xs)
+
+newlines-none : (xs : List ℕ) → ((k : ℕ) → k < length xs → nat_eq (get_or xs k 0) 10 ≡ false) → newlines xs ≡ 0
+newlines-none [] h = refl
+newlines-none (x ∷ xs) h =
+    let here : nat_eq x 10 ≡ false = h 0 (omega arith) in
+    let one : newlines (x ∷ []) ≡ 0 = grind (arith, nat_tests) in
+    omega (arith, newlines-append (x ∷ []) xs, one, newlines-none xs (λ k below. h (suc k) (omega (arith, below))))
+
+line_len_none : (xs : List ℕ) → newlines (take (position_or_len (λ b. nat_eq b 10) xs) xs) ≡ 0
+line_len_none xs =
+    let n = position_or_len (λ b. nat_eq b 10) xs in
+    newlines-none (take n xs) (λ k below. let within : k < n = omega (arith, below, length-prefix_len (λ b. not (nat_eq b 10)) xs) in
+    ap (λ (b : ℕ). nat_eq b 10) (get_or-take n xs k 0 within) ∙ fails_before_first (λ b. nat_eq b 10) xs k 0 within)
+
+drop-at : (xs : List ℕ) (i : ℕ) → i < length xs → drop i xs ≡ get_or xs i 0 ∷ drop (i + 1) xs
+drop-at xs i h = rw (add-one, drop-cons xs i 0) refl
+
+-- what a first newline tells
+pub record FirstNewline (xs : List ℕ) (end : ℕ) : Type 0 where
+  pub within : end < length xs
+  pub unbroken : newlines (take end xs) ≡ 0
+  pub split : xs ≡ take end xs ++ 10 ∷ drop (end + 1) xs
+
+pub newline_found : (xs : List ℕ) (end : ℕ) → Some end ≡ position (λ b. nat_eq b 10) xs → FirstNewline xs end
+newline_found xs end e =
+    let n = position_or_len (λ b. nat_eq b 10) xs in
+    let found = position-Some (λ b. nat_eq b 10) xs end 0 (sym e) in
+    let byte : get_or xs end 0 ≡ 10 = (let is = found.1 in grind (arith, nat_tests, is)) in
+    record {
+      within = found.0;
+      unbroken = newlines-none (take end xs) (λ k below. let near : k < end = (let some = found.0 in omega (arith, below, length-take end xs)) in
+          ap (λ (b : ℕ). nat_eq b 10) (get_or-take end xs k 0 near) ∙ found.2 k near);
+      split = sym (take-append-drop end xs) ∙ ap (λ (r : List ℕ). take end xs ++ r) (drop-at xs end found.0 ∙ ap (λ (b : ℕ). b ∷ drop (end + 1) xs) byte);
+    }
+
+pub newline_missing : (xs : List ℕ) → None ≡ position (λ b. nat_eq b 10) xs → newlines xs ≡ 0
+newline_missing xs e = by_test (nat_lt (position_or_len (λ b. nat_eq b 10) xs) (length xs)) refl e where
+  by_test : (t : Bool) → nat_lt (position_or_len (λ b. nat_eq b 10) xs) (length xs) ≡ t → None ≡ cond t (Some (position_or_len (λ b. nat_eq b 10) xs)) None → newlines xs ≡ 0
+  by_test true at none = cc
+  by_test false at none =
+      let past : length xs ≤ position_or_len (λ b. nat_eq b 10) xs = grind (arith, nat_tests) in
+      ap newlines (sym (take_all (position_or_len (λ b. nat_eq b 10) xs) xs past)) ∙ line_len_none xs

@@ -1,0 +1,27 @@
+-- Facts about the variants of options and results.
+use Rattle.std.proofs.Common.{◌≡◌, ℕ, false, IsTrue, List, [], ◌∷◌, length, refl, arith, Option, Some, None, Result, Ok, Err}
+use Rattle.std.specs.Prelude.{IfErr, IfSome, IsOk, OnOk}
+
+pub at_ok : {T E : Type 0} {P : Type 0} (r : Result T E) → IsOk r → OnOk r P → P
+at_ok (Ok x) is p = p
+at_ok (Err e) is p = cc
+
+pub both_err : {T E : Type 0} (r : Result T E) (P Q : E → Type 0) → IfErr r P → IfErr r Q → IfErr r (λ e. P e × Q e)
+both_err (Ok x) P Q p q = tt
+both_err (Err e) P Q p q = (p, q)
+
+pub not_true : IsTrue false → ⊥
+not_true t = cc
+
+pub if_known : (o : Option (List ℕ)) (P : List ℕ → Type 0) → ((x : List ℕ) → o ≡ Some x → P x) → IfSome o P
+if_known None P f = tt
+if_known (Some x) P f = f x refl
+
+-- what follows of known bytes
+pub known_weaker : (o : Option (List ℕ)) (P Q : List ℕ → Type 0) → ((x : List ℕ) → o ≡ Some x → P x → Q x) → IfSome o P → IfSome o Q
+known_weaker None P Q f p = tt
+known_weaker (Some x) P Q f p = f x refl p
+
+pub nil_of_length : (xs : List ℕ) → length xs ≡ 0 → xs ≡ []
+nil_of_length [] e = refl
+nil_of_length (x ∷ xs) e = absurd (omega arith)

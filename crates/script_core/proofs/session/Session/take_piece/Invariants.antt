@@ -1,0 +1,14 @@
+use Rattle.std.proofs.Common.{◌≡◌, ◌+◌, ◌≤◌, ◌++◌, List, ℕ, Option, length}
+use Rattle.script_core.specs.Session.{HasRead}
+use Rattle.script_core.proofs.session.Session.take_piece.Given as goal
+
+-- the lines up to the rest were read
+abbrev pub invariant-loop-text : goal.invariant-loop-text
+invariant-loop-text g l = record {
+  line : l.self.line + length l.rest ≤ l.fn.self.line + length l.piece;
+  done : (done : List ℕ) × (l.piece ≡ done ++ l.rest)
+      × ((places : ℕ) (past : List ℕ) (first : Option (List ℕ)) → HasRead places l.fn.self past first (g.W.Write.contents l.fn.writer) → HasRead places l.self (past ++ done) first (g.W.Write.contents l.writer));
+}
+
+abbrev pub decreases-loop-text : goal.decreases-loop-text
+decreases-loop-text g l = length l.rest

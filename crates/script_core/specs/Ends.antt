@@ -1,0 +1,66 @@
+-- How a run can end.
+use Rattle.std.specs.Prelude.{◌≡◌, ℕ, ◌+◌, ◌<◌, Bool, true, false, IsTrue, List, ◌∷◌, ◌++◌, length, Option, Some, None, IfSome, Result, Ok, Err}
+use Rattle.std.specs.Io.KnownBytes.{Appends, Consumes}
+use Rattle.script_core.specs.declared.error.Fault.{Fault}
+use Rattle.script_core.specs.declared.error.Fault.TheVariants.{Syntax, LongLine, Read, Write, Memory}
+use Rattle.script_core.specs.declared.error.RunError.{RunError}
+use Rattle.script_core.specs.declared.script.Totals.{Totals}
+use Rattle.script_core.specs.Machine.{opens}
+use Rattle.script_core.specs.Reply.{newlines, text_of}
+use Rattle.script_core.specs.Script.{Answer, Numbered, answers_from, answers_of, commands_of, fault_of, output_of, texts, zone_after}
+
+-- whether a fault is one of the script itself
+abbrev pub is_of_script : Fault → Bool
+is_of_script Syntax = true
+is_of_script LongLine = true
+is_of_script Read = false
+is_of_script Write = false
+is_of_script Memory = false
+
+-- whether a script was read to its end or to its first fault
+abbrev pub is_over : Result Totals RunError → Bool
+is_over (Ok totals) = true
+is_over (Err e) = is_of_script e.fault
+
+-- a writer took these answers up to a place within the text of the one at this line
+pub record StopsIn (answers : List Answer) (old new : Option (List ℕ)) (line : ℕ) : Type 0 where
+  pub before : List Answer
+  pub answer : Answer
+  pub behind : List Answer
+  pub order : answers ≡ before ++ answer ∷ behind
+  pub taken : List ℕ
+  pub left : List ℕ
+  pub text : text_of answer.reply ≡ taken ++ left
+  pub some : 0 < length left
+  pub written : Appends old new (texts before ++ taken)
+  pub at : line ≡ answer.line
+
+-- a reader failed behind lines that have no fault, but that the last is cut, and these are answered
+pub record FailsBehind (places : ℕ) (left left_new old new : Option (List ℕ)) (line : ℕ) : Type 0 where
+  pub past : List ℕ
+  pub read : Consumes left left_new past
+  pub clean : IfSome (fault_of past) (λ e. e ≡ record { fault = Syntax; line = line })
+  pub written : Appends old new (output_of places past)
+  pub at : line ≡ newlines past + 1
+
+-- behind these commands comes one that opens a zone, at this line
+pub record IsOpening (places : ℕ) (input : List ℕ) (before : List Numbered) (line : ℕ) : Type 0 where
+  pub command : Numbered
+  pub behind : List Numbered
+  pub order : commands_of input ≡ before ++ command ∷ behind
+  pub opening : IsTrue (opens (zone_after places None before) command.command)
+  pub at : line ≡ command.line
+
+-- there was no memory for the zone that the command at this line opens, and the commands before it are answered
+pub record LacksMemory (places : ℕ) (input : List ℕ) (old new : Option (List ℕ)) (line : ℕ) : Type 0 where
+  pub before : List Numbered
+  pub opening : IsOpening places input before line
+  pub written : Appends old new (texts (answers_from places None before))
+
+-- what each fault that ends a run says
+abbrev pub EndsIn : Fault → ℕ → List ℕ → RunError → (left left_new old new : Option (List ℕ)) → Type 0
+EndsIn Syntax places input e left left_new old new = (fault_of input ≡ Some e) × Appends old new (output_of places input)
+EndsIn LongLine places input e left left_new old new = (fault_of input ≡ Some e) × Appends old new (output_of places input)
+EndsIn Read places input e left left_new old new = FailsBehind places left left_new old new e.line
+EndsIn Write places input e left left_new old new = StopsIn (answers_of places input) old new e.line
+EndsIn Memory places input e left left_new old new = LacksMemory places input old new e.line

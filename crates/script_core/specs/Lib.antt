@@ -1,0 +1,9 @@
+pub mod Word
+pub mod Line
+pub mod ErrorNumber
+pub mod Reply
+pub mod Machine
+pub mod Script
+pub mod Ends
+pub mod Outbox
+pub mod Session

@@ -1,0 +1,80 @@
+ghost use Rattle.std.specs.Prelude.{◌≡◌, IfErr, IfOk, IfSome, IsTrue, OnOk, OnSome, None, Some};
+ghost use Rattle.std.specs.Io.KnownBytes.{Appends};
+ghost use Rattle.zone_core.specs.Books.{IsFor};
+ghost use Rattle.script_core.specs.declared.error.Fault.{Fault};
+ghost use Rattle.script_core.specs.Ends.{EndsIn, FailsBehind, LacksMemory, StopsIn, is_of_script, is_over};
+ghost use Rattle.script_core.specs.Script.{answers_of, fault_of, output_of, totals_of};
+
+use crate::error::RunError;
+use crate::options::Options;
+use crate::session::Session;
+use std::alloc::Global;
+use std::io::{Read, Write};
+use std::marker::Brand;
+use std::sync::ledger::Ledger;
+use zone_core::Blanks;
+
+/// What a whole script came to.
+#[derive(Clone, Copy, Debug, PartialEq, Eq)]
+pub struct Totals {
+    /// The lines that were read, skipped ones too.
+    pub lines: u64,
+    /// The reply lines that were written.
+    pub replies: u64,
+}
+
+/// Runs a script: reads its lines, answers its commands and writes the replies, up to its end or to the first fault. The
+/// clauses speak of a reader and a writer that tell their bytes, in whatever pieces they give and take them.
+pub fn run<R: Read, W: Write>(
+    alloc: Global,
+    reader: &mut R,
+    writer: &mut W,
+    options: Options,
+) -> Result<Totals, RunError>
+    // The script has no fault, and is answered.
+    ensures ok { OnOk result (IfSome (R.remaining reader.old) (λ input. fault_of input ≡ None)) }
+    ensures totals { IfOk result (λ totals. IfSome (R.remaining reader.old) (λ input.
+        totals ≡ totals_of options.journal input)) }
+
+    // A fault of the script is its first one, and the replies before it are written.
+    ensures fault { IfErr result (λ error. IsTrue (is_of_script error.fault) → IfSome (R.remaining reader.old) (λ input.
+        fault_of input ≡ Some error)) }
+    ensures output { IsTrue (is_over result) → IfSome (R.remaining reader.old) (λ input.
+        Appends (W.contents writer.old) (W.contents writer.new) (output_of options.journal input)) }
+
+    // Whatever else ends the run, the replies before it are written, but where it is that they can't be.
+    ensures read { IfErr result (λ error. error.fault ≡ Fault.Read → OnSome (R.remaining reader.old)
+        (FailsBehind options.journal (R.remaining reader.old) (R.remaining reader.new)
+        (W.contents writer.old) (W.contents writer.new) error.line)) }
+    ensures write { IfErr result (λ error. error.fault ≡ Fault.Write → IfSome (R.remaining reader.old) (λ input.
+        StopsIn (answers_of options.journal input) (W.contents writer.old) (W.contents writer.new) error.line)) }
+    ensures memory { IfErr result (λ error. error.fault ≡ Fault.Memory → IfSome (R.remaining reader.old) (λ input.
+        LacksMemory options.journal input (W.contents writer.old) (W.contents writer.new) error.line)) }
+{
+    run_with::<Brand, Brand, Brand, Brand, R, W>(alloc, reader, writer, options, Blanks::new())
+}
+
+/// Runs a script. Its zone, if it opens one, is named by the ledgers.
+fn run_with<I: Ledger, N: Ledger, M: Ledger, B: Ledger, R: Read, W: Write>(
+    alloc: Global,
+    reader: &mut R,
+    writer: &mut W,
+    options: Options,
+    blanks: Blanks,
+) -> Result<Totals, RunError>
+    requires isolated { IsFor blanks.isolated.name blanks.isolated.parts I.name I.parts }
+    requires rounds { IsFor blanks.rounds.name blanks.rounds.parts N.name N.parts }
+    requires moved { IsFor blanks.moved.name blanks.moved.parts M.name M.parts }
+    requires back { IsFor blanks.back.name blanks.back.parts B.name B.parts }
+    ensures ok { OnOk result (IfSome (R.remaining reader.old) (λ input. fault_of input ≡ None)) }
+    ensures totals { IfOk result (λ totals. IfSome (R.remaining reader.old) (λ input.
+        totals ≡ totals_of options.journal input)) }
+    ensures output { OnOk result (IfSome (R.remaining reader.old) (λ input.
+        Appends (W.contents writer.old) (W.contents writer.new) (output_of options.journal input))) }
+    ensures err { IfErr result (λ error. IfSome (R.remaining reader.old) (λ input.
+        EndsIn error.fault options.journal input error (R.remaining reader.old) (R.remaining reader.new)
+        (W.contents writer.old) (W.contents writer.new))) }
+{
+    let mut session = Session::<I, N, M, B>::new(alloc, options.journal, blanks);
+    session.run(reader, writer)
+}

@@ -1,0 +1,316 @@
+ghost use Rattle.std.specs.Prelude.{◌≡◌, ℕ, ◌+◌, ◌^◌, ◌<◌, ◌≤◌, [], ◌∷◌, ◌++◌, List, Option, length, position, nat_eq, Some, None, Ok, IfNone, IfSome, IfErr, IfOk, OnOk};
+ghost use Rattle.zone_core.specs.Books.{IsFor};
+ghost use Rattle.script_core.specs.Line.{line_of};
+ghost use Rattle.script_core.specs.Reply.{newlines};
+ghost use Rattle.std.specs.Io.KnownBytes.{Appends};
+ghost use Rattle.script_core.specs.Ends.{EndsIn, StopsIn};
+ghost use Rattle.script_core.specs.Outbox.{Owes};
+ghost use Rattle.script_core.specs.Script.{Answer, fault_of, output_of, texts, totals_of};
+ghost use Rattle.script_core.specs.Session.{Finishes, HasEnded, HasRead, HasStopped, begun};
+
+use crate::command::Command;
+use crate::error::{Fault, RunError, ScriptError};
+use crate::line::read_line;
+use crate::machine::Machine;
+use crate::outbox::Outbox;
+use crate::script::Totals;
+use arrayvec::ArrayVec;
+use std::alloc::Global;
+use std::io::{Read, Write};
+use std::marker::Model;
+use std::mem;
+use std::sync::ledger::Ledger;
+use zone_core::Blanks;
+
+/// A script that is being read: what it works on, the line that has begun, and the replies that wait.
+#[derive(Drop)]
+pub(crate) struct Session<I: Ledger, N: Ledger, M: Ledger, B: Ledger> {
+    alloc: Global,
+    places: u32,
+    machine: Machine<I, N, M, B>,
+    held: ArrayVec<u8, 200>,
+    line: u64,
+    replies: u64,
+    outbox: Outbox,
+}
+
+impl<I: Ledger, N: Ledger, M: Ledger, B: Ledger> Model for Session<I, N, M, B> {
+    ghost use Rattle.std.specs.Prelude.{◌<◌, ◌≤◌};
+    ghost use Rattle.std.specs.Coded.{codes, coded_ℕ};
+    ghost use Rattle.std.specs.FinMap as map;
+    ghost use Rattle.std.specs.FinSet as set;
+    ghost use Rattle.std.specs.Ordering.{nat_cmp};
+    ghost use Rattle.zone_core.specs.contracts.state.Placement as placement;
+    ghost use Rattle.script_core.specs.Session.{Session as Seen};
+
+    ghost Value = { Seen };
+
+    ghost coded = { Prim.hlevel (codes, set.code {R = nat_cmp} coded_ℕ, map.code {R = nat_cmp} coded_ℕ coded_ℕ, map.code {R = nat_cmp} coded_ℕ placement.the_row.coded) };
+
+    ghost view = { λ s. record { places = s.places; zone = s.machine; held = s.held.items; line = s.line; replies = s.replies; box = s.outbox } };
+
+    ghost invariant = { λ s. (0 < s.places) × (s.places ≤ 65536) × (s.replies < s.line) };
+}
+
+impl<I: Ledger, N: Ledger, M: Ledger, B: Ledger> Session<I, N, M, B> {
+    /// At the first byte of a script.
+    pub(crate) fn new(alloc: Global, places: u32, blanks: Blanks) -> Self
+        requires places { (0 < places) × (places ≤ 65536) }
+        requires isolated { IsFor blanks.isolated.name blanks.isolated.parts I.name I.parts }
+        requires rounds { IsFor blanks.rounds.name blanks.rounds.parts N.name N.parts }
+        requires moved { IsFor blanks.moved.name blanks.moved.parts M.name M.parts }
+        requires back { IsFor blanks.back.name blanks.back.parts B.name B.parts }
+        ensures { result ≡ begun places }
+    {
+        Session {
+            alloc,
+            places,
+            machine: Machine::new(blanks),
+            held: ArrayVec::new(),
+            line: 1,
+            replies: 0,
+            outbox: Outbox::new(),
+        }
+    }
+
+    /// Answers a whole line.
+    fn take_line<W: Write>(&mut self, writer: &mut W, text: &[u8]) -> Result<(), RunError>
+        requires begins { self.old.held ≡ [] }
+        requires room { self.old.line + 1 < 2 ^ 64 }
+        ensures ok { OnOk result ((places : ℕ) (past : List ℕ) (first : Option (List ℕ))
+            → newlines text.now ≡ 0 → HasRead places self.old past first (W.contents writer.old)
+            → HasRead places self.new (past ++ (text.now ++ 10 ∷ [])) first (W.contents writer.new)) }
+        ensures err { IfErr result (λ error. (places : ℕ) (past : List ℕ) (first : Option (List ℕ))
+            → newlines text.now ≡ 0 → HasRead places self.old past first (W.contents writer.old)
+            → HasEnded places self.new (past ++ (text.now ++ 10 ∷ [])) error first (W.contents writer.new)) }
+        ensures line { OnOk result (self.new.line ≡ self.old.line + 1) }
+        ensures held { OnOk result (self.new.held ≡ []) }
+    {
+        let line = self.line;
+        match read_line(text) {
+            Ok(None) => {
+                self.line = line + 1;
+                Ok(())
+            }
+            Ok(Some(command)) => self.answer(writer, command),
+            Err(error) => Err(RunError {
+                fault: Fault::from(error),
+                line,
+            }),
+        }
+    }
+
+    /// Answers the command of a whole line.
+    fn answer<W: Write>(&mut self, writer: &mut W, command: Command) -> Result<(), RunError>
+        requires begins { self.old.held ≡ [] }
+        requires room { self.old.line + 1 < 2 ^ 64 }
+        ensures ok { OnOk result ((places : ℕ) (text past : List ℕ) (first : Option (List ℕ))
+            → line_of text ≡ Ok (Some command) → newlines text ≡ 0 → HasRead places self.old past first (W.contents writer.old)
+            → HasRead places self.new (past ++ (text ++ 10 ∷ [])) first (W.contents writer.new)) }
+        ensures err { IfErr result (λ error. (places : ℕ) (text past : List ℕ) (first : Option (List ℕ))
+            → line_of text ≡ Ok (Some command) → newlines text ≡ 0 → HasRead places self.old past first (W.contents writer.old)
+            → HasEnded places self.new (past ++ (text ++ 10 ∷ [])) error first (W.contents writer.new)) }
+        ensures line { OnOk result (self.new.line ≡ self.old.line + 1) }
+        ensures held { OnOk result (self.new.held ≡ []) }
+    {
+        let line = self.line;
+        let Ok(reply) = self.machine.answer(self.alloc, self.places, command) else {
+            return Err(RunError {
+                fault: Fault::Memory,
+                line,
+            });
+        };
+        if let Err(line) = self.outbox.post(writer, line, reply) {
+            return Err(RunError {
+                fault: Fault::Write,
+                line,
+            });
+        }
+        self.replies += 1;
+        self.line = line + 1;
+        Ok(())
+    }
+
+    /// Takes the end of a line.
+    fn end_line<W: Write>(&mut self, writer: &mut W, text: &[u8]) -> Result<(), RunError>
+        requires unbroken { newlines text.now ≡ 0 }
+        requires room { self.old.line + 1 < 2 ^ 64 }
+        ensures ok { OnOk result ((places : ℕ) (past : List ℕ) (first : Option (List ℕ))
+            → HasRead places self.old past first (W.contents writer.old)
+            → HasRead places self.new (past ++ (text.now ++ 10 ∷ [])) first (W.contents writer.new)) }
+        ensures err { IfErr result (λ error. (places : ℕ) (past : List ℕ) (first : Option (List ℕ))
+            → HasRead places self.old past first (W.contents writer.old)
+            → HasEnded places self.new (past ++ (text.now ++ 10 ∷ [])) error first (W.contents writer.new)) }
+        ensures line { OnOk result (self.new.line ≡ self.old.line + 1) }
+    {
+        if self.held.is_empty() {
+            return self.take_line(writer, text);
+        }
+        if self.held.remaining_capacity() < text.len() {
+            return Err(RunError {
+                fault: Fault::LongLine,
+                line: self.line,
+            });
+        }
+        let mut line = mem::replace(&mut self.held, ArrayVec::new());
+        let _ = line.try_extend_from_slice(text);
+        self.take_line(writer, &line)
+    }
+
+    /// Takes a part of a line without its end.
+    fn hold(&mut self, text: &[u8]) -> Result<(), RunError>
+        requires { newlines text.now ≡ 0 }
+        ensures ok { OnOk result ((places : ℕ) (past : List ℕ) (first now : Option (List ℕ))
+            → HasRead places self.old past first now → HasRead places self.new (past ++ text.now) first now) }
+        ensures err { IfErr result (λ error. (places : ℕ) (past : List ℕ) (first now : Option (List ℕ))
+            → HasRead places self.old past first now → HasEnded places self.new (past ++ text.now) error first now) }
+        ensures line { self.new.line ≡ self.old.line }
+    {
+        if self.held.remaining_capacity() < text.len() {
+            return Err(RunError {
+                fault: Fault::LongLine,
+                line: self.line,
+            });
+        }
+        let _ = self.held.try_extend_from_slice(text);
+        Ok(())
+    }
+
+    /// Takes bytes of a script.
+    fn take_piece<W: Write>(&mut self, writer: &mut W, piece: &[u8]) -> Result<(), RunError>
+        requires { self.old.line + length piece.now < 2 ^ 64 }
+        ensures ok { OnOk result ((places : ℕ) (past : List ℕ) (first : Option (List ℕ))
+            → HasRead places self.old past first (W.contents writer.old)
+            → HasRead places self.new (past ++ piece.now) first (W.contents writer.new)) }
+        ensures err { IfErr result (λ error. (places : ℕ) (past : List ℕ) (first : Option (List ℕ))
+            → HasRead places self.old past first (W.contents writer.old)
+            → HasEnded places self.new (past ++ piece.now) error first (W.contents writer.new)) }
+        ensures line { OnOk result (self.new.line ≤ self.old.line + length piece.now) }
+    {
+        let mut rest = piece;
+        while let Some((text, behind)) = first_line(rest) {
+            self.end_line(writer, text)?;
+            rest = behind;
+        }
+        self.hold(rest)
+    }
+
+    /// Takes a whole input, and writes the replies.
+    pub(crate) fn run<R: Read, W: Write>(
+        &mut self,
+        reader: &mut R,
+        writer: &mut W,
+    ) -> Result<Totals, RunError>
+        requires { self.old ≡ begun self.old.places }
+        ensures ok { OnOk result (IfSome (R.remaining reader.old) (λ input. fault_of input ≡ None)) }
+        ensures totals { IfOk result (λ totals. IfSome (R.remaining reader.old) (λ input.
+            totals ≡ totals_of self.old.places input)) }
+        ensures output { OnOk result (IfSome (R.remaining reader.old) (λ input.
+            Appends (W.contents writer.old) (W.contents writer.new) (output_of self.old.places input))) }
+        ensures err { IfErr result (λ error. IfSome (R.remaining reader.old) (λ input.
+            EndsIn error.fault self.old.places input error (R.remaining reader.old) (R.remaining reader.new)
+            (W.contents writer.old) (W.contents writer.new))) }
+    {
+        match self.read_all(reader, writer) {
+            Ok(totals) => {
+                self.flush(writer)?;
+                Ok(totals)
+            }
+            Err(error) if error.is_of_writer() => Err(error),
+            Err(error) => {
+                self.flush(writer)?;
+                Err(error)
+            }
+        }
+    }
+
+    /// Takes a whole input.
+    fn read_all<R: Read, W: Write>(
+        &mut self,
+        reader: &mut R,
+        writer: &mut W,
+    ) -> Result<Totals, RunError>
+        requires { self.old.line ≡ 1 }
+        ensures ok { IfOk result (λ totals. (places : ℕ) (first : Option (List ℕ))
+            → HasRead places self.old [] first (W.contents writer.old) → IfSome (R.remaining reader.old) (λ input.
+            Finishes places self.new input None first (W.contents writer.new) × (totals ≡ totals_of places input))) }
+        ensures err { IfErr result (λ error. (places : ℕ) (first : Option (List ℕ))
+            → HasRead places self.old [] first (W.contents writer.old) → IfSome (R.remaining reader.old) (λ input.
+            HasStopped places self.new input error (R.remaining reader.old) (R.remaining reader.new)
+            first (W.contents writer.new))) }
+    {
+        let mut buffer = [0; 4096];
+        for _ in 0..10_000_000_u32 {
+            match reader.read(&mut buffer) {
+                Ok(0) => return self.end(),
+                Ok(count) => self.take_piece(writer, &buffer[..count])?,
+                Err(_) => return Err(self.read_error()),
+            }
+        }
+        Err(self.read_error())
+    }
+
+    /// What ends a script that can't be read on.
+    fn read_error(&self) -> RunError
+        ensures { result ≡ record { fault = Fault.Read; line = self.now.line } }
+    {
+        RunError {
+            fault: Fault::Read,
+            line: self.line,
+        }
+    }
+
+    /// What the end of the input is: the end of the script, or a cut line.
+    fn end(&self) -> Result<Totals, RunError>
+        ensures ok { IfOk result (λ totals. (places : ℕ) (input : List ℕ) (first now : Option (List ℕ))
+            → HasRead places self.now input first now
+            → Finishes places self.now input None first now × (totals ≡ totals_of places input)) }
+        ensures err { IfErr result (λ error. (places : ℕ) (input : List ℕ) (first now : Option (List ℕ))
+            → HasRead places self.now input first now → Finishes places self.now input (Some error) first now) }
+        ensures syntax { IfErr result (λ error. error.fault ≡ Fault.Syntax) }
+    {
+        let line = self.line;
+        if !self.held.is_empty() {
+            return Err(RunError {
+                fault: Fault::Syntax,
+                line,
+            });
+        }
+        Ok(Totals {
+            lines: line - 1,
+            replies: self.replies,
+        })
+    }
+
+    /// Writes the replies that wait.
+    fn flush<W: Write>(&mut self, writer: &mut W) -> Result<(), RunError>
+        ensures ok { OnOk result ((answers : List Answer) (first : Option (List ℕ))
+            → Owes self.old.box answers first (W.contents writer.old) → Appends first (W.contents writer.new) (texts answers)) }
+        ensures err { IfErr result (λ error. (answers : List Answer) (first : Option (List ℕ))
+            → Owes self.old.box answers first (W.contents writer.old)
+            → StopsIn answers first (W.contents writer.new) error.line) }
+        ensures write { IfErr result (λ error. error.fault ≡ Fault.Write) }
+    {
+        self.outbox.flush(writer).map_err(|line| RunError {
+            fault: Fault::Write,
+            line,
+        })
+    }
+}
+
+/// What stands before the first newline, and what stands behind it.
+fn first_line(bytes: &[u8]) -> Option<(&[u8], &[u8])>
+    ensures none { IfNone result (newlines bytes.now ≡ 0) }
+    ensures line { IfSome result (λ parts. newlines parts.0.now ≡ 0) }
+    ensures parts { IfSome result (λ parts. bytes.now ≡ parts.0.now ++ 10 ∷ parts.1.now) }
+{
+    let end = newline_in(bytes)?;
+    Some((&bytes[..end], &bytes[end + 1..]))
+}
+
+/// The place of the first newline.
+fn newline_in(bytes: &[u8]) -> Option<usize>
+    ensures { result ≡ position (λ byte. nat_eq byte 10) bytes.now }
+{
+    bytes.iter().position(|byte| *byte == b'\n')
+}

@@ -1,0 +1,266 @@
+use crate::{
+    Command, Fault, Options, Place, Reply, RunError, ScriptError, Totals, read_line, reply_text,
+    run,
+};
+use std::io;
+use std::io::{ErrorKind, Read, Write};
+use std::test::Fail;
+use zone_core::Info;
+
+const OPTIONS: Options = Options {
+    copiers: 2,
+    capacity: 8,
+    journal: 65536,
+};
+
+#[test]
+fn reads_lines(rt: HostRuntime) {
+    let place = Place {
+        zone: 0,
+        space: 1,
+        vpage: 2,
+    };
+    let rows: [(&str, &[u8], Result<Option<Command>, ScriptError>); 18] = [
+        ("nothing", b"", Ok(None)),
+        ("spaces", b"   ", Ok(None)),
+        ("a comment", b"  #zone 0 1", Ok(None)),
+        (
+            "a zone",
+            b"zone 3 8",
+            Ok(Some(Command::Zone { zone: 3, blocks: 8 })),
+        ),
+        (
+            "many spaces",
+            b"  info    9  ",
+            Ok(Some(Command::Info { zone: 9 })),
+        ),
+        (
+            "a map",
+            b"map 0 1 2",
+            Ok(Some(Command::Map {
+                place,
+                unmovable: false,
+            })),
+        ),
+        (
+            "unmovable",
+            b"map 0 1 2 unmovable",
+            Ok(Some(Command::Map {
+                place,
+                unmovable: true,
+            })),
+        ),
+        (
+            "a frame",
+            b"mapat 0 1 2 9",
+            Ok(Some(Command::MapAt {
+                place,
+                frame: 9,
+                unmovable: false,
+            })),
+        ),
+        (
+            "a frame, unmovable",
+            b"mapat 0 1 2 9 unmovable",
+            Ok(Some(Command::MapAt {
+                place,
+                frame: 9,
+                unmovable: true,
+            })),
+        ),
+        (
+            "the largest number",
+            b"store 0 1 2 7 18446744073709551615",
+            Ok(Some(Command::Store {
+                place,
+                word: 7,
+                value: 18446744073709551615,
+            })),
+        ),
+        (
+            "one more",
+            b"store 0 1 2 7 18446744073709551616",
+            Err(ScriptError::Syntax),
+        ),
+        (
+            "20 digits",
+            b"load 0 1 2 00000000000000000009",
+            Ok(Some(Command::Load { place, word: 9 })),
+        ),
+        (
+            "21 digits",
+            b"load 0 1 2 000000000000000000009",
+            Err(ScriptError::Syntax),
+        ),
+        ("a sign", b"info +1", Err(ScriptError::Syntax)),
+        ("a capital", b"Info 1", Err(ScriptError::Syntax)),
+        ("a word too few", b"zone 0", Err(ScriptError::Syntax)),
+        ("a word too many", b"info 0 0", Err(ScriptError::Syntax)),
+        (
+            "eight words",
+            b"store 0 1 2 3 4 5 6",
+            Err(ScriptError::Syntax),
+        ),
+    ];
+    for (name, line, expected) in rows {
+        assert_eq!(rt; read_line(line), expected, "{name}");
+    }
+}
+
+#[test]
+fn reads_no_more_than_200_bytes(rt: HostRuntime) {
+    assert_eq!(rt; read_line(&[b'#'; 200]), Ok(None));
+    assert_eq!(rt; read_line(&[b'#'; 201]), Err(ScriptError::LongLine));
+    assert_eq!(rt; read_line(&[b' '; 201]), Err(ScriptError::LongLine));
+}
+
+#[test]
+fn prints_replies(rt: HostRuntime) {
+    let info = Info {
+        free: 510,
+        pages: 1,
+        moving: 2,
+        huge: 3,
+        whole: 4,
+        held: 5,
+    };
+    let rows: [(Reply, &[u8]); 4] = [
+        (Reply::Done, b"ok\n"),
+        (
+            Reply::Value(18446744073709551615),
+            b"value=18446744073709551615\n",
+        ),
+        (
+            Reply::Info(info),
+            b"free=510 pages=1 moving=2 huge=3 whole=4\n",
+        ),
+        (Reply::Refused(44), b"refused 44\n"),
+    ];
+    for (reply, expected) in rows {
+        assert_eq!(rt; reply_text(&reply).as_slice(), expected);
+    }
+}
+
+/// What a script writes, and how it ends.
+fn played(rt: &HostRuntime, script: &[u8]) -> Result<(Vec<u8>, Result<Totals, RunError>), Fail> {
+    let mut reader = script;
+    let mut written = Vec::new(rt.alloc());
+    let ended = run(rt.alloc(), &mut reader, &mut written, OPTIONS);
+    Ok((written, ended))
+}
+
+#[test]
+fn runs_a_script(rt: HostRuntime) -> Result<(), Fail> {
+    let script =
+        b"zone 0 1\n# a page\nmap 0 0 0\nload 0 0 0 3\n\nstore 0 0 0 3 7\nload 0 0 0 3\ninfo 0\n";
+    let (written, ended) = played(&rt, script)?;
+    let expected = b"ok\nok\nvalue=0\nok\nvalue=7\nfree=511 pages=1 moving=0 huge=0 whole=0\n";
+    assert_eq!(rt; written.as_slice(), expected.as_slice());
+    assert_eq!(rt;
+        ended,
+        Ok(Totals {
+            lines: 8,
+            replies: 6
+        })
+    );
+    Ok(())
+}
+
+#[test]
+fn refuses_in_order(rt: HostRuntime) -> Result<(), Fail> {
+    let script =
+        b"info 0\nzone 0 9\nzone 0 1\nzone 0 9\nzone 0 1\ninfo 4\ninfo 1\nmapat 0 0 0 600\nmap 0 0 0\nmap 0 0 0\nload 0 0 1 0\n";
+    let (written, ended) = played(&rt, script)?;
+    let expected =
+        b"refused 43\nrefused 1\nok\nrefused 1\nrefused 44\nrefused 1\nrefused 43\nrefused 1\nok\nrefused 5\nrefused 3\n";
+    assert_eq!(rt; written.as_slice(), expected.as_slice());
+    assert!(rt; ended.is_ok());
+    Ok(())
+}
+
+#[test]
+fn stops_at_a_fault(rt: HostRuntime) -> Result<(), Fail> {
+    let rows: [(&[u8], Fault, u64); 3] = [
+        (b"zone 0 1\nfill\ninfo 0\n", Fault::Syntax, 2),
+        (b"zone 0 1\n\n# cut", Fault::Syntax, 3),
+        (&[b'0'; 201], Fault::LongLine, 1),
+    ];
+    for (script, fault, line) in rows {
+        let (_, ended) = played(&rt, script)?;
+        assert_eq!(rt; ended, Err(RunError { fault, line }));
+    }
+    Ok(())
+}
+
+/// A reader that gives a text, and then fails.
+#[derive(Drop)]
+struct Broken<'a>(&'a [u8]);
+
+impl Read for Broken<'_> {
+    fn read(&mut self, buf: &mut [u8]) -> io::Result<usize> {
+        if self.0.is_empty() {
+            return Err(io::Error::from(ErrorKind::Other));
+        }
+        self.0.read(buf)
+    }
+}
+
+#[test]
+fn stops_where_a_read_fails(rt: HostRuntime) -> Result<(), Fail> {
+    let mut written = Vec::new(rt.alloc());
+    let ended = run(
+        rt.alloc(),
+        &mut Broken(b"zone 0 1\n#\ninfo"),
+        &mut written,
+        OPTIONS,
+    );
+    assert_eq!(rt;
+        ended,
+        Err(RunError {
+            fault: Fault::Read,
+            line: 3
+        })
+    );
+    assert_eq!(rt; written.as_slice(), b"ok\n".as_slice());
+    Ok(())
+}
+
+/// A writer that takes so many bytes, and then fails or takes none.
+#[derive(Drop)]
+struct Full {
+    room: usize,
+    fails: bool,
+}
+
+impl Write for Full {
+    fn write(&mut self, buf: &[u8]) -> io::Result<usize> {
+        if self.room == 0 && self.fails {
+            return Err(io::Error::from(ErrorKind::Other));
+        }
+        let taken = self.room.min(buf.len());
+        self.room -= taken;
+        Ok(taken)
+    }
+
+    fn flush(&mut self) -> io::Result<()> {
+        Ok(())
+    }
+}
+
+#[test]
+fn names_the_line_of_a_reply_that_is_not_taken(rt: HostRuntime) {
+    let rows = [(0, 1), (2, 1), (3, 3), (5, 3), (6, 4)];
+    for (room, line) in rows {
+        for fails in [false, true] {
+            let mut script: &[u8] = b"zone 0 1\n#\nmap 0 0 0\nload 0 0 0 0\n";
+            let ended = run(rt.alloc(), &mut script, &mut Full { room, fails }, OPTIONS);
+            assert_eq!(rt;
+                ended,
+                Err(RunError {
+                    fault: Fault::Write,
+                    line
+                })
+            );
+        }
+    }
+}
