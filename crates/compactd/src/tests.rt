@@ -1,7 +1,7 @@
 mod fakes;
 
 use crate::program::program;
-use fakes::{Full, Paper, Pieces};
+use fakes::{Full, Limited, Pieces};
 use std::alloc::{AllocError, Global};
 use std::env::Args;
 use std::io::{Read, Write};
@@ -264,7 +264,7 @@ fn ends_where_a_write_fails(rt: HostRuntime) -> Result<(), Fail> {
     for full in [Full::Fails, Full::TakesNothing] {
         for room in 0..replies.len() {
             for size in [1, 3, 4096] {
-                let mut writer = Paper {
+                let mut writer = Limited {
                     bytes: Vec::with_capacity(rt.alloc(), 4096)?,
                     room,
                     size,
@@ -318,8 +318,8 @@ fn keeps_its_status_where_a_fault_is_not_written(rt: HostRuntime) -> Result<(), 
     Ok(())
 }
 
-fn no_room(alloc: Global) -> Paper {
-    Paper {
+fn no_room(alloc: Global) -> Limited {
+    Limited {
         bytes: Vec::new(alloc),
         room: 0,
         size: 1,

@@ -33,14 +33,14 @@ pub enum Full {
 
 /// A writer with room for a few bytes, of which it takes a few a call.
 #[derive(Drop)]
-pub struct Paper {
+pub struct Limited {
     pub bytes: Vec<u8>,
     pub room: usize,
     pub size: usize,
     pub full: Full,
 }
 
-impl Write for Paper {
+impl Write for Limited {
     fn write(&mut self, buf: &[u8]) -> io::Result<usize> {
         let count = buf.len().min(self.room).min(self.size);
         if count == 0 && !buf.is_empty() {
