@@ -10,16 +10,16 @@ use Rattle.script_core.specs.Ends.{EndsIn, FailsBehind, StopsIn}
 use Rattle.script_core.specs.Outbox.{Owes}
 use Rattle.script_core.specs.Reply.{newlines}
 use Rattle.script_core.specs.Script.{Answer, answers_from, answers_of, commands_from, commands_of, fault_of, parts_of, texts}
-use Rattle.script_core.specs.Session.{Session, BreaksOff, Finishes, HasStopped, StopsBy, HasRead, begun}
+use Rattle.script_core.specs.Player.{Player, BreaksOff, Finishes, HasStopped, StopsBy, HasRead, begun}
 use Rattle.script_core.proofs.Waiting.{owes_empty}
 use Rattle.script_core.proofs.Newlines.{newlines-append}
 use Rattle.script_core.proofs.Reading.{stops_in_all}
 use Rattle.script_core.proofs.Inputs.{consumed, owes_end, read_clean}
 use Rattle.script_core.proofs.Variants.{known_weaker}
 
-pub begun_read : (places : ℕ) (s : Session) (first : Option (List ℕ)) → s ≡ begun places → HasRead places s [] first first
+pub begun_read : (places : ℕ) (s : Player) (first : Option (List ℕ)) → s ≡ begun places → HasRead places s [] first first
 begun_read places s first is =
-    let R : Session → Type 0 = λ s. HasRead places s [] first first in
+    let R : Player → Type 0 = λ s. HasRead places s [] first first in
     subst R (sym is) (record {
       places_are = refl;
       whole = [];
@@ -36,14 +36,14 @@ begun_read places s first is =
     })
 
 -- what a flush that wrote all does
-abbrev pub Flushes : Session → Option (List ℕ) → Option (List ℕ) → Type 0
+abbrev pub Flushes : Player → Option (List ℕ) → Option (List ℕ) → Type 0
 Flushes s mid after = (answers : List Answer) (first : Option (List ℕ)) → Owes s.box answers first mid → Appends first after (texts answers)
 
 -- what one that stopped does
-abbrev pub FlushStops : Session → Option (List ℕ) → Option (List ℕ) → ℕ → Type 0
+abbrev pub FlushStops : Player → Option (List ℕ) → Option (List ℕ) → ℕ → Type 0
 FlushStops s mid after at = (answers : List Answer) (first : Option (List ℕ)) → Owes s.box answers first mid → StopsIn answers first after at
 
-breaks_off : (places : ℕ) (s : Session) (input : List ℕ) (left left_new first mid after : Option (List ℕ)) (line : ℕ) → BreaksOff places s left left_new line first mid → Flushes s mid after → FailsBehind places left left_new first after line
+breaks_off : (places : ℕ) (s : Player) (input : List ℕ) (left left_new first mid after : Option (List ℕ)) (line : ℕ) → BreaksOff places s left left_new line first mid → Flushes s mid after → FailsBehind places left left_new first after line
 breaks_off places s input left left_new first mid after line h flushes =
     let r = h.has_read in
     record {
@@ -54,14 +54,14 @@ breaks_off places s input left left_new first mid after line h flushes =
       at = h.at ∙ r.line ∙ (let n : newlines r.whole + 1 ≡ newlines h.past + 1 = omega (arith, ap newlines r.split, newlines-append r.whole s.held, r.unbroken) in n);
     }
 
-pub flushed : (f : Fault) (places : ℕ) (s : Session) (input : List ℕ) (e : RunError) (left left_new first mid after : Option (List ℕ)) → f ≢ Write → StopsBy f places s input e left left_new first mid → Flushes s mid after → EndsIn f places input e left left_new first after
+pub flushed : (f : Fault) (places : ℕ) (s : Player) (input : List ℕ) (e : RunError) (left left_new first mid after : Option (List ℕ)) → f ≢ Write → StopsBy f places s input e left left_new first mid → Flushes s mid after → EndsIn f places input e left left_new first after
 flushed Syntax places s input e left left_new first mid after other h flushes = (h.fault, flushes (answers_of places input) first h.owes)
 flushed LongLine places s input e left left_new first mid after other h flushes = (h.fault, flushes (answers_of places input) first h.owes)
 flushed Read places s input e left left_new first mid after other h flushes = breaks_off places s input left left_new first mid after e.line h flushes
 flushed Write places s input e left left_new first mid after other h flushes = absurd (other refl)
 flushed Memory places s input e left left_new first mid after other h flushes = record { before = h.before; opening = h.opening; written = flushes (answers_from places None h.before) first h.owes }
 
-break_stops : (places : ℕ) (s : Session) (input : List ℕ) (left left_new first mid after : Option (List ℕ)) (line at : ℕ) → left ≡ Some input → BreaksOff places s left left_new line first mid → FlushStops s mid after at → StopsIn (answers_of places input) first after at
+break_stops : (places : ℕ) (s : Player) (input : List ℕ) (left left_new first mid after : Option (List ℕ)) (line at : ℕ) → left ≡ Some input → BreaksOff places s left left_new line first mid → FlushStops s mid after at → StopsIn (answers_of places input) first after at
 break_stops places s input left left_new first mid after line at known h stops =
     let r = h.has_read in
     let rest = consumed left left_new input h.past known h.read in
@@ -69,7 +69,7 @@ break_stops places s input left left_new first mid after line at known h stops =
     ap commands_of (rest.2 ∙ ap (λ (p : List ℕ). p ++ rest.0) r.split ∙ append_assoc r.whole s.held rest.0) ∙ r.commands (s.held ++ rest.0) in
     stops_in_all places input r.before _ first after at order (stops (answers_from places None r.before) first r.owes)
 
-pub flush_stops : (f : Fault) (places : ℕ) (s : Session) (input : List ℕ) (e : RunError) (left left_new first mid after : Option (List ℕ)) (at : ℕ) → f ≢ Write → left ≡ Some input → StopsBy f places s input e left left_new first mid → FlushStops s mid after at → StopsIn (answers_of places input) first after at
+pub flush_stops : (f : Fault) (places : ℕ) (s : Player) (input : List ℕ) (e : RunError) (left left_new first mid after : Option (List ℕ)) (at : ℕ) → f ≢ Write → left ≡ Some input → StopsBy f places s input e left left_new first mid → FlushStops s mid after at → StopsIn (answers_of places input) first after at
 flush_stops Syntax places s input e left left_new first mid after at other known h stops = stops (answers_of places input) first h.owes
 flush_stops LongLine places s input e left left_new first mid after at other known h stops = stops (answers_of places input) first h.owes
 flush_stops Read places s input e left left_new first mid after at other known h stops = break_stops places s input left left_new first mid after e.line at known h stops
@@ -81,7 +81,7 @@ flush_stops Memory places s input e left left_new first mid after at other known
 pub stopped : (places : ℕ) (input : List ℕ) (e : RunError) (left left_new old new : Option (List ℕ)) → e.fault ≡ Write → StopsIn (answers_of places input) old new e.line → EndsIn e.fault places input e left left_new old new
 stopped places input e left left_new old new is h = let E : Fault → Type 0 = λ f. EndsIn f places input e left left_new old new in subst E (sym is) h
 
-module _ (places : ℕ) (s : Session) (left left_new first mid after : Option (List ℕ)) where
+module _ (places : ℕ) (s : Player) (left left_new first mid after : Option (List ℕ)) where
   -- the flush behind a whole script stopped
   pub closes_whole : (T : List ℕ → Type 0) (e : RunError) → e.fault ≡ Write → FlushStops s mid after e.line → IfSome left (λ input. Finishes places s input None first mid × T input)
       → IfSome left (λ input. EndsIn e.fault places input e left left_new first after)

@@ -16,7 +16,7 @@ use Rattle.script_core.specs.Machine.{Step, opens, step}
 use Rattle.script_core.specs.Outbox.{Outbox, Owes}
 use Rattle.script_core.specs.Reply.{newlines}
 use Rattle.script_core.specs.Script.{Answer, Numbered, answers_from, answers_of, commands_from, commands_of, fault_from, fault_of, line_fault, onto_commands, parts_of, zone_after}
-use Rattle.script_core.specs.Session.{Session, EndsBy, HasEnded, HasRead, HasFault, HasNoMemory}
+use Rattle.script_core.specs.Player.{Player, EndsBy, HasEnded, HasRead, HasFault, HasNoMemory}
 use Rattle.script_core.proofs.Lines.{commands-line, commands-long, fault-line, fault-long, answers_from-append, zone_after-append}
 use Rattle.script_core.proofs.Newlines.{newlines-append}
 
@@ -43,23 +43,23 @@ stops_in_all places input before behind old new line order stops =
     subst S (sym all) (stops_more _ _ old new line stops)
 
 -- where no line has begun, all that was read is whole lines
-pub whole_is : (places : ℕ) (s : Session) (past : List ℕ) (first now : Option (List ℕ)) → (r : HasRead places s past first now) → s.held ≡ [] → r.whole ≡ past
+pub whole_is : (places : ℕ) (s : Player) (past : List ℕ) (first now : Option (List ℕ)) → (r : HasRead places s past first now) → s.held ≡ [] → r.whole ≡ past
 whole_is places s past first now r e = sym (append-nil r.whole) ∙ ap (λ (h : List ℕ). r.whole ++ h) (sym e) ∙ sym r.split
 
-commands_next : (places : ℕ) (s : Session) (past : List ℕ) (first now : Option (List ℕ)) → (r : HasRead places s past first now) → s.held ≡ [] → (rest : List ℕ) → commands_of (past ++ rest) ≡ r.before ++ commands_from s.line (parts_of rest)
+commands_next : (places : ℕ) (s : Player) (past : List ℕ) (first now : Option (List ℕ)) → (r : HasRead places s past first now) → s.held ≡ [] → (rest : List ℕ) → commands_of (past ++ rest) ≡ r.before ++ commands_from s.line (parts_of rest)
 commands_next places s past first now r e rest = ap (λ (w : List ℕ). commands_of (w ++ rest)) (sym (whole_is places s past first now r e)) ∙ r.commands rest
 
-fault_next : (places : ℕ) (s : Session) (past : List ℕ) (first now : Option (List ℕ)) → (r : HasRead places s past first now) → s.held ≡ [] → (rest : List ℕ) → fault_of (past ++ rest) ≡ fault_from s.line (parts_of rest)
+fault_next : (places : ℕ) (s : Player) (past : List ℕ) (first now : Option (List ℕ)) → (r : HasRead places s past first now) → s.held ≡ [] → (rest : List ℕ) → fault_of (past ++ rest) ≡ fault_from s.line (parts_of rest)
 fault_next places s past first now r e rest = ap (λ (w : List ℕ). fault_of (w ++ rest)) (sym (whole_is places s past first now r e)) ∙ r.fault rest
 
 pub joined : (past text rest : List ℕ) → (past ++ (text ++ 10 ∷ [])) ++ rest ≡ past ++ (text ++ 10 ∷ rest)
 joined past text rest = append_assoc past (text ++ 10 ∷ []) rest ∙ ap (λ (r : List ℕ). past ++ r) (append_assoc text (10 ∷ []) rest)
 
-line_next : (places : ℕ) (s : Session) (past text : List ℕ) (first now : Option (List ℕ)) → (r : HasRead places s past first now) → s.held ≡ [] → newlines text ≡ 0 → s.line + 1 ≡ newlines (past ++ (text ++ 10 ∷ [])) + 1
+line_next : (places : ℕ) (s : Player) (past text : List ℕ) (first now : Option (List ℕ)) → (r : HasRead places s past first now) → s.held ≡ [] → newlines text ≡ 0 → s.line + 1 ≡ newlines (past ++ (text ++ 10 ∷ [])) + 1
 line_next places s past text first now r e none =
     omega (arith, r.line, ap newlines (whole_is places s past first now r e), newlines-append past (text ++ 10 ∷ []), newlines-append text (10 ∷ []), none)
 
-module _ (places : ℕ) (s : Session) (past text : List ℕ) (first now : Option (List ℕ)) (r : HasRead places s past first now) (begins : s.held ≡ []) (none : newlines text ≡ 0) where
+module _ (places : ℕ) (s : Player) (past text : List ℕ) (first now : Option (List ℕ)) (r : HasRead places s past first now) (begins : s.held ≡ []) (none : newlines text ≡ 0) where
   commands_line : (rest : List ℕ) → commands_of ((past ++ (text ++ 10 ∷ [])) ++ rest) ≡ r.before ++ onto_commands s.line (line_of text) (commands_from (s.line + 1) (parts_of rest))
   commands_line rest =
       ap commands_of (joined past text rest) ∙ commands_next places s past first now r begins (text ++ 10 ∷ rest)
@@ -137,12 +137,12 @@ module _ (places : ℕ) (s : Session) (past text : List ℕ) (first now : Option
   pub read_stopped : (after : Option (List ℕ)) (at : ℕ) (rest : List ℕ) → StopsIn (answers_from places None r.before) first after at → StopsIn (answers_of places ((past ++ (text ++ 10 ∷ [])) ++ rest)) first after at
   read_stopped after at rest stops = stops_in_all places ((past ++ (text ++ 10 ∷ [])) ++ rest) r.before _ first after at (commands_line rest) stops
 
-pub ended_wrong : (places : ℕ) (s : Session) (past : List ℕ) (error : ScriptError) (fault : Fault) (line : ℕ) (first now : Option (List ℕ)) → fault ≡ fault_of_line error → HasFault places s past (record { fault = fault_of_line error; line = line }) first now → HasEnded places s past (record { fault = fault; line = line }) first now
+pub ended_wrong : (places : ℕ) (s : Player) (past : List ℕ) (error : ScriptError) (fault : Fault) (line : ℕ) (first now : Option (List ℕ)) → fault ≡ fault_of_line error → HasFault places s past (record { fault = fault_of_line error; line = line }) first now → HasEnded places s past (record { fault = fault; line = line }) first now
 ended_wrong places s past of_line.Syntax fault line first now is h = let E : Fault → Type 0 = λ f. HasEnded places s past (record { fault = f; line = line }) first now in subst E (sym is) h
 ended_wrong places s past of_line.LongLine fault line first now is h = let E : Fault → Type 0 = λ f. HasEnded places s past (record { fault = f; line = line }) first now in subst E (sym is) h
 
 -- the line that has begun is taken out
-pub read_taken_out : (places : ℕ) (s : Session) (past : List ℕ) (first now : Option (List ℕ)) → (r : HasRead places s past first now) → HasRead places (record s { held = [] }) r.whole first now
+pub read_taken_out : (places : ℕ) (s : Player) (past : List ℕ) (first now : Option (List ℕ)) → (r : HasRead places s past first now) → HasRead places (record s { held = [] }) r.whole first now
 read_taken_out places s past first now r = record {
   places_are = r.places_are;
   whole = r.whole;
@@ -159,13 +159,13 @@ read_taken_out places s past first now r = record {
 }
 
 -- what was read, up to the end of the line that has begun
-pub past_line : (places : ℕ) (s : Session) (past text : List ℕ) (first now : Option (List ℕ)) → (r : HasRead places s past first now) → r.whole ++ ((s.held ++ text) ++ 10 ∷ []) ≡ past ++ (text ++ 10 ∷ [])
+pub past_line : (places : ℕ) (s : Player) (past text : List ℕ) (first now : Option (List ℕ)) → (r : HasRead places s past first now) → r.whole ++ ((s.held ++ text) ++ 10 ∷ []) ≡ past ++ (text ++ 10 ∷ [])
 past_line places s past text first now r =
     ap (λ (t : List ℕ). r.whole ++ t) (append_assoc s.held text (10 ∷ [])) ∙ sym (append_assoc r.whole s.held (text ++ 10 ∷ []))
     ∙ ap (λ (p : List ℕ). p ++ (text ++ 10 ∷ [])) (sym r.split)
 
 -- a part of a line is held
-pub read_held : (places : ℕ) (s : Session) (past text : List ℕ) (first now : Option (List ℕ)) → HasRead places s past first now → newlines text ≡ 0 → length (s.held ++ text) ≤ 200 → HasRead places (record s { held = s.held ++ text }) (past ++ text) first now
+pub read_held : (places : ℕ) (s : Player) (past text : List ℕ) (first now : Option (List ℕ)) → HasRead places s past first now → newlines text ≡ 0 → length (s.held ++ text) ≤ 200 → HasRead places (record s { held = s.held ++ text }) (past ++ text) first now
 read_held places s past text first now r none short = record {
   places_are = r.places_are;
   whole = r.whole;
@@ -182,7 +182,7 @@ read_held places s past text first now r none short = record {
 }
 
 -- a line that has begun is too long
-pub read_long : (places : ℕ) (s : Session) (past text : List ℕ) (first now : Option (List ℕ)) → HasRead places s past first now → newlines text ≡ 0 → 200 < length (s.held ++ text) → HasFault places s (past ++ text) (record { fault = LongLine; line = s.line }) first now
+pub read_long : (places : ℕ) (s : Player) (past text : List ℕ) (first now : Option (List ℕ)) → HasRead places s past first now → newlines text ≡ 0 → 200 < length (s.held ++ text) → HasFault places s (past ++ text) (record { fault = LongLine; line = s.line }) first now
 read_long places s past text first now r none long =
     let unbroken : newlines (s.held ++ text) ≡ 0 = omega (arith, newlines-append s.held text, r.unbroken, none) in
     let at : (rest : List ℕ) → (past ++ text) ++ rest ≡ r.whole ++ ((s.held ++ text) ++ rest) = λ rest.
@@ -196,7 +196,7 @@ read_long places s past text first now r none long =
       owes = r.owes;
     }
 
-fault_more : (places : ℕ) (s : Session) (past more : List ℕ) (e : RunError) (first now : Option (List ℕ)) → HasFault places s past e first now → HasFault places s (past ++ more) e first now
+fault_more : (places : ℕ) (s : Player) (past more : List ℕ) (e : RunError) (first now : Option (List ℕ)) → HasFault places s past e first now → HasFault places s (past ++ more) e first now
 fault_more places s past more e first now h = record {
   before = h.before;
   commands = λ rest. ap commands_of (append_assoc past more rest) ∙ h.commands (more ++ rest);
@@ -204,7 +204,7 @@ fault_more places s past more e first now h = record {
   owes = h.owes;
 }
 
-ends_more : (f : Fault) (places : ℕ) (s : Session) (past more : List ℕ) (e : RunError) (first now : Option (List ℕ)) → EndsBy f places s past e first now → EndsBy f places s (past ++ more) e first now
+ends_more : (f : Fault) (places : ℕ) (s : Player) (past more : List ℕ) (e : RunError) (first now : Option (List ℕ)) → EndsBy f places s past e first now → EndsBy f places s (past ++ more) e first now
 ends_more Syntax places s past more e first now h = fault_more places s past more e first now h
 ends_more LongLine places s past more e first now h = fault_more places s past more e first now h
 ends_more Read places s past more e first now h = absurd h
@@ -216,17 +216,17 @@ ends_more Memory places s past more e first now h = record {
 }
 
 -- what ended the reading of some bytes ended it whatever follows them
-pub ended_more : (places : ℕ) (s : Session) (past more : List ℕ) (e : RunError) (first now : Option (List ℕ)) → HasEnded places s past e first now → HasEnded places s (past ++ more) e first now
+pub ended_more : (places : ℕ) (s : Player) (past more : List ℕ) (e : RunError) (first now : Option (List ℕ)) → HasEnded places s past e first now → HasEnded places s (past ++ more) e first now
 ended_more places s past more e first now h = ends_more e.fault places s past more e first now h
 
 -- the end of a line that is too long
-pub read_long_line : (places : ℕ) (s : Session) (past text : List ℕ) (first now : Option (List ℕ)) → HasRead places s past first now → newlines text ≡ 0 → 200 < length s.held + length text → HasFault places s (past ++ (text ++ 10 ∷ [])) (record { fault = LongLine; line = s.line }) first now
+pub read_long_line : (places : ℕ) (s : Player) (past text : List ℕ) (first now : Option (List ℕ)) → HasRead places s past first now → newlines text ≡ 0 → 200 < length s.held + length text → HasFault places s (past ++ (text ++ 10 ∷ [])) (record { fault = LongLine; line = s.line }) first now
 read_long_line places s past text first now r none long =
     let F : List ℕ → Type 0 = λ p. HasFault places s p (record { fault = LongLine; line = s.line }) first now in
     subst F (append_assoc past text (10 ∷ [])) (fault_more places s (past ++ text) (10 ∷ []) _ first now (read_long places s past text first now r none (omega (arith, length-append s.held text, long))))
 
 -- a line whose first part was held is read as a whole
-pub taken_line : (places : ℕ) (s : Session) (past text : List ℕ) (first now : Option (List ℕ)) (after : Option (List ℕ)) (s' : Session) (none_held line : List ℕ) → HasRead places s past first now → newlines text ≡ 0 → none_held ≡ [] → line ≡ s.held ++ text
+pub taken_line : (places : ℕ) (s : Player) (past text : List ℕ) (first now : Option (List ℕ)) (after : Option (List ℕ)) (s' : Player) (none_held line : List ℕ) → HasRead places s past first now → newlines text ≡ 0 → none_held ≡ [] → line ≡ s.held ++ text
     → ((past : List ℕ) (first : Option (List ℕ)) → newlines line ≡ 0 → HasRead places (record s { held = none_held }) past first now → HasRead places s' (past ++ (line ++ 10 ∷ [])) first after)
     → HasRead places s' (past ++ (text ++ 10 ∷ [])) first after
 taken_line places s past text first now after s' none_held line r none empty is takes =
@@ -235,7 +235,7 @@ taken_line places s past text first now after s' none_held line r none empty is 
     let P : List ℕ → Type 0 = λ p. HasRead places s' p first after in
     subst P (ap (λ (t : List ℕ). r.whole ++ (t ++ 10 ∷ [])) is ∙ past_line places s past text first now r) (takes r.whole first unbroken (subst H (sym empty) (read_taken_out places s past first now r)))
 
-pub taken_line_ended : (places : ℕ) (s : Session) (past text : List ℕ) (first now : Option (List ℕ)) (after : Option (List ℕ)) (s' : Session) (e : RunError) (none_held line : List ℕ) → HasRead places s past first now → newlines text ≡ 0 → none_held ≡ [] → line ≡ s.held ++ text
+pub taken_line_ended : (places : ℕ) (s : Player) (past text : List ℕ) (first now : Option (List ℕ)) (after : Option (List ℕ)) (s' : Player) (e : RunError) (none_held line : List ℕ) → HasRead places s past first now → newlines text ≡ 0 → none_held ≡ [] → line ≡ s.held ++ text
     → ((past : List ℕ) (first : Option (List ℕ)) → newlines line ≡ 0 → HasRead places (record s { held = none_held }) past first now → HasEnded places s' (past ++ (line ++ 10 ∷ [])) e first after)
     → HasEnded places s' (past ++ (text ++ 10 ∷ [])) e first after
 taken_line_ended places s past text first now after s' e none_held line r none empty is takes =

@@ -6,4 +6,4 @@ pub mod Machine
 pub mod Script
 pub mod Ends
 pub mod Outbox
-pub mod Session
+pub mod Player

@@ -11,9 +11,9 @@ mod machine;
 mod options;
 mod outbox;
 mod place;
+mod player;
 mod reply;
 mod script;
-mod session;
 #[cfg(test)]
 mod tests;
 mod word;

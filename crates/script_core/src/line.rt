@@ -1,4 +1,4 @@
-ghost use Rattle.std.specs.Prelude.{◌≡◌, IfSome, length, [], ◌∷◌, MatchOption, map, ◌<◌, IfNone};
+ghost use Rattle.std.specs.Prelude.{◌≡◌, IfSome, length, map, ◌<◌, IfNone};
 ghost use Rattle.script_core.specs.Word.{words, word_of};
 ghost use Rattle.script_core.specs.Line.{command_of, line_of};
 

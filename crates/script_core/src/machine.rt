@@ -31,11 +31,11 @@ pub(crate) struct Machine<I: Ledger, N: Ledger, M: Ledger, B: Ledger> {
 }
 
 impl<I: Ledger, N: Ledger, M: Ledger, B: Ledger> Model for Machine<I, N, M, B> {
-    ghost use Rattle.std.specs.Prelude.{◌≡◌, Option};
+    ghost use Rattle.std.specs.Prelude.{Option};
     ghost use Rattle.std.specs.Option.{ForSome, option_map};
     ghost use Rattle.zone_core.specs.Books.{IsFor};
     ghost use Rattle.zone_core.specs.ZoneState.{ZoneState};
-    ghost use Rattle.std.specs.Coded.{codes, coded_ℕ, coded_option};
+    ghost use Rattle.std.specs.Coded.{codes, coded_ℕ};
     ghost use Rattle.std.specs.FinMap as map;
     ghost use Rattle.std.specs.FinSet as set;
     ghost use Rattle.std.specs.Ordering.{nat_cmp};
@@ -45,9 +45,9 @@ impl<I: Ledger, N: Ledger, M: Ledger, B: Ledger> Model for Machine<I, N, M, B> {
 
     ghost coded = { Prim.hlevel (codes, set.code {R = nat_cmp} coded_ℕ, map.code {R = nat_cmp} coded_ℕ coded_ℕ, map.code {R = nat_cmp} coded_ℕ placement.the_row.coded) };
 
-    ghost view = { λ g. option_map (λ o. o.zone) g.open_zone };
+    ghost view = { λ m. option_map (λ o. o.zone) m.open_zone };
 
-    ghost invariant = { λ g. ForSome g.blanks (λ b.
+    ghost invariant = { λ m. ForSome m.blanks (λ b.
         IsFor b.isolated.name b.isolated.parts I.name I.parts
         × IsFor b.rounds.name b.rounds.parts N.name N.parts
         × IsFor b.moved.name b.moved.parts M.name M.parts

@@ -7,7 +7,7 @@ ghost use Rattle.script_core.specs.Script.{answers_of, fault_of, output_of, tota
 
 use crate::error::RunError;
 use crate::options::Options;
-use crate::session::Session;
+use crate::player::Player;
 use std::alloc::Global;
 use std::io::{Read, Write};
 use std::marker::Brand;
@@ -75,6 +75,6 @@ fn run_with<I: Ledger, N: Ledger, M: Ledger, B: Ledger, R: Read, W: Write>(
         EndsIn error.fault options.journal input error (R.remaining reader.old) (R.remaining reader.new)
         (W.contents writer.old) (W.contents writer.new))) }
 {
-    let mut session = Session::<I, N, M, B>::new(alloc, options.journal, blanks);
-    session.run(reader, writer)
+    let mut player = Player::<I, N, M, B>::new(alloc, options.journal, blanks);
+    player.run(reader, writer)
 }

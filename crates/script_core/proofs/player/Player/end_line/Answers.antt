@@ -2,20 +2,20 @@ use Rattle.std.proofs.Common.{◌≡◌, ◌+◌, ◌++◌, ◌∷◌, [], ◌<�
 use Rattle.std.proofs.lemmas.Result.{MatchResult-weaker, on_ok_weaker}
 use Rattle.script_core.specs.declared.error.Fault.TheVariants.{LongLine}
 use Rattle.script_core.specs.declared.error.RunError.{RunError}
-use Rattle.script_core.specs.Session.{Session, HasFault, HasRead}
+use Rattle.script_core.specs.Player.{Player, HasFault, HasRead}
 use Rattle.script_core.proofs.Reading.{read_long_line, taken_line, taken_line_ended}
 use Rattle.script_core.proofs.Variants.{at_ok}
-use Rattle.script_core.proofs.session.Session.end_line.Goals as goal
+use Rattle.script_core.proofs.player.Player.end_line.Goals as goal
 
 pub returns-then-remaining_capacity-text-clause-err : goal.returns-then-remaining_capacity-text-clause-err
 returns-then-remaining_capacity-text-clause-err g c = λ places past first read.
     let s = c.args.self.now in
     let text = c.args.text.now in
     let now = g.W.Write.contents c.args.writer.now in
-    let held = ap (λ (t : Session). length t.held) c.self.view_is in
+    let held = ap (λ (t : Player). length t.held) c.self.view_is in
     let long : 200 < length s.held + length text = omega (arith, held, c.remaining_capacity.ensures) in
     let F : ℕ → Type 0 = λ n. HasFault places s (past ++ (text ++ 10 ∷ [])) (record { fault = LongLine; line = n }) first now in
-    subst F (ap (λ (t : Session). t.line) (sym c.self.view_is)) (read_long_line places s past text first now read c.requires.unbroken long)
+    subst F (ap (λ (t : Player). t.line) (sym c.self.view_is)) (read_long_line places s past text first now read c.requires.unbroken long)
 
 -- what was held, and then the text
 line_is : (g : _) (c : goal.After-take_line-2 g) → c.deref.result.now ≡ c.self.inside.held.items ++ c.args.text.now
@@ -26,14 +26,14 @@ line_is g c =
 
 pub returns-clause-ok : goal.returns-clause-ok
 returns-clause-ok g c = on_ok_weaker c.take_line-2.result (λ takes places past first read.
-    let R : Session → Type 0 = λ s. HasRead places s past first (g.W.Write.contents c.args.writer.now) in
+    let R : Player → Type 0 = λ s. HasRead places s past first (g.W.Write.contents c.args.writer.now) in
     let empty = ap (λ h. h.items) c.replace-line.ensures.after ∙ c.new.ensures in
     taken_line places _ past c.args.text.now first (g.W.Write.contents c.args.writer.now) (g.W.Write.contents c.take_line-2.new.writer) c.take_line-2.new.self _ c.deref.result.now
     (subst R (sym c.self.view_is) read) c.requires.unbroken empty (line_is g c) (takes places)) c.take_line-2.ensures.ok
 
 pub returns-clause-err : goal.returns-clause-err
 returns-clause-err g c = MatchResult-weaker c.take_line-2.result c.take_line-2.ensures.err (λ _ u. u) (λ (e : RunError) takes places past first read.
-    let R : Session → Type 0 = λ s. HasRead places s past first (g.W.Write.contents c.args.writer.now) in
+    let R : Player → Type 0 = λ s. HasRead places s past first (g.W.Write.contents c.args.writer.now) in
     let empty = ap (λ h. h.items) c.replace-line.ensures.after ∙ c.new.ensures in
     taken_line_ended places _ past c.args.text.now first (g.W.Write.contents c.args.writer.now) (g.W.Write.contents c.take_line-2.new.writer) c.take_line-2.new.self e _ c.deref.result.now
     (subst R (sym c.self.view_is) read) c.requires.unbroken empty (line_is g c) (takes places))

@@ -1,6 +1,6 @@
 use Rattle.std.proofs.Common.{◌≡◌, ◌+◌, ◌≤◌, ◌++◌, List, ℕ, Option, length}
-use Rattle.script_core.specs.Session.{HasRead}
-use Rattle.script_core.proofs.session.Session.take_piece.Given as goal
+use Rattle.script_core.specs.Player.{HasRead}
+use Rattle.script_core.proofs.player.Player.take_piece.Given as goal
 
 -- the lines up to the rest were read
 abbrev pub invariant-loop-text : goal.invariant-loop-text

@@ -3,7 +3,7 @@ use Rattle.std.proofs.lemmas.Result.{err_from_is_err_and}
 use Rattle.script_core.specs.Script.{answers_of, totals_of}
 use Rattle.script_core.proofs.Closing.{begun_read, closes_flushed, closes_stopped, closes_whole, closes_written}
 use Rattle.script_core.proofs.Variants.{known_weaker, not_true}
-use Rattle.script_core.proofs.session.Session.run.Goals as goal
+use Rattle.script_core.proofs.player.Player.run.Goals as goal
 
 pub returns-in_ok-flush-in-Ok-clause-ok : goal.returns-in_ok-flush-in-Ok-clause-ok
 returns-in_ok-flush-in-Ok-clause-ok g c =

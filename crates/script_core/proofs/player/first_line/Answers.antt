@@ -1,7 +1,7 @@
 use Rattle.std.proofs.Common.{◌+◌, ◌-◌, ◌++◌, ◌∷◌, List, ℕ, length, take, drop, length-drop, ap, sym, ◌∙◌, arith}
 use Rattle.std.proofs.lemmas.List.{take_all}
 use Rattle.script_core.proofs.Lines.{newline_found, newline_missing}
-use Rattle.script_core.proofs.session.first_line.Goals as goal
+use Rattle.script_core.proofs.player.first_line.Goals as goal
 
 pub returns-in_err-end-clause-none : goal.returns-in_err-end-clause-none
 returns-in_err-end-clause-none c = rw c.from_residual.ensures (newline_missing c.args.bytes.now c.in_err-end.ensures)

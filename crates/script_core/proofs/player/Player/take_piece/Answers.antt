@@ -1,9 +1,9 @@
 use Rattle.std.proofs.Common.{◌++◌, ◌∷◌, [], List, ℕ, length, length-append, append_assoc, append-nil, refl, ap, sym, subst, ◌∙◌, arith}
 use Rattle.std.proofs.lemmas.Result.{MatchResult-weaker, on_ok_weaker, err_from_is_err_and}
 use Rattle.script_core.specs.declared.error.RunError.{RunError}
-use Rattle.script_core.specs.Session.{HasEnded, HasRead}
+use Rattle.script_core.specs.Player.{HasEnded, HasRead}
 use Rattle.script_core.proofs.Reading.{ended_more, joined, piece_joined}
-use Rattle.script_core.proofs.session.Session.take_piece.Goals as goal
+use Rattle.script_core.proofs.player.Player.take_piece.Goals as goal
 
 pub loop-text-init : goal.loop-text-init
 loop-text-init g c = record {

@@ -11,7 +11,7 @@ use Rattle.script_core.specs.Reply.{newlines}
 use Rattle.script_core.specs.Script.{Numbered, answers_from, answers_of, commands_from, commands_of, fault_from, fault_of, parts_of, zone_after}
 
 -- the places of a journal, the zone, the line that has begun and its number, how many replies there were, and those that wait
-pub record Session : Type 0 where
+pub record Player : Type 0 where
   pub places : ℕ
   pub zone : Option ZoneState
   pub held : List ℕ
@@ -20,11 +20,11 @@ pub record Session : Type 0 where
   pub box : Outbox
 
 -- a script at its first byte
-abbrev pub begun : ℕ → Session
+abbrev pub begun : ℕ → Player
 begun places = record { places = places; zone = None; held = []; line = 1; replies = 0; box = empty }
 
 -- these bytes were read without a fault, and the replies to their lines were written or wait
-pub record HasRead (places : ℕ) (s : Session) (past : List ℕ) (first now : Option (List ℕ)) : Type 0 where
+pub record HasRead (places : ℕ) (s : Player) (past : List ℕ) (first now : Option (List ℕ)) : Type 0 where
   pub places_are : s.places ≡ places
   pub whole : List ℕ
   pub split : past ≡ whole ++ s.held
@@ -39,20 +39,20 @@ pub record HasRead (places : ℕ) (s : Session) (past : List ℕ) (first now : O
   pub owes : Owes s.box (answers_from places None before) first now
 
 -- the first fault is within these bytes, and the replies before it were written or wait
-pub record HasFault (places : ℕ) (s : Session) (past : List ℕ) (e : RunError) (first now : Option (List ℕ)) : Type 0 where
+pub record HasFault (places : ℕ) (s : Player) (past : List ℕ) (e : RunError) (first now : Option (List ℕ)) : Type 0 where
   pub before : List Numbered
   pub commands : (rest : List ℕ) → commands_of (past ++ rest) ≡ before
   pub fault : (rest : List ℕ) → fault_of (past ++ rest) ≡ Some e
   pub owes : Owes s.box (answers_from places None before) first now
 
 -- there was no memory for the zone that a line within these bytes opens, and the replies before it were written or wait
-pub record HasNoMemory (places : ℕ) (s : Session) (past : List ℕ) (line : ℕ) (first now : Option (List ℕ)) : Type 0 where
+pub record HasNoMemory (places : ℕ) (s : Player) (past : List ℕ) (line : ℕ) (first now : Option (List ℕ)) : Type 0 where
   pub before : List Numbered
   pub opening : (rest : List ℕ) → IsOpening places (past ++ rest) before line
   pub owes : Owes s.box (answers_from places None before) first now
 
 -- what each fault says of these bytes
-abbrev pub EndsBy : Fault → ℕ → Session → List ℕ → RunError → (first now : Option (List ℕ)) → Type 0
+abbrev pub EndsBy : Fault → ℕ → Player → List ℕ → RunError → (first now : Option (List ℕ)) → Type 0
 EndsBy Syntax places s past e first now = HasFault places s past e first now
 EndsBy LongLine places s past e first now = HasFault places s past e first now
 EndsBy Read places s past e first now = ⊥
@@ -60,29 +60,29 @@ EndsBy Write places s past e first now = (rest : List ℕ) → StopsIn (answers_
 EndsBy Memory places s past e first now = HasNoMemory places s past e.line first now
 
 -- the reading of these bytes ended in this error
-abbrev pub HasEnded : ℕ → Session → List ℕ → RunError → (first now : Option (List ℕ)) → Type 0
+abbrev pub HasEnded : ℕ → Player → List ℕ → RunError → (first now : Option (List ℕ)) → Type 0
 HasEnded places s past e first now = EndsBy e.fault places s past e first now
 
 -- the first fault of the input is this, and its replies were written or wait
-pub record Finishes (places : ℕ) (s : Session) (input : List ℕ) (found : Option RunError) (first now : Option (List ℕ)) : Type 0 where
+pub record Finishes (places : ℕ) (s : Player) (input : List ℕ) (found : Option RunError) (first now : Option (List ℕ)) : Type 0 where
   pub fault : fault_of input ≡ found
   pub owes : Owes s.box (answers_of places input) first now
 
 -- a read failed
-pub record BreaksOff (places : ℕ) (s : Session) (left left_new : Option (List ℕ)) (line : ℕ) (first now : Option (List ℕ)) : Type 0 where
+pub record BreaksOff (places : ℕ) (s : Player) (left left_new : Option (List ℕ)) (line : ℕ) (first now : Option (List ℕ)) : Type 0 where
   pub past : List ℕ
   pub read : Consumes left left_new past
   pub has_read : HasRead places s past first now
   pub at : line ≡ s.line
 
 -- there was no memory for the zone that this line of the input opens
-pub record FindsNoMemory (places : ℕ) (s : Session) (input : List ℕ) (line : ℕ) (first now : Option (List ℕ)) : Type 0 where
+pub record FindsNoMemory (places : ℕ) (s : Player) (input : List ℕ) (line : ℕ) (first now : Option (List ℕ)) : Type 0 where
   pub before : List Numbered
   pub opening : IsOpening places input before line
   pub owes : Owes s.box (answers_from places None before) first now
 
 -- what each fault says of a whole input
-abbrev pub StopsBy : Fault → ℕ → Session → List ℕ → RunError → (left left_new first now : Option (List ℕ)) → Type 0
+abbrev pub StopsBy : Fault → ℕ → Player → List ℕ → RunError → (left left_new first now : Option (List ℕ)) → Type 0
 StopsBy Syntax places s input e left left_new first now = Finishes places s input (Some e) first now
 StopsBy LongLine places s input e left left_new first now = Finishes places s input (Some e) first now
 StopsBy Read places s input e left left_new first now = BreaksOff places s left left_new e.line first now
@@ -90,5 +90,5 @@ StopsBy Write places s input e left left_new first now = StopsIn (answers_of pla
 StopsBy Memory places s input e left left_new first now = FindsNoMemory places s input e.line first now
 
 -- the reading of this input ended in this error
-abbrev pub HasStopped : ℕ → Session → List ℕ → RunError → (left left_new first now : Option (List ℕ)) → Type 0
+abbrev pub HasStopped : ℕ → Player → List ℕ → RunError → (left left_new first now : Option (List ℕ)) → Type 0
 HasStopped places s input e left left_new first now = StopsBy e.fault places s input e left left_new first now

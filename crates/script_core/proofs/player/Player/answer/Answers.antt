@@ -1,29 +1,29 @@
 use Rattle.std.proofs.Common.{None, ap, sym, subst, ◌∙◌}
-use Rattle.script_core.specs.Session.{Session, HasRead}
+use Rattle.script_core.specs.Player.{Player, HasRead}
 use Rattle.script_core.specs.Script.{answers_from}
 use Rattle.script_core.proofs.Reading.{read_answered, read_lacking, read_stopped}
-use Rattle.script_core.proofs.session.Session.answer.Goals as goal
+use Rattle.script_core.proofs.player.Player.answer.Goals as goal
 
 pub returns-in_default-clause-err : goal.returns-in_default-clause-err
 returns-in_default-clause-err g c = λ places text past first says none read.
     let now = g.W.Write.contents c.args.writer.now in
-    let R : Session → Type 0 = λ s. HasRead places s past first now in
-    let begins = ap (λ (s : Session). s.held) c.self.view_is ∙ c.requires.begins in
+    let R : Player → Type 0 = λ s. HasRead places s past first now in
+    let begins = ap (λ (s : Player). s.held) c.self.view_is ∙ c.requires.begins in
     read_lacking places _ past text first now (subst R (sym c.self.view_is) read) begins none c.args.command c.answer.new.self says c.in_default.ensures.memory
 
 pub returns-in-Err-clause-err : goal.returns-in-Err-clause-err
 returns-in-Err-clause-err g c = λ places text past first says none read rest.
     let now = g.W.Write.contents c.args.writer.now in
-    let R : Session → Type 0 = λ s. HasRead places s past first now in
+    let R : Player → Type 0 = λ s. HasRead places s past first now in
     let r = subst R (sym c.self.view_is) read in
-    let begins = ap (λ (s : Session). s.held) c.self.view_is ∙ c.requires.begins in
+    let begins = ap (λ (s : Player). s.held) c.self.view_is ∙ c.requires.begins in
     read_stopped places _ past text first now r begins none (g.W.Write.contents c.post.new.writer) c.in-Err.line rest
     (c.in-Err.ensures.err (answers_from places None r.before) first r.owes)
 
 pub returns-clause-ok : goal.returns-clause-ok
 returns-clause-ok g c = λ places text past first says none read.
     let now = g.W.Write.contents c.args.writer.now in
-    let R : Session → Type 0 = λ s. HasRead places s past first now in
-    let begins = ap (λ (s : Session). s.held) c.self.view_is ∙ c.requires.begins in
+    let R : Player → Type 0 = λ s. HasRead places s past first now in
+    let begins = ap (λ (s : Player). s.held) c.self.view_is ∙ c.requires.begins in
     read_answered places _ past text first now (subst R (sym c.self.view_is) read) begins none c.args.command c.in-Ok.reply c.answer.new.self c.post.new.self (g.W.Write.contents c.post.new.writer)
     says c.in-Ok.ensures.ok c.in_default-post.ensures.ok

@@ -5,7 +5,7 @@ use Rattle.std.proofs.lemmas.Result.{MatchResult-weaker, err_from_is_err_and}
 use Rattle.script_core.specs.declared.error.RunError.{RunError}
 use Rattle.script_core.proofs.Inputs.{cut_stops, end_finishes, piece_stops, reading_breaks, took_none}
 use Rattle.script_core.proofs.Variants.{both_err, if_known}
-use Rattle.script_core.proofs.session.Session.read_all.Goals as goal
+use Rattle.script_core.proofs.player.Player.read_all.Goals as goal
 
 pub loop-init : goal.loop-init
 loop-init g c = record {

@@ -1,7 +1,7 @@
 use Rattle.std.proofs.Common.{◌≡◌, ◌+◌, ◌*◌, ◌≤◌, [], List, ℕ, Option, length}
 use Rattle.std.specs.Io.KnownBytes.{Consumes}
-use Rattle.script_core.specs.Session.{HasRead}
-use Rattle.script_core.proofs.session.Session.read_all.Given as goal
+use Rattle.script_core.specs.Player.{HasRead}
+use Rattle.script_core.proofs.player.Player.read_all.Given as goal
 
 -- what the reader gave was read
 abbrev pub invariant-loop : goal.invariant-loop

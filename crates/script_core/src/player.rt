@@ -6,7 +6,7 @@ ghost use Rattle.std.specs.Io.KnownBytes.{Appends};
 ghost use Rattle.script_core.specs.Ends.{EndsIn, StopsIn};
 ghost use Rattle.script_core.specs.Outbox.{Owes};
 ghost use Rattle.script_core.specs.Script.{Answer, fault_of, output_of, texts, totals_of};
-ghost use Rattle.script_core.specs.Session.{Finishes, HasEnded, HasRead, HasStopped, begun};
+ghost use Rattle.script_core.specs.Player.{Finishes, HasEnded, HasRead, HasStopped, begun};
 
 use crate::command::Command;
 use crate::error::{Fault, RunError, ScriptError};
@@ -22,9 +22,9 @@ use std::mem;
 use std::sync::ledger::Ledger;
 use zone_core::Blanks;
 
-/// A script that is being read: what it works on, the line that has begun, and the replies that wait.
+/// Plays a script: the machine that answers it, the line that has begun, and the replies that wait.
 #[derive(Drop)]
-pub(crate) struct Session<I: Ledger, N: Ledger, M: Ledger, B: Ledger> {
+pub(crate) struct Player<I: Ledger, N: Ledger, M: Ledger, B: Ledger> {
     alloc: Global,
     places: u32,
     machine: Machine<I, N, M, B>,
@@ -34,14 +34,14 @@ pub(crate) struct Session<I: Ledger, N: Ledger, M: Ledger, B: Ledger> {
     outbox: Outbox,
 }
 
-impl<I: Ledger, N: Ledger, M: Ledger, B: Ledger> Model for Session<I, N, M, B> {
+impl<I: Ledger, N: Ledger, M: Ledger, B: Ledger> Model for Player<I, N, M, B> {
     ghost use Rattle.std.specs.Prelude.{◌<◌, ◌≤◌};
     ghost use Rattle.std.specs.Coded.{codes, coded_ℕ};
     ghost use Rattle.std.specs.FinMap as map;
     ghost use Rattle.std.specs.FinSet as set;
     ghost use Rattle.std.specs.Ordering.{nat_cmp};
     ghost use Rattle.zone_core.specs.contracts.state.Placement as placement;
-    ghost use Rattle.script_core.specs.Session.{Session as Seen};
+    ghost use Rattle.script_core.specs.Player.{Player as Seen};
 
     ghost Value = { Seen };
 
@@ -52,7 +52,7 @@ impl<I: Ledger, N: Ledger, M: Ledger, B: Ledger> Model for Session<I, N, M, B> {
     ghost invariant = { λ s. (0 < s.places) × (s.places ≤ 65536) × (s.replies < s.line) };
 }
 
-impl<I: Ledger, N: Ledger, M: Ledger, B: Ledger> Session<I, N, M, B> {
+impl<I: Ledger, N: Ledger, M: Ledger, B: Ledger> Player<I, N, M, B> {
     /// At the first byte of a script.
     pub(crate) fn new(alloc: Global, places: u32, blanks: Blanks) -> Self
         requires places { (0 < places) × (places ≤ 65536) }
@@ -62,7 +62,7 @@ impl<I: Ledger, N: Ledger, M: Ledger, B: Ledger> Session<I, N, M, B> {
         requires back { IsFor blanks.back.name blanks.back.parts B.name B.parts }
         ensures { result ≡ begun places }
     {
-        Session {
+        Player {
             alloc,
             places,
             machine: Machine::new(blanks),
