@@ -1,9 +1,9 @@
 -- What the records of a journal say of addresses and pages. The newest record stands first.
-use Rattle.std.specs.Prelude.{◌≡◌, ℕ, ◌+◌, ◌-◌, Bool, true, false, not, ◌&&◌, ◌||◌, List, [], ◌∷◌, nat_eq, if◌then◌else◌, Option, Some, None}
+use Rattle.std.specs.Prelude.{ℕ, ◌+◌, ◌-◌, Bool, false, not, ◌&&◌, ◌||◌, List, [], ◌∷◌, nat_eq, if◌then◌else◌, Option, Some, None}
 use Rattle.frame_core.specs.Below.{one_if, count_pairs}
 use Rattle.frame_core.specs.declared.place.Address.{Address}
 use Rattle.journal_core.specs.declared.record.Record.{Record}
-use Rattle.journal_core.specs.declared.record.Record.TheVariants.{Map, Share, Unmap, Store, Load, Pin, Unpin}
+use Rattle.journal_core.specs.declared.record.Record.TheVariants.{Map, Share, Unmap, Store, Pin, Unpin}
 
 -- whether two addresses are one
 abbrev pub same_address : Address → Address → Bool

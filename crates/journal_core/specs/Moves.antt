@@ -1,5 +1,5 @@
 -- What the records of a journal say of moves. The newest record stands first.
-use Rattle.std.specs.Prelude.{◌≡◌, ℕ, ◌+◌, ◌<◌, Bool, true, false, not, List, [], ◌∷◌, nat_eq, if◌then◌else◌, ⊤, IsTrue, Option, Some, None, IsSomeAnd}
+use Rattle.std.specs.Prelude.{◌≡◌, ℕ, ◌+◌, ◌<◌, Bool, false, not, List, [], ◌∷◌, nat_eq, if◌then◌else◌, ⊤, IsTrue, Option, Some, None, IsSomeAnd}
 use Rattle.std.specs.List.{filter, list_any}
 use Rattle.journal_core.specs.declared.record.Record.{Record}
 use Rattle.journal_core.specs.declared.record.Record.TheVariants.{Isolate, Moved, Back}
