@@ -21,3 +21,8 @@ pub record ChangesOnly (old new : List Entry) (address : Address) (entry : Entry
   pub changed : (a : Address) → a.space ≡ address.space → a.vpage ≡ address.vpage → entry_at new a ≡ entry
   pub other_spaces : (a : Address) → a.vpage < 4096 → a.space ≢ address.space → entry_at new a ≡ entry_at old a
   pub other_pages : (a : Address) → a.vpage < 4096 → a.vpage ≢ address.vpage → entry_at new a ≡ entry_at old a
+
+-- each entry that was the first is the second now, and no other changed
+pub record Replaces (old new : List Entry) (from to : Entry) : Type 0 where
+  pub there : (a : Address) → entry_at old a ≡ from → entry_at new a ≡ to
+  pub elsewhere : (a : Address) → entry_at old a ≢ from → entry_at new a ≡ entry_at old a

@@ -1,9 +1,9 @@
-ghost use Rattle.std.specs.Prelude.{◌≡◌, ◌<◌, length, IfOk};
+ghost use Rattle.std.specs.Prelude.{◌≡◌, ◌≢◌, ◌<◌, length, IfOk};
 ghost use Rattle.frame_core.specs.Address.{InRange};
-ghost use Rattle.table_core.specs.Tables.{place_of, entry_at, IsBlank, ChangesOnly};
+ghost use Rattle.table_core.specs.Tables.{place_of, entry_at, IsBlank, ChangesOnly, Replaces};
 
 use crate::entry::Entry;
-use frame_core::{Address, FrameNo};
+use frame_core::{Address, FrameNo, Serial};
 use std::alloc::{AllocError, Global};
 use std::marker::Model;
 
@@ -52,6 +52,28 @@ impl Tables {
     {
         self.entries[index_of(&address)] = Entry::Present(frame);
     }
+
+    /// Sends the page in a frame on its way: each address that names the frame names the migration then.
+    pub fn to_migration(&mut self, frame: FrameNo, serial: Serial)
+        ensures { Replaces self.old self.new (Entry.Present frame) (Entry.Migration serial) }
+    {
+        replace(
+            &mut self.entries,
+            &Entry::Present(frame),
+            &Entry::Migration(serial),
+        );
+    }
+
+    /// Removes a migration: each address that names it names a frame then.
+    pub fn to_present(&mut self, serial: Serial, frame: FrameNo)
+        ensures { Replaces self.old self.new (Entry.Migration serial) (Entry.Present frame) }
+    {
+        replace(
+            &mut self.entries,
+            &Entry::Migration(serial),
+            &Entry::Present(frame),
+        );
+    }
 }
 
 fn blank_entries(alloc: Global, count: usize) -> Result<Vec<Entry>, AllocError>
@@ -59,6 +81,19 @@ fn blank_entries(alloc: Global, count: usize) -> Result<Vec<Entry>, AllocError>
     ensures count { IfOk result (λ entries. length entries.items ≡ count) }
 {
     vec![in alloc; Entry::Absent; count]
+}
+
+/// Puts an entry in the place of each one that is equal to another.
+fn replace(entries: &mut [Entry], from: &Entry, to: &Entry)
+    requires named { from.now ≢ Entry.Absent }
+    ensures replaces { Replaces entries.old entries.new from.now to.now }
+    ensures count { length entries.new ≡ length entries.old }
+{
+    for i in 0..entries.len() {
+        if entries[i] == *from {
+            entries[i] = *to;
+        }
+    }
 }
 
 fn index_of(address: &Address) -> usize
