@@ -49,8 +49,8 @@ fn clears_one_address(rt: HostRuntime) -> Result<(), Fail> {
 }
 
 fn address<R: Abort>(rt: &R, space: u32, vpage: u32) -> Address
-    ensures place { result.space ≡ space }
-    ensures page { result.vpage ≡ vpage }
+    ensures space { result.space ≡ space }
+    ensures vpage { result.vpage ≡ vpage }
 {
     let space = SpaceNo::new(space).expect(rt, "a space");
     let vpage = VPage::new(vpage).expect(rt, "a virtual page");
