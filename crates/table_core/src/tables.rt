@@ -1,4 +1,4 @@
-ghost use Rattle.std.specs.Prelude.{◌≡◌, ◌≢◌, ◌<◌, length, IfOk};
+ghost use Rattle.std.specs.Prelude.{◌≡◌, ◌≢◌, ℕ, ◌<◌, length, IfOk};
 ghost use Rattle.frame_core.specs.Address.{InRange};
 ghost use Rattle.table_core.specs.Tables.{place_of, entry_at, IsBlank, ChangesOnly, Replaces};
 
@@ -53,26 +53,31 @@ impl Tables {
         self.entries[index_of(&address)] = Entry::Present(frame);
     }
 
-    /// Sends the page in a frame on its way: each address that names the frame names the migration then.
+    /// Lets an address that names a frame name nothing.
+    pub fn clear(&mut self, address: Address)
+        requires { (frame : ℕ) × (entry_at self.old address ≡ Entry.Present frame) }
+        ensures cleared { ChangesOnly self.old self.new address Entry.Absent }
+        ensures range { InRange address }
+    {
+        self.entries[index_of(&address)] = Entry::Absent;
+    }
+
+    /// Sends the page in a frame on its way: each address that named the frame names the migration now.
     pub fn to_migration(&mut self, frame: FrameNo, serial: Serial)
         ensures { Replaces self.old self.new (Entry.Present frame) (Entry.Migration serial) }
     {
-        replace(
-            &mut self.entries,
-            &Entry::Present(frame),
-            &Entry::Migration(serial),
-        );
+        let present = Entry::Present(frame);
+        let migration = Entry::Migration(serial);
+        replace(&mut self.entries, &present, &migration);
     }
 
-    /// Removes a migration: each address that names it names a frame then.
+    /// Ends a migration: each address that named it names the frame now.
     pub fn to_present(&mut self, serial: Serial, frame: FrameNo)
         ensures { Replaces self.old self.new (Entry.Migration serial) (Entry.Present frame) }
     {
-        replace(
-            &mut self.entries,
-            &Entry::Migration(serial),
-            &Entry::Present(frame),
-        );
+        let migration = Entry::Migration(serial);
+        let present = Entry::Present(frame);
+        replace(&mut self.entries, &migration, &present);
     }
 }
 
