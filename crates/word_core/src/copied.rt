@@ -32,6 +32,12 @@ impl Copied {
         self.page.number()
     }
 
+    pub fn page(&self) -> &Page
+        ensures { result.now ≡ self.now.page }
+    {
+        &self.page
+    }
+
     pub fn into_page(self) -> Page
         ensures { result ≡ self.page }
     {

@@ -40,6 +40,12 @@ impl Isolated {
         self.page.number()
     }
 
+    pub fn page(&self) -> &Page
+        ensures { result.now ≡ self.now.page }
+    {
+        &self.page
+    }
+
     /// Copies the flags and each word into a new page, under the same serial.
     pub fn copy_into_new(self) -> Copied
         ensures { result ≡ self }

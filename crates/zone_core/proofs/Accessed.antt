@@ -29,12 +29,13 @@ use Rattle.zone_core.specs.declared.state.Placement.{Placement}
 use Rattle.zone_core.specs.declared.state.Placement.TheVariants.{At, Moving}
 use Rattle.zone_core.specs.Lawful.{IsLawful}
 use Rattle.zone_core.specs.Refusals.{placement_refusal}
-use Rattle.zone_core.specs.Fits.{entry_for, words_frame, FramesFit, EntriesFit, WordsFit, NoteFits, NotesFit, CountsFit, BlocksFit, StartsFit}
+use Rattle.zone_core.specs.Fits.{entry_for, words_frame, FramesFit, EntriesFit, WordsFit, NoteFits, NotesFit, SerialsFit, CountsFit, BlocksFit, StartsFit}
 use Rattle.zone_core.specs.Sound.{IsSound, state_of}
 use Rattle.zone_core.specs.Found.{placement_of, is_unmovable_of, says_unmovable}
 use Rattle.zone_core.specs.Steps.{value_at, loaded, stored}
 use Rattle.zone_core.specs.ZoneState.{ZoneState, frame_count, placement_at, noted}
 use Rattle.zone_core.specs.Tabulated.{tabulated, gathered}
+use Rattle.zone_core.proofs.Quiet.{quiet_kept, begun_more}
 use Rattle.zone_core.proofs.Tables.{tabulated_same, gathered_same}
 use Rattle.zone_core.proofs.Facts.{taken, skipped, page_named, frame_within, frames_differ, noted_view, not_none, held_by}
 
@@ -56,7 +57,7 @@ migration_refused (Some (Moving s source target)) serial e = refl
 
 -- a record of a load or a store leaves the state lawful
 module _ (v : ZoneState) (law : IsLawful v) (spare : length (out v.records) < v.room) (client : ℕ) (address : Address) where
-  lawful_loaded : (frame word : ℕ) → placement_at v address ≡ Some (At frame) → IsLawful (loaded v client address word)
+  pub lawful_loaded : (frame word : ℕ) → placement_at v address ≡ Some (At frame) → IsLawful (loaded v client address word)
   lawful_loaded frame word at =
       let page = page_named v address (At frame) at in
       let T : Option ℕ → Type 0 = λ o. IsSomeAnd o (λ p. last v.records (unwrap_or o 0) word ≡ last v.records p word) in
@@ -68,15 +69,18 @@ module _ (v : ZoneState) (law : IsLawful v) (spare : length (out v.records) < v.
         in_use = law.in_use;
         numbered = law.numbered;
         under_way = law.under_way;
+        upward = law.upward;
         apart = law.apart;
         within = law.within;
         clear = law.clear;
         blocks = law.blocks;
         disjoint = law.disjoint;
+        fingers = law.fingers;
+        begun = λ start e. begun_more v.records (Load client address word (value_at v address word)) v.round law.begun start e;
         sum = law.sum;
       }
 
-  lawful_stored : (word value : ℕ) → IsLawful (stored v client address word value)
+  pub lawful_stored : (word value : ℕ) → IsLawful (stored v client address word value)
   lawful_stored word value = record {
     truthful = law.truthful;
     well_ended = law.well_ended;
@@ -85,11 +89,14 @@ module _ (v : ZoneState) (law : IsLawful v) (spare : length (out v.records) < v.
     in_use = law.in_use;
     numbered = law.numbered;
     under_way = law.under_way;
+    upward = law.upward;
     apart = law.apart;
     within = law.within;
     clear = law.clear;
     blocks = law.blocks;
     disjoint = law.disjoint;
+    fingers = law.fingers;
+    begun = λ start e. begun_more v.records (Store client address word value) v.round law.begun start e;
     sum = law.sum;
   }
 
@@ -99,14 +106,15 @@ loaded_sound z v sound log client address frame word at spare = record {
   some = sound.some;
   few = sound.few;
   places = (let before = sound.places in omega arith);
-  fingers = sound.fingers;
   orders = sound.orders;
   frames = record { count = sound.frames.count; of_page = sound.frames.of_page; of_block = sound.frames.of_block; of_none = sound.frames.of_none };
   entries = record { each = sound.entries.each };
   words = record { count = sound.words.count; eight = sound.words.eight; each = sound.words.each };
   notes = record { count = sound.notes.count; each = λ page note e used. (let fit = sound.notes.each page note e used in record { dirty = fit.dirty; pins = fit.pins; maps = fit.maps }) };
   counts = (let fit = sound.counts in record { free = fit.free; pages = fit.pages; huge = fit.huge; held = fit.held; isolated = fit.isolated; moved = fit.moved; back = fit.back; out = fit.out });
+  serials = (let fit = sound.serials in record { count = fit.count; each = fit.each; room = (let kept = fit.room in omega arith) });
   blocks = record { each = sound.blocks.each };
+  quiet = sound.quiet ∙ sym (quiet_kept v.records (Load client address word (value_at v address word)) v.round refl sound.lawful.begun);
   starts = record { frames = sound.starts.frames; pages = sound.starts.pages };
 }
 
@@ -289,13 +297,14 @@ store_sound z v client address page frame word value note log known =
       some = sound.some;
       few = sound.few;
       places = (let before = sound.places in omega arith);
-      fingers = sound.fingers;
       orders = sound.orders;
       frames = record { count = sound.frames.count; of_page = sound.frames.of_page; of_block = sound.frames.of_block; of_none = sound.frames.of_none };
       entries = record { each = sound.entries.each };
       words = stored_words z.words v sound.lawful sound.words client address page frame word value known.named known.at known.small;
       notes = stored_notes z.words v sound.lawful sound.words client address page frame word value known.named known.at known.small z.notes.items note sound.notes known.note_is;
       counts = (let fit = sound.counts in record { free = fit.free; pages = fit.pages; huge = fit.huge; held = fit.held; isolated = fit.isolated; moved = fit.moved; back = fit.back; out = fit.out });
+      serials = (let fit = sound.serials in record { count = fit.count; each = fit.each; room = (let kept = fit.room in omega arith) });
       blocks = record { each = sound.blocks.each };
+      quiet = sound.quiet ∙ sym (quiet_kept v.records (Store client address word value) v.round refl sound.lawful.begun);
       starts = record { frames = sound.starts.frames; pages = sound.starts.pages };
     }

@@ -5,3 +5,15 @@ pub mod Accessed
 pub mod Finding
 pub mod Placed
 pub mod Placing
+pub mod Quiet
+pub mod Settled
+pub mod Settling
+pub mod Departed
+pub mod Settles
+pub mod Seen
+pub mod Orderly
+pub mod Calls
+pub mod Pairing
+pub mod Highest
+pub mod Rounds
+pub mod Seated

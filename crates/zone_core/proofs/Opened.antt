@@ -1,6 +1,6 @@
 -- A zone that was just opened.
 use Rattle.std.proofs.Common.{◌≡◌, ◌≢◌, ℕ, ◌+◌, ◌*◌, ◌<◌, ◌≤◌, Bool, true, false, not, List, [], ◌∷◌, length, replicate, ◌⊎◌, inl, inr, refl, sym, ap, subst, ◌∙◌, arith, rules}
-use Rattle.std.specs.Prelude.{Option, Some, None, IsSome, IsTrue, is_some, slice_get, unwrap_or, ◌&&◌, ◌↔◌}
+use Rattle.std.specs.Prelude.{Option, Some, None, IsSome, IsTrue, is_some, slice_get, unwrap_or, vec_capacity, ◌&&◌, ◌↔◌}
 use Rattle.std.specs.Option.{option_and_then}
 use Rattle.std.specs.FinSet as set
 use Rattle.std.specs.FinMap as map
@@ -23,6 +23,7 @@ use Rattle.zone_core.specs.declared.note.Note.{Note}
 use Rattle.zone_core.specs.declared.counts.Counts.{Counts}
 use Rattle.zone_core.specs.declared.plain.PlainZone.TheInside.{Inside}
 use Rattle.zone_core.specs.declared.state.Placement.{Placement}
+use Rattle.zone_core.specs.declared.state.Placement.TheVariants.{Moving}
 use Rattle.zone_core.specs.Steps.{opened}
 use Rattle.zone_core.specs.Lawful.{IsLawful, is_under}
 use Rattle.zone_core.specs.Refusals.{IsOpenable}
@@ -91,11 +92,14 @@ module _ (number blocks places : ℕ) where
     in_use = λ page used. absurd (none_some_clash _ (no_page page) used);
     numbered = λ page used. absurd (none_some_clash _ (no_page page) used);
     under_way = λ page serial. (λ h. absurd (under_clash page serial h), λ h. (let bad : false ≡ true = h.0 in cc));
+    upward = λ page serial source target e. (let bad : None ≡ Some (Moving serial source target) = sym (no_page page) ∙ e in cc);
     apart = λ p q frame h k. absurd (taken_clash p frame h);
     within = λ page frame h. absurd (taken_clash page frame h);
     clear = λ page frame h. absurd (taken_clash page frame h);
     blocks = λ first order e. (let bad : None ≡ Some order = sym (no_block first) ∙ e in cc);
     disjoint = λ a b frame h k. absurd (covered_clash a frame h);
+    fingers = (omega arith, omega arith);
+    begun = λ start e. cc;
     sum = omega (arith, free_count, page_count, held_count);
   }
 
@@ -135,6 +139,9 @@ pub record IsFresh (z : Inside) (number blocks places : ℕ) : Type 0 where
   pub starts : (z.free_from ≡ 0) × (z.unused_from ≡ 0)
   pub fingers : (z.migrate ≡ 0) × (z.free ≡ 0)
   pub round : z.round ≡ None
+  pub quiet : z.quiet ≡ false
+  pub pages : z.pages.items ≡ []
+  pub room_for_pages : places ≤ vec_capacity z.pages
   pub records : z.journal.records ≡ []
   pub room : z.journal.room ≡ places
 
@@ -181,7 +188,6 @@ opened_sound z number blocks places fresh = record {
   some = fresh.openable.0;
   few = fresh.openable.1;
   places = omega (arith, fresh.openable.3);
-  fingers = (omega arith, omega arith);
   orders = ap length fresh.handed_out ∙ length-replicate (512 * blocks) None;
   frames = record {
     count = ap length fresh.frames ∙ length-replicate (512 * blocks) Free;
@@ -209,10 +215,16 @@ opened_sound z number blocks places fresh = record {
     back = ap (λ (c : Counts). c.back) fresh.counts;
     out = ap (λ (c : Counts). length (out []) + c.moved + c.back) fresh.counts ∙ sym (ap (λ (c : Counts). c.isolated) fresh.counts);
   };
+  serials = record {
+    count = ap length fresh.pages;
+    each = λ serial. ap (λ (ps : List ℕ). slice_get ps serial) fresh.pages;
+    room = (let enough = fresh.room_for_pages in omega arith);
+  };
   blocks = record {
     each = λ block h. ap (λ (ns : List ℕ). slice_get ns block) fresh.free_in_block ∙ slice_get_replicate 8 block 512 (omega (arith, fresh.openable.1, h))
         ∙ ap Some (sym (count_from_all (is_free (opened number blocks places)) (512 * block) 512 (λ frame low high. all_free number blocks places frame)));
   };
+  quiet = fresh.quiet;
   starts = record {
     frames = λ frame h. absurd (omega (arith, h, fresh.starts.0));
     pages = λ page h. absurd (omega (arith, h, fresh.starts.1));

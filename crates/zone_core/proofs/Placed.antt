@@ -19,6 +19,7 @@ use Rattle.zone_core.specs.declared.state.Placement.TheVariants.{At, Moving}
 use Rattle.zone_core.specs.Lawful.{IsLawful, is_under}
 use Rattle.zone_core.specs.Steps.{placed}
 use Rattle.zone_core.specs.ZoneState.{ZoneState, frame_count, takes_up, covers, is_used, is_held, is_free, placement_at, free_in_block}
+use Rattle.zone_core.proofs.Quiet.{begun_more}
 use Rattle.zone_core.proofs.Tables.{get_insert_same, get_insert_other}
 use Rattle.zone_core.proofs.Facts.{not_none, none_is, taken, skipped}
 
@@ -212,10 +213,16 @@ module _ (v : ZoneState) (client : ℕ) (address : Address) (unmovable : Bool) (
               (let same : is_under (map.get next.placement q) serial ≡ is_under (map.get v.placement q) serial = ap (λ (o : Option Placement). is_under o serial) (at_other q other.1) in
               (λ under. (law.under_way q serial).0 (sym same ∙ under), λ way. same ∙ (law.under_way q serial).1 way))
         ];
+        upward = λ q serial source target e. elim (eqb_tells q page) [
+          | inl same ↦ (let bad : Some (At frame) ≡ Some (Moving serial source target) = sym at_page ∙ ap (map.get next.placement) (sym same.1) ∙ e in cc)
+          | inr other ↦ law.upward q serial source target (sym (at_other q other.1) ∙ e)
+        ];
         apart = λ p q g a b. by_both p q g (took p g a) (took q g b);
         within = λ q g a. elim (took q g a) [ inl here ↦ omega (arith, here.1, can.within) | inr there ↦ law.within q g there.1 ];
         clear = λ q g a. elim (took q g a) [ inl here ↦ ap (is_held v) here.1 ∙ unheld_frame | inr there ↦ law.clear q g there.1 ];
         blocks = law.blocks;
         disjoint = law.disjoint;
+        fingers = law.fingers;
+        begun = λ start e. begun_more v.records (Map client address page) v.round law.begun start e;
         sum = omega (arith, law.sum, fewer_free, more_pages);
       }

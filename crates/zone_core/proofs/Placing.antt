@@ -41,6 +41,7 @@ use Rattle.zone_core.proofs.Accessed.{words_set_same, words_set_other}
 use Rattle.zone_core.proofs.Facts.{chosen, taken, skipped, takes_own}
 use Rattle.zone_core.proofs.Finding.{placement_past, get_placements}
 use Rattle.zone_core.proofs.Placed.{CanPlace, untrue, clash, placed_lawful, at_page, at_other, untaken, unheld_frame, free_at_frame, free_away, fewer_free, more_pages, named_here, named_there, maps_one, maps_others, pins_none, pins_others}
+use Rattle.zone_core.proofs.Quiet.{quiet_ended}
 use Rattle.zone_core.proofs.Tables.{tabulated_insert, gathered_insert, gathered_same}
 
 -- the note of the fresh page
@@ -56,7 +57,7 @@ either true b x y z e = refl
 either false b x y z e = tested b y z e
 
 -- a frame that a page puts in a state is one that it takes up
-state_taken : (page : ℕ) (o : Option Placement) (frame : ℕ) (state : FrameState) → state_by page o frame ≡ Some state → takes_up o frame ≡ true
+pub state_taken : (page : ℕ) (o : Option Placement) (frame : ℕ) (state : FrameState) → state_by page o frame ≡ Some state → takes_up o frame ≡ true
 state_taken page None frame state e = cc
 state_taken page (Some (At f)) frame state e = tested (nat_eq frame f) (Holds page) state e
 state_taken page (Some (Moving serial source target)) frame state e = either (nat_eq frame source) (nat_eq frame target) (Source serial) (Target serial) state e
@@ -203,6 +204,7 @@ after_place z unmovable page frame block left tables log = record z {
   counts = record z.counts { free = z.counts.free - 1; pages = z.counts.pages + 1 };
   free_in_block = slice_set z.free_in_block block left;
   unused_from = page + 1;
+  quiet = false;
   journal = log;
 }
 
@@ -224,7 +226,6 @@ module _ (z : Inside) (v : ZoneState) (client : ℕ) (address : Address) (unmova
         some = sound.some;
         few = sound.few;
         places = (let room = can.spare in omega (arith, sound.places));
-        fingers = sound.fingers;
         orders = sound.orders;
         frames = frames_placed v client address unmovable page frame can z.frames.items sound.frames;
         entries = entries_placed v client address unmovable page frame can z.tables tables sound.entries known.tables_new;
@@ -240,7 +241,9 @@ module _ (z : Inside) (v : ZoneState) (client : ℕ) (address : Address) (unmova
           back = counts.back;
           out = counts.out;
         };
+        serials = (let fit = sound.serials in let room = can.spare in record { count = fit.count; each = fit.each; room = (let kept = fit.room in omega arith) });
         blocks = blocks_placed v client address unmovable page frame can z.free_in_block block left sound.blocks known.block_is known.left_is;
+        quiet = sym (quiet_ended v.records (Map client address page) v.round refl sound.lawful.begun);
         starts = record {
           frames = λ g h. elim (eqb_tells g frame) [
             | inl same ↦ ap (is_free (placed v client address unmovable page frame)) same.1 ∙ free_at_frame v client address unmovable page frame can

@@ -84,7 +84,7 @@ gathered_past : (p : ℕ → Bool) (n q : ℕ) → n ≤ q → set.contains (gat
 gathered_past p zero q h = set.contains-empty nat_cmp q
 gathered_past p (suc n) q h = let ne : q ≢ n = omega arith in put_other_set (gathered p n) n q (p n) ne ∙ gathered_past p n q (omega arith)
 
-gathered_in : (p : ℕ → Bool) (n q : ℕ) → q < n → set.contains (gathered p n) q ≡ p q
+pub gathered_in : (p : ℕ → Bool) (n q : ℕ) → q < n → set.contains (gathered p n) q ≡ p q
 gathered_in p zero q h = absurd (omega arith)
 gathered_in p (suc n) q h =
     elim (eqb_tells q n) [

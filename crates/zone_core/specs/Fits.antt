@@ -8,7 +8,7 @@ use Rattle.frame_core.specs.declared.place.Address.{Address}
 use Rattle.frame_core.specs.declared.state.FrameState.{FrameState}
 use Rattle.frame_core.specs.declared.state.FrameState.TheVariants.{Free, Holds, Source, Target, Huge}
 use Rattle.journal_core.specs.History.{last, dirty, pins, maps}
-use Rattle.journal_core.specs.Moves.{out, isolated, moved, put_back}
+use Rattle.journal_core.specs.Moves.{out, page_of, isolated, moved, put_back}
 use Rattle.table_core.specs.declared.entry.Entry.{Entry}
 use Rattle.table_core.specs.declared.entry.Entry.TheVariants.{Absent, Present, Migration}
 use Rattle.table_core.specs.Tables.{entry_at}
@@ -83,3 +83,9 @@ pub record BlocksFit (free : List ℕ) (v : ZoneState) : Type 0 where
 pub record StartsFit (free_from unused_from : ℕ) (v : ZoneState) : Type 0 where
   pub frames : (frame : ℕ) → frame < free_from → is_free v frame ≡ false
   pub pages : (page : ℕ) → page < unused_from → is_some (map.get v.placement page) ≡ true
+
+-- the page of each serial, in a list that has room for as many serials as there are places in the journal
+pub record SerialsFit (pages : List ℕ) (capacity : ℕ) (v : ZoneState) : Type 0 where
+  pub count : length pages ≡ isolated v.records
+  pub each : (serial : ℕ) → slice_get pages serial ≡ page_of v.records serial
+  pub room : length v.records + v.room ≤ capacity

@@ -8,6 +8,7 @@ use Rattle.journal_core.specs.Moves.{out, is_out, page_of, IsWellEnded}
 use Rattle.journal_core.specs.Truth.{IsTruthful}
 use Rattle.zone_core.specs.declared.state.Placement.{Placement}
 use Rattle.zone_core.specs.declared.state.Placement.TheVariants.{At, Moving}
+use Rattle.zone_core.specs.declared.state.RoundStart.{RoundStart}
 use Rattle.zone_core.specs.ZoneState.{ZoneState, frame_count, takes_up, covers, is_free, is_held}
 
 -- whether a page that is placed so is on its way under a serial
@@ -35,6 +36,8 @@ pub record IsLawful (z : ZoneState) : Type 0 where
   pub numbered : (page : ℕ) → IsSome (map.get z.placement page) → page < frame_count z
   -- a page is on its way under just the serial that it is out with
   pub under_way : (page serial : ℕ) → IsTrue (is_under (map.get z.placement page) serial) ↔ (IsTrue (is_out z.records serial) × (page_of z.records serial ≡ Some page))
+  -- and goes up
+  pub upward : (page serial source target : ℕ) → map.get z.placement page ≡ Some (Moving serial source target) → source < target
   -- a frame is of one page at most, in the zone, and of no block that is handed out
   pub apart : (p q frame : ℕ) → takes_up (map.get z.placement p) frame ≡ true → takes_up (map.get z.placement q) frame ≡ true → p ≡ q
   pub within : (page frame : ℕ) → takes_up (map.get z.placement page) frame ≡ true → frame < frame_count z
@@ -42,5 +45,8 @@ pub record IsLawful (z : ZoneState) : Type 0 where
   -- the blocks that are handed out are blocks of the zone, and no two overlap
   pub blocks : (first order : ℕ) → map.get z.handed_out first ≡ Some order → IsBlock (frame_count z) first order
   pub disjoint : (a b frame : ℕ) → covers (map.get z.handed_out a) a frame ≡ true → covers (map.get z.handed_out b) b frame ≡ true → a ≡ b
+  -- the fingers stand in the zone, in order, and the latest round began with records that are still there
+  pub fingers : (z.migrate ≤ z.free) × (z.free ≤ frame_count z)
+  pub begun : (start : RoundStart) → z.round ≡ Some start → start.records ≤ length z.records
   -- each frame is free, of a page, or of a block that is handed out; a page on its way has two
   pub sum : count_below (is_free z) (frame_count z) + count_below (λ page. is_some (map.get z.placement page)) (frame_count z) + length (out z.records) + count_below (is_held z) (frame_count z) ≡ frame_count z

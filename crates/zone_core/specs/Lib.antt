@@ -1,9 +1,12 @@
 pub mod ErrorNumber
 pub mod ZoneState
 pub mod Refusals
+pub mod Pairs
 pub mod Steps
 pub mod Lawful
 pub mod Seats
+pub mod Moving
+pub mod World
 pub mod Tabulated
 pub mod Fits
 pub mod Found

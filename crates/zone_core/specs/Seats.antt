@@ -1,13 +1,13 @@
 -- What contracts see of the seats of a zone.
 use Rattle.std.specs.Prelude.{ℕ, Option, None}
-use Rattle.zone_core.specs.declared.seats.Scanned.{Scanned}
+use Rattle.zone_core.specs.declared.seats.Answered.{Answered}
 
 -- the pages that were isolated with it, the rounds that were begun with it, and the last answer of `isolate_next` since the
 -- latest of them
 pub record ScanSeat : Type 0 where
   pub count : ℕ
   pub rounds : ℕ
-  pub last : Option Scanned
+  pub last : Option Answered
 
 -- how many of the 64 parts it has, and the pages that were moved and put back with it
 pub record EndSeat : Type 0 where

@@ -1,10 +1,10 @@
 -- What contracts see of the fields of a zone, and what is true of them.
-use Rattle.std.specs.Prelude.{◌≡◌, ℕ, ◌+◌, ◌*◌, ◌<◌, ◌≤◌, Bool, false, List, length, Option, Some, None, slice_get, unwrap_or}
+use Rattle.std.specs.Prelude.{◌≡◌, ℕ, ◌+◌, ◌*◌, ◌<◌, ◌≤◌, Bool, false, List, length, Option, Some, None, slice_get, unwrap_or, vec_capacity}
 use Rattle.std.specs.Option.{option_and_then}
 use Rattle.zone_core.specs.declared.plain.PlainZone.TheInside.{Inside}
-use Rattle.zone_core.specs.ZoneState.{ZoneState, frame_count}
+use Rattle.zone_core.specs.ZoneState.{ZoneState, frame_count, is_quiet}
 use Rattle.zone_core.specs.Lawful.{IsLawful}
-use Rattle.zone_core.specs.Fits.{FramesFit, EntriesFit, WordsFit, NotesFit, CountsFit, BlocksFit, StartsFit}
+use Rattle.zone_core.specs.Fits.{FramesFit, EntriesFit, WordsFit, NotesFit, SerialsFit, CountsFit, BlocksFit, StartsFit}
 use Rattle.zone_core.specs.Found.{placement_of, is_unmovable_of}
 use Rattle.zone_core.specs.Tabulated.{tabulated, gathered}
 
@@ -36,12 +36,13 @@ pub record IsSound (z : Inside) (v : ZoneState) : Type 0 where
   pub some : 0 < v.blocks
   pub few : v.blocks ≤ 8
   pub places : length v.records + v.room ≤ 65536
-  pub fingers : (v.migrate ≤ v.free) × (v.free ≤ frame_count v)
   pub orders : length z.handed_out.items ≡ frame_count v
   pub frames : FramesFit z.frames.items v
   pub entries : EntriesFit z.tables v
   pub words : WordsFit z.words v
   pub notes : NotesFit z.notes.items v
+  pub serials : SerialsFit z.pages.items (vec_capacity z.pages) v
   pub counts : CountsFit z.counts v
   pub blocks : BlocksFit z.free_in_block v
+  pub quiet : z.quiet ≡ is_quiet v
   pub starts : StartsFit z.free_from z.unused_from v

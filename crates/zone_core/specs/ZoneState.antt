@@ -1,5 +1,6 @@
 -- The state of a zone, as contracts see it.
-use Rattle.std.specs.Prelude.{ℕ, ◌+◌, ◌-◌, ◌*◌, ◌^◌, Bool, false, not, ◌&&◌, ◌||◌, List, ◌∷◌, length, nat_eq, nat_lt, nat_le, Option, Some, None, is_none}
+use Rattle.std.specs.Prelude.{ℕ, ◌+◌, ◌-◌, ◌*◌, ◌/◌, ◌^◌, Bool, true, false, not, ◌&&◌, ◌||◌, List, ◌∷◌, length, take, nat_eq, nat_lt, nat_le, Option, Some, None, is_none}
+use Rattle.std.specs.List.{list_all}
 use Rattle.std.specs.Option.{option_and_then}
 use Rattle.std.specs.Ordering.{nat_cmp}
 use Rattle.std.specs.FinMap as map
@@ -7,6 +8,7 @@ use Rattle.std.specs.FinSet as set
 use Rattle.frame_core.specs.Below.{lowest, some_below, count_from}
 use Rattle.frame_core.specs.declared.place.Address.{Address}
 use Rattle.journal_core.specs.declared.record.Record.{Record}
+use Rattle.journal_core.specs.declared.record.Record.TheVariants.{Load, Store, Isolate, Moved}
 use Rattle.journal_core.specs.History.{page_at}
 use Rattle.journal_core.specs.Moves.{out}
 use Rattle.zone_core.specs.declared.state.Placement.{Placement}
@@ -86,3 +88,23 @@ placement_at z address = option_and_then (map.get z.placement) (page_at z.record
 -- one more record
 abbrev pub noted : ZoneState → Record → ZoneState
 noted z entry = record z { records = entry ∷ z.records; room = z.room - 1 }
+
+-- whether a call leaves a round quiet
+abbrev pub keeps_quiet : Record → Bool
+keeps_quiet (Load client address word value) = true
+keeps_quiet (Store client address word value) = true
+keeps_quiet (Isolate serial page) = true
+keeps_quiet (Moved serial) = true
+keeps_quiet _ = false
+
+-- the records behind the first n
+abbrev pub since : ℕ → List Record → List Record
+since n records = take (length records - n) records
+
+abbrev pub is_quiet_since : List Record → Option RoundStart → Bool
+is_quiet_since records None = false
+is_quiet_since records (Some start) = start.calm && list_all keeps_quiet (since start.records records)
+
+-- the latest round began calm, and only such calls were made since then
+abbrev pub is_quiet : ZoneState → Bool
+is_quiet z = is_quiet_since z.records z.round

@@ -1,6 +1,7 @@
 //! Reading and writing the words of pages.
 
-ghost use Rattle.std.specs.Prelude.{◌≡◌, Some, IsTrue, IfOk};
+ghost use Rattle.std.specs.Prelude.{◌≡◌, ◌+◌, length, nat_lt, Some, IsTrue, IfOk};
+ghost use Rattle.journal_core.specs.Moves.{out};
 ghost use Rattle.zone_core.specs.Refusals.{placement_refusal, result_err};
 ghost use Rattle.zone_core.specs.Steps.{value_at, loaded, stored};
 ghost use Rattle.zone_core.specs.ZoneState.{has_room, placement_at};
@@ -19,6 +20,14 @@ impl PlainZone {
     {
         let out = self.counts.isolated - self.counts.moved - self.counts.back;
         out < self.journal.room()
+    }
+
+    /// Whether it has room for an isolation, and for its end.
+    pub(crate) fn has_room_for_two(&self) -> bool
+        ensures { result ≡ nat_lt (length (out self.now.records) + 1) self.now.room }
+    {
+        let out = self.counts.isolated - self.counts.moved - self.counts.back;
+        out + 1 < self.journal.room()
     }
 
     /// The frame of the page that an address names, where the page isn't on its way.

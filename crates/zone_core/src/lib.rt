@@ -7,11 +7,17 @@
 
 mod access;
 mod counts;
+mod ending;
 mod error;
+mod hand;
 mod information;
+mod isolating;
+mod law;
 mod mapping;
+mod moves;
 mod note;
 mod opening;
+mod pair;
 mod plain;
 mod searches;
 mod seats;
@@ -21,6 +27,9 @@ mod tests;
 mod zone;
 
 pub use error::ZoneError;
-pub use seats::{Blanks, EndSeat, ScanSeat, Scanned, Seats};
+pub use hand::{Finished, Hand, Scanned};
+pub use law::keeps_order;
+pub use moves::{Audit, Ended, Look, Next, Stranger};
+pub use seats::{Blanks, EndSeat, ScanSeat, Answered, Seats};
 pub use state::{Info, Placement, RoundStart};
 pub use zone::Zone;

@@ -91,6 +91,7 @@ impl PlainZone {
         self.tables.set(named, frame);
         self.words.blank(frame);
         self.notes[page.get() as usize] = Note::fresh(frame, unmovable);
+        self.quiet = false;
         self.journal.push(Record::Map {
             client,
             address,

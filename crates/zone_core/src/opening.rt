@@ -40,6 +40,10 @@ impl PlainZone {
         let frames = filled(alloc, FrameState::Free, count)?;
         let notes = filled(alloc, Note::unused(), count)?;
         let handed_out = filled(alloc, None, count)?;
+        let mut pages = Vec::new(alloc);
+        let Ok(()) = pages.reserve(places as usize) else {
+            return Err(ZoneError::Memory);
+        };
         let Ok(tables) = Tables::open(alloc) else {
             return Err(ZoneError::Memory);
         };
@@ -56,6 +60,7 @@ impl PlainZone {
             tables,
             words,
             notes,
+            pages,
             handed_out,
             marked: [false; 8],
             counts: Counts::of_free(512 * blocks),
@@ -65,6 +70,7 @@ impl PlainZone {
             migrate: 0,
             free: 0,
             round: None,
+            quiet: false,
             journal,
         })
     }

@@ -3,7 +3,7 @@ ghost use Rattle.std.specs.Prelude.{◌≡◌};
 use crate::counts::Counts;
 use crate::note::Note;
 use crate::state::RoundStart;
-use frame_core::{FrameState, Order, ZoneNo};
+use frame_core::{FrameState, Order, PageNo, ZoneNo};
 use journal_core::Journal;
 use std::marker::Model;
 use table_core::Tables;
@@ -20,6 +20,8 @@ pub struct PlainZone {
     pub(crate) words: Words,
     /// By page number.
     pub(crate) notes: Vec<Note>,
+    /// By serial, of each page that was isolated.
+    pub(crate) pages: Vec<PageNo>,
     /// The order of each block that is handed out, by its first frame.
     pub(crate) handed_out: Vec<Option<Order>>,
     pub(crate) marked: [bool; 8],
@@ -33,6 +35,8 @@ pub struct PlainZone {
     pub(crate) migrate: u32,
     pub(crate) free: u32,
     pub(crate) round: Option<RoundStart>,
+    /// Whether the latest round is quiet so far.
+    pub(crate) quiet: bool,
     pub(crate) journal: Journal,
 }
 

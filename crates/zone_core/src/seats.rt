@@ -1,4 +1,4 @@
-ghost use Rattle.std.specs.Prelude.{◌≡◌, ◌+◌, ◌-◌, ◌<◌, ◌≤◌, ◌↔◌, IsSome, IfSome, OnSome, IfNone};
+ghost use Rattle.std.specs.Prelude.{◌≡◌, ◌+◌, ◌-◌, ◌<◌, ◌≤◌, ◌↔◌, not, nat_lt, Some, None, IsSome, IfSome, OnSome, IfNone};
 ghost use Rattle.zone_core.specs.Seats.{fresh_scan_seat, fresh_end_seat};
 
 use std::marker::Model;
@@ -32,7 +32,7 @@ impl Blanks {
 
 /// What `isolate_next` answered.
 #[derive(Clone, Copy, Debug, PartialEq, Eq)]
-pub enum Scanned {
+pub enum Answered {
     Page,
     Met,
     JournalFull,
@@ -45,7 +45,7 @@ pub struct ScanSeat<I: Ledger, N: Ledger> {
     isolated: Share<I>,
     rounds: Book<N>,
     begun: Share<N>,
-    last: Option<Scanned>,
+    last: Option<Answered>,
 }
 
 impl<I: Ledger, N: Ledger> Model for ScanSeat<I, N> {
@@ -107,7 +107,78 @@ impl<I: Ledger, N: Ledger> ScanSeat<I, N> {
     }
 }
 
+impl<I: Ledger, N: Ledger> ScanSeat<I, N> {
+    /// Tells the book's count, which is the seat's.
+    pub(crate) fn tell(&mut self, book: &mut Book<I>)
+        requires { I.parts ≡ 1 }
+        ensures count { self.old.count ≡ book.old.total }
+        ensures seat { self.new ≡ self.old }
+        ensures book { book.new.total ≡ book.old.total }
+    {
+        book.audit(&mut self.isolated);
+    }
+
+    /// Counts one page more, which is the last answer.
+    pub(crate) fn count(&mut self, book: &mut Book<I>)
+        ensures seat { self.new ≡ record self.old { count = self.old.count + 1; last = Some Answered.Page } }
+        ensures book { book.new.total ≡ book.old.total + 1 }
+    {
+        book.add(&mut self.isolated, 1);
+        self.last = Some(Answered::Page);
+    }
+
+    /// Notes an answer that isn't a page.
+    pub(crate) fn note(&mut self, answer: Answered)
+        ensures { self.new ≡ record self.old { last = Some answer } }
+    {
+        self.last = Some(answer);
+    }
+
+    /// Counts one round more, which has no answer yet.
+    pub(crate) fn begin(&mut self)
+        ensures { self.new ≡ record self.old { rounds = self.old.rounds + 1; last = None } }
+    {
+        self.rounds.add(&mut self.begun, 1);
+        self.last = None;
+    }
+}
+
 impl<M: Ledger, B: Ledger> EndSeat<M, B> {
+    /// Counts one moved page more.
+    pub(crate) fn count_moved(&mut self, book: &mut Book<M>)
+        ensures seat { self.new ≡ record self.old { moved = self.old.moved + 1 } }
+        ensures book { book.new.total ≡ book.old.total + 1 }
+    {
+        book.add(&mut self.moved, 1);
+    }
+
+    /// Counts one page put back more.
+    pub(crate) fn count_back(&mut self, book: &mut Book<B>)
+        ensures seat { self.new ≡ record self.old { back = self.old.back + 1 } }
+        ensures book { book.new.total ≡ book.old.total + 1 }
+    {
+        book.add(&mut self.back, 1);
+    }
+
+    /// Tells the books' counts, which are the seat's where no part of it is missing.
+    pub(crate) fn tell(&mut self, moved: &mut Book<M>, back: &mut Book<B>)
+        ensures moved { self.old.parts ≡ 64 → self.old.moved ≡ moved.old.total }
+        ensures back { self.old.parts ≡ 64 → self.old.back ≡ back.old.total }
+        ensures seat { self.new ≡ self.old }
+        ensures books { (moved.new.total ≡ moved.old.total) × (back.new.total ≡ back.old.total) }
+    {
+        moved.audit(&mut self.moved);
+        back.audit(&mut self.back);
+    }
+
+    /// Whether no part of it is missing.
+    pub(crate) fn is_whole(&self) -> bool
+        ensures whole { result ≡ not (nat_lt self.now.parts 64) }
+        ensures most { self.now.parts ≤ 64 }
+    {
+        self.parts >= 64
+    }
+
     /// Gives one part off, as a seat with which nothing was counted. None where this seat has one part.
     pub fn split(&mut self) -> Option<EndSeat<M, B>>
         ensures some { IsSome result ↔ (1 < self.old.parts) }

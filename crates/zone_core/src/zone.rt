@@ -1,22 +1,27 @@
-ghost use Rattle.std.specs.Prelude.{◌≡◌, ◌+◌, ◌==◌, ℕ, IfOk, IfErr, OnOk, OnErr};
+ghost use Rattle.std.specs.Prelude.{◌≡◌, ◌+◌, ◌==◌, ◌↔◌, ℕ, true, false, Some, None, is_some, if◌then◌else◌, IsOk, IfOk, IfErr, OnOk, OnErr};
 ghost use Rattle.std.specs.Int.RustNames.{bit_and};
 ghost use Rattle.zone_core.specs.Books.{IsFor};
 ghost use Rattle.zone_core.specs.Lawful.{IsLawful};
+ghost use Rattle.journal_core.specs.Moves.{isolated};
+ghost use Rattle.zone_core.specs.Moving.{round_begun, isolate_refusal, next_answer, next_state, Scans, seat_noted, is_own, IsOwnCopy, ended_as, committed, put_back_to_source, seat_ended, look_of, audit_refusal, IsAudited};
+ghost use Rattle.zone_core.specs.Pairs.{next_pair};
 ghost use Rattle.zone_core.specs.Refusals.{IsOpenable, result_err, map_refusal, map_at_refusal, access_refusal};
 ghost use Rattle.zone_core.specs.Seats.{fresh_scan_seat, fresh_end_seat};
 ghost use Rattle.zone_core.specs.Steps.{opened, mapped, value_at, loaded, stored, info_of, is_unmovable};
-ghost use Rattle.zone_core.specs.ZoneState.{frame_count, lowest_free_frame};
+ghost use Rattle.zone_core.specs.ZoneState.{frame_count, lowest_free_frame, is_quiet};
 
 use crate::error::ZoneError;
+use crate::moves::{Audit, Ended, Look, Next, Stranger};
 use crate::plain::PlainZone;
-use crate::seats::{Blanks, EndSeat, ScanSeat};
+use crate::seats::{Blanks, EndSeat, ScanSeat, Answered};
 use crate::state::Info;
 use bitflags::Flags;
 use frame_core::{Address, ClientNo, FrameNo, PageFlags, WordNo, ZoneNo};
-use journal_core::Journal;
+use journal_core::{Cause, Journal};
 use std::alloc::Global;
 use std::marker::Model;
 use std::sync::ledger::{Book, Ledger};
+use word_core::{Copied, Isolated};
 
 /// A zone of 1 to 8 pageblocks. Its type parameters name its opening: the ledgers of the pages that are isolated, moved and
 /// put back. After `open` no call takes memory.
@@ -198,6 +203,135 @@ impl<I: Ledger, M: Ledger, B: Ledger> Zone<I, M, B> {
         let frame = self.plain.frame_of(&address)?;
         self.plain.write(client, address, frame, word, value);
         Ok(())
+    }
+
+    /// Begins a round: the migrate finger stands at the bottom of the zone and the free finger above its top. The seat counts
+    /// the round.
+    pub fn begin_round<N: Ledger>(&mut self, seat: &mut ScanSeat<I, N>)
+        ensures zone { self.new ≡ round_begun self.old }
+        ensures seat { seat.new ≡ record seat.old { rounds = seat.old.rounds + 1; last = None } }
+    {
+        self.plain.begin_round();
+        seat.begin();
+    }
+
+    /// Takes the lowest page that may be moved, and the highest free frame above it, between the fingers: the page is on its
+    /// way from here on. The seat counts it, and notes each answer.
+    pub fn isolate_next<N: Ledger>(
+        &mut self,
+        seat: &mut ScanSeat<I, N>,
+    ) -> Result<Next, ZoneError>
+        ensures refused { result_err result ≡ isolate_refusal self.old }
+        ensures err { OnErr result (self.new ≡ self.old) }
+        ensures answer { IfOk result (λ next. next ≡ next_answer self.old (next_pair self.old)) }
+        ensures ok { OnOk result (self.new ≡ next_state self.old (next_pair self.old)) }
+        // The page is the one of the pair, and where there is none the answer is `Met`.
+        ensures pair { IfOk result (λ next. Scans self.old self.new next) }
+        ensures serial { seat.old.count ≡ isolated self.old.records }
+        ensures seat { IfOk result (λ next. seat.new ≡ seat_noted seat.old next) }
+        ensures full { OnErr result (seat.new ≡ record seat.old { last = Some Answered.JournalFull }) }
+    {
+        seat.tell(&mut self.isolated);
+        if !self.plain.has_room_for_two() {
+            seat.note(Answered::JournalFull);
+            return Err(ZoneError::JournalFull);
+        }
+        let Some(pair) = self.plain.next_pair() else {
+            seat.note(Answered::Met);
+            return Ok(Next::Met);
+        };
+        let page = self.plain.isolate(pair);
+        seat.count(&mut self.isolated);
+        Ok(Next::Page(page))
+    }
+
+    /// Ends the move of a page with its copy: the page stands in its new frame, or in its old one where it has a pin. The seat
+    /// counts it. A copy that is no page of this zone on its way under its serial, or hasn't its words, is handed back.
+    pub fn commit(
+        &mut self,
+        seat: &mut EndSeat<M, B>,
+        copied: Copied,
+    ) -> Result<Ended, Stranger<Copied>>
+        ensures own { IsOk result ↔ IsOwnCopy self.old copied }
+        ensures back { IfErr result (λ stranger. stranger.0 ≡ copied) }
+        ensures err { OnErr result ((self.new ≡ self.old) × (seat.new ≡ seat.old)) }
+        ensures ended { IfOk result (λ ended. ended ≡ ended_as self.old copied.page.number) }
+        ensures ok { OnOk result (self.new ≡ committed self.old copied.serial copied.page.number) }
+        ensures once { OnOk result (is_own self.new copied ≡ false) }
+        ensures seat { IfOk result (λ ended. seat.new ≡ seat_ended seat.old ended) }
+    {
+        let Some(way) = self.plain.way_of(copied.serial(), copied.page()) else {
+            return Err(Stranger(copied));
+        };
+        if !self.plain.has_words(&way, copied.page()) {
+            return Err(Stranger(copied));
+        }
+        if self.plain.has_pin(way.page) {
+            self.plain.go_back(&way, Cause::Pinned);
+            seat.count_back(&mut self.back);
+            return Ok(Ended::Back);
+        }
+        self.plain.arrive(&way, copied.page());
+        seat.count_moved(&mut self.moved);
+        Ok(Ended::Moved)
+    }
+
+    /// Ends the move of a page that reached no copier: it stands in its old frame. The seat counts it. A page that isn't one of
+    /// this zone on its way under its serial is handed back.
+    pub fn put_back(
+        &mut self,
+        seat: &mut EndSeat<M, B>,
+        isolated: Isolated,
+    ) -> Result<(), Stranger<Isolated>>
+        ensures own { IsOk result ↔ (is_own self.old isolated ≡ true) }
+        ensures back { IfErr result (λ stranger. stranger.0 ≡ isolated) }
+        ensures err { OnErr result ((self.new ≡ self.old) × (seat.new ≡ seat.old)) }
+        ensures ok { OnOk result (self.new ≡ put_back_to_source self.old isolated.serial isolated.page.number Cause.NotCopied) }
+        ensures once { OnOk result (is_own self.new isolated ≡ false) }
+        ensures seat { OnOk result (seat.new ≡ record seat.old { back = seat.old.back + 1 }) }
+    {
+        let Some(way) = self.plain.way_of(isolated.serial(), isolated.page()) else {
+            return Err(Stranger(isolated));
+        };
+        self.plain.go_back(&way, Cause::NotCopied);
+        seat.count_back(&mut self.back);
+        Ok(())
+    }
+
+    /// What is known of the page that an address names: its frame and flags, or its serial where it is on its way.
+    pub fn look(&self, address: Address) -> Result<Look, ZoneError>
+        ensures refused { result_err result ≡ (if is_some (look_of self.now address) then None else Some ZoneError.Unmapped) }
+        ensures value { IfOk result (λ look. look_of self.now address ≡ Some look) }
+    {
+        self.plain.look(&address).ok_or(ZoneError::Unmapped)
+    }
+
+    /// Whether the latest round is quiet so far: when it began no page was out and no unmarked pageblock had a page that was
+    /// pinned or unmovable or a frame that was handed out, and since then pages were loaded, stored, isolated and moved alone.
+    pub fn quiet(&self) -> bool
+        ensures { result ≡ is_quiet self.now }
+    {
+        self.plain.quiet()
+    }
+
+    /// The counts of the zone, which are those of its seats. Refused where a part of the end seat is missing or a page is on
+    /// its way.
+    pub fn audit<N: Ledger>(
+        &mut self,
+        scan: &mut ScanSeat<I, N>,
+        ends: &mut EndSeat<M, B>,
+    ) -> Result<Audit, ZoneError>
+        ensures refused { result_err result ≡ audit_refusal self.old ends.old }
+        ensures ok { IfOk result (λ audit. IsAudited self.old scan.old ends.old audit) }
+        ensures same { self.new ≡ self.old }
+        ensures seats { (scan.new ≡ scan.old) × (ends.new ≡ ends.old) }
+    {
+        scan.tell(&mut self.isolated);
+        ends.tell(&mut self.moved, &mut self.back);
+        if !ends.is_whole() {
+            return Err(ZoneError::Missing);
+        }
+        self.plain.counted().ok_or(ZoneError::Out)
     }
 
     /// The counts of the zone.

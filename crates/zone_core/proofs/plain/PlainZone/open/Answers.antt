@@ -1,4 +1,4 @@
-use Rattle.std.proofs.Common.{◌≡◌, ◌∙◌, ◌*◌, List, [], ◌∷◌, replicate, refl, ap, subst, sym, false}
+use Rattle.std.proofs.Common.{◌≡◌, ◌∙◌, ◌*◌, List, [], ◌∷◌, replicate, refl, ap, subst, sym, false, arith}
 use Rattle.std.specs.Prelude.{None}
 use Rattle.journal_core.specs.Journal.{Journal}
 use Rattle.zone_core.specs.declared.note.Note.{Note}
@@ -15,9 +15,10 @@ new_zone c = record {
   number = c.args.number;
   blocks = c.args.blocks;
   frames = c.in_ok-frames.frames;
-  tables = c.in-Ok.tables;
-  words = c.in-Ok-open.words;
+  tables = c.in-Ok-open.tables;
+  words = c.in-Ok-open-2.words;
   notes = c.in_ok-notes.notes;
+  pages = c.reserve.new.self;
   handed_out = c.in_ok-handed_out.handed_out;
   marked = false ∷ false ∷ false ∷ false ∷ false ∷ false ∷ false ∷ false ∷ [];
   counts = c.of_free.result;
@@ -27,7 +28,8 @@ new_zone c = record {
   migrate = 0;
   free = 0;
   round = None;
-  journal = c.in-Ok-open-2.journal;
+  quiet = false;
+  journal = c.in-Ok-open-3.journal;
 }
 
 fresh : (c : After-of_free) → IsFresh (new_zone c) c.args.number c.args.blocks c.args.places
@@ -36,8 +38,8 @@ fresh c = record {
   number_is = refl;
   blocks_is = refl;
   frames = c.in_ok-frames.ensures.items;
-  tables = c.in-Ok.ensures;
-  words = c.in-Ok-open.ensures.blank;
+  tables = c.in-Ok-open.ensures;
+  words = c.in-Ok-open-2.ensures.blank;
   notes = c.in_ok-notes.ensures.items ∙ ap (replicate (512 * c.args.blocks)) c.unused.ensures;
   handed_out = c.in_ok-handed_out.ensures.items;
   marked = refl;
@@ -46,8 +48,11 @@ fresh c = record {
   starts = (refl, refl);
   fingers = (refl, refl);
   round = refl;
-  records = ap (λ (log : Journal). log.records) c.in-Ok-open-2.ensures;
-  room = ap (λ (log : Journal). log.room) c.in-Ok-open-2.ensures;
+  quiet = refl;
+  pages = c.reserve.ensures.items ∙ c.new-pages.ensures.items;
+  room_for_pages = omega (arith, c.in-Ok.ensures.ok, c.new-pages.ensures.len);
+  records = ap (λ (log : Journal). log.records) c.in-Ok-open-3.ensures;
+  room = ap (λ (log : Journal). log.room) c.in-Ok-open-3.ensures;
 }
 
 view : (c : After-of_free) → state_of (new_zone c) ≡ opened c.args.number c.args.blocks c.args.places

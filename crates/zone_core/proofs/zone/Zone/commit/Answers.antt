@@ -1,0 +1,19 @@
+use Rattle.std.proofs.Common.{◌∙◌, ap, sym}
+use Rattle.std.specs.FinMap as map
+use Rattle.journal_core.specs.declared.record.Cause.TheVariants.{Pinned}
+use Rattle.journal_core.specs.declared.record.Record.TheVariants.{Moved, Back}
+use Rattle.word_core.specs.Page.{Page}
+use Rattle.zone_core.specs.Moving.{is_own, source_of, target_of}
+use Rattle.zone_core.specs.ZoneState.{ZoneState}
+use Rattle.zone_core.proofs.Seated.{ended_once}
+use Rattle.zone_core.proofs.zone.Zone.commit.Goals as goal
+
+pub returns-then-has_pin-clause-once : goal.returns-then-has_pin-clause-once
+returns-then-has_pin-clause-once g c =
+    ap (λ (z : ZoneState). is_own z c.args.copied) c.go_back.ensures
+    ∙ ended_once c.self.inside.plain (Back c.in-Some.way.serial Pinned) c.in-Some.way.page (source_of (map.get c.self.inside.plain.placement c.in-Some.way.page)) c.args.copied (ap (λ (p : Page). p.number) (sym c.page.ensures) ∙ sym c.in-Some.ensures.named.0)
+
+pub returns-clause-once : goal.returns-clause-once
+returns-clause-once g c =
+    ap (λ (z : ZoneState). is_own z c.args.copied) c.arrive.ensures
+    ∙ ended_once c.self.inside.plain (Moved c.in-Some.way.serial) c.in-Some.way.page (target_of (map.get c.self.inside.plain.placement c.in-Some.way.page)) c.args.copied (ap (λ (p : Page). p.number) (sym c.page.ensures) ∙ sym c.in-Some.ensures.named.0)

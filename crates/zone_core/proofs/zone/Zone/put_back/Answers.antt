@@ -1,0 +1,14 @@
+use Rattle.std.proofs.Common.{◌∙◌, ap, sym}
+use Rattle.std.specs.FinMap as map
+use Rattle.journal_core.specs.declared.record.Cause.TheVariants.{NotCopied}
+use Rattle.journal_core.specs.declared.record.Record.TheVariants.{Back}
+use Rattle.word_core.specs.Page.{Page}
+use Rattle.zone_core.specs.Moving.{is_own, source_of}
+use Rattle.zone_core.specs.ZoneState.{ZoneState}
+use Rattle.zone_core.proofs.Seated.{ended_once}
+use Rattle.zone_core.proofs.zone.Zone.put_back.Goals as goal
+
+pub returns-clause-once : goal.returns-clause-once
+returns-clause-once g c =
+    ap (λ (z : ZoneState). is_own z c.args.isolated) c.go_back.ensures
+    ∙ ended_once c.self.inside.plain (Back c.in-Some.way.serial NotCopied) c.in-Some.way.page (source_of (map.get c.self.inside.plain.placement c.in-Some.way.page)) c.args.isolated (ap (λ (p : Page). p.number) (sym c.page.ensures) ∙ sym c.in-Some.ensures.named.0)

@@ -1,0 +1,155 @@
+-- What the calls that move pages answer, and what they leave.
+use Rattle.std.specs.Prelude.{◌≡◌, ℕ, ◌+◌, ◌<◌, ◌≤◌, Bool, true, false, ◌&&◌, List, ◌∷◌, [], length, map as each, nat_eq, nat_lt, if◌then◌else◌, Option, Some, None, ⊤, is_some}
+use Rattle.std.specs.FinMap as map
+use Rattle.std.specs.FinSet as set
+use Rattle.std.specs.Option.{option_and_then}
+use Rattle.frame_core.specs.declared.flags.PageFlags.{PageFlags}
+use Rattle.frame_core.specs.declared.place.Address.{Address}
+use Rattle.journal_core.specs.declared.record.Cause.{Cause}
+use Rattle.journal_core.specs.declared.record.Cause.TheVariants.{Pinned, NotCopied}
+use Rattle.journal_core.specs.declared.record.Record.{Record}
+use Rattle.journal_core.specs.declared.record.Record.TheVariants.{Isolate, Moved as WasMoved, Back as WasPutBack}
+use Rattle.journal_core.specs.History.{page_at, last, dirty, pins, maps}
+use Rattle.journal_core.specs.Moves.{isolated, moved, put_back, out}
+use Rattle.word_core.specs.Page.{Page, OnItsWay}
+use Rattle.zone_core.specs.declared.error.ZoneError.{ZoneError}
+use Rattle.zone_core.specs.declared.error.ZoneError.TheVariants.{JournalFull, Missing, Out}
+use Rattle.zone_core.specs.declared.moves.Next.{Next}
+use Rattle.zone_core.specs.declared.moves.Next.TheVariants as next
+use Rattle.zone_core.specs.declared.moves.Ended.{Ended}
+use Rattle.zone_core.specs.declared.moves.Ended.TheVariants as ended
+use Rattle.zone_core.specs.declared.moves.Look.{Look}
+use Rattle.zone_core.specs.declared.moves.Look.TheVariants as look
+use Rattle.zone_core.specs.declared.moves.Audit.{Audit}
+use Rattle.zone_core.specs.declared.pair.Pair.{Pair}
+use Rattle.zone_core.specs.declared.seats.Answered.TheVariants as answered
+use Rattle.zone_core.specs.declared.state.Placement.{Placement}
+use Rattle.zone_core.specs.declared.state.Placement.TheVariants.{At, Moving}
+use Rattle.zone_core.specs.Lawful.{is_under}
+use Rattle.zone_core.specs.Pairs.{IsPair, next_pair, is_calm}
+use Rattle.zone_core.specs.Seats.{ScanSeat, EndSeat}
+use Rattle.zone_core.specs.ZoneState.{ZoneState, frame_count, noted, placement_at}
+
+-- a round begins: the fingers stand at the ends of the zone
+abbrev pub round_begun : ZoneState → ZoneState
+round_begun z = record z {
+  migrate = 0;
+  free = frame_count z;
+  round = Some (record { records = length z.records; calm = is_calm z });
+}
+
+-- the journal has a place for the isolation and one to end it, besides those that end the pages that are out
+abbrev pub isolate_refusal : ZoneState → Option ZoneError
+isolate_refusal z = if nat_lt (length (out z.records) + 1) z.room then None else Some JournalFull
+
+-- the flags that are noted of a page
+abbrev pub flags_of : ZoneState → ℕ → PageFlags
+flags_of z page = record { 0 = (if set.contains z.unmovable page then 1 else 0) + (if dirty z.records page then 2 else 0) }
+
+-- the last values of the eight words of a page
+abbrev pub words_now : ZoneState → ℕ → List ℕ
+words_now z page = each (last z.records page) (0 ∷ 1 ∷ 2 ∷ 3 ∷ 4 ∷ 5 ∷ 6 ∷ 7 ∷ [])
+
+-- a page as it is carried
+abbrev pub page_now : ZoneState → ℕ → Page
+page_now z page = record { zone = z.number; number = page; flags = flags_of z page; words = words_now z page }
+
+-- a page in use is somewhere else now
+abbrev pub settled : ZoneState → Record → ℕ → Placement → ZoneState
+settled z entry page placement = record (noted z entry) { placement = map.insert z.placement page placement }
+
+-- the page of a pair is on its way under the next serial, and the fingers stand behind its frames
+abbrev pub isolated_next : ZoneState → Pair → ZoneState
+isolated_next z pair =
+    let serial = isolated z.records in
+    record (settled z (Isolate serial pair.page) pair.page (Moving serial pair.source pair.target)) { migrate = pair.source + 1; free = pair.target }
+
+abbrev pub next_answer : ZoneState → Option Pair → Next
+next_answer z None = next.Met
+next_answer z (Some pair) = next.Page (record { serial = isolated z.records; page = page_now z pair.page })
+
+abbrev pub next_state : ZoneState → Option Pair → ZoneState
+next_state z None = z
+next_state z (Some pair) = isolated_next z pair
+
+-- the answer in the words of pairs: a page of the pair is on its way now, or there is no pair
+abbrev pub Scans : ZoneState → ZoneState → Next → Type 0
+Scans old new next.Met = (page source target : ℕ) → IsPair old page source target → ⊥
+Scans old new (next.Page p) =
+    (source target : ℕ) × IsPair old p.page.number source target × (map.get new.placement p.page.number ≡ Some (Moving p.serial source target))
+
+-- the seat notes each answer, and counts the pages
+abbrev pub seat_noted : ScanSeat → Next → ScanSeat
+seat_noted seat next.Met = record seat { last = Some answered.Met }
+seat_noted seat (next.Page p) = record seat { count = seat.count + 1; last = Some answered.Page }
+
+-- whether a page of this zone is on its way under its serial
+abbrev pub is_own : ZoneState → OnItsWay → Bool
+is_own z p = nat_eq p.page.zone z.number && is_under (map.get z.placement p.page.number) p.serial
+
+-- a copy of a page of this zone that is on its way under its serial, with the words that the page has
+pub record IsOwnCopy (z : ZoneState) (copy : OnItsWay) : Type 0 where
+  pub own : is_own z copy ≡ true
+  pub same : copy.page.words ≡ words_now z copy.page.number
+
+-- the frames of a page on its way
+abbrev pub source_of : Option Placement → ℕ
+source_of (Some (Moving serial source target)) = source
+source_of _ = 0
+
+abbrev pub target_of : Option Placement → ℕ
+target_of (Some (Moving serial source target)) = target
+target_of _ = 0
+
+-- a copy is committed where its page has no pin
+abbrev pub ended_as : ZoneState → ℕ → Ended
+ended_as z page = if nat_eq (pins z.records page) 0 then ended.Moved else ended.Back
+
+-- the page stands in its new frame
+abbrev pub moved_to_target : ZoneState → ℕ → ℕ → ZoneState
+moved_to_target z serial page = settled z (WasMoved serial) page (At (target_of (map.get z.placement page)))
+
+-- the page stands in its old frame again
+abbrev pub put_back_to_source : ZoneState → ℕ → ℕ → Cause → ZoneState
+put_back_to_source z serial page cause = settled z (WasPutBack serial cause) page (At (source_of (map.get z.placement page)))
+
+abbrev pub committed : ZoneState → ℕ → ℕ → ZoneState
+committed z serial page =
+    if nat_eq (pins z.records page) 0 then moved_to_target z serial page else put_back_to_source z serial page Pinned
+
+-- the pins that a cause wants
+abbrev pub HasCause : Cause → ℕ → Type 0
+HasCause Pinned pins = 0 < pins
+HasCause NotCopied pins = ⊤
+
+-- the seat counts what was ended with it
+abbrev pub seat_ended : EndSeat → Ended → EndSeat
+seat_ended seat ended.Moved = record seat { moved = seat.moved + 1 }
+seat_ended seat ended.Back = record seat { back = seat.back + 1 }
+
+-- what is known of a page that is placed so
+abbrev pub look_by : ZoneState → ℕ → Option Placement → Option Look
+look_by z page None = None
+look_by z page (Some (At frame)) = Some (look.At frame (flags_of z page) (pins z.records page) (maps z.records page))
+look_by z page (Some (Moving serial source target)) = Some (look.Moving serial (pins z.records page) (maps z.records page))
+
+-- what is known of the page that an address names, if it names one
+abbrev pub look_of : ZoneState → Address → Option Look
+look_of z address = option_and_then (λ page. look_by z page (map.get z.placement page)) (page_at z.records address)
+
+-- an audit wants the whole end seat, and no page on its way
+abbrev pub audit_refusal : ZoneState → EndSeat → Option ZoneError
+audit_refusal z seat =
+    if nat_lt seat.parts 64 then Some Missing
+    else if nat_lt 0 (length (out z.records)) then Some Out
+    else None
+
+-- what the journal and both seats agree on
+pub record IsAudited (z : ZoneState) (scan_seat : ScanSeat) (end_seat : EndSeat) (audit : Audit) : Type 0 where
+  pub isolated : audit.isolated ≡ isolated z.records
+  pub moved : audit.moved ≡ moved z.records
+  pub back : audit.back ≡ put_back z.records
+  pub sum : audit.moved + audit.back ≡ audit.isolated
+  pub scan : audit.isolated ≡ scan_seat.count
+  pub ends_moved : audit.moved ≡ end_seat.moved
+  pub ends_back : audit.back ≡ end_seat.back

@@ -1,0 +1,51 @@
+use frame_core::{FrameNo, PageFlags, Serial};
+use thiserror::Error;
+use word_core::Isolated;
+
+/// What the scanner found.
+#[derive(Drop, Debug)]
+pub enum Next {
+    /// A page, which is on its way from here on.
+    Page(Isolated),
+    /// The fingers met: there is no page left that has a frame to go to.
+    Met,
+}
+
+/// How the move of a page ended.
+#[derive(Clone, Copy, Debug, PartialEq, Eq)]
+pub enum Ended {
+    /// The page stands in its new frame.
+    Moved,
+    /// The page had a pin, and stands in its old frame.
+    Back,
+}
+
+/// A page that isn't on its way in the zone that it was brought to, or a copy without the words of its page. It is handed
+/// back as it came.
+#[derive(Drop, Debug, Error)]
+#[error("the page is not on its way in this zone")]
+pub struct Stranger<P>(pub P);
+
+/// What is known of the page that an address names.
+#[derive(Clone, Copy, Debug, PartialEq, Eq)]
+pub enum Look {
+    /// It stands in this frame.
+    At {
+        frame: FrameNo,
+        flags: PageFlags,
+        /// 0 to 255.
+        pins: u8,
+        /// How many addresses name it, 1 to 4.
+        maps: u8,
+    },
+    /// It is on its way under this serial.
+    Moving { serial: Serial, pins: u8, maps: u8 },
+}
+
+/// What a zone and its seats agree on when no page is on its way: each page that was isolated was moved or put back.
+#[derive(Clone, Copy, Debug, PartialEq, Eq)]
+pub struct Audit {
+    pub isolated: u32,
+    pub moved: u32,
+    pub back: u32,
+}
