@@ -64,10 +64,7 @@ impl PlainZone {
         requires { frame < frame_count self.now }
         ensures { result ≡ takes_movable self.now frame }
     {
-        if self.is_marked(frame) {
-            return false;
-        }
-        self.is_free(frame)
+        !self.is_marked(frame) && self.is_free(frame)
     }
 
     /// The lowest frame between the fingers that holds a page that may be taken.

@@ -200,8 +200,8 @@ impl<I: Ledger, M: Ledger, B: Ledger> Zone<I, M, B> {
         if !self.plain.has_room() {
             return Err(ZoneError::JournalFull);
         }
-        let frame = self.plain.frame_of(&address)?;
-        self.plain.write(client, address, frame, word, value);
+        let held = self.plain.frame_of(&address)?;
+        self.plain.write(client, address, held, word, value);
         Ok(())
     }
 
