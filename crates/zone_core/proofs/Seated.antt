@@ -1,5 +1,5 @@
 -- What public calls say of pages, books and seats.
-use Rattle.std.proofs.Common.{◌≡◌, ℕ, ◌+◌, Bool, true, false, ◌≤◌, not, inl, inr, refl, sym, ap, ◌∙◌, arith}
+use Rattle.std.proofs.Common.{◌≡◌, ℕ, ◌+◌, Bool, true, false, ◌≤◌, not, inl, inr, refl, sym, ap, subst, ◌∙◌, arith}
 use Rattle.std.specs.Prelude.{Option, Some, None, IfSome, Result, Ok, Err, IfOk, ◌&&◌, nat_eq, nat_lt}
 use Rattle.std.specs.FinMap as map
 use Rattle.std.proofs.lemmas.Bool.Decides.{leb_tells}
@@ -11,10 +11,10 @@ use Rattle.word_core.specs.Page.{OnItsWay}
 use Rattle.zone_core.specs.declared.error.ZoneError.{ZoneError}
 use Rattle.zone_core.specs.declared.moves.Audit.{Audit}
 use Rattle.zone_core.specs.declared.state.Placement.{Placement}
-use Rattle.zone_core.specs.declared.state.Placement.TheVariants.{At}
+use Rattle.zone_core.specs.declared.state.Placement.TheVariants.{At, Moving}
 use Rattle.zone_core.specs.Books.{AreBooks}
 use Rattle.zone_core.specs.Lawful.{is_under}
-use Rattle.zone_core.specs.Moving.{settled, is_own, IsAudited}
+use Rattle.zone_core.specs.Moving.{settled, is_own, IsSettled, IsEnded, IsAudited}
 use Rattle.zone_core.specs.Seats.{ScanSeat, EndSeat}
 use Rattle.zone_core.specs.ZoneState.{ZoneState}
 use Rattle.zone_core.proofs.Tables.{get_insert_same}
@@ -26,6 +26,14 @@ neither false b e = refl
 -- a page whose move has ended is on its way no more
 pub ended_once : (v : ZoneState) (entry : Record) (page frame : ℕ) (p : OnItsWay) → p.page.number ≡ page → is_own (settled v entry page (At frame)) p ≡ false
 ended_once v entry page frame p e = neither (nat_eq p.page.zone v.number) _ (ap (λ (o : Option Placement). is_under o p.serial) (get_insert_same v.placement page p.page.number (At frame) e))
+
+-- the end of a move, in the words of the public call
+pub ended_in : (z v new : ZoneState) (p : OnItsWay) (page serial source target : ℕ) (kept left : ℕ → ℕ → ℕ) → z ≡ v → p.page.number ≡ page → p.serial ≡ serial → map.get z.placement page ≡ Some (Moving serial source target) → IsSettled z new page (kept source target) (left source target) → IsEnded v new p.page.number p.serial kept left
+ended_in z v new p page serial source target kept left view number under way settled =
+    subst (λ (u : ZoneState). IsEnded u new p.page.number p.serial kept left) view
+    (subst (λ (q : ℕ). IsEnded z new q p.serial kept left) (sym number)
+    (subst (λ (s : ℕ). IsEnded z new page s kept left) (sym under)
+    (record { source = source; target = target; way = way; settled = settled })))
 
 -- the counts of a zone and its seats, where they agree
 pub audited : (z v : ZoneState) (scan : ScanSeat) (ends : EndSeat) (i m b : ℕ) (o : Option Audit) → z ≡ v → AreBooks i m b z → scan.count ≡ i → ends.moved ≡ m → ends.back ≡ b → IfSome o (λ a. a.isolated ≡ isolated z.records) → IfSome o (λ a. a.moved ≡ moved z.records) → IfSome o (λ a. a.back ≡ put_back z.records) → IfSome o (λ a. a.moved + a.back ≡ a.isolated) → IfSome o (λ a. IsAudited v scan ends a)

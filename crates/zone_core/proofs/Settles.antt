@@ -22,12 +22,12 @@ use Rattle.zone_core.specs.declared.state.Placement.{Placement}
 use Rattle.zone_core.specs.declared.state.Placement.TheVariants.{At, Moving}
 use Rattle.zone_core.specs.Fits.{state_by, WordsFit, SerialsFit, CountsFit, BlocksFit}
 use Rattle.zone_core.specs.Lawful.{IsLawful}
-use Rattle.zone_core.specs.Moving.{settled}
+use Rattle.zone_core.specs.Moving.{settled, IsSettled}
 use Rattle.zone_core.specs.ZoneState.{ZoneState, frame_count, takes_up, is_free}
 use Rattle.zone_core.proofs.Accessed.{words_set_same, words_set_other}
 use Rattle.zone_core.proofs.Departed.{isolated_most}
 use Rattle.zone_core.proofs.Placed.{untrue}
-use Rattle.zone_core.proofs.Settled.{can_move_on, can_go_back, frames_apart, moved_others, moved_source, back_others, back_target, source_used, target_used, source_within, target_in, moved_more, back_more, out_fewer, same_pages}
+use Rattle.zone_core.proofs.Settled.{can_move_on, can_go_back, frames_apart, moved_others, moved_source, back_others, back_target, source_used, target_used, source_within, target_in, moved_more, back_more, out_fewer, same_pages, at_page, at_other}
 use Rattle.zone_core.proofs.Settling.{FramesSettled, WordsSettled, IsFreer}
 
 differs : (g x : ℕ) → nat_eq g x ≡ false → g ≢ x
@@ -166,6 +166,27 @@ module _ (v : ZoneState) (page serial source target : ℕ) (law : IsLawful v) (a
 
   pub ending_room : 0 < v.room
   ending_room = let left = law.room_left in omega (arith, out_fewer v page serial source target law at)
+
+  -- the page afterwards
+  pub moved_settled : IsSettled v (settled v (Moved serial) page (At target)) page target source
+  moved_settled = record {
+    here = at_page v page (Moving serial source target) (At target) (can_move_on v page serial source target law at) (Moved serial);
+    freed = moved_source v page serial source target law at (Moved serial);
+    flags = refl;
+    words = refl;
+    others = at_other v page (Moving serial source target) (At target) (can_move_on v page serial source target law at) (Moved serial);
+    names = λ address. refl;
+  }
+
+  pub back_settled : (cause : Cause) → IsSettled v (settled v (Back serial cause) page (At source)) page source target
+  back_settled cause = record {
+    here = at_page v page (Moving serial source target) (At source) (can_go_back v page serial source target law at) (Back serial cause);
+    freed = back_target v page serial source target law at (Back serial cause);
+    flags = refl;
+    words = refl;
+    others = at_other v page (Moving serial source target) (At source) (can_go_back v page serial source target law at) (Back serial cause);
+    names = λ address. refl;
+  }
 
 -- the counts stay small
 pub ended_most : (v : ZoneState) (counts : Counts) → CountsFit counts v → length v.records + v.room ≤ 65536 → (counts.moved < 65537) × (counts.back < 65537)

@@ -1,5 +1,5 @@
 -- What the calls that move pages answer, and what they leave.
-use Rattle.std.specs.Prelude.{◌≡◌, ℕ, ◌+◌, ◌<◌, ◌≤◌, Bool, true, false, ◌&&◌, List, ◌∷◌, [], length, map as each, nat_eq, nat_lt, if◌then◌else◌, Option, Some, None, ⊤, is_some}
+use Rattle.std.specs.Prelude.{◌≡◌, ◌≢◌, ℕ, ◌+◌, ◌<◌, ◌≤◌, Bool, true, false, ◌&&◌, List, ◌∷◌, [], length, map as each, nat_eq, nat_lt, if◌then◌else◌, Option, Some, None, ⊤, is_some}
 use Rattle.std.specs.FinMap as map
 use Rattle.std.specs.FinSet as set
 use Rattle.std.specs.Option.{option_and_then}
@@ -28,7 +28,7 @@ use Rattle.zone_core.specs.declared.state.Placement.TheVariants.{At, Moving}
 use Rattle.zone_core.specs.Lawful.{is_under}
 use Rattle.zone_core.specs.Pairs.{IsPair, next_pair, is_calm}
 use Rattle.zone_core.specs.Seats.{ScanSeat, EndSeat}
-use Rattle.zone_core.specs.ZoneState.{ZoneState, frame_count, noted, placement_at}
+use Rattle.zone_core.specs.ZoneState.{ZoneState, frame_count, is_free, noted, placement_at}
 
 -- a round begins: the fingers stand at the ends of the zone
 abbrev pub round_begun : ZoneState → ZoneState
@@ -72,11 +72,19 @@ abbrev pub next_state : ZoneState → Option Pair → ZoneState
 next_state z None = z
 next_state z (Some pair) = isolated_next z pair
 
--- the answer in the words of pairs: a page of the pair is on its way now, or there is no pair
+-- the page of the pair is on its way under a serial, at each address that names it, and nothing else moved
+pub record IsIsolated (old new : ZoneState) (page serial : ℕ) : Type 0 where
+  pub source : ℕ
+  pub target : ℕ
+  pub pair : IsPair old page source target
+  pub way : map.get new.placement page ≡ Some (Moving serial source target)
+  pub others : (other : ℕ) → other ≢ page → map.get new.placement other ≡ map.get old.placement other
+  pub names : (address : Address) → page_at new.records address ≡ page_at old.records address
+
+-- the answer in the words of pairs: the page of the pair is on its way now, or there is no pair
 abbrev pub Scans : ZoneState → ZoneState → Next → Type 0
 Scans old new next.Met = (page source target : ℕ) → IsPair old page source target → ⊥
-Scans old new (next.Page p) =
-    (source target : ℕ) × IsPair old p.page.number source target × (map.get new.placement p.page.number ≡ Some (Moving p.serial source target))
+Scans old new (next.Page p) = IsIsolated old new p.page.number p.serial
 
 -- the seat notes each answer, and counts the pages
 abbrev pub seat_noted : ScanSeat → Next → ScanSeat
@@ -116,6 +124,27 @@ put_back_to_source z serial page cause = settled z (WasPutBack serial cause) pag
 abbrev pub committed : ZoneState → ℕ → ℕ → ZoneState
 committed z serial page =
     if nat_eq (pins z.records page) 0 then moved_to_target z serial page else put_back_to_source z serial page Pinned
+
+-- a page that was on its way stands in one of its frames, with its flags and words, at each address that names it; its other
+-- frame is free, and nothing else moved
+pub record IsSettled (old new : ZoneState) (page kept left : ℕ) : Type 0 where
+  pub here : map.get new.placement page ≡ Some (At kept)
+  pub freed : is_free new left ≡ true
+  pub flags : flags_of new page ≡ flags_of old page
+  pub words : words_now new page ≡ words_now old page
+  pub others : (other : ℕ) → other ≢ page → map.get new.placement other ≡ map.get old.placement other
+  pub names : (address : Address) → page_at new.records address ≡ page_at old.records address
+
+-- how a move ends: in the target where the page has no pin, and else in the source
+pub record IsEnded (old new : ZoneState) (page serial : ℕ) (kept left : ℕ → ℕ → ℕ) : Type 0 where
+  pub source : ℕ
+  pub target : ℕ
+  pub way : map.get old.placement page ≡ Some (Moving serial source target)
+  pub settled : IsSettled old new page (kept source target) (left source target)
+
+abbrev pub Ends : ZoneState → ZoneState → OnItsWay → Ended → Type 0
+Ends old new p ended.Moved = IsEnded old new p.page.number p.serial (λ source target. target) (λ source target. source)
+Ends old new p ended.Back = IsEnded old new p.page.number p.serial (λ source target. source) (λ source target. target)
 
 -- the pins that a cause wants
 abbrev pub HasCause : Cause → ℕ → Type 0

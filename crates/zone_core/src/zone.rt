@@ -3,7 +3,7 @@ ghost use Rattle.std.specs.Int.RustNames.{bit_and};
 ghost use Rattle.zone_core.specs.Books.{IsFor};
 ghost use Rattle.zone_core.specs.Lawful.{IsLawful};
 ghost use Rattle.journal_core.specs.Moves.{isolated};
-ghost use Rattle.zone_core.specs.Moving.{round_begun, isolate_refusal, next_answer, next_state, Scans, seat_noted, is_own, IsOwnCopy, ended_as, committed, put_back_to_source, seat_ended, look_of, audit_refusal, IsAudited};
+ghost use Rattle.zone_core.specs.Moving.{round_begun, isolate_refusal, next_answer, next_state, Scans, seat_noted, is_own, IsOwnCopy, Ends, ended_as, committed, put_back_to_source, seat_ended, look_of, audit_refusal, IsAudited};
 ghost use Rattle.zone_core.specs.Pairs.{next_pair};
 ghost use Rattle.zone_core.specs.Refusals.{IsOpenable, result_err, map_refusal, map_at_refusal, access_refusal};
 ghost use Rattle.zone_core.specs.Seats.{fresh_scan_seat, fresh_end_seat};
@@ -257,6 +257,8 @@ impl<I: Ledger, M: Ledger, B: Ledger> Zone<I, M, B> {
         ensures err { OnErr result ((self.new ≡ self.old) × (seat.new ≡ seat.old)) }
         ensures ended { IfOk result (λ ended. ended ≡ ended_as self.old copied.page.number) }
         ensures ok { OnOk result (self.new ≡ committed self.old copied.serial copied.page.number) }
+        // Moved, the page stands in its target and its source is free; put back, it is the other way round.
+        ensures settled { IfOk result (λ ended. Ends self.old self.new copied ended) }
         ensures once { OnOk result (is_own self.new copied ≡ false) }
         ensures seat { IfOk result (λ ended. seat.new ≡ seat_ended seat.old ended) }
     {
@@ -287,6 +289,7 @@ impl<I: Ledger, M: Ledger, B: Ledger> Zone<I, M, B> {
         ensures back { IfErr result (λ stranger. stranger.0 ≡ isolated) }
         ensures err { OnErr result ((self.new ≡ self.old) × (seat.new ≡ seat.old)) }
         ensures ok { OnOk result (self.new ≡ put_back_to_source self.old isolated.serial isolated.page.number Cause.NotCopied) }
+        ensures settled { OnOk result (Ends self.old self.new isolated Ended.Back) }
         ensures once { OnOk result (is_own self.new isolated ≡ false) }
         ensures seat { OnOk result (seat.new ≡ record seat.old { back = seat.old.back + 1 }) }
     {

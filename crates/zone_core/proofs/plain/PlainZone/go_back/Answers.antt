@@ -7,13 +7,13 @@ use Rattle.journal_core.specs.declared.record.Record.TheVariants.{Back}
 use Rattle.zone_core.specs.declared.note.Note.{Note}
 use Rattle.zone_core.specs.declared.plain.PlainZone.TheInside.{Inside}
 use Rattle.zone_core.specs.declared.state.Placement.TheVariants.{At, Moving}
-use Rattle.zone_core.specs.Moving.{settled, source_of, put_back_to_source}
+use Rattle.zone_core.specs.Moving.{settled, IsSettled, source_of, put_back_to_source}
 use Rattle.zone_core.specs.Sound.{IsSound, state_of}
 use Rattle.zone_core.specs.ZoneState.{ZoneState, frame_count}
 use Rattle.zone_core.proofs.Facts.{not_none}
 use Rattle.zone_core.proofs.Quiet.{quiet_ended}
 use Rattle.zone_core.proofs.Settled.{can_go_back, back_recorded, frames_apart, source_within, target_in}
-use Rattle.zone_core.proofs.Settles.{back_frames, back_words, back_freer, back_start, back_counts, back_serials, ending_room, ended_most, block_most, block_at}
+use Rattle.zone_core.proofs.Settles.{back_frames, back_words, back_freer, back_start, back_counts, back_serials, back_settled, ending_room, ended_most, block_most, block_at}
 use Rattle.zone_core.proofs.Settling.{Settling, FramesSettled, blocks_gained, settle_sound, settle_view}
 use Rattle.zone_core.proofs.plain.PlainZone.go_back.Goals as goal
 use Rattle.zone_core.proofs.plain.PlainZone.go_back.Goals.{After-block_of, After-get-block, After-get-2, After-get-3, After-get-4, After-push}
@@ -123,5 +123,13 @@ invariant_of-self c =
     subst (IsSound (after c)) (sym (settle_view c.self.inside (after c) c.args.self.now c.args.way.now.page _ _ _ _ _ _ (settling c)))
     (settle_sound c.self.inside (after c) c.args.self.now c.args.way.now.page _ _ _ _ _ _ (settling c))
 
-pub returns : goal.returns
-returns c = view c
+pub returns-clause-step : goal.returns-clause-step
+returns-clause-step c = view c
+
+pub returns-clause-settled : goal.returns-clause-settled
+returns-clause-settled c =
+    let way = c.args.way.now in
+    let v = c.args.self.now in
+    let sound : IsSound c.self.inside v = subst (IsSound c.self.inside) c.self.view_is c.self.invariant in
+    subst (λ (u : ZoneState). IsSettled v u way.page way.source way.target) (sym (settle_view c.self.inside (after c) v way.page _ _ _ _ _ _ (settling c)))
+    (back_settled v way.page way.serial way.source way.target sound.lawful c.requires.placed c.args.cause)

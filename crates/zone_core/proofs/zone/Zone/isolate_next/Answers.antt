@@ -1,11 +1,12 @@
 use Rattle.std.proofs.Common.{◌∙◌, ℕ, ap, subst, sym}
 use Rattle.std.specs.Prelude.{Some}
 use Rattle.std.specs.FinMap as map
+use Rattle.journal_core.specs.History.{page_at}
 use Rattle.word_core.specs.Page.{OnItsWay}
 use Rattle.zone_core.specs.declared.state.Placement.TheVariants.{Moving}
 use Rattle.zone_core.specs.Pairs.{IsPair}
 use Rattle.zone_core.specs.ZoneState.{ZoneState}
-use Rattle.zone_core.proofs.Tables.{get_insert_same}
+use Rattle.zone_core.proofs.Tables.{get_insert_same, get_insert_other}
 use Rattle.zone_core.proofs.zone.Zone.isolate_next.Goals as goal
 
 pub returns-clause-pair : goal.returns-clause-pair
@@ -13,12 +14,17 @@ returns-clause-pair g c =
     let pair = c.in-Some.pair in
     let number = ap (λ (p : OnItsWay). p.page.number) c.isolate-page.ensures.page in
     let serial = ap (λ (p : OnItsWay). p.serial) c.isolate-page.ensures.page in
-    (
-      pair.source,
-      pair.target,
-      subst (λ (z : ZoneState). IsPair z c.isolate-page.result.page.number pair.source pair.target) c.self.view_is
-          (subst (λ (page : ℕ). IsPair c.self.inside.plain page pair.source pair.target) (sym number) c.in-Some.ensures.is_pair),
-      ap (λ (z : ZoneState). map.get z.placement c.isolate-page.result.page.number) c.isolate-page.ensures.step
+    let step = c.isolate-page.ensures.step in
+    record {
+      source = pair.source;
+      target = pair.target;
+      pair = subst (λ (z : ZoneState). IsPair z c.isolate-page.result.page.number pair.source pair.target) c.self.view_is
+          (subst (λ (page : ℕ). IsPair c.self.inside.plain page pair.source pair.target) (sym number) c.in-Some.ensures.is_pair);
+      way = ap (λ (z : ZoneState). map.get z.placement c.isolate-page.result.page.number) step
           ∙ get_insert_same c.self.inside.plain.placement pair.page c.isolate-page.result.page.number _ number
-          ∙ ap (λ (s : ℕ). Some (Moving s pair.source pair.target)) (sym serial),
-    )
+          ∙ ap (λ (s : ℕ). Some (Moving s pair.source pair.target)) (sym serial);
+      others = λ other ne. ap (λ (z : ZoneState). map.get z.placement other) step
+          ∙ get_insert_other c.self.inside.plain.placement pair.page other _ (λ e. ne (e ∙ sym number))
+          ∙ ap (λ (z : ZoneState). map.get z.placement other) c.self.view_is;
+      names = λ address. ap (λ (z : ZoneState). page_at z.records address) step ∙ ap (λ (z : ZoneState). page_at z.records address) c.self.view_is;
+    }

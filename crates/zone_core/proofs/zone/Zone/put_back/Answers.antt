@@ -5,10 +5,15 @@ use Rattle.journal_core.specs.declared.record.Record.TheVariants.{Back}
 use Rattle.word_core.specs.Page.{Page}
 use Rattle.zone_core.specs.Moving.{is_own, source_of}
 use Rattle.zone_core.specs.ZoneState.{ZoneState}
-use Rattle.zone_core.proofs.Seated.{ended_once}
+use Rattle.zone_core.proofs.Seated.{ended_once, ended_in}
 use Rattle.zone_core.proofs.zone.Zone.put_back.Goals as goal
 
 pub returns-clause-once : goal.returns-clause-once
 returns-clause-once g c =
-    ap (λ (z : ZoneState). is_own z c.args.isolated) c.go_back.ensures
+    ap (λ (z : ZoneState). is_own z c.args.isolated) c.go_back.ensures.step
     ∙ ended_once c.self.inside.plain (Back c.in-Some.way.serial NotCopied) c.in-Some.way.page (source_of (map.get c.self.inside.plain.placement c.in-Some.way.page)) c.args.isolated (ap (λ (p : Page). p.number) (sym c.page.ensures) ∙ sym c.in-Some.ensures.named.0)
+
+pub returns-clause-settled : goal.returns-clause-settled
+returns-clause-settled g c =
+    ended_in c.self.inside.plain c.args.self.now c.go_back.new.self c.args.isolated c.in-Some.way.page c.in-Some.way.serial c.in-Some.way.source c.in-Some.way.target _ _ c.self.view_is
+    (ap (λ (p : Page). p.number) (sym c.page.ensures) ∙ sym c.in-Some.ensures.named.0) (sym c.serial.ensures ∙ sym c.in-Some.ensures.named.1) c.in-Some.ensures.placed c.go_back.ensures.settled
