@@ -17,3 +17,5 @@ pub mod Pairing
 pub mod Highest
 pub mod Rounds
 pub mod Seated
+pub mod Carried
+pub mod Carrying

@@ -2,6 +2,8 @@
 use Rattle.std.specs.Prelude.{ℕ}
 use Rattle.zone_core.specs.declared.error.ZoneError.{ZoneError}
 use Rattle.zone_core.specs.declared.error.ZoneError.TheVariants.{Range, JournalFull, Unmapped, Moving, Occupied, NoFrame, ShareFull, PinFull, NotPinned, Pinned, NoBlock, NotHuge, Stranger, Memory, Missing, Out, Marked, NotMarked}
+use Rattle.zone_core.specs.declared.world.WorldError.{WorldError}
+use Rattle.zone_core.specs.declared.world.WorldError.TheVariants.{Zone, Hand}
 
 -- the number by which a script knows a refusal
 abbrev pub number_of : ZoneError → ℕ
@@ -23,3 +25,8 @@ number_of Missing = 15
 number_of Out = 16
 number_of Marked = 17
 number_of NotMarked = 18
+
+-- a call of a world is refused as its zone refuses, or by a hand
+abbrev pub world_number_of : WorldError → ℕ
+world_number_of (Zone error) = number_of error
+world_number_of Hand = 45

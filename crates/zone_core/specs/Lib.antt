@@ -7,6 +7,7 @@ pub mod Lawful
 pub mod Seats
 pub mod Moving
 pub mod World
+pub mod Carried
 pub mod Tabulated
 pub mod Fits
 pub mod Found

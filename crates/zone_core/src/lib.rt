@@ -10,6 +10,7 @@ mod counts;
 mod ending;
 mod error;
 mod hand;
+mod hands;
 mod information;
 mod isolating;
 mod law;
@@ -24,6 +25,7 @@ mod seats;
 mod state;
 #[cfg(test)]
 mod tests;
+mod world;
 mod zone;
 
 pub use error::ZoneError;
@@ -32,4 +34,5 @@ pub use law::keeps_order;
 pub use moves::{Audit, Ended, Look, Next, Stranger};
 pub use seats::{Blanks, EndSeat, ScanSeat, Answered, Seats};
 pub use state::{Info, Placement, RoundStart};
+pub use world::{Rest, World, WorldError};
 pub use zone::Zone;

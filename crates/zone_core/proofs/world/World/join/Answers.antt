@@ -1,0 +1,9 @@
+use Rattle.std.proofs.Common.{◌∙◌}
+use Rattle.std.specs.VecDeque.{deque_capacity}
+use Rattle.zone_core.proofs.Carrying.{carried_joined}
+use Rattle.zone_core.proofs.world.World.join.Goals as goal
+
+pub invariant_of-result : goal.invariant_of-result
+invariant_of-result g c =
+    carried_joined c.args.zone c.args.seats.ends c.rest.inside.waiting.items c.new.result.held (deque_capacity c.rest.inside.waiting)
+    c.journal.ensures.lawful c.requires.whole c.is_whole.ensures.most c.rest.invariant (c.rest.view_is ∙ c.requires.rest) c.new.ensures

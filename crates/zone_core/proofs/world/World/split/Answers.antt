@@ -1,0 +1,11 @@
+use Rattle.std.specs.VecDeque.{deque_capacity}
+use Rattle.zone_core.proofs.Carrying.{rest_left}
+use Rattle.zone_core.proofs.world.World.split.Goals as goal
+
+pub invariant_of-result : goal.invariant_of-result
+invariant_of-result g c =
+    let z = c.self.inside in
+    rest_left z.zone z.is_open z.waiting.items z.hands.held z.ends.parts (deque_capacity z.waiting) c.self.invariant c.if-self.false
+
+pub returns-clause-seats : goal.returns-clause-seats
+returns-clause-seats g c = c.self.invariant.parts

@@ -1,0 +1,423 @@
+//! A zone with its seats, the pages of it that are on their way, and four hands.
+
+ghost use Rattle.std.specs.Prelude.{◌≡◌, ◌<◌, ◌≤◌, ◌*◌, ◌↔◌, [], ◌∷◌, length, true, Some, None, Err, IfOk, IfErr, OnOk, OnErr, IsErr};
+ghost use Rattle.std.specs.Int.RustNames.{bit_and};
+ghost use Rattle.zone_core.specs.Books.{IsFor};
+ghost use Rattle.journal_core.specs.Moves.{page_of};
+ghost use Rattle.std.specs.VecDeque.{deque_capacity};
+ghost use Rattle.zone_core.specs.Carried.{serials_of, AreOwn};
+ghost use Rattle.zone_core.specs.ErrorNumber.{world_number_of};
+ghost use Rattle.zone_core.specs.Moving.{IsOwnCopy, isolate_refusal, audit_refusal};
+ghost use Rattle.zone_core.specs.Pairs.{next_pair};
+ghost use Rattle.zone_core.specs.Refusals.{IsOpenable, result_err, map_refusal, map_at_refusal, access_refusal};
+ghost use Rattle.zone_core.specs.Steps.{mapped, value_at, loaded, stored, is_unmovable};
+ghost use Rattle.zone_core.specs.World.{IsRising, world_opened, world_closed, with_zone, round_opened, scanned_by, isolated_by, finished_as, finished_in, all_put_back, scan_refusal, scan_answer, scanned, take_step, copy_step, finish_step, shut_step};
+ghost use Rattle.zone_core.specs.ZoneState.{lowest_free_frame};
+
+use crate::error::ZoneError;
+use crate::hand::{Finished, Scanned};
+use crate::hands::{Hands, Held};
+use crate::moves::Next;
+use crate::seats::{Blanks, EndSeat, ScanSeat, Seats};
+use crate::zone::Zone;
+use frame_core::{Address, ClientNo, FrameNo, PageFlags, Serial, WordNo, ZoneNo};
+use std::alloc::Global;
+use std::collections::VecDeque;
+use std::marker::Model;
+use std::sync::ledger::Ledger;
+use thiserror::Error;
+use word_core::{Copied, Isolated};
+
+/// Why a call of a world was refused.
+#[derive(Clone, Copy, Debug, PartialEq, Eq, Error)]
+pub enum WorldError {
+    #[error("the zone refused: {0}")]
+    Zone(ZoneError),
+    #[error("the hand does not hold what the call needs, or no page waits")]
+    Hand,
+}
+
+impl WorldError {
+    /// The number by which a script knows it: that of the zone's refusal, or 45.
+    pub fn number(&self) -> u16
+        ensures { result ≡ world_number_of self.now }
+    {
+        match self {
+            WorldError::Zone(error) => error.number(),
+            WorldError::Hand => 45,
+        }
+    }
+}
+
+/// A zone with its seats, the pages of it that are on their way, and four hands. Each hand is empty, or has a page or its
+/// copy. After `open` no call takes memory.
+#[derive(Drop)]
+pub struct World<I: Ledger, N: Ledger, M: Ledger, B: Ledger> {
+    zone: Zone<I, M, B>,
+    scan: ScanSeat<I, N>,
+    ends: EndSeat<M, B>,
+    waiting: VecDeque<Isolated>,
+    hands: Hands,
+    is_open: bool,
+}
+
+impl<I: Ledger, N: Ledger, M: Ledger, B: Ledger> Model for World<I, N, M, B> {
+    ghost use Rattle.std.specs.Coded.{codes};
+    ghost use Rattle.std.specs.VecDeque.{deque_capacity};
+    ghost use Rattle.zone_core.specs.World.{WorldState};
+    ghost use Rattle.zone_core.specs.contracts.plain.PlainZone as plain_zone;
+
+    ghost Value = { WorldState };
+
+    ghost coded = { Prim.hlevel (codes, plain_zone.the_row.coded) };
+
+    ghost use Rattle.zone_core.specs.Carried.{world_of, IsCarried};
+
+    ghost view = { λ w. world_of w.zone w.is_open w.waiting.items w.hands.held };
+
+    ghost invariant = { λ w. IsCarried w.zone w.is_open w.waiting.items w.hands.held w.ends.parts (deque_capacity w.waiting) };
+}
+
+/// What a world has besides its zone and its seats, while nothing of the zone is on its way: the memory of its list. It fits
+/// zones with as many pageblocks.
+#[derive(Drop)]
+pub struct Rest {
+    waiting: VecDeque<Isolated>,
+}
+
+impl Model for Rest {
+    ghost use Rattle.std.specs.Prelude.{◌/◌, ℕ};
+    ghost use Rattle.std.specs.VecDeque.{deque_capacity};
+
+    ghost Value = { ℕ };
+
+    ghost use Rattle.zone_core.specs.Carried.{IsRest};
+
+    ghost view = { λ r. deque_capacity r.waiting / 256 };
+
+    ghost invariant = { λ r. IsRest r.waiting.items (deque_capacity r.waiting) };
+}
+
+impl<I: Ledger, N: Ledger, M: Ledger, B: Ledger> World<I, N, M, B> {
+    /// A world with an empty zone. The blanks are those of the ledgers that the types name; a refusal drops them.
+    pub fn open(
+        alloc: Global,
+        number: ZoneNo,
+        blocks: u32,
+        places: u32,
+        blanks: Blanks,
+    ) -> Result<World<I, N, M, B>, ZoneError>
+        requires isolated { IsFor blanks.isolated.name blanks.isolated.parts I.name I.parts }
+        requires rounds { IsFor blanks.rounds.name blanks.rounds.parts N.name N.parts }
+        requires moved { IsFor blanks.moved.name blanks.moved.parts M.name M.parts }
+        requires back { IsFor blanks.back.name blanks.back.parts B.name B.parts }
+        ensures range { ¬ (IsOpenable blocks places) → result ≡ Err ZoneError.Range }
+        ensures memory { IsOpenable blocks places → IfErr result (λ error. error ≡ ZoneError.Memory) }
+        ensures ok { IfOk result (λ world. world ≡ world_opened number blocks places) }
+    {
+        let (zone, scan, ends) = Zone::open(alloc, number, blocks, places, blanks)?;
+        let Ok(waiting) = VecDeque::with_capacity(alloc, 256 * blocks as usize) else {
+            return Err(ZoneError::Memory);
+        };
+        Ok(World {
+            zone,
+            scan,
+            ends,
+            waiting,
+            hands: Hands::new(),
+            is_open: false,
+        })
+    }
+
+    /// Its zone.
+    pub fn zone(&self) -> &Zone<I, M, B>
+        ensures { result.now ≡ self.now.zone }
+    {
+        &self.zone
+    }
+
+    /// Binds an address to a fresh page in the lowest free frame.
+    pub fn map(
+        &mut self,
+        client: ClientNo,
+        address: Address,
+        flags: PageFlags,
+    ) -> Result<FrameNo, ZoneError>
+        requires clean { bit_and flags.0 2 ≡ 0 }
+        ensures refused { result_err result ≡ map_refusal self.old.zone address }
+        ensures err { OnErr result (self.new ≡ self.old) }
+        ensures frame { IfOk result (λ frame. lowest_free_frame self.old.zone ≡ Some frame) }
+        ensures ok { IfOk result (λ frame. self.new ≡ with_zone self.old (mapped self.old.zone client address (is_unmovable flags) frame)) }
+    {
+        let frame = self.zone.map(client, address, flags);
+        // It is lawful.
+        let _ = self.zone.journal();
+        frame
+    }
+
+    /// Binds an address to a fresh page in the frame that is given.
+    pub fn map_at(
+        &mut self,
+        client: ClientNo,
+        address: Address,
+        flags: PageFlags,
+        frame: FrameNo,
+    ) -> Result<(), ZoneError>
+        requires clean { bit_and flags.0 2 ≡ 0 }
+        ensures refused { result_err result ≡ map_at_refusal self.old.zone address frame }
+        ensures err { OnErr result (self.new ≡ self.old) }
+        ensures ok { OnOk result (self.new ≡ with_zone self.old (mapped self.old.zone client address (is_unmovable flags) frame)) }
+    {
+        let done = self.zone.map_at(client, address, flags, frame);
+        // It is lawful.
+        let _ = self.zone.journal();
+        done
+    }
+
+    /// Reads a word of the page that an address names.
+    pub fn load(
+        &mut self,
+        client: ClientNo,
+        address: Address,
+        word: WordNo,
+    ) -> Result<u64, ZoneError>
+        ensures refused { result_err result ≡ access_refusal self.old.zone address }
+        ensures err { OnErr result (self.new ≡ self.old) }
+        ensures value { IfOk result (λ value. value ≡ value_at self.old.zone address word) }
+        ensures ok { OnOk result (self.new ≡ with_zone self.old (loaded self.old.zone client address word)) }
+    {
+        self.zone.load(client, address, word)
+    }
+
+    /// Writes a word of the page that an address names.
+    pub fn store(
+        &mut self,
+        client: ClientNo,
+        address: Address,
+        word: WordNo,
+        value: u64,
+    ) -> Result<(), ZoneError>
+        ensures refused { result_err result ≡ access_refusal self.old.zone address }
+        ensures err { OnErr result (self.new ≡ self.old) }
+        ensures ok { OnOk result (self.new ≡ with_zone self.old (stored self.old.zone client address word value)) }
+    {
+        self.zone.store(client, address, word, value)
+    }
+
+    /// Takes the next page on its way, which waits behind the others. It opens a round where none is open.
+    pub fn scan(&mut self) -> Result<Scanned, WorldError>
+        ensures error { IfErr result (λ error. error ≡ WorldError.Zone ZoneError.JournalFull) }
+        ensures refused { OnErr result (scan_refusal self.old ≡ Some ZoneError.JournalFull) }
+        ensures err { OnErr result (self.new ≡ round_opened self.old) }
+        ensures open { OnOk result (scan_refusal self.old ≡ None) }
+        ensures found { IfOk result (λ found. found ≡ scan_answer self.old) }
+        ensures ok { OnOk result (self.new ≡ scanned self.old) }
+    {
+        self.open_round();
+        self.scan_next()
+    }
+
+    /// Opens a round where none is open.
+    fn open_round(&mut self)
+        ensures { self.new ≡ round_opened self.old }
+    {
+        if self.is_open {
+            return;
+        }
+        self.zone.begin_round(&mut self.scan);
+        self.is_open = true;
+    }
+
+    /// Takes the next page of the open round on its way.
+    fn scan_next(&mut self) -> Result<Scanned, WorldError>
+        requires open { self.old.is_open ≡ true }
+        ensures error { IfErr result (λ error. error ≡ WorldError.Zone ZoneError.JournalFull) }
+        ensures refused { OnErr result (isolate_refusal self.old.zone ≡ Some ZoneError.JournalFull) }
+        ensures err { OnErr result (self.new ≡ self.old) }
+        ensures open { OnOk result (isolate_refusal self.old.zone ≡ None) }
+        ensures found { IfOk result (λ found. found ≡ scanned_by self.old.zone (next_pair self.old.zone)) }
+        ensures ok { OnOk result (self.new ≡ isolated_by self.old (next_pair self.old.zone)) }
+    {
+        match self.zone.isolate_next(&mut self.scan) {
+            Ok(Next::Page(page)) => {
+                let serial = page.serial();
+                self.waiting.push_back_reserved(page);
+                Ok(Scanned::Serial(serial))
+            }
+            Ok(Next::Met) => Ok(Scanned::Met),
+            Err(error) => Err(WorldError::Zone(error)),
+        }
+    }
+
+    /// An empty hand takes the page that has waited longest.
+    pub fn take(&mut self, k: u32) -> Result<Serial, WorldError>
+        requires low { 0 < k }
+        requires high { k ≤ 4 }
+        ensures ok { IfOk result (λ serial. take_step self.old k ≡ Some (serial, self.new)) }
+        ensures hand { IfErr result (λ error. error ≡ WorldError.Hand) }
+        ensures refused { OnErr result (take_step self.old k ≡ None) }
+        ensures err { OnErr result (self.new ≡ self.old) }
+    {
+        if !self.hands.is_empty(k) {
+            return Err(WorldError::Hand);
+        }
+        let Some(page) = self.waiting.pop_front() else {
+            return Err(WorldError::Hand);
+        };
+        let serial = page.serial();
+        self.hands.put(k, Held::Page(page));
+        Ok(serial)
+    }
+
+    /// A hand with a page copies it, and has the copy in its place.
+    pub fn copy(&mut self, k: u32) -> Result<(), WorldError>
+        requires low { 0 < k }
+        requires high { k ≤ 4 }
+        ensures ok { OnOk result (copy_step self.old k ≡ Some self.new) }
+        ensures hand { IfErr result (λ error. error ≡ WorldError.Hand) }
+        ensures refused { OnErr result (copy_step self.old k ≡ None) }
+        ensures err { OnErr result (self.new ≡ self.old) }
+    {
+        let Some(page) = self.hands.page_from(k) else {
+            return Err(WorldError::Hand);
+        };
+        self.hands.put(k, Held::Copy(page.copy_into_new()));
+        Ok(())
+    }
+
+    /// A hand with a copy brings it to the zone, which ends the move of its page. The hand is empty then.
+    pub fn finish(&mut self, k: u32) -> Result<Finished, WorldError>
+        requires low { 0 < k }
+        requires high { k ≤ 4 }
+        ensures ok { IfOk result (λ finished. finish_step self.old k ≡ Some (finished, self.new)) }
+        ensures hand { IfErr result (λ error. error ≡ WorldError.Hand) }
+        ensures refused { OnErr result (finish_step self.old k ≡ None) }
+        ensures err { OnErr result (self.new ≡ self.old) }
+    {
+        let Some(copy) = self.hands.copy_from(k) else {
+            return Err(WorldError::Hand);
+        };
+        Ok(finish_in(&mut self.zone, &mut self.ends, copy))
+    }
+
+    /// Where each hand is empty, closes the round: puts the pages that wait back, in order, and tells how many.
+    pub fn shut(&mut self) -> Result<u32, WorldError>
+        ensures ok { IfOk result (λ count. shut_step self.old ≡ Some (count, self.new)) }
+        ensures hand { IfErr result (λ error. error ≡ WorldError.Hand) }
+        ensures refused { OnErr result (shut_step self.old ≡ None) }
+        ensures err { OnErr result (self.new ≡ self.old) }
+    {
+        if !self.hands.are_empty() {
+            return Err(WorldError::Hand);
+        }
+        let count = put_all_back_in(&mut self.zone, &mut self.ends, &mut self.waiting);
+        self.is_open = false;
+        Ok(count)
+    }
+
+    /// Its zone, its seats and its rest, where no round is open; else the world as it was.
+    pub fn split(
+        self,
+    ) -> Result<(Zone<I, M, B>, Seats<I, N, M, B>, Rest), World<I, N, M, B>>
+        ensures refused { IsErr result ↔ (self.is_open ≡ true) }
+        ensures err { IfErr result (λ world. world ≡ self) }
+        ensures zone { IfOk result (λ parts. parts.0 ≡ self.zone) }
+        ensures seats { IfOk result (λ parts. parts.1.ends.parts ≡ 64) }
+        ensures rest { IfOk result (λ parts. parts.2 ≡ self.zone.blocks) }
+    {
+        if self.is_open {
+            return Err(self);
+        }
+        let World {
+            zone,
+            scan,
+            ends,
+            waiting,
+            ..
+        } = self;
+        Ok((zone, Seats { scan, ends }, Rest { waiting }))
+    }
+
+    /// A world again, of a zone with its seats where no page is on its way.
+    pub fn join(
+        zone: Zone<I, M, B>,
+        seats: Seats<I, N, M, B>,
+        rest: Rest,
+    ) -> World<I, N, M, B>
+        requires whole { audit_refusal zone seats.ends ≡ None }
+        requires rest { rest ≡ zone.blocks }
+        ensures { result ≡ world_closed zone }
+    {
+        let _ = zone.journal();
+        let Seats { scan, ends } = seats;
+        let _ = ends.is_whole();
+        World {
+            zone,
+            scan,
+            ends,
+            waiting: rest.waiting,
+            hands: Hands::new(),
+            is_open: false,
+        }
+    }
+}
+
+/// Ends the move of a page of the zone with its copy.
+fn finish_in<I: Ledger, M: Ledger, B: Ledger>(
+    zone: &mut Zone<I, M, B>,
+    ends: &mut EndSeat<M, B>,
+    copy: Copied,
+) -> Finished
+    requires own { IsOwnCopy zone.old copy }
+    ensures finished { result ≡ finished_as zone.old copy.serial }
+    ensures zone { zone.new ≡ finished_in zone.old copy.serial }
+    ensures parts { ends.new.parts ≡ ends.old.parts }
+{
+    let _ = zone.journal();
+    let serial = copy.serial();
+    let Ok(ended) = zone.commit(ends, copy) else {
+        unreachable!();
+    };
+    Finished { serial, ended }
+}
+
+/// Ends the move of a page of the zone that no copier reached.
+fn put_back_in<I: Ledger, M: Ledger, B: Ledger>(
+    zone: &mut Zone<I, M, B>,
+    ends: &mut EndSeat<M, B>,
+    page: Isolated,
+)
+    requires own { IsOwnCopy zone.old page }
+    ensures zone { zone.new ≡ all_put_back zone.old (page.serial ∷ []) }
+    ensures page { page_of zone.old.records page.serial ≡ Some page.page.number }
+    ensures parts { ends.new.parts ≡ ends.old.parts }
+{
+    let _ = zone.journal();
+    let Ok(()) = zone.put_back(ends, page) else {
+        unreachable!();
+    };
+}
+
+/// Ends the moves of pages of the zone that no copier reached, in order, and tells how many there are.
+fn put_all_back_in<I: Ledger, M: Ledger, B: Ledger>(
+    zone: &mut Zone<I, M, B>,
+    ends: &mut EndSeat<M, B>,
+    waiting: &mut VecDeque<Isolated>,
+) -> u32
+    requires own { AreOwn zone.old waiting.old.items }
+    requires rising { IsRising (serials_of waiting.old.items) }
+    requires few { length waiting.old.items ≤ 4096 }
+    ensures count { result ≡ length waiting.old.items }
+    ensures zone { zone.new ≡ all_put_back zone.old (serials_of waiting.old.items) }
+    ensures blocks { zone.new.blocks ≡ zone.old.blocks }
+    ensures waiting { waiting.new.items ≡ [] }
+    ensures capacity { deque_capacity waiting.new ≡ deque_capacity waiting.old }
+    ensures parts { ends.new.parts ≡ ends.old.parts }
+{
+    let mut count = 0;
+    while let Some(page) = waiting.pop_front() {
+        put_back_in(zone, ends, page);
+        count += 1;
+    }
+    count
+}
