@@ -1,5 +1,5 @@
 -- A load and a store leave a zone sound.
-use Rattle.std.proofs.Common.{◌≡◌, ◌≢◌, ℕ, ◌+◌, ◌-◌, ◌*◌, ◌<◌, ◌≤◌, Bool, true, false, List, [], ◌∷◌, length, ◌⊎◌, inl, inr, refl, sym, ap, subst, ◌∙◌, get_or, arith}
+use Rattle.std.proofs.Common.{◌≡◌, ◌≢◌, ℕ, ◌+◌, ◌<◌, Bool, true, false, List, [], ◌∷◌, length, inl, inr, refl, sym, ap, subst, ◌∙◌, get_or, arith}
 use Rattle.std.specs.Prelude.{Option, Some, None, IsSome, IsSomeAnd, is_some, slice_get, slice_set, unwrap_or, nat_eq, ◌&&◌, ◌||◌, if◌then◌else◌}
 use Rattle.std.specs.FinMap as map
 use Rattle.std.specs.Option.{option_and_then}
@@ -7,21 +7,18 @@ use Rattle.std.specs.Vec.{with_item}
 use Rattle.std.proofs.lemmas.Bool.{eq-eqb}
 use Rattle.std.proofs.lemmas.Bool.Decides.{eqb_tells}
 use Rattle.std.proofs.lemmas.List.{length-set}
-use Rattle.std.proofs.lemmas.Option.{slice_get_within, get_or_from_slice_get, slice_get-get_or}
+use Rattle.std.proofs.lemmas.Option.{slice_get_within, get_or_from_slice_get}
 use Rattle.frame_core.proofs.Lists.{slice_get_set_same, slice_get_set_other}
 use Rattle.frame_core.specs.declared.place.Address.{Address}
 use Rattle.frame_core.specs.declared.state.FrameState.{FrameState}
 use Rattle.frame_core.specs.declared.state.FrameState.TheVariants.{Holds}
 use Rattle.journal_core.proofs.Maps.{no_test}
-use Rattle.journal_core.specs.declared.record.Record.{Record}
 use Rattle.journal_core.specs.declared.record.Record.TheVariants.{Load, Store}
-use Rattle.journal_core.specs.History.{page_at, is_page, names, last, dirty, pins, maps}
+use Rattle.journal_core.specs.History.{page_at, is_page, last, dirty, pins, maps}
 use Rattle.journal_core.specs.Journal.{Journal}
 use Rattle.journal_core.specs.Moves.{out}
-use Rattle.table_core.specs.declared.entry.Entry.{Entry}
 use Rattle.table_core.specs.declared.entry.Entry.TheVariants.{Absent, Present, Migration}
 use Rattle.word_core.specs.Words.{words_of, word_of, with_word}
-use Rattle.zone_core.specs.declared.error.ZoneError.{ZoneError}
 use Rattle.zone_core.specs.declared.error.ZoneError.TheVariants.{Unmapped, Moving as IsMoving}
 use Rattle.zone_core.specs.declared.note.Note.{Note}
 use Rattle.zone_core.specs.declared.plain.PlainZone.TheInside.{Inside}
@@ -29,11 +26,11 @@ use Rattle.zone_core.specs.declared.state.Placement.{Placement}
 use Rattle.zone_core.specs.declared.state.Placement.TheVariants.{At, Moving}
 use Rattle.zone_core.specs.Lawful.{IsLawful}
 use Rattle.zone_core.specs.Refusals.{placement_refusal}
-use Rattle.zone_core.specs.Fits.{entry_for, words_frame, FramesFit, EntriesFit, WordsFit, NoteFits, NotesFit, SerialsFit, CountsFit, BlocksFit, StartsFit}
+use Rattle.zone_core.specs.Fits.{entry_for, words_frame, WordsFit, NoteFits, NotesFit}
 use Rattle.zone_core.specs.Sound.{IsSound, state_of}
 use Rattle.zone_core.specs.Found.{placement_of, is_unmovable_of, says_unmovable}
 use Rattle.zone_core.specs.Steps.{value_at, loaded, stored}
-use Rattle.zone_core.specs.ZoneState.{ZoneState, frame_count, placement_at, noted}
+use Rattle.zone_core.specs.ZoneState.{ZoneState, placement_at}
 use Rattle.zone_core.specs.Tabulated.{tabulated, gathered}
 use Rattle.zone_core.proofs.Quiet.{quiet_kept, begun_more}
 use Rattle.zone_core.proofs.Tables.{tabulated_same, gathered_same}

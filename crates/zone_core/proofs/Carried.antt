@@ -1,9 +1,8 @@
 -- What a call of the zone does not change of the pages on their way.
-use Rattle.std.proofs.Common.{◌≡◌, ◌≢◌, ℕ, Bool, true, false, List, [], ◌∷◌, refl, sym, ap, ◌∙◌, arith}
+use Rattle.std.proofs.Common.{◌≡◌, ◌≢◌, ℕ, Bool, true, false, [], ◌∷◌, refl, sym, ap, ◌∙◌}
 use Rattle.std.specs.Prelude.{Option, Some, None, map as each, nat_eq, ◌&&◌, if◌then◌else◌}
 use Rattle.std.specs.FinMap as map
 use Rattle.std.proofs.lemmas.Bool.{and_parts, and_from, eq-eqb, eqb-true}
-use Rattle.std.proofs.lemmas.Bool.Decides.{eqb_tells}
 use Rattle.journal_core.proofs.Maps.{no_test}
 use Rattle.frame_core.specs.declared.place.Address.{Address}
 use Rattle.journal_core.specs.declared.record.Cause.{Cause}
@@ -20,7 +19,7 @@ use Rattle.zone_core.specs.Lawful.{IsLawful, is_under}
 use Rattle.zone_core.specs.Moving.{is_own, IsOwnCopy, page_now, round_begun, isolated_next, settled, moved_to_target, put_back_to_source, committed}
 use Rattle.zone_core.specs.Steps.{placed, loaded, stored}
 use Rattle.zone_core.specs.ZoneState.{ZoneState, placement_at}
-use Rattle.zone_core.proofs.Facts.{chosen, skipped, page_named}
+use Rattle.zone_core.proofs.Facts.{skipped, page_named}
 use Rattle.zone_core.proofs.Tables.{get_insert_same, get_insert_other}
 
 under_moving : (o : Option Placement) (serial : ℕ) → is_under o serial ≡ true → (source : ℕ) × (target : ℕ) × (o ≡ Some (Moving serial source target))
@@ -103,7 +102,7 @@ own_isolated z pair frame at p own =
 pub own_fresh : (z : ZoneState) (pair : Pair) → IsOwnCopy (isolated_next z pair) (record { serial = isolated z.records; page = page_now z pair.page })
 own_fresh z pair = record {
   own = and_from (nat_eq z.number z.number) _ (eq-eqb z.number z.number refl)
-  (ap (λ (o : Option Placement). is_under o (isolated z.records)) (get_insert_same z.placement pair.page pair.page _ refl) ∙ eq-eqb (isolated z.records) (isolated z.records) refl);
+      (ap (λ (o : Option Placement). is_under o (isolated z.records)) (get_insert_same z.placement pair.page pair.page _ refl) ∙ eq-eqb (isolated z.records) (isolated z.records) refl);
   same = refl;
 }
 

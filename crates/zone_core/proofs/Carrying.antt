@@ -1,6 +1,6 @@
 -- Each step of a world keeps what it carries.
 use Rattle.std.proofs.Common.{◌≡◌, ◌≢◌, ℕ, zero, suc, ◌+◌, ◌-◌, ◌*◌, ◌/◌, ◌<◌, ◌≤◌, Bool, true, false, not, List, [], ◌∷◌, ◌++◌, length, ◌⊎◌, inl, inr, refl, sym, ap, subst, ◌∙◌, arith}
-use Rattle.std.specs.Prelude.{Option, Some, None, IsSome, IsTrue, Result, Ok, Err, IfOk, IfErr, OnOk, OnErr, map as each, replicate, slice_get, slice_set, unwrap_or, nat_eq, nat_lt, nat_le, is_some, ◌&&◌, ◌||◌, if◌then◌else◌}
+use Rattle.std.specs.Prelude.{Option, Some, None, IsSome, Result, Ok, Err, IfOk, OnOk, OnErr, map as each, replicate, slice_get, slice_set, unwrap_or, nat_eq, nat_lt, is_some, if◌then◌else◌}
 use Rattle.std.specs.FinMap as map
 use Rattle.std.specs.List.{list_any, list_all}
 use Rattle.std.specs.Option.{option_and_then}
@@ -17,7 +17,6 @@ use Rattle.journal_core.proofs.OnTheWay.{out_empty}
 use Rattle.word_core.specs.Page.{OnItsWay}
 use Rattle.zone_core.specs.declared.error.ZoneError.{ZoneError}
 use Rattle.zone_core.specs.declared.error.ZoneError.TheVariants.{Range, JournalFull, Occupied, NoFrame, Missing, Out}
-use Rattle.zone_core.specs.declared.hand.Finished.{Finished}
 use Rattle.zone_core.specs.declared.hand.Hand.{Hand}
 use Rattle.zone_core.specs.declared.hand.Hand.TheVariants as hand
 use Rattle.zone_core.specs.declared.hands.Held.{Held}
@@ -29,11 +28,11 @@ use Rattle.zone_core.specs.declared.state.Placement.{Placement}
 use Rattle.zone_core.specs.declared.state.Placement.TheVariants.{At, Moving}
 use Rattle.zone_core.specs.Lawful.{IsLawful}
 use Rattle.zone_core.specs.Pairs.{next_pair}
-use Rattle.zone_core.specs.Moving.{is_own, IsOwnCopy, page_now, round_begun, isolate_refusal, isolated_next, next_answer, next_state, Scans, committed, put_back_to_source, moved_to_target, audit_refusal}
+use Rattle.zone_core.specs.Moving.{IsOwnCopy, page_now, round_begun, isolate_refusal, isolated_next, next_answer, next_state, Scans, committed, put_back_to_source, moved_to_target, audit_refusal}
 use Rattle.zone_core.specs.Refusals.{IsOpenable, result_err, placement_refusal, access_refusal, map_at_refusal}
 use Rattle.zone_core.specs.Seats.{EndSeat}
 use Rattle.zone_core.specs.Steps.{mapped, placed, loaded, stored}
-use Rattle.zone_core.specs.World.{WorldState, IsOrderly, IsRising, world_closed, hand_of, with_hand, with_zone, serial_in, page_in, copy_in, is_empty, waits, take_step, copy_step, finish_step, finished_as, finished_in, all_put_back, shut_step, taken_by, isolated_by, round_opened}
+use Rattle.zone_core.specs.World.{WorldState, IsOrderly, IsRising, world_closed, hand_of, with_hand, with_zone, serial_in, page_in, copy_in, is_empty, take_step, copy_step, finish_step, finished_as, finished_in, all_put_back, shut_step, taken_by, isolated_by}
 use Rattle.zone_core.specs.ZoneState.{ZoneState, frame_count, has_room, is_free, placement_at, lowest_free_frame, lowest_unused_page}
 use Rattle.zone_core.proofs.Accessed.{lawful_loaded, lawful_stored}
 use Rattle.zone_core.proofs.Finding.{some_lowest, unused_left, unused_is}
@@ -64,9 +63,9 @@ seen_some held i h e = seen_at held i ∙ ap (λ (o : Option Held). hand_as (unw
 held_after : (held : List Held) (i j : ℕ) (x y : Held) → slice_get (slice_set held i x) j ≡ Some y → ((j ≡ i) × (x ≡ y)) ⊎ ((j ≢ i) × (slice_get held j ≡ Some y))
 held_after held i j x y e = elim (eqb_tells j i) [
   | inl same ↦ (
-    let within : i < length held = omega (arith, slice_get_within (slice_set held i x) j y e, length-set held i x, same.1) in
-    let both : Some x ≡ Some y = sym (slice_get_set_same held i j x same.1 within) ∙ e in
-    inl (same.1, cc))
+      let within : i < length held = omega (arith, slice_get_within (slice_set held i x) j y e, length-set held i x, same.1) in
+      let both : Some x ≡ Some y = sym (slice_get_set_same held i j x same.1 within) ∙ e in
+      inl (same.1, cc))
   | inr other ↦ inr (other.1, sym (slice_get_set_other held i j x other.1) ∙ e)
 ]
 
@@ -345,7 +344,7 @@ closing_first zone list own rising = record {
 pub closing_next : (zone : ZoneState) (p : OnItsWay) (list : List OnItsWay) (count : ℕ) (first : ZoneState) (all : List OnItsWay) → IsClosing zone (p ∷ list) count first all → page_of zone.records p.serial ≡ Some p.page.number → IsClosing (all_put_back zone (p.serial ∷ [])) list (count + 1) first all
 closing_next zone p list count first all was page = record {
   own = λ i q e. subst (λ (v : ZoneState). IsOwnCopy v q) (sym put_is)
-    (own_put_back zone NotCopied p q (was.own zero p refl).own (rises i q e) (was.own (suc i) q e));
+      (own_put_back zone NotCopied p q (was.own zero p refl).own (rises i q e) (was.own (suc i) q e));
   rising = was.rising.1;
   ahead = was.ahead;
   counted = omega (arith, was.counted);
@@ -385,11 +384,11 @@ module _ (zone next : ZoneState) (is_open : Bool) (list : List OnItsWay) (held :
   step_shut =
       taken (list_all is_empty (each hand_as held)) (Some (length (serials_of list), record open_world { zone = all_put_back zone (serials_of list); is_open = false; waiting = [] })) None (empty_seen held ∙ empty)
       ∙ (λ i. Some (number i, world_of (back i) false [] held)) where
-    back : all_put_back zone (serials_of list) ≡ next
-    back = sym done
+        back : all_put_back zone (serials_of list) ≡ next
+        back = sym done
 
-    number : length (serials_of list) ≡ count
-    number = length-map list (λ (p : OnItsWay). p.serial) ∙ sym counted
+        number : length (serials_of list) ≡ count
+        number = length-map list (λ (p : OnItsWay). p.serial) ∙ sym counted
 
   pub carried_shut : IsCarried next false [] held parts capacity
   carried_shut = record {
@@ -407,9 +406,9 @@ module _ (zone next : ZoneState) (is_open : Bool) (list : List OnItsWay) (held :
 pub carried_opened : (zone : ZoneState) (is_open : Bool) (list : List OnItsWay) (held : List Held) (parts capacity : ℕ) → IsCarried zone is_open list held parts capacity → is_open ≡ false → IsCarried (round_begun zone) true list held parts capacity
 carried_opened zone is_open list held parts capacity was closed =
     carried_with zone (round_begun zone) is_open list held parts capacity was true orderly (own_begun zone) refl where
-  orderly : IsOrderly (world_of (round_begun zone) true list held)
-  orderly = subst (λ (b : Bool). IsOrderly (record { zone = if b then zone else round_begun zone; is_open = true; waiting = serials_of list; hands = each hand_as held })) closed
-    (orderly_round_opened (world_of zone is_open list held) was.orderly)
+      orderly : IsOrderly (world_of (round_begun zone) true list held)
+      orderly = subst (λ (b : Bool). IsOrderly (record { zone = if b then zone else round_begun zone; is_open = true; waiting = serials_of list; hands = each hand_as held })) closed
+          (orderly_round_opened (world_of zone is_open list held) was.orderly)
 
 serials_more : (list : List OnItsWay) (p : OnItsWay) → serials_of (list ++ p ∷ []) ≡ serials_of list ++ p.serial ∷ []
 serials_more [] p = refl
@@ -556,8 +555,8 @@ pub few_blocks : {T : Type 0} (blocks places : ℕ) (x : T) → ((IsOpenable blo
 few_blocks blocks places x range = elim (leb_tells blocks 8) [
   | inl few ↦ few.1
   | inr many ↦ (
-    let refused = range (λ openable. let few = openable.1 in absurd (omega arith)) in
-    cc)
+      let refused = range (λ openable. let few = openable.1 in absurd (omega arith)) in
+      cc)
 ]
 
 audit_then : (a b : Bool) → (if a then Some Missing else if b then Some Out else None) ≡ None → (a ≡ false) × (b ≡ false)

@@ -1,27 +1,23 @@
 -- The page of a pair is on its way: how each table changes.
-use Rattle.std.proofs.Common.{◌≡◌, ◌≢◌, ℕ, zero, suc, ◌+◌, ◌-◌, ◌*◌, ◌/◌, ◌<◌, ◌≤◌, Bool, true, false, List, [], ◌∷◌, ◌++◌, length, ◌⊎◌, inl, inr, refl, sym, ap, ◌∙◌, arith}
-use Rattle.std.specs.Prelude.{Option, Some, None, slice_get, slice_set, nat_eq, ◌||◌, if◌then◌else◌}
+use Rattle.std.proofs.Common.{◌≡◌, ◌≢◌, ℕ, zero, suc, ◌+◌, ◌-◌, ◌<◌, ◌≤◌, Bool, true, false, List, [], ◌∷◌, ◌++◌, length, ◌⊎◌, inl, inr, refl, sym, ap, ◌∙◌, arith}
+use Rattle.std.specs.Prelude.{Some, None, slice_get, slice_set, nat_eq, ◌||◌, if◌then◌else◌}
 use Rattle.std.proofs.lemmas.Bool.{eq-eqb}
 use Rattle.std.proofs.lemmas.Bool.Decides.{eqb_tells}
 use Rattle.std.proofs.lemmas.List.{length-set}
 use Rattle.frame_core.proofs.Lists.{slice_get_set_same, slice_get_set_other}
-use Rattle.frame_core.specs.Below.{count_below}
 use Rattle.frame_core.specs.declared.state.FrameState.{FrameState}
-use Rattle.frame_core.specs.declared.state.FrameState.TheVariants.{Free, Source, Target}
-use Rattle.journal_core.proofs.Maps.{no_test}
+use Rattle.frame_core.specs.declared.state.FrameState.TheVariants.{Source, Target}
 use Rattle.journal_core.specs.declared.record.Record.{Record}
 use Rattle.journal_core.specs.declared.record.Record.TheVariants.{Isolate}
-use Rattle.journal_core.specs.Moves.{isolated, out, page_of}
-use Rattle.word_core.specs.Words.{words_of}
+use Rattle.journal_core.specs.Moves.{isolated, page_of}
 use Rattle.zone_core.specs.declared.counts.Counts.{Counts}
 use Rattle.zone_core.specs.declared.pair.Pair.{Pair}
-use Rattle.zone_core.specs.declared.state.Placement.{Placement}
 use Rattle.zone_core.specs.declared.state.Placement.TheVariants.{At, Moving}
 use Rattle.zone_core.specs.Fits.{state_by, WordsFit, SerialsFit, CountsFit}
 use Rattle.zone_core.specs.Lawful.{IsLawful}
 use Rattle.zone_core.specs.Moving.{settled}
 use Rattle.zone_core.specs.Pairs.{IsPair}
-use Rattle.zone_core.specs.ZoneState.{ZoneState, frame_count, takes_up, is_free}
+use Rattle.zone_core.specs.ZoneState.{ZoneState, frame_count, is_free}
 use Rattle.zone_core.proofs.Placed.{untrue}
 use Rattle.zone_core.proofs.Settled.{can_isolate, isolated_others, isolated_target, isolated_fewer, target_within, same_pages}
 use Rattle.zone_core.proofs.Settling.{FramesSettled, WordsSettled, IsFreer}

@@ -1,16 +1,12 @@
 -- What is known of a zone that is sound.
-use Rattle.std.proofs.Common.{◌≡◌, ◌≢◌, ℕ, ◌+◌, ◌-◌, ◌*◌, ◌<◌, ◌≤◌, Bool, true, false, not, List, [], ◌∷◌, length, ◌⊎◌, inl, inr, refl, sym, ap, subst, ◌∙◌, arith}
-use Rattle.std.specs.Prelude.{Option, Some, None, IsSome, IsTrue, is_some, slice_get, slice_set, unwrap_or, nat_eq, ◌&&◌, ◌||◌, if◌then◌else◌}
+use Rattle.std.proofs.Common.{◌≡◌, ◌≢◌, ℕ, ◌+◌, ◌-◌, ◌<◌, Bool, true, false, List, ◌∷◌, length, refl, ap, ◌∙◌, arith}
+use Rattle.std.specs.Prelude.{Option, Some, None, IsSome, is_some, slice_get, nat_eq, ◌||◌, if◌then◌else◌}
 use Rattle.std.specs.Option.{option_and_then}
 use Rattle.std.specs.FinMap as map
 use Rattle.std.proofs.lemmas.Bool.{eq-eqb, ltb-true}
-use Rattle.std.proofs.lemmas.Bool.Decides.{leb_tells, eqb_tells}
-use Rattle.std.proofs.lemmas.Option.{slice_get_within}
-use Rattle.frame_core.proofs.Searches.{some_one, some_none, none_some}
-use Rattle.frame_core.specs.Below.{some_below}
 use Rattle.frame_core.specs.declared.place.Address.{Address}
 use Rattle.frame_core.specs.declared.state.FrameState.{FrameState}
-use Rattle.frame_core.specs.declared.state.FrameState.TheVariants.{Free, Holds, Source, Target, Huge}
+use Rattle.frame_core.specs.declared.state.FrameState.TheVariants.{Holds}
 use Rattle.journal_core.specs.declared.record.Record.{Record}
 use Rattle.journal_core.specs.History.{page_at}
 use Rattle.journal_core.specs.Journal.{Journal}
@@ -21,7 +17,7 @@ use Rattle.zone_core.specs.declared.state.Placement.TheVariants.{At, Moving}
 use Rattle.zone_core.specs.Lawful.{IsLawful}
 use Rattle.zone_core.specs.Fits.{state_by, words_frame, FramesFit}
 use Rattle.zone_core.specs.Sound.{state_of}
-use Rattle.zone_core.specs.ZoneState.{ZoneState, frame_count, takes_up, covers, is_used, is_held, is_free, has_room, placement_at, noted}
+use Rattle.zone_core.specs.ZoneState.{ZoneState, frame_count, takes_up, has_room, placement_at, noted}
 
 pub chosen : {A : Type 0} (n : ℕ) (x y : A) → (if nat_eq n n then x else y) ≡ x
 chosen n x y = ap (λ b. if b then x else y) (eq-eqb n n refl)

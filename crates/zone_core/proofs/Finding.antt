@@ -1,12 +1,12 @@
 -- What the tables of a zone answer.
-use Rattle.std.proofs.Common.{◌≡◌, ◌≢◌, ℕ, ◌+◌, ◌-◌, ◌*◌, ◌/◌, ◌<◌, ◌≤◌, Bool, true, false, not, List, length, refl, sym, ap, ◌∙◌, get_or, inl, inr, arith}
-use Rattle.std.specs.Prelude.{Option, Some, None, IsSome, IsTrue, IfSome, is_some, is_none, slice_get, nat_eq, if◌then◌else◌, ◌&&◌, ◌||◌}
+use Rattle.std.proofs.Common.{◌≡◌, ℕ, ◌+◌, ◌-◌, ◌*◌, ◌/◌, ◌<◌, ◌≤◌, Bool, true, false, not, List, length, refl, sym, ap, ◌∙◌, get_or, inl, inr, arith}
+use Rattle.std.specs.Prelude.{Option, Some, None, IsSome, IsTrue, IfSome, is_some, is_none, nat_eq, if◌then◌else◌, ◌&&◌, ◌||◌}
 use Rattle.std.specs.Option.{option_and_then}
 use Rattle.std.specs.FinMap.{get}
 use Rattle.std.proofs.lemmas.Option.{slice_get-get_or, slice_get_past, get_or_from_slice_get}
 use Rattle.std.proofs.lemmas.Bool.Decides.{leb_tells}
-use Rattle.frame_core.proofs.Searches.{some_one, some_none, lowest_same, lowest_some, lowest_before, no_lowest, count_all, count_some}
-use Rattle.frame_core.specs.Below.{lowest, some_below, count_below, count_from}
+use Rattle.frame_core.proofs.Searches.{some_one, lowest_same, lowest_some, lowest_before, no_lowest, count_all, count_some}
+use Rattle.frame_core.specs.Below.{lowest, count_below, count_from}
 use Rattle.frame_core.specs.declared.state.FrameState.{FrameState}
 use Rattle.frame_core.specs.declared.state.FrameState.TheVariants.{Free, Holds, Source, Target, Huge}
 use Rattle.zone_core.specs.declared.note.Note.{Note}

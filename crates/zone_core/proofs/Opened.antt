@@ -1,6 +1,6 @@
 -- A zone that was just opened.
-use Rattle.std.proofs.Common.{◌≡◌, ◌≢◌, ℕ, ◌+◌, ◌*◌, ◌<◌, ◌≤◌, Bool, true, false, not, List, [], ◌∷◌, length, replicate, ◌⊎◌, inl, inr, refl, sym, ap, subst, ◌∙◌, arith, rules}
-use Rattle.std.specs.Prelude.{Option, Some, None, IsSome, IsTrue, is_some, slice_get, unwrap_or, vec_capacity, ◌&&◌, ◌↔◌}
+use Rattle.std.proofs.Common.{◌≡◌, ℕ, ◌+◌, ◌*◌, ◌≤◌, Bool, true, false, not, List, [], length, replicate, ◌⊎◌, inl, inr, sym, ap, ◌∙◌, arith}
+use Rattle.std.specs.Prelude.{Option, Some, None, IsSome, is_some, slice_get, unwrap_or, vec_capacity, ◌&&◌}
 use Rattle.std.specs.Option.{option_and_then}
 use Rattle.std.specs.FinSet as set
 use Rattle.std.specs.FinMap as map
@@ -10,11 +10,9 @@ use Rattle.std.proofs.lemmas.List.{length-replicate}
 use Rattle.std.proofs.lemmas.Bool.Decides.{leb_tells}
 use Rattle.frame_core.proofs.Lists.{slice_get_replicate}
 use Rattle.frame_core.proofs.Searches.{count_all, count_none, count_from_all, none_some}
-use Rattle.frame_core.specs.Below.{count_below, some_below, count_from}
+use Rattle.frame_core.specs.Below.{count_below}
 use Rattle.frame_core.specs.declared.state.FrameState.{FrameState}
 use Rattle.frame_core.specs.declared.state.FrameState.TheVariants.{Free}
-use Rattle.frame_core.specs.declared.place.Address.{Address}
-use Rattle.journal_core.specs.declared.record.Record.{Record}
 use Rattle.journal_core.specs.Moves.{out}
 use Rattle.table_core.specs.Tables.{IsBlank}
 use Rattle.word_core.specs.Page.{blank_words}
@@ -27,10 +25,10 @@ use Rattle.zone_core.specs.declared.state.Placement.TheVariants.{Moving}
 use Rattle.zone_core.specs.Steps.{opened}
 use Rattle.zone_core.specs.Lawful.{IsLawful, is_under}
 use Rattle.zone_core.specs.Refusals.{IsOpenable}
-use Rattle.zone_core.specs.Fits.{state_by, FramesFit, EntriesFit, WordsFit, NotesFit, CountsFit, BlocksFit, StartsFit}
+use Rattle.zone_core.specs.Fits.{state_by}
 use Rattle.zone_core.specs.Sound.{state_of, IsSound, order_of, is_marked_of}
 use Rattle.zone_core.specs.Found.{placement_of, is_unmovable_of, says_unmovable}
-use Rattle.zone_core.specs.ZoneState.{ZoneState, frame_count, takes_up, covers, is_used, is_held, is_free, free_in_block}
+use Rattle.zone_core.specs.ZoneState.{ZoneState, frame_count, takes_up, covers, is_used, is_held, is_free}
 use Rattle.zone_core.specs.Tabulated.{tabulated, gathered}
 use Rattle.zone_core.proofs.Tables.{tabulated_none, gathered_none}
 

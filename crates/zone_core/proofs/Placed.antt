@@ -1,27 +1,25 @@
 -- A fresh page in a free frame: what contracts see of the zone stays lawful.
-use Rattle.std.proofs.Common.{◌≡◌, ◌≢◌, ℕ, ◌+◌, ◌-◌, ◌*◌, ◌<◌, ◌≤◌, Bool, true, false, not, List, [], ◌∷◌, length, ◌⊎◌, inl, inr, refl, sym, ap, subst, ◌∙◌, arith}
-use Rattle.std.specs.Prelude.{Option, Some, None, IsSome, IsTrue, is_some, is_none, unwrap_or, nat_eq, ◌&&◌, ◌||◌, if◌then◌else◌, ◌↔◌}
-use Rattle.std.specs.Option.{option_and_then}
+use Rattle.std.proofs.Common.{◌≡◌, ◌≢◌, ℕ, ◌+◌, ◌<◌, Bool, true, false, not, length, ◌⊎◌, inl, inr, refl, sym, ap, ◌∙◌, arith}
+use Rattle.std.specs.Prelude.{Option, Some, None, IsSome, is_some, nat_eq, ◌&&◌}
 use Rattle.std.specs.FinMap as map
 use Rattle.std.proofs.lemmas.Bool.{eq-eqb}
-use Rattle.std.proofs.lemmas.Bool.Decides.{eqb_tells, leb_tells}
-use Rattle.frame_core.proofs.Searches.{some_none, some_at, count_more, count_from_more, count_from_same}
+use Rattle.std.proofs.lemmas.Bool.Decides.{eqb_tells}
+use Rattle.frame_core.proofs.Searches.{some_none, some_at, count_more}
 use Rattle.frame_core.specs.Address.{InRange}
-use Rattle.frame_core.specs.Below.{some_below, count_below, count_from}
+use Rattle.frame_core.specs.Below.{some_below, count_below}
 use Rattle.frame_core.specs.declared.place.Address.{Address}
 use Rattle.journal_core.proofs.Maps.{no_test, two_addresses, maps_same, maps_more, maps_none}
-use Rattle.journal_core.specs.declared.record.Record.{Record}
 use Rattle.journal_core.specs.declared.record.Record.TheVariants.{Map}
 use Rattle.journal_core.specs.History.{same_address, page_at, is_page, names, maps, pins}
-use Rattle.journal_core.specs.Moves.{out, is_out, page_of}
+use Rattle.journal_core.specs.Moves.{out}
 use Rattle.zone_core.specs.declared.state.Placement.{Placement}
 use Rattle.zone_core.specs.declared.state.Placement.TheVariants.{At, Moving}
 use Rattle.zone_core.specs.Lawful.{IsLawful, is_under}
 use Rattle.zone_core.specs.Steps.{placed}
-use Rattle.zone_core.specs.ZoneState.{ZoneState, frame_count, takes_up, covers, is_used, is_held, is_free, placement_at, free_in_block}
+use Rattle.zone_core.specs.ZoneState.{ZoneState, frame_count, takes_up, is_used, is_held, is_free}
 use Rattle.zone_core.proofs.Quiet.{begun_more}
 use Rattle.zone_core.proofs.Tables.{get_insert_same, get_insert_other}
-use Rattle.zone_core.proofs.Facts.{not_none, none_is, taken, skipped}
+use Rattle.zone_core.proofs.Facts.{not_none, taken, skipped}
 
 -- what it takes to place a fresh page
 pub record CanPlace (v : ZoneState) (address : Address) (page frame : ℕ) : Type 0 where

@@ -1,6 +1,6 @@
 -- A fresh page in a free frame: the tables of the zone go on fitting.
-use Rattle.std.proofs.Common.{◌≡◌, ◌≢◌, ℕ, ◌+◌, ◌-◌, ◌*◌, ◌/◌, ◌<◌, ◌≤◌, Bool, true, false, not, List, [], ◌∷◌, length, replicate, ◌⊎◌, inl, inr, refl, sym, ap, subst, ◌∙◌, arith}
-use Rattle.std.specs.Prelude.{Option, Some, None, IsSome, is_some, slice_get, slice_set, unwrap_or, nat_eq, ◌&&◌, ◌||◌, if◌then◌else◌}
+use Rattle.std.proofs.Common.{◌≡◌, ◌≢◌, ℕ, ◌+◌, ◌-◌, ◌*◌, ◌/◌, ◌<◌, ◌≤◌, Bool, true, false, not, List, ◌∷◌, length, ◌⊎◌, inl, inr, refl, sym, ap, subst, ◌∙◌, arith}
+use Rattle.std.specs.Prelude.{Option, Some, None, is_some, slice_get, slice_set, nat_eq, ◌&&◌, ◌||◌, if◌then◌else◌}
 use Rattle.std.specs.Option.{option_and_then}
 use Rattle.std.specs.FinMap as map
 use Rattle.std.specs.FinSet as set
@@ -14,9 +14,8 @@ use Rattle.frame_core.proofs.Searches.{count_from_more, count_from_same}
 use Rattle.frame_core.specs.Address.{InRange}
 use Rattle.frame_core.specs.declared.place.Address.{Address}
 use Rattle.frame_core.specs.declared.state.FrameState.{FrameState}
-use Rattle.frame_core.specs.declared.state.FrameState.TheVariants.{Free, Holds, Source, Target, Huge}
+use Rattle.frame_core.specs.declared.state.FrameState.TheVariants.{Holds, Source, Target}
 use Rattle.journal_core.proofs.Maps.{no_test}
-use Rattle.journal_core.specs.declared.record.Record.{Record}
 use Rattle.journal_core.specs.declared.record.Record.TheVariants.{Map}
 use Rattle.journal_core.specs.History.{same_address, page_at, last, dirty, pins, maps}
 use Rattle.journal_core.specs.Journal.{Journal}
@@ -25,18 +24,16 @@ use Rattle.table_core.specs.declared.entry.Entry.TheVariants.{Present}
 use Rattle.table_core.specs.Tables.{entry_at, ChangesOnly}
 use Rattle.word_core.specs.Page.{blank_words}
 use Rattle.word_core.specs.Words.{words_of, with_words}
-use Rattle.zone_core.specs.declared.counts.Counts.{Counts}
 use Rattle.zone_core.specs.declared.note.Note.{Note}
 use Rattle.zone_core.specs.declared.plain.PlainZone.TheInside.{Inside}
 use Rattle.zone_core.specs.declared.state.Placement.{Placement}
 use Rattle.zone_core.specs.declared.state.Placement.TheVariants.{At, Moving}
-use Rattle.zone_core.specs.Fits.{state_by, entry_for, words_frame, FramesFit, EntriesFit, WordsFit, NoteFits, NotesFit, CountsFit, BlocksFit, StartsFit}
+use Rattle.zone_core.specs.Fits.{state_by, entry_for, words_frame, FramesFit, EntriesFit, WordsFit, NoteFits, NotesFit, BlocksFit}
 use Rattle.zone_core.specs.Found.{placement_of, is_unmovable_of, says_unmovable}
-use Rattle.zone_core.specs.Lawful.{IsLawful}
 use Rattle.zone_core.specs.Sound.{state_of, IsSound}
 use Rattle.zone_core.specs.Steps.{placed}
 use Rattle.zone_core.specs.Tabulated.{tabulated, gathered}
-use Rattle.zone_core.specs.ZoneState.{ZoneState, frame_count, takes_up, is_held, is_free, free_in_block, placement_at, noted}
+use Rattle.zone_core.specs.ZoneState.{ZoneState, takes_up, is_held, is_free, free_in_block, placement_at}
 use Rattle.zone_core.proofs.Accessed.{words_set_same, words_set_other}
 use Rattle.zone_core.proofs.Facts.{chosen, taken, skipped, takes_own}
 use Rattle.zone_core.proofs.Finding.{placement_past, get_placements}

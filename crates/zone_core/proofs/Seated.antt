@@ -1,6 +1,6 @@
 -- What public calls say of pages, books and seats.
 use Rattle.std.proofs.Common.{◌≡◌, ℕ, ◌+◌, Bool, true, false, ◌≤◌, not, inl, inr, refl, sym, ap, subst, ◌∙◌, arith}
-use Rattle.std.specs.Prelude.{Option, Some, None, IfSome, Result, Ok, Err, IfOk, ◌&&◌, nat_eq, nat_lt}
+use Rattle.std.specs.Prelude.{Option, Some, None, IfSome, IfOk, ◌&&◌, nat_eq, nat_lt}
 use Rattle.std.specs.FinMap as map
 use Rattle.std.proofs.lemmas.Bool.Decides.{leb_tells}
 use Rattle.std.proofs.lemmas.Bool.{lt-ltb}

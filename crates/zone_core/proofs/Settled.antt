@@ -1,5 +1,5 @@
 -- A page in use is somewhere else: what contracts see of the zone stays lawful.
-use Rattle.std.proofs.Common.{◌≡◌, ◌≢◌, ℕ, suc, ◌+◌, ◌-◌, ◌*◌, ◌<◌, ◌≤◌, Bool, true, false, not, List, [], ◌∷◌, length, ◌⊎◌, inl, inr, refl, sym, ap, subst, ◌∙◌, arith}
+use Rattle.std.proofs.Common.{◌≡◌, ◌≢◌, ℕ, ◌+◌, ◌-◌, ◌<◌, ◌≤◌, Bool, true, false, not, List, ◌∷◌, length, ◌⊎◌, inl, inr, refl, sym, ap, subst, ◌∙◌, arith}
 use Rattle.std.specs.Prelude.{Option, Some, None, IsSome, IsSomeAnd, IsTrue, is_some, nat_eq, ◌&&◌, ◌||◌, if◌then◌else◌, ◌↔◌}
 use Rattle.std.specs.List.{list_any}
 use Rattle.std.specs.FinMap as map
@@ -14,17 +14,17 @@ use Rattle.journal_core.specs.declared.record.Cause.{Cause}
 use Rattle.journal_core.specs.declared.record.Cause.TheVariants.{Pinned, NotCopied}
 use Rattle.journal_core.specs.declared.record.Record.{Record}
 use Rattle.journal_core.specs.declared.record.Record.TheVariants.{Isolate, Moved, Back}
-use Rattle.journal_core.specs.History.{page_at, is_page, last, dirty, pins, maps}
-use Rattle.journal_core.specs.Moves.{isolated, out, is_out, without, page_of, EndsWith, IsWellEnded}
+use Rattle.journal_core.specs.History.{page_at, last, dirty, pins, maps}
+use Rattle.journal_core.specs.Moves.{isolated, out, is_out, without, page_of, IsWellEnded}
 use Rattle.journal_core.specs.Truth.{IsTruthful}
 use Rattle.zone_core.specs.declared.pair.Pair.{Pair}
 use Rattle.zone_core.specs.declared.state.Placement.{Placement}
 use Rattle.zone_core.specs.declared.state.Placement.TheVariants.{At, Moving}
 use Rattle.zone_core.specs.Lawful.{IsLawful, is_under}
 use Rattle.zone_core.specs.Moving.{settled, isolated_next, moved_to_target, put_back_to_source, source_of, target_of, HasCause}
-use Rattle.zone_core.specs.Pairs.{IsPair, can_move}
+use Rattle.zone_core.specs.Pairs.{IsPair}
 use Rattle.zone_core.specs.ZoneState.{ZoneState, frame_count, takes_up, is_used, is_held, is_free}
-use Rattle.zone_core.proofs.Facts.{not_none, some_is}
+use Rattle.zone_core.proofs.Facts.{not_none}
 use Rattle.zone_core.proofs.Placed.{untrue}
 use Rattle.zone_core.proofs.Quiet.{begun_more}
 use Rattle.zone_core.proofs.Tables.{get_insert_same, get_insert_other}
@@ -313,11 +313,11 @@ module _ (v : ZoneState) (pair : Pair) (law : IsLawful v) (is : IsPair v pair.pa
     well_ended = (
       refl,
       (let used = law.in_use pair.page (not_none _ (At pair.source) is.from.here) in
-      record {
-        in_use = used.0;
-        here = not_moving v.records pair.page at_rest;
-        unpinned = is_number (pins v.records pair.page) 0 (unpinned _ _ is.from.movable);
-      }),
+          record {
+            in_use = used.0;
+            here = not_moving v.records pair.page at_rest;
+            unpinned = is_number (pins v.records pair.page) 0 (unpinned _ _ is.from.movable);
+          }),
       law.well_ended,
     );
     room_left = omega arith;

@@ -1,33 +1,29 @@
 -- The move of a page ends: how each table changes.
-use Rattle.std.proofs.Common.{◌≡◌, ◌≢◌, ℕ, ◌+◌, ◌-◌, ◌*◌, ◌/◌, ◌<◌, ◌≤◌, Bool, true, false, List, length, ◌⊎◌, inl, inr, refl, sym, ap, ◌∙◌, get_or, arith}
+use Rattle.std.proofs.Common.{◌≡◌, ◌≢◌, ℕ, ◌+◌, ◌*◌, ◌<◌, ◌≤◌, Bool, true, false, List, length, ◌⊎◌, inl, inr, refl, sym, ap, ◌∙◌, get_or, arith}
 use Rattle.std.specs.FinMap as map
-use Rattle.std.specs.Prelude.{Option, Some, None, slice_get, slice_set, nat_eq, ◌||◌, if◌then◌else◌}
+use Rattle.std.specs.Prelude.{Some, None, slice_get, slice_set, nat_eq, ◌||◌, if◌then◌else◌}
 use Rattle.std.proofs.lemmas.Bool.{eq-eqb}
-use Rattle.std.proofs.lemmas.Bool.Decides.{eqb_tells, leb_tells}
+use Rattle.std.proofs.lemmas.Bool.Decides.{eqb_tells}
 use Rattle.std.proofs.lemmas.List.{length-set}
 use Rattle.frame_core.proofs.Lists.{slice_get_set_same, slice_get_set_other}
 use Rattle.frame_core.proofs.Searches.{count_from_most}
-use Rattle.frame_core.specs.Below.{count_below}
 use Rattle.std.proofs.lemmas.Option.{get_or_from_slice_get}
 use Rattle.frame_core.specs.declared.state.FrameState.{FrameState}
 use Rattle.frame_core.specs.declared.state.FrameState.TheVariants.{Free, Holds}
-use Rattle.journal_core.proofs.Maps.{no_test}
 use Rattle.journal_core.specs.declared.record.Cause.{Cause}
 use Rattle.journal_core.specs.declared.record.Record.{Record}
 use Rattle.journal_core.specs.declared.record.Record.TheVariants.{Moved, Back}
-use Rattle.journal_core.specs.Moves.{isolated, out, page_of}
 use Rattle.word_core.specs.Words.{words_of, with_words}
 use Rattle.zone_core.specs.declared.counts.Counts.{Counts}
-use Rattle.zone_core.specs.declared.state.Placement.{Placement}
 use Rattle.zone_core.specs.declared.state.Placement.TheVariants.{At, Moving}
 use Rattle.zone_core.specs.Fits.{state_by, WordsFit, SerialsFit, CountsFit, BlocksFit}
 use Rattle.zone_core.specs.Lawful.{IsLawful}
 use Rattle.zone_core.specs.Moving.{settled, IsSettled}
-use Rattle.zone_core.specs.ZoneState.{ZoneState, frame_count, takes_up, is_free}
+use Rattle.zone_core.specs.ZoneState.{ZoneState, frame_count, is_free}
 use Rattle.zone_core.proofs.Accessed.{words_set_same, words_set_other}
 use Rattle.zone_core.proofs.Departed.{isolated_most}
 use Rattle.zone_core.proofs.Placed.{untrue}
-use Rattle.zone_core.proofs.Settled.{can_move_on, can_go_back, frames_apart, moved_others, moved_source, back_others, back_target, source_used, target_used, source_within, target_in, moved_more, back_more, out_fewer, same_pages, at_page, at_other}
+use Rattle.zone_core.proofs.Settled.{can_move_on, can_go_back, moved_others, moved_source, back_others, back_target, source_used, target_used, source_within, target_in, moved_more, back_more, out_fewer, same_pages, at_page, at_other}
 use Rattle.zone_core.proofs.Settling.{FramesSettled, WordsSettled, IsFreer}
 
 differs : (g x : ℕ) → nat_eq g x ≡ false → g ≢ x

@@ -1,41 +1,40 @@
 -- A page in use is somewhere else: the tables of the zone go on fitting.
-use Rattle.std.proofs.Common.{◌≡◌, ◌≢◌, ℕ, ◌+◌, ◌-◌, ◌*◌, ◌/◌, ◌<◌, ◌≤◌, Bool, true, false, not, List, [], ◌∷◌, length, ◌⊎◌, inl, inr, refl, sym, ap, subst, ◌∙◌, arith}
-use Rattle.std.specs.Prelude.{Option, Some, None, IsSome, is_some, slice_get, slice_set, nat_eq, ◌&&◌, ◌||◌, if◌then◌else◌, vec_capacity}
+use Rattle.std.proofs.Common.{◌≡◌, ◌≢◌, ℕ, ◌+◌, ◌-◌, ◌*◌, ◌/◌, ◌<◌, ◌≤◌, Bool, true, false, List, ◌∷◌, length, ◌⊎◌, inl, inr, refl, sym, ap, subst, ◌∙◌, arith}
+use Rattle.std.specs.Prelude.{Option, Some, None, IsSome, is_some, slice_get, slice_set, ◌&&◌, vec_capacity}
 use Rattle.std.specs.Option.{option_and_then}
 use Rattle.std.specs.FinMap as map
-use Rattle.std.specs.FinSet as set
 use Rattle.std.proofs.lemmas.Bool.{eq-eqb}
 use Rattle.std.proofs.lemmas.Bool.Decides.{eqb_tells}
 use Rattle.std.proofs.lemmas.List.{length-set}
-use Rattle.std.proofs.lemmas.Option.{slice_get_within, slice_get_past}
+use Rattle.std.proofs.lemmas.Option.{slice_get_within}
 use Rattle.frame_core.proofs.Lists.{slice_get_set_same, slice_get_set_other}
 use Rattle.frame_core.proofs.Searches.{count_from_more, count_from_same}
 use Rattle.frame_core.specs.Address.{InRange}
 use Rattle.frame_core.specs.declared.place.Address.{Address}
 use Rattle.frame_core.specs.declared.state.FrameState.{FrameState}
-use Rattle.frame_core.specs.declared.state.FrameState.TheVariants.{Free, Holds, Source, Target, Huge}
+use Rattle.frame_core.specs.declared.state.FrameState.TheVariants.{Free}
 use Rattle.journal_core.specs.declared.record.Record.{Record}
-use Rattle.journal_core.specs.History.{page_at, last, dirty, pins, maps}
+use Rattle.journal_core.specs.History.{page_at, dirty, pins, maps}
 use Rattle.table_core.specs.declared.entry.Entry.{Entry}
-use Rattle.table_core.specs.declared.entry.Entry.TheVariants.{Absent, Present, Migration}
+use Rattle.table_core.specs.declared.entry.Entry.TheVariants.{Absent}
 use Rattle.table_core.specs.Tables.{entry_at, Replaces}
 use Rattle.word_core.specs.Words.{words_of}
 use Rattle.zone_core.specs.declared.note.Note.{Note}
 use Rattle.zone_core.specs.declared.plain.PlainZone.TheInside.{Inside}
 use Rattle.zone_core.specs.declared.state.Placement.{Placement}
 use Rattle.zone_core.specs.declared.state.Placement.TheVariants.{At, Moving}
-use Rattle.zone_core.specs.Fits.{state_by, entry_for, words_frame, FramesFit, EntriesFit, WordsFit, NoteFits, NotesFit, SerialsFit, CountsFit, BlocksFit, StartsFit}
+use Rattle.zone_core.specs.Fits.{state_by, entry_for, words_frame, FramesFit, EntriesFit, WordsFit, NoteFits, NotesFit, SerialsFit, CountsFit, BlocksFit}
 use Rattle.zone_core.specs.Found.{placement_of, is_unmovable_of, says_unmovable}
-use Rattle.zone_core.specs.Lawful.{IsLawful, is_under}
+use Rattle.zone_core.specs.Lawful.{is_under}
 use Rattle.zone_core.specs.Moving.{settled}
 use Rattle.zone_core.specs.Sound.{state_of, order_of, is_marked_of, IsSound}
 use Rattle.zone_core.specs.Tabulated.{tabulated, gathered}
-use Rattle.zone_core.specs.ZoneState.{ZoneState, frame_count, takes_up, is_held, is_free, is_quiet, free_in_block, placement_at}
-use Rattle.zone_core.proofs.Facts.{not_none, takes_own}
+use Rattle.zone_core.specs.ZoneState.{ZoneState, frame_count, takes_up, is_free, is_quiet, free_in_block}
+use Rattle.zone_core.proofs.Facts.{takes_own}
 use Rattle.zone_core.proofs.Finding.{placement_past, get_placements}
 use Rattle.zone_core.proofs.Placed.{untrue, clash}
 use Rattle.zone_core.proofs.Placing.{state_taken}
-use Rattle.zone_core.proofs.Settled.{CanSettle, IsRecorded, IsStill, at_page, at_other, some_same, not_old, not_new, new_clear, old_clear, free_new, free_kept, lawful_settled}
+use Rattle.zone_core.proofs.Settled.{CanSettle, IsRecorded, at_page, at_other, some_same, not_old, not_new, new_clear, old_clear, free_new, free_kept, lawful_settled}
 use Rattle.zone_core.proofs.Tables.{tabulated_insert, gathered_same}
 
 -- how frames change with their page

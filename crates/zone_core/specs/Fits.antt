@@ -1,6 +1,5 @@
 -- How the tables of a zone stand for its state.
-use Rattle.std.specs.Prelude.{◌≡◌, ℕ, ◌+◌, ◌*◌, ◌<◌, ◌≤◌, Bool, true, false, List, length, nat_eq, if◌then◌else◌, slice_get, Option, Some, None, IsSome, is_some}
-use Rattle.std.specs.Option.{option_and_then}
+use Rattle.std.specs.Prelude.{◌≡◌, ℕ, ◌+◌, ◌<◌, ◌≤◌, true, false, List, length, nat_eq, if◌then◌else◌, slice_get, Option, Some, None, IsSome, is_some}
 use Rattle.std.specs.FinMap as map
 use Rattle.frame_core.specs.Address.{InRange}
 use Rattle.frame_core.specs.Below.{count_below}

@@ -1,5 +1,5 @@
 -- What the calls that move pages answer, and what they leave.
-use Rattle.std.specs.Prelude.{◌≡◌, ◌≢◌, ℕ, ◌+◌, ◌<◌, ◌≤◌, Bool, true, false, ◌&&◌, List, ◌∷◌, [], length, map as each, nat_eq, nat_lt, if◌then◌else◌, Option, Some, None, ⊤, is_some}
+use Rattle.std.specs.Prelude.{◌≡◌, ◌≢◌, ℕ, ◌+◌, ◌<◌, Bool, true, ◌&&◌, List, ◌∷◌, [], length, map as each, nat_eq, nat_lt, if◌then◌else◌, Option, Some, None, ⊤}
 use Rattle.std.specs.FinMap as map
 use Rattle.std.specs.FinSet as set
 use Rattle.std.specs.Option.{option_and_then}
@@ -26,9 +26,9 @@ use Rattle.zone_core.specs.declared.seats.Answered.TheVariants as answered
 use Rattle.zone_core.specs.declared.state.Placement.{Placement}
 use Rattle.zone_core.specs.declared.state.Placement.TheVariants.{At, Moving}
 use Rattle.zone_core.specs.Lawful.{is_under}
-use Rattle.zone_core.specs.Pairs.{IsPair, next_pair, is_calm}
+use Rattle.zone_core.specs.Pairs.{IsPair, is_calm}
 use Rattle.zone_core.specs.Seats.{ScanSeat, EndSeat}
-use Rattle.zone_core.specs.ZoneState.{ZoneState, frame_count, is_free, noted, placement_at}
+use Rattle.zone_core.specs.ZoneState.{ZoneState, frame_count, is_free, noted}
 
 -- a round begins: the fingers stand at the ends of the zone
 abbrev pub round_begun : ZoneState → ZoneState

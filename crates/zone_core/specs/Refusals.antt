@@ -1,5 +1,5 @@
 -- When each call of a zone is refused, in the order of the numbers of refusals.
-use Rattle.std.specs.Prelude.{◌≡◌, ℕ, ◌<◌, ◌≤◌, Bool, not, nat_lt, if◌then◌else◌, Option, Some, None, Result, Ok, Err, is_none, is_some}
+use Rattle.std.specs.Prelude.{ℕ, ◌<◌, ◌≤◌, not, nat_lt, if◌then◌else◌, Option, Some, None, Result, Ok, Err, is_none, is_some}
 use Rattle.frame_core.specs.declared.place.Address.{Address}
 use Rattle.journal_core.specs.History.{page_at}
 use Rattle.zone_core.specs.declared.state.Placement.{Placement}

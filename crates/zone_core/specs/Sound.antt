@@ -1,5 +1,5 @@
 -- What contracts see of the fields of a zone, and what is true of them.
-use Rattle.std.specs.Prelude.{◌≡◌, ℕ, ◌+◌, ◌*◌, ◌<◌, ◌≤◌, Bool, false, List, length, Option, Some, None, slice_get, unwrap_or, vec_capacity}
+use Rattle.std.specs.Prelude.{◌≡◌, ℕ, ◌+◌, ◌<◌, ◌≤◌, Bool, false, List, length, Option, slice_get, unwrap_or, vec_capacity}
 use Rattle.std.specs.Option.{option_and_then}
 use Rattle.zone_core.specs.declared.plain.PlainZone.TheInside.{Inside}
 use Rattle.zone_core.specs.ZoneState.{ZoneState, frame_count, is_quiet}

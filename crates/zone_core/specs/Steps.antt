@@ -3,7 +3,6 @@ use Rattle.std.specs.Prelude.{ℕ, ◌==◌, Bool, length, if◌then◌else◌, 
 use Rattle.std.specs.Int.RustNames.{bit_and}
 use Rattle.std.specs.FinMap as map
 use Rattle.std.specs.FinSet as set
-use Rattle.std.specs.Ordering.{nat_cmp}
 use Rattle.frame_core.specs.Below.{count_below}
 use Rattle.frame_core.specs.declared.flags.PageFlags.{PageFlags}
 use Rattle.frame_core.specs.declared.place.Address.{Address}

@@ -32,7 +32,7 @@ pub use error::ZoneError;
 pub use hand::{Finished, Hand, Scanned};
 pub use law::keeps_order;
 pub use moves::{Audit, Ended, Look, Next, Stranger};
-pub use seats::{Blanks, EndSeat, ScanSeat, Answered, Seats};
+pub use seats::{Answered, Blanks, EndSeat, ScanSeat, Seats};
 pub use state::{Info, Placement, RoundStart};
 pub use world::{Rest, World, WorldError};
 pub use zone::Zone;

@@ -39,7 +39,11 @@ pub enum Look {
         maps: u8,
     },
     /// It is on its way under this serial.
-    Moving { serial: Serial, pins: u8, maps: u8 },
+    Moving {
+        serial: Serial,
+        pins: u8,
+        maps: u8,
+    },
 }
 
 /// What a zone and its seats agree on when no page is on its way: each page that was isolated was moved or put back.

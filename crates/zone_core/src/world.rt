@@ -316,9 +316,7 @@ impl<I: Ledger, N: Ledger, M: Ledger, B: Ledger> World<I, N, M, B> {
     }
 
     /// Its zone, its seats and its rest, where no round is open; else the world as it was.
-    pub fn split(
-        self,
-    ) -> Result<(Zone<I, M, B>, Seats<I, N, M, B>, Rest), World<I, N, M, B>>
+    pub fn split(self) -> Result<(Zone<I, M, B>, Seats<I, N, M, B>, Rest), World<I, N, M, B>>
         ensures refused { IsErr result ↔ (self.is_open ≡ true) }
         ensures err { IfErr result (λ world. world ≡ self) }
         ensures zone { IfOk result (λ parts. parts.0 ≡ self.zone) }
@@ -339,11 +337,7 @@ impl<I: Ledger, N: Ledger, M: Ledger, B: Ledger> World<I, N, M, B> {
     }
 
     /// A world again, of a zone with its seats where no page is on its way.
-    pub fn join(
-        zone: Zone<I, M, B>,
-        seats: Seats<I, N, M, B>,
-        rest: Rest,
-    ) -> World<I, N, M, B>
+    pub fn join(zone: Zone<I, M, B>, seats: Seats<I, N, M, B>, rest: Rest) -> World<I, N, M, B>
         requires whole { audit_refusal zone seats.ends ≡ None }
         requires rest { rest ≡ zone.blocks }
         ensures { result ≡ world_closed zone }

@@ -13,7 +13,7 @@ ghost use Rattle.zone_core.specs.ZoneState.{frame_count, lowest_free_frame, is_q
 use crate::error::ZoneError;
 use crate::moves::{Audit, Ended, Look, Next, Stranger};
 use crate::plain::PlainZone;
-use crate::seats::{Blanks, EndSeat, ScanSeat, Answered};
+use crate::seats::{Answered, Blanks, EndSeat, ScanSeat};
 use crate::state::Info;
 use bitflags::Flags;
 use frame_core::{Address, ClientNo, FrameNo, PageFlags, WordNo, ZoneNo};
@@ -217,10 +217,7 @@ impl<I: Ledger, M: Ledger, B: Ledger> Zone<I, M, B> {
 
     /// Takes the lowest page that may be moved, and the highest free frame above it, between the fingers: the page is on its
     /// way from here on. The seat counts it, and notes each answer.
-    pub fn isolate_next<N: Ledger>(
-        &mut self,
-        seat: &mut ScanSeat<I, N>,
-    ) -> Result<Next, ZoneError>
+    pub fn isolate_next<N: Ledger>(&mut self, seat: &mut ScanSeat<I, N>) -> Result<Next, ZoneError>
         ensures refused { result_err result ≡ isolate_refusal self.old }
         ensures err { OnErr result (self.new ≡ self.old) }
         ensures answer { IfOk result (λ next. next ≡ next_answer self.old (next_pair self.old)) }

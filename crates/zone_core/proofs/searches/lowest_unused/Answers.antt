@@ -1,5 +1,5 @@
-use Rattle.std.proofs.Common.{◌≡◌, sym, ap, ◌∙◌, below_more, length, not, true, false, arith}
-use Rattle.std.specs.Prelude.{is_none, is_some}
+use Rattle.std.proofs.Common.{◌≡◌, sym, ap, ◌∙◌, below_more, length, not, true, arith}
+use Rattle.std.specs.Prelude.{is_none}
 use Rattle.zone_core.specs.Found.{placement_of}
 use Rattle.frame_core.proofs.Searches.{lowest_is, lowest_none}
 use Rattle.zone_core.proofs.Finding.{some_is, placement_at_note}

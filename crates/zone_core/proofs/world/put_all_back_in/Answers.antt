@@ -1,7 +1,5 @@
-use Rattle.std.proofs.Common.{◌≡◌, ◌+◌, ◌∷◌, [], List, length, refl, sym, ap, subst, ◌∙◌, arith}
-use Rattle.std.specs.VecDeque.{deque_capacity}
+use Rattle.std.proofs.Common.{◌+◌, ◌∷◌, List, length, refl, sym, ap, subst, ◌∙◌, arith}
 use Rattle.word_core.specs.Page.{OnItsWay}
-use Rattle.zone_core.specs.World.{all_put_back}
 use Rattle.zone_core.specs.ZoneState.{ZoneState}
 use Rattle.zone_core.proofs.Carrying.{IsClosing, closing_first, closing_next}
 use Rattle.zone_core.proofs.world.put_all_back_in.Goals as goal
@@ -29,7 +27,7 @@ loop-page-preserved g c =
     subst (λ (list : List OnItsWay). IsClosing c.loop-page.zone list c.loop-page.count c.args.zone.now c.args.waiting.now.items) c.in-Some.ensures.items c.loop-page.invariant.closing in
     record {
       closing = subst (λ (zone : ZoneState). IsClosing zone c.pop_front.new.self.items (c.loop-page.count + 1) c.args.zone.now c.args.waiting.now.items) (sym c.put_back_in.ensures.zone)
-        (closing_next c.loop-page.zone c.in-Some.page c.pop_front.new.self.items c.loop-page.count c.args.zone.now c.args.waiting.now.items was c.put_back_in.ensures.page);
+          (closing_next c.loop-page.zone c.in-Some.page c.pop_front.new.self.items c.loop-page.count c.args.zone.now c.args.waiting.now.items was c.put_back_in.ensures.page);
       capacity = c.pop_front.ensures.capacity ∙ c.loop-page.invariant.capacity;
       parts = c.put_back_in.ensures.parts ∙ c.loop-page.invariant.parts;
     }

@@ -1,15 +1,14 @@
 use Rattle.std.proofs.Common.{◌≡◌, ◌∙◌, ◌+◌, ◌/◌, ◌<◌, ℕ, List, refl, ap, subst, sym, arith, get_or, length}
-use Rattle.std.specs.Prelude.{Some, slice_get, slice_set}
+use Rattle.std.specs.Prelude.{Some, slice_set}
 use Rattle.std.specs.Vec.{with_item}
 use Rattle.std.proofs.lemmas.Option.{slice_get-get_or}
 use Rattle.frame_core.specs.declared.state.FrameState.TheVariants.{Free, Holds}
 use Rattle.journal_core.specs.declared.record.Record.TheVariants.{Moved}
-use Rattle.zone_core.specs.declared.note.Note.{Note}
 use Rattle.zone_core.specs.declared.plain.PlainZone.TheInside.{Inside}
 use Rattle.zone_core.specs.declared.state.Placement.TheVariants.{At, Moving}
 use Rattle.zone_core.specs.Moving.{settled, IsSettled, target_of, moved_to_target}
 use Rattle.zone_core.specs.Sound.{IsSound, state_of}
-use Rattle.zone_core.specs.ZoneState.{ZoneState, frame_count}
+use Rattle.zone_core.specs.ZoneState.{ZoneState}
 use Rattle.zone_core.proofs.Facts.{not_none}
 use Rattle.zone_core.proofs.Quiet.{quiet_kept}
 use Rattle.zone_core.proofs.Seen.{words_seen}
@@ -67,7 +66,7 @@ after c = record c.self.inside {
   counts = record c.self.inside.counts { free = c.self.inside.counts.free + 1; moved = c.self.inside.counts.moved + 1 };
   free_in_block = slice_set c.self.inside.free_in_block c.get-block.result (get_or c.self.inside.free_in_block c.get-block.result 0 + 1);
   free_from = c.min-self-inside.result;
-    journal = c.push.new.self;
+  journal = c.push.new.self;
 }
 
 settling : (c : After-push) → Settling c.self.inside (after c) c.args.self.now c.args.way.now.page (Moving c.args.way.now.serial c.args.way.now.source c.args.way.now.target) (At c.args.way.now.target) (Moved c.args.way.now.serial) c.index_mut-note.result.now c.args.self.now.migrate c.args.self.now.free

@@ -1,4 +1,4 @@
-use Rattle.std.proofs.Common.{◌≡◌, ◌∙◌, ap, subst, sym, arith, List, ℕ}
+use Rattle.std.proofs.Common.{◌∙◌, ap, subst, arith}
 use Rattle.word_core.specs.Page.{Page}
 use Rattle.word_core.specs.Words.{words_of}
 use Rattle.zone_core.specs.declared.state.Placement.TheVariants.{At}

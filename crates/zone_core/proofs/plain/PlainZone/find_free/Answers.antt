@@ -1,11 +1,11 @@
-use Rattle.std.proofs.Common.{◌≡◌, ◌∙◌, ℕ, ◌<◌, ap, subst, sym, arith, length, List, false}
-use Rattle.std.specs.Prelude.{Some, slice_get}
+use Rattle.std.proofs.Common.{◌≡◌, ◌∙◌, ap, subst, sym, arith, List}
+use Rattle.std.specs.Prelude.{Some}
 use Rattle.frame_core.specs.Below.{lowest}
 use Rattle.frame_core.proofs.Searches.{lowest_some, lowest_before}
 use Rattle.frame_core.specs.declared.state.FrameState.{FrameState}
 use Rattle.zone_core.specs.Found.{free_at}
 use Rattle.zone_core.specs.Sound.{IsSound, state_of}
-use Rattle.zone_core.specs.ZoneState.{ZoneState, frame_count, is_free, lowest_free_frame}
+use Rattle.zone_core.specs.ZoneState.{frame_count, is_free, lowest_free_frame}
 use Rattle.zone_core.proofs.Finding.{found_lowest, not_free_before}
 use Rattle.zone_core.proofs.plain.PlainZone.find_free.Goals as goal
 

@@ -1,15 +1,14 @@
-use Rattle.std.proofs.Common.{◌≡◌, ◌∙◌, ◌+◌, ◌/◌, ◌<◌, ℕ, List, refl, ap, subst, sym, arith, get_or, length, false}
-use Rattle.std.specs.Prelude.{Some, slice_get, slice_set}
+use Rattle.std.proofs.Common.{◌≡◌, ◌∙◌, ◌+◌, ◌/◌, ◌<◌, ℕ, refl, ap, subst, sym, arith, get_or, length, false}
+use Rattle.std.specs.Prelude.{Some, slice_set}
 use Rattle.std.specs.Vec.{with_item}
 use Rattle.std.proofs.lemmas.Option.{slice_get-get_or}
 use Rattle.frame_core.specs.declared.state.FrameState.TheVariants.{Free, Holds}
 use Rattle.journal_core.specs.declared.record.Record.TheVariants.{Back}
-use Rattle.zone_core.specs.declared.note.Note.{Note}
 use Rattle.zone_core.specs.declared.plain.PlainZone.TheInside.{Inside}
 use Rattle.zone_core.specs.declared.state.Placement.TheVariants.{At, Moving}
 use Rattle.zone_core.specs.Moving.{settled, IsSettled, source_of, put_back_to_source}
 use Rattle.zone_core.specs.Sound.{IsSound, state_of}
-use Rattle.zone_core.specs.ZoneState.{ZoneState, frame_count}
+use Rattle.zone_core.specs.ZoneState.{ZoneState}
 use Rattle.zone_core.proofs.Facts.{not_none}
 use Rattle.zone_core.proofs.Quiet.{quiet_ended}
 use Rattle.zone_core.proofs.Settled.{can_go_back, back_recorded, frames_apart, source_within, target_in}

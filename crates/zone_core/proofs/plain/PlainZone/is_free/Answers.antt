@@ -1,4 +1,4 @@
-use Rattle.std.proofs.Common.{◌≡◌, ◌∙◌, ℕ, ◌<◌, ap, subst, sym, arith, get_or, length}
+use Rattle.std.proofs.Common.{◌∙◌, ◌<◌, ap, subst, sym, arith, length}
 use Rattle.zone_core.specs.Found.{free_at}
 use Rattle.zone_core.specs.Sound.{IsSound}
 use Rattle.zone_core.proofs.Finding.{at_free, at_used, free_seen}

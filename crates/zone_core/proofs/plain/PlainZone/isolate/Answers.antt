@@ -1,5 +1,5 @@
-use Rattle.std.proofs.Common.{◌≡◌, ◌∙◌, ◌+◌, ◌-◌, ◌/◌, ◌<◌, ◌≤◌, ◌∷◌, ◌++◌, [], ℕ, List, refl, ap, subst, sym, arith, get_or, length}
-use Rattle.std.specs.Prelude.{Some, slice_get, slice_set, vec_capacity}
+use Rattle.std.proofs.Common.{◌≡◌, ◌∙◌, ◌+◌, ◌-◌, ◌/◌, ◌<◌, ◌∷◌, ◌++◌, [], ℕ, List, refl, ap, subst, sym, arith, get_or, length}
+use Rattle.std.specs.Prelude.{Some, slice_set, vec_capacity}
 use Rattle.std.specs.Vec.{with_item}
 use Rattle.std.proofs.lemmas.Option.{slice_get-get_or}
 use Rattle.frame_core.specs.declared.state.FrameState.TheVariants.{Source, Target}
@@ -7,20 +7,18 @@ use Rattle.journal_core.specs.declared.record.Record.TheVariants.{Isolate}
 use Rattle.journal_core.specs.Moves.{isolated}
 use Rattle.table_core.specs.declared.entry.Entry.TheVariants.{Present, Migration}
 use Rattle.table_core.specs.Tables.{Replaces}
-use Rattle.zone_core.specs.declared.note.Note.{Note}
 use Rattle.zone_core.specs.declared.plain.PlainZone.TheInside.{Inside}
 use Rattle.zone_core.specs.declared.state.Placement.TheVariants.{At, Moving}
-use Rattle.zone_core.specs.Fits.{SerialsFit, CountsFit}
-use Rattle.zone_core.specs.Moving.{settled, isolated_next}
-use Rattle.zone_core.specs.Sound.{IsSound, state_of}
-use Rattle.zone_core.specs.ZoneState.{ZoneState, frame_count}
+use Rattle.zone_core.specs.Fits.{SerialsFit}
+use Rattle.zone_core.specs.Moving.{settled}
+use Rattle.zone_core.specs.Sound.{IsSound}
 use Rattle.zone_core.proofs.Departed.{isolated_most, isolated_frames, isolated_words, isolated_freer, isolated_start, isolated_counts, isolated_serials}
-use Rattle.zone_core.proofs.Facts.{not_none, frame_within}
+use Rattle.zone_core.proofs.Facts.{not_none}
 use Rattle.zone_core.proofs.Finding.{free_counted}
 use Rattle.zone_core.proofs.Quiet.{quiet_kept}
 use Rattle.zone_core.proofs.Settled.{can_isolate, isolate_recorded, target_within}
 use Rattle.zone_core.proofs.Settles.{block_at}
-use Rattle.zone_core.proofs.Settling.{Settling, FramesSettled, block_freer, blocks_lost, settle_sound, settle_view}
+use Rattle.zone_core.proofs.Settling.{Settling, FramesSettled, blocks_lost, settle_sound, settle_view}
 use Rattle.zone_core.proofs.plain.PlainZone.isolate.Goals as goal
 use Rattle.zone_core.proofs.plain.PlainZone.isolate.Goals.{After-push}
 

@@ -1,7 +1,6 @@
-use Rattle.std.proofs.Common.{◌≡◌, ◌∙◌, ◌*◌, List, [], ◌∷◌, replicate, refl, ap, subst, sym, false, arith}
+use Rattle.std.proofs.Common.{◌≡◌, ◌∙◌, ◌*◌, [], ◌∷◌, replicate, refl, ap, subst, sym, false, arith}
 use Rattle.std.specs.Prelude.{None}
 use Rattle.journal_core.specs.Journal.{Journal}
-use Rattle.zone_core.specs.declared.note.Note.{Note}
 use Rattle.zone_core.specs.declared.plain.PlainZone.TheInside.{Inside}
 use Rattle.zone_core.specs.ZoneState.{ZoneState}
 use Rattle.zone_core.specs.Sound.{IsSound, state_of}

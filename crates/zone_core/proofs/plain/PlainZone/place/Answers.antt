@@ -1,19 +1,16 @@
-use Rattle.std.proofs.Common.{◌≡◌, ◌∙◌, ◌+◌, ◌-◌, ◌/◌, ◌<◌, ℕ, List, ap, subst, sym, refl, arith, get_or, length}
-use Rattle.std.specs.Prelude.{Some, slice_get, slice_set, unwrap_or}
+use Rattle.std.proofs.Common.{◌≡◌, ◌∙◌, ◌+◌, ◌-◌, ◌/◌, ℕ, List, ap, subst, sym, arith, get_or}
+use Rattle.std.specs.Prelude.{Some, unwrap_or}
 use Rattle.std.specs.Vec.{with_item}
 use Rattle.std.proofs.lemmas.Option.{get_or_from_slice_get}
 use Rattle.frame_core.specs.declared.state.FrameState.TheVariants.{Holds}
-use Rattle.word_core.specs.Page.{blank_words}
-use Rattle.word_core.specs.Words.{with_words}
 use Rattle.zone_core.specs.declared.note.Note.{Note}
 use Rattle.zone_core.specs.declared.plain.PlainZone.TheInside.{Inside}
 use Rattle.zone_core.specs.Sound.{IsSound, state_of}
-use Rattle.zone_core.specs.Steps.{placed, mapped}
-use Rattle.zone_core.specs.ZoneState.{ZoneState, lowest_unused_page, free_in_block}
+use Rattle.zone_core.specs.Steps.{placed}
 use Rattle.zone_core.proofs.Facts.{spare}
 use Rattle.zone_core.proofs.Finding.{some_lowest, unused_is, free_counted}
 use Rattle.zone_core.proofs.Placed.{CanPlace}
-use Rattle.zone_core.proofs.Placing.{Placing, fresh_note, after_place, place_view, place_sound, block_counted}
+use Rattle.zone_core.proofs.Placing.{Placing, after_place, place_view, place_sound, block_counted}
 use Rattle.zone_core.proofs.plain.PlainZone.place.Goals as goal
 use Rattle.zone_core.proofs.plain.PlainZone.place.Goals.{After-get-block, After-get-3, After-push}
 

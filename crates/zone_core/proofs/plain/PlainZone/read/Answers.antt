@@ -1,13 +1,8 @@
 use Rattle.std.proofs.Common.{◌≡◌, ◌∙◌, ◌∷◌, ℕ, ap, subst, sym, arith}
-use Rattle.std.specs.Prelude.{slice_index}
-use Rattle.std.proofs.lemmas.Option.{get_or_from_slice_get}
-use Rattle.journal_core.specs.declared.record.Record.{Record}
 use Rattle.journal_core.specs.declared.record.Record.TheVariants.{Load}
-use Rattle.word_core.specs.Words.{words_of}
 use Rattle.zone_core.specs.declared.state.Placement.TheVariants.{At}
 use Rattle.zone_core.specs.Sound.{IsSound, state_of}
 use Rattle.zone_core.specs.Steps.{value_at, loaded}
-use Rattle.zone_core.specs.ZoneState.{ZoneState}
 use Rattle.zone_core.proofs.Accessed.{loaded_sound, word_read}
 use Rattle.zone_core.proofs.Facts.{page_named, frame_within, noted_view, spare}
 use Rattle.zone_core.proofs.plain.PlainZone.read.Goals as goal

@@ -1,4 +1,4 @@
-use Rattle.std.proofs.Common.{◌≡◌, ◌∙◌, ℕ, ap, subst, sym, length, List}
+use Rattle.std.proofs.Common.{◌∙◌, ap, subst, sym, length, List}
 use Rattle.std.specs.Prelude.{is_none}
 use Rattle.frame_core.specs.Below.{lowest}
 use Rattle.zone_core.specs.declared.note.Note.{Note}

@@ -1,14 +1,12 @@
 use Rattle.std.proofs.Common.{◌≡◌, ◌∙◌, ℕ, ◌<◌, ap, subst, sym, arith, get_or, List, length}
-use Rattle.std.specs.Prelude.{slice_get, Some}
+use Rattle.std.specs.Prelude.{Some}
 use Rattle.std.specs.FinMap as map
 use Rattle.std.proofs.lemmas.Option.{slice_get-get_or, get_or_from_slice_get}
 use Rattle.frame_core.specs.declared.state.FrameState.TheVariants.{Holds}
-use Rattle.word_core.specs.Words.{with_word}
-use Rattle.zone_core.specs.declared.note.Note.{Note}
 use Rattle.zone_core.specs.declared.plain.PlainZone.TheInside.{Inside}
 use Rattle.zone_core.specs.Sound.{IsSound, state_of}
 use Rattle.zone_core.specs.Steps.{stored}
-use Rattle.zone_core.proofs.Accessed.{Storing, Resident, resident, holder_is, store_view, store_sound, after_store}
+use Rattle.zone_core.proofs.Accessed.{Storing, resident, holder_is, store_view, store_sound, after_store}
 use Rattle.zone_core.proofs.Facts.{spare}
 use Rattle.zone_core.proofs.plain.PlainZone.write.Goals as goal
 use Rattle.zone_core.proofs.plain.PlainZone.write.Goals.{After-push}

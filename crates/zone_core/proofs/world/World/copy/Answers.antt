@@ -1,10 +1,10 @@
-use Rattle.std.proofs.Common.{◌≡◌, ◌-◌, List, sym, ap, subst, ◌∙◌}
+use Rattle.std.proofs.Common.{◌≡◌, ◌-◌, List, sym, ap, ◌∙◌}
 use Rattle.std.specs.Prelude.{Some, slice_set}
 use Rattle.std.specs.VecDeque.{deque_capacity}
 use Rattle.word_core.specs.Page.{OnItsWay}
 use Rattle.zone_core.specs.declared.hands.Held.{Held}
 use Rattle.zone_core.specs.declared.hands.Held.TheVariants.{Copy}
-use Rattle.zone_core.specs.Carried.{world_of, IsCarried}
+use Rattle.zone_core.specs.Carried.{world_of}
 use Rattle.zone_core.specs.World.{WorldState, copy_step}
 use Rattle.zone_core.proofs.Carrying.{set_twice, step_copied, carried_copied}
 use Rattle.zone_core.proofs.world.World.copy.Given.{Over}

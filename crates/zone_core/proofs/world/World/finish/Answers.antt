@@ -1,5 +1,5 @@
-use Rattle.std.proofs.Common.{◌≡◌, ◌-◌, List, sym, ap, subst, ◌∙◌}
-use Rattle.std.specs.Prelude.{Some, slice_set}
+use Rattle.std.proofs.Common.{sym, ap, ◌∙◌}
+use Rattle.std.specs.Prelude.{Some}
 use Rattle.std.specs.VecDeque.{deque_capacity}
 use Rattle.zone_core.specs.Carried.{world_of}
 use Rattle.zone_core.specs.World.{WorldState, finish_step}

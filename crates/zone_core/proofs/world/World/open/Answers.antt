@@ -1,4 +1,4 @@
-use Rattle.std.proofs.Common.{◌≡◌, refl, ap, ◌∙◌, arith}
+use Rattle.std.proofs.Common.{refl, ap}
 use Rattle.std.specs.VecDeque.{deque_capacity}
 use Rattle.zone_core.specs.Seats.{EndSeat}
 use Rattle.zone_core.specs.Steps.{opened}

@@ -1,4 +1,4 @@
-use Rattle.std.proofs.Common.{◌≡◌, false, List, sym, ap, ◌∙◌}
+use Rattle.std.proofs.Common.{false, List, sym, ap, ◌∙◌}
 use Rattle.std.specs.Prelude.{Some}
 use Rattle.std.specs.VecDeque.{deque_capacity}
 use Rattle.word_core.specs.Page.{OnItsWay}
