@@ -31,7 +31,7 @@ begun_read places s first is =
       commands = λ rest. refl;
       fault = λ rest. refl;
       replies = refl;
-      zone = refl;
+      world = refl;
       owes = owes_empty [] first first (Appends-nil first);
     })
 

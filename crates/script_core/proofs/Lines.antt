@@ -10,14 +10,14 @@ use Rattle.std.proofs.lemmas.List.Quantifiers.{position-Some}
 use Rattle.std.proofs.lemmas.List.Sums.{fails_before_first}
 use Rattle.std.proofs.lemmas.List.Elements.{All-from_recursion}
 use Rattle.std.proofs.lemmas.List.Splits.{slice_split_at, slice_split_none}
-use Rattle.zone_core.specs.ZoneState.{ZoneState}
+use Rattle.zone_core.specs.World.{WorldState}
 use Rattle.script_core.specs.declared.error.ScriptError.TheVariants as of_line
 use Rattle.script_core.specs.declared.error.Fault.TheVariants.{Syntax, LongLine}
 use Rattle.script_core.specs.Line.{line_of, words_say}
 use Rattle.script_core.specs.Word.{words}
 use Rattle.script_core.specs.Machine.{step}
 use Rattle.script_core.specs.Reply.{newlines}
-use Rattle.script_core.specs.Script.{Answer, Numbered, answers_from, commands_from, fault_from, line_fault, onto_commands, parts_of, zone_after}
+use Rattle.script_core.specs.Script.{Answer, Numbered, answers_from, commands_from, fault_from, line_fault, onto_commands, parts_of, world_behind}
 use Rattle.script_core.proofs.Newlines.{newlines-append}
 
 newline_first : (b : ℕ) (bytes : List ℕ) → newlines (b ∷ bytes) ≡ 0 → (nat_eq b 10 ≡ false) × (newlines bytes ≡ 0)
@@ -104,17 +104,17 @@ pub fault-long : (n : ℕ) (text rest : List ℕ) → newlines text ≡ 0 → 20
 fault-long n text rest e h = let p = parts_are rest in
     ap (fault_from n) (parts-more text rest p e) ∙ fault_long n (text ++ p.first) p.others (omega (arith, length-append text p.first))
 
-pub answers_from-append : (places : ℕ) (z : Option ZoneState) (xs ys : List Numbered) → answers_from places z (xs ++ ys) ≡ answers_from places z xs ++ answers_from places (zone_after places z xs) ys
-answers_from-append places z [] ys = refl
-answers_from-append places z (c ∷ xs) ys = ap (λ (r : List Answer). record { line = c.line; reply = (step places z c.command).reply } ∷ r) (answers_from-append places (step places z c.command).zone xs ys)
+pub answers_from-append : (places : ℕ) (w : Option WorldState) (xs ys : List Numbered) → answers_from places w (xs ++ ys) ≡ answers_from places w xs ++ answers_from places (world_behind places w xs) ys
+answers_from-append places w [] ys = refl
+answers_from-append places w (c ∷ xs) ys = ap (λ (r : List Answer). record { line = c.line; reply = (step places w c.command).reply } ∷ r) (answers_from-append places (step places w c.command).world xs ys)
 
-pub zone_after-append : (places : ℕ) (z : Option ZoneState) (xs ys : List Numbered) → zone_after places z (xs ++ ys) ≡ zone_after places (zone_after places z xs) ys
-zone_after-append places z [] ys = refl
-zone_after-append places z (c ∷ xs) ys = zone_after-append places (step places z c.command).zone xs ys
+pub world_behind-append : (places : ℕ) (w : Option WorldState) (xs ys : List Numbered) → world_behind places w (xs ++ ys) ≡ world_behind places (world_behind places w xs) ys
+world_behind-append places w [] ys = refl
+world_behind-append places w (c ∷ xs) ys = world_behind-append places (step places w c.command).world xs ys
 
-pub length-answers_from : (places : ℕ) (z : Option ZoneState) (xs : List Numbered) → length (answers_from places z xs) ≡ length xs
-length-answers_from places z [] = refl
-length-answers_from places z (c ∷ xs) = ap suc (length-answers_from places (step places z c.command).zone xs)
+pub length-answers_from : (places : ℕ) (w : Option WorldState) (xs : List Numbered) → length (answers_from places w xs) ≡ length xs
+length-answers_from places w [] = refl
+length-answers_from places w (c ∷ xs) = ap suc (length-answers_from places (step places w c.command).world xs)
 
 newlines-none : (xs : List ℕ) → ((k : ℕ) → k < length xs → nat_eq (get_or xs k 0) 10 ≡ false) → newlines xs ≡ 0
 newlines-none [] h = refl

@@ -1,7 +1,7 @@
 -- A script that is read line by line.
 use Rattle.std.proofs.Common.{◌≡◌, ℕ, ◌+◌, ◌<◌, ◌≤◌, IsTrue, List, [], ◌∷◌, ◌++◌, length, length-append, refl, sym, ap, subst, ◌∙◌, append_assoc, append-nil, arith, Option, Some, None, Ok, Err}
 use Rattle.std.specs.Option.{option_or}
-use Rattle.zone_core.specs.ZoneState.{ZoneState}
+use Rattle.zone_core.specs.World.{WorldState}
 use Rattle.script_core.specs.declared.command.Command.{Command}
 use Rattle.script_core.specs.declared.error.RunError.{RunError}
 use Rattle.script_core.specs.declared.error.Fault.{Fault}
@@ -15,9 +15,9 @@ use Rattle.script_core.specs.Line.{line_of}
 use Rattle.script_core.specs.Machine.{Step, opens, step}
 use Rattle.script_core.specs.Outbox.{Outbox, Owes}
 use Rattle.script_core.specs.Reply.{newlines}
-use Rattle.script_core.specs.Script.{Answer, Numbered, answers_from, answers_of, commands_from, commands_of, fault_from, fault_of, line_fault, onto_commands, parts_of, zone_after}
+use Rattle.script_core.specs.Script.{Answer, Numbered, answers_from, answers_of, commands_from, commands_of, fault_from, fault_of, line_fault, onto_commands, parts_of, world_behind}
 use Rattle.script_core.specs.Player.{Player, EndsBy, HasEnded, HasRead, HasFault, HasNoMemory}
-use Rattle.script_core.proofs.Lines.{commands-line, commands-long, fault-line, fault-long, answers_from-append, zone_after-append}
+use Rattle.script_core.proofs.Lines.{commands-line, commands-long, fault-line, fault-long, answers_from-append, world_behind-append}
 use Rattle.script_core.proofs.Newlines.{newlines-append}
 
 stops_more : (answers more : List Answer) (old new : Option (List ℕ)) (line : ℕ) → StopsIn answers old new line → StopsIn (answers ++ more) old new line
@@ -37,7 +37,7 @@ stops_more answers more old new line stops = record {
 -- a writer that stopped within the answers to the first commands stopped within those to all
 pub stops_in_all : (places : ℕ) (input : List ℕ) (before behind : List Numbered) (old new : Option (List ℕ)) (line : ℕ) → commands_of input ≡ before ++ behind → StopsIn (answers_from places None before) old new line → StopsIn (answers_of places input) old new line
 stops_in_all places input before behind old new line order stops =
-    let all : answers_of places input ≡ answers_from places None before ++ answers_from places (zone_after places None before) behind =
+    let all : answers_of places input ≡ answers_from places None before ++ answers_from places (world_behind places None before) behind =
     ap (answers_from places None) order ∙ answers_from-append places None before behind in
     let S : List Answer → Type 0 = λ a. StopsIn a old new line in
     subst S (sym all) (stops_more _ _ old new line stops)
@@ -81,17 +81,17 @@ module _ (places : ℕ) (s : Player) (past text : List ℕ) (first now : Option 
     commands = λ rest. commands_line rest ∙ ap (λ l. r.before ++ onto_commands s.line l (commands_from (s.line + 1) (parts_of rest))) is;
     fault = λ rest. fault_line rest ∙ ap (λ l. option_or (line_fault s.line l) (fault_from (s.line + 1) (parts_of rest))) is;
     replies = r.replies;
-    zone = r.zone;
+    world = r.world;
     owes = r.owes;
   }
 
   -- a line that is answered
-  pub read_answered : (command : Command) (reply : Reply) (zone : Option ZoneState) (box : Outbox) (after : Option (List ℕ)) → line_of text ≡ Ok (Some command) → record { reply = reply; zone = zone } ≡ step s.places s.zone command
+  pub read_answered : (command : Command) (reply : Reply) (world : Option WorldState) (box : Outbox) (after : Option (List ℕ)) → line_of text ≡ Ok (Some command) → record { reply = reply; world = world } ≡ step s.places s.world command
       → ((answers : List Answer) (first : Option (List ℕ)) → Owes s.box answers first now → Owes box (answers ++ record { line = s.line; reply = reply } ∷ []) first after)
-      → HasRead places (record { places = s.places; zone = zone; held = s.held; line = s.line + 1; replies = s.replies + 1; box = box }) (past ++ (text ++ 10 ∷ [])) first after
-  read_answered command reply zone box after is told posts =
+      → HasRead places (record { places = s.places; world = world; held = s.held; line = s.line + 1; replies = s.replies + 1; box = box }) (past ++ (text ++ 10 ∷ [])) first after
+  read_answered command reply world box after is told posts =
       let entry : Numbered = record { line = s.line; command = command } in
-      let here : step places (zone_after places None r.before) command ≡ record { reply = reply; zone = zone } = ap (λ z. step places z command) (sym r.zone) ∙ ap (λ (n : ℕ). step n s.zone command) (sym r.places_are) ∙ sym told in
+      let here : step places (world_behind places None r.before) command ≡ record { reply = reply; world = world } = ap (λ w. step places w command) (sym r.world) ∙ ap (λ (n : ℕ). step n s.world command) (sym r.places_are) ∙ sym told in
       let answers : answers_from places None (r.before ++ entry ∷ []) ≡ answers_from places None r.before ++ record { line = s.line; reply = reply } ∷ [] =
       answers_from-append places None r.before (entry ∷ []) ∙ ap (λ (t : Step). answers_from places None r.before ++ record { line = s.line; reply = t.reply } ∷ []) here in
       let O : List Answer → Type 0 = λ a. Owes box a first after in
@@ -106,7 +106,7 @@ module _ (places : ℕ) (s : Player) (past text : List ℕ) (first now : Option 
         commands = λ rest. commands_line rest ∙ ap (λ l. r.before ++ onto_commands s.line l (commands_from (s.line + 1) (parts_of rest))) is ∙ sym (append_assoc r.before (entry ∷ []) _);
         fault = λ rest. fault_line rest ∙ ap (λ l. option_or (line_fault s.line l) (fault_from (s.line + 1) (parts_of rest))) is;
         replies = omega (arith, r.replies, length-append r.before (entry ∷ []));
-        zone = sym (zone_after-append places None r.before (entry ∷ []) ∙ ap (λ (t : Step). t.zone) here);
+        world = sym (world_behind-append places None r.before (entry ∷ []) ∙ ap (λ (t : Step). t.world) here);
         owes = subst O (sym answers) (posts _ first r.owes);
       }
 
@@ -120,14 +120,14 @@ module _ (places : ℕ) (s : Player) (past text : List ℕ) (first now : Option 
   }
 
   -- a line that opens a zone, for which there is no memory
-  pub read_lacking : (command : Command) (z : Option ZoneState) → line_of text ≡ Ok (Some command) → IsTrue (opens s.zone command) → HasNoMemory places (record s { zone = z }) (past ++ (text ++ 10 ∷ [])) s.line first now
-  read_lacking command z is opening = record {
+  pub read_lacking : (command : Command) (w : Option WorldState) → line_of text ≡ Ok (Some command) → IsTrue (opens s.world command) → HasNoMemory places (record s { world = w }) (past ++ (text ++ 10 ∷ [])) s.line first now
+  read_lacking command w is opening = record {
     before = r.before;
     opening = λ rest. record {
       command = record { line = s.line; command = command };
       behind = commands_from (s.line + 1) (parts_of rest);
       order = commands_line rest ∙ ap (λ l. r.before ++ onto_commands s.line l (commands_from (s.line + 1) (parts_of rest))) is;
-      opening = (let T : Option ZoneState → Type 0 = λ z. IsTrue (opens z command) in subst T r.zone opening);
+      opening = (let T : Option WorldState → Type 0 = λ w. IsTrue (opens w command) in subst T r.world opening);
       at = refl;
     };
     owes = r.owes;
@@ -154,7 +154,7 @@ read_taken_out places s past first now r = record {
   commands = r.commands;
   fault = r.fault;
   replies = r.replies;
-  zone = r.zone;
+  world = r.world;
   owes = r.owes;
 }
 
@@ -177,7 +177,7 @@ read_held places s past text first now r none short = record {
   commands = r.commands;
   fault = r.fault;
   replies = r.replies;
-  zone = r.zone;
+  world = r.world;
   owes = r.owes;
 }
 

@@ -7,7 +7,7 @@ use Rattle.script_core.specs.declared.error.RunError.{RunError}
 use Rattle.script_core.specs.declared.script.Totals.{Totals}
 use Rattle.script_core.specs.Machine.{opens}
 use Rattle.script_core.specs.Reply.{newlines, text_of}
-use Rattle.script_core.specs.Script.{Answer, Numbered, answers_from, answers_of, commands_of, fault_of, output_of, texts, zone_after}
+use Rattle.script_core.specs.Script.{Answer, Numbered, answers_from, answers_of, commands_of, fault_of, output_of, texts, world_behind}
 
 -- whether a fault is one of the script itself
 abbrev pub is_of_script : Fault → Bool
@@ -48,7 +48,7 @@ pub record IsOpening (places : ℕ) (input : List ℕ) (before : List Numbered) 
   pub command : Numbered
   pub behind : List Numbered
   pub order : commands_of input ≡ before ++ command ∷ behind
-  pub opening : IsTrue (opens (zone_after places None before) command.command)
+  pub opening : IsTrue (opens (world_behind places None before) command.command)
   pub at : line ≡ command.line
 
 -- there was no memory for the zone that the command at this line opens, and the commands before it are answered

@@ -2,7 +2,7 @@
 use Rattle.std.specs.Prelude.{ℕ, List, [], ◌∷◌, map, Bool, true, false, length, nat_eq, nat_lt, codes, Option, Some, None, Result, Ok, Err, if◌then◌else◌}
 use Rattle.std.specs.List.{starts_with}
 use Rattle.script_core.specs.declared.word.Word.{Word}
-use Rattle.script_core.specs.declared.word.Word.TheVariants.{Number, Zone, Map, MapAt, Store, Load, Info, Unmovable}
+use Rattle.script_core.specs.declared.word.Word.TheVariants.{Number, Zone, Map, MapAt, Store, Load, Info, Unmovable, Scan, Take, Copy, Finish, Shut, Look}
 use Rattle.script_core.specs.declared.command.Command.{Command}
 use Rattle.script_core.specs.declared.command.Command.TheVariants as command
 use Rattle.script_core.specs.declared.place.Place.{Place}
@@ -26,6 +26,12 @@ command_of (Store ∷ Number z ∷ Number s ∷ Number v ∷ Number w ∷ Number
     Some (command.Store (place z s v) w x)
 command_of (Load ∷ Number z ∷ Number s ∷ Number v ∷ Number w ∷ []) = Some (command.Load (place z s v) w)
 command_of (Info ∷ Number z ∷ []) = Some (command.Info z)
+command_of (Scan ∷ Number z ∷ []) = Some (command.Scan z)
+command_of (Take ∷ Number z ∷ Number k ∷ []) = Some (command.Take z k)
+command_of (Copy ∷ Number z ∷ Number k ∷ []) = Some (command.Copy z k)
+command_of (Finish ∷ Number z ∷ Number k ∷ []) = Some (command.Finish z k)
+command_of (Shut ∷ Number z ∷ []) = Some (command.Shut z)
+command_of (Look ∷ Number z ∷ Number s ∷ Number v ∷ []) = Some (command.Look (place z s v))
 command_of _ = None
 
 -- a comment begins with `#`

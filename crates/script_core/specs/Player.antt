@@ -1,19 +1,19 @@
 -- What contracts see of a script that is being read.
 use Rattle.std.specs.Prelude.{◌≡◌, ℕ, ◌+◌, ◌≤◌, List, [], ◌++◌, length, Option, Some, None}
 use Rattle.std.specs.Io.KnownBytes.{Consumes}
-use Rattle.zone_core.specs.ZoneState.{ZoneState}
+use Rattle.zone_core.specs.World.{WorldState}
 use Rattle.script_core.specs.declared.error.Fault.{Fault}
 use Rattle.script_core.specs.declared.error.Fault.TheVariants.{Syntax, LongLine, Read, Write, Memory}
 use Rattle.script_core.specs.declared.error.RunError.{RunError}
 use Rattle.script_core.specs.Ends.{IsOpening, StopsIn}
 use Rattle.script_core.specs.Outbox.{Outbox, Owes, empty}
 use Rattle.script_core.specs.Reply.{newlines}
-use Rattle.script_core.specs.Script.{Numbered, answers_from, answers_of, commands_from, commands_of, fault_from, fault_of, parts_of, zone_after}
+use Rattle.script_core.specs.Script.{Numbered, answers_from, answers_of, commands_from, commands_of, fault_from, fault_of, parts_of, world_behind}
 
--- the places of a journal, the zone, the line that has begun and its number, how many replies there were, and those that wait
+-- the places of a journal, the world, the line that has begun and its number, how many replies there were, and those that wait
 pub record Player : Type 0 where
   pub places : ℕ
-  pub zone : Option ZoneState
+  pub world : Option WorldState
   pub held : List ℕ
   pub line : ℕ
   pub replies : ℕ
@@ -21,7 +21,7 @@ pub record Player : Type 0 where
 
 -- a script at its first byte
 abbrev pub begun : ℕ → Player
-begun places = record { places = places; zone = None; held = []; line = 1; replies = 0; box = empty }
+begun places = record { places = places; world = None; held = []; line = 1; replies = 0; box = empty }
 
 -- these bytes were read without a fault, and the replies to their lines were written or wait
 pub record HasRead (places : ℕ) (s : Player) (past : List ℕ) (first now : Option (List ℕ)) : Type 0 where
@@ -35,7 +35,7 @@ pub record HasRead (places : ℕ) (s : Player) (past : List ℕ) (first now : Op
   pub commands : (rest : List ℕ) → commands_of (whole ++ rest) ≡ before ++ commands_from s.line (parts_of rest)
   pub fault : (rest : List ℕ) → fault_of (whole ++ rest) ≡ fault_from s.line (parts_of rest)
   pub replies : s.replies ≡ length before
-  pub zone : s.zone ≡ zone_after places None before
+  pub world : s.world ≡ world_behind places None before
   pub owes : Owes s.box (answers_from places None before) first now
 
 -- the first fault is within these bytes, and the replies before it were written or wait

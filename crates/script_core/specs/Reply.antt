@@ -1,5 +1,10 @@
 -- The line of a reply.
-use Rattle.std.specs.Prelude.{◌≡◌, ℕ, List, [], ◌∷◌, ◌++◌, codes, decimal, count_by, nat_eq}
+use Rattle.std.specs.Prelude.{◌≡◌, ℕ, Bool, ◌==◌, List, [], ◌∷◌, ◌++◌, codes, decimal, count_by, nat_eq, if◌then◌else◌}
+use Rattle.std.specs.Int.RustNames.{bit_and}
+use Rattle.frame_core.specs.declared.flags.PageFlags.{PageFlags}
+use Rattle.zone_core.specs.declared.moves.Look.{Look}
+use Rattle.zone_core.specs.declared.moves.Look.TheVariants.{At, Moving}
+use Rattle.zone_core.specs.Steps.{is_unmovable}
 use Rattle.zone_core.specs.declared.state.Info.{Info}
 use Rattle.script_core.specs.declared.reply.Reply.{Reply}
 use Rattle.script_core.specs.declared.reply.Reply.TheVariants as reply
@@ -13,11 +18,32 @@ abbrev pub info_text : Info → List ℕ
 info_text i = codes "free=" ++ decimal i.free ++ codes " pages=" ++ decimal i.pages ++ codes " moving=" ++ decimal i.moving
     ++ codes " huge=" ++ decimal i.huge ++ codes " whole=" ++ decimal i.whole ++ codes "\n"
 
--- the line of a reply, with its newline
+-- whether the flags of a page say that it was stored to
+abbrev pub is_dirty : PageFlags → Bool
+is_dirty flags = bit_and flags.0 2 == 2
+
+-- 1 where something is so, and 0 where not
+abbrev pub one_if : Bool → List ℕ
+one_if b = decimal (if b then 1 else 0)
+
+-- what is known of a page, without a newline
+abbrev pub look_text : Look → List ℕ
+look_text (At frame flags pins maps) = codes "frame=" ++ decimal frame ++ codes " dirty=" ++ one_if (is_dirty flags)
+    ++ codes " unmovable=" ++ one_if (is_unmovable flags) ++ codes " pins=" ++ decimal pins ++ codes " maps=" ++ decimal maps
+look_text (Moving serial pins maps) = codes "moving serial=" ++ decimal serial ++ codes " pins=" ++ decimal pins
+    ++ codes " maps=" ++ decimal maps
+
+-- the line of a reply, with its newline; a page that is brought back by a hand has a pin, which is cause 1
 abbrev pub text_of : Reply → List ℕ
 text_of reply.Done = codes "ok\n"
 text_of (reply.Value x) = codes "value=" ++ decimal x ++ codes "\n"
 text_of (reply.Info i) = info_text i
+text_of (reply.Serial n) = codes "serial=" ++ decimal n ++ codes "\n"
+text_of reply.Met = codes "met\n"
+text_of (reply.Moved n) = codes "moved serial=" ++ decimal n ++ codes "\n"
+text_of (reply.Back n) = codes "back serial=" ++ decimal n ++ codes " cause=1\n"
+text_of (reply.PutBack n) = codes "back=" ++ decimal n ++ codes "\n"
+text_of (reply.Looked l) = look_text l ++ codes "\n"
 text_of (reply.Refused k) = codes "refused " ++ decimal k ++ codes "\n"
 
 -- one newline, and it stands at the end

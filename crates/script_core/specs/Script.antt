@@ -2,7 +2,7 @@
 use Rattle.std.specs.Prelude.{ℕ, ◌+◌, List, [], ◌∷◌, length, flat_map, nat_eq, nat_lt, Option, Some, None, Result, Ok, Err, if◌then◌else◌}
 use Rattle.std.specs.List.{slice_split}
 use Rattle.std.specs.Option.{option_or}
-use Rattle.zone_core.specs.ZoneState.{ZoneState}
+use Rattle.zone_core.specs.World.{WorldState}
 use Rattle.script_core.specs.declared.command.Command.{Command}
 use Rattle.script_core.specs.declared.error.ScriptError.{ScriptError}
 use Rattle.script_core.specs.declared.error.Fault.TheVariants.{Syntax, LongLine}
@@ -59,15 +59,15 @@ commands_from line (text ∷ next ∷ parts) =
     onto_commands line (line_of text) (commands_from (line + 1) (next ∷ parts))
 
 -- the machine's replies to commands
-abbrev pub answers_from : ℕ → Option ZoneState → List Numbered → List Answer
-answers_from places z [] = []
-answers_from places z (c ∷ commands) = let s = step places z c.command in
-    record { line = c.line; reply = s.reply } ∷ answers_from places s.zone commands
+abbrev pub answers_from : ℕ → Option WorldState → List Numbered → List Answer
+answers_from places w [] = []
+answers_from places w (c ∷ commands) = let s = step places w c.command in
+    record { line = c.line; reply = s.reply } ∷ answers_from places s.world commands
 
--- the zone behind commands
-abbrev pub zone_after : ℕ → Option ZoneState → List Numbered → Option ZoneState
-zone_after places z [] = z
-zone_after places z (c ∷ commands) = zone_after places (step places z c.command).zone commands
+-- the world behind commands
+abbrev pub world_behind : ℕ → Option WorldState → List Numbered → Option WorldState
+world_behind places w [] = w
+world_behind places w (c ∷ commands) = world_behind places (step places w c.command).world commands
 
 -- the commands of an input
 abbrev pub commands_of : List ℕ → List Numbered

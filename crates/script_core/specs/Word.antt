@@ -4,7 +4,7 @@ use Rattle.std.specs.List.{slice_split}
 use Rattle.std.specs.Str.{all_ascii_digits}
 use Rattle.std.specs.Str.Parse.{digits_value}
 use Rattle.script_core.specs.declared.word.Word.{Word}
-use Rattle.script_core.specs.declared.word.Word.TheVariants.{Number, Zone, Map, MapAt, Store, Load, Info, Unmovable, Other}
+use Rattle.script_core.specs.declared.word.Word.TheVariants.{Number, Zone, Map, MapAt, Store, Load, Info, Unmovable, Scan, Take, Copy, Finish, Shut, Look, Other}
 
 -- a word is what stands between spaces, and not empty
 abbrev pub words : List ℕ → List (List ℕ)
@@ -34,4 +34,10 @@ word_of bytes =
     else if bytes_eq bytes (codes "load") then Load
     else if bytes_eq bytes (codes "info") then Info
     else if bytes_eq bytes (codes "unmovable") then Unmovable
+    else if bytes_eq bytes (codes "scan") then Scan
+    else if bytes_eq bytes (codes "take") then Take
+    else if bytes_eq bytes (codes "copy") then Copy
+    else if bytes_eq bytes (codes "finish") then Finish
+    else if bytes_eq bytes (codes "shut") then Shut
+    else if bytes_eq bytes (codes "look") then Look
     else number_or_other (number_of bytes)

@@ -32,6 +32,27 @@ pub enum Command {
     Info {
         zone: u64,
     },
+    Scan {
+        zone: u64,
+    },
+    Take {
+        zone: u64,
+        hand: u64,
+    },
+    Copy {
+        zone: u64,
+        hand: u64,
+    },
+    Finish {
+        zone: u64,
+        hand: u64,
+    },
+    Shut {
+        zone: u64,
+    },
+    Look {
+        place: Place,
+    },
 }
 
 impl Command {
@@ -39,7 +60,10 @@ impl Command {
     pub(crate) fn from_words(words: &[Word]) -> Option<Command>
         ensures { result ≡ command_of words.now }
     {
-        use Word::{Info, Load, Map, MapAt, Number, Store, Unmovable, Zone};
+        use Word::{
+            Copy, Finish, Info, Load, Look, Map, MapAt, Number, Scan, Shut, Store, Take, Unmovable,
+            Zone,
+        };
         let command = match *words {
             [Zone, Number(zone), Number(blocks)] => Command::Zone { zone, blocks },
             [Map, Number(zone), Number(space), Number(vpage)] => Command::Map {
@@ -96,6 +120,14 @@ impl Command {
                 word,
             },
             [Info, Number(zone)] => Command::Info { zone },
+            [Scan, Number(zone)] => Command::Scan { zone },
+            [Take, Number(zone), Number(hand)] => Command::Take { zone, hand },
+            [Copy, Number(zone), Number(hand)] => Command::Copy { zone, hand },
+            [Finish, Number(zone), Number(hand)] => Command::Finish { zone, hand },
+            [Shut, Number(zone)] => Command::Shut { zone },
+            [Look, Number(zone), Number(space), Number(vpage)] => Command::Look {
+                place: Place { zone, space, vpage },
+            },
             _ => return None,
         };
         Some(command)

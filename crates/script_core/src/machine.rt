@@ -1,5 +1,5 @@
 ghost use Rattle.std.specs.Prelude.{◌≡◌, ◌<◌, ◌≤◌, ℕ, nat_lt, bit_and, if◌then◌else◌, Some, None, IfOk, OnErr, IsTrue};
-ghost use Rattle.script_core.specs.Machine.{opens, step};
+ghost use Rattle.script_core.specs.Machine.{is_hand, opens, step};
 ghost use Rattle.script_core.specs.declared.command.Command.TheVariants as command;
 ghost use Rattle.zone_core.specs.Books.{IsFor};
 ghost use Rattle.zone_core.specs.Steps.{is_unmovable};
@@ -12,40 +12,36 @@ use frame_core::{ClientNo, FrameNo, PageFlags, WordNo, ZoneNo};
 use std::alloc::{AllocError, Global};
 use std::marker::Model;
 use std::sync::ledger::Ledger;
-use zone_core::{Blanks, Seats, Zone};
+use zone_core::{Blanks, Ended, Finished, Scanned, World};
 
-/// An opened zone with its seats.
+/// The world of the zone that was opened, with the number of the zone.
 #[derive(Drop)]
-struct OpenZone<I: Ledger, N: Ledger, M: Ledger, B: Ledger> {
+struct OpenWorld<I: Ledger, N: Ledger, M: Ledger, B: Ledger> {
     number: u64,
-    zone: Zone<I, M, B>,
-    seats: Seats<I, N, M, B>,
-    ghost same: { number ≡ zone.number },
+    world: World<I, N, M, B>,
+    ghost same: { number ≡ world.zone.number },
 }
 
-/// What a script works on: no zone yet, with the blanks to open one, or the one zone that it opened.
+/// What a script works on: no zone yet, with the blanks to open one, or the world of the one zone that it opened.
 #[derive(Drop)]
 pub(crate) struct Machine<I: Ledger, N: Ledger, M: Ledger, B: Ledger> {
     blanks: Option<Blanks>,
-    open_zone: Option<OpenZone<I, N, M, B>>,
+    open_world: Option<OpenWorld<I, N, M, B>>,
 }
 
 impl<I: Ledger, N: Ledger, M: Ledger, B: Ledger> Model for Machine<I, N, M, B> {
     ghost use Rattle.std.specs.Prelude.{Option};
     ghost use Rattle.std.specs.Option.{ForSome, option_map};
     ghost use Rattle.zone_core.specs.Books.{IsFor};
-    ghost use Rattle.zone_core.specs.ZoneState.{ZoneState};
-    ghost use Rattle.std.specs.Coded.{codes, coded_ℕ};
-    ghost use Rattle.std.specs.FinMap as map;
-    ghost use Rattle.std.specs.FinSet as set;
-    ghost use Rattle.std.specs.Ordering.{nat_cmp};
-    ghost use Rattle.zone_core.specs.contracts.state.Placement as placement;
+    ghost use Rattle.zone_core.specs.World.{WorldState};
+    ghost use Rattle.std.specs.Coded.{codes};
+    ghost use Rattle.zone_core.specs.contracts.plain.PlainZone as plain_zone;
 
-    ghost Value = { Option ZoneState };
+    ghost Value = { Option WorldState };
 
-    ghost coded = { Prim.hlevel (codes, set.code {R = nat_cmp} coded_ℕ, map.code {R = nat_cmp} coded_ℕ coded_ℕ, map.code {R = nat_cmp} coded_ℕ placement.the_row.coded) };
+    ghost coded = { Prim.hlevel (codes, plain_zone.the_row.coded) };
 
-    ghost view = { λ m. option_map (λ o. o.zone) m.open_zone };
+    ghost view = { λ m. option_map (λ o. o.world) m.open_world };
 
     ghost invariant = { λ m. ForSome m.blanks (λ b.
         IsFor b.isolated.name b.isolated.parts I.name I.parts
@@ -65,7 +61,7 @@ impl<I: Ledger, N: Ledger, M: Ledger, B: Ledger> Machine<I, N, M, B> {
     {
         Machine {
             blanks: Some(blanks),
-            open_zone: None,
+            open_world: None,
         }
     }
 
@@ -77,7 +73,7 @@ impl<I: Ledger, N: Ledger, M: Ledger, B: Ledger> Machine<I, N, M, B> {
         command: Command,
     ) -> Result<Reply, AllocError>
         requires { (0 < places) × (places ≤ 65536) }
-        ensures ok { IfOk result (λ reply. record { reply = reply; zone = self.new } ≡ step places self.old command) }
+        ensures ok { IfOk result (λ reply. record { reply = reply; world = self.new } ≡ step places self.old command) }
         ensures memory { OnErr result (IsTrue (opens self.old command)) }
     {
         let reply = match command {
@@ -91,6 +87,12 @@ impl<I: Ledger, N: Ledger, M: Ledger, B: Ledger> Machine<I, N, M, B> {
             Command::Store { place, word, value } => self.store(place, word, value),
             Command::Load { place, word } => self.load(place, word),
             Command::Info { zone } => self.info(zone),
+            Command::Scan { zone } => self.scan(zone),
+            Command::Take { zone, hand } => self.take(zone, hand),
+            Command::Copy { zone, hand } => self.copy(zone, hand),
+            Command::Finish { zone, hand } => self.finish(zone, hand),
+            Command::Shut { zone } => self.shut(zone),
+            Command::Look { place } => self.look(place),
         };
         Ok(reply)
     }
@@ -103,45 +105,38 @@ impl<I: Ledger, N: Ledger, M: Ledger, B: Ledger> Machine<I, N, M, B> {
         blocks: u64,
     ) -> Result<Reply, AllocError>
         requires { (0 < places) × (places ≤ 65536) }
-        ensures ok { IfOk result (λ reply. record { reply = reply; zone = self.new } ≡ step places self.old (command.Zone zone blocks)) }
+        ensures ok { IfOk result (λ reply. record { reply = reply; world = self.new } ≡ step places self.old (command.Zone zone blocks)) }
         ensures memory { OnErr result (IsTrue (opens self.old (command.Zone zone blocks))) }
     {
         if zone >= 4 || blocks == 0 || blocks > 8 {
             return Ok(Reply::Refused(1));
         }
-        if self.open_zone.is_some() {
+        if self.open_world.is_some() {
             return Ok(Reply::Refused(44));
         }
         let number = ZoneNo::new(zone as u32).unwrap();
         let Some(blanks) = self.blanks.take() else {
             return Err(AllocError);
         };
-        let Ok((opened, scan, ends)) = Zone::<I, M, B>::open::<N>(
-            alloc,
-            number,
-            blocks as u32,
-            places,
-            blanks,
-        ) else {
+        let Ok(world) = World::open(alloc, number, blocks as u32, places, blanks) else {
             return Err(AllocError);
         };
-        self.open_zone = Some(OpenZone {
+        self.open_world = Some(OpenWorld {
             number: zone,
-            zone: opened,
-            seats: Seats { scan, ends },
+            world,
         });
         Ok(Reply::Done)
     }
 
     fn map(&mut self, place: Place, unmovable: bool) -> Reply
-        ensures { (places : ℕ) → step places self.old (command.Map place unmovable) ≡ record { reply = result; zone = self.new } }
+        ensures { (places : ℕ) → step places self.old (command.Map place unmovable) ≡ record { reply = result; world = self.new } }
     {
         let Some(address) = place.address() else {
             return Reply::Refused(1);
         };
-        match &mut self.open_zone {
+        match &mut self.open_world {
             Some(open) if open.number == place.zone => {
-                match open.zone.map(script_client(), address, flags(unmovable)) {
+                match open.world.map(script_client(), address, flags(unmovable)) {
                     Ok(_) => Reply::Done,
                     Err(error) => Reply::Refused(error.number()),
                 }
@@ -151,15 +146,15 @@ impl<I: Ledger, N: Ledger, M: Ledger, B: Ledger> Machine<I, N, M, B> {
     }
 
     fn map_at(&mut self, place: Place, frame: u64, unmovable: bool) -> Reply
-        ensures { (places : ℕ) → step places self.old (command.MapAt place frame unmovable) ≡ record { reply = result; zone = self.new } }
+        ensures { (places : ℕ) → step places self.old (command.MapAt place frame unmovable) ≡ record { reply = result; world = self.new } }
     {
         let (Some(address), Some(frame)) = (place.address(), frame_no(frame)) else {
             return Reply::Refused(1);
         };
-        match &mut self.open_zone {
+        match &mut self.open_world {
             Some(open) if open.number == place.zone => {
                 match open
-                    .zone
+                    .world
                     .map_at(script_client(), address, flags(unmovable), frame)
                 {
                     Ok(()) => Reply::Done,
@@ -171,14 +166,14 @@ impl<I: Ledger, N: Ledger, M: Ledger, B: Ledger> Machine<I, N, M, B> {
     }
 
     fn store(&mut self, place: Place, word: u64, value: u64) -> Reply
-        ensures { (places : ℕ) → step places self.old (command.Store place word value) ≡ record { reply = result; zone = self.new } }
+        ensures { (places : ℕ) → step places self.old (command.Store place word value) ≡ record { reply = result; world = self.new } }
     {
         let (Some(address), Some(word)) = (place.address(), word_no(word)) else {
             return Reply::Refused(1);
         };
-        match &mut self.open_zone {
+        match &mut self.open_world {
             Some(open) if open.number == place.zone => {
-                match open.zone.store(script_client(), address, word, value) {
+                match open.world.store(script_client(), address, word, value) {
                     Ok(()) => Reply::Done,
                     Err(error) => Reply::Refused(error.number()),
                 }
@@ -188,14 +183,14 @@ impl<I: Ledger, N: Ledger, M: Ledger, B: Ledger> Machine<I, N, M, B> {
     }
 
     fn load(&mut self, place: Place, word: u64) -> Reply
-        ensures { (places : ℕ) → step places self.old (command.Load place word) ≡ record { reply = result; zone = self.new } }
+        ensures { (places : ℕ) → step places self.old (command.Load place word) ≡ record { reply = result; world = self.new } }
     {
         let (Some(address), Some(word)) = (place.address(), word_no(word)) else {
             return Reply::Refused(1);
         };
-        match &mut self.open_zone {
+        match &mut self.open_world {
             Some(open) if open.number == place.zone => {
-                match open.zone.load(script_client(), address, word) {
+                match open.world.load(script_client(), address, word) {
                     Ok(value) => Reply::Value(value),
                     Err(error) => Reply::Refused(error.number()),
                 }
@@ -205,13 +200,107 @@ impl<I: Ledger, N: Ledger, M: Ledger, B: Ledger> Machine<I, N, M, B> {
     }
 
     fn info(&self, zone: u64) -> Reply
-        ensures { (places : ℕ) → step places self.now (command.Info zone) ≡ record { reply = result; zone = self.now } }
+        ensures { (places : ℕ) → step places self.now (command.Info zone) ≡ record { reply = result; world = self.now } }
     {
         if zone >= 4 {
             return Reply::Refused(1);
         }
-        match &self.open_zone {
-            Some(open) if open.number == zone => Reply::Info(open.zone.info()),
+        match &self.open_world {
+            Some(open) if open.number == zone => Reply::Info(open.world.zone().info()),
+            _ => Reply::Refused(43),
+        }
+    }
+
+    fn scan(&mut self, zone: u64) -> Reply
+        ensures { (places : ℕ) → step places self.old (command.Scan zone) ≡ record { reply = result; world = self.new } }
+    {
+        if zone >= 4 {
+            return Reply::Refused(1);
+        }
+        match &mut self.open_world {
+            Some(open) if open.number == zone => match open.world.scan() {
+                Ok(Scanned::Serial(serial)) => Reply::Serial(serial),
+                Ok(Scanned::Met) => Reply::Met,
+                Err(error) => Reply::Refused(error.number()),
+            },
+            _ => Reply::Refused(43),
+        }
+    }
+
+    fn take(&mut self, zone: u64, hand: u64) -> Reply
+        ensures { (places : ℕ) → step places self.old (command.Take zone hand) ≡ record { reply = result; world = self.new } }
+    {
+        let Some(hand) = hand_no(zone, hand) else {
+            return Reply::Refused(1);
+        };
+        match &mut self.open_world {
+            Some(open) if open.number == zone => match open.world.take(hand) {
+                Ok(serial) => Reply::Serial(serial),
+                Err(error) => Reply::Refused(error.number()),
+            },
+            _ => Reply::Refused(43),
+        }
+    }
+
+    fn copy(&mut self, zone: u64, hand: u64) -> Reply
+        ensures { (places : ℕ) → step places self.old (command.Copy zone hand) ≡ record { reply = result; world = self.new } }
+    {
+        let Some(hand) = hand_no(zone, hand) else {
+            return Reply::Refused(1);
+        };
+        match &mut self.open_world {
+            Some(open) if open.number == zone => match open.world.copy(hand) {
+                Ok(()) => Reply::Done,
+                Err(error) => Reply::Refused(error.number()),
+            },
+            _ => Reply::Refused(43),
+        }
+    }
+
+    fn finish(&mut self, zone: u64, hand: u64) -> Reply
+        ensures { (places : ℕ) → step places self.old (command.Finish zone hand) ≡ record { reply = result; world = self.new } }
+    {
+        let Some(hand) = hand_no(zone, hand) else {
+            return Reply::Refused(1);
+        };
+        match &mut self.open_world {
+            Some(open) if open.number == zone => match open.world.finish(hand) {
+                Ok(Finished { serial, ended }) => match ended {
+                    Ended::Moved => Reply::Moved(serial),
+                    Ended::Back => Reply::Back(serial),
+                },
+                Err(error) => Reply::Refused(error.number()),
+            },
+            _ => Reply::Refused(43),
+        }
+    }
+
+    fn shut(&mut self, zone: u64) -> Reply
+        ensures { (places : ℕ) → step places self.old (command.Shut zone) ≡ record { reply = result; world = self.new } }
+    {
+        if zone >= 4 {
+            return Reply::Refused(1);
+        }
+        match &mut self.open_world {
+            Some(open) if open.number == zone => match open.world.shut() {
+                Ok(count) => Reply::PutBack(count),
+                Err(error) => Reply::Refused(error.number()),
+            },
+            _ => Reply::Refused(43),
+        }
+    }
+
+    fn look(&self, place: Place) -> Reply
+        ensures { (places : ℕ) → step places self.now (command.Look place) ≡ record { reply = result; world = self.now } }
+    {
+        let Some(address) = place.address() else {
+            return Reply::Refused(1);
+        };
+        match &self.open_world {
+            Some(open) if open.number == place.zone => match open.world.zone().look(address) {
+                Ok(look) => Reply::Looked(look),
+                Err(error) => Reply::Refused(error.number()),
+            },
             _ => Reply::Refused(43),
         }
     }
@@ -237,6 +326,16 @@ fn word_no(number: u64) -> Option<WordNo>
     } else {
         None
     }
+}
+
+/// The hand of a zone, where both numbers are in their ranges.
+fn hand_no(zone: u64, hand: u64) -> Option<u32>
+    ensures { result ≡ (if is_hand zone hand then Some hand else None) }
+{
+    if zone >= 4 || hand == 0 || hand > 4 {
+        return None;
+    }
+    Some(hand as u32)
 }
 
 /// The flags of a page that is mapped.

@@ -36,18 +36,15 @@ pub(crate) struct Player<I: Ledger, N: Ledger, M: Ledger, B: Ledger> {
 
 impl<I: Ledger, N: Ledger, M: Ledger, B: Ledger> Model for Player<I, N, M, B> {
     ghost use Rattle.std.specs.Prelude.{◌<◌, ◌≤◌};
-    ghost use Rattle.std.specs.Coded.{codes, coded_ℕ};
-    ghost use Rattle.std.specs.FinMap as map;
-    ghost use Rattle.std.specs.FinSet as set;
-    ghost use Rattle.std.specs.Ordering.{nat_cmp};
-    ghost use Rattle.zone_core.specs.contracts.state.Placement as placement;
+    ghost use Rattle.std.specs.Coded.{codes};
+    ghost use Rattle.zone_core.specs.contracts.plain.PlainZone as plain_zone;
     ghost use Rattle.script_core.specs.Player.{Player as Seen};
 
     ghost Value = { Seen };
 
-    ghost coded = { Prim.hlevel (codes, set.code {R = nat_cmp} coded_ℕ, map.code {R = nat_cmp} coded_ℕ coded_ℕ, map.code {R = nat_cmp} coded_ℕ placement.the_row.coded) };
+    ghost coded = { Prim.hlevel (codes, plain_zone.the_row.coded) };
 
-    ghost view = { λ s. record { places = s.places; zone = s.machine; held = s.held.items; line = s.line; replies = s.replies; box = s.outbox } };
+    ghost view = { λ s. record { places = s.places; world = s.machine; held = s.held.items; line = s.line; replies = s.replies; box = s.outbox } };
 
     ghost invariant = { λ s. (0 < s.places) × (s.places ≤ 65536) × (s.replies < s.line) };
 }

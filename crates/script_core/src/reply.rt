@@ -1,10 +1,12 @@
-ghost use Rattle.std.specs.Prelude.{◌≡◌, ◌+◌, ◌≤◌, ◌++◌, length, decimal};
+ghost use Rattle.std.specs.Prelude.{◌≡◌, ◌+◌, ◌≤◌, [], ◌++◌, length, decimal};
 ghost use Rattle.arrayvec.specs.ArrayVec.{array_vec_len};
-ghost use Rattle.script_core.specs.Reply.{IsOneLine, newlines, text_of};
+ghost use Rattle.script_core.specs.Reply.{IsOneLine, look_text, newlines, text_of};
 
 use arrayvec::ArrayVec;
 use itoa::Buffer;
-use zone_core::Info;
+use bitflags::Flags;
+use frame_core::{PageFlags, Serial};
+use zone_core::{Info, Look};
 
 /// The answer to a command.
 #[derive(Clone, Copy, Debug, PartialEq, Eq)]
@@ -13,6 +15,17 @@ pub enum Reply {
     /// The value of a word.
     Value(u64),
     Info(Info),
+    /// A page is on its way under this serial, or was taken by a hand.
+    Serial(Serial),
+    /// There is no page left that has a frame to go to.
+    Met,
+    /// The page stands in its new frame.
+    Moved(Serial),
+    /// The page had a pin, and stands in its old frame.
+    Back(Serial),
+    /// How many pages were put back since no hand copied them.
+    PutBack(u32),
+    Looked(Look),
     /// The number of a refusal.
     Refused(u16),
 }
@@ -33,10 +46,47 @@ pub fn reply_text(reply: &Reply) -> ArrayVec<u8, 160>
             push_field(&mut text, b" huge=", u64::from(info.huge));
             push_field(&mut text, b" whole=", u64::from(info.whole));
         }
+        Reply::Serial(serial) => push_field(&mut text, b"serial=", u64::from(*serial)),
+        Reply::Met => push(&mut text, b"met"),
+        Reply::Moved(serial) => push_field(&mut text, b"moved serial=", u64::from(*serial)),
+        Reply::Back(serial) => {
+            push_field(&mut text, b"back serial=", u64::from(*serial));
+            push(&mut text, b" cause=1");
+        }
+        Reply::PutBack(count) => push_field(&mut text, b"back=", u64::from(*count)),
+        Reply::Looked(look) => push_look(&mut text, look),
         Reply::Refused(number) => push_field(&mut text, b"refused ", u64::from(*number)),
     }
     push(&mut text, b"\n");
     text
+}
+
+/// Appends what is known of a page.
+fn push_look(text: &mut ArrayVec<u8, 160>, look: &Look)
+    requires { text.old.items ≡ [] }
+    ensures text { text.new.items ≡ look_text look.now }
+    ensures lines { newlines text.new.items ≡ 0 }
+    ensures len { array_vec_len text.new ≤ 136 }
+{
+    let (pins, maps) = match look {
+        Look::At {
+            frame,
+            flags,
+            pins,
+            maps,
+        } => {
+            push_field(text, b"frame=", u64::from(frame.get()));
+            push_field(text, b" dirty=", u64::from(flags.contains(PageFlags::DIRTY)));
+            push_field(text, b" unmovable=", u64::from(flags.contains(PageFlags::UNMOVABLE)));
+            (*pins, *maps)
+        }
+        Look::Moving { serial, pins, maps } => {
+            push_field(text, b"moving serial=", u64::from(*serial));
+            (*pins, *maps)
+        }
+    };
+    push_field(text, b" pins=", u64::from(pins));
+    push_field(text, b" maps=", u64::from(maps));
 }
 
 /// Appends a name and a number.

@@ -13,6 +13,12 @@ pub(crate) enum Word {
     Load,
     Info,
     Unmovable,
+    Scan,
+    Take,
+    Copy,
+    Finish,
+    Shut,
+    Look,
     /// Any other word.
     #[default]
     Other,
@@ -37,6 +43,18 @@ impl Word {
             Word::Info
         } else if bytes == b"unmovable".as_slice() {
             Word::Unmovable
+        } else if bytes == b"scan".as_slice() {
+            Word::Scan
+        } else if bytes == b"take".as_slice() {
+            Word::Take
+        } else if bytes == b"copy".as_slice() {
+            Word::Copy
+        } else if bytes == b"finish".as_slice() {
+            Word::Finish
+        } else if bytes == b"shut".as_slice() {
+            Word::Shut
+        } else if bytes == b"look".as_slice() {
+            Word::Look
         } else {
             number(bytes).map_or(Word::Other, Word::Number)
         }
