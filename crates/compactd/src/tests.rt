@@ -36,7 +36,7 @@ const CUT_LINE: Case = Case {
     status: 1,
 };
 
-const CASES: [Case; 8] = [
+const CASES: [Case; 11] = [
     Case {
         name: "nothing",
         arguments: &[],
@@ -68,6 +68,30 @@ const CASES: [Case; 8] = [
         arguments: &[],
         script: "info 0\nzone 4 1\nzone 0 9\nzone 0 1\nzone 0 1\n",
         replies: "refused 43\nrefused 1\nrefused 1\nok\nrefused 44\n",
+        faults: "",
+        status: 0,
+    },
+    Case {
+        name: "a page is moved, with its words",
+        arguments: &[],
+        script: "zone 0 1\nmap 0 0 0\nstore 0 0 0 1 8\nscan 0\ninfo 0\ntake 0 1\ncopy 0 1\nfinish 0 1\nload 0 0 0 1\nlook 0 0 0\n",
+        replies: "ok\nok\nok\nserial=0\nfree=510 pages=1 moving=1 huge=0 whole=0\nserial=0\nok\nmoved serial=0\nvalue=8\nframe=511 dirty=1 unmovable=0 pins=0 maps=1\n",
+        faults: "",
+        status: 0,
+    },
+    Case {
+        name: "a page that no hand copied is put back",
+        arguments: &[],
+        script: "zone 0 1\nmap 0 0 0\nscan 0\nshut 0\nlook 0 0 0\nscan 0\n",
+        replies: "ok\nok\nserial=0\nback=1\nframe=0 dirty=0 unmovable=0 pins=0 maps=1\nserial=1\n",
+        faults: "",
+        status: 0,
+    },
+    Case {
+        name: "two pages in two hands",
+        arguments: &[],
+        script: "zone 0 1\nmap 0 0 0\nmap 0 0 1\nscan 0\nscan 0\nscan 0\ntake 0 1\ntake 0 2\ntake 0 3\ncopy 0 2\nfinish 0 2\ncopy 0 1\nfinish 0 1\nshut 0\n",
+        replies: "ok\nok\nok\nserial=0\nserial=1\nmet\nserial=0\nserial=1\nrefused 45\nok\nmoved serial=1\nok\nmoved serial=0\nback=0\n",
         faults: "",
         status: 0,
     },

@@ -26,12 +26,15 @@ is_dirty flags = bit_and flags.0 2 == 2
 abbrev pub one_if : Bool → List ℕ
 one_if b = decimal (if b then 1 else 0)
 
+-- the pins of a page, and the addresses that name it
+abbrev pub uses_text : ℕ → ℕ → List ℕ
+uses_text pins maps = codes " pins=" ++ decimal pins ++ codes " maps=" ++ decimal maps
+
 -- what is known of a page, without a newline
 abbrev pub look_text : Look → List ℕ
-look_text (At frame flags pins maps) = codes "frame=" ++ decimal frame ++ codes " dirty=" ++ one_if (is_dirty flags)
-    ++ codes " unmovable=" ++ one_if (is_unmovable flags) ++ codes " pins=" ++ decimal pins ++ codes " maps=" ++ decimal maps
-look_text (Moving serial pins maps) = codes "moving serial=" ++ decimal serial ++ codes " pins=" ++ decimal pins
-    ++ codes " maps=" ++ decimal maps
+look_text (At frame flags pins maps) =
+    codes "frame=" ++ decimal frame ++ codes " dirty=" ++ one_if (is_dirty flags) ++ codes " unmovable=" ++ one_if (is_unmovable flags) ++ uses_text pins maps
+look_text (Moving serial pins maps) = codes "moving serial=" ++ decimal serial ++ uses_text pins maps
 
 -- the line of a reply, with its newline; a page that is brought back by a hand has a pin, which is cause 1
 abbrev pub text_of : Reply → List ℕ

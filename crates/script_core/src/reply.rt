@@ -1,6 +1,6 @@
 ghost use Rattle.std.specs.Prelude.{◌≡◌, ◌+◌, ◌≤◌, [], ◌++◌, length, decimal};
 ghost use Rattle.arrayvec.specs.ArrayVec.{array_vec_len};
-ghost use Rattle.script_core.specs.Reply.{IsOneLine, look_text, newlines, text_of};
+ghost use Rattle.script_core.specs.Reply.{IsOneLine, look_text, newlines, text_of, uses_text};
 
 use arrayvec::ArrayVec;
 use itoa::Buffer;
@@ -68,7 +68,7 @@ fn push_look(text: &mut ArrayVec<u8, 160>, look: &Look)
     ensures lines { newlines text.new.items ≡ 0 }
     ensures len { array_vec_len text.new ≤ 136 }
 {
-    let (pins, maps) = match look {
+    match look {
         Look::At {
             frame,
             flags,
@@ -77,14 +77,27 @@ fn push_look(text: &mut ArrayVec<u8, 160>, look: &Look)
         } => {
             push_field(text, b"frame=", u64::from(frame.get()));
             push_field(text, b" dirty=", u64::from(flags.contains(PageFlags::DIRTY)));
-            push_field(text, b" unmovable=", u64::from(flags.contains(PageFlags::UNMOVABLE)));
-            (*pins, *maps)
+            push_field(
+                text,
+                b" unmovable=",
+                u64::from(flags.contains(PageFlags::UNMOVABLE)),
+            );
+            push_uses(text, *pins, *maps);
         }
         Look::Moving { serial, pins, maps } => {
             push_field(text, b"moving serial=", u64::from(*serial));
-            (*pins, *maps)
+            push_uses(text, *pins, *maps);
         }
-    };
+    }
+}
+
+/// Appends how many pins a page has, and how many addresses name it.
+fn push_uses(text: &mut ArrayVec<u8, 160>, pins: u8, maps: u8)
+    requires { array_vec_len text.old + 52 ≤ 160 }
+    ensures text { text.new.items ≡ text.old.items ++ uses_text pins maps }
+    ensures lines { newlines text.new.items ≡ newlines text.old.items }
+    ensures len { array_vec_len text.new ≤ array_vec_len text.old + 52 }
+{
     push_field(text, b" pins=", u64::from(pins));
     push_field(text, b" maps=", u64::from(maps));
 }

@@ -2,10 +2,11 @@ use crate::{
     Command, Fault, Options, Place, Reply, RunError, ScriptError, Totals, read_line, reply_text,
     run,
 };
+use frame_core::{FrameNo, PageFlags};
 use std::io;
 use std::io::{ErrorKind, Read, Write};
 use std::test::Fail;
-use zone_core::Info;
+use zone_core::{Info, Look};
 
 const OPTIONS: Options = Options {
     copiers: 2,
@@ -20,7 +21,7 @@ fn reads_lines(rt: HostRuntime) {
         space: 1,
         vpage: 2,
     };
-    let rows: [(&str, &[u8], Result<Option<Command>, ScriptError>); 18] = [
+    let rows: [(&str, &[u8], Result<Option<Command>, ScriptError>); 25] = [
         ("nothing", b"", Ok(None)),
         ("spaces", b"   ", Ok(None)),
         ("a comment", b"  #zone 0 1", Ok(None)),
@@ -92,6 +93,29 @@ fn reads_lines(rt: HostRuntime) {
             b"load 0 1 2 000000000000000000009",
             Err(ScriptError::Syntax),
         ),
+        ("a scan", b"scan 3", Ok(Some(Command::Scan { zone: 3 }))),
+        (
+            "a take",
+            b"take 3 4",
+            Ok(Some(Command::Take { zone: 3, hand: 4 })),
+        ),
+        (
+            "a copy",
+            b"copy 3 4",
+            Ok(Some(Command::Copy { zone: 3, hand: 4 })),
+        ),
+        (
+            "a finish",
+            b"finish 3 4",
+            Ok(Some(Command::Finish { zone: 3, hand: 4 })),
+        ),
+        ("a shut", b"shut 3", Ok(Some(Command::Shut { zone: 3 }))),
+        (
+            "a look",
+            b"look 0 1 2",
+            Ok(Some(Command::Look { place })),
+        ),
+        ("no hand", b"take 3", Err(ScriptError::Syntax)),
         ("a sign", b"info +1", Err(ScriptError::Syntax)),
         ("a capital", b"Info 1", Err(ScriptError::Syntax)),
         ("a word too few", b"zone 0", Err(ScriptError::Syntax)),
@@ -124,7 +148,18 @@ fn prints_replies(rt: HostRuntime) {
         whole: 4,
         held: 5,
     };
-    let rows: [(Reply, &[u8]); 4] = [
+    let at = Look::At {
+        frame: FrameNo::new(4095).unwrap(),
+        flags: PageFlags::DIRTY,
+        pins: 255,
+        maps: 4,
+    };
+    let moving = Look::Moving {
+        serial: 4294967295,
+        pins: 1,
+        maps: 2,
+    };
+    let rows: [(Reply, &[u8]); 11] = [
         (Reply::Done, b"ok\n"),
         (
             Reply::Value(18446744073709551615),
@@ -133,6 +168,19 @@ fn prints_replies(rt: HostRuntime) {
         (
             Reply::Info(info),
             b"free=510 pages=1 moving=2 huge=3 whole=4\n",
+        ),
+        (Reply::Serial(4294967295), b"serial=4294967295\n"),
+        (Reply::Met, b"met\n"),
+        (Reply::Moved(7), b"moved serial=7\n"),
+        (Reply::Back(7), b"back serial=7 cause=1\n"),
+        (Reply::PutBack(2), b"back=2\n"),
+        (
+            Reply::Looked(at),
+            b"frame=4095 dirty=1 unmovable=0 pins=255 maps=4\n",
+        ),
+        (
+            Reply::Looked(moving),
+            b"moving serial=4294967295 pins=1 maps=2\n",
         ),
         (Reply::Refused(44), b"refused 44\n"),
     ];
@@ -163,6 +211,42 @@ fn runs_a_script(rt: HostRuntime) -> Result<(), Fail> {
             replies: 6
         })
     );
+    Ok(())
+}
+
+#[test]
+fn moves_a_page(rt: HostRuntime) -> Result<(), Fail> {
+    let script =
+        b"zone 0 1\nmap 0 0 0\nstore 0 0 0 1 8\nscan 0\nlook 0 0 0\ntake 0 1\ncopy 0 1\nfinish 0 1\nlook 0 0 0\n";
+    let (written, ended) = played(&rt, script)?;
+    let expected =
+        b"ok\nok\nok\nserial=0\nmoving serial=0 pins=0 maps=1\nserial=0\nok\nmoved serial=0\nframe=511 dirty=1 unmovable=0 pins=0 maps=1\n";
+    assert_eq!(rt; written.as_slice(), expected.as_slice());
+    assert!(rt; ended.is_ok());
+    Ok(())
+}
+
+#[test]
+fn puts_a_page_back(rt: HostRuntime) -> Result<(), Fail> {
+    let script =
+        b"zone 3 1\nmap 3 0 0 unmovable\nmap 3 0 1\nscan 3\nscan 3\nshut 3\nlook 3 0 0\nlook 3 0 1\n";
+    let (written, ended) = played(&rt, script)?;
+    let expected =
+        b"ok\nok\nok\nserial=0\nmet\nback=1\nframe=0 dirty=0 unmovable=1 pins=0 maps=1\nframe=1 dirty=0 unmovable=0 pins=0 maps=1\n";
+    assert_eq!(rt; written.as_slice(), expected.as_slice());
+    assert!(rt; ended.is_ok());
+    Ok(())
+}
+
+#[test]
+fn refuses_what_a_hand_lacks(rt: HostRuntime) -> Result<(), Fail> {
+    let script =
+        b"take 0 0\ntake 0 1\nzone 0 1\ncopy 0 5\ncopy 1 4\ntake 0 1\ncopy 0 4\nfinish 0 1\nmap 0 0 0\nscan 0\ntake 0 4\ntake 0 4\nfinish 0 4\nshut 0\nlook 0 0 1\nlook 0 8 0\n";
+    let (written, ended) = played(&rt, script)?;
+    let expected =
+        b"refused 1\nrefused 43\nok\nrefused 1\nrefused 43\nrefused 45\nrefused 45\nrefused 45\nok\nserial=0\nserial=0\nrefused 45\nrefused 45\nrefused 45\nrefused 3\nrefused 1\n";
+    assert_eq!(rt; written.as_slice(), expected.as_slice());
+    assert!(rt; ended.is_ok());
     Ok(())
 }
 

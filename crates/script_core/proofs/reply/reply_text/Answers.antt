@@ -1,8 +1,10 @@
 use Rattle.std.proofs.Common.{◌≡◌, arith, ap}
 use Rattle.std.proofs.lemmas.Grind.{common_steps}
+use Rattle.std.specs.Prelude.{codes}
 use Rattle.script_core.specs.Reply.{newlines}
+use Rattle.script_core.proofs.Newlines.{newlines-append}
 use Rattle.script_core.proofs.reply.reply_text.Goals as goal
-use Rattle.script_core.proofs.reply.reply_text.Goals.{in-Done, in-Value, in-Info, in-Refused}
+use Rattle.script_core.proofs.reply.reply_text.Goals.{in-Done, in-Value, in-Info, in-Serial, in-Met, in-Moved, in-Back, in-PutBack, in-Looked, in-Refused}
 
 pub returns-clause-line : goal.returns-clause-line
 returns-clause-line c =
@@ -23,6 +25,19 @@ returns-clause-line c =
           w.push_field-in-Info-5.ensures.lines,
           ap (λ t. newlines t.items) w.text-is,
         )
+        | in-Serial w ↦ omega (arith, none, w.push_field-in-Serial.ensures.lines, ap (λ t. newlines t.items) w.text-is)
+        | in-Met w ↦ let told = w.push-in-Met.ensures.text in let is = w.text-is in grind (arith, common_steps, told, is)
+        | in-Moved w ↦ omega (arith, none, w.push_field-in-Moved.ensures.lines, ap (λ t. newlines t.items) w.text-is)
+        | in-Back w ↦ omega (
+          arith,
+          none,
+          w.push_field-in-Back.ensures.lines,
+          ap newlines w.push-in-Back.ensures.text,
+          newlines-append w.push_field-in-Back.new.text.items (codes " cause=1"),
+          ap (λ t. newlines t.items) w.text-is,
+        )
+        | in-PutBack w ↦ omega (arith, none, w.push_field-in-PutBack.ensures.lines, ap (λ t. newlines t.items) w.text-is)
+        | in-Looked w ↦ omega (arith, w.push_look.ensures.lines, ap (λ t. newlines t.items) w.text-is)
         | in-Refused w ↦ omega (arith, none, w.push_field-in-Refused.ensures.lines, ap (λ t. newlines t.items) w.text-is)
       ];
     }
