@@ -13,7 +13,7 @@ use Rattle.frame_core.specs.declared.place.Address.{Address}
 use Rattle.journal_core.specs.declared.record.Cause.TheVariants.{Pinned, NotCopied}
 use Rattle.journal_core.specs.History.{page_at, pins}
 use Rattle.journal_core.specs.Moves.{isolated, out, is_out, page_of}
-use Rattle.journal_core.proofs.OnTheWay.{out_empty}
+use Rattle.journal_core.proofs.OnTheWay.{out_empty, none_out}
 use Rattle.word_core.specs.Page.{OnItsWay}
 use Rattle.zone_core.specs.declared.error.ZoneError.{ZoneError}
 use Rattle.zone_core.specs.declared.error.ZoneError.TheVariants.{Range, JournalFull, Occupied, NoFrame, Missing, Out}
@@ -571,6 +571,12 @@ carried_joined zone ends list held capacity law audit most rest blocks empty =
     let gone = ltb-false 0 (length (out zone.records)) whole.1 in
     rw (rest.none, empty)
     (carried_closed zone law (out_empty zone.records (omega arith)) ends.parts capacity (omega arith) (omega (arith, rest.room, blocks)) (omega (arith, rest.few, blocks)))
+
+-- where no round is open, the zone and its seats pass an audit
+pub audit_left : (zone : ZoneState) (is_open : Bool) (list : List OnItsWay) (held : List Held) (parts capacity : ℕ) → IsCarried zone is_open list held parts capacity → is_open ≡ false → (ends : EndSeat) → ends.parts ≡ parts → audit_refusal zone ends ≡ None
+audit_left zone is_open list held parts capacity was closed ends same =
+    ap (λ (n : ℕ). if nat_lt n 64 then Some Missing else if nat_lt 0 (length (out zone.records)) then Some Out else None) (same ∙ was.parts)
+    ∙ ap (λ (serials : List ℕ). if nat_lt 0 (length serials) then Some Out else None) (none_out zone.records (was.orderly.closed closed))
 
 -- where no round is open nothing waits
 pub rest_left : (zone : ZoneState) (is_open : Bool) (list : List OnItsWay) (held : List Held) (parts capacity : ℕ) → IsCarried zone is_open list held parts capacity → is_open ≡ false → IsRest list capacity

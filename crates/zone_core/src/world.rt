@@ -321,6 +321,7 @@ impl<I: Ledger, N: Ledger, M: Ledger, B: Ledger> World<I, N, M, B> {
         ensures err { IfErr result (λ world. world ≡ self) }
         ensures zone { IfOk result (λ parts. parts.0 ≡ self.zone) }
         ensures seats { IfOk result (λ parts. parts.1.ends.parts ≡ 64) }
+        ensures audit { IfOk result (λ parts. audit_refusal parts.0 parts.1.ends ≡ None) }
         ensures rest { IfOk result (λ parts. parts.2 ≡ self.zone.blocks) }
     {
         if self.is_open {
