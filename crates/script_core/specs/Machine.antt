@@ -13,7 +13,7 @@ use Rattle.zone_core.specs.Moving.{look_of}
 use Rattle.zone_core.specs.Refusals.{map_refusal, map_at_refusal, access_refusal}
 use Rattle.zone_core.specs.Steps.{mapped, stored, loaded, value_at, info_of}
 use Rattle.zone_core.specs.World.{WorldState, world_opened, with_zone, round_opened, scan_refusal, scan_answer, scanned, take_step, copy_step, finish_step, shut_step}
-use Rattle.zone_core.specs.ZoneState.{lowest_free_frame}
+use Rattle.zone_core.specs.ZoneState.{ZoneState, lowest_free_frame}
 use Rattle.script_core.specs.declared.command.Command.{Command}
 use Rattle.script_core.specs.declared.command.Command.TheVariants.{Zone, Map, MapAt, Store, Load, Info, Scan, Take, Copy, Finish, Shut, Look}
 use Rattle.script_core.specs.declared.place.Place.{Place}
@@ -75,6 +75,10 @@ refused number world = record { reply = reply.Refused number; world = world }
 abbrev pub says : Reply → WorldState → Step
 says reply after = record { reply = reply; world = Some after }
 
+-- a call of the zone that has no answer
+abbrev pub done : WorldState → ZoneState → Step
+done w zone = says reply.Done (with_zone w zone)
+
 -- a refusal of the zone, which leaves this world, or else a step
 abbrev pub unless : Option ZoneError → WorldState → Step → Step
 unless None world step = step
@@ -108,11 +112,11 @@ looked world (Some known) = says (reply.Looked known) world
 abbrev pub call : WorldState → Command → Step
 call w (Zone zone blocks) = refused 44 (Some w)
 call w (Map place unmovable) = let a = address_of place in
-    unless (map_refusal w.zone a) w (says reply.Done (with_zone w (mapped w.zone 0 a unmovable (unwrap_or (lowest_free_frame w.zone) 0))))
+    unless (map_refusal w.zone a) w (done w (mapped w.zone 0 a unmovable (unwrap_or (lowest_free_frame w.zone) 0)))
 call w (MapAt place frame unmovable) = let a = address_of place in
-    unless (map_at_refusal w.zone a frame) w (says reply.Done (with_zone w (mapped w.zone 0 a unmovable frame)))
+    unless (map_at_refusal w.zone a frame) w (done w (mapped w.zone 0 a unmovable frame))
 call w (Store place word value) = let a = address_of place in
-    unless (access_refusal w.zone a) w (says reply.Done (with_zone w (stored w.zone 0 a word value)))
+    unless (access_refusal w.zone a) w (done w (stored w.zone 0 a word value))
 call w (Load place word) = let a = address_of place in
     unless (access_refusal w.zone a) w (says (reply.Value (value_at w.zone a word)) (with_zone w (loaded w.zone 0 a word)))
 call w (Info zone) = says (reply.Info (info_of w.zone)) w
@@ -133,7 +137,8 @@ abbrev pub command_step : ℕ → Option WorldState → Command → Step
 command_step places None (Zone zone blocks) = says reply.Done (world_opened zone blocks places)
 command_step places None command = refused 43 None
 command_step places (Some w) (Zone zone blocks) = refused 44 (Some w)
-command_step places (Some w) command = if nat_eq (zone_named command) w.zone.number then call w command else refused 43 (Some w)
+command_step places (Some w) command =
+    if nat_eq (zone_named command) w.zone.number then call w command else refused 43 (Some w)
 
 -- any command, where a zone is opened with these places in its journal
 abbrev pub step : ℕ → Option WorldState → Command → Step

@@ -33,10 +33,11 @@ uses_text pins maps = codes " pins=" ++ decimal pins ++ codes " maps=" ++ decima
 -- what is known of a page, without a newline
 abbrev pub look_text : Look → List ℕ
 look_text (At frame flags pins maps) =
-    codes "frame=" ++ decimal frame ++ codes " dirty=" ++ one_if (is_dirty flags) ++ codes " unmovable=" ++ one_if (is_unmovable flags) ++ uses_text pins maps
+    codes "frame=" ++ decimal frame ++ codes " dirty=" ++ one_if (is_dirty flags)
+    ++ codes " unmovable=" ++ one_if (is_unmovable flags) ++ uses_text pins maps
 look_text (Moving serial pins maps) = codes "moving serial=" ++ decimal serial ++ uses_text pins maps
 
--- the line of a reply, with its newline; a page that is brought back by a hand has a pin, which is cause 1
+-- the line of a reply, with its newline; cause 1 is that the page has a pin
 abbrev pub text_of : Reply → List ℕ
 text_of reply.Done = codes "ok\n"
 text_of (reply.Value x) = codes "value=" ++ decimal x ++ codes "\n"

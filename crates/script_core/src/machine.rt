@@ -105,7 +105,8 @@ impl<I: Ledger, N: Ledger, M: Ledger, B: Ledger> Machine<I, N, M, B> {
         blocks: u64,
     ) -> Result<Reply, AllocError>
         requires { (0 < places) × (places ≤ 65536) }
-        ensures ok { IfOk result (λ reply. record { reply = reply; world = self.new } ≡ step places self.old (command.Zone zone blocks)) }
+        ensures ok { IfOk result (λ reply. record { reply = reply; world = self.new }
+            ≡ step places self.old (command.Zone zone blocks)) }
         ensures memory { OnErr result (IsTrue (opens self.old (command.Zone zone blocks))) }
     {
         if zone >= 4 || blocks == 0 || blocks > 8 {
@@ -129,7 +130,8 @@ impl<I: Ledger, N: Ledger, M: Ledger, B: Ledger> Machine<I, N, M, B> {
     }
 
     fn map(&mut self, place: Place, unmovable: bool) -> Reply
-        ensures { (places : ℕ) → step places self.old (command.Map place unmovable) ≡ record { reply = result; world = self.new } }
+        ensures { (places : ℕ) → step places self.old (command.Map place unmovable)
+            ≡ record { reply = result; world = self.new } }
     {
         let Some(address) = place.address() else {
             return Reply::Refused(1);
@@ -146,7 +148,8 @@ impl<I: Ledger, N: Ledger, M: Ledger, B: Ledger> Machine<I, N, M, B> {
     }
 
     fn map_at(&mut self, place: Place, frame: u64, unmovable: bool) -> Reply
-        ensures { (places : ℕ) → step places self.old (command.MapAt place frame unmovable) ≡ record { reply = result; world = self.new } }
+        ensures { (places : ℕ) → step places self.old (command.MapAt place frame unmovable)
+            ≡ record { reply = result; world = self.new } }
     {
         let (Some(address), Some(frame)) = (place.address(), frame_no(frame)) else {
             return Reply::Refused(1);
@@ -166,7 +169,8 @@ impl<I: Ledger, N: Ledger, M: Ledger, B: Ledger> Machine<I, N, M, B> {
     }
 
     fn store(&mut self, place: Place, word: u64, value: u64) -> Reply
-        ensures { (places : ℕ) → step places self.old (command.Store place word value) ≡ record { reply = result; world = self.new } }
+        ensures { (places : ℕ) → step places self.old (command.Store place word value)
+            ≡ record { reply = result; world = self.new } }
     {
         let (Some(address), Some(word)) = (place.address(), word_no(word)) else {
             return Reply::Refused(1);
@@ -183,7 +187,8 @@ impl<I: Ledger, N: Ledger, M: Ledger, B: Ledger> Machine<I, N, M, B> {
     }
 
     fn load(&mut self, place: Place, word: u64) -> Reply
-        ensures { (places : ℕ) → step places self.old (command.Load place word) ≡ record { reply = result; world = self.new } }
+        ensures { (places : ℕ) → step places self.old (command.Load place word)
+            ≡ record { reply = result; world = self.new } }
     {
         let (Some(address), Some(word)) = (place.address(), word_no(word)) else {
             return Reply::Refused(1);
@@ -228,7 +233,8 @@ impl<I: Ledger, N: Ledger, M: Ledger, B: Ledger> Machine<I, N, M, B> {
     }
 
     fn take(&mut self, zone: u64, hand: u64) -> Reply
-        ensures { (places : ℕ) → step places self.old (command.Take zone hand) ≡ record { reply = result; world = self.new } }
+        ensures { (places : ℕ) → step places self.old (command.Take zone hand)
+            ≡ record { reply = result; world = self.new } }
     {
         let Some(hand) = hand_no(zone, hand) else {
             return Reply::Refused(1);
@@ -243,7 +249,8 @@ impl<I: Ledger, N: Ledger, M: Ledger, B: Ledger> Machine<I, N, M, B> {
     }
 
     fn copy(&mut self, zone: u64, hand: u64) -> Reply
-        ensures { (places : ℕ) → step places self.old (command.Copy zone hand) ≡ record { reply = result; world = self.new } }
+        ensures { (places : ℕ) → step places self.old (command.Copy zone hand)
+            ≡ record { reply = result; world = self.new } }
     {
         let Some(hand) = hand_no(zone, hand) else {
             return Reply::Refused(1);
@@ -258,7 +265,8 @@ impl<I: Ledger, N: Ledger, M: Ledger, B: Ledger> Machine<I, N, M, B> {
     }
 
     fn finish(&mut self, zone: u64, hand: u64) -> Reply
-        ensures { (places : ℕ) → step places self.old (command.Finish zone hand) ≡ record { reply = result; world = self.new } }
+        ensures { (places : ℕ) → step places self.old (command.Finish zone hand)
+            ≡ record { reply = result; world = self.new } }
     {
         let Some(hand) = hand_no(zone, hand) else {
             return Reply::Refused(1);

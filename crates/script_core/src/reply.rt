@@ -3,9 +3,9 @@ ghost use Rattle.arrayvec.specs.ArrayVec.{array_vec_len};
 ghost use Rattle.script_core.specs.Reply.{IsOneLine, look_text, newlines, text_of, uses_text};
 
 use arrayvec::ArrayVec;
-use itoa::Buffer;
 use bitflags::Flags;
 use frame_core::{PageFlags, Serial};
+use itoa::Buffer;
 use zone_core::{Info, Look};
 
 /// The answer to a command.
@@ -76,7 +76,11 @@ fn push_look(text: &mut ArrayVec<u8, 160>, look: &Look)
             maps,
         } => {
             push_field(text, b"frame=", u64::from(frame.get()));
-            push_field(text, b" dirty=", u64::from(flags.contains(PageFlags::DIRTY)));
+            push_field(
+                text,
+                b" dirty=",
+                u64::from(flags.contains(PageFlags::DIRTY)),
+            );
             push_field(
                 text,
                 b" unmovable=",

@@ -110,11 +110,7 @@ fn reads_lines(rt: HostRuntime) {
             Ok(Some(Command::Finish { zone: 3, hand: 4 })),
         ),
         ("a shut", b"shut 3", Ok(Some(Command::Shut { zone: 3 }))),
-        (
-            "a look",
-            b"look 0 1 2",
-            Ok(Some(Command::Look { place })),
-        ),
+        ("a look", b"look 0 1 2", Ok(Some(Command::Look { place }))),
         ("no hand", b"take 3", Err(ScriptError::Syntax)),
         ("a sign", b"info +1", Err(ScriptError::Syntax)),
         ("a capital", b"Info 1", Err(ScriptError::Syntax)),
@@ -215,38 +211,51 @@ fn runs_a_script(rt: HostRuntime) -> Result<(), Fail> {
 }
 
 #[test]
-fn moves_a_page(rt: HostRuntime) -> Result<(), Fail> {
-    let script =
-        b"zone 0 1\nmap 0 0 0\nstore 0 0 0 1 8\nscan 0\nlook 0 0 0\ntake 0 1\ncopy 0 1\nfinish 0 1\nlook 0 0 0\n";
-    let (written, ended) = played(&rt, script)?;
-    let expected =
-        b"ok\nok\nok\nserial=0\nmoving serial=0 pins=0 maps=1\nserial=0\nok\nmoved serial=0\nframe=511 dirty=1 unmovable=0 pins=0 maps=1\n";
-    assert_eq!(rt; written.as_slice(), expected.as_slice());
-    assert!(rt; ended.is_ok());
-    Ok(())
-}
-
-#[test]
-fn puts_a_page_back(rt: HostRuntime) -> Result<(), Fail> {
-    let script =
-        b"zone 3 1\nmap 3 0 0 unmovable\nmap 3 0 1\nscan 3\nscan 3\nshut 3\nlook 3 0 0\nlook 3 0 1\n";
-    let (written, ended) = played(&rt, script)?;
-    let expected =
-        b"ok\nok\nok\nserial=0\nmet\nback=1\nframe=0 dirty=0 unmovable=1 pins=0 maps=1\nframe=1 dirty=0 unmovable=0 pins=0 maps=1\n";
-    assert_eq!(rt; written.as_slice(), expected.as_slice());
-    assert!(rt; ended.is_ok());
+fn moves_pages(rt: HostRuntime) -> Result<(), Fail> {
+    let rows: [(&[u8], &[u8]); 3] = [
+        (
+            b"zone 0 1\nmap 0 0 0\nstore 0 0 0 1 8\nscan 0\ntake 0 1\ncopy 0 1\nfinish 0 1\nlook 0 0 0\n",
+            b"ok\nok\nok\nserial=0\nserial=0\nok\nmoved serial=0\nframe=511 dirty=1 unmovable=0 pins=0 maps=1\n",
+        ),
+        (
+            b"zone 3 1\nmap 3 0 0\nscan 3\nscan 3\nlook 3 0 0\nshut 3\nlook 3 0 0\n",
+            b"ok\nok\nserial=0\nmet\nmoving serial=0 pins=0 maps=1\nback=1\nframe=0 dirty=0 unmovable=0 pins=0 maps=1\n",
+        ),
+        (
+            b"zone 0 1\nmap 0 0 0 unmovable\nscan 0\nlook 0 0 0\n",
+            b"ok\nok\nmet\nframe=0 dirty=0 unmovable=1 pins=0 maps=1\n",
+        ),
+    ];
+    for (script, expected) in rows {
+        let (written, ended) = played(&rt, script)?;
+        assert_eq!(rt; written.as_slice(), expected);
+        assert!(rt; ended.is_ok());
+    }
     Ok(())
 }
 
 #[test]
 fn refuses_what_a_hand_lacks(rt: HostRuntime) -> Result<(), Fail> {
-    let script =
-        b"take 0 0\ntake 0 1\nzone 0 1\ncopy 0 5\ncopy 1 4\ntake 0 1\ncopy 0 4\nfinish 0 1\nmap 0 0 0\nscan 0\ntake 0 4\ntake 0 4\nfinish 0 4\nshut 0\nlook 0 0 1\nlook 0 8 0\n";
-    let (written, ended) = played(&rt, script)?;
-    let expected =
-        b"refused 1\nrefused 43\nok\nrefused 1\nrefused 43\nrefused 45\nrefused 45\nrefused 45\nok\nserial=0\nserial=0\nrefused 45\nrefused 45\nrefused 45\nrefused 3\nrefused 1\n";
-    assert_eq!(rt; written.as_slice(), expected.as_slice());
-    assert!(rt; ended.is_ok());
+    let rows: [(&[u8], &[u8]); 4] = [
+        (b"take 0 0\ntake 0 1\n", b"refused 1\nrefused 43\n"),
+        (
+            b"zone 0 1\ncopy 0 5\ncopy 1 4\nlook 0 8 0\nlook 0 0 1\n",
+            b"ok\nrefused 1\nrefused 43\nrefused 1\nrefused 3\n",
+        ),
+        (
+            b"zone 0 1\ntake 0 1\ncopy 0 4\nfinish 0 1\n",
+            b"ok\nrefused 45\nrefused 45\nrefused 45\n",
+        ),
+        (
+            b"zone 0 1\nmap 0 0 0\nscan 0\ntake 0 4\ntake 0 4\nfinish 0 4\nshut 0\n",
+            b"ok\nok\nserial=0\nserial=0\nrefused 45\nrefused 45\nrefused 45\n",
+        ),
+    ];
+    for (script, expected) in rows {
+        let (written, ended) = played(&rt, script)?;
+        assert_eq!(rt; written.as_slice(), expected);
+        assert!(rt; ended.is_ok());
+    }
     Ok(())
 }
 
