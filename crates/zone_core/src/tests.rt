@@ -1,5 +1,8 @@
 ghost use Rattle.zone_core.specs.Books.{IsFor};
 
+mod moving;
+mod worlds;
+
 use crate::{Blanks, Info, Zone, ZoneError};
 use bitflags::Flags;
 use frame_core::{Address, ClientNo, FrameNo, PageFlags, SpaceNo, VPage, WordNo, ZoneNo};
