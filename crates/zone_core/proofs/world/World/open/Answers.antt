@@ -1,9 +1,9 @@
 use Rattle.std.proofs.Common.{refl, ap}
 use Rattle.std.specs.VecDeque.{deque_capacity}
 use Rattle.zone_core.specs.Seats.{EndSeat}
-use Rattle.zone_core.specs.Steps.{opened}
+use Rattle.state_core.specs.Steps.{opened}
 use Rattle.zone_core.proofs.Carrying.{carried_closed, few_blocks}
-use Rattle.zone_core.proofs.Opened.{opened_lawful}
+use Rattle.state_core.proofs.Opened.{opened_lawful}
 use Rattle.zone_core.proofs.world.World.open.Goals as goal
 
 pub invariant_of-result : goal.invariant_of-result
