@@ -1,6 +1,6 @@
 use crate::{
-    BlockNo, ClientNo, FrameNo, Order, PageFlags, PageNo, SpaceNo, VPage, WordNo, ZoneNo, block_of,
-    first_frame,
+    BlockNo, ClientNo, FrameNo, HandNo, Order, PageFlags, PageNo, SpaceNo, VPage, WordNo, ZoneNo,
+    block_of, first_frame,
 };
 use bitflags::Flags;
 
@@ -22,6 +22,9 @@ fn numbers_have_their_ranges(rt: HostRuntime) {
     assert_eq!(rt; PageNo::new(4096), None);
     assert_eq!(rt; ClientNo::new(7).map(|n| n.get()), Some(7));
     assert_eq!(rt; ClientNo::new(8), None);
+    assert_eq!(rt; HandNo::new(0), None);
+    assert_eq!(rt; HandNo::new(4).map(|n| n.get()), Some(4));
+    assert_eq!(rt; HandNo::new(5), None);
 }
 
 #[test]

@@ -58,9 +58,6 @@ migration_refused (Some (Moving s source target)) serial e = refl
 pub loaded_sound : (z : Inside) (v : ZoneState) → IsSound z v → (log : Journal) (client : ℕ) (address : Address) (frame word : ℕ) → placement_at v address ≡ Some (At frame) → length (out v.records) < v.room → IsSound (record z { journal = log }) (loaded v client address word)
 loaded_sound z v sound log client address frame word at spare = record {
   lawful = lawful_loaded v sound.lawful spare client address frame word at;
-  some = sound.some;
-  few = sound.few;
-  places = (let before = sound.places in omega arith);
   orders = sound.orders;
   frames = record { count = sound.frames.count; of_page = sound.frames.of_page; of_block = sound.frames.of_block; of_none = sound.frames.of_none };
   entries = record { each = sound.entries.each };
@@ -249,9 +246,6 @@ store_sound z v client address page frame word value note log known =
     let spare = known.spare in
     record {
       lawful = lawful_stored v sound.lawful known.spare client address word value;
-      some = sound.some;
-      few = sound.few;
-      places = (let before = sound.places in omega arith);
       orders = sound.orders;
       frames = record { count = sound.frames.count; of_page = sound.frames.of_page; of_block = sound.frames.of_block; of_none = sound.frames.of_none };
       entries = record { each = sound.entries.each };

@@ -112,10 +112,7 @@ state_clash number blocks places page frame state e =
 
 pub opened_sound : (z : Inside) (number blocks places : ℕ) → IsFresh z number blocks places → IsSound z (opened number blocks places)
 opened_sound z number blocks places fresh = record {
-  lawful = opened_lawful number blocks places;
-  some = fresh.openable.0;
-  few = fresh.openable.1;
-  places = omega (arith, fresh.openable.3);
+  lawful = opened_lawful number blocks places fresh.openable;
   orders = ap length fresh.handed_out ∙ length-replicate (512 * blocks) None;
   frames = record {
     count = ap length fresh.frames ∙ length-replicate (512 * blocks) Free;

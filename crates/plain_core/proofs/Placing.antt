@@ -221,9 +221,6 @@ module _ (z : Inside) (v : ZoneState) (client : ℕ) (address : Address) (unmova
       let counts = sound.counts in
       record {
         lawful = placed_lawful v client address unmovable page frame can;
-        some = sound.some;
-        few = sound.few;
-        places = (let room = can.spare in omega (arith, sound.places));
         orders = sound.orders;
         frames = frames_placed v client address unmovable page frame can z.frames.items sound.frames;
         entries = entries_placed v client address unmovable page frame can z.tables tables sound.entries known.tables_new;

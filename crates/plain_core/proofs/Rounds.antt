@@ -16,9 +16,6 @@ pub begun_sound : (z : Inside) (v : ZoneState) → IsSound z v → (start : Roun
     IsSound (after_begin z start) (begun v start)
 begun_sound z v sound start here = record {
   lawful = lawful_from v sound.lawful start here;
-  some = sound.some;
-  few = sound.few;
-  places = sound.places;
   orders = sound.orders;
   frames = record {
     count = sound.frames.count;

@@ -257,9 +257,6 @@ module _ (z changed : Inside) (v : ZoneState) (page : ℕ) (old new : Placement)
       let spare = known.spare in
       record {
         lawful = lawful_settled v page old new known.can entry known.recorded migrate free known.fingers;
-        some = sound.some;
-        few = sound.few;
-        places = (let before = sound.places in omega arith);
         orders = ap length known.handed_out_same ∙ sound.orders;
         frames = (let fit = frames_settled v page old new known.can entry known.recorded z.frames.items changed.frames.items sound.frames known.frames in record { count = fit.count; of_page = fit.of_page; of_block = fit.of_block; of_none = fit.of_none });
         entries = (let fit = entries_settled v page old new known.can entry known.recorded z.tables changed.tables sound.entries known.tables in record { each = fit.each });

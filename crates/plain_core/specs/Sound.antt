@@ -33,9 +33,6 @@ state_of z = record {
 -- the fields fit a state that is lawful
 pub record IsSound (z : Inside) (v : ZoneState) : Type 0 where
   pub lawful : IsLawful v
-  pub some : 0 < v.blocks
-  pub few : v.blocks ≤ 8
-  pub places : length v.records + v.room ≤ 65536
   pub orders : length z.handed_out.items ≡ frame_count v
   pub frames : FramesFit z.frames.items v
   pub entries : EntriesFit z.tables v

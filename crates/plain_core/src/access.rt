@@ -2,6 +2,7 @@
 
 ghost use Rattle.std.specs.Prelude.{◌≡◌, ◌+◌, length, nat_lt, Some, IsTrue, IfOk};
 ghost use Rattle.journal_core.specs.Moves.{out};
+ghost use Rattle.state_core.specs.Lawful.{IsLawful};
 ghost use Rattle.state_core.specs.Refusals.{placement_refusal, result_err};
 ghost use Rattle.state_core.specs.Steps.{value_at, loaded, stored};
 ghost use Rattle.state_core.specs.ZoneState.{has_room, placement_at};
@@ -48,6 +49,7 @@ impl PlainZone {
         requires frame { placement_at self.old address ≡ Some (At frame) }
         ensures value { result ≡ value_at self.old address word }
         ensures step { self.new ≡ loaded self.old client address word }
+        ensures lawful { IsLawful self.new }
     {
         let value = self.words.load(frame, word);
         self.journal.push(Record::Load {
@@ -70,7 +72,8 @@ impl PlainZone {
     )
         requires room { IsTrue (has_room self.old) }
         requires frame { placement_at self.old address ≡ Some (At frame) }
-        ensures { self.new ≡ stored self.old client address word value }
+        ensures step { self.new ≡ stored self.old client address word value }
+        ensures lawful { IsLawful self.new }
     {
         let FrameState::Holds(page) = self.frames[frame.get() as usize] else {
             unreachable!();

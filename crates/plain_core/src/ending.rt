@@ -4,6 +4,7 @@ ghost use Rattle.std.specs.Prelude.{◌≡◌, ◌<◌, ◌+◌, ◌↔◌, leng
 ghost use Rattle.std.specs.FinMap as map;
 ghost use Rattle.journal_core.specs.History.{pins, maps};
 ghost use Rattle.journal_core.specs.Moves.{out, page_of, isolated, moved, put_back};
+ghost use Rattle.state_core.specs.Lawful.{IsLawful};
 ghost use Rattle.state_core.specs.Moving.{HasCause, IsSettled, words_now, is_own, moved_to_target, put_back_to_source, look_of};
 ghost use Rattle.state_core.specs.ZoneState.{is_quiet};
 ghost use Rattle.state_core.specs.declared.placement.Placement.TheVariants.{Moving};
@@ -78,6 +79,7 @@ impl PlainZone {
         requires unpinned { pins self.old.records way.now.page ≡ 0 }
         requires words { copy.now.words ≡ words_now self.old way.now.page }
         ensures step { self.new ≡ moved_to_target self.old way.now.serial way.now.page }
+        ensures lawful { IsLawful self.new }
         ensures settled { IsSettled self.old self.new way.now.page way.now.target way.now.source }
     {
         let Way {
@@ -105,6 +107,7 @@ impl PlainZone {
         requires placed { map.get self.old.placement way.now.page ≡ Some (Moving way.now.serial way.now.source way.now.target) }
         requires cause { HasCause cause (pins self.old.records way.now.page) }
         ensures step { self.new ≡ put_back_to_source self.old way.now.serial way.now.page cause }
+        ensures lawful { IsLawful self.new }
         ensures settled { IsSettled self.old self.new way.now.page way.now.source way.now.target }
     {
         let Way {

@@ -7,6 +7,7 @@ ghost use Rattle.state_core.specs.Steps.{info_of};
 ghost use Rattle.state_core.specs.ZoneState.{is_whole, frame_count};
 
 use crate::plain::PlainZone;
+use frame_core::ZoneNo;
 use journal_core::Journal;
 use state_core::Info;
 
@@ -36,6 +37,18 @@ impl PlainZone {
             whole: self.whole_blocks(),
             held: self.counts.held,
         }
+    }
+
+    pub fn number(&self) -> ZoneNo
+        ensures { result ≡ self.now.number }
+    {
+        self.number
+    }
+
+    pub fn blocks(&self) -> u32
+        ensures { result ≡ self.now.blocks }
+    {
+        self.blocks
     }
 
     pub fn journal(&self) -> &Journal

@@ -3,6 +3,7 @@
 ghost use Rattle.std.specs.Prelude.{◌≡◌, ◌+◌, ◌<◌, ℕ, length, IsSome, IfSome, IfNone, Some};
 ghost use Rattle.std.specs.FinMap as map;
 ghost use Rattle.journal_core.specs.Moves.{isolated, out};
+ghost use Rattle.state_core.specs.Lawful.{IsLawful};
 ghost use Rattle.state_core.specs.Moving.{round_begun, flags_of, page_now, isolated_next};
 ghost use Rattle.state_core.specs.Pairs.{IsPair, is_calm, is_marked, can_move, holder, holds_movable, takes_movable, is_stuck, next_source, next_target, next_pair};
 ghost use Rattle.state_core.specs.ZoneState.{frame_count};
@@ -142,6 +143,7 @@ impl PlainZone {
         requires room { length (out self.old.records) + 1 < self.old.room }
         ensures page { result ≡ record { serial = isolated self.old.records; page = page_now self.old pair.page } }
         ensures step { self.new ≡ isolated_next self.old pair }
+        ensures lawful { IsLawful self.new }
     {
         let Pair {
             page,
@@ -205,7 +207,8 @@ impl PlainZone {
 
     /// Sets the fingers to the ends of the zone.
     pub fn begin_round(&mut self)
-        ensures { self.new ≡ round_begun self.old }
+        ensures step { self.new ≡ round_begun self.old }
+        ensures lawful { IsLawful self.new }
     {
         let calm = self.is_calm();
         self.quiet = calm;

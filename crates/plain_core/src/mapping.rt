@@ -2,6 +2,7 @@
 
 ghost use Rattle.std.specs.Prelude.{◌≡◌, ◌<◌, nat_lt, Some, None, IsTrue, IsSome, IfSome, is_some};
 ghost use Rattle.journal_core.specs.History.{page_at};
+ghost use Rattle.state_core.specs.Lawful.{IsLawful};
 ghost use Rattle.state_core.specs.Steps.{mapped};
 ghost use Rattle.state_core.specs.ZoneState.{frame_count, has_room, is_free, lowest_free_frame, lowest_unused_page};
 
@@ -44,6 +45,7 @@ impl PlainZone {
     /// The lowest frame that is free. The next search begins there.
     pub fn find_free(&mut self) -> Option<FrameNo>
         ensures same { self.new ≡ self.old }
+        ensures lawful { IsLawful self.new }
         ensures lowest { result ≡ lowest_free_frame self.old }
         ensures free { IfSome result (λ frame. IsTrue (is_free self.old frame)) }
         ensures within { IfSome result (λ frame. frame < frame_count self.old) }
@@ -72,7 +74,8 @@ impl PlainZone {
         requires vacant { page_at self.old.records address ≡ None }
         requires free { IsTrue (is_free self.old frame) }
         requires within { frame < frame_count self.old }
-        ensures { self.new ≡ mapped self.old client address unmovable frame }
+        ensures step { self.new ≡ mapped self.old client address unmovable frame }
+        ensures lawful { IsLawful self.new }
     {
         let named = address;
         let page = self.unused_page();

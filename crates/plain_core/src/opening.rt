@@ -1,4 +1,5 @@
 ghost use Rattle.std.specs.Prelude.{◌≡◌, replicate, IfOk, IfErr};
+ghost use Rattle.state_core.specs.Lawful.{IsLawful};
 ghost use Rattle.state_core.specs.Refusals.{IsOpenable};
 ghost use Rattle.state_core.specs.Steps.{opened};
 
@@ -35,6 +36,7 @@ impl PlainZone {
         requires { IsOpenable blocks places }
         ensures memory { IfErr result (λ error. error ≡ ZoneError.Memory) }
         ensures ok { IfOk result (λ zone. zone ≡ opened number blocks places) }
+        ensures lawful { IfOk result (λ zone. IsLawful zone) }
     {
         let count = 512 * blocks as usize;
         let frames = filled(alloc, FrameState::Free, count)?;

@@ -20,6 +20,8 @@ module _ (v : ZoneState) (law : IsLawful v) (spare : length (out v.records) < v.
       let page = page_named v address (At frame) at in
       let T : Option ℕ → Type 0 = λ o. IsSomeAnd o (λ p. last v.records (unwrap_or o 0) word ≡ last v.records p word) in
       record {
+        size = law.size;
+        places = (let before = law.places in omega arith);
         truthful = (subst T (sym page.1) refl, law.truthful);
         well_ended = law.well_ended;
         room_left = omega arith;
@@ -40,6 +42,8 @@ module _ (v : ZoneState) (law : IsLawful v) (spare : length (out v.records) < v.
 
   pub lawful_stored : (word value : ℕ) → IsLawful (stored v client address word value)
   lawful_stored word value = record {
+    size = law.size;
+    places = (let before = law.places in omega arith);
     truthful = law.truthful;
     well_ended = law.well_ended;
     room_left = omega arith;

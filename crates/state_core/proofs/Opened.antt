@@ -9,6 +9,7 @@ use Rattle.frame_core.specs.Below.{count_below}
 use Rattle.state_core.specs.declared.placement.Placement.{Placement}
 use Rattle.state_core.specs.declared.placement.Placement.TheVariants.{Moving}
 use Rattle.state_core.specs.Steps.{opened}
+use Rattle.state_core.specs.Refusals.{IsOpenable}
 use Rattle.state_core.specs.Lawful.{IsLawful, is_under}
 use Rattle.state_core.specs.ZoneState.{ZoneState, frame_count, takes_up, covers, is_used, is_held, is_free}
 
@@ -61,8 +62,10 @@ module _ (number blocks places : ℕ) where
   under_clash : (page serial : ℕ) → is_under (map.get new_zone.placement page) serial ≡ true → ⊥
   under_clash page serial e = let bad : false ≡ true = sym (ap (λ (o : Option Placement). is_under o serial) (no_page page)) ∙ e in cc
 
-  pub opened_lawful : IsLawful new_zone
-  opened_lawful = record {
+  pub opened_lawful : IsOpenable blocks places → IsLawful new_zone
+  opened_lawful openable = record {
+    size = (openable.0, openable.1);
+    places = omega (arith, openable.3);
     truthful = tt;
     well_ended = tt;
     room_left = omega arith;

@@ -183,6 +183,8 @@ module _ (v : ZoneState) (client : ℕ) (address : Address) (unmovable : Bool) (
       let law = can.lawful in
       let spare = can.spare in
       record {
+        size = law.size;
+        places = (let before = law.places in omega arith);
         truthful = law.truthful;
         well_ended = law.well_ended;
         room_left = omega arith;

@@ -35,6 +35,8 @@ one_start a b e = cc
 pub lawful_from : (v : ZoneState) → IsLawful v → (start : RoundStart) → start.records ≡ length v.records →
     IsLawful (begun v start)
 lawful_from v law start here = record {
+  size = law.size;
+  places = law.places;
   truthful = law.truthful;
   well_ended = law.well_ended;
   room_left = law.room_left;

@@ -173,6 +173,7 @@ pub record IsRecorded (v : ZoneState) (entry : Record) (page : ℕ) (new : Place
   pub still : IsStill v.records entry
   pub truthful : IsTruthful (entry ∷ v.records)
   pub well_ended : IsWellEnded (entry ∷ v.records)
+  pub spare : 0 < v.room
   pub room_left : length (out (entry ∷ v.records)) ≤ v.room - 1
   pub under_way : (q serial : ℕ) → IsTrue (is_under (map.get (map.insert v.placement page new) q) serial) ↔ (IsTrue (is_out (entry ∷ v.records) serial) × (page_of (entry ∷ v.records) serial ≡ Some q))
   pub upward : (serial source target : ℕ) → new ≡ Moving serial source target → source < target
@@ -183,6 +184,8 @@ lawful_settled v page old new can entry recorded migrate free fingers =
     let law = can.lawful in
     let still = recorded.still in
     record {
+      size = law.size;
+      places = (let before = law.places in let spare = recorded.spare in omega arith);
       truthful = recorded.truthful;
       well_ended = recorded.well_ended;
       room_left = recorded.room_left;
@@ -320,6 +323,7 @@ module _ (v : ZoneState) (pair : Pair) (law : IsLawful v) (is : IsPair v pair.pa
           }),
       law.well_ended,
     );
+    spare = omega arith;
     room_left = omega arith;
     under_way = λ q serial. (way_new q serial, way_old q serial);
     upward = λ serial source target e. (let low = is.to.low in let s : pair.source ≡ source = cc in let t : pair.target ≡ target = cc in omega arith);
@@ -421,6 +425,7 @@ module _ (v : ZoneState) (page serial source target : ℕ) (law : IsLawful v) (a
         still = moved_still v.records serial;
         truthful = law.truthful;
         well_ended = (record { under_way = is_out_now; page = subst E (sym page_is) none }, law.well_ended);
+        spare = omega (arith, out_fewer);
         room_left = omega (arith, out_fewer);
         under_way = λ q s. (way_kept target q s, way_before target q s);
         upward = λ s from to e. cc;
@@ -439,6 +444,7 @@ module _ (v : ZoneState) (page serial source target : ℕ) (law : IsLawful v) (a
         still = back_still v.records serial cause;
         truthful = law.truthful;
         well_ended = ends_back cause has;
+        spare = omega (arith, out_fewer v page serial source target law at);
         room_left = omega (arith, out_fewer v page serial source target law at);
         under_way = λ q s. (way_kept v page serial source target law at source q s, way_before v page serial source target law at source q s);
         upward = λ s from to e. cc;

@@ -25,6 +25,9 @@ pub record IsBlock (frames first order : ℕ) : Type 0 where
   pub within : first + 2 ^ order ≤ frames
 
 pub record IsLawful (z : ZoneState) : Type 0 where
+  -- a zone has 1 to 8 pageblocks, and its journal at most 65536 places
+  pub size : (0 < z.blocks) × (z.blocks ≤ 8)
+  pub places : length z.records + z.room ≤ 65536
   -- each load gave the last value stored, and each page that was isolated is ended once at most
   pub truthful : IsTruthful z.records
   pub well_ended : IsWellEnded z.records

@@ -333,6 +333,20 @@ impl<I: Ledger, M: Ledger, B: Ledger> Zone<I, M, B> {
         self.plain.counted().ok_or(ZoneError::Out)
     }
 
+    /// Its number, which it was opened with.
+    pub fn number(&self) -> ZoneNo
+        ensures { result ≡ self.now.number }
+    {
+        self.plain.number()
+    }
+
+    /// How many pageblocks it has, 1 to 8.
+    pub fn blocks(&self) -> u32
+        ensures { result ≡ self.now.blocks }
+    {
+        self.plain.blocks()
+    }
+
     /// The counts of the zone.
     pub fn info(&self) -> Info
         ensures counts { result ≡ info_of self.now }

@@ -21,7 +21,7 @@ use Rattle.plain_core.proofs.plain.PlainZone.arrive.Goals.{After-block_of, After
 pub overflow_add-self-2 : goal.overflow_add-self-2
 overflow_add-self-2 c =
     let sound : IsSound c.self.inside c.args.self.now = subst (IsSound c.self.inside) c.self.view_is c.self.invariant in
-    let most = ended_most c.args.self.now c.self.inside.counts sound.counts sound.places in
+    let most = ended_most c.args.self.now c.self.inside.counts sound.counts sound.lawful.places in
     omega (arith, most.0)
 
 pub overflow_add-self-3 : goal.overflow_add-self-3
@@ -140,3 +140,6 @@ returns-clause-settled c =
     let sound : IsSound c.self.inside v = subst (IsSound c.self.inside) c.self.view_is c.self.invariant in
     subst (λ (u : ZoneState). IsSettled v u way.page way.target way.source) (sym (settle_view c.self.inside (after c) v way.page _ _ _ _ _ _ (settling c)))
     (moved_settled v way.page way.serial way.source way.target sound.lawful c.requires.placed)
+
+pub returns-clause-lawful : goal.returns-clause-lawful
+returns-clause-lawful c = (invariant_of-self c).lawful

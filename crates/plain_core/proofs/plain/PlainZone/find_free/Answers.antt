@@ -21,9 +21,6 @@ invariant_of-self c =
     ap lowest_free_frame c.self.view_is ∙ sym (sym c.in-Some.is ∙ found_lowest c.self.inside c.args.self.now (subst (IsSound c.self.inside) c.self.view_is c.self.invariant) c.deref.result.now c.deref.ensures.value c.lowest_free-found.result c.lowest_free-found.ensures) in
     record {
       lawful = sound.lawful;
-      some = sound.some;
-      few = sound.few;
-      places = sound.places;
       orders = sound.orders;
       frames = sound.frames;
       entries = sound.entries;

@@ -36,7 +36,7 @@ pub overflow_add-self : goal.overflow_add-self
 overflow_add-self c =
     let sound : IsSound c.self.inside c.args.self.now = subst (IsSound c.self.inside) c.self.view_is c.self.invariant in
     let most = isolated_most c.args.self.now.records in
-    omega (arith, most, sound.counts.isolated, sound.places)
+    omega (arith, most, sound.counts.isolated, sound.lawful.places)
 
 pub push_reserved-requires : goal.push_reserved-requires
 push_reserved-requires c =
@@ -122,3 +122,6 @@ invariant_of-self c =
 
 pub returns-clause-step : goal.returns-clause-step
 returns-clause-step c = settle_view c.self.inside (after c.before) c.args.self.now c.args.pair.page _ _ _ _ _ _ (settling c.before)
+
+pub returns-clause-lawful : goal.returns-clause-lawful
+returns-clause-lawful c = (invariant_of-self c).lawful

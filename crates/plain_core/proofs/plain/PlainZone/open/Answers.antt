@@ -62,3 +62,6 @@ invariant_of-result c = let P : ZoneState → Type 0 = λ v. IsSound (new_zone c
 
 pub returns-clause-ok : goal.returns-clause-ok
 returns-clause-ok c = view c
+
+pub returns-clause-lawful : goal.returns-clause-lawful
+returns-clause-lawful c = (invariant_of-result c).lawful

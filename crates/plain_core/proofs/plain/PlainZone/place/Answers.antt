@@ -93,7 +93,10 @@ invariant_of-self c =
     let ideal = after_place c.self.inside c.args.unmovable c.unused_page-page.result c.args.frame c.get-block.result (left c) c.set.new.self c.push.new.self in
     subst S (sym (same c)) (subst (IsSound ideal) (sym (view c)) (place_sound c.self.inside c.args.self.now c.args.client c.args.address c.args.unmovable c.unused_page-page.result c.args.frame c.get-block.result (left c) c.set.new.self c.push.new.self (placing c)))
 
-pub returns : goal.returns
-returns c =
+pub returns-clause-step : goal.returns-clause-step
+returns-clause-step c =
     ap state_of (same c) ∙ view c
     ∙ ap (λ (page : ℕ). placed c.args.self.now c.args.client c.args.address c.args.unmovable page c.args.frame) (sym (ap (λ o. unwrap_or o 0) c.unused_page-page.ensures))
+
+pub returns-clause-lawful : goal.returns-clause-lawful
+returns-clause-lawful c = (invariant_of-self c).lawful

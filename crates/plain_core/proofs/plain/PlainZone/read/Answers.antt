@@ -37,3 +37,6 @@ returns-clause-value c = value_is c
 
 pub returns-clause-step : goal.returns-clause-step
 returns-clause-step c = view c
+
+pub returns-clause-lawful : goal.returns-clause-lawful
+returns-clause-lawful c = (invariant_of-self c).lawful

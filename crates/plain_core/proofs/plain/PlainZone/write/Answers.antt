@@ -65,5 +65,8 @@ invariant_of-self c =
     subst (IsSound (after c c.store.new.self)) (sym (view c))
     (subst S (sym c.store.ensures.stored) (store_sound c.self.inside c.args.self.now c.args.client c.args.address c.get-2.result c.args.frame c.args.word c.args.value c.index_mut-note.result.now c.push.new.self (storing c)))
 
-pub returns : goal.returns
-returns c = view c
+pub returns-clause-step : goal.returns-clause-step
+returns-clause-step c = view c
+
+pub returns-clause-lawful : goal.returns-clause-lawful
+returns-clause-lawful c = (invariant_of-self c).lawful
