@@ -109,7 +109,7 @@ no_hand k s e = let bad : holds (Empty ∷ Empty ∷ Empty ∷ Empty ∷ []) s �
 
 pub orderly_opened : (number blocks places : ℕ) → IsOpenable blocks places → IsOrderly (world_opened number blocks places)
 orderly_opened number blocks places openable = record {
-  lawful = opened_lawful number blocks places;
+  lawful = opened_lawful number blocks places openable;
   four = refl;
   rising = tt;
   out = λ s. (λ h. h, λ h. h);

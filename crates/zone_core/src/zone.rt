@@ -65,6 +65,7 @@ impl<I: Ledger, M: Ledger, B: Ledger> Zone<I, M, B> {
         ensures zone { IfOk result (λ opening. opening.0 ≡ opened number blocks places) }
         ensures scan { IfOk result (λ opening. opening.1 ≡ fresh_scan_seat) }
         ensures ends { IfOk result (λ opening. opening.2 ≡ fresh_end_seat) }
+        ensures lawful { IfOk result (λ opening. IsLawful opening.0) }
     {
         if blocks < 1 || blocks > 8 || places < 1 || places > 65536 {
             return Err(ZoneError::Range);
@@ -79,11 +80,13 @@ impl<I: Ledger, M: Ledger, B: Ledger> Zone<I, M, B> {
         blanks: Blanks,
     ) -> (Zone<I, M, B>, ScanSeat<I, N>, EndSeat<M, B>)
         requires fresh { (number blocks places : ℕ) × (plain ≡ opened number blocks places) }
+        requires lawful { IsLawful plain }
         requires isolated { IsFor blanks.isolated.name blanks.isolated.parts I.name I.parts }
         requires rounds { IsFor blanks.rounds.name blanks.rounds.parts N.name N.parts }
         requires moved { IsFor blanks.moved.name blanks.moved.parts M.name M.parts }
         requires back { IsFor blanks.back.name blanks.back.parts B.name B.parts }
         ensures zone { result.0 ≡ plain }
+        ensures lawful { IsLawful result.0 }
         ensures scan { result.1 ≡ fresh_scan_seat }
         ensures ends { result.2 ≡ fresh_end_seat }
     {
