@@ -4,6 +4,7 @@
 #![tactic(auto)]
 
 mod flags;
+mod list;
 mod order;
 mod page;
 mod place;
@@ -12,6 +13,7 @@ mod state;
 mod tests;
 
 pub use flags::PageFlags;
+pub use list::filled;
 pub use order::Order;
 pub use page::{ClientNo, PageNo, WordNo};
 pub use place::{Address, BlockNo, FrameNo, SpaceNo, VPage, ZoneNo, block_of, first_frame};
