@@ -5,6 +5,7 @@
 
 mod flags;
 mod hand;
+mod list;
 mod order;
 mod page;
 mod place;
@@ -14,6 +15,7 @@ mod tests;
 
 pub use flags::PageFlags;
 pub use hand::HandNo;
+pub use list::filled;
 pub use order::Order;
 pub use page::{ClientNo, PageNo, WordNo};
 pub use place::{Address, BlockNo, FrameNo, SpaceNo, VPage, ZoneNo, block_of, first_frame};
