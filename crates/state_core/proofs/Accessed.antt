@@ -35,6 +35,9 @@ module _ (v : ZoneState) (law : IsLawful v) (spare : length (out v.records) < v.
         clear = law.clear;
         blocks = law.blocks;
         disjoint = law.disjoint;
+        given = law.given;
+        marks = law.marks;
+        unmovable = law.unmovable;
         fingers = law.fingers;
         begun = λ start e. begun_more v.records (Load client address word (value_at v address word)) v.round law.begun start e;
         sum = law.sum;
@@ -57,6 +60,9 @@ module _ (v : ZoneState) (law : IsLawful v) (spare : length (out v.records) < v.
     clear = law.clear;
     blocks = law.blocks;
     disjoint = law.disjoint;
+    given = law.given;
+    marks = law.marks;
+    unmovable = law.unmovable;
     fingers = law.fingers;
     begun = λ start e. begun_more v.records (Store client address word value) v.round law.begun start e;
     sum = law.sum;

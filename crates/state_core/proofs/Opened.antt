@@ -79,6 +79,9 @@ module _ (number blocks places : ℕ) where
     clear = λ page frame h. absurd (taken_clash page frame h);
     blocks = λ first order e. (let bad : None ≡ Some order = sym (no_block first) ∙ e in cc);
     disjoint = λ a b frame h k. absurd (covered_clash a frame h);
+    given = no_block;
+    marks = set.contains-empty nat_cmp;
+    unmovable = λ page e. (let bad : false ≡ true = sym (set.contains-empty nat_cmp page) ∙ e in cc);
     fingers = (omega arith, omega arith);
     begun = λ start e. cc;
     sum = omega (arith, free_count, page_count, held_count);

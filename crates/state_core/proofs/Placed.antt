@@ -1,7 +1,8 @@
 -- A fresh page in a free frame: what contracts see of the zone stays lawful.
 use Rattle.std.proofs.Common.{◌≡◌, ◌≢◌, ℕ, ◌+◌, ◌<◌, Bool, true, false, not, length, ◌⊎◌, inl, inr, refl, sym, ap, ◌∙◌, arith}
-use Rattle.std.specs.Prelude.{Option, Some, None, IsSome, is_some, nat_eq, ◌&&◌}
+use Rattle.std.specs.Prelude.{if◌then◌else◌, Option, Some, None, IsSome, is_some, nat_eq, ◌&&◌}
 use Rattle.std.specs.FinMap as map
+use Rattle.std.specs.FinSet as set
 use Rattle.std.proofs.lemmas.Bool.{eq-eqb}
 use Rattle.std.proofs.lemmas.Bool.Decides.{eqb_tells}
 use Rattle.frame_core.proofs.Searches.{some_none, some_at, count_more}
@@ -18,7 +19,7 @@ use Rattle.state_core.specs.Lawful.{IsLawful, is_under}
 use Rattle.state_core.specs.Steps.{placed}
 use Rattle.state_core.specs.ZoneState.{ZoneState, frame_count, takes_up, is_used, is_held, is_free}
 use Rattle.state_core.proofs.Quiet.{begun_more}
-use Rattle.state_core.proofs.Entries.{get_insert_same, get_insert_other}
+use Rattle.state_core.proofs.Entries.{get_insert_same, get_insert_other, contains_insert_other}
 use Rattle.state_core.proofs.Facts.{not_none, taken, skipped}
 
 -- what it takes to place a fresh page
@@ -178,6 +179,20 @@ module _ (v : ZoneState) (client : ℕ) (address : Address) (unmovable : Bool) (
   by_both p q g (inr a) (inl b) = absurd (untrue _ (untaken p) (ap (takes_up (map.get v.placement p)) (sym b.1) ∙ a.1))
   by_both p q g (inr a) (inr b) = can.lawful.apart p q g a.1 b.1
 
+  -- a page that can't be moved is in use
+  used_now : (q : ℕ) → IsSome (map.get v.placement q) → IsSome (map.get next.placement q)
+  used_now q used = elim (eqb_tells q page) [
+    | inl same ↦ ap (λ (p : ℕ). is_some (map.get next.placement p)) same.1 ∙ ap is_some at_page
+    | inr other ↦ ap is_some (at_other q other.1) ∙ used
+  ]
+
+  unmovable_new : (b : Bool) → unmovable ≡ b → (q : ℕ) → set.contains (if b then set.insert v.unmovable page else v.unmovable) q ≡ true → IsSome (map.get next.placement q)
+  unmovable_new false is q e = used_now q (can.lawful.unmovable q e)
+  unmovable_new true is q e = elim (eqb_tells q page) [
+    | inl same ↦ ap (λ (p : ℕ). is_some (map.get next.placement p)) same.1 ∙ ap is_some at_page
+    | inr other ↦ used_now q (can.lawful.unmovable q (sym (contains_insert_other v.unmovable page q other.1) ∙ e))
+  ]
+
   pub placed_lawful : IsLawful next
   placed_lawful =
       let law = can.lawful in
@@ -222,6 +237,9 @@ module _ (v : ZoneState) (client : ℕ) (address : Address) (unmovable : Bool) (
         clear = λ q g a. elim (took q g a) [ inl here ↦ ap (is_held v) here.1 ∙ unheld_frame | inr there ↦ law.clear q g there.1 ];
         blocks = law.blocks;
         disjoint = law.disjoint;
+        given = law.given;
+        marks = law.marks;
+        unmovable = unmovable_new unmovable refl;
         fingers = law.fingers;
         begun = λ start e. begun_more v.records (Map client address page) v.round law.begun start e;
         sum = omega (arith, law.sum, fewer_free, more_pages);

@@ -50,6 +50,9 @@ lawful_from v law start here = record {
   clear = law.clear;
   blocks = law.blocks;
   disjoint = law.disjoint;
+  given = law.given;
+  marks = law.marks;
+  unmovable = law.unmovable;
   fingers = (omega arith, omega arith);
   begun = λ other e. (let same : start.records ≡ other.records =
       ap (λ (s : RoundStart). s.records) (one_start start other e) in omega arith);

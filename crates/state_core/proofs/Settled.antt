@@ -14,6 +14,7 @@ use Rattle.journal_core.specs.declared.record.Cause.{Cause}
 use Rattle.journal_core.specs.declared.record.Cause.TheVariants.{Pinned, NotCopied}
 use Rattle.journal_core.specs.declared.record.Record.{Record}
 use Rattle.journal_core.specs.declared.record.Record.TheVariants.{Isolate, Moved, Back}
+use Rattle.journal_core.specs.Blocks.{given_out, is_marked_by}
 use Rattle.journal_core.specs.History.{page_at, last, dirty, pins, maps}
 use Rattle.journal_core.specs.Moves.{isolated, out, is_out, without, page_of, IsWellEnded}
 use Rattle.journal_core.specs.Truth.{IsTruthful}
@@ -35,22 +36,24 @@ pub record CanSettle (v : ZoneState) (page : ℕ) (old new : Placement) : Type 0
   pub at : map.get v.placement page ≡ Some old
   pub takes : (frame : ℕ) → takes_up (Some new) frame ≡ true → (takes_up (Some old) frame ≡ true) ⊎ ((is_free v frame ≡ true) × (frame < frame_count v))
 
--- a record that leaves names, values and pins as they are
+-- a record that leaves names, values, pins, blocks and marks as they are
 pub record IsStill (records : List Record) (entry : Record) : Type 0 where
   pub names : (address : Address) → page_at (entry ∷ records) address ≡ page_at records address
   pub last : (page word : ℕ) → last (entry ∷ records) page word ≡ last records page word
   pub dirty : (page : ℕ) → dirty (entry ∷ records) page ≡ dirty records page
   pub pins : (page : ℕ) → pins (entry ∷ records) page ≡ pins records page
   pub maps : (page : ℕ) → maps (entry ∷ records) page ≡ maps records page
+  pub given : (first : ℕ) → given_out (entry ∷ records) first ≡ given_out records first
+  pub marks : (block : ℕ) → is_marked_by (entry ∷ records) block ≡ is_marked_by records block
 
 pub isolate_still : (records : List Record) (serial page : ℕ) → IsStill records (Isolate serial page)
-isolate_still records serial page = record { names = λ a. refl; last = λ p w. refl; dirty = λ p. refl; pins = λ p. refl; maps = λ p. refl }
+isolate_still records serial page = record { names = λ a. refl; last = λ p w. refl; dirty = λ p. refl; pins = λ p. refl; maps = λ p. refl; given = λ f. refl; marks = λ b. refl }
 
 pub moved_still : (records : List Record) (serial : ℕ) → IsStill records (Moved serial)
-moved_still records serial = record { names = λ a. refl; last = λ p w. refl; dirty = λ p. refl; pins = λ p. refl; maps = λ p. refl }
+moved_still records serial = record { names = λ a. refl; last = λ p w. refl; dirty = λ p. refl; pins = λ p. refl; maps = λ p. refl; given = λ f. refl; marks = λ b. refl }
 
 pub back_still : (records : List Record) (serial : ℕ) (cause : Cause) → IsStill records (Back serial cause)
-back_still records serial cause = record { names = λ a. refl; last = λ p w. refl; dirty = λ p. refl; pins = λ p. refl; maps = λ p. refl }
+back_still records serial cause = record { names = λ a. refl; last = λ p w. refl; dirty = λ p. refl; pins = λ p. refl; maps = λ p. refl; given = λ f. refl; marks = λ b. refl }
 
 free_unused : (a b : Bool) → (not a && not b) ≡ true → a ≡ false
 free_unused true b e = cc
@@ -208,6 +211,9 @@ lawful_settled v page old new can entry recorded migrate free fingers =
       clear = λ q g a. elim (took v page old new can entry q g a) [ inl mine ↦ new_clear v page old new can entry g mine.1 | inr theirs ↦ law.clear q g theirs.1 ];
       blocks = law.blocks;
       disjoint = law.disjoint;
+      given = λ first. law.given first ∙ sym (still.given first);
+      marks = λ block. law.marks block ∙ sym (still.marks block);
+      unmovable = λ q e. some_same v page old new can entry q ∙ law.unmovable q e;
       fingers = fingers;
       begun = λ start e. begun_more v.records entry v.round law.begun start e;
       sum = omega (arith, law.sum, recorded.frames, same_pages v page old new can entry);
