@@ -1,7 +1,8 @@
 -- Laws of searches and counts below a bound.
 use Rattle.std.proofs.Common.{◌≡◌, ◌≢◌, ℕ, zero, suc, ◌+◌, ◌-◌, ◌<◌, ◌≤◌, Bool, true, false, cond, ◌⊎◌, inl, inr, refl, sym, ap, ◌∙◌, add-one, arith}
-use Rattle.std.specs.Prelude.{Option, Some, None, ◌||◌, if◌then◌else◌}
+use Rattle.std.specs.Prelude.{Option, Some, None, if◌then◌else◌}
 use Rattle.std.specs.Option.{option_or}
+use Rattle.std.proofs.lemmas.Bool.{or_parts, or_from, or_left, or_right, or_cases, cond-false}
 use Rattle.std.proofs.lemmas.Bool.Decides.{leb_tells}
 use Rattle.frame_core.specs.Below.{lowest, one_if, count_below, sum_below, some_below, count_from, count_pairs}
 
@@ -29,28 +30,9 @@ none_right (Some x) r e = cc
 below_suc : (k n : ℕ) → k < suc n → (k < n) ⊎ (k ≡ n)
 below_suc k n h = elim (leb_tells n k) [ inl at ↦ let same : k ≡ n = omega (arith, at.1) in inr same | inr under ↦ inl under.1 ]
 
-test_false : (b : Bool) (n : ℕ) → b ≡ false → cond b (Some n) None ≡ None
-test_false b n e = ap (λ t. cond t (Some n) None) e
-
 test_none : (b : Bool) (n : ℕ) → cond b (Some n) None ≡ None → b ≡ false
 test_none true n e = cc
 test_none false n e = refl
-
-or_false_left : (a b : Bool) → (a || b) ≡ false → a ≡ false
-or_false_left true b e = e
-or_false_left false b e = refl
-
-or_false_right : (a b : Bool) → (a || b) ≡ false → b ≡ false
-or_false_right true b e = cc
-or_false_right false b e = e
-
-or_true_cases : (a b : Bool) → (a || b) ≡ true → (a ≡ true) ⊎ (b ≡ true)
-or_true_cases true b e = inl refl
-or_true_cases false b e = inr e
-
-both_false : (a b : Bool) → a ≡ false → b ≡ false → (a || b) ≡ false
-both_false true b e f = e
-both_false false b e f = f
 
 lowest_next : (p : ℕ → Bool) (n k : ℕ) (o : Option ℕ) (b : Bool) → p n ≡ b → (o ≡ Some k → (k < n) × (p k ≡ true)) → option_or o (if b then Some n else None) ≡ Some k → (k < suc n) × (p k ≡ true)
 lowest_next p n k (Some j) b at under e = let found = under e in (omega (arith, found.0), found.1)
@@ -62,18 +44,10 @@ before_next p n k q (Some j) b e h here below = here e
 before_next p n k q None true e h here below = let same : n ≡ k = cc in below refl (omega arith)
 before_next p n k q None false e h here below = cc
 
-or_true_left : (a b : Bool) → a ≡ true → (a || b) ≡ true
-or_true_left true b e = refl
-or_true_left false b e = cc
-
-or_true_right : (a b : Bool) → b ≡ true → (a || b) ≡ true
-or_true_right true b e = refl
-or_true_right false b e = e
-
 module _ (p : ℕ → Bool) where
   pub lowest_none : (n : ℕ) → ((k : ℕ) → k < n → p k ≡ false) → lowest p n ≡ None
   lowest_none zero fails = refl
-  lowest_none (suc n) fails = or_none (lowest p n) _ (lowest_none n (λ k h. fails k (omega arith))) (test_false (p n) n (fails n (omega arith)))
+  lowest_none (suc n) fails = or_none (lowest p n) _ (lowest_none n (λ k h. fails k (omega arith))) (cond-false (p n) (Some n) None (fails n (omega arith)))
 
   pub lowest_is : (n k : ℕ) → k < n → p k ≡ true → ((j : ℕ) → j < k → p j ≡ false) → lowest p n ≡ Some k
   lowest_is zero k h passes fails = absurd (omega arith)
@@ -104,8 +78,8 @@ module _ (p : ℕ → Bool) where
   some_at zero k h passes = absurd (omega arith)
   some_at (suc n) k h passes =
       elim (below_suc k n h) [
-        | inl under ↦ or_true_right (p n) _ (some_at n k under passes)
-        | inr at ↦ or_true_left (p n) _ (ap p (sym at) ∙ passes)
+        | inl under ↦ or_right (p n) _ (some_at n k under passes)
+        | inr at ↦ or_left (p n) _ (ap p (sym at) ∙ passes)
       ]
 
   pub count_next : (n : ℕ) → count_below p (n + 1) ≡ one_if (p n) + count_below p n
@@ -131,19 +105,19 @@ module _ (p : ℕ → Bool) where
 
   pub some_none : (n : ℕ) → some_below p n ≡ false → (k : ℕ) → k < n → p k ≡ false
   some_none zero fails k h = absurd (omega arith)
-  some_none (suc n) fails k h = elim (below_suc k n h) [ inl under ↦ some_none n (or_false_right _ _ fails) k under | inr at ↦ ap p at ∙ or_false_left _ _ fails ]
+  some_none (suc n) fails k h = elim (below_suc k n h) [ inl under ↦ some_none n (or_parts _ _ fails).1 k under | inr at ↦ ap p at ∙ (or_parts _ _ fails).0 ]
 
   pub some_one : (n : ℕ) → some_below p n ≡ true → (k : ℕ) × (k < n) × (p k ≡ true)
   some_one zero passes = cc
   some_one (suc n) passes =
-      elim (or_true_cases (p n) _ passes) [
+      elim (or_cases (p n) _ passes) [
         | inl here ↦ (n, omega arith, here)
         | inr under ↦ let w = some_one n under in (w.0, omega (arith, w.1), w.2)
       ]
 
   pub none_some : (n : ℕ) → ((k : ℕ) → k < n → p k ≡ false) → some_below p n ≡ false
   none_some zero fails = refl
-  none_some (suc n) fails = both_false _ _ (fails n (omega arith)) (none_some n (λ k h. fails k (omega arith)))
+  none_some (suc n) fails = or_from _ _ (fails n (omega arith)) (none_some n (λ k h. fails k (omega arith)))
 
   pub count_none : (n : ℕ) → ((k : ℕ) → k < n → p k ≡ false) → count_below p n ≡ 0
   count_none zero fails = refl

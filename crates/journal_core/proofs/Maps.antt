@@ -1,27 +1,19 @@
 -- How many addresses name a page, before and after one of them changes.
-use Rattle.std.proofs.Common.{◌≡◌, ◌≢◌, ℕ, ◌+◌, ◌<◌, Bool, true, false, List, ◌⊎◌, inl, inr, refl}
-use Rattle.std.specs.Prelude.{◌&&◌, nat_eq}
-use Rattle.std.proofs.lemmas.Bool.Decides.{eqb_tells}
+use Rattle.std.proofs.Common.{◌≡◌, ◌≢◌, ℕ, ◌+◌, ◌<◌, true, false, List, ◌⊎◌, inl, inr}
+use Rattle.std.specs.Prelude.{nat_eq}
+use Rattle.std.proofs.lemmas.Bool.{and_left, and_right, ne_eqb}
 use Rattle.frame_core.proofs.Searches.{pairs_same, pairs_more, pairs_none}
 use Rattle.frame_core.specs.declared.place.Address.{Address}
 use Rattle.journal_core.specs.declared.record.Record.{Record}
 use Rattle.journal_core.specs.History.{same_address, names, maps}
 
-right_false : (a b : Bool) → b ≡ false → (a && b) ≡ false
-right_false true b e = e
-right_false false b e = refl
-
-left_false : (a b : Bool) → a ≡ false → (a && b) ≡ false
-left_false true b e = cc
-left_false false b e = refl
-
 pub no_test : (m n : ℕ) → m ≢ n → nat_eq m n ≡ false
-no_test m n ne = elim (eqb_tells m n) [ inl same ↦ (let bad = ne same.1 in elim bad [ ]) | inr other ↦ other.0 ]
+no_test m n ne = ne_eqb m n ne
 
 -- addresses that differ in space or virtual page are two
 pub two_addresses : (a b : Address) → (a.space ≢ b.space) ⊎ (a.vpage ≢ b.vpage) → same_address a b ≡ false
-two_addresses a b (inl ne) = left_false _ _ (no_test a.space b.space ne)
-two_addresses a b (inr ne) = right_false _ _ (no_test a.vpage b.vpage ne)
+two_addresses a b (inl ne) = and_left _ _ (no_test a.space b.space ne)
+two_addresses a b (inr ne) = and_right _ _ (no_test a.vpage b.vpage ne)
 
 module _ (records new : List Record) (page : ℕ) where
   pub maps_same : ((a : Address) → names new a page ≡ names records a page) → maps new page ≡ maps records page
