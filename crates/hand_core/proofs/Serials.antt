@@ -4,17 +4,18 @@ use Rattle.std.proofs.lemmas.Bool.{cases_lt}
 use Rattle.std.proofs.lemmas.List.{map-append}
 use Rattle.std.proofs.Math.ListN.{get_or-append}
 use Rattle.std.proofs.Math.Seq.{get_or-append_seam, get_or-append_right}
+use Rattle.std.specs.List.{range_with_len}
 use Rattle.std.specs.List.Sorted.{IsStrictlyIncreasing}
 use Rattle.std.proofs.lemmas.List.Elements.{All-map}
 use Rattle.word_core.specs.Page.{OnItsWay}
-use Rattle.hand_core.specs.Pages.{serials_of, numbers_from, HasSerialsFrom, IsRising}
+use Rattle.word_core.specs.Serials.{serials_of, HasSerialsFrom, IsRising}
 
 -- one number more
-numbers_from-suc : (first count : ℕ) → numbers_from first (suc count) ≡ numbers_from first count ++ (first + count) ∷ []
-numbers_from-suc first zero = ap (λ n. n ∷ []) (let e : first ≡ first + 0 = omega arith in e)
-numbers_from-suc first (suc count) =
-    ap (λ l. first ∷ l) (numbers_from-suc (first + 1) count)
-    ∙ ap (λ n. first ∷ (numbers_from (first + 1) count ++ n ∷ [])) (let e : first + 1 + count ≡ first + suc count = omega arith in e)
+range_with_len-suc : (first count : ℕ) → range_with_len first (suc count) ≡ range_with_len first count ++ (first + count) ∷ []
+range_with_len-suc first zero = ap (λ n. n ∷ []) (let e : first ≡ first + 0 = omega arith in e)
+range_with_len-suc first (suc count) =
+    ap (λ l. first ∷ l) (range_with_len-suc (first + 1) count)
+    ∙ ap (λ n. first ∷ (range_with_len (first + 1) count ++ n ∷ [])) (let e : first + 1 + count ≡ first + suc count = omega arith in e)
 
 tail_of : (a b : ℕ) (xs ys : List ℕ) → a ∷ xs ≡ b ∷ ys → xs ≡ ys
 tail_of a b xs ys e = cc
@@ -28,31 +29,31 @@ serials-snoc first pages p h next =
     let longer : length (pages ++ p ∷ []) ≡ suc (length pages) = let e = length-append pages (p ∷ []) in omega arith in
     map-append (λ (q : OnItsWay). q.serial) pages (p ∷ [])
     ∙ ap (λ l. l ++ p.serial ∷ []) h
-    ∙ ap (λ n. numbers_from first (length pages) ++ n ∷ []) next
-    ∙ sym (numbers_from-suc first (length pages))
-    ∙ ap (λ n. numbers_from first n) (sym longer)
+    ∙ ap (λ n. range_with_len first (length pages) ++ n ∷ []) next
+    ∙ sym (range_with_len-suc first (length pages))
+    ∙ ap (λ n. range_with_len first n) (sym longer)
 
 -- the pages in front
 pub serials_front : (first : ℕ) (pages rest : List OnItsWay) → HasSerialsFrom first (pages ++ rest) → HasSerialsFrom first pages
 serials_front first [] rest h = refl
 serials_front first (p ∷ pages) rest h =
-    let inner = serials_front (first + 1) pages rest (tail_of p.serial first (serials_of (pages ++ rest)) (numbers_from (first + 1) (length (pages ++ rest))) h) in
-    let same : p.serial ≡ first = head_of p.serial first (serials_of (pages ++ rest)) (numbers_from (first + 1) (length (pages ++ rest))) h in
-    ap (λ l. p.serial ∷ l) inner ∙ ap (λ n. n ∷ numbers_from (first + 1) (length pages)) same
+    let inner = serials_front (first + 1) pages rest (tail_of p.serial first (serials_of (pages ++ rest)) (range_with_len (first + 1) (length (pages ++ rest))) h) in
+    let same : p.serial ≡ first = head_of p.serial first (serials_of (pages ++ rest)) (range_with_len (first + 1) (length (pages ++ rest))) h in
+    ap (λ l. p.serial ∷ l) inner ∙ ap (λ n. n ∷ range_with_len (first + 1) (length pages)) same
 
 -- the page behind them
 pub serial_at : (first : ℕ) (pages : List OnItsWay) (p : OnItsWay) (rest : List OnItsWay) → HasSerialsFrom first (pages ++ p ∷ rest) → p.serial ≡ first + length pages
-serial_at first [] p rest h = let e = head_of p.serial first (serials_of rest) (numbers_from (first + 1) (length rest)) h in omega arith
+serial_at first [] p rest h = let e = head_of p.serial first (serials_of rest) (range_with_len (first + 1) (length rest)) h in omega arith
 serial_at first (q ∷ pages) p rest h =
-    let e = serial_at (first + 1) pages p rest (tail_of q.serial first (serials_of (pages ++ p ∷ rest)) (numbers_from (first + 1) (length (pages ++ p ∷ rest))) h) in omega arith
+    let e = serial_at (first + 1) pages p rest (tail_of q.serial first (serials_of (pages ++ p ∷ rest)) (range_with_len (first + 1) (length (pages ++ p ∷ rest))) h) in omega arith
 
 -- no page has a serial that a later one will have
 pub serials_below : (first : ℕ) (pages : List OnItsWay) → HasSerialsFrom first pages → All (λ (q : OnItsWay). q.serial < first + length pages) pages
 serials_below first [] h k d lt = absurd (omega arith)
 serials_below first (p ∷ pages) h zero d lt =
-    let e = head_of p.serial first (serials_of pages) (numbers_from (first + 1) (length pages)) h in omega arith
+    let e = head_of p.serial first (serials_of pages) (range_with_len (first + 1) (length pages)) h in omega arith
 serials_below first (p ∷ pages) h (suc k) d lt =
-    let e = serials_below (first + 1) pages (tail_of p.serial first (serials_of pages) (numbers_from (first + 1) (length pages)) h) k d (omega arith) in omega arith
+    let e = serials_below (first + 1) pages (tail_of p.serial first (serials_of pages) (range_with_len (first + 1) (length pages)) h) k d (omega arith) in omega arith
 
 pub all_front : {A : Type 0} (P : A → Type 0) (xs ys : List A) → All P (xs ++ ys) → All P xs
 all_front P xs ys h k d lt = let e = length-append xs ys in subst P (get_or-append xs ys d k lt) (h k d (omega arith))

@@ -156,7 +156,7 @@ fn assert_settles<R: Abort>(rt: &R, giver: Giver, takers: Vec<Taker>)
         panic!(rt; "the hand-over isn't settled");
     };
     assert_eq!(rt; settled.base, BASE);
-    assert_eq!(rt; settled.count, PAGES);
+    assert_eq!(rt; settled.count, u64::from(PAGES));
 }
 
 fn to_one_taker<R: Threads + Wait + Abort + Sync>(rt: &R, alloc: Global, cap: usize) {

@@ -7,12 +7,12 @@ use lib.ListN.{get_elem?}
 use Rattle.crossbeam_channel.specs.Fifo.{Pushes, Pops, Forks, Merges, Learns}
 use Rattle.atomic_table.proofs.Lists.{at_set, at_snoc}
 use Rattle.word_core.specs.Page.{OnItsWay}
-use Rattle.hand_core.specs.declared.turns.Message.{Message}
-use Rattle.hand_core.specs.declared.turns.Message.TheVariants.{Copy, Mark}
-use Rattle.hand_core.specs.declared.turns.Account.{Account}
-use Rattle.hand_core.specs.EachEnd.{Each}
-use Rattle.hand_core.specs.Turns.{taker_account, sender_account, sender_of, messages_of, all_sent, InTurn, after_send, Comes, folded, nothing_known, Tells}
-use Rattle.hand_core.proofs.Numbered.{each_set}
+use Rattle.hand_core.specs.declared.copy_queue.Message.{Message}
+use Rattle.hand_core.specs.declared.copy_queue.Message.TheVariants.{Copy, Mark}
+use Rattle.hand_core.specs.declared.copy_queue.Account.{Account}
+use Rattle.hand_core.specs.Queue.{Each}
+use Rattle.hand_core.specs.CopyQueue.{taker_account, sender_account, sender_of, messages_of, all_sent, InTurn, after_send, Comes, folded, nothing_known, Tells}
+use Rattle.hand_core.proofs.EachEnd.{each_set}
 use Rattle.hand_core.proofs.Messages.{messages-append, messages_own, messages_other, nobody_sent, all_sent-copy, all_sent-mark}
 
 -- what the rule says of a sender, and of the taker

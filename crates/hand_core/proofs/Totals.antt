@@ -5,9 +5,9 @@ use Rattle.std.proofs.lemmas.List.Sorted.{IsPermutation-refl, IsPermutation-sym,
 use mathlib.Core.Option.{some, some-ne-none, some-injective}
 use lib.ListN.{get_elem?}
 use Rattle.word_core.specs.Page.{OnItsWay}
-use Rattle.hand_core.specs.declared.order.Known.{Known}
-use Rattle.hand_core.specs.Order.{total, all_taken}
-use Rattle.hand_core.specs.EachEnd.{Each}
+use Rattle.hand_core.specs.declared.page_queue.Known.{Known}
+use Rattle.hand_core.specs.PageQueue.{total, all_taken}
+use Rattle.hand_core.specs.Queue.{Each}
 use Rattle.hand_core.proofs.Serials.{all_front, all_back}
 
 abbrev Same : List OnItsWay → List OnItsWay → Type 0

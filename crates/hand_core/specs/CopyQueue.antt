@@ -1,10 +1,10 @@
 -- The rule of the copies' queue, from several senders to one taker: what holds of the queue and of its ends after each step.
-use Rattle.std.specs.Prelude.{◌≡◌, ℕ, ◌<◌, ◌≤◌, ◌==◌, Bool, true, false, if◌then◌else◌, List, [], ◌∷◌, ◌++◌, map, filter}
+use Rattle.std.specs.Prelude.{◌≡◌, ℕ, ◌<◌, ◌≤◌, ◌==◌, Bool, true, false, if◌then◌else◌, List, [], ◌∷◌, ◌++◌, length, map, filter, drop}
 use Rattle.word_core.specs.Page.{OnItsWay}
-use Rattle.hand_core.specs.declared.turns.Message.{Message}
-use Rattle.hand_core.specs.declared.turns.Message.TheVariants.{Copy, Mark}
-use Rattle.hand_core.specs.declared.turns.Account.{Account}
-use Rattle.hand_core.specs.EachEnd.{Each}
+use Rattle.hand_core.specs.declared.copy_queue.Message.{Message}
+use Rattle.hand_core.specs.declared.copy_queue.Message.TheVariants.{Copy, Mark}
+use Rattle.hand_core.specs.declared.copy_queue.Account.{Account}
+use Rattle.hand_core.specs.Queue.{Each}
 
 -- what an end knows, part by part
 abbrev pub account : Bool → ℕ → List OnItsWay → Bool → Bool → ℕ → List Message → Account
@@ -28,8 +28,15 @@ abbrev pub messages_of : ℕ → List Message → List Message
 messages_of sender messages = filter (λ m. sender_of m == sender) messages
 
 -- all that a sender sent: its copies in their order, and its mark behind them
+abbrev pub sent_by : ℕ → List OnItsWay → Bool → List Message
+sent_by sender copies marked = map (Copy sender) copies ++ (if marked then Mark sender ∷ [] else [])
+
 abbrev pub all_sent : Account → List Message
-all_sent v = map (Copy v.sender) v.sent ++ (if v.marked then Mark v.sender ∷ [] else [])
+all_sent v = sent_by v.sender v.sent v.marked
+
+-- what is left in the queue of all that a sender sent, where these messages came off
+abbrev pub left_of : ℕ → List OnItsWay → Bool → List Message → List Message
+left_of sender copies marked came = drop (length (messages_of sender came)) (sent_by sender copies marked)
 
 -- The messages `came` came off, to the end with the number `taker`. So many senders were made, and each is one end.
 pub record InTurn (queue : List Message) (ends : List Account) : Type 0 where
