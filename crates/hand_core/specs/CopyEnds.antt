@@ -6,7 +6,7 @@ use Rattle.hand_core.specs.declared.copy_queue.Message.{Message}
 use Rattle.hand_core.specs.declared.copy_queue.Message.TheVariants.{Copy, Mark}
 use Rattle.hand_core.specs.declared.done_taker.Came.{Came}
 use Rattle.hand_core.specs.Queue.{QueueName}
-use Rattle.hand_core.specs.CopyQueue.{messages_of, left_of}
+use Rattle.hand_core.specs.CopyQueue.{messages_of, left_in_queue}
 
 -- which queue of copies an end belongs to
 abbrev pub Way : Type 0
@@ -59,7 +59,7 @@ has_ended t = list_all (has_mark t.came) (range_with_len 0 t.senders)
 
 -- what the queue between a sender and the taker holds of this sender: what it put into it and didn't come off
 abbrev pub queue_between : DoneSender → DoneTaker → List Arrival
-queue_between s t = left_of s.number s.sent s.marked t.came
+queue_between s t = left_in_queue s.number s.sent s.marked t.came
 
 -- the copy that a call of the taker answers, if it answers one
 abbrev pub copy_answered : Came → List OnItsWay

@@ -27,16 +27,17 @@ sender_of (Mark sender) = sender
 abbrev pub messages_of : ℕ → List Message → List Message
 messages_of sender messages = filter (λ m. sender_of m == sender) messages
 
--- all that a sender sent: its copies in their order, and its mark behind them
+-- what a sender sent: its copies in their order, and its mark behind them
 abbrev pub sent_by : ℕ → List OnItsWay → Bool → List Message
 sent_by sender copies marked = map (Copy sender) copies ++ (if marked then Mark sender ∷ [] else [])
 
+-- all that an end sent
 abbrev pub all_sent : Account → List Message
 all_sent v = sent_by v.sender v.sent v.marked
 
--- what is left in the queue of all that a sender sent, where these messages came off
-abbrev pub left_of : ℕ → List OnItsWay → Bool → List Message → List Message
-left_of sender copies marked came = drop (length (messages_of sender came)) (sent_by sender copies marked)
+-- what is left in the queue of what a sender sent, where these messages came off
+abbrev pub left_in_queue : ℕ → List OnItsWay → Bool → List Message → List Message
+left_in_queue sender copies marked came = drop (length (messages_of sender came)) (sent_by sender copies marked)
 
 -- The messages `came` came off, to the end with the number `taker`. So many senders were made, and each is one end.
 pub record InTurn (queue : List Message) (ends : List Account) : Type 0 where

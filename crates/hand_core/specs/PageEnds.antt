@@ -5,7 +5,7 @@ use Rattle.word_core.specs.Page.{OnItsWay}
 use Rattle.hand_core.specs.declared.page_queue.Note.{Note}
 use Rattle.hand_core.specs.declared.taker.Took.{Took}
 use Rattle.hand_core.specs.Queue.{QueueName}
-use Rattle.hand_core.specs.PageQueue.{left_of}
+use Rattle.hand_core.specs.PageQueue.{left_in_queue}
 
 -- which hand-over an end belongs to
 abbrev pub HandOver : Type 0
@@ -45,7 +45,7 @@ marks_taken takers = count_by (λ (t : Taker). t.ended) takers
 
 -- the queue between a giver and all its takers: what was put into it and didn't come off
 abbrev pub queue_between : Giver → List Taker → Queued
-queue_between giver takers = left_of giver.given giver.marks (length (taken_by takers)) (marks_taken takers)
+queue_between giver takers = left_in_queue giver.given giver.marks (length (taken_by takers)) (marks_taken takers)
 
 -- what an answer changes: a page joins the list, an end mark ends the taker, and where the giver is gone nothing changes
 abbrev pub after_answer : Taker → Took → Taker

@@ -6,7 +6,7 @@ use Rattle.word_core.specs.Serials.{HasSerialsFrom, IsRising}
 use Rattle.hand_core.specs.declared.giver.Giver.TheInside as giver
 use Rattle.hand_core.specs.declared.taker.Taker.TheInside as taker
 
--- the giver's pass is a seat at its channel, and its counts are those of what it knows
+-- the giver's pass is a seat at its channel, it gives the page with the serial `next` next, and it counts the end marks that it put
 pub record IsGiving (g : giver.Inside) : Type 0 where
   pub seat : IsSeatAt (sends_on g.to) g.pass
   pub gives : (view g.pass).gives ≡ true

@@ -81,10 +81,10 @@ abbrev pub nothing_known : Known
 nothing_known = known 0 false [] 0 [] 0
 
 -- what is left in the queue where these pages and so many end marks were put, and so many of each came off
-abbrev pub left_of : List OnItsWay → ℕ → ℕ → ℕ → List Note
-left_of given marks taken ended = map Page (drop taken given) ++ replicate (marks - ended) Mark
+abbrev pub left_in_queue : List OnItsWay → ℕ → ℕ → ℕ → List Note
+left_in_queue given marks taken ended = map Page (drop taken given) ++ replicate (marks - ended) Mark
 
 -- what the giver learns once it has every share and each end mark ended a taker: each page given was taken once, the queue
 -- is what is left, and it is empty
 abbrev pub Settles : Known → List Note → Type 0
-Settles v queue = IsPermutation v.taken v.given × (queue ≡ left_of v.given v.marks (length v.taken) v.ended) × (queue ≡ [])
+Settles v queue = IsPermutation v.taken v.given × (queue ≡ left_in_queue v.given v.marks (length v.taken) v.ended) × (queue ≡ [])

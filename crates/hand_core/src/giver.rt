@@ -11,6 +11,7 @@ use word_core::Isolated;
 #[derive(Drop)]
 pub struct Giver {
     pub(crate) base: Serial,
+    // The serial of the next page. There is none where it is 2^32.
     pub(crate) next: u64,
     pub(crate) takers: usize,
     pub(crate) marks: usize,

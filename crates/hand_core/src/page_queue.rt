@@ -1,4 +1,4 @@
-// The queue of a hand-over, and the rule that it is under.
+// The queue of the pages, and the rule that it is under.
 
 use crossbeam_channel::protocol::{Join, Lesson, Outcome, Protocol, Split};
 use std::collections::LinkedList;

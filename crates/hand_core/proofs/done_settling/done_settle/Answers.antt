@@ -3,7 +3,7 @@ use Rattle.crossbeam_channel.specs.Claims.{view}
 use Rattle.hand_core.specs.declared.copy_queue.Account.{Account}
 use Rattle.hand_core.specs.declared.copy_queue.Message.{Message}
 use Rattle.hand_core.specs.CopyEnds.{DoneSender, DoneTaker, copies_of, has_mark, queue_between}
-use Rattle.hand_core.specs.CopyQueue.{Tells, left_of}
+use Rattle.hand_core.specs.CopyQueue.{Tells, left_in_queue}
 use Rattle.hand_core.proofs.Messages.{all_came, none_left, each_passes}
 use Rattle.hand_core.proofs.Serials.{all_front, all_last}
 use Rattle.hand_core.proofs.Totals.{all_cons}
@@ -26,10 +26,10 @@ compared taker s w queue marked is_came is_made is_number is_sent is_marked told
     let low : w.sender < taker.senders = subst (λ n. w.sender < n) is_made told.0 in
     let has : has_mark w.came w.sender ≡ true = subst (λ l. has_mark l w.sender ≡ true) (sym is_came) (marked w.sender low) in (
       subst (λ k. copies_of k taker.came ≡ s.sent) is_number (subst (λ l. copies_of w.sender l ≡ s.sent) is_came (all_came w w.came queue told.1 has ∙ is_sent)),
-      ap (λ k. left_of k s.sent s.marked taker.came) (sym is_number)
-          ∙ ap (λ l. left_of w.sender l s.marked taker.came) (sym is_sent)
-          ∙ ap (λ b. left_of w.sender w.sent b taker.came) (sym is_marked)
-          ∙ ap (λ l. left_of w.sender w.sent w.marked l) (sym is_came)
+      ap (λ k. left_in_queue k s.sent s.marked taker.came) (sym is_number)
+          ∙ ap (λ l. left_in_queue w.sender l s.marked taker.came) (sym is_sent)
+          ∙ ap (λ b. left_in_queue w.sender w.sent b taker.came) (sym is_marked)
+          ∙ ap (λ l. left_in_queue w.sender w.sent w.marked l) (sym is_came)
           ∙ none_left w w.came queue told.1 has,
     )
 

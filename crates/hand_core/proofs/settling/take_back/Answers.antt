@@ -6,7 +6,7 @@ use Rattle.std.proofs.lemmas.List.Sums.{length-filter}
 use Rattle.crossbeam_channel.specs.Claims.{view}
 use Rattle.hand_core.specs.declared.page_queue.Known.{Known}
 use Rattle.hand_core.specs.PageEnds.{Giver, Taker, taken_by, marks_taken}
-use Rattle.hand_core.specs.PageQueue.{left_of}
+use Rattle.hand_core.specs.PageQueue.{left_in_queue}
 use Rattle.word_core.specs.Serials.{IsRising}
 use Rattle.hand_core.proofs.Serials.{all_front, all_last}
 use Rattle.hand_core.proofs.Totals.{list_back, all_cons}
@@ -113,15 +113,15 @@ returns-clause-empty c =
     let old = c.loop-taker.invariant in
     let knows : Known = view c.loop-taker.pass in
     let learned = c.learn_as.ensures.rule.1 in
-    let nothing : left_of knows.given knows.marks (length knows.taken) knows.ended ≡ [] = sym learned.1 ∙ learned.2 in
+    let nothing : left_in_queue knows.given knows.marks (length knows.taken) knows.ended ≡ [] = sym learned.1 ∙ learned.2 in
     let many : length (taken_by takers) ≡ length knows.taken = sym (length_permutation (taken_by takers) giver.given (returns-clause-pages c)) ∙ ap (λ l. length l) (sym old.given) ∙ length_permutation knows.taken knows.given learned.0 in
     let marks : marks_taken takers ≡ length takers = sym (length-filter (λ (t : Taker). t.ended) takers) ∙ all_marked takers c.requires.ended in
     let none = c.in_default.ensures.cases in
     let ended_was = old.ended in
     let came_back = c.requires.marks.1 in
     let ended : marks_taken takers ≡ knows.ended = omega arith in
-    ap (λ l. left_of l giver.marks (length (taken_by takers)) (marks_taken takers)) (sym old.given)
-    ∙ ap (λ m. left_of knows.given m (length (taken_by takers)) (marks_taken takers)) (sym old.marks)
-    ∙ ap (λ n. left_of knows.given knows.marks n (marks_taken takers)) many
-    ∙ ap (λ n. left_of knows.given knows.marks (length knows.taken) n) ended
+    ap (λ l. left_in_queue l giver.marks (length (taken_by takers)) (marks_taken takers)) (sym old.given)
+    ∙ ap (λ m. left_in_queue knows.given m (length (taken_by takers)) (marks_taken takers)) (sym old.marks)
+    ∙ ap (λ n. left_in_queue knows.given knows.marks n (marks_taken takers)) many
+    ∙ ap (λ n. left_in_queue knows.given knows.marks (length knows.taken) n) ended
     ∙ nothing
