@@ -303,6 +303,27 @@ fn settles_with_no_page(rt: HostRuntime) {
 }
 
 #[test]
+fn hands_over_the_page_with_the_last_serial(rt: HostRuntime) -> Result<(), Fail> {
+    let (mut giver, mut takers) = opened(&rt, rt.alloc(), u32::MAX, 1, 2);
+    let mut one = next_taker(&rt, &giver, &mut takers);
+    let page = isolated(u32::MAX, 0).ok_or("in range")?;
+    assert!(rt; giver.give(&rt, page).is_ok());
+    assert!(rt; giver.close(&rt).is_ok());
+    let Took::Page(page) = one.take(&rt) else {
+        panic!(rt; "the page is lost");
+    };
+    assert_eq!(rt; page.serial(), u32::MAX);
+    assert!(rt; matches!(one.take(&rt), Took::End));
+    let takers = vec![in rt.alloc(); one].expect(&rt, "memory");
+    let Ok(settled) = settle(giver, takers) else {
+        panic!(rt; "the hand-over isn't settled");
+    };
+    assert_eq!(rt; settled.base, u32::MAX);
+    assert_eq!(rt; settled.count, 1);
+    Ok(())
+}
+
+#[test]
 fn opens_in_range_only(rt: HostRuntime) {
     for (takers, cap) in [(0, 1), (5, 1), (1, 0), (1, 65)] {
         let Err(error) = open(&rt, rt.alloc(), 0, takers, cap) else {
