@@ -1,6 +1,7 @@
 -- Each step of the copies' queue keeps its rule.
 use Rattle.std.proofs.Common.{◌≡◌, ◌≢◌, ℕ, zero, suc, ◌+◌, ◌<◌, ◌≤◌, Bool, true, false, true≢false, List, [], ◌∷◌, ◌++◌, length, set, sym, refl, ap, ◌∙◌, subst, ⊎_elim, append_assoc, append-nil, arith, cond}
-use Rattle.std.specs.Prelude.{◌==◌}
+use Rattle.std.specs.Prelude.{◌==◌, drop}
+use Rattle.std.proofs.Math.Seq.{drop-append_seam}
 use Rattle.std.proofs.lemmas.Bool.{eq-eqb, ne_eqb, cases_lt}
 use mathlib.Core.Option.{some, some-ne-none, some-injective}
 use lib.ListN.{get_elem?}
@@ -185,4 +186,9 @@ pub tells : (number : ℕ) (v : Account) → v.takes ≡ true → v.sends ≡ tr
 tells number v takes sends queue ends r at =
     let this = r.taken number v at takes in
     let its = r.sent number v at sends in
-    (subst (λ n. v.sender < n) (sym this.2) its.1, subst (λ l. messages_of v.sender (l ++ queue) ≡ all_sent v) (sym this.1) its.2)
+    let mine : List Message = messages_of v.sender v.came in
+    let all : messages_of v.sender (v.came ++ queue) ≡ all_sent v = subst (λ l. messages_of v.sender (l ++ queue) ≡ all_sent v) (sym this.1) its.2 in (
+      subst (λ n. v.sender < n) (sym this.2) its.1,
+      all,
+      sym (drop-append_seam mine (messages_of v.sender queue)) ∙ ap (λ l. drop (length mine) l) (sym (messages-append v.sender v.came queue) ∙ all),
+    )

@@ -1,12 +1,13 @@
 -- The messages of one sender among all.
-use Rattle.std.proofs.Common.{◌≡◌, ◌≢◌, ℕ, zero, suc, ◌+◌, ◌<◌, Bool, true, false, List, [], ◌∷◌, ◌++◌, length, map, sym, refl, ap, ◌∙◌, ◌≤◌, append-nil, arith, cond}
-use Rattle.std.specs.Prelude.{◌==◌, ◌||◌, ◌&&◌, take, drop}
-use Rattle.std.proofs.Math.Seq.{drop-append_seam}
+use Rattle.std.proofs.Common.{◌≡◌, ◌≢◌, ℕ, zero, suc, ◌+◌, ◌<◌, Bool, true, false, List, [], ◌∷◌, ◌++◌, map, sym, refl, ap, ◌∙◌, ◌≤◌, append-nil, arith, cond}
+use Rattle.std.specs.Prelude.{◌==◌, ◌||◌, ◌&&◌, take}
 use Rattle.std.specs.List.{list_all, range_with_len}
 use Rattle.std.proofs.lemmas.Bool.{eq-eqb, ne_eqb}
 use Rattle.std.proofs.lemmas.List.Elements.{filter-append}
 use Rattle.std.proofs.lemmas.List.{map-append}
 use Rattle.std.proofs.lemmas.Grind.{flat_map-append}
+use Rattle.std.proofs.lemmas.List.FromFn.{length-range_with_len, get_or-range_with_len}
+use Rattle.std.proofs.lemmas.List.Sums.{AllPass-from_list_all}
 use Rattle.word_core.specs.Page.{OnItsWay}
 use Rattle.hand_core.specs.declared.copy_queue.Message.{Message}
 use Rattle.hand_core.specs.declared.copy_queue.Message.TheVariants.{Copy, Mark}
@@ -141,14 +142,11 @@ behind_mark sender (c ∷ sent) marked (x ∷ came) queue is has =
     behind_mark sender sent marked came queue rest (ap (λ m. is_mark_of sender m || has_mark came sender) (sym first) ∙ has)
 
 -- once a sender's mark came off, nothing that it sent is left
-pub none_left : (v : Account) (came queue : List Message) → messages_of v.sender (came ++ queue) ≡ all_sent v → has_mark came v.sender ≡ true
-    → drop (length (messages_of v.sender came)) (all_sent v) ≡ []
+pub none_left : (v : Account) (came queue : List Message) → messages_of v.sender (came ++ queue) ≡ all_sent v → has_mark came v.sender ≡ true → messages_of v.sender queue ≡ []
 none_left v came queue is has =
-    let mine : List Message = messages_of v.sender came in
-    let both : mine ++ messages_of v.sender queue ≡ all_sent v = sym (messages-append v.sender came queue) ∙ is in
-    ap (λ l. drop (length mine) l) (sym both)
-    ∙ drop-append_seam mine (messages_of v.sender queue)
-    ∙ behind_mark v.sender v.sent v.marked mine (messages_of v.sender queue) both (mark_kept v.sender came ∙ has)
+    behind_mark v.sender v.sent v.marked (messages_of v.sender came) (messages_of v.sender queue)
+    (sym (messages-append v.sender came queue) ∙ is)
+    (mark_kept v.sender came ∙ has)
 
 -- once a sender's mark came off, so did all its copies
 pub all_came : (v : Account) (came queue : List Message) → messages_of v.sender (came ++ queue) ≡ all_sent v → has_mark came v.sender ≡ true → copies_of v.sender came ≡ v.sent
@@ -159,16 +157,6 @@ all_came v came queue is has =
 
 -- each of the first numbers passes
 pub each_passes : (test : ℕ → Bool) (first count k : ℕ) → list_all test (range_with_len first count) ≡ true → k < count → test (first + k) ≡ true
-each_passes test first zero k all low = absurd (omega arith)
-each_passes test first (suc count) zero all low = ap test (let e : first + 0 ≡ first = omega arith in e) ∙ both_left (test first) (list_all test (range_with_len (first + 1) count)) all
-  where
-    both_left : (a b : Bool) → (a && b) ≡ true → a ≡ true
-    both_left true b e = refl
-    both_left false b e = e
-each_passes test first (suc count) (suc k) all low =
-    ap test (let e : first + suc k ≡ first + 1 + k = omega arith in e)
-    ∙ each_passes test (first + 1) count k (both_right (test first) (list_all test (range_with_len (first + 1) count)) all) (omega arith)
-  where
-    both_right : (a b : Bool) → (a && b) ≡ true → b ≡ true
-    both_right true b e = e
-    both_right false b e = absurd (cc)
+each_passes test first count k all low =
+    ap test (sym (get_or-range_with_len first count k 0 low))
+    ∙ AllPass-from_list_all test (range_with_len first count) all k 0 (let e = length-range_with_len first count in omega arith)

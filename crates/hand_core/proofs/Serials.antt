@@ -1,12 +1,12 @@
 -- Serials that follow one another, and lists that rise.
-use Rattle.std.proofs.Common.{◌≡◌, ℕ, zero, suc, ◌+◌, ◌-◌, ◌<◌, ◌≤◌, List, [], ◌∷◌, ◌++◌, length, get_or, All, sym, ap, ◌∙◌, subst, refl, arith, length-append, ⊎_elim}
+use Rattle.std.proofs.Common.{◌≡◌, ℕ, zero, suc, ◌+◌, ◌<◌, ◌≤◌, List, [], ◌∷◌, ◌++◌, length, get_or, All, sym, ap, ◌∙◌, subst, refl, arith, length-append, ⊎_elim}
 use Rattle.std.proofs.lemmas.Bool.{cases_lt}
 use Rattle.std.proofs.lemmas.List.{map-append}
 use Rattle.std.proofs.Math.ListN.{get_or-append}
-use Rattle.std.proofs.Math.Seq.{get_or-append_seam, get_or-append_right}
+use Rattle.std.proofs.Math.Seq.{get_or-append_seam, take-append_seam, drop-append_seam}
 use Rattle.std.specs.List.{range_with_len}
 use Rattle.std.specs.List.Sorted.{IsStrictlyIncreasing}
-use Rattle.std.proofs.lemmas.List.Elements.{All-map}
+use Rattle.std.proofs.lemmas.List.Elements.{All-map, All-take, All-drop}
 use Rattle.word_core.specs.Page.{OnItsWay}
 use Rattle.word_core.specs.Serials.{serials_of, HasSerialsFrom, IsRising}
 
@@ -56,16 +56,10 @@ serials_below first (p ∷ pages) h (suc k) d lt =
     let e = serials_below (first + 1) pages (tail_of p.serial first (serials_of pages) (range_with_len (first + 1) (length pages)) h) k d (omega arith) in omega arith
 
 pub all_front : {A : Type 0} (P : A → Type 0) (xs ys : List A) → All P (xs ++ ys) → All P xs
-all_front P xs ys h k d lt = let e = length-append xs ys in subst P (get_or-append xs ys d k lt) (h k d (omega arith))
+all_front P xs ys h = subst (All P) (take-append_seam xs ys) (All-take P (length xs) (xs ++ ys) h)
 
 pub all_back : {A : Type 0} (P : A → Type 0) (xs ys : List A) → All P (xs ++ ys) → All P ys
-all_back P xs ys h k d lt =
-    let e = length-append xs ys in
-    let at : get_or (xs ++ ys) (length xs + k) d ≡ get_or ys (length xs + k - length xs) d = get_or-append_right xs ys (length xs + k) d (omega arith) in
-    let back : length xs + k - length xs ≡ k = omega arith in subst P (at ∙ ap (λ n. get_or ys n d) back) (h (length xs + k) d (omega arith))
-
-pub all_last : {A : Type 0} (P : A → Type 0) (xs : List A) (y : A) → All P (xs ++ y ∷ []) → P y
-all_last P xs y h = let e = length-append xs (y ∷ []) in subst P (get_or-append_seam xs y [] y) (h (length xs) y (omega arith))
+all_back P xs ys h = subst (All P) (drop-append_seam xs ys) (All-drop P (length xs) (xs ++ ys) h)
 
 -- a number above all others at the end
 increasing-snoc : (xs : List ℕ) (y : ℕ) → IsStrictlyIncreasing xs → All (λ x. x < y) xs → IsStrictlyIncreasing (xs ++ y ∷ [])

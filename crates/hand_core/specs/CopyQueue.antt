@@ -69,6 +69,9 @@ folded v sender = record v { sends = true; sender = sender.sender; sent = sender
 abbrev pub nothing_known : Account
 nothing_known = account false 0 [] false false 0 []
 
--- what the taker learns with a sender's knowledge
+-- what the taker learns with a sender's knowledge: what came off and what the queue holds of it is all that it sent, so the
+-- queue holds of it what is left
 abbrev pub Tells : Account → List Message → Type 0
-Tells v queue = (v.sender < v.made) × (messages_of v.sender (v.came ++ queue) ≡ all_sent v)
+Tells v queue = (v.sender < v.made)
+    × (messages_of v.sender (v.came ++ queue) ≡ all_sent v)
+    × (messages_of v.sender queue ≡ left_in_queue v.sender v.sent v.marked v.came)

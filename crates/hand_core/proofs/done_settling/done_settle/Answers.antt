@@ -1,12 +1,11 @@
-use Rattle.std.proofs.Common.{◌≡◌, ℕ, ◌+◌, ◌<◌, ◌++◌, ◌∷◌, [], List, true, All, ap, sym, ◌∙◌, subst, append_assoc, arith}
+use Rattle.std.proofs.Common.{◌≡◌, ℕ, ◌+◌, ◌<◌, ◌++◌, ◌∷◌, [], List, Some, true, ap, sym, ◌∙◌, subst, append_assoc, arith}
 use Rattle.crossbeam_channel.specs.Claims.{view}
 use Rattle.hand_core.specs.declared.copy_queue.Account.{Account}
 use Rattle.hand_core.specs.declared.copy_queue.Message.{Message}
 use Rattle.hand_core.specs.CopyEnds.{DoneSender, DoneTaker, copies_of, has_mark, queue_between}
 use Rattle.hand_core.specs.CopyQueue.{Tells, left_in_queue}
 use Rattle.hand_core.proofs.Messages.{all_came, none_left, each_passes}
-use Rattle.hand_core.proofs.Serials.{all_front, all_last}
-use Rattle.hand_core.proofs.Totals.{all_cons}
+use Rattle.std.proofs.lemmas.List.Elements.{All-cons, All-pop}
 use Rattle.hand_core.proofs.CopySteps.{folds, tells}
 use Rattle.hand_core.proofs.done_settling.done_settle.Goals as goal
 
@@ -30,6 +29,7 @@ compared taker s w queue marked is_came is_made is_number is_sent is_marked told
           ∙ ap (λ l. left_in_queue w.sender l s.marked taker.came) (sym is_sent)
           ∙ ap (λ b. left_in_queue w.sender w.sent b taker.came) (sym is_marked)
           ∙ ap (λ l. left_in_queue w.sender w.sent w.marked l) (sym is_came)
+          ∙ sym told.2
           ∙ none_left w w.came queue told.1 has,
     )
 
@@ -45,8 +45,8 @@ loop-sender-preserved c =
     let items = c.in-Some.ensures.items in
     let before = old.back in
     let Left : DoneSender → Type 0 = λ u. u.way ≡ taker.way in
-    let left : All Left (c.pop.new.self.items ++ s ∷ []) = subst (All Left) items old.left in
-    let own : s.way ≡ taker.way = all_last Left c.pop.new.self.items s left in
+    let left = All-pop Left c.loop-sender.senders.items c.pop.new.self.items (Some s) items old.left in
+    let own : s.way ≡ taker.way = left.1 in
     let marked : (k : ℕ) → k < taker.senders → has_mark taker.came k ≡ true =
     λ k low. let zero_more : k ≡ 0 + k = omega arith in ap (has_mark taker.came) zero_more ∙ each_passes (has_mark taker.came) 0 taker.senders k c.requires.ended low in
     let came : (view c.absorb.new.pass).came ≡ taker.came = ap (λ (v : Account). v.came) e ∙ old.came in
@@ -67,11 +67,11 @@ loop-sender-preserved c =
       takes = ap (λ (v : Account). v.takes) (kept ∙ e) ∙ old.takes;
       came = ap (λ (v : Account). v.came) kept ∙ came;
       made = ap (λ (v : Account). v.made) kept ∙ made;
-      left = all_front Left c.pop.new.self.items (s ∷ []) left;
+      left = left.0;
       back = (
         s ∷ before.0,
         before.1 ∙ ap (λ l. l ++ before.0) items ∙ append_assoc c.pop.new.self.items (s ∷ []) before.0,
-        all_cons (λ (u : DoneSender). copies_of u.number taker.came ≡ u.sent) s before.0 this.0 before.2,
-        all_cons (λ (u : DoneSender). queue_between u taker ≡ []) s before.0 this.1 before.3,
+        All-cons (λ (u : DoneSender). copies_of u.number taker.came ≡ u.sent) s before.0 this.0 before.2,
+        All-cons (λ (u : DoneSender). queue_between u taker ≡ []) s before.0 this.1 before.3,
       );
     }

@@ -1,4 +1,4 @@
-use Rattle.std.proofs.Common.{◌≡◌, ◌++◌, ◌∷◌, [], ◌-◌, List, length, suc, Bool, cond, take, true, All, refl, ap, sym, ◌∙◌, subst, append_assoc, append-nil, arith}
+use Rattle.std.proofs.Common.{◌≡◌, ◌++◌, ◌∷◌, [], ◌-◌, List, length, suc, Bool, cond, take, Some, true, All, refl, ap, sym, ◌∙◌, subst, append_assoc, append-nil, arith}
 use Rattle.std.specs.List.{filter}
 use Rattle.std.specs.List.Sorted.{IsPermutation}
 use Rattle.std.proofs.lemmas.List.Sorted.{IsPermutation-sym, IsPermutation-trans, length_permutation}
@@ -8,8 +8,8 @@ use Rattle.hand_core.specs.declared.page_queue.Known.{Known}
 use Rattle.hand_core.specs.PageEnds.{Giver, Taker, taken_by, marks_taken}
 use Rattle.hand_core.specs.PageQueue.{left_in_queue}
 use Rattle.word_core.specs.Serials.{IsRising}
-use Rattle.hand_core.proofs.Serials.{all_front, all_last}
-use Rattle.hand_core.proofs.Totals.{list_back, all_cons}
+use Rattle.std.proofs.lemmas.List.Elements.{All-cons, All-pop}
+use Rattle.hand_core.proofs.Totals.{list_back}
 use Rattle.hand_core.proofs.PageSteps.{joins, settles}
 use Rattle.hand_core.proofs.settling.take_back.Goals as goal
 
@@ -30,8 +30,8 @@ loop-taker-preserved c =
     let len = c.in-Some.ensures.len in
     let mine : Known = view c.loop-taker.pass in
     let Left : Taker → Type 0 = λ u. (u.hand_over ≡ c.args.giver.hand_over) × (u.ended ≡ true) in
-    let left : All Left (c.pop.new.self.items ++ t ∷ []) = subst (All Left) items old.left in
-    let ended : inside.ended ≡ true = ap (λ (u : Taker). u.ended) is ∙ (all_last Left c.pop.new.self.items t left).1 in
+    let left = All-pop Left c.loop-taker.takers.items c.pop.new.self.items (Some t) items old.left in
+    let ended : inside.ended ≡ true = ap (λ (u : Taker). u.ended) is ∙ left.1.1 in
     let one : (view inside.pass).ended ≡ 1 = rw ended at his.marked in
     let shares_now = ap (λ (v : Known). v.shares) e in
     let ended_now = ap (λ (v : Known). v.ended) e in
@@ -53,12 +53,12 @@ loop-taker-preserved c =
       shares = omega arith;
       few = omega arith;
       ended = omega arith;
-      left = all_front Left c.pop.new.self.items (t ∷ []) left;
+      left = left.0;
       back = (
         t ∷ before.0,
         before.1 ∙ ap (λ l. l ++ before.0) items ∙ append_assoc c.pop.new.self.items (t ∷ []) before.0,
         taken,
-        all_cons (λ (u : Taker). IsRising u.taken) t before.0 rising before.3,
+        All-cons (λ (u : Taker). IsRising u.taken) t before.0 rising before.3,
       );
       count = old.count;
     }
