@@ -1,2 +1,3 @@
 pub mod Address
 pub mod Below
+pub mod PageFlags

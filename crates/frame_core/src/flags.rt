@@ -1,4 +1,5 @@
 ghost use Rattle.std.specs.Prelude.{⊤, ◌≡◌, ◌==◌, [], ◌∷◌, codes};
+ghost use Rattle.frame_core.specs.PageFlags.{is_unmovable, is_dirty, page_flags};
 
 use bitflags::{Flag, Flags, bitflag_items};
 
@@ -32,5 +33,35 @@ impl Flags for PageFlags {
 
     fn from_bits_retain(bits: u8) -> PageFlags {
         PageFlags(bits)
+    }
+}
+
+impl PageFlags {
+    /// The flags of a page that can't be moved or can, and that was stored to or not.
+    pub fn of(unmovable: bool, dirty: bool) -> Self
+        ensures flags { result ≡ page_flags unmovable dirty }
+        ensures unmovable { is_unmovable result ≡ unmovable }
+        ensures dirty { is_dirty result ≡ dirty }
+    {
+        match (unmovable, dirty) {
+            (false, false) => PageFlags(0),
+            (true, false) => PageFlags::UNMOVABLE,
+            (false, true) => PageFlags::DIRTY,
+            (true, true) => PageFlags::UNMOVABLE.union(PageFlags::DIRTY),
+        }
+    }
+
+    /// Whether the page can't be moved.
+    pub fn is_unmovable(self) -> bool
+        ensures { result ≡ is_unmovable self }
+    {
+        self.contains(PageFlags::UNMOVABLE)
+    }
+
+    /// Whether the page was stored to since it was mapped.
+    pub fn is_dirty(self) -> bool
+        ensures { result ≡ is_dirty self }
+    {
+        self.contains(PageFlags::DIRTY)
     }
 }

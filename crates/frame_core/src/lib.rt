@@ -4,6 +4,8 @@
 #![tactic(auto)]
 
 mod flags;
+mod hand;
+mod list;
 mod order;
 mod page;
 mod place;
@@ -12,6 +14,8 @@ mod state;
 mod tests;
 
 pub use flags::PageFlags;
+pub use hand::HandNo;
+pub use list::filled;
 pub use order::Order;
 pub use page::{ClientNo, PageNo, WordNo};
 pub use place::{Address, BlockNo, FrameNo, SpaceNo, VPage, ZoneNo, block_of, first_frame};

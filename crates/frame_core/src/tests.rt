@@ -1,8 +1,9 @@
 use crate::{
-    BlockNo, ClientNo, FrameNo, Order, PageFlags, PageNo, SpaceNo, VPage, WordNo, ZoneNo, block_of,
-    first_frame,
+    BlockNo, ClientNo, FrameNo, FrameState, HandNo, Order, PageFlags, PageNo, SpaceNo, VPage,
+    WordNo, ZoneNo, block_of, filled, first_frame,
 };
 use bitflags::Flags;
+use std::test::Fail;
 
 #[test]
 fn numbers_have_their_ranges(rt: HostRuntime) {
@@ -22,6 +23,9 @@ fn numbers_have_their_ranges(rt: HostRuntime) {
     assert_eq!(rt; PageNo::new(4096), None);
     assert_eq!(rt; ClientNo::new(7).map(|n| n.get()), Some(7));
     assert_eq!(rt; ClientNo::new(8), None);
+    assert_eq!(rt; HandNo::new(0), None);
+    assert_eq!(rt; HandNo::new(4).map(|n| n.get()), Some(4));
+    assert_eq!(rt; HandNo::new(5), None);
 }
 
 #[test]
@@ -47,4 +51,18 @@ fn flags_are_two(rt: HostRuntime) {
     flags.insert(PageFlags::DIRTY);
     assert!(rt; flags.contains(PageFlags::DIRTY));
     assert!(rt; !flags.contains(PageFlags::UNMOVABLE));
+    assert!(rt; flags.is_dirty() && !flags.is_unmovable());
+    assert!(rt; PageFlags::of(true, true) == PageFlags::all());
+    assert!(rt; PageFlags::of(false, true) == flags);
+}
+
+#[test]
+fn fills_a_list_with_copies(rt: HostRuntime) -> Result<(), Fail> {
+    let list = filled(rt.alloc(), FrameState::Free, 3)?;
+    assert_eq!(rt;
+        list.as_slice(),
+        [FrameState::Free, FrameState::Free, FrameState::Free].as_slice()
+    );
+    assert_eq!(rt; list.capacity(), 3);
+    Ok(())
 }

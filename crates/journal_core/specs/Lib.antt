@@ -1,4 +1,6 @@
 pub mod Journal
 pub mod History
 pub mod Moves
+pub mod Ends
+pub mod Blocks
 pub mod Truth

@@ -1,6 +1,7 @@
 -- What the records of a journal say of moves. The newest record stands first.
 use Rattle.std.specs.Prelude.{◌≡◌, ℕ, ◌+◌, ◌<◌, Bool, false, not, List, [], ◌∷◌, nat_eq, if◌then◌else◌, ⊤, IsTrue, Option, Some, None, IsSomeAnd}
 use Rattle.std.specs.List.{filter, list_any}
+use Rattle.frame_core.specs.Below.{one_if}
 use Rattle.journal_core.specs.declared.record.Record.{Record}
 use Rattle.journal_core.specs.declared.record.Record.TheVariants.{Isolate, Moved, Back}
 use Rattle.journal_core.specs.declared.record.Cause.TheVariants.{Pinned, NotCopied}
@@ -23,6 +24,13 @@ abbrev pub put_back : List Record → ℕ
 put_back [] = 0
 put_back (Back serial cause ∷ older) = put_back older + 1
 put_back (_ ∷ older) = put_back older
+
+-- how many ends a serial has: it was moved, or put back
+abbrev pub ends_of : List Record → ℕ → ℕ
+ends_of [] s = 0
+ends_of (Moved serial ∷ older) s = one_if (nat_eq serial s) + ends_of older s
+ends_of (Back serial cause ∷ older) s = one_if (nat_eq serial s) + ends_of older s
+ends_of (_ ∷ older) s = ends_of older s
 
 -- the serials without one
 abbrev pub without : ℕ → List ℕ → List ℕ

@@ -12,14 +12,14 @@ pub struct Journal {
 }
 
 impl Model for Journal {
-    ghost use Rattle.std.specs.Prelude.{◌≤◌, ◌-◌, reverse, vec_len, vec_capacity};
+    ghost use Rattle.std.specs.Prelude.{◌≡◌, ◌≤◌, ◌-◌, reverse, vec_len, vec_capacity};
     ghost use Rattle.journal_core.specs.Journal.{Journal as Seen};
 
     ghost Value = { Seen };
 
     ghost view = { λ j. record { records = reverse j.records.items; room = j.places - vec_len j.records } };
 
-    ghost invariant = { λ j. (vec_len j.records ≤ j.places) × (j.places ≤ vec_capacity j.records) };
+    ghost invariant = { λ j. (vec_len j.records ≤ j.places) × (vec_capacity j.records ≡ j.places) };
 }
 
 impl Journal {
@@ -27,8 +27,7 @@ impl Journal {
     pub fn open(alloc: Global, places: u32) -> Result<Journal, AllocError>
         ensures { IfOk result (λ j. j ≡ record { records = []; room = places }) }
     {
-        let mut records = Vec::new(alloc);
-        records.reserve(places as usize)?;
+        let records = Vec::with_capacity(alloc, places as usize)?;
         Ok(Journal { records, places })
     }
 
@@ -59,12 +58,19 @@ impl Journal {
         self.records.get(index)
     }
 
+    /// The newest record.
+    pub fn last(&self) -> Option<&Record>
+        ensures { option_copied result ≡ slice_get self.now.records 0 }
+    {
+        self.records.last()
+    }
+
     /// Appends a record, and takes no memory.
     pub fn push(&mut self, entry: Record)
         requires { 0 < self.old.room }
         ensures records { self.new.records ≡ entry ∷ self.old.records }
         ensures room { self.new.room + 1 ≡ self.old.room }
     {
-        let _ = self.records.push(entry);
+        self.records.push_reserved(entry);
     }
 }

@@ -1,19 +1,19 @@
 -- The machine of a script: it has no zone yet, or one in a world.
 use Rattle.std.specs.Prelude.{ℕ, Bool, false, ◌&&◌, nat_eq, nat_lt, nat_le, if◌then◌else◌, Option, Some, None, unwrap_or}
 use Rattle.frame_core.specs.declared.place.Address.{Address}
-use Rattle.zone_core.specs.declared.error.ZoneError.{ZoneError}
+use Rattle.state_core.specs.declared.error.ZoneError.{ZoneError}
 use Rattle.zone_core.specs.declared.hand.Finished.{Finished}
 use Rattle.zone_core.specs.declared.hand.Scanned.{Scanned}
 use Rattle.zone_core.specs.declared.hand.Scanned.TheVariants as scan
-use Rattle.zone_core.specs.declared.moves.Ended.{Ended}
-use Rattle.zone_core.specs.declared.moves.Ended.TheVariants as ended
-use Rattle.zone_core.specs.declared.moves.Look.{Look as Known}
-use Rattle.zone_core.specs.ErrorNumber.{number_of}
-use Rattle.zone_core.specs.Moving.{look_of}
-use Rattle.zone_core.specs.Refusals.{map_refusal, map_at_refusal, access_refusal}
-use Rattle.zone_core.specs.Steps.{mapped, stored, loaded, value_at, info_of}
+use Rattle.state_core.specs.declared.moves.Ended.{Ended}
+use Rattle.state_core.specs.declared.moves.Ended.TheVariants as ended
+use Rattle.state_core.specs.declared.information.Look.{Look as Known}
+use Rattle.state_core.specs.ErrorNumber.{number_of}
+use Rattle.state_core.specs.Moving.{look_of}
+use Rattle.state_core.specs.Refusals.{map_refusal, map_at_refusal, access_refusal}
+use Rattle.state_core.specs.Steps.{mapped, stored, loaded, value_at, info_of}
 use Rattle.zone_core.specs.World.{WorldState, world_opened, with_zone, round_opened, scan_refusal, scan_answer, scanned, take_step, copy_step, finish_step, shut_step}
-use Rattle.zone_core.specs.ZoneState.{ZoneState, lowest_free_frame}
+use Rattle.state_core.specs.ZoneState.{ZoneState, lowest_free_frame}
 use Rattle.script_core.specs.declared.command.Command.{Command}
 use Rattle.script_core.specs.declared.command.Command.TheVariants.{Zone, Map, MapAt, Store, Load, Info, Scan, Take, Copy, Finish, Shut, Look}
 use Rattle.script_core.specs.declared.place.Place.{Place}

@@ -2,10 +2,10 @@
 use Rattle.std.specs.Prelude.{◌≡◌, ℕ, Bool, ◌==◌, List, [], ◌∷◌, ◌++◌, codes, decimal, count_by, nat_eq, if◌then◌else◌}
 use Rattle.std.specs.Int.RustNames.{bit_and}
 use Rattle.frame_core.specs.declared.flags.PageFlags.{PageFlags}
-use Rattle.zone_core.specs.declared.moves.Look.{Look}
-use Rattle.zone_core.specs.declared.moves.Look.TheVariants.{At, Moving}
-use Rattle.zone_core.specs.Steps.{is_unmovable}
-use Rattle.zone_core.specs.declared.state.Info.{Info}
+use Rattle.state_core.specs.declared.information.Look.{Look}
+use Rattle.state_core.specs.declared.information.Look.TheVariants.{At, Moving}
+use Rattle.state_core.specs.Steps.{is_unmovable}
+use Rattle.state_core.specs.declared.information.Info.{Info}
 use Rattle.script_core.specs.declared.reply.Reply.{Reply}
 use Rattle.script_core.specs.declared.reply.Reply.TheVariants as reply
 

@@ -2,7 +2,7 @@ ghost use Rattle.std.specs.Prelude.{◌≡◌, ◌<◌, ◌≤◌, ℕ, nat_lt, 
 ghost use Rattle.script_core.specs.Machine.{is_hand, opens, step};
 ghost use Rattle.script_core.specs.declared.command.Command.TheVariants as command;
 ghost use Rattle.zone_core.specs.Books.{IsFor};
-ghost use Rattle.zone_core.specs.Steps.{is_unmovable};
+ghost use Rattle.state_core.specs.Steps.{is_unmovable};
 
 use crate::command::Command;
 use crate::place::Place;
@@ -35,7 +35,7 @@ impl<I: Ledger, N: Ledger, M: Ledger, B: Ledger> Model for Machine<I, N, M, B> {
     ghost use Rattle.zone_core.specs.Books.{IsFor};
     ghost use Rattle.zone_core.specs.World.{WorldState};
     ghost use Rattle.std.specs.Coded.{codes};
-    ghost use Rattle.zone_core.specs.contracts.plain.PlainZone as plain_zone;
+    ghost use Rattle.plain_core.specs.contracts.plain.PlainZone as plain_zone;
 
     ghost Value = { Option WorldState };
 

@@ -37,7 +37,7 @@ pub(crate) struct Player<I: Ledger, N: Ledger, M: Ledger, B: Ledger> {
 impl<I: Ledger, N: Ledger, M: Ledger, B: Ledger> Model for Player<I, N, M, B> {
     ghost use Rattle.std.specs.Prelude.{◌<◌, ◌≤◌};
     ghost use Rattle.std.specs.Coded.{codes};
-    ghost use Rattle.zone_core.specs.contracts.plain.PlainZone as plain_zone;
+    ghost use Rattle.plain_core.specs.contracts.plain.PlainZone as plain_zone;
     ghost use Rattle.script_core.specs.Player.{Player as Seen};
 
     ghost Value = { Seen };

@@ -3,7 +3,7 @@ ghost use Rattle.frame_core.specs.Address.{InRange};
 ghost use Rattle.table_core.specs.Tables.{place_of, entry_at, IsBlank, ChangesOnly, Replaces};
 
 use crate::entry::Entry;
-use frame_core::{Address, FrameNo, Serial};
+use frame_core::{Address, FrameNo, Serial, filled};
 use std::alloc::{AllocError, Global};
 use std::marker::Model;
 
@@ -17,14 +17,14 @@ pub struct Tables {
 }
 
 impl Model for Tables {
-    ghost use Rattle.std.specs.Prelude.{◌≡◌, List, length};
+    ghost use Rattle.std.specs.Prelude.{◌≡◌, List, length, vec_capacity};
     ghost use Rattle.table_core.specs.declared.entry.Entry.{Entry as Named};
 
     ghost Value = { List Named };
 
     ghost view = { λ t. t.entries.items };
 
-    ghost invariant = { λ t. length t.entries.items ≡ 32768 };
+    ghost invariant = { λ t. (length t.entries.items ≡ 32768) × (vec_capacity t.entries ≡ 32768) };
 }
 
 impl Tables {
@@ -32,7 +32,7 @@ impl Tables {
     pub fn open(alloc: Global) -> Result<Tables, AllocError>
         ensures { IfOk result (λ tables. IsBlank tables) }
     {
-        let entries = blank_entries(alloc, ENTRIES)?;
+        let entries = filled(alloc, Entry::Absent, ENTRIES)?;
         Ok(Tables { entries })
     }
 
@@ -79,13 +79,6 @@ impl Tables {
         let present = Entry::Present(frame);
         replace(&mut self.entries, &migration, &present);
     }
-}
-
-fn blank_entries(alloc: Global, count: usize) -> Result<Vec<Entry>, AllocError>
-    ensures blank { IfOk result (λ entries. IsBlank entries.items) }
-    ensures count { IfOk result (λ entries. length entries.items ≡ count) }
-{
-    vec![in alloc; Entry::Absent; count]
 }
 
 /// Puts an entry in the place of each one that is equal to another.

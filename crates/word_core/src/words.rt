@@ -3,7 +3,7 @@ ghost use Rattle.word_core.specs.Page.{blank_words};
 ghost use Rattle.word_core.specs.Words.{words_of, word_of, with_words, with_word};
 
 use crate::page::Page;
-use frame_core::{FrameNo, WordNo};
+use frame_core::{FrameNo, WordNo, filled};
 use std::alloc::{AllocError, Global};
 use std::marker::Model;
 
@@ -14,11 +14,13 @@ pub struct Words {
 }
 
 impl Model for Words {
-    ghost use Rattle.std.specs.Prelude.{ℕ, List};
+    ghost use Rattle.std.specs.Prelude.{◌≡◌, ℕ, List, vec_len, vec_capacity};
 
     ghost Value = { List (List ℕ) };
 
     ghost view = { λ w. w.rows.items };
+
+    ghost invariant = { λ w. vec_capacity w.rows ≡ vec_len w.rows };
 }
 
 impl Words {
@@ -27,7 +29,7 @@ impl Words {
         ensures blank { IfOk result (λ rows. rows ≡ replicate frames blank_words) }
         ensures frames { IfOk result (λ rows. length rows ≡ frames) }
     {
-        let rows = vec![in alloc; [0; 8]; frames as usize]?;
+        let rows = filled(alloc, [0; 8], frames as usize)?;
         Ok(Words { rows })
     }
 

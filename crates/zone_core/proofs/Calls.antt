@@ -6,20 +6,20 @@ use Rattle.frame_core.proofs.Searches.{lowest_some}
 use Rattle.frame_core.specs.Address.{InRange}
 use Rattle.frame_core.specs.declared.place.Address.{Address}
 use Rattle.journal_core.specs.History.{page_at}
-use Rattle.zone_core.specs.declared.error.ZoneError.{ZoneError}
-use Rattle.zone_core.specs.declared.error.ZoneError.TheVariants.{Range, JournalFull, Occupied, NoFrame}
-use Rattle.zone_core.specs.declared.state.Placement.{Placement}
-use Rattle.zone_core.specs.declared.state.Placement.TheVariants.{At, Moving}
-use Rattle.zone_core.specs.Lawful.{IsLawful}
-use Rattle.zone_core.specs.Refusals.{map_refusal, map_at_refusal, placement_refusal, access_refusal}
-use Rattle.zone_core.specs.Steps.{mapped, loaded, stored}
+use Rattle.state_core.specs.declared.error.ZoneError.{ZoneError}
+use Rattle.state_core.specs.declared.error.ZoneError.TheVariants.{Range, JournalFull, Occupied, NoFrame}
+use Rattle.state_core.specs.declared.placement.Placement.{Placement}
+use Rattle.state_core.specs.declared.placement.Placement.TheVariants.{At, Moving}
+use Rattle.state_core.specs.Lawful.{IsLawful}
+use Rattle.state_core.specs.Refusals.{map_refusal, map_at_refusal, placement_refusal, access_refusal}
+use Rattle.state_core.specs.Steps.{mapped, loaded, stored}
 use Rattle.zone_core.specs.World.{WorldState, IsOrderly, with_zone, round_opened, scanned, scan_refusal, take_step, copy_step, finish_step, shut_step, Call, Map, MapAt, Load, Store, Scan, Take, Copy, Finish, Shut, IsInRange, AllInRange, unless_refused, world_after, after_call, after_calls}
-use Rattle.zone_core.specs.ZoneState.{ZoneState, frame_count, has_room, is_free, lowest_free_frame, lowest_unused_page, placement_at}
-use Rattle.zone_core.proofs.Accessed.{lawful_loaded, lawful_stored}
-use Rattle.zone_core.proofs.Facts.{none_is, spare}
-use Rattle.zone_core.proofs.Finding.{some_lowest, unused_is, unused_left}
+use Rattle.state_core.specs.ZoneState.{ZoneState, frame_count, has_room, is_free, lowest_free_frame, lowest_unused_page, placement_at}
+use Rattle.state_core.proofs.Accessed.{lawful_loaded, lawful_stored}
+use Rattle.state_core.proofs.Facts.{none_is, spare}
+use Rattle.state_core.proofs.Finding.{some_lowest, unused_is, unused_left}
 use Rattle.zone_core.proofs.Orderly.{orderly_with_zone, orderly_round_opened, orderly_isolated, orderly_taken, orderly_copied, orderly_finished, orderly_shut}
-use Rattle.zone_core.proofs.Placed.{CanPlace, placed_lawful}
+use Rattle.state_core.proofs.Placed.{CanPlace, placed_lawful}
 
 -- a call that isn't refused passes each test
 passes : (b : Bool) (error : ZoneError) (o : Option ZoneError) → (if b then Some error else o) ≡ None → (b ≡ false) × (o ≡ None)

@@ -15,33 +15,32 @@ use Rattle.journal_core.specs.History.{page_at, pins}
 use Rattle.journal_core.specs.Moves.{isolated, out, is_out, page_of}
 use Rattle.journal_core.proofs.OnTheWay.{out_empty, none_out}
 use Rattle.word_core.specs.Page.{OnItsWay}
-use Rattle.zone_core.specs.declared.error.ZoneError.{ZoneError}
-use Rattle.zone_core.specs.declared.error.ZoneError.TheVariants.{Range, JournalFull, Occupied, NoFrame, Missing, Out}
+use Rattle.state_core.specs.declared.error.ZoneError.{ZoneError}
+use Rattle.state_core.specs.declared.error.ZoneError.TheVariants.{Range, JournalFull, Occupied, NoFrame, Missing, Out}
 use Rattle.zone_core.specs.declared.hand.Hand.{Hand}
 use Rattle.zone_core.specs.declared.hand.Hand.TheVariants as hand
 use Rattle.zone_core.specs.declared.hands.Held.{Held}
 use Rattle.zone_core.specs.declared.hands.Held.TheVariants.{Nothing, Page, Copy}
 use Rattle.zone_core.specs.Carried.{hand_as, page_held, copy_held, is_nothing, held_at, serials_of, AreOwn, world_of, IsCarried, IsRest}
-use Rattle.zone_core.specs.declared.moves.Next.TheVariants.{Page as Found, Met}
-use Rattle.zone_core.specs.declared.pair.Pair.{Pair}
-use Rattle.zone_core.specs.declared.state.Placement.{Placement}
-use Rattle.zone_core.specs.declared.state.Placement.TheVariants.{At, Moving}
-use Rattle.zone_core.specs.Lawful.{IsLawful}
-use Rattle.zone_core.specs.Pairs.{next_pair}
-use Rattle.zone_core.specs.Moving.{IsOwnCopy, page_now, round_begun, isolate_refusal, isolated_next, next_answer, next_state, Scans, committed, put_back_to_source, moved_to_target, audit_refusal}
-use Rattle.zone_core.specs.Refusals.{IsOpenable, result_err, placement_refusal, access_refusal, map_at_refusal}
-use Rattle.zone_core.specs.Seats.{EndSeat}
-use Rattle.zone_core.specs.Steps.{mapped, placed, loaded, stored}
+use Rattle.state_core.specs.declared.moves.Next.TheVariants.{Page as Found, Met}
+use Rattle.state_core.specs.declared.round.Pair.{Pair}
+use Rattle.state_core.specs.declared.placement.Placement.{Placement}
+use Rattle.state_core.specs.declared.placement.Placement.TheVariants.{At, Moving}
+use Rattle.state_core.specs.Lawful.{IsLawful}
+use Rattle.state_core.specs.Pairs.{next_pair}
+use Rattle.state_core.specs.Moving.{IsOwnCopy, page_now, round_begun, isolate_refusal, isolated_next, next_answer, next_state, Scans, committed, put_back_to_source, moved_to_target}
+use Rattle.zone_core.specs.Seats.{audit_refusal, EndSeat}
+use Rattle.state_core.specs.Refusals.{IsOpenable, result_err, placement_refusal, access_refusal, map_at_refusal}
+use Rattle.state_core.specs.Steps.{mapped, placed, loaded, stored}
 use Rattle.zone_core.specs.World.{WorldState, IsOrderly, IsRising, world_closed, hand_of, with_hand, with_zone, serial_in, page_in, copy_in, is_empty, take_step, copy_step, finish_step, finished_as, finished_in, all_put_back, shut_step, taken_by, isolated_by}
-use Rattle.zone_core.specs.ZoneState.{ZoneState, frame_count, has_room, is_free, placement_at, lowest_free_frame, lowest_unused_page}
-use Rattle.zone_core.proofs.Accessed.{lawful_loaded, lawful_stored}
-use Rattle.zone_core.proofs.Finding.{some_lowest, unused_left, unused_is}
-use Rattle.zone_core.proofs.Carried.{own_page, own_begun, own_loaded, own_stored, own_placed, own_isolated, own_fresh, own_committed, own_put_back}
-use Rattle.zone_core.proofs.Facts.{taken, skipped, spare, not_none}
+use Rattle.state_core.specs.ZoneState.{ZoneState, frame_count, has_room, is_free, placement_at, lowest_free_frame, lowest_unused_page}
+use Rattle.state_core.proofs.Accessed.{lawful_loaded, lawful_stored}
+use Rattle.state_core.proofs.Finding.{some_lowest, unused_left, unused_is}
+use Rattle.state_core.proofs.Carried.{own_page, own_begun, own_loaded, own_stored, own_placed, own_isolated, own_fresh, own_committed, own_put_back}
+use Rattle.state_core.proofs.Facts.{taken, skipped, spare, not_none}
 use Rattle.zone_core.proofs.Orderly.{orderly_with_zone, orderly_taken, orderly_copied, orderly_finished, orderly_shut, orderly_round_opened, orderly_isolated}
 
 -- Lists of what hands hold
-
 each_set : (held : List Held) (i : ℕ) (x : Held) → each hand_as (slice_set held i x) ≡ slice_set (each hand_as held) i (hand_as x)
 each_set held i x = map-set hand_as held i x
 
@@ -123,7 +122,6 @@ waits_at (q ∷ list) zero p e = let same : q ≡ p = cc in or_left (nat_eq p.se
 waits_at (q ∷ list) (suc i) p e = or_right (nat_eq p.serial q.serial) _ (waits_at list i p e)
 
 -- Another zone
-
 module _ (zone next : ZoneState) (is_open : Bool) (list : List OnItsWay) (held : List Held) (parts capacity : ℕ) (was : IsCarried zone is_open list held parts capacity) where
   pub carried_with : (opened : Bool) → IsOrderly (world_of next opened list held) → ((p : OnItsWay) → IsOwnCopy zone p → IsOwnCopy next p) → next.blocks ≡ zone.blocks → IsCarried next opened list held parts capacity
   carried_with opened orderly own blocks = record {
@@ -137,7 +135,6 @@ module _ (zone next : ZoneState) (is_open : Bool) (list : List OnItsWay) (held :
   }
 
 -- Taking, copying and finishing
-
 module _ (zone : ZoneState) (is_open : Bool) (p : OnItsWay) (list : List OnItsWay) (held : List Held) (k parts capacity : ℕ) (low : 0 < k) (high : k ≤ 4) (nothing : is_nothing (held_at held k) ≡ true) (was : IsCarried zone is_open (p ∷ list) held parts capacity) where
   abbrev before : WorldState
   before = world_of zone is_open (p ∷ list) held
@@ -273,7 +270,6 @@ module _ (zone : ZoneState) (is_open : Bool) (p : OnItsWay) (list : List OnItsWa
   }
 
 -- A closed round
-
 empty_hands : (n i : ℕ) → unwrap_or (slice_get (replicate n hand.Empty) i) hand.Empty ≡ hand.Empty
 empty_hands zero i = refl
 empty_hands (suc n) zero = refl
@@ -324,7 +320,6 @@ closed_waits zone is_open list held orderly closed = no_list list (λ serial. no
       cc
 
 -- Closing a round
-
 pub record IsClosing (zone : ZoneState) (list : List OnItsWay) (count : ℕ) (first : ZoneState) (all : List OnItsWay) : Type 0 where
   pub own : AreOwn zone list
   pub rising : IsRising (serials_of list)
@@ -402,7 +397,6 @@ module _ (zone next : ZoneState) (is_open : Bool) (list : List OnItsWay) (held :
   }
 
 -- A round opens, and a page goes on its way
-
 pub carried_opened : (zone : ZoneState) (is_open : Bool) (list : List OnItsWay) (held : List Held) (parts capacity : ℕ) → IsCarried zone is_open list held parts capacity → is_open ≡ false → IsCarried (round_begun zone) true list held parts capacity
 carried_opened zone is_open list held parts capacity was closed =
     carried_with zone (round_begun zone) is_open list held parts capacity was true orderly (own_begun zone) refl where
@@ -483,7 +477,6 @@ module _ (zone next : ZoneState) (is_open : Bool) (list : List OnItsWay) (held :
       omega (arith, was.room, was.orderly.few.0, was.orderly.few.1, length-map list (λ (q : OnItsWay). q.serial), scans.pair.from.low, scans.pair.to.low, scans.pair.to.high)
 
 -- Calls of the zone that touch no page on its way
-
 room_then : (b : Bool) (o : Option ZoneError) → (if not b then Some JournalFull else o) ≡ None → (b ≡ true) × (o ≡ None)
 room_then true o e = (refl, e)
 room_then false o e = cc
@@ -550,7 +543,6 @@ module _ (zone next : ZoneState) (is_open : Bool) (list : List OnItsWay) (held :
       carried_placed client address unmovable frame (some_lowest zone frame free.1 (ltb-true frame (frame_count zone) free.0)) law ok
 
 -- An opened world, and one that is joined
-
 pub few_blocks : {T : Type 0} (blocks places : ℕ) (x : T) → ((IsOpenable blocks places → ⊥) → ◌≡◌ {A = Result T ZoneError} (Ok x) (Err Range)) → blocks ≤ 8
 few_blocks blocks places x range = elim (leb_tells blocks 8) [
   | inl few ↦ few.1

@@ -14,23 +14,23 @@ use Rattle.journal_core.specs.declared.record.Record.{Record}
 use Rattle.journal_core.specs.declared.record.Record.TheVariants.{Isolate, Moved, Back}
 use Rattle.journal_core.specs.History.{pins}
 use Rattle.journal_core.specs.Moves.{isolated, out, is_out, page_of}
-use Rattle.zone_core.specs.declared.error.ZoneError.TheVariants.{JournalFull}
+use Rattle.state_core.specs.declared.error.ZoneError.TheVariants.{JournalFull}
 use Rattle.zone_core.specs.declared.hand.Hand.{Hand}
 use Rattle.zone_core.specs.declared.hand.Hand.TheVariants.{Empty, Page, Copy}
 use Rattle.zone_core.specs.declared.hand.Finished.{Finished}
-use Rattle.zone_core.specs.declared.pair.Pair.{Pair}
-use Rattle.zone_core.specs.declared.state.Placement.{Placement}
-use Rattle.zone_core.specs.declared.state.Placement.TheVariants.{At, Moving}
-use Rattle.zone_core.specs.Lawful.{IsLawful, is_under}
-use Rattle.zone_core.specs.Moving.{round_begun, isolate_refusal, isolated_next, moved_to_target, put_back_to_source}
-use Rattle.zone_core.specs.Pairs.{IsPair, next_pair}
-use Rattle.zone_core.specs.Refusals.{IsOpenable}
+use Rattle.state_core.specs.declared.round.Pair.{Pair}
+use Rattle.state_core.specs.declared.placement.Placement.{Placement}
+use Rattle.state_core.specs.declared.placement.Placement.TheVariants.{At, Moving}
+use Rattle.state_core.specs.Lawful.{IsLawful, is_under}
+use Rattle.state_core.specs.Moving.{round_begun, isolate_refusal, isolated_next, moved_to_target, put_back_to_source}
+use Rattle.state_core.specs.Pairs.{IsPair, next_pair}
+use Rattle.state_core.specs.Refusals.{IsOpenable}
 use Rattle.zone_core.specs.World.{WorldState, IsOrderly, IsRising, world_opened, with_zone, with_hand, hand_of, waits, is_in, is_empty, serial_in, page_in, copy_in, round_opened, isolated_by, taken_by, take_step, copy_step, finished_as, finished_in, finish_step, all_put_back, shut_step}
-use Rattle.zone_core.specs.ZoneState.{ZoneState, frame_count}
-use Rattle.zone_core.proofs.Opened.{opened_lawful}
-use Rattle.zone_core.proofs.Pairing.{pair_found}
-use Rattle.zone_core.proofs.Rounds.{lawful_begun}
-use Rattle.zone_core.proofs.Settled.{lawful_isolated, lawful_moved, lawful_put_back}
+use Rattle.state_core.specs.ZoneState.{ZoneState, frame_count}
+use Rattle.state_core.proofs.Opened.{opened_lawful}
+use Rattle.state_core.proofs.Pairing.{pair_found}
+use Rattle.state_core.proofs.Rounds.{lawful_begun}
+use Rattle.state_core.proofs.Settled.{lawful_isolated, lawful_moved, lawful_put_back}
 
 -- what hand k of four holds
 abbrev held : List Hand → ℕ → Hand
@@ -109,7 +109,7 @@ no_hand k s e = let bad : holds (Empty ∷ Empty ∷ Empty ∷ Empty ∷ []) s �
 
 pub orderly_opened : (number blocks places : ℕ) → IsOpenable blocks places → IsOrderly (world_opened number blocks places)
 orderly_opened number blocks places openable = record {
-  lawful = opened_lawful number blocks places;
+  lawful = opened_lawful number blocks places openable;
   four = refl;
   rising = tt;
   out = λ s. (λ h. h, λ h. h);

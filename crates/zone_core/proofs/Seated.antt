@@ -8,16 +8,16 @@ use Rattle.std.specs.Option.{ok_or}
 use Rattle.journal_core.specs.declared.record.Record.{Record}
 use Rattle.journal_core.specs.Moves.{isolated, moved, put_back}
 use Rattle.word_core.specs.Page.{OnItsWay}
-use Rattle.zone_core.specs.declared.error.ZoneError.{ZoneError}
-use Rattle.zone_core.specs.declared.moves.Audit.{Audit}
-use Rattle.zone_core.specs.declared.state.Placement.{Placement}
-use Rattle.zone_core.specs.declared.state.Placement.TheVariants.{At, Moving}
+use Rattle.state_core.specs.declared.error.ZoneError.{ZoneError}
+use Rattle.state_core.specs.declared.information.Audit.{Audit}
+use Rattle.state_core.specs.declared.placement.Placement.{Placement}
+use Rattle.state_core.specs.declared.placement.Placement.TheVariants.{At, Moving}
 use Rattle.zone_core.specs.Books.{AreBooks}
-use Rattle.zone_core.specs.Lawful.{is_under}
-use Rattle.zone_core.specs.Moving.{settled, is_own, IsSettled, IsEnded, IsAudited}
-use Rattle.zone_core.specs.Seats.{ScanSeat, EndSeat}
-use Rattle.zone_core.specs.ZoneState.{ZoneState}
-use Rattle.zone_core.proofs.Tables.{get_insert_same}
+use Rattle.state_core.specs.Lawful.{is_under}
+use Rattle.state_core.specs.Moving.{settled, is_own, IsSettled, IsEnded}
+use Rattle.zone_core.specs.Seats.{IsAudited, ScanSeat, EndSeat}
+use Rattle.state_core.specs.ZoneState.{ZoneState}
+use Rattle.state_core.proofs.Entries.{get_insert_same}
 
 neither : (a b : Bool) → b ≡ false → (a && b) ≡ false
 neither true b e = e

@@ -1,7 +1,7 @@
 -- How the ledgers of a zone stand for its journal.
 use Rattle.std.specs.Prelude.{◌≡◌, ℕ}
 use Rattle.journal_core.specs.Moves.{isolated, moved, put_back}
-use Rattle.zone_core.specs.ZoneState.{ZoneState}
+use Rattle.state_core.specs.ZoneState.{ZoneState}
 
 -- a blank that is made for the ledger with this name and so many parts
 pub record IsFor (blank_name blank_parts name parts : ℕ) : Type 0 where

@@ -5,9 +5,9 @@ use Rattle.zone_core.specs.declared.hand.Hand.{Hand}
 use Rattle.zone_core.specs.declared.hand.Hand.TheVariants as hand
 use Rattle.zone_core.specs.declared.hands.Held.{Held}
 use Rattle.zone_core.specs.declared.hands.Held.TheVariants.{Nothing, Page, Copy}
-use Rattle.zone_core.specs.Moving.{IsOwnCopy}
+use Rattle.state_core.specs.Moving.{IsOwnCopy}
 use Rattle.zone_core.specs.World.{WorldState, IsOrderly}
-use Rattle.zone_core.specs.ZoneState.{ZoneState}
+use Rattle.state_core.specs.ZoneState.{ZoneState}
 
 -- what is told of a hand
 abbrev pub hand_as : Held → Hand

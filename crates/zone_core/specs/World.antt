@@ -6,19 +6,19 @@ use Rattle.frame_core.specs.Address.{InRange}
 use Rattle.frame_core.specs.declared.place.Address.{Address}
 use Rattle.journal_core.specs.declared.record.Cause.TheVariants.{NotCopied}
 use Rattle.journal_core.specs.Moves.{isolated, is_out, page_of}
-use Rattle.zone_core.specs.declared.error.ZoneError.{ZoneError}
-use Rattle.zone_core.specs.declared.pair.Pair.{Pair}
+use Rattle.state_core.specs.declared.error.ZoneError.{ZoneError}
+use Rattle.state_core.specs.declared.round.Pair.{Pair}
 use Rattle.zone_core.specs.declared.hand.Hand.{Hand}
 use Rattle.zone_core.specs.declared.hand.Hand.TheVariants.{Empty, Page, Copy as CopyOf}
 use Rattle.zone_core.specs.declared.hand.Scanned.{Scanned}
 use Rattle.zone_core.specs.declared.hand.Scanned.TheVariants as scan
 use Rattle.zone_core.specs.declared.hand.Finished.{Finished}
-use Rattle.zone_core.specs.Lawful.{IsLawful}
-use Rattle.zone_core.specs.Moving.{round_begun, isolate_refusal, isolated_next, committed, ended_as, put_back_to_source}
-use Rattle.zone_core.specs.Pairs.{next_pair}
-use Rattle.zone_core.specs.Refusals.{map_refusal, map_at_refusal, access_refusal}
-use Rattle.zone_core.specs.Steps.{opened, mapped, loaded, stored}
-use Rattle.zone_core.specs.ZoneState.{ZoneState, frame_count, lowest_free_frame}
+use Rattle.state_core.specs.Lawful.{IsLawful}
+use Rattle.state_core.specs.Moving.{round_begun, isolate_refusal, isolated_next, committed, ended_as, put_back_to_source}
+use Rattle.state_core.specs.Pairs.{next_pair}
+use Rattle.state_core.specs.Refusals.{map_refusal, map_at_refusal, access_refusal}
+use Rattle.state_core.specs.Steps.{opened, mapped, loaded, stored}
+use Rattle.state_core.specs.ZoneState.{ZoneState, frame_count, lowest_free_frame}
 
 pub record WorldState : Type 0 where
   pub zone : ZoneState

@@ -1,5 +1,5 @@
-use crate::moves::Ended;
 use frame_core::Serial;
+use state_core::Ended;
 
 /// What a hand of a world holds.
 #[derive(Clone, Copy, Debug, PartialEq, Eq)]

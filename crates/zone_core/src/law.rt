@@ -1,7 +1,7 @@
 //! What holds of a world whatever calls are made of it.
 
 ghost use Rattle.std.specs.Prelude.{◌≡◌, ◌<◌, ◌≤◌, ℕ, List, Some, IsTrue};
-ghost use Rattle.zone_core.specs.Refusals.{IsOpenable};
+ghost use Rattle.state_core.specs.Refusals.{IsOpenable};
 ghost use Rattle.zone_core.specs.World.{WorldState, IsOrderly, Call, AllInRange, world_opened, after_calls, take_step, waits};
 
 /// Whatever calls are made of a world, in any order: the pages that wait and those in hands are just those on their way, each

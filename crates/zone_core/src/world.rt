@@ -7,20 +7,20 @@ ghost use Rattle.journal_core.specs.Moves.{page_of};
 ghost use Rattle.std.specs.VecDeque.{deque_capacity};
 ghost use Rattle.zone_core.specs.Carried.{serials_of, AreOwn};
 ghost use Rattle.zone_core.specs.ErrorNumber.{world_number_of};
-ghost use Rattle.zone_core.specs.Moving.{IsOwnCopy, isolate_refusal, audit_refusal};
-ghost use Rattle.zone_core.specs.Pairs.{next_pair};
-ghost use Rattle.zone_core.specs.Refusals.{IsOpenable, result_err, map_refusal, map_at_refusal, access_refusal};
-ghost use Rattle.zone_core.specs.Steps.{mapped, value_at, loaded, stored, is_unmovable};
+ghost use Rattle.state_core.specs.Moving.{IsOwnCopy, isolate_refusal};
+ghost use Rattle.zone_core.specs.Seats.{audit_refusal};
+ghost use Rattle.state_core.specs.Pairs.{next_pair};
+ghost use Rattle.state_core.specs.Refusals.{IsOpenable, result_err, map_refusal, map_at_refusal, access_refusal};
+ghost use Rattle.state_core.specs.Steps.{mapped, value_at, loaded, stored, is_unmovable};
 ghost use Rattle.zone_core.specs.World.{IsRising, world_opened, world_closed, with_zone, round_opened, scanned_by, isolated_by, finished_as, finished_in, all_put_back, scan_refusal, scan_answer, scanned, take_step, copy_step, finish_step, shut_step};
-ghost use Rattle.zone_core.specs.ZoneState.{lowest_free_frame};
+ghost use Rattle.state_core.specs.ZoneState.{lowest_free_frame};
 
-use crate::error::ZoneError;
 use crate::hand::{Finished, Scanned};
 use crate::hands::{Hands, Held};
-use crate::moves::Next;
 use crate::seats::{Blanks, EndSeat, ScanSeat, Seats};
 use crate::zone::Zone;
 use frame_core::{Address, ClientNo, FrameNo, PageFlags, Serial, WordNo, ZoneNo};
+use state_core::{Next, ZoneError};
 use std::alloc::Global;
 use std::collections::VecDeque;
 use std::marker::Model;
@@ -65,7 +65,7 @@ impl<I: Ledger, N: Ledger, M: Ledger, B: Ledger> Model for World<I, N, M, B> {
     ghost use Rattle.std.specs.Coded.{codes};
     ghost use Rattle.std.specs.VecDeque.{deque_capacity};
     ghost use Rattle.zone_core.specs.World.{WorldState};
-    ghost use Rattle.zone_core.specs.contracts.plain.PlainZone as plain_zone;
+    ghost use Rattle.plain_core.specs.contracts.plain.PlainZone as plain_zone;
 
     ghost Value = { WorldState };
 

@@ -1,23 +1,22 @@
 ghost use Rattle.std.specs.Prelude.{◌≡◌, ◌+◌, ◌==◌, ◌↔◌, ℕ, true, false, Some, None, is_some, if◌then◌else◌, IsOk, IfOk, IfErr, OnOk, OnErr};
 ghost use Rattle.std.specs.Int.RustNames.{bit_and};
 ghost use Rattle.zone_core.specs.Books.{IsFor};
-ghost use Rattle.zone_core.specs.Lawful.{IsLawful};
+ghost use Rattle.state_core.specs.Lawful.{IsLawful};
 ghost use Rattle.journal_core.specs.Moves.{isolated};
-ghost use Rattle.zone_core.specs.Moving.{round_begun, isolate_refusal, next_answer, next_state, Scans, seat_noted, is_own, IsOwnCopy, Ends, ended_as, committed, put_back_to_source, seat_ended, look_of, audit_refusal, IsAudited};
-ghost use Rattle.zone_core.specs.Pairs.{next_pair};
-ghost use Rattle.zone_core.specs.Refusals.{IsOpenable, result_err, map_refusal, map_at_refusal, access_refusal};
+ghost use Rattle.state_core.specs.Moving.{round_begun, isolate_refusal, next_answer, next_state, Scans, is_own, IsOwnCopy, Ends, ended_as, committed, put_back_to_source, look_of};
+ghost use Rattle.zone_core.specs.Seats.{seat_noted, seat_ended, audit_refusal, IsAudited};
+ghost use Rattle.state_core.specs.Pairs.{next_pair};
+ghost use Rattle.state_core.specs.Refusals.{IsOpenable, result_err, map_refusal, map_at_refusal, access_refusal};
 ghost use Rattle.zone_core.specs.Seats.{fresh_scan_seat, fresh_end_seat};
-ghost use Rattle.zone_core.specs.Steps.{opened, mapped, value_at, loaded, stored, info_of, is_unmovable};
-ghost use Rattle.zone_core.specs.ZoneState.{frame_count, lowest_free_frame, is_quiet};
+ghost use Rattle.state_core.specs.Steps.{opened, mapped, value_at, loaded, stored, info_of, is_unmovable};
+ghost use Rattle.state_core.specs.ZoneState.{frame_count, lowest_free_frame, is_quiet};
 
-use crate::error::ZoneError;
-use crate::moves::{Audit, Ended, Look, Next, Stranger};
-use crate::plain::PlainZone;
 use crate::seats::{Answered, Blanks, EndSeat, ScanSeat};
-use crate::state::Info;
 use bitflags::Flags;
 use frame_core::{Address, ClientNo, FrameNo, PageFlags, WordNo, ZoneNo};
 use journal_core::{Cause, Journal};
+use plain_core::PlainZone;
+use state_core::{Audit, Ended, Info, Look, Next, Stranger, ZoneError};
 use std::alloc::Global;
 use std::marker::Model;
 use std::sync::ledger::{Book, Ledger};
@@ -34,9 +33,9 @@ pub struct Zone<I: Ledger, M: Ledger, B: Ledger> {
 }
 
 impl<I: Ledger, M: Ledger, B: Ledger> Model for Zone<I, M, B> {
-    ghost use Rattle.zone_core.specs.ZoneState.{ZoneState};
+    ghost use Rattle.state_core.specs.ZoneState.{ZoneState};
     ghost use Rattle.zone_core.specs.Books.{AreBooks, AreCut};
-    ghost use Rattle.zone_core.specs.contracts.plain.PlainZone as plain_zone;
+    ghost use Rattle.plain_core.specs.contracts.plain.PlainZone as plain_zone;
 
     ghost Value = { ZoneState };
 
@@ -66,6 +65,7 @@ impl<I: Ledger, M: Ledger, B: Ledger> Zone<I, M, B> {
         ensures zone { IfOk result (λ opening. opening.0 ≡ opened number blocks places) }
         ensures scan { IfOk result (λ opening. opening.1 ≡ fresh_scan_seat) }
         ensures ends { IfOk result (λ opening. opening.2 ≡ fresh_end_seat) }
+        ensures lawful { IfOk result (λ opening. IsLawful opening.0) }
     {
         if blocks < 1 || blocks > 8 || places < 1 || places > 65536 {
             return Err(ZoneError::Range);
@@ -80,11 +80,13 @@ impl<I: Ledger, M: Ledger, B: Ledger> Zone<I, M, B> {
         blanks: Blanks,
     ) -> (Zone<I, M, B>, ScanSeat<I, N>, EndSeat<M, B>)
         requires fresh { (number blocks places : ℕ) × (plain ≡ opened number blocks places) }
+        requires lawful { IsLawful plain }
         requires isolated { IsFor blanks.isolated.name blanks.isolated.parts I.name I.parts }
         requires rounds { IsFor blanks.rounds.name blanks.rounds.parts N.name N.parts }
         requires moved { IsFor blanks.moved.name blanks.moved.parts M.name M.parts }
         requires back { IsFor blanks.back.name blanks.back.parts B.name B.parts }
         ensures zone { result.0 ≡ plain }
+        ensures lawful { IsLawful result.0 }
         ensures scan { result.1 ≡ fresh_scan_seat }
         ensures ends { result.2 ≡ fresh_end_seat }
     {
@@ -332,6 +334,20 @@ impl<I: Ledger, M: Ledger, B: Ledger> Zone<I, M, B> {
             return Err(ZoneError::Missing);
         }
         self.plain.counted().ok_or(ZoneError::Out)
+    }
+
+    /// Its number, which it was opened with.
+    pub fn number(&self) -> ZoneNo
+        ensures { result ≡ self.now.number }
+    {
+        self.plain.number()
+    }
+
+    /// How many pageblocks it has, 1 to 8.
+    pub fn blocks(&self) -> u32
+        ensures { result ≡ self.now.blocks }
+    {
+        self.plain.blocks()
     }
 
     /// The counts of the zone.

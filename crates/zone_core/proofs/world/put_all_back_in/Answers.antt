@@ -1,6 +1,6 @@
 use Rattle.std.proofs.Common.{◌+◌, ◌∷◌, List, length, refl, sym, ap, subst, ◌∙◌, arith}
 use Rattle.word_core.specs.Page.{OnItsWay}
-use Rattle.zone_core.specs.ZoneState.{ZoneState}
+use Rattle.state_core.specs.ZoneState.{ZoneState}
 use Rattle.zone_core.proofs.Carrying.{IsClosing, closing_first, closing_next}
 use Rattle.zone_core.proofs.world.put_all_back_in.Goals as goal
 

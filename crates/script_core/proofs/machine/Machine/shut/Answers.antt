@@ -3,7 +3,7 @@ use Rattle.std.specs.Prelude.{if◌then◌else◌, IfOk, OnErr}
 use Rattle.std.specs.List.{list_all}
 use Rattle.zone_core.specs.declared.world.WorldError.{WorldError}
 use Rattle.zone_core.specs.World.{WorldState, all_put_back, is_empty, shut_step}
-use Rattle.zone_core.specs.ZoneState.{ZoneState}
+use Rattle.state_core.specs.ZoneState.{ZoneState}
 use Rattle.script_core.proofs.machine.Machine.shut.Goals as goal
 
 -- a zone keeps its number where pages are put back

@@ -1,7 +1,7 @@
 use Rattle.std.proofs.Common.{◌≡◌, ◌∙◌, ap, subst, sym}
 use Rattle.std.specs.Prelude.{IfOk}
-use Rattle.zone_core.specs.declared.error.ZoneError.TheVariants.{Out}
-use Rattle.zone_core.specs.Moving.{IsAudited}
+use Rattle.state_core.specs.declared.error.ZoneError.TheVariants.{Out}
+use Rattle.zone_core.specs.Seats.{IsAudited}
 use Rattle.zone_core.specs.Seats.{EndSeat}
 use Rattle.zone_core.proofs.Seated.{audited, ok_if_some, whole_parts}
 use Rattle.zone_core.proofs.zone.Zone.audit.Goals as goal

@@ -3,10 +3,10 @@ use Rattle.std.specs.Prelude.{Some}
 use Rattle.std.specs.FinMap as map
 use Rattle.journal_core.specs.History.{page_at}
 use Rattle.word_core.specs.Page.{OnItsWay}
-use Rattle.zone_core.specs.declared.state.Placement.TheVariants.{Moving}
-use Rattle.zone_core.specs.Pairs.{IsPair}
-use Rattle.zone_core.specs.ZoneState.{ZoneState}
-use Rattle.zone_core.proofs.Tables.{get_insert_same, get_insert_other}
+use Rattle.state_core.specs.declared.placement.Placement.TheVariants.{Moving}
+use Rattle.state_core.specs.Pairs.{IsPair}
+use Rattle.state_core.specs.ZoneState.{ZoneState}
+use Rattle.state_core.proofs.Entries.{get_insert_same, get_insert_other}
 use Rattle.zone_core.proofs.zone.Zone.isolate_next.Goals as goal
 
 pub returns-clause-pair : goal.returns-clause-pair

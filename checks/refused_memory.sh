@@ -1,0 +1,173 @@
+#!/usr/bin/env bash
+# No command but `zone` takes memory, and no request that is refused goes wrong. One script has every command, answers each, gets
+# each refusal, and fills the zone's lists. Its run has to make as many requests for memory as one that only opens the zone,
+# those that are made in vain included. Then each of these requests is refused in turn: the run has to end with the script's
+# own replies, or with none and fault 48 at line 0 or 1. Ends with status 1 where it isn't so.
+set -euo pipefail
+
+root=$(dirname -- "$(readlink -f -- "${BASH_SOURCE[0]}")")/..
+program=$root/crates/compactd/out/compactd
+"$root/compactd" --help >/dev/null
+
+work=$(mktemp -d)
+trap 'rm -rf "$work"' EXIT
+
+fail() {
+    echo "$1"
+    exit 1
+}
+
+# The C library's requests for memory. They are counted, one of them is refused, and when the program ends the file that
+# REQUESTS names has their number.
+build_counter() {
+    cat >"$work/count.c" <<'C'
+extern void *__libc_malloc(unsigned long size);
+extern void *__libc_calloc(unsigned long count, unsigned long size);
+extern void *__libc_realloc(void *block, unsigned long size);
+extern void *__libc_memalign(unsigned long alignment, unsigned long size);
+extern char *getenv(const char *name);
+extern int atoi(const char *text);
+extern int creat(const char *path, unsigned mode);
+extern int dprintf(int file, const char *format, ...);
+
+static int requests;
+
+static int is_refused(void)
+{
+    const char *which = getenv("REFUSED_REQUEST");
+    ++requests;
+    return which && requests == atoi(which);
+}
+
+void *malloc(unsigned long size)
+{
+    return is_refused() ? 0 : __libc_malloc(size);
+}
+
+void *calloc(unsigned long count, unsigned long size)
+{
+    return is_refused() ? 0 : __libc_calloc(count, size);
+}
+
+void *realloc(void *block, unsigned long size)
+{
+    return is_refused() ? 0 : __libc_realloc(block, size);
+}
+
+void *memalign(unsigned long alignment, unsigned long size)
+{
+    return is_refused() ? 0 : __libc_memalign(alignment, size);
+}
+
+void *aligned_alloc(unsigned long alignment, unsigned long size)
+{
+    return memalign(alignment, size);
+}
+
+int posix_memalign(void **block, unsigned long alignment, unsigned long size)
+{
+    *block = memalign(alignment, size);
+    return *block ? 0 : 12;
+}
+
+__attribute__((destructor)) static void tell(void)
+{
+    const char *path = getenv("REQUESTS");
+    int found = requests;
+    if (path)
+        dprintf(creat(path, 0600), "%d\n", found);
+}
+C
+    local kit
+    kit=$(dirname -- "$(readlink -f -- "$(command -v rt)")")/..
+    "$kit/toolchain/bin/clang" -shared -fPIC -fuse-ld=lld -nostdlib -O1 -fno-builtin -o "$work/count.so" "$work/count.c"
+}
+
+# A command for each number from one to another: `each 'map 0 0 %.0f' 0 9`.
+each() {
+    seq -f "$1" "$2" "$3"
+}
+
+# A command so many times.
+again() {
+    local time
+    for ((time = 0; time < $2; time++)); do echo "$1"; done
+}
+
+# A zone of 4,096 frames, in which half of the pages are on their way at once, then no frame is free, and then no place of the
+# journal.
+every_command() {
+    again 'zone 0 8' 2
+    echo 'info 1'
+    echo 'info 4'
+    each 'map 0 0 %.0f' 0 2046
+    echo 'map 0 0 2047 unmovable'
+    each 'mapat 0 1 %.0f 4095' 0 1
+    echo 'mapat 0 1 0 4094'
+    echo 'mapat 0 1 2 4094 unmovable'
+    echo 'store 0 0 0 3 7'
+    echo 'load 0 7 0 0'
+    again 'scan 0' 2047
+    echo 'store 0 0 0 3 8'
+    each 'look 0 0 %.0f' 2045 2048
+    hands
+    again 'take 0 1' 2
+    echo 'shut 0'
+    echo 'copy 0 1'
+    echo 'finish 0 1'
+    echo 'shut 0'
+    again 'scan 0' 100
+    hands
+    echo 'shut 0'
+    each 'map 0 2 %.0f' 0 2046
+    echo 'info 0'
+    again 'load 0 0 0 3' 60000
+    echo 'scan 0'
+    echo 'info 0'
+}
+
+# Each hand moves a page.
+hands() {
+    each 'take 0 %.0f' 1 4
+    each 'copy 0 %.0f' 1 4
+    each 'finish 0 %.0f' 1 4
+}
+
+# Runs a script and prints how many requests for memory it made. Its replies are in `replies`.
+requests_of() {
+    rm -f "$work/requests"
+    REQUESTS=$work/requests LD_PRELOAD=$work/count.so "$program" <"$1" >"$work/replies" ||
+        fail "a script with no fault ended with status $?" >&2
+    cat "$work/requests"
+}
+
+# The words of the script that were answered, and the refusals that were given, against those of docs/SCRIPT.md.
+has_everything() {
+    {
+        paste -d ' ' "$work/script" "$work/replies" | grep -v refused | cut -d ' ' -f 1
+        grep refused "$work/replies"
+    } | sort -u >"$work/found"
+    # shellcheck disable=SC2016
+    sed -n 's/^| `\([a-z]*\) Z.*/\1/p; s/^| `\(refused [0-9]*\)`.*/\1/p' "$root/docs/SCRIPT.md" | sort -u | diff - "$work/found"
+}
+
+build_counter
+echo 'zone 0 8' >"$work/opening"
+every_command >"$work/script"
+wanted=$(requests_of "$work/opening")
+found=$(requests_of "$work/script")
+has_everything || fail 'the script of this check lacks a command or a refusal of docs/SCRIPT.md, or has one more'
+((wanted > 0 && found == wanted)) || fail "$found requests for memory, and $wanted for the zone alone"
+
+faults=0
+for ((request = 1; request <= wanted; request++)); do
+    status=0
+    REFUSED_REQUEST=$request LD_PRELOAD=$work/count.so "$program" <"$work/script" >"$work/out" 2>"$work/err" || status=$?
+    if ((status == 1)) && [[ ! -s $work/out && $(<"$work/err") =~ ^'compactd: fault 48 at line '[01]$ ]]; then
+        faults=$((faults + 1))
+    elif ((status != 0)) || [[ -s $work/err ]] || ! cmp -s "$work/out" "$work/replies"; then
+        fail "request $request refused: status $status, $(<"$work/err")"
+    fi
+done
+((faults > 0)) || fail 'no refused request ends in fault 48'
+echo "$(wc -l <"$work/script") commands make $wanted requests for memory, as the first alone; refused in turn, $faults end in fault 48"

@@ -1,0 +1,10 @@
+use Rattle.std.proofs.Common.{◌≡◌, replicate}
+use Rattle.std.specs.Prelude.{vec_capacity}
+use Rattle.frame_core.proofs.list.filled.Given as goal
+
+-- the copies so far, in the room for all
+abbrev pub invariant-loop : goal.invariant-loop
+invariant-loop g l = record {
+  copies : l.list.items ≡ replicate l.counter l.value;
+  room : vec_capacity l.list ≡ l.count;
+}

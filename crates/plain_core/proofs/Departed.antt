@@ -1,0 +1,146 @@
+-- The page of a pair is on its way: how each table changes.
+use Rattle.std.proofs.Common.{◌≡◌, ◌≢◌, ℕ, zero, suc, ◌+◌, ◌-◌, ◌<◌, ◌≤◌, Bool, true, false, List, [], ◌∷◌, ◌++◌, length, ◌⊎◌, inl, inr, refl, sym, ap, ◌∙◌, arith}
+use Rattle.std.specs.Prelude.{Some, None, slice_get, slice_set, nat_eq, ◌||◌, if◌then◌else◌}
+use Rattle.std.proofs.lemmas.Bool.{eq-eqb}
+use Rattle.std.proofs.lemmas.Bool.Decides.{eqb_tells}
+use Rattle.std.proofs.lemmas.List.{length-set}
+use Rattle.frame_core.proofs.Lists.{slice_get_set_same, slice_get_set_other}
+use Rattle.frame_core.specs.declared.state.FrameState.{FrameState}
+use Rattle.frame_core.specs.declared.state.FrameState.TheVariants.{Source, Target}
+use Rattle.journal_core.specs.declared.record.Record.{Record}
+use Rattle.journal_core.specs.declared.record.Record.TheVariants.{Isolate}
+use Rattle.journal_core.specs.Moves.{isolated, page_of}
+use Rattle.plain_core.specs.declared.counts.Counts.{Counts}
+use Rattle.state_core.specs.declared.round.Pair.{Pair}
+use Rattle.state_core.specs.declared.placement.Placement.TheVariants.{At, Moving}
+use Rattle.plain_core.specs.Fits.{state_by, WordsFit, SerialsFit, CountsFit}
+use Rattle.state_core.specs.Lawful.{IsLawful}
+use Rattle.state_core.specs.Moving.{settled}
+use Rattle.state_core.specs.Pairs.{IsPair}
+use Rattle.state_core.specs.ZoneState.{ZoneState, frame_count, is_free}
+use Rattle.state_core.proofs.Placed.{untrue}
+use Rattle.state_core.proofs.Settled.{can_isolate, isolated_others, isolated_target, isolated_fewer, target_within, same_pages}
+use Rattle.plain_core.proofs.Settling.{FramesSettled, WordsSettled, IsFreer}
+
+-- one more at the end of a list
+pub pushed_last : (xs : List ℕ) (x i : ℕ) → i ≡ length xs → slice_get (xs ++ x ∷ []) i ≡ Some x
+pushed_last [] x zero e = refl
+pushed_last [] x (suc i) e = absurd (omega arith)
+pushed_last (y ∷ ys) x zero e = absurd (omega arith)
+pushed_last (y ∷ ys) x (suc i) e = pushed_last ys x i (omega arith)
+
+pub pushed_other : (xs : List ℕ) (x i : ℕ) → i ≢ length xs → slice_get (xs ++ x ∷ []) i ≡ slice_get xs i
+pushed_other [] x zero ne = absurd (ne refl)
+pushed_other [] x (suc i) ne = refl
+pushed_other (y ∷ ys) x zero ne = refl
+pushed_other (y ∷ ys) x (suc i) ne = pushed_other ys x i (λ e. ne (ap suc e))
+
+length_pushed : (xs : List ℕ) (x : ℕ) → length (xs ++ x ∷ []) ≡ length xs + 1
+length_pushed [] x = omega arith
+length_pushed (y ∷ ys) x = omega (arith, length_pushed ys x)
+
+-- fewer pages were isolated than there are records
+pub isolated_most : (records : List Record) → isolated records ≤ length records
+isolated_most [] = omega arith
+isolated_most (Isolate serial page ∷ older) = omega (arith, isolated_most older)
+isolated_most (_ ∷ older) = omega (arith, isolated_most older)
+
+same_state : {A : Type 0} (x y z : A) → Some x ≡ Some y → z ≡ x → z ≡ y
+same_state x y z e f = cc
+
+module _ (frames : List FrameState) (page source target serial : ℕ) (apart : source ≢ target) (source_in : source < length frames) (target_in : target < length frames) where
+  abbrev changed : List FrameState
+  changed = slice_set (slice_set frames source (Source serial)) target (Target serial)
+
+  abbrev one_set : List FrameState
+  one_set = slice_set frames source (Source serial)
+
+  still_in : target < length one_set
+  still_in = omega (arith, length-set frames source (Source serial), target_in)
+
+  at_source : slice_get changed source ≡ Some (Source serial)
+  at_source = slice_get_set_other one_set target source (Target serial) apart ∙ slice_get_set_same frames source source (Source serial) refl source_in
+
+  at_target : slice_get changed target ≡ Some (Target serial)
+  at_target = slice_get_set_same one_set target target (Target serial) refl still_in
+
+  by_test : (g : ℕ) (state : FrameState) → ((nat_eq g source ≡ true) × (g ≡ source)) ⊎ ((nat_eq g source ≡ false) × (g ≢ source)) → ((nat_eq g target ≡ true) × (g ≡ target)) ⊎ ((nat_eq g target ≡ false) × (g ≢ target)) → state_by page (Some (Moving serial source target)) g ≡ Some state → slice_get changed g ≡ Some state
+  by_test g state (inl s) t e =
+      ap (slice_get changed) s.1 ∙ at_source ∙ sym (ap (λ b. if b then Some (Source serial) else if nat_eq g target then Some (Target serial) else None) s.0) ∙ e
+  by_test g state (inr s) (inl t) e =
+      ap (slice_get changed) t.1 ∙ at_target ∙ sym (λ i. if s.0 i then Some (Source serial) else if t.0 i then Some (Target serial) else None) ∙ e
+  by_test g state (inr s) (inr t) e =
+      let bad : None ≡ Some state = sym (λ i. if s.0 i then Some (Source serial) else if t.0 i then Some (Target serial) else None) ∙ e in cc
+
+  none_left : (g : ℕ) → nat_eq g source ≡ true → (nat_eq g source || nat_eq g target) ≡ false → ⊥
+  none_left g e f = let bad : true ≡ false = sym (ap (λ b. b || nat_eq g target) e) ∙ f in cc
+
+  right_false : (a b : Bool) → (a || b) ≡ false → b ≡ false
+  right_false true b e = cc
+  right_false false b e = e
+
+  differs : (g x : ℕ) → nat_eq g x ≡ false → g ≢ x
+  differs g x e same = untrue _ e (eq-eqb g x same)
+
+  pub isolated_frames : FramesSettled frames changed page (At source) (Moving serial source target)
+  isolated_frames = record {
+    count = length-set one_set target (Target serial) ∙ length-set frames source (Source serial);
+    taken = λ g state e. by_test g state (eqb_tells g source) (eqb_tells g target) e;
+    left = λ g had gone. absurd (none_left g had gone);
+    kept = λ g off gone. slice_get_set_other one_set target g (Target serial) (differs g target (right_false _ _ gone)) ∙ slice_get_set_other frames source g (Source serial) (differs g source off);
+  }
+
+pub isolated_words : (rows : List (List ℕ)) (v : ZoneState) → WordsFit rows v → (serial source target : ℕ) → source < frame_count v → target < frame_count v → WordsSettled rows rows (At source) (Moving serial source target)
+isolated_words rows v fit serial source target source_in target_in = record {
+  count = refl;
+  carried = refl;
+  kept = λ g gone. refl;
+  eight = λ g has. fit.eight g (elim (eqb_tells g source) [
+    | inl s ↦ omega (arith, s.1, source_in)
+    | inr s ↦ elim (eqb_tells g target) [
+      | inl t ↦ omega (arith, t.1, target_in)
+      | inr t ↦ (let bad : false ≡ true = sym (λ i. s.0 i || t.0 i) ∙ has in absurd (cc))
+    ]
+  ]);
+}
+
+module _ (v : ZoneState) (pair : Pair) (law : IsLawful v) (is : IsPair v pair.page pair.source pair.target) where
+  abbrev next : ZoneState
+  next = settled v (Isolate (isolated v.records) pair.page) pair.page (Moving (isolated v.records) pair.source pair.target)
+
+  pub isolated_freer : IsFreer next v pair.target
+  isolated_freer = record {
+    blocks = refl;
+    within = target_within v pair law is;
+    used = isolated_target v pair law is;
+    free = is.to.free;
+    others = λ g ne. sym (isolated_others v pair law is g ne);
+  }
+
+  pub isolated_start : (from : ℕ) → ((g : ℕ) → g < from → is_free v g ≡ false) → (g : ℕ) → g < from → is_free next g ≡ false
+  isolated_start from before g h = elim (eqb_tells g pair.target) [
+    | inl same ↦ ap (is_free next) same.1 ∙ isolated_target v pair law is
+    | inr other ↦ isolated_others v pair law is g other.1 ∙ before g h
+  ]
+
+  pub isolated_counts : (counts : Counts) → CountsFit counts v → CountsFit (record counts { free = counts.free - 1; isolated = counts.isolated + 1 }) next
+  isolated_counts counts fit = record {
+    free = omega (arith, fit.free, isolated_fewer v pair law is);
+    pages = fit.pages ∙ sym (same_pages v pair.page (At pair.source) (Moving (isolated v.records) pair.source pair.target) (can_isolate v pair law is) (Isolate (isolated v.records) pair.page));
+    huge = fit.huge;
+    held = fit.held;
+    isolated = omega (arith, fit.isolated);
+    moved = fit.moved;
+    back = fit.back;
+    out = omega (arith, fit.out);
+  }
+
+  pub isolated_serials : (pages : List ℕ) (capacity : ℕ) → SerialsFit pages capacity v → 0 < v.room → SerialsFit (pages ++ pair.page ∷ []) capacity next
+  isolated_serials pages capacity fit room = record {
+    count = omega (arith, length_pushed pages pair.page, fit.count);
+    each = λ serial. elim (eqb_tells (isolated v.records) serial) [
+      | inl same ↦ pushed_last pages pair.page serial (sym same.1 ∙ sym fit.count) ∙ sym (ap (λ b. if b then Some pair.page else page_of v.records serial) same.0)
+      | inr other ↦ pushed_other pages pair.page serial (λ e. other.1 (sym fit.count ∙ sym e)) ∙ fit.each serial ∙ sym (ap (λ b. if b then Some pair.page else page_of v.records serial) other.0)
+    ];
+    room = (let enough = fit.room in omega arith);
+  }

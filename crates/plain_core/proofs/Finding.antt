@@ -1,0 +1,119 @@
+-- What the tables of a zone answer.
+use Rattle.std.proofs.Common.{◌≡◌, ℕ, ◌+◌, ◌-◌, ◌*◌, ◌/◌, ◌<◌, ◌≤◌, Bool, true, false, not, List, length, refl, sym, ap, ◌∙◌, get_or, inl, inr, arith}
+use Rattle.std.specs.Prelude.{Option, Some, None, IsSome, IfSome, is_some, is_none, nat_eq, if◌then◌else◌, ◌&&◌, ◌||◌}
+use Rattle.std.specs.Option.{option_and_then}
+use Rattle.std.specs.FinMap.{get}
+use Rattle.std.proofs.lemmas.Option.{slice_get-get_or, slice_get_past, get_or_from_slice_get}
+use Rattle.std.proofs.lemmas.Bool.Decides.{leb_tells}
+use Rattle.frame_core.proofs.Searches.{some_one, lowest_same, count_some}
+use Rattle.frame_core.specs.Below.{lowest}
+use Rattle.frame_core.specs.declared.state.FrameState.{FrameState}
+use Rattle.frame_core.specs.declared.state.FrameState.TheVariants.{Free, Holds, Source, Target, Huge}
+use Rattle.plain_core.specs.declared.note.Note.{Note}
+use Rattle.plain_core.specs.declared.plain.PlainZone.TheInside.{Inside}
+use Rattle.state_core.specs.declared.placement.Placement.{Placement}
+use Rattle.state_core.specs.declared.placement.Placement.TheVariants.{At, Moving}
+use Rattle.plain_core.specs.Fits.{state_by, FramesFit}
+use Rattle.plain_core.specs.Sound.{state_of, IsSound}
+use Rattle.state_core.specs.ZoneState.{ZoneState, frame_count, takes_up, is_used, is_held, is_free, lowest_free_frame, lowest_unused_page}
+use Rattle.plain_core.specs.Found.{free_at, is_free_state, placement_of}
+use Rattle.plain_core.specs.Tabulated.{tabulated}
+use Rattle.plain_core.proofs.Tabulating.{get_tabulated_all}
+use Rattle.state_core.proofs.Finding.{count_from_some}
+
+pub some_is : (o : Option ℕ) (i : ℕ) → IsSome o → IfSome o (λ z. z ≡ i) → o ≡ Some i
+some_is None i s e = cc
+some_is (Some z) i s e = ap Some e
+
+pub at_free : (frames : List FrameState) (i : ℕ) (d : FrameState) → i < length frames → get_or frames i d ≡ Free → free_at frames i ≡ true
+at_free frames i d h e = ap is_free_state (slice_get-get_or frames i d h ∙ ap Some e)
+
+not_free : (state : FrameState) → (state ≡ Free → ⊥) → is_free_state (Some state) ≡ false
+not_free Free ne = absurd (ne refl)
+not_free (Holds page) ne = refl
+not_free (Source serial) ne = refl
+not_free (Target serial) ne = refl
+not_free Huge ne = refl
+
+pub at_used : (frames : List FrameState) (i : ℕ) (d : FrameState) → i < length frames → (get_or frames i d ≡ Free → ⊥) → free_at frames i ≡ false
+at_used frames i d h ne = ap is_free_state (slice_get-get_or frames i d h) ∙ not_free (get_or frames i d) ne
+
+pub placement_at_note : (notes : List Note) (page : ℕ) (d : Note) → page < length notes → placement_of notes page ≡ (get_or notes page d).placement
+placement_at_note notes page d h = ap (option_and_then (λ (note : Note). note.placement)) (slice_get-get_or notes page d h)
+
+pub placement_past : (notes : List Note) (page : ℕ) → length notes ≤ page → placement_of notes page ≡ None
+placement_past notes page h = ap (option_and_then (λ (note : Note). note.placement)) (slice_get_past notes page h)
+
+-- the map of placements has what the notes have
+pub get_placements : (notes : List Note) (page : ℕ) → get (tabulated (placement_of notes) (length notes)) page ≡ placement_of notes page
+get_placements notes page = get_tabulated_all (placement_of notes) (length notes) page (placement_past notes)
+
+-- the state that a page puts a frame in, and which isn't free
+puts : (page serial : ℕ) (a b : Bool) → (a || b) ≡ true → (state : FrameState) × ((if a then Some (Source serial) else if b then Some (Target serial) else None) ≡ Some state) × (is_free_state (Some state) ≡ false)
+puts page serial true b e = (Source serial, refl, refl)
+puts page serial false true e = (Target serial, refl, refl)
+puts page serial false false e = cc
+
+pub takes_state : (page : ℕ) (o : Option Placement) (frame : ℕ) → takes_up o frame ≡ true → (state : FrameState) × (state_by page o frame ≡ Some state) × (is_free_state (Some state) ≡ false)
+takes_state page None frame e = cc
+takes_state page (Some (At f)) frame e = (Holds page, ap (λ b. if b then Some (Holds page) else None) e, refl)
+takes_state page (Some (Moving serial source target)) frame e = puts page serial (nat_eq frame source) (nat_eq frame target) e
+
+off : (a b : Bool) → b ≡ true → (not a && not b) ≡ false
+off true b e = refl
+off false b e = ap not e
+
+-- a frame is free in the tables just where it is in the state
+pub free_seen : (frames : List FrameState) (v : ZoneState) → FramesFit frames v → (frame : ℕ) → frame < frame_count v → free_at frames frame ≡ is_free v frame
+free_seen frames v fit frame within = by_held (is_held v frame) (is_used v frame) refl refl where
+  by_held : (held used : Bool) → is_held v frame ≡ held → is_used v frame ≡ used → free_at frames frame ≡ (not (is_used v frame) && not (is_held v frame))
+  by_held true used is at = ap is_free_state (fit.of_block frame within is) ∙ sym (off (is_used v frame) (is_held v frame) is)
+  by_held false true is at =
+      let one = some_one (λ page. takes_up (get v.placement page) frame) (frame_count v) at in
+      let state = takes_state one.0 (get v.placement one.0) frame one.2 in
+      ap is_free_state (fit.of_page one.0 frame state.0 state.1) ∙ state.2 ∙ sym (ap (λ b. not b && not (is_held v frame)) at)
+  by_held false false is at =
+      let free : is_free v frame ≡ true = λ i. not (at i) && not (is i) in
+      ap is_free_state (fit.of_none frame within free) ∙ sym free
+
+pub lowest_free_seen : (frames : List FrameState) (v : ZoneState) → FramesFit frames v → lowest (free_at frames) (length frames) ≡ lowest_free_frame v
+lowest_free_seen frames v fit =
+    lowest_same (free_at frames) (is_free v) (length frames) (λ frame h. free_seen frames v fit frame (omega (arith, h, fit.count)))
+    ∙ ap (lowest (is_free v)) fit.count
+
+pub placements_seen : (z : Inside) → get (state_of z).placement ≡ placement_of z.notes.items
+placements_seen z = λ i page. get_placements z.notes.items page i
+
+pub lowest_unused_seen : (z : Inside) (v : ZoneState) → state_of z ≡ v → length z.notes.items ≡ frame_count v → lowest (λ page. is_none (placement_of z.notes.items page)) (length z.notes.items) ≡ lowest_unused_page v
+lowest_unused_seen z v view count =
+    ap (λ (placed : ℕ → Option Placement). lowest (λ page. is_none (placed page)) (length z.notes.items)) (sym (placements_seen z))
+    ∙ ap (λ (u : ZoneState). lowest (λ page. is_none (get u.placement page)) (length z.notes.items)) view
+    ∙ ap (lowest (λ page. is_none (get v.placement page))) count
+
+some_not_none : (o : Option Placement) → is_some o ≡ true → is_none o ≡ false
+some_not_none None e = cc
+some_not_none (Some placement) e = refl
+
+-- where the searches begin
+pub not_free_before : (z : Inside) (v : ZoneState) → IsSound z v → (frame : ℕ) → frame < z.free_from → free_at z.frames.items frame ≡ false
+not_free_before z v sound frame h = elim (leb_tells (frame_count v) frame) [
+  | inl past ↦ ap is_free_state (slice_get_past z.frames.items frame (omega (arith, past.1, sound.frames.count)))
+  | inr within ↦ free_seen z.frames.items v sound.frames frame within.1 ∙ sound.starts.frames frame h
+]
+
+pub used_before : (z : Inside) (v : ZoneState) → state_of z ≡ v → IsSound z v → (page : ℕ) → page < z.unused_from → is_none (placement_of z.notes.items page) ≡ false
+used_before z v view sound page h =
+    some_not_none _ (ap (λ (placed : ℕ → Option Placement). is_some (placed page)) (sym (placements_seen z)) ∙ ap (λ (u : ZoneState). is_some (get u.placement page)) view ∙ sound.starts.pages page h)
+
+-- a free frame is counted, and counted in its pageblock
+pub free_counted : (z : Inside) (v : ZoneState) → IsSound z v → (frame block : ℕ) → is_free v frame ≡ true → frame < frame_count v → block ≡ frame / 512 → (1 ≤ z.counts.free) × (1 ≤ get_or z.free_in_block block 0)
+free_counted z v sound frame block free within at =
+    let all = count_some (is_free v) (frame_count v) frame within free in
+    let here = count_from_some (is_free v) (512 * block) 512 frame (omega (arith, at)) (omega (arith, at)) free in
+    let is = get_or_from_slice_get z.free_in_block block _ 0 (sound.blocks.each block (omega (arith, at, within))) in
+    (omega (arith, sound.counts.free, all), omega (arith, is, here))
+
+-- what the search answers is the lowest free frame of the state
+pub found_lowest : (z : Inside) (v : ZoneState) → IsSound z v → (frames : List FrameState) → frames ≡ z.frames.items → (o : Option ℕ) → o ≡ lowest (free_at frames) (length frames) → o ≡ lowest_free_frame v
+found_lowest z v sound frames same o found =
+    found ∙ ap (λ (fs : List FrameState). lowest (free_at fs) (length fs)) same ∙ lowest_free_seen z.frames.items v sound.frames

@@ -1,0 +1,11 @@
+pub mod Accessed
+pub mod Departed
+pub mod Facts
+pub mod Finding
+pub mod Opened
+pub mod Placing
+pub mod Rounds
+pub mod Seen
+pub mod Settles
+pub mod Settling
+pub mod Tabulating

@@ -1,0 +1,300 @@
+-- A fresh page in a free frame: the tables of the zone go on fitting.
+use Rattle.std.proofs.Common.{◌≡◌, ◌≢◌, ℕ, ◌+◌, ◌-◌, ◌*◌, ◌/◌, ◌<◌, ◌≤◌, Bool, true, false, not, List, ◌∷◌, length, ◌⊎◌, inl, inr, refl, sym, ap, subst, ◌∙◌, arith}
+use Rattle.std.specs.Prelude.{Option, Some, None, is_some, slice_get, slice_set, nat_eq, ◌&&◌, ◌||◌, if◌then◌else◌}
+use Rattle.std.specs.Option.{option_and_then}
+use Rattle.std.specs.FinMap as map
+use Rattle.std.specs.FinSet as set
+use Rattle.std.specs.Vec.{with_item}
+use Rattle.std.proofs.lemmas.Bool.{eq-eqb}
+use Rattle.std.proofs.lemmas.Bool.Decides.{eqb_tells}
+use Rattle.std.proofs.lemmas.List.{length-set}
+use Rattle.std.proofs.lemmas.Option.{slice_get_within, slice_get_past}
+use Rattle.frame_core.proofs.Lists.{slice_get_set_same, slice_get_set_other, slice_get_replicate}
+use Rattle.frame_core.proofs.Searches.{count_from_more, count_from_same}
+use Rattle.frame_core.specs.Address.{InRange}
+use Rattle.frame_core.specs.declared.place.Address.{Address}
+use Rattle.frame_core.specs.declared.state.FrameState.{FrameState}
+use Rattle.frame_core.specs.declared.state.FrameState.TheVariants.{Holds, Source, Target}
+use Rattle.journal_core.proofs.Maps.{no_test}
+use Rattle.journal_core.specs.declared.record.Record.TheVariants.{Map}
+use Rattle.journal_core.specs.History.{same_address, page_at, last, dirty, pins, maps}
+use Rattle.journal_core.specs.Journal.{Journal}
+use Rattle.table_core.specs.declared.entry.Entry.{Entry}
+use Rattle.table_core.specs.declared.entry.Entry.TheVariants.{Present}
+use Rattle.table_core.specs.Tables.{entry_at, ChangesOnly}
+use Rattle.word_core.specs.Page.{blank_words}
+use Rattle.word_core.specs.Words.{words_of, with_words}
+use Rattle.plain_core.specs.declared.note.Note.{Note}
+use Rattle.plain_core.specs.declared.plain.PlainZone.TheInside.{Inside}
+use Rattle.state_core.specs.declared.placement.Placement.{Placement}
+use Rattle.state_core.specs.declared.placement.Placement.TheVariants.{At, Moving}
+use Rattle.plain_core.specs.Fits.{state_by, entry_for, FramesFit, EntriesFit, WordsFit, NoteFits, NotesFit, BlocksFit}
+use Rattle.state_core.specs.ZoneState.{words_frame, ZoneState, takes_up, is_held, is_free, free_in_block, placement_at}
+use Rattle.plain_core.specs.Found.{placement_of, is_unmovable_of, says_unmovable}
+use Rattle.plain_core.specs.Sound.{state_of, IsSound}
+use Rattle.state_core.specs.Steps.{placed}
+use Rattle.plain_core.specs.Tabulated.{tabulated, gathered}
+use Rattle.plain_core.proofs.Accessed.{words_set_same, words_set_other}
+use Rattle.state_core.proofs.Facts.{chosen, taken, skipped, takes_own}
+use Rattle.plain_core.proofs.Finding.{placement_past, get_placements}
+use Rattle.state_core.proofs.Placed.{CanPlace, untrue, clash, placed_lawful, at_page, at_other, untaken, unheld_frame, free_at_frame, free_away, fewer_free, more_pages, named_here, named_there, maps_one, maps_others, pins_none, pins_others}
+use Rattle.state_core.proofs.Quiet.{quiet_ended}
+use Rattle.plain_core.proofs.Tabulating.{tabulated_insert}
+use Rattle.plain_core.proofs.Tabulating.{gathered_insert, gathered_same}
+
+-- the note of the fresh page
+abbrev pub fresh_note : Bool → ℕ → Note
+fresh_note unmovable frame = record { placement = Some (At frame); unmovable = unmovable; dirty = false; pins = 0; maps = 1 }
+
+tested : {A : Type 0} (b : Bool) (x y : A) → (if b then Some x else None) ≡ Some y → b ≡ true
+tested true x y e = refl
+tested false x y e = cc
+
+either : {A : Type 0} (a b : Bool) (x y z : A) → (if a then Some x else if b then Some y else None) ≡ Some z → (a || b) ≡ true
+either true b x y z e = refl
+either false b x y z e = tested b y z e
+
+-- a frame that a page puts in a state is one that it takes up
+pub state_taken : (page : ℕ) (o : Option Placement) (frame : ℕ) (state : FrameState) → state_by page o frame ≡ Some state → takes_up o frame ≡ true
+state_taken page None frame state e = cc
+state_taken page (Some (At f)) frame state e = tested (nat_eq frame f) (Holds page) state e
+state_taken page (Some (Moving serial source target)) frame state e = either (nat_eq frame source) (nat_eq frame target) (Source serial) (Target serial) state e
+
+module _ (v : ZoneState) (client : ℕ) (address : Address) (unmovable : Bool) (page frame : ℕ) (can : CanPlace v address page frame) where
+  abbrev next : ZoneState
+  next = placed v client address unmovable page frame
+
+  pub frames_placed : (frames : List FrameState) → FramesFit frames v → FramesFit (slice_set frames frame (Holds page)) next
+  frames_placed frames fit = record {
+    count = length-set frames frame (Holds page) ∙ fit.count;
+    of_page = λ q g state e. elim (eqb_tells q page) [
+      | inl same ↦
+          (let at : state_by page (Some (At frame)) g ≡ Some state = ap (λ (o : Option Placement). state_by page o g) (sym (at_page v client address unmovable page frame can)) ∙ ap (λ (p : ℕ). state_by p (map.get next.placement p) g) (sym same.1) ∙ e in
+          elim (eqb_tells g frame) [
+            | inl here ↦ slice_get_set_same frames frame g (Holds page) here.1 (omega (arith, can.within, fit.count)) ∙ sym (taken (nat_eq g frame) (Some (Holds page)) None here.0) ∙ at
+            | inr away ↦ (let bad : None ≡ Some state = sym (skipped (nat_eq g frame) (Some (Holds page)) None away.0) ∙ at in cc)
+          ])
+      | inr other ↦
+          (let old : state_by q (map.get v.placement q) g ≡ Some state = ap (λ (o : Option Placement). state_by q o g) (sym (at_other v client address unmovable page frame can q other.1)) ∙ e in
+          let apart : g ≢ frame = λ is. untrue _ (untaken v client address unmovable page frame can q) (ap (takes_up (map.get v.placement q)) (sym is) ∙ state_taken q _ g state old) in
+          slice_get_set_other frames frame g (Holds page) apart ∙ fit.of_page q g state old)
+    ];
+    of_block = λ g h held.
+        let apart : g ≢ frame = λ is. untrue _ (unheld_frame v client address unmovable page frame can) (ap (is_held v) (sym is) ∙ held) in
+        slice_get_set_other frames frame g (Holds page) apart ∙ fit.of_block g h held;
+    of_none = λ g h free.
+        let apart : g ≢ frame = λ is. untrue _ (free_at_frame v client address unmovable page frame can) (ap (is_free next) (sym is) ∙ free) in
+        slice_get_set_other frames frame g (Holds page) apart ∙ fit.of_none g h (sym (free_away v client address unmovable page frame can g apart) ∙ free);
+  }
+
+  -- where the page of another address is
+  placement_there : (b : Address) → same_address b address ≡ false → placement_at next b ≡ placement_at v b
+  placement_there b e = ap (option_and_then (map.get next.placement)) (named_there v client address unmovable page frame can b e) ∙ by_name (page_at v.records b) refl where
+    by_name : (o : Option ℕ) → page_at v.records b ≡ o → option_and_then (map.get next.placement) (page_at v.records b) ≡ option_and_then (map.get v.placement) (page_at v.records b)
+    by_name None is = ap (option_and_then (map.get next.placement)) is ∙ sym (ap (option_and_then (map.get v.placement)) is)
+    by_name (Some q) is =
+        let ne : q ≢ page = λ same. clash _ can.unused (ap (λ (p : ℕ). is_some (map.get v.placement p)) (sym same) ∙ can.lawful.named b q is) in
+        ap (option_and_then (map.get next.placement)) is ∙ at_other v client address unmovable page frame can q ne ∙ sym (ap (option_and_then (map.get v.placement)) is)
+
+  placement_here : (b : Address) → same_address b address ≡ true → placement_at next b ≡ Some (At frame)
+  placement_here b e = ap (option_and_then (map.get next.placement)) (named_here v client address unmovable page frame can b e) ∙ at_page v client address unmovable page frame can
+
+  pub entries_placed : (old new : List Entry) → EntriesFit old v → ChangesOnly old new address (Present frame) → EntriesFit new next
+  entries_placed old new fit changes = record { each = λ b range. by_place b range (eqb_tells b.space address.space) (eqb_tells b.vpage address.vpage) } where
+    by_place : (b : Address) → InRange b → ((nat_eq b.space address.space ≡ true) × (b.space ≡ address.space)) ⊎ ((nat_eq b.space address.space ≡ false) × (b.space ≢ address.space)) → ((nat_eq b.vpage address.vpage ≡ true) × (b.vpage ≡ address.vpage)) ⊎ ((nat_eq b.vpage address.vpage ≡ false) × (b.vpage ≢ address.vpage)) → entry_at new b ≡ entry_for (placement_at next b)
+    by_place b range (inl space) (inl vpage) =
+        changes.changed b space.1 vpage.1 ∙ sym (ap entry_for (placement_here b (λ i. space.0 i && vpage.0 i)))
+    by_place b range (inr space) other =
+        changes.other_spaces b range.vpage space.1 ∙ fit.each b range ∙ sym (ap entry_for (placement_there b (ap (λ t. t && nat_eq b.vpage address.vpage) space.0)))
+    by_place b range (inl space) (inr vpage) =
+        changes.other_pages b range.vpage vpage.1 ∙ fit.each b range ∙ sym (ap entry_for (placement_there b (λ i. space.0 i && vpage.0 i)))
+
+  pub words_placed : (rows : List (List ℕ)) → WordsFit rows v → WordsFit (with_words rows frame blank_words) next
+  words_placed rows fit =
+      let within : frame < length rows = omega (arith, can.within, fit.count) in
+      let blank : words_of (with_words rows frame blank_words) frame ≡ blank_words = words_set_same rows frame blank_words within in
+      record {
+        count = length-set rows frame blank_words ∙ fit.count;
+        eight = λ g h. elim (eqb_tells g frame) [
+          | inl here ↦ ap (λ (f : ℕ). length (words_of (with_words rows frame blank_words) f)) here.1 ∙ ap length blank
+          | inr away ↦ ap length (words_set_other rows frame g blank_words away.1) ∙ fit.eight g h
+        ];
+        each = λ q placement w e small. elim (eqb_tells q page) [
+          | inl same ↦
+              (let here : placement ≡ At frame = (let one : Some placement ≡ Some (At frame) = sym e ∙ ap (map.get next.placement) same.1 ∙ at_page v client address unmovable page frame can in cc) in
+              ap (λ (p : Placement). slice_get (words_of (with_words rows frame blank_words) (words_frame p)) w) here
+              ∙ ap (λ (ws : List ℕ). slice_get ws w) blank ∙ slice_get_replicate 8 w 0 small
+              ∙ ap Some (sym (ap (λ (p : ℕ). last next.records p w) same.1 ∙ chosen page 0 (last v.records page w))))
+          | inr other ↦
+              (let old : map.get v.placement q ≡ Some placement = sym (at_other v client address unmovable page frame can q other.1) ∙ e in
+              let apart : words_frame placement ≢ frame = λ is. untrue _ (untaken v client address unmovable page frame can q) (ap (λ (f : ℕ). takes_up (map.get v.placement q) f) (sym is) ∙ ap (λ (o : Option Placement). takes_up o (words_frame placement)) old ∙ takes_own placement) in
+              ap (λ (ws : List ℕ). slice_get ws w) (words_set_other rows frame (words_frame placement) blank_words apart) ∙ fit.each q placement w old small
+              ∙ ap Some (sym (skipped (nat_eq page q) 0 (last v.records q w) (no_test page q (λ x. other.1 (sym x))))))
+        ];
+      }
+
+  pub notes_placed : (notes : List Note) → NotesFit notes v → NotesFit (slice_set notes page (fresh_note unmovable frame)) next
+  notes_placed notes fit =
+      let within : page < length notes = omega (arith, can.numbered, fit.count) in
+      record {
+        count = length-set notes page (fresh_note unmovable frame) ∙ fit.count;
+        each = λ q note e used. elim (eqb_tells q page) [
+          | inl same ↦
+              (let here : fresh_note unmovable frame ≡ note = (let one : Some (fresh_note unmovable frame) ≡ Some note = sym (slice_get_set_same notes page q (fresh_note unmovable frame) same.1 within) ∙ e in cc) in
+              let N : Note → Type 0 = λ n. NoteFits n next q in
+              subst N here (record {
+                dirty = sym (ap (λ (p : ℕ). dirty next.records p) same.1 ∙ ap (λ b. not b && dirty v.records page) (eq-eqb page page refl));
+                pins = sym (ap (pins next.records) same.1 ∙ pins_none v client address unmovable page frame can);
+                maps = sym (ap (maps next.records) same.1 ∙ maps_one v client address unmovable page frame can);
+              }))
+          | inr other ↦
+              (let before = fit.each q note (sym (slice_get_set_other notes page q (fresh_note unmovable frame) other.1) ∙ e) used in
+              record {
+                dirty = before.dirty ∙ sym (ap (λ b. not b && dirty v.records q) (no_test page q (λ x. other.1 (sym x))));
+                pins = before.pins ∙ sym (pins_others v client address unmovable page frame can q other.1);
+                maps = before.maps ∙ sym (maps_others v client address unmovable page frame can q other.1);
+              })
+        ];
+      }
+
+  -- the pageblock of the frame has one free frame more than afterwards
+  pub block_counted : (free : List ℕ) → BlocksFit free v → (block : ℕ) → block ≡ frame / 512 → slice_get free block ≡ Some (free_in_block next block + 1)
+  block_counted free fit block at =
+      let one : free_in_block v block ≡ free_in_block next block + 1 =
+      count_from_more (is_free next) (is_free v) (512 * block) 512 frame (omega (arith, at)) (omega (arith, at)) (free_at_frame v client address unmovable page frame can) can.free
+      (λ g ne. sym (free_away v client address unmovable page frame can g ne)) in
+      fit.each block (omega (arith, at, can.within)) ∙ ap Some one
+
+  pub blocks_placed : (free : List ℕ) (block left : ℕ) → BlocksFit free v → block ≡ frame / 512 → slice_get free block ≡ Some (left + 1) → BlocksFit (slice_set free block left) next
+  blocks_placed free block left fit at before = record {
+    each = λ b h. elim (eqb_tells b block) [
+      | inl same ↦
+          (let counted = block_counted free fit block at in
+          let equal : left + 1 ≡ free_in_block next block + 1 = (let both : Some (left + 1) ≡ Some (free_in_block next block + 1) = sym before ∙ counted in cc) in
+          let now : left ≡ free_in_block next block = omega (arith, equal) in
+          slice_get_set_same free block b left same.1 (slice_get_within free block _ before) ∙ ap Some (now ∙ ap (free_in_block next) (sym same.1)))
+      | inr other ↦
+          (let rest : free_in_block v b ≡ free_in_block next b =
+          count_from_same (is_free v) (is_free next) (512 * b) 512 (λ g low high. sym (free_away v client address unmovable page frame can g (λ is. other.1 (omega (arith, at, is, low, high))))) in
+          slice_get_set_other free block b left other.1 ∙ fit.each b h ∙ ap Some rest)
+    ];
+  }
+
+-- what is known when a fresh page is placed
+pub record Placing (z : Inside) (v : ZoneState) (client : ℕ) (address : Address) (unmovable : Bool) (page frame block left : ℕ) (tables : List Entry) (log : Journal) : Type 0 where
+  pub sound : IsSound z v
+  pub view : state_of z ≡ v
+  pub can : CanPlace v address page frame
+  pub before : (q : ℕ) → q < page → is_some (map.get v.placement q) ≡ true
+  pub tables_new : ChangesOnly z.tables tables address (Present frame)
+  pub block_is : block ≡ frame / 512
+  pub left_is : slice_get z.free_in_block block ≡ Some (left + 1)
+  pub records : log.records ≡ Map client address page ∷ z.journal.records
+  pub room : log.room + 1 ≡ z.journal.room
+
+-- the fields of a zone after a fresh page was placed
+abbrev pub after_place : Inside → Bool → ℕ → ℕ → ℕ → ℕ → List Entry → Journal → Inside
+after_place z unmovable page frame block left tables log = record z {
+  frames = with_item z.frames frame (Holds page);
+  tables = tables;
+  words = with_words z.words frame blank_words;
+  notes = with_item z.notes page (fresh_note unmovable frame);
+  counts = record z.counts { free = z.counts.free - 1; pages = z.counts.pages + 1 };
+  free_in_block = slice_set z.free_in_block block left;
+  unused_from = page + 1;
+  quiet = false;
+  journal = log;
+}
+
+movable_none : (o : Option Note) → option_and_then (λ (note : Note). note.placement) o ≡ None → says_unmovable o ≡ false
+movable_none None e = refl
+movable_none (Some note) e = ap (λ (o : Option Placement). is_some o && note.unmovable) e
+
+module _ (z : Inside) (v : ZoneState) (client : ℕ) (address : Address) (unmovable : Bool) (page frame block left : ℕ) (tables : List Entry) (log : Journal) (known : Placing z v client address unmovable page frame block left tables log) where
+  abbrev notes_new : List Note
+  notes_new = slice_set z.notes.items page (fresh_note unmovable frame)
+
+  pub place_sound : IsSound (after_place z unmovable page frame block left tables log) (placed v client address unmovable page frame)
+  place_sound =
+      let sound = known.sound in
+      let can = known.can in
+      let counts = sound.counts in
+      record {
+        lawful = placed_lawful v client address unmovable page frame can;
+        orders = sound.orders;
+        frames = frames_placed v client address unmovable page frame can z.frames.items sound.frames;
+        entries = entries_placed v client address unmovable page frame can z.tables tables sound.entries known.tables_new;
+        words = words_placed v client address unmovable page frame can z.words sound.words;
+        notes = notes_placed v client address unmovable page frame can z.notes.items sound.notes;
+        counts = record {
+          free = omega (arith, counts.free, fewer_free v client address unmovable page frame can);
+          pages = omega (arith, counts.pages, more_pages v client address unmovable page frame can);
+          huge = counts.huge;
+          held = counts.held;
+          isolated = counts.isolated;
+          moved = counts.moved;
+          back = counts.back;
+          out = counts.out;
+        };
+        serials = (let fit = sound.serials in let room = can.spare in record { count = fit.count; each = fit.each; room = (let kept = fit.room in omega arith) });
+        blocks = blocks_placed v client address unmovable page frame can z.free_in_block block left sound.blocks known.block_is known.left_is;
+        quiet = sym (quiet_ended v.records (Map client address page) v.round refl sound.lawful.begun);
+        starts = record {
+          frames = λ g h. elim (eqb_tells g frame) [
+            | inl same ↦ ap (is_free (placed v client address unmovable page frame)) same.1 ∙ free_at_frame v client address unmovable page frame can
+            | inr other ↦ free_away v client address unmovable page frame can g other.1 ∙ sound.starts.frames g h
+          ];
+          pages = λ q h. elim (eqb_tells q page) [
+            | inl same ↦ ap (λ (p : ℕ). is_some (map.get (placed v client address unmovable page frame).placement p)) same.1 ∙ ap is_some (at_page v client address unmovable page frame can)
+            | inr other ↦ ap is_some (at_other v client address unmovable page frame can q other.1) ∙ known.before q (omega (arith, h, other.1))
+          ];
+        };
+      }
+
+  -- where the notes had the fresh page: nowhere
+  unused_before : placement_of z.notes.items page ≡ None
+  unused_before = sym (get_placements z.notes.items page) ∙ ap (λ (u : ZoneState). map.get u.placement page) known.view ∙ known.can.unused
+
+  note_within : page < length z.notes.items
+  note_within = omega (arith, known.can.numbered, known.sound.notes.count)
+
+  note_there : (q : ℕ) → q ≢ page → slice_get notes_new q ≡ slice_get z.notes.items q
+  note_there q ne = slice_get_set_other z.notes.items page q (fresh_note unmovable frame) ne
+
+  note_here : slice_get notes_new page ≡ Some (fresh_note unmovable frame)
+  note_here = slice_get_set_same z.notes.items page page (fresh_note unmovable frame) refl note_within
+
+  len : length notes_new ≡ length z.notes.items
+  len = length-set z.notes.items page (fresh_note unmovable frame)
+
+  placement_new : tabulated (placement_of notes_new) (length notes_new) ≡ map.insert (state_of z).placement page (At frame)
+  placement_new =
+      ap (tabulated (placement_of notes_new)) len
+      ∙ tabulated_insert (placement_of z.notes.items) (placement_of notes_new) (length z.notes.items) page (At frame)
+      (placement_past z.notes.items) (λ q past. placement_past notes_new q (omega (arith, len, past)))
+      (ap (option_and_then (λ (note : Note). note.placement)) note_here) (λ q ne. ap (option_and_then (λ (note : Note). note.placement)) (note_there q ne))
+
+  unmovable_past : (notes : List Note) (n : ℕ) → length notes ≤ n → is_unmovable_of notes n ≡ false
+  unmovable_past notes n past = ap says_unmovable (slice_get_past notes n past)
+
+  unmovable_new : (b : Bool) → unmovable ≡ b → gathered (is_unmovable_of notes_new) (length notes_new) ≡ (if b then set.insert (state_of z).unmovable page else (state_of z).unmovable)
+  unmovable_new true is =
+      ap (gathered (is_unmovable_of notes_new)) len
+      ∙ gathered_insert (is_unmovable_of z.notes.items) (is_unmovable_of notes_new) (length z.notes.items) page
+      (unmovable_past z.notes.items) (λ q past. unmovable_past notes_new q (omega (arith, len, past)))
+      (ap says_unmovable note_here ∙ is) (λ q ne. ap says_unmovable (note_there q ne))
+  unmovable_new false is =
+      ap (gathered (is_unmovable_of notes_new)) len ∙ gathered_same (is_unmovable_of notes_new) (is_unmovable_of z.notes.items) (length z.notes.items) same where
+        same : (q : ℕ) → is_unmovable_of notes_new q ≡ is_unmovable_of z.notes.items q
+        same q = elim (eqb_tells q page) [
+          | inl at ↦ ap (is_unmovable_of notes_new) at.1 ∙ ap says_unmovable note_here ∙ is ∙ sym (ap (is_unmovable_of z.notes.items) at.1 ∙ movable_none (slice_get z.notes.items page) unused_before)
+          | inr off ↦ ap says_unmovable (note_there q off.1)
+        ]
+
+  pub place_view : state_of (after_place z unmovable page frame block left tables log) ≡ placed v client address unmovable page frame
+  place_view =
+      let left_room : log.room ≡ z.journal.room - 1 = omega (arith, known.room) in
+      let u = unmovable_new unmovable refl in
+      let here : state_of (after_place z unmovable page frame block left tables log) ≡ placed (state_of z) client address unmovable page frame =
+      λ i. record (state_of z) { records = known.records i; room = left_room i; placement = placement_new i; unmovable = u i } in
+      here ∙ ap (λ (s : ZoneState). placed s client address unmovable page frame) known.view

@@ -1,0 +1,198 @@
+-- The move of a page ends: how each table changes.
+use Rattle.std.proofs.Common.{◌≡◌, ◌≢◌, ℕ, ◌+◌, ◌*◌, ◌<◌, ◌≤◌, Bool, true, false, List, length, ◌⊎◌, inl, inr, refl, sym, ap, ◌∙◌, get_or, arith}
+use Rattle.std.specs.FinMap as map
+use Rattle.std.specs.Prelude.{Some, None, slice_get, slice_set, nat_eq, ◌||◌, if◌then◌else◌}
+use Rattle.std.proofs.lemmas.Bool.{eq-eqb}
+use Rattle.std.proofs.lemmas.Bool.Decides.{eqb_tells}
+use Rattle.std.proofs.lemmas.List.{length-set}
+use Rattle.frame_core.proofs.Lists.{slice_get_set_same, slice_get_set_other}
+use Rattle.frame_core.proofs.Searches.{count_from_most}
+use Rattle.std.proofs.lemmas.Option.{get_or_from_slice_get}
+use Rattle.frame_core.specs.declared.state.FrameState.{FrameState}
+use Rattle.frame_core.specs.declared.state.FrameState.TheVariants.{Free, Holds}
+use Rattle.journal_core.specs.declared.record.Cause.{Cause}
+use Rattle.journal_core.specs.declared.record.Record.{Record}
+use Rattle.journal_core.specs.declared.record.Record.TheVariants.{Moved, Back}
+use Rattle.word_core.specs.Words.{words_of, with_words}
+use Rattle.plain_core.specs.declared.counts.Counts.{Counts}
+use Rattle.state_core.specs.declared.placement.Placement.TheVariants.{At, Moving}
+use Rattle.plain_core.specs.Fits.{state_by, WordsFit, SerialsFit, CountsFit, BlocksFit}
+use Rattle.state_core.specs.Lawful.{IsLawful}
+use Rattle.state_core.specs.Moving.{settled, IsSettled}
+use Rattle.state_core.specs.ZoneState.{ZoneState, frame_count, is_free}
+use Rattle.plain_core.proofs.Accessed.{words_set_same, words_set_other}
+use Rattle.plain_core.proofs.Departed.{isolated_most}
+use Rattle.state_core.proofs.Placed.{untrue}
+use Rattle.state_core.proofs.Settled.{can_move_on, can_go_back, moved_others, moved_source, back_others, back_target, source_used, target_used, source_within, target_in, moved_more, back_more, out_fewer, same_pages, at_page, at_other}
+use Rattle.plain_core.proofs.Settling.{FramesSettled, WordsSettled, IsFreer}
+
+differs : (g x : ℕ) → nat_eq g x ≡ false → g ≢ x
+differs g x e same = untrue _ e (eq-eqb g x same)
+
+equals : (g x : ℕ) → nat_eq g x ≡ true → g ≡ x
+equals g x e = elim (eqb_tells g x) [ inl same ↦ same.1 | inr other ↦ absurd (untrue _ other.0 e) ]
+
+or_cases : (a b : Bool) → (a || b) ≡ true → (a ≡ true) ⊎ (b ≡ true)
+or_cases true b e = inl refl
+or_cases false b e = inr e
+
+left_false : (a b : Bool) → (a || b) ≡ false → a ≡ false
+left_false true b e = cc
+left_false false b e = refl
+
+right_false : (a b : Bool) → (a || b) ≡ false → b ≡ false
+right_false true b e = cc
+right_false false b e = e
+
+-- one of the two frames of a page on its way is its own now, and the other is free
+module _ (frames : List FrameState) (page kept left : ℕ) (apart : kept ≢ left) (kept_in : kept < length frames) (left_in : left < length frames) where
+  abbrev one_set : List FrameState
+  one_set = slice_set frames left Free
+
+  abbrev changed : List FrameState
+  changed = slice_set one_set kept (Holds page)
+
+  at_kept : slice_get changed kept ≡ Some (Holds page)
+  at_kept = slice_get_set_same one_set kept kept (Holds page) refl (omega (arith, length-set frames left Free, kept_in))
+
+  at_left : slice_get changed left ≡ Some Free
+  at_left = slice_get_set_other one_set kept left (Holds page) (λ e. apart (sym e)) ∙ slice_get_set_same frames left left Free refl left_in
+
+  pub count_kept : length changed ≡ length frames
+  count_kept = length-set one_set kept (Holds page) ∙ length-set frames left Free
+
+  pub state_kept : (g : ℕ) (state : FrameState) → state_by page (Some (At kept)) g ≡ Some state → slice_get changed g ≡ Some state
+  state_kept g state e = elim (eqb_tells g kept) [
+    | inl same ↦ ap (slice_get changed) same.1 ∙ at_kept ∙ sym (ap (λ b. if b then Some (Holds page) else None) same.0) ∙ e
+    | inr other ↦ (let bad : None ≡ Some state = sym (ap (λ b. if b then Some (Holds page) else None) other.0) ∙ e in cc)
+  ]
+
+  pub state_left : (g : ℕ) → g ≡ left → slice_get changed g ≡ Some Free
+  state_left g e = ap (slice_get changed) e ∙ at_left
+
+  pub state_other : (g : ℕ) → g ≢ kept → g ≢ left → slice_get changed g ≡ slice_get frames g
+  state_other g a b = slice_get_set_other one_set kept g (Holds page) a ∙ slice_get_set_other frames left g Free b
+
+pub moved_frames : (frames : List FrameState) (page serial source target : ℕ) → source ≢ target → source < length frames → target < length frames → FramesSettled frames (slice_set (slice_set frames source Free) target (Holds page)) page (Moving serial source target) (At target)
+moved_frames frames page serial source target apart source_in target_in = record {
+  count = count_kept frames page target source (λ e. apart (sym e)) target_in source_in;
+  taken = state_kept frames page target source (λ e. apart (sym e)) target_in source_in;
+  left = λ g had gone. state_left frames page target source (λ e. apart (sym e)) target_in source_in g (elim (or_cases (nat_eq g source) (nat_eq g target) had) [ inl s ↦ equals g source s | inr t ↦ absurd (untrue _ gone t) ]);
+  kept = λ g off gone. state_other frames page target source (λ e. apart (sym e)) target_in source_in g (differs g target gone) (differs g source (left_false _ _ off));
+}
+
+pub back_frames : (frames : List FrameState) (page serial source target : ℕ) → source ≢ target → source < length frames → target < length frames → FramesSettled frames (slice_set (slice_set frames target Free) source (Holds page)) page (Moving serial source target) (At source)
+back_frames frames page serial source target apart source_in target_in = record {
+  count = count_kept frames page source target apart source_in target_in;
+  taken = state_kept frames page source target apart source_in target_in;
+  left = λ g had gone. state_left frames page source target apart source_in target_in g (elim (or_cases (nat_eq g source) (nat_eq g target) had) [ inl s ↦ absurd (untrue _ gone s) | inr t ↦ equals g target t ]);
+  kept = λ g off gone. state_other frames page source target apart source_in target_in g (differs g source gone) (differs g target (right_false _ _ off));
+}
+
+pub moved_words : (rows : List (List ℕ)) (words : List ℕ) (serial source target : ℕ) → target < length rows → words ≡ words_of rows source → length words ≡ 8 → WordsSettled rows (with_words rows target words) (Moving serial source target) (At target)
+moved_words rows words serial source target within same eight = record {
+  count = length-set rows target words;
+  carried = words_set_same rows target words within ∙ same;
+  kept = λ g gone. words_set_other rows target g words (differs g target gone);
+  eight = λ g has. ap (λ (f : ℕ). length (words_of (with_words rows target words) f)) (equals g target has) ∙ ap length (words_set_same rows target words within) ∙ eight;
+}
+
+pub back_words : (rows : List (List ℕ)) (v : ZoneState) → WordsFit rows v → (serial source target : ℕ) → source < frame_count v → WordsSettled rows rows (Moving serial source target) (At source)
+back_words rows v fit serial source target within = record {
+  count = refl;
+  carried = refl;
+  kept = λ g gone. refl;
+  eight = λ g has. fit.eight g (let at : g ≡ source = equals g source has in omega arith);
+}
+
+module _ (v : ZoneState) (page serial source target : ℕ) (law : IsLawful v) (at : map.get v.placement page ≡ Some (Moving serial source target)) where
+  pub moved_freer : (entry : Record) → IsFreer v (settled v entry page (At target)) source
+  moved_freer entry = record {
+    blocks = refl;
+    within = source_within v page serial source target law at;
+    used = source_used v page serial source target law at;
+    free = moved_source v page serial source target law at entry;
+    others = moved_others v page serial source target law at entry;
+  }
+
+  pub back_freer : (entry : Record) → IsFreer v (settled v entry page (At source)) target
+  back_freer entry = record {
+    blocks = refl;
+    within = target_in v page serial source target law at;
+    used = target_used v page serial source target law at;
+    free = back_target v page serial source target law at entry;
+    others = back_others v page serial source target law at entry;
+  }
+
+  pub moved_start : (entry : Record) (from : ℕ) → ((g : ℕ) → g < from → is_free v g ≡ false) → (g : ℕ) → g < from → g < source → is_free (settled v entry page (At target)) g ≡ false
+  moved_start entry from before g h below = moved_others v page serial source target law at entry g (λ e. absurd (omega arith)) ∙ before g h
+
+  pub back_start : (entry : Record) (from : ℕ) → ((g : ℕ) → g < from → is_free v g ≡ false) → (g : ℕ) → g < from → g < target → is_free (settled v entry page (At source)) g ≡ false
+  back_start entry from before g h below = back_others v page serial source target law at entry g (λ e. absurd (omega arith)) ∙ before g h
+
+  pub moved_counts : (counts : Counts) → CountsFit counts v → CountsFit (record counts { free = counts.free + 1; moved = counts.moved + 1 }) (settled v (Moved serial) page (At target))
+  moved_counts counts fit = record {
+    free = omega (arith, fit.free, moved_more v page serial source target law at (Moved serial));
+    pages = fit.pages ∙ sym (same_pages v page (Moving serial source target) (At target) (can_move_on v page serial source target law at) (Moved serial));
+    huge = fit.huge;
+    held = fit.held;
+    isolated = fit.isolated;
+    moved = omega (arith, fit.moved);
+    back = fit.back;
+    out = omega (arith, fit.out, out_fewer v page serial source target law at);
+  }
+
+  pub back_counts : (cause : Cause) (counts : Counts) → CountsFit counts v → CountsFit (record counts { free = counts.free + 1; back = counts.back + 1 }) (settled v (Back serial cause) page (At source))
+  back_counts cause counts fit = record {
+    free = omega (arith, fit.free, back_more v page serial source target law at (Back serial cause));
+    pages = fit.pages ∙ sym (same_pages v page (Moving serial source target) (At source) (can_go_back v page serial source target law at) (Back serial cause));
+    huge = fit.huge;
+    held = fit.held;
+    isolated = fit.isolated;
+    moved = fit.moved;
+    back = omega (arith, fit.back);
+    out = omega (arith, fit.out, out_fewer v page serial source target law at);
+  }
+
+  pub moved_serials : (pages : List ℕ) (capacity : ℕ) → SerialsFit pages capacity v → 0 < v.room → SerialsFit pages capacity (settled v (Moved serial) page (At target))
+  moved_serials pages capacity fit room = record { count = fit.count; each = fit.each; room = (let enough = fit.room in omega arith) }
+
+  pub back_serials : (cause : Cause) (pages : List ℕ) (capacity : ℕ) → SerialsFit pages capacity v → 0 < v.room → SerialsFit pages capacity (settled v (Back serial cause) page (At source))
+  back_serials cause pages capacity fit room = record { count = fit.count; each = fit.each; room = (let enough = fit.room in omega arith) }
+
+  pub ending_room : 0 < v.room
+  ending_room = let left = law.room_left in omega (arith, out_fewer v page serial source target law at)
+
+  -- the page afterwards
+  pub moved_settled : IsSettled v (settled v (Moved serial) page (At target)) page target source
+  moved_settled = record {
+    here = at_page v page (Moving serial source target) (At target) (can_move_on v page serial source target law at) (Moved serial);
+    freed = moved_source v page serial source target law at (Moved serial);
+    flags = refl;
+    words = refl;
+    others = at_other v page (Moving serial source target) (At target) (can_move_on v page serial source target law at) (Moved serial);
+    names = λ address. refl;
+  }
+
+  pub back_settled : (cause : Cause) → IsSettled v (settled v (Back serial cause) page (At source)) page source target
+  back_settled cause = record {
+    here = at_page v page (Moving serial source target) (At source) (can_go_back v page serial source target law at) (Back serial cause);
+    freed = back_target v page serial source target law at (Back serial cause);
+    flags = refl;
+    words = refl;
+    others = at_other v page (Moving serial source target) (At source) (can_go_back v page serial source target law at) (Back serial cause);
+    names = λ address. refl;
+  }
+
+-- the counts stay small
+pub ended_most : (v : ZoneState) (counts : Counts) → CountsFit counts v → length v.records + v.room ≤ 65536 → (counts.moved < 65537) × (counts.back < 65537)
+ended_most v counts fit places = (omega (arith, fit.out, fit.isolated, isolated_most v.records), omega (arith, fit.out, fit.isolated, isolated_most v.records))
+
+pub block_most : (v : ZoneState) (free : List ℕ) → BlocksFit free v → (block : ℕ) → block < v.blocks → get_or free block 0 < 513
+block_most v free fit block h =
+    let most = count_from_most (is_free v) (512 * block) 512 in
+    let is = get_or_from_slice_get free block _ 0 (fit.each block h) in
+    omega (arith, is, most)
+
+pub block_at : (v : ZoneState) (free : List ℕ) → BlocksFit free v → (block : ℕ) → block < v.blocks → slice_get free block ≡ Some (get_or free block 0)
+block_at v free fit block h = fit.each block h ∙ ap Some (sym (get_or_from_slice_get free block _ 0 (fit.each block h)))

@@ -1,0 +1,42 @@
+use Rattle.std.proofs.Common.{◌≡◌, ◌∙◌, ◌∷◌, ℕ, ap, subst, sym, arith}
+use Rattle.journal_core.specs.declared.record.Record.TheVariants.{Load}
+use Rattle.state_core.specs.declared.placement.Placement.TheVariants.{At}
+use Rattle.plain_core.specs.Sound.{IsSound, state_of}
+use Rattle.state_core.specs.Steps.{value_at, loaded}
+use Rattle.plain_core.proofs.Accessed.{loaded_sound, word_read}
+use Rattle.state_core.proofs.Facts.{page_named, frame_within, spare}
+use Rattle.plain_core.proofs.Facts.{noted_view}
+use Rattle.plain_core.proofs.plain.PlainZone.read.Goals as goal
+use Rattle.plain_core.proofs.plain.PlainZone.read.Goals.{After-push}
+
+pub load-value-requires : goal.load-value-requires
+load-value-requires c =
+    let sound : IsSound c.self.inside c.args.self.now = subst (IsSound c.self.inside) c.self.view_is c.self.invariant in
+    let page = page_named c.args.self.now c.args.address (At c.args.frame) c.requires.frame in
+    let within = frame_within c.args.self.now sound.lawful page.0 (At c.args.frame) page.2 in
+    omega (arith, within, sound.words.count)
+
+value_is : (c : After-push) → c.load-value.result ≡ value_at c.args.self.now c.args.address c.args.word
+value_is c =
+    c.load-value.ensures.value
+    ∙ word_read c.self.inside c.args.self.now (subst (IsSound c.self.inside) c.self.view_is c.self.invariant) c.args.address c.args.frame c.args.word c.requires.frame c.load-value.ensures.in_range
+
+view : (c : After-push) → state_of (record c.self.inside { journal = c.push.new.self }) ≡ loaded c.args.self.now c.args.client c.args.address c.args.word
+view c =
+    noted_view c.self.inside c.args.self.now c.push.new.self _ c.self.view_is
+    (c.push.ensures.records ∙ ap (λ (value : ℕ). Load c.args.client c.args.address c.args.word value ∷ c.self.inside.journal.records) (value_is c))
+    c.push.ensures.room
+
+pub invariant_of-self : goal.invariant_of-self
+invariant_of-self c =
+    subst (IsSound (record c.self.inside { journal = c.push.new.self })) (sym (view c))
+    (loaded_sound c.self.inside c.args.self.now (subst (IsSound c.self.inside) c.self.view_is c.self.invariant) c.push.new.self c.args.client c.args.address c.args.frame c.args.word c.requires.frame (spare c.args.self.now c.requires.room))
+
+pub returns-clause-value : goal.returns-clause-value
+returns-clause-value c = value_is c
+
+pub returns-clause-step : goal.returns-clause-step
+returns-clause-step c = view c
+
+pub returns-clause-lawful : goal.returns-clause-lawful
+returns-clause-lawful c = (invariant_of-self c).lawful

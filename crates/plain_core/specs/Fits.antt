@@ -1,0 +1,85 @@
+-- How the tables of a zone stand for its state.
+use Rattle.std.specs.Prelude.{◌≡◌, ℕ, ◌+◌, ◌<◌, ◌≤◌, true, false, List, length, nat_eq, if◌then◌else◌, slice_get, Option, Some, None, IsSome, is_some}
+use Rattle.std.specs.FinMap as map
+use Rattle.frame_core.specs.Address.{InRange}
+use Rattle.frame_core.specs.Below.{count_below}
+use Rattle.frame_core.specs.declared.place.Address.{Address}
+use Rattle.frame_core.specs.declared.state.FrameState.{FrameState}
+use Rattle.frame_core.specs.declared.state.FrameState.TheVariants.{Free, Holds, Source, Target, Huge}
+use Rattle.journal_core.specs.History.{last, dirty, pins, maps}
+use Rattle.journal_core.specs.Moves.{out, page_of, isolated, moved, put_back}
+use Rattle.table_core.specs.declared.entry.Entry.{Entry}
+use Rattle.table_core.specs.declared.entry.Entry.TheVariants.{Absent, Present, Migration}
+use Rattle.table_core.specs.Tables.{entry_at}
+use Rattle.word_core.specs.Words.{words_of}
+use Rattle.plain_core.specs.declared.counts.Counts.{Counts}
+use Rattle.plain_core.specs.declared.note.Note.{Note}
+use Rattle.state_core.specs.declared.placement.Placement.{Placement}
+use Rattle.state_core.specs.declared.placement.Placement.TheVariants.{At, Moving}
+use Rattle.state_core.specs.ZoneState.{ZoneState, frame_count, is_free, is_held, free_in_block, placement_at, words_frame}
+
+-- the state of a frame that a page with this placement takes up
+abbrev pub state_by : ℕ → Option Placement → ℕ → Option FrameState
+state_by page None frame = None
+state_by page (Some (At f)) frame = if nat_eq frame f then Some (Holds page) else None
+state_by page (Some (Moving serial source target)) frame =
+    if nat_eq frame source then Some (Source serial) else if nat_eq frame target then Some (Target serial) else None
+
+-- what the entry of an address is, by where its page is
+abbrev pub entry_for : Option Placement → Entry
+entry_for None = Absent
+entry_for (Some (At frame)) = Present frame
+entry_for (Some (Moving serial source target)) = Migration serial
+
+-- each frame is in the state that its page or block puts it in, and else free
+pub record FramesFit (frames : List FrameState) (v : ZoneState) : Type 0 where
+  pub count : length frames ≡ frame_count v
+  pub of_page : (page frame : ℕ) (state : FrameState) → state_by page (map.get v.placement page) frame ≡ Some state → slice_get frames frame ≡ Some state
+  pub of_block : (frame : ℕ) → frame < frame_count v → is_held v frame ≡ true → slice_get frames frame ≡ Some Huge
+  pub of_none : (frame : ℕ) → frame < frame_count v → is_free v frame ≡ true → slice_get frames frame ≡ Some Free
+
+-- each address has the entry of the page that it names
+pub record EntriesFit (entries : List Entry) (v : ZoneState) : Type 0 where
+  pub each : (address : Address) → InRange address → entry_at entries address ≡ entry_for (placement_at v address)
+
+-- each word of a page in use is the last that was stored
+pub record WordsFit (rows : List (List ℕ)) (v : ZoneState) : Type 0 where
+  pub count : length rows ≡ frame_count v
+  pub eight : (frame : ℕ) → frame < frame_count v → length (words_of rows frame) ≡ 8
+  pub each : (page : ℕ) (placement : Placement) (word : ℕ) → map.get v.placement page ≡ Some placement → word < 8 → slice_get (words_of rows (words_frame placement)) word ≡ Some (last v.records page word)
+
+-- the notes of a page in use are its own
+pub record NoteFits (note : Note) (v : ZoneState) (page : ℕ) : Type 0 where
+  pub dirty : note.dirty ≡ dirty v.records page
+  pub pins : note.pins ≡ pins v.records page
+  pub maps : note.maps ≡ maps v.records page
+
+pub record NotesFit (notes : List Note) (v : ZoneState) : Type 0 where
+  pub count : length notes ≡ frame_count v
+  pub each : (page : ℕ) (note : Note) → slice_get notes page ≡ Some note → IsSome note.placement → NoteFits note v page
+
+-- the counts are those of the state
+pub record CountsFit (counts : Counts) (v : ZoneState) : Type 0 where
+  pub free : counts.free ≡ count_below (is_free v) (frame_count v)
+  pub pages : counts.pages ≡ count_below (λ page. is_some (map.get v.placement page)) (frame_count v)
+  pub huge : counts.huge ≡ count_below (λ first. is_some (map.get v.handed_out first)) (frame_count v)
+  pub held : counts.held ≡ count_below (is_held v) (frame_count v)
+  pub isolated : counts.isolated ≡ isolated v.records
+  pub moved : counts.moved ≡ moved v.records
+  pub back : counts.back ≡ put_back v.records
+  -- each page that was isolated is out, or was moved or put back
+  pub out : length (out v.records) + counts.moved + counts.back ≡ counts.isolated
+
+pub record BlocksFit (free : List ℕ) (v : ZoneState) : Type 0 where
+  pub each : (block : ℕ) → block < v.blocks → slice_get free block ≡ Some (free_in_block v block)
+
+-- where the searches for a frame and for a page number begin
+pub record StartsFit (free_from unused_from : ℕ) (v : ZoneState) : Type 0 where
+  pub frames : (frame : ℕ) → frame < free_from → is_free v frame ≡ false
+  pub pages : (page : ℕ) → page < unused_from → is_some (map.get v.placement page) ≡ true
+
+-- the page of each serial, in a list that has room for as many serials as there are places in the journal
+pub record SerialsFit (pages : List ℕ) (capacity : ℕ) (v : ZoneState) : Type 0 where
+  pub count : length pages ≡ isolated v.records
+  pub each : (serial : ℕ) → slice_get pages serial ≡ page_of v.records serial
+  pub room : length v.records + v.room ≤ capacity

@@ -1,0 +1,4 @@
+pub mod Fits
+pub mod Found
+pub mod Sound
+pub mod Tabulated

@@ -1,0 +1,91 @@
+//! Reading and writing the words of pages.
+
+ghost use Rattle.std.specs.Prelude.{◌≡◌, ◌+◌, length, nat_lt, Some, IsTrue, IfOk};
+ghost use Rattle.journal_core.specs.Moves.{out};
+ghost use Rattle.state_core.specs.Lawful.{IsLawful};
+ghost use Rattle.state_core.specs.Refusals.{placement_refusal, result_err};
+ghost use Rattle.state_core.specs.Steps.{value_at, loaded, stored};
+ghost use Rattle.state_core.specs.ZoneState.{has_room, placement_at};
+ghost use Rattle.state_core.specs.declared.placement.Placement.TheVariants.{At};
+
+use crate::plain::PlainZone;
+use frame_core::{Address, ClientNo, FrameNo, FrameState, WordNo};
+use journal_core::Record;
+use state_core::ZoneError;
+use table_core::Entry;
+
+impl PlainZone {
+    /// Whether the journal has room for a call.
+    pub fn has_room(&self) -> bool
+        ensures { result ≡ has_room self.now }
+    {
+        let out = self.counts.isolated - self.counts.moved - self.counts.back;
+        out < self.journal.room()
+    }
+
+    /// Whether it has room for an isolation, and for its end.
+    pub fn has_room_for_two(&self) -> bool
+        ensures { result ≡ nat_lt (length (out self.now.records) + 1) self.now.room }
+    {
+        let out = self.counts.isolated - self.counts.moved - self.counts.back;
+        out + 1 < self.journal.room()
+    }
+
+    /// The frame of the page that an address names, where the page isn't on its way.
+    pub fn frame_of(&self, address: &Address) -> Result<FrameNo, ZoneError>
+        ensures refused { result_err result ≡ placement_refusal (placement_at self.now address.now) }
+        ensures frame { IfOk result (λ frame. placement_at self.now address.now ≡ Some (At frame)) }
+    {
+        match self.tables.entry(*address) {
+            Entry::Absent => Err(ZoneError::Unmapped),
+            Entry::Present(frame) => Ok(frame),
+            Entry::Migration(_) => Err(ZoneError::Moving),
+        }
+    }
+
+    /// Reads a word of the page that the address names.
+    pub fn read(&mut self, client: ClientNo, address: Address, frame: FrameNo, word: WordNo) -> u64
+        requires room { IsTrue (has_room self.old) }
+        requires frame { placement_at self.old address ≡ Some (At frame) }
+        ensures value { result ≡ value_at self.old address word }
+        ensures step { self.new ≡ loaded self.old client address word }
+        ensures lawful { IsLawful self.new }
+    {
+        let value = self.words.load(frame, word);
+        self.journal.push(Record::Load {
+            client,
+            address,
+            word,
+            value,
+        });
+        value
+    }
+
+    /// Writes a word of the page that the address names.
+    pub fn write(
+        &mut self,
+        client: ClientNo,
+        address: Address,
+        frame: FrameNo,
+        word: WordNo,
+        value: u64,
+    )
+        requires room { IsTrue (has_room self.old) }
+        requires frame { placement_at self.old address ≡ Some (At frame) }
+        ensures step { self.new ≡ stored self.old client address word value }
+        ensures lawful { IsLawful self.new }
+    {
+        let FrameState::Holds(page) = self.frames[frame.get() as usize] else {
+            unreachable!();
+        };
+        self.words.store(frame, word, value);
+        let note = &mut self.notes[page.get() as usize];
+        note.dirty = true;
+        self.journal.push(Record::Store {
+            client,
+            address,
+            word,
+            value,
+        });
+    }
+}

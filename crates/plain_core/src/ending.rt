@@ -1,0 +1,204 @@
+//! How the move of a page ends, and what is known of a page.
+
+ghost use Rattle.std.specs.Prelude.{◌≡◌, ◌<◌, ◌+◌, ◌↔◌, length, nat_lt, nat_eq, not, true, IsTrue, IsSome, IfSome, Some, IfOk};
+ghost use Rattle.std.specs.FinMap as map;
+ghost use Rattle.journal_core.specs.History.{pins, maps};
+ghost use Rattle.journal_core.specs.Moves.{out, page_of, isolated, moved, put_back};
+ghost use Rattle.state_core.specs.Lawful.{IsLawful};
+ghost use Rattle.state_core.specs.Moving.{HasCause, IsSettled, words_now, is_own, moved_to_target, put_back_to_source, look_of};
+ghost use Rattle.state_core.specs.ZoneState.{is_quiet};
+ghost use Rattle.state_core.specs.declared.placement.Placement.TheVariants.{Moving};
+
+use crate::counts::Counts;
+use crate::plain::PlainZone;
+use frame_core::{Address, FrameNo, FrameState, PageNo, Serial, block_of};
+use journal_core::{Cause, Record};
+use state_core::{Audit, Look, Placement};
+use table_core::Entry;
+use word_core::Page;
+
+/// A page on its way, with its frames.
+#[derive(Clone, Copy)]
+pub struct Way {
+    pub page: PageNo,
+    pub serial: Serial,
+    pub source: FrameNo,
+    pub target: FrameNo,
+}
+
+impl PlainZone {
+    /// The frames of a page, if it is one of this zone and on its way under this serial.
+    pub fn way_of(&self, serial: Serial, page: &Page) -> Option<Way>
+        ensures own { IsSome result ↔ IsTrue (is_own self.now (record { serial = serial; page = page.now })) }
+        ensures named { IfSome result (λ way. (way.page ≡ page.now.number) × (way.serial ≡ serial)) }
+        ensures placed { IfSome result (λ way. map.get self.now.placement way.page ≡ Some (Moving way.serial way.source way.target)) }
+    {
+        if page.zone() != self.number {
+            return None;
+        }
+        let note = self.notes.get(page.number().get() as usize)?;
+        let Placement::Moving {
+            serial: under,
+            source,
+            target,
+        } = note.placement?
+        else {
+            return None;
+        };
+        if under != serial {
+            return None;
+        }
+        Some(Way {
+            page: page.number(),
+            serial,
+            source,
+            target,
+        })
+    }
+
+    /// Whether a page on its way has the words of this one.
+    pub fn has_words(&self, way: &Way, page: &Page) -> bool
+        requires { map.get self.now.placement way.now.page ≡ Some (Moving way.now.serial way.now.source way.now.target) }
+        ensures { IsTrue result ↔ (page.now.words ≡ words_now self.now way.now.page) }
+    {
+        self.words.same(way.source, page)
+    }
+
+    /// Whether a page in use has a pin.
+    pub fn has_pin(&self, page: PageNo) -> bool
+        requires { IsSome (map.get self.now.placement page) }
+        ensures { result ≡ not (nat_eq (pins self.now.records page) 0) }
+    {
+        let note = self.notes[page.get() as usize];
+        note.pins != 0
+    }
+
+    /// Ends a move: the page stands in its target, with the words of its copy.
+    pub fn arrive(&mut self, way: &Way, copy: &Page)
+        requires placed { map.get self.old.placement way.now.page ≡ Some (Moving way.now.serial way.now.source way.now.target) }
+        requires unpinned { pins self.old.records way.now.page ≡ 0 }
+        requires words { copy.now.words ≡ words_now self.old way.now.page }
+        ensures step { self.new ≡ moved_to_target self.old way.now.serial way.now.page }
+        ensures lawful { IsLawful self.new }
+        ensures settled { IsSettled self.old self.new way.now.page way.now.target way.now.source }
+    {
+        let Way {
+            page,
+            serial,
+            source,
+            target,
+        } = *way;
+        let block = block_of(source).get() as usize;
+        self.counts.free += 1;
+        self.counts.moved += 1;
+        self.free_in_block[block] += 1;
+        self.free_from = self.free_from.min(source.get());
+        self.frames[source.get() as usize] = FrameState::Free;
+        self.frames[target.get() as usize] = FrameState::Holds(page);
+        self.words.write_in(target, copy);
+        self.tables.to_present(serial, target);
+        let note = &mut self.notes[page.get() as usize];
+        note.placement = Some(Placement::At(target));
+        self.journal.push(Record::Moved { serial });
+    }
+
+    /// Ends a move: the page stands in its source again.
+    pub fn go_back(&mut self, way: &Way, cause: Cause)
+        requires placed { map.get self.old.placement way.now.page ≡ Some (Moving way.now.serial way.now.source way.now.target) }
+        requires cause { HasCause cause (pins self.old.records way.now.page) }
+        ensures step { self.new ≡ put_back_to_source self.old way.now.serial way.now.page cause }
+        ensures lawful { IsLawful self.new }
+        ensures settled { IsSettled self.old self.new way.now.page way.now.source way.now.target }
+    {
+        let Way {
+            page,
+            serial,
+            source,
+            target,
+        } = *way;
+        let block = block_of(target).get() as usize;
+        self.counts.free += 1;
+        self.counts.back += 1;
+        self.free_in_block[block] += 1;
+        self.free_from = self.free_from.min(target.get());
+        self.frames[target.get() as usize] = FrameState::Free;
+        self.frames[source.get() as usize] = FrameState::Holds(page);
+        self.tables.to_present(serial, source);
+        let note = &mut self.notes[page.get() as usize];
+        note.placement = Some(Placement::At(source));
+        self.quiet = false;
+        self.journal.push(Record::Back { serial, cause });
+    }
+
+    /// What is known of the page that an address names.
+    pub fn look(&self, address: &Address) -> Option<Look>
+        ensures { result ≡ look_of self.now address.now }
+    {
+        match self.tables.entry(*address) {
+            Entry::Absent => None,
+            Entry::Present(frame) => {
+                let page = self.holder(frame)?;
+                let (pins, maps) = self.uses_of(page);
+                Some(Look::At {
+                    frame,
+                    flags: self.flags_of(page),
+                    pins,
+                    maps,
+                })
+            }
+            Entry::Migration(serial) => {
+                let page = self.page_under(serial)?;
+                let (pins, maps) = self.uses_of(page);
+                Some(Look::Moving { serial, pins, maps })
+            }
+        }
+    }
+
+    /// The page that is on its way under a serial, or was.
+    fn page_under(&self, serial: Serial) -> Option<PageNo>
+        ensures { result ≡ page_of self.now.records serial }
+    {
+        self.pages.get(serial as usize).copied()
+    }
+
+    /// How many pins a page in use has, and how many addresses name it.
+    fn uses_of(&self, page: PageNo) -> (u8, u8)
+        requires { IsSome (map.get self.now.placement page) }
+        ensures pins { result.0 ≡ pins self.now.records page }
+        ensures maps { result.1 ≡ maps self.now.records page }
+    {
+        let note = self.notes[page.get() as usize];
+        (note.pins, note.maps)
+    }
+
+    /// Whether the latest round is quiet so far.
+    pub fn quiet(&self) -> bool
+        ensures { result ≡ is_quiet self.now }
+    {
+        self.quiet
+    }
+
+    /// The counts of pages, where none is on its way.
+    pub fn counted(&self) -> Option<Audit>
+        ensures some { IsSome result ↔ (length (out self.now.records) ≡ 0) }
+        ensures isolated { IfSome result (λ audit. audit.isolated ≡ isolated self.now.records) }
+        ensures moved { IfSome result (λ audit. audit.moved ≡ moved self.now.records) }
+        ensures back { IfSome result (λ audit. audit.back ≡ put_back self.now.records) }
+        ensures sum { IfSome result (λ audit. audit.moved + audit.back ≡ audit.isolated) }
+    {
+        let Counts {
+            isolated,
+            moved,
+            back,
+            ..
+        } = self.counts;
+        if isolated > moved + back {
+            return None;
+        }
+        Some(Audit {
+            isolated,
+            moved,
+            back,
+        })
+    }
+}

@@ -1,0 +1,19 @@
+//! The tables of a zone, without the ledgers that name its opening: frames, entries, words, notes, counts and the journal.
+//!
+//! Contracts see a `PlainZone` as the state of `state_core`. Its methods are the tests and the steps of which the calls of
+//! a zone are made; `specs/Fits.antt` says how each table stands for the state.
+#![tactic(auto)]
+
+mod access;
+mod counts;
+mod ending;
+mod information;
+mod isolating;
+mod mapping;
+mod note;
+mod opening;
+mod plain;
+mod searches;
+
+pub use ending::Way;
+pub use plain::PlainZone;

@@ -1,0 +1,98 @@
+//! Binding an address to a fresh page.
+
+ghost use Rattle.std.specs.Prelude.{◌≡◌, ◌<◌, nat_lt, Some, None, IsTrue, IsSome, IfSome, is_some};
+ghost use Rattle.journal_core.specs.History.{page_at};
+ghost use Rattle.state_core.specs.Lawful.{IsLawful};
+ghost use Rattle.state_core.specs.Steps.{mapped};
+ghost use Rattle.state_core.specs.ZoneState.{frame_count, has_room, is_free, lowest_free_frame, lowest_unused_page};
+
+use crate::note::Note;
+use crate::plain::PlainZone;
+use crate::searches::{lowest_free, lowest_unused};
+use frame_core::{Address, ClientNo, FrameNo, FrameState, PageNo, block_of};
+use journal_core::Record;
+use table_core::Entry;
+
+impl PlainZone {
+    /// Whether an address names a page.
+    pub fn names_page(&self, address: &Address) -> bool
+        ensures { result ≡ is_some (page_at self.now.records address.now) }
+    {
+        match self.tables.entry(*address) {
+            Entry::Absent => false,
+            _ => true,
+        }
+    }
+
+    /// Whether the zone has a frame.
+    pub fn has_frame(&self, frame: FrameNo) -> bool
+        ensures { result ≡ nat_lt frame (frame_count self.now) }
+    {
+        frame.get() < 512 * self.blocks
+    }
+
+    /// Whether a frame of the zone is free.
+    pub fn is_free(&self, frame: FrameNo) -> bool
+        requires { frame < frame_count self.now }
+        ensures { result ≡ is_free self.now frame }
+    {
+        match self.frames[frame.get() as usize] {
+            FrameState::Free => true,
+            _ => false,
+        }
+    }
+
+    /// The lowest frame that is free. The next search begins there.
+    pub fn find_free(&mut self) -> Option<FrameNo>
+        ensures same { self.new ≡ self.old }
+        ensures lawful { IsLawful self.new }
+        ensures lowest { result ≡ lowest_free_frame self.old }
+        ensures free { IfSome result (λ frame. IsTrue (is_free self.old frame)) }
+        ensures within { IfSome result (λ frame. frame < frame_count self.old) }
+    {
+        let found = lowest_free(&self.frames, self.free_from);
+        if let Some(frame) = found {
+            self.free_from = frame.get();
+        }
+        found
+    }
+
+    /// The lowest page number that isn't in use: there is one where a frame is free.
+    fn unused_page(&self) -> PageNo
+        requires { IsSome (lowest_free_frame self.now) }
+        ensures { lowest_unused_page self.now ≡ Some result }
+    {
+        let Some(page) = lowest_unused(&self.notes, self.unused_from) else {
+            unreachable!();
+        };
+        page
+    }
+
+    /// Binds an address to a fresh page in a free frame.
+    pub fn place(&mut self, client: ClientNo, address: Address, unmovable: bool, frame: FrameNo)
+        requires room { IsTrue (has_room self.old) }
+        requires vacant { page_at self.old.records address ≡ None }
+        requires free { IsTrue (is_free self.old frame) }
+        requires within { frame < frame_count self.old }
+        ensures step { self.new ≡ mapped self.old client address unmovable frame }
+        ensures lawful { IsLawful self.new }
+    {
+        let named = address;
+        let page = self.unused_page();
+        let block = block_of(frame).get() as usize;
+        self.counts.free -= 1;
+        self.counts.pages += 1;
+        self.free_in_block[block] -= 1;
+        self.unused_from = page.get() + 1;
+        self.frames[frame.get() as usize] = FrameState::Holds(page);
+        self.tables.set(named, frame);
+        self.words.blank(frame);
+        self.notes[page.get() as usize] = Note::fresh(frame, unmovable);
+        self.quiet = false;
+        self.journal.push(Record::Map {
+            client,
+            address,
+            page,
+        });
+    }
+}

@@ -1,0 +1,45 @@
+ghost use Rattle.std.specs.Prelude.{◌≡◌, None, Some, false};
+ghost use Rattle.state_core.specs.declared.placement.Placement.TheVariants.{At};
+
+use frame_core::FrameNo;
+use state_core::Placement;
+
+/// What a zone notes of a page number.
+#[derive(Clone, Copy, Debug, PartialEq, Eq)]
+pub struct Note {
+    /// None where no page in use has the number.
+    pub placement: Option<Placement>,
+    pub unmovable: bool,
+    pub dirty: bool,
+    pub pins: u8,
+    /// How many addresses name the page.
+    pub maps: u8,
+}
+
+impl Note {
+    /// Of a number that isn't in use.
+    pub fn unused() -> Self
+        ensures { result ≡ record { placement = None; unmovable = false; dirty = false; pins = 0; maps = 0 } }
+    {
+        Note {
+            placement: None,
+            unmovable: false,
+            dirty: false,
+            pins: 0,
+            maps: 0,
+        }
+    }
+
+    /// Of a fresh page at a frame.
+    pub fn fresh(frame: FrameNo, unmovable: bool) -> Self
+        ensures { result ≡ record { placement = Some (At frame); unmovable = unmovable; dirty = false; pins = 0; maps = 1 } }
+    {
+        Note {
+            placement: Some(Placement::At(frame)),
+            unmovable,
+            dirty: false,
+            pins: 0,
+            maps: 1,
+        }
+    }
+}

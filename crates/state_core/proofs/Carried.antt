@@ -1,0 +1,123 @@
+-- What a call of the zone does not change of the pages on their way.
+use Rattle.std.proofs.Common.{◌≡◌, ◌≢◌, ℕ, Bool, true, false, [], ◌∷◌, refl, sym, ap, ◌∙◌}
+use Rattle.std.specs.Prelude.{Option, Some, None, map as each, nat_eq, ◌&&◌, if◌then◌else◌}
+use Rattle.std.specs.FinMap as map
+use Rattle.std.proofs.lemmas.Bool.{and_parts, and_from, eq-eqb, eqb-true}
+use Rattle.journal_core.proofs.Maps.{no_test}
+use Rattle.frame_core.specs.declared.place.Address.{Address}
+use Rattle.journal_core.specs.declared.record.Cause.{Cause}
+use Rattle.journal_core.specs.declared.record.Cause.TheVariants.{Pinned}
+use Rattle.journal_core.specs.declared.record.Record.{Record}
+use Rattle.journal_core.specs.declared.record.Record.TheVariants.{Moved, Back}
+use Rattle.journal_core.specs.History.{is_page, names, last, pins}
+use Rattle.journal_core.specs.Moves.{isolated, page_of}
+use Rattle.word_core.specs.Page.{OnItsWay}
+use Rattle.state_core.specs.declared.round.Pair.{Pair}
+use Rattle.state_core.specs.declared.placement.Placement.{Placement}
+use Rattle.state_core.specs.declared.placement.Placement.TheVariants.{At, Moving}
+use Rattle.state_core.specs.Lawful.{IsLawful, is_under}
+use Rattle.state_core.specs.Moving.{is_own, IsOwnCopy, page_now, round_begun, isolated_next, settled, moved_to_target, put_back_to_source, committed}
+use Rattle.state_core.specs.Steps.{placed, loaded, stored}
+use Rattle.state_core.specs.ZoneState.{ZoneState, placement_at}
+use Rattle.state_core.proofs.Facts.{skipped, page_named}
+use Rattle.state_core.proofs.Entries.{get_insert_same, get_insert_other}
+
+under_moving : (o : Option Placement) (serial : ℕ) → is_under o serial ≡ true → (source : ℕ) × (target : ℕ) × (o ≡ Some (Moving serial source target))
+under_moving None serial e = cc
+under_moving (Some (At frame)) serial e = cc
+under_moving (Some (Moving s source target)) serial e = (source, target, ap (λ n. Some (Moving n source target)) (eqb-true s serial e))
+
+-- a page of a zone is on its way there under its serial
+pub own_under : (z : ZoneState) (p : OnItsWay) → is_own z p ≡ true → is_under (map.get z.placement p.page.number) p.serial ≡ true
+own_under z p own = (and_parts (nat_eq p.page.zone z.number) (is_under (map.get z.placement p.page.number) p.serial) own).1
+
+pub own_moving : (z : ZoneState) (p : OnItsWay) → is_own z p ≡ true → (source : ℕ) × (target : ℕ) × (map.get z.placement p.page.number ≡ Some (Moving p.serial source target))
+own_moving z p own = under_moving (map.get z.placement p.page.number) p.serial (own_under z p own)
+
+-- the journal knows which page it is
+pub own_page : (z : ZoneState) → IsLawful z → (p : OnItsWay) → is_own z p ≡ true → page_of z.records p.serial ≡ Some p.page.number
+own_page z law p own = ((law.under_way p.page.number p.serial).0 (own_under z p own)).1
+
+-- the placement and the words of a page are as they were
+own_kept : (z next : ZoneState) (p : OnItsWay) → next.number ≡ z.number → map.get next.placement p.page.number ≡ map.get z.placement p.page.number → ((w : ℕ) → last next.records p.page.number w ≡ last z.records p.page.number w) → IsOwnCopy z p → IsOwnCopy next p
+own_kept z next p number placement words own = record {
+  own = (λ i. nat_eq p.page.zone (number i) && is_under (placement i) p.serial) ∙ own.own;
+  same = own.same ∙ sym (λ i. each (λ w. words w i) (0 ∷ 1 ∷ 2 ∷ 3 ∷ 4 ∷ 5 ∷ 6 ∷ 7 ∷ []));
+}
+
+pub own_begun : (z : ZoneState) (p : OnItsWay) → IsOwnCopy z p → IsOwnCopy (round_begun z) p
+own_begun z p own = record { own = own.own; same = own.same }
+
+pub own_loaded : (z : ZoneState) (client : ℕ) (address : Address) (word : ℕ) (p : OnItsWay) → IsOwnCopy z p → IsOwnCopy (loaded z client address word) p
+own_loaded z client address word p own = record { own = own.own; same = own.same }
+
+-- a page that stands in a frame is none that is on its way
+stands_apart : (z : ZoneState) (page frame : ℕ) (p : OnItsWay) → map.get z.placement page ≡ Some (At frame) → is_own z p ≡ true → page ≢ p.page.number
+stands_apart z page frame p at own same =
+    let moving = own_moving z p own in
+    let bad : Some (At frame) ≡ Some (Moving p.serial moving.0 moving.1) = sym at ∙ ap (map.get z.placement) same ∙ moving.2 in
+    cc
+
+unused_apart : (z : ZoneState) (page : ℕ) (p : OnItsWay) → map.get z.placement page ≡ None → is_own z p ≡ true → page ≢ p.page.number
+unused_apart z page p unused own same =
+    let moving = own_moving z p own in
+    let bad : None ≡ Some (Moving p.serial moving.0 moving.1) = sym unused ∙ ap (map.get z.placement) same ∙ moving.2 in
+    cc
+
+-- two serials are of two pages
+serials_apart : (z : ZoneState) (p q : OnItsWay) → is_own z p ≡ true → is_own z q ≡ true → q.serial ≢ p.serial → q.page.number ≢ p.page.number
+serials_apart z p q own_p own_q ne same =
+    let a = own_moving z p own_p in
+    let b = own_moving z q own_q in
+    let one : Some (Moving q.serial b.0 b.1) ≡ Some (Moving p.serial a.0 a.1) = sym b.2 ∙ ap (map.get z.placement) same ∙ a.2 in
+    let bad : q.serial ≡ p.serial = cc in
+    ne bad
+
+other_way : (m n : ℕ) → m ≢ n → n ≢ m
+other_way m n ne e = ne (sym e)
+
+pub own_stored : (z : ZoneState) (client : ℕ) (address : Address) (word value frame : ℕ) → placement_at z address ≡ Some (At frame) → (p : OnItsWay) → IsOwnCopy z p → IsOwnCopy (stored z client address word value) p
+own_stored z client address word value frame at p own =
+    let page = page_named z address (At frame) at in
+    let unnamed : names z.records address p.page.number ≡ false =
+    ap (λ (o : Option ℕ). is_page o p.page.number) page.1 ∙ no_test page.0 p.page.number (stands_apart z page.0 frame p page.2 own.own) in
+    own_kept z (stored z client address word value) p refl refl (λ w. ap (λ b. if b && nat_eq word w then value else last z.records p.page.number w) unnamed) own
+
+pub own_placed : (z : ZoneState) (client : ℕ) (address : Address) (unmovable : Bool) (page frame : ℕ) → map.get z.placement page ≡ None → (p : OnItsWay) → IsOwnCopy z p → IsOwnCopy (placed z client address unmovable page frame) p
+own_placed z client address unmovable page frame unused p own =
+    let ne : page ≢ p.page.number = unused_apart z page p unused own.own in
+    own_kept z (placed z client address unmovable page frame) p refl
+    (get_insert_other z.placement page p.page.number (At frame) (other_way page p.page.number ne))
+    (λ w. skipped (nat_eq page p.page.number) 0 (last z.records p.page.number w) (no_test page p.page.number ne))
+    own
+
+-- another page goes on its way
+pub own_isolated : (z : ZoneState) (pair : Pair) (frame : ℕ) → map.get z.placement pair.page ≡ Some (At frame) → (p : OnItsWay) → IsOwnCopy z p → IsOwnCopy (isolated_next z pair) p
+own_isolated z pair frame at p own =
+    own_kept z (isolated_next z pair) p refl
+    (get_insert_other z.placement pair.page p.page.number _ (other_way pair.page p.page.number (stands_apart z pair.page frame p at own.own)))
+    (λ w. refl) own
+
+-- the page that goes on its way
+pub own_fresh : (z : ZoneState) (pair : Pair) → IsOwnCopy (isolated_next z pair) (record { serial = isolated z.records; page = page_now z pair.page })
+own_fresh z pair = record {
+  own = and_from (nat_eq z.number z.number) _ (eq-eqb z.number z.number refl)
+      (ap (λ (o : Option Placement). is_under o (isolated z.records)) (get_insert_same z.placement pair.page pair.page _ refl) ∙ eq-eqb (isolated z.records) (isolated z.records) refl);
+  same = refl;
+}
+
+-- another page's move ends
+own_ended : (z : ZoneState) (entry : Record) (q : OnItsWay) (frame : ℕ) (p : OnItsWay) → is_own z q ≡ true → q.serial ≢ p.serial → ((w : ℕ) → last (entry ∷ z.records) p.page.number w ≡ last z.records p.page.number w) → IsOwnCopy z p → IsOwnCopy (settled z entry q.page.number (At frame)) p
+own_ended z entry q frame p own_q ne words own =
+    own_kept z (settled z entry q.page.number (At frame)) p refl
+    (get_insert_other z.placement q.page.number p.page.number (At frame) (other_way q.page.number p.page.number (serials_apart z p q own.own own_q ne)))
+    words own
+
+pub own_put_back : (z : ZoneState) (cause : Cause) (q p : OnItsWay) → is_own z q ≡ true → q.serial ≢ p.serial → IsOwnCopy z p → IsOwnCopy (put_back_to_source z q.serial q.page.number cause) p
+own_put_back z cause q p own_q ne own = own_ended z (Back q.serial cause) q _ p own_q ne (λ w. refl) own
+
+pub own_committed : (z : ZoneState) (q p : OnItsWay) → is_own z q ≡ true → q.serial ≢ p.serial → IsOwnCopy z p → IsOwnCopy (committed z q.serial q.page.number) p
+own_committed z q p own_q ne own = by_pins (nat_eq (pins z.records q.page.number) 0) where
+  by_pins : (b : Bool) → IsOwnCopy (if b then moved_to_target z q.serial q.page.number else put_back_to_source z q.serial q.page.number Pinned) p
+  by_pins true = own_ended z (Moved q.serial) q _ p own_q ne (λ w. refl) own
+  by_pins false = own_put_back z Pinned q p own_q ne own

@@ -1,0 +1,59 @@
+-- What is known of a zone that is sound.
+use Rattle.std.proofs.Common.{◌≡◌, ◌≢◌, ℕ, ◌+◌, ◌-◌, ◌<◌, Bool, true, false, ◌∷◌, length, refl, ap, ◌∙◌}
+use Rattle.std.specs.Prelude.{Option, Some, None, IsSome, is_some, nat_eq, ◌||◌, if◌then◌else◌}
+use Rattle.std.specs.Option.{option_and_then}
+use Rattle.std.specs.FinMap as map
+use Rattle.std.proofs.lemmas.Bool.{eq-eqb, ltb-true}
+use Rattle.frame_core.specs.declared.place.Address.{Address}
+use Rattle.journal_core.specs.History.{page_at}
+use Rattle.journal_core.specs.Moves.{out}
+use Rattle.state_core.specs.declared.placement.Placement.{Placement}
+use Rattle.state_core.specs.declared.placement.Placement.TheVariants.{At, Moving}
+use Rattle.state_core.specs.Lawful.{IsLawful}
+use Rattle.state_core.specs.ZoneState.{words_frame, ZoneState, frame_count, takes_up, has_room, placement_at}
+
+pub chosen : {A : Type 0} (n : ℕ) (x y : A) → (if nat_eq n n then x else y) ≡ x
+chosen n x y = ap (λ b. if b then x else y) (eq-eqb n n refl)
+
+pub taken : {A : Type 0} (b : Bool) (x y : A) → b ≡ true → (if b then x else y) ≡ x
+taken b x y e = ap (λ t. if t then x else y) e
+
+pub skipped : {A : Type 0} (b : Bool) (x y : A) → b ≡ false → (if b then x else y) ≡ y
+skipped b x y e = ap (λ t. if t then x else y) e
+
+pub not_none : {A : Type 0} (o : Option A) (x : A) → o ≡ Some x → IsSome o
+not_none o x e = ap is_some e
+
+pub some_is : {A : Type 0} (o : Option A) → is_some o ≡ true → (x : A) × (o ≡ Some x)
+some_is None e = cc
+some_is (Some x) e = (x, refl)
+
+pub none_is : {A : Type 0} (o : Option A) → is_some o ≡ false → o ≡ None
+none_is None e = refl
+none_is (Some x) e = cc
+
+-- the journal has a place for a call
+pub spare : (v : ZoneState) → has_room v ≡ true → length (out v.records) < v.room
+spare v room = ltb-true _ _ room
+
+-- an address that names a page in a frame
+pub page_named : (v : ZoneState) (address : Address) (placement : Placement) → placement_at v address ≡ Some placement → (page : ℕ) × (page_at v.records address ≡ Some page) × (map.get v.placement page ≡ Some placement)
+page_named v address placement e = by_page (page_at v.records address) refl e where
+  by_page : (o : Option ℕ) → page_at v.records address ≡ o → option_and_then (map.get v.placement) o ≡ Some placement → (page : ℕ) × (page_at v.records address ≡ Some page) × (map.get v.placement page ≡ Some placement)
+  by_page None is e = cc
+  by_page (Some page) is e = (page, is, e)
+
+-- a page takes up the frame that has its words
+pub takes_own : (placement : Placement) → takes_up (Some placement) (words_frame placement) ≡ true
+takes_own (At frame) = eq-eqb frame frame refl
+takes_own (Moving serial source target) = ap (λ b. b || nat_eq source target) (eq-eqb source source refl)
+
+pub frame_within : (v : ZoneState) → IsLawful v → (page : ℕ) (placement : Placement) → map.get v.placement page ≡ Some placement → words_frame placement < frame_count v
+frame_within v law page placement e = law.within page (words_frame placement) (ap (λ (o : Option Placement). takes_up o (words_frame placement)) e ∙ takes_own placement)
+
+-- the words of two pages are in two frames
+pub frames_differ : (v : ZoneState) → IsLawful v → (p q : ℕ) (a b : Placement) → map.get v.placement p ≡ Some a → map.get v.placement q ≡ Some b → q ≢ p → words_frame b ≢ words_frame a
+frames_differ v law p q a b at_p at_q ne same =
+    ne (law.apart q p (words_frame b)
+    (ap (λ (o : Option Placement). takes_up o (words_frame b)) at_q ∙ takes_own b)
+    (ap (λ (o : Option Placement). takes_up o (words_frame b)) at_p ∙ ap (takes_up (Some a)) same ∙ takes_own a))

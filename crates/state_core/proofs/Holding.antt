@@ -1,0 +1,54 @@
+-- What the tables of a sound zone say of its state.
+use Rattle.std.proofs.Common.{◌≡◌, ℕ, ◌+◌, ◌<◌, ◌≤◌, Bool, true, false, [], ◌∷◌, ◌⊎◌, inl, inr, refl, sym, ap, ◌∙◌, arith}
+use Rattle.std.specs.Prelude.{Option, Some, None, ◌&&◌, ◌||◌, if◌then◌else◌}
+use Rattle.std.specs.FinMap as map
+use Rattle.std.specs.FinSet as set
+use Rattle.std.proofs.lemmas.Bool.{eq-eqb}
+use Rattle.std.proofs.lemmas.Bool.Decides.{eqb_tells}
+use Rattle.frame_core.proofs.Searches.{lowest_is, lowest_none, lowest_some}
+use Rattle.state_core.specs.declared.information.Look.TheVariants as look
+use Rattle.state_core.specs.declared.placement.Placement.{Placement}
+use Rattle.state_core.specs.declared.placement.Placement.TheVariants.{At, Moving}
+use Rattle.state_core.specs.Lawful.{IsLawful}
+use Rattle.state_core.specs.Pairs.{stands_in, holder}
+use Rattle.state_core.specs.ZoneState.{ZoneState, frame_count, takes_up}
+use Rattle.state_core.proofs.Facts.{not_none}
+
+-- the page in a frame
+pub stands_at : (o : Option Placement) (frame : ℕ) → stands_in o frame ≡ true → o ≡ Some (At frame)
+stands_at None frame e = cc
+stands_at (Some (At f)) frame e =
+    elim (eqb_tells frame f) [
+      | inl same ↦ ap (λ (g : ℕ). Some (At g))
+          (sym same.1)
+      | inr other ↦ (let bad : false ≡ true = sym other.0 ∙ e in cc)
+    ]
+stands_at (Some (Moving serial source target)) frame e = cc
+
+at_stands : (o : Option Placement) (frame : ℕ) → o ≡ Some (At frame) → stands_in o frame ≡ true
+at_stands o frame e = ap (λ (p : Option Placement). stands_in p frame) e ∙ eq-eqb frame frame refl
+
+pub at_takes : (o : Option Placement) (frame : ℕ) → o ≡ Some (At frame) → takes_up o frame ≡ true
+at_takes o frame e = ap (λ (p : Option Placement). takes_up p frame) e ∙ eq-eqb frame frame refl
+
+pub when_not : (b : Bool) → (b ≡ true → ⊥) → b ≡ false
+when_not true ne = absurd (ne refl)
+when_not false ne = refl
+
+pub holder_at : (v : ZoneState) → IsLawful v → (page frame : ℕ) → map.get v.placement page ≡ Some (At frame) →
+    holder v frame ≡ Some page
+holder_at v law page frame at =
+    lowest_is (λ q. stands_in (map.get v.placement q) frame) (frame_count v) page
+    (law.numbered page (not_none _ (At frame) at)) (at_stands _ frame at)
+    (λ q h. when_not _ (λ stands.
+    (let same = law.apart q page frame (at_takes _ frame (stands_at _ frame stands)) (at_takes _ frame at) in
+    omega arith)))
+
+pub holder_found : (v : ZoneState) (page frame : ℕ) → holder v frame ≡ Some page → map.get v.placement page ≡ Some (At frame)
+holder_found v page frame e = stands_at _ frame
+    (lowest_some (λ q. stands_in (map.get v.placement q) frame) (frame_count v) page e).1
+
+pub holder_none : (v : ZoneState) (frame : ℕ) → ((page : ℕ) → map.get v.placement page ≡ Some (At frame) → ⊥) →
+    holder v frame ≡ None
+holder_none v frame none = lowest_none (λ q. stands_in (map.get v.placement q) frame) (frame_count v)
+    (λ q h. when_not _ (λ stands. none q (stands_at _ frame stands)))

@@ -1,0 +1,13 @@
+pub mod Accessed
+pub mod Carried
+pub mod Entries
+pub mod Facts
+pub mod Finding
+pub mod Highest
+pub mod Holding
+pub mod Opened
+pub mod Pairing
+pub mod Placed
+pub mod Quiet
+pub mod Rounds
+pub mod Settled

@@ -1,0 +1,61 @@
+-- What is true of every zone, whatever calls were made.
+use Rattle.std.specs.Prelude.{◌≡◌, ℕ, ◌+◌, ◌*◌, ◌^◌, ◌<◌, ◌≤◌, ◌↔◌, Bool, true, false, length, nat_eq, Option, Some, None, is_some, IsSome, IsTrue}
+use Rattle.std.specs.FinMap as map
+use Rattle.std.specs.FinSet as set
+use Rattle.frame_core.specs.Below.{count_below}
+use Rattle.frame_core.specs.declared.place.Address.{Address}
+use Rattle.journal_core.specs.Blocks.{given_out, is_marked_by}
+use Rattle.journal_core.specs.History.{page_at, maps, pins}
+use Rattle.journal_core.specs.Moves.{out, is_out, page_of, IsWellEnded}
+use Rattle.journal_core.specs.Truth.{IsTruthful}
+use Rattle.state_core.specs.declared.placement.Placement.{Placement}
+use Rattle.state_core.specs.declared.placement.Placement.TheVariants.{At, Moving}
+use Rattle.state_core.specs.declared.round.RoundStart.{RoundStart}
+use Rattle.state_core.specs.ZoneState.{ZoneState, frame_count, takes_up, covers, is_free, is_held}
+
+-- whether a page that is placed so is on its way under a serial
+abbrev pub is_under : Option Placement → ℕ → Bool
+is_under None serial = false
+is_under (Some (At frame)) serial = false
+is_under (Some (Moving s source target)) serial = nat_eq s serial
+
+-- a block of this order, 3 to 9, whose first frame is a multiple of its frames, in a zone of so many frames
+pub record IsBlock (frames first order : ℕ) : Type 0 where
+  pub low : 3 ≤ order
+  pub high : order ≤ 9
+  pub aligned : (k : ℕ) × (first ≡ k * 2 ^ order)
+  pub within : first + 2 ^ order ≤ frames
+
+pub record IsLawful (z : ZoneState) : Type 0 where
+  -- a zone has 1 to 8 pageblocks, and its journal at most 65536 places
+  pub size : (0 < z.blocks) × (z.blocks ≤ 8)
+  pub places : length z.records + z.room ≤ 65536
+  -- each load gave the last value stored, and each page that was isolated is ended once at most
+  pub truthful : IsTruthful z.records
+  pub well_ended : IsWellEnded z.records
+  -- the journal has a place to end each page that is out
+  pub room_left : length (out z.records) ≤ z.room
+  -- an address names pages in use alone, and each of them has 1 to 4 addresses and at most 255 pins
+  pub named : (address : Address) (page : ℕ) → page_at z.records address ≡ Some page → IsSome (map.get z.placement page)
+  pub in_use : (page : ℕ) → IsSome (map.get z.placement page) → (0 < maps z.records page) × (maps z.records page ≤ 4) × (pins z.records page ≤ 255)
+  pub numbered : (page : ℕ) → IsSome (map.get z.placement page) → page < frame_count z
+  -- a page is on its way under just the serial that it is out with
+  pub under_way : (page serial : ℕ) → IsTrue (is_under (map.get z.placement page) serial) ↔ (IsTrue (is_out z.records serial) × (page_of z.records serial ≡ Some page))
+  -- and goes up
+  pub upward : (page serial source target : ℕ) → map.get z.placement page ≡ Some (Moving serial source target) → source < target
+  -- a frame is of one page at most, in the zone, and of no block that is handed out
+  pub apart : (p q frame : ℕ) → takes_up (map.get z.placement p) frame ≡ true → takes_up (map.get z.placement q) frame ≡ true → p ≡ q
+  pub within : (page frame : ℕ) → takes_up (map.get z.placement page) frame ≡ true → frame < frame_count z
+  pub clear : (page frame : ℕ) → takes_up (map.get z.placement page) frame ≡ true → is_held z frame ≡ false
+  -- the blocks that are handed out are blocks of the zone, and no two overlap
+  pub blocks : (first order : ℕ) → map.get z.handed_out first ≡ Some order → IsBlock (frame_count z) first order
+  pub disjoint : (a b frame : ℕ) → covers (map.get z.handed_out a) a frame ≡ true → covers (map.get z.handed_out b) b frame ≡ true → a ≡ b
+  -- the blocks handed out and the marks are those that the journal tells of, and a page that can't be moved is in use
+  pub given : (first : ℕ) → map.get z.handed_out first ≡ given_out z.records first
+  pub marks : (block : ℕ) → set.contains z.marked block ≡ is_marked_by z.records block
+  pub unmovable : (page : ℕ) → set.contains z.unmovable page ≡ true → IsSome (map.get z.placement page)
+  -- the fingers stand in the zone, in order, and the latest round began with records that are still there
+  pub fingers : (z.migrate ≤ z.free) × (z.free ≤ frame_count z)
+  pub begun : (start : RoundStart) → z.round ≡ Some start → start.records ≤ length z.records
+  -- each frame is free, of a page, or of a block that is handed out; a page on its way has two
+  pub sum : count_below (is_free z) (frame_count z) + count_below (λ page. is_some (map.get z.placement page)) (frame_count z) + length (out z.records) + count_below (is_held z) (frame_count z) ≡ frame_count z

@@ -1,0 +1,115 @@
+-- How the tables of a zone stand for its state.
+use Rattle.std.specs.Prelude.{◌≡◌, ℕ, ◌+◌, ◌<◌, ◌≤◌, true, false, List, length, nat_eq, if◌then◌else◌, Option, Some, None, ◌-◌, ◌*◌, ◌^◌, Bool, not, ◌&&◌, ◌||◌, ◌∷◌, take, nat_lt, nat_le, is_none}
+use Rattle.std.specs.FinMap as map
+use Rattle.frame_core.specs.declared.place.Address.{Address}
+use Rattle.journal_core.specs.Moves.{out}
+use Rattle.state_core.specs.declared.placement.Placement.{Placement}
+use Rattle.state_core.specs.declared.placement.Placement.TheVariants.{At, Moving}
+use Rattle.std.specs.List.{list_all}
+use Rattle.std.specs.Option.{option_and_then}
+use Rattle.std.specs.Ordering.{nat_cmp}
+use Rattle.std.specs.FinSet as set
+use Rattle.frame_core.specs.Below.{lowest, some_below, count_from}
+use Rattle.journal_core.specs.declared.record.Record.{Record}
+use Rattle.journal_core.specs.declared.record.Record.TheVariants.{Load, Store, Isolate, Moved}
+use Rattle.journal_core.specs.History.{page_at}
+use Rattle.state_core.specs.declared.round.RoundStart.{RoundStart}
+
+pub record ZoneState : Type 0 where
+  pub number : ℕ
+  pub blocks : ℕ
+  -- the journal, the newest record first
+  pub records : List Record
+  -- the places that it has left
+  pub room : ℕ
+  -- the pages in use that were mapped so
+  pub unmovable : set.FinSet nat_cmp
+  -- the marked pageblocks
+  pub marked : set.FinSet nat_cmp
+  -- the order of each block that is handed out, by its first frame
+  pub handed_out : map.FinMap nat_cmp ℕ
+  -- where each page in use is
+  pub placement : map.FinMap nat_cmp Placement
+  -- the fingers of the two scanners
+  pub migrate : ℕ
+  pub free : ℕ
+  -- how the latest round began, if there was one
+  pub round : Option RoundStart
+
+-- a pageblock has 512 frames
+abbrev pub frame_count : ZoneState → ℕ
+frame_count z = 512 * z.blocks
+
+-- whether a page that is placed so takes up a frame
+abbrev pub takes_up : Option Placement → ℕ → Bool
+takes_up None frame = false
+takes_up (Some (At f)) frame = nat_eq frame f
+takes_up (Some (Moving serial source target)) frame = nat_eq frame source || nat_eq frame target
+
+-- the frame with the words of a page
+abbrev pub words_frame : Placement → ℕ
+words_frame (At frame) = frame
+words_frame (Moving serial source target) = source
+
+-- whether a frame is of the block of this order, if there is one, at this first frame
+abbrev pub covers : Option ℕ → ℕ → ℕ → Bool
+covers None first frame = false
+covers (Some order) first frame = nat_le first frame && nat_lt frame (first + 2 ^ order)
+
+-- whether a page takes a frame up; the numbers of pages are below the number of frames
+abbrev pub is_used : ZoneState → ℕ → Bool
+is_used z frame = some_below (λ page. takes_up (map.get z.placement page) frame) (frame_count z)
+
+-- whether a frame is of a block that is handed out
+abbrev pub is_held : ZoneState → ℕ → Bool
+is_held z frame = some_below (λ first. covers (map.get z.handed_out first) first frame) (frame_count z)
+
+abbrev pub is_free : ZoneState → ℕ → Bool
+is_free z frame = not (is_used z frame) && not (is_held z frame)
+
+-- how many of the 512 frames of a pageblock are free
+abbrev pub free_in_block : ZoneState → ℕ → ℕ
+free_in_block z block = count_from (is_free z) (512 * block) 512
+
+-- whether all of them are
+abbrev pub is_whole : ZoneState → ℕ → Bool
+is_whole z block = nat_eq (free_in_block z block) 512
+
+abbrev pub lowest_free_frame : ZoneState → Option ℕ
+lowest_free_frame z = lowest (is_free z) (frame_count z)
+
+-- the lowest page number that isn't in use
+abbrev pub lowest_unused_page : ZoneState → Option ℕ
+lowest_unused_page z = lowest (λ page. is_none (map.get z.placement page)) (frame_count z)
+
+-- the journal has a place for a call, besides those that end the pages that are out
+abbrev pub has_room : ZoneState → Bool
+has_room z = nat_lt (length (out z.records)) z.room
+
+-- where the page is that an address names
+abbrev pub placement_at : ZoneState → Address → Option Placement
+placement_at z address = option_and_then (map.get z.placement) (page_at z.records address)
+
+-- one more record
+abbrev pub noted : ZoneState → Record → ZoneState
+noted z entry = record z { records = entry ∷ z.records; room = z.room - 1 }
+
+-- whether a call leaves a round quiet
+abbrev pub keeps_quiet : Record → Bool
+keeps_quiet (Load client address word value) = true
+keeps_quiet (Store client address word value) = true
+keeps_quiet (Isolate serial page) = true
+keeps_quiet (Moved serial) = true
+keeps_quiet _ = false
+
+-- the records behind the first n
+abbrev pub since : ℕ → List Record → List Record
+since n records = take (length records - n) records
+
+abbrev pub is_quiet_since : List Record → Option RoundStart → Bool
+is_quiet_since records None = false
+is_quiet_since records (Some start) = start.calm && list_all keeps_quiet (since start.records records)
+
+-- the latest round began calm, and only such calls were made since then
+abbrev pub is_quiet : ZoneState → Bool
+is_quiet z = is_quiet_since z.records z.round

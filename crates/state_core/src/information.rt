@@ -1,0 +1,46 @@
+use frame_core::{FrameNo, PageFlags, Serial};
+
+/// The counts of a zone. Free frames, pages, moving pages and held frames together are the frames of the zone.
+#[derive(Clone, Copy, Debug, PartialEq, Eq)]
+pub struct Info {
+    /// Free frames.
+    pub free: u32,
+    /// Pages in use, those on their way too.
+    pub pages: u32,
+    /// Pages on their way.
+    pub moving: u32,
+    /// Blocks that are handed out.
+    pub huge: u32,
+    /// Pageblocks whose 512 frames are all free.
+    pub whole: u32,
+    /// Frames of the blocks that are handed out.
+    pub held: u32,
+}
+
+/// What is known of the page that an address names.
+#[derive(Clone, Copy, Debug, PartialEq, Eq)]
+pub enum Look {
+    /// It stands in this frame.
+    At {
+        frame: FrameNo,
+        flags: PageFlags,
+        /// 0 to 255.
+        pins: u8,
+        /// How many addresses name it, 1 to 4.
+        maps: u8,
+    },
+    /// It is on its way under this serial.
+    Moving {
+        serial: Serial,
+        pins: u8,
+        maps: u8,
+    },
+}
+
+/// What a zone and its seats agree on when no page is on its way: each page that was isolated was moved or put back.
+#[derive(Clone, Copy, Debug, PartialEq, Eq)]
+pub struct Audit {
+    pub isolated: u32,
+    pub moved: u32,
+    pub back: u32,
+}

@@ -1,0 +1,26 @@
+use thiserror::Error;
+use word_core::Isolated;
+
+/// What the scanner found.
+#[derive(Drop, Debug)]
+pub enum Next {
+    /// A page, which is on its way from here on.
+    Page(Isolated),
+    /// The fingers met: there is no page left that has a frame to go to.
+    Met,
+}
+
+/// How the move of a page ended.
+#[derive(Clone, Copy, Debug, PartialEq, Eq)]
+pub enum Ended {
+    /// The page stands in its new frame.
+    Moved,
+    /// The page had a pin, and stands in its old frame.
+    Back,
+}
+
+/// A page that isn't on its way in the zone that it was brought to, or a copy without the words of its page. It is handed
+/// back as it came.
+#[derive(Drop, Debug, Error)]
+#[error("the page is not on its way in this zone")]
+pub struct Stranger<P>(pub P);
