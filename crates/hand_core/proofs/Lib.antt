@@ -1,6 +1,6 @@
+pub mod CopySteps
+pub mod EachEnd
 pub mod Messages
-pub mod Numbered
+pub mod PageSteps
 pub mod Serials
-pub mod Shared
-pub mod Steps
-pub mod Turned
+pub mod Totals

@@ -1,19 +1,20 @@
 -- The messages of one sender among all.
 use Rattle.std.proofs.Common.{◌≡◌, ◌≢◌, ℕ, zero, suc, ◌+◌, ◌<◌, Bool, true, false, List, [], ◌∷◌, ◌++◌, map, sym, refl, ap, ◌∙◌, ◌≤◌, append-nil, arith, cond}
 use Rattle.std.specs.Prelude.{◌==◌, ◌||◌, ◌&&◌, take}
-use Rattle.std.specs.List.{list_all}
+use Rattle.std.specs.List.{list_all, range_with_len}
 use Rattle.std.proofs.lemmas.Bool.{eq-eqb, ne_eqb}
 use Rattle.std.proofs.lemmas.List.Elements.{filter-append}
 use Rattle.std.proofs.lemmas.List.{map-append}
 use Rattle.std.proofs.lemmas.Grind.{flat_map-append}
+use Rattle.std.proofs.lemmas.List.FromFn.{length-range_with_len, get_or-range_with_len}
+use Rattle.std.proofs.lemmas.List.Sums.{AllPass-from_list_all}
 use Rattle.word_core.specs.Page.{OnItsWay}
-use Rattle.hand_core.specs.declared.turns.Message.{Message}
-use Rattle.hand_core.specs.declared.turns.Message.TheVariants.{Copy, Mark}
-use Rattle.hand_core.specs.declared.turns.Account.{Account}
-use Rattle.hand_core.specs.Turns.{sender_of, messages_of, all_sent}
-use Rattle.hand_core.specs.DoneEnds.{is_mark_of, has_mark, copies_in_one, copies_in, copies_of}
-use Rattle.hand_core.specs.Pages.{numbers_from}
-use Rattle.hand_core.specs.Receiving.{marks_of_four}
+use Rattle.hand_core.specs.declared.copy_queue.Message.{Message}
+use Rattle.hand_core.specs.declared.copy_queue.Message.TheVariants.{Copy, Mark}
+use Rattle.hand_core.specs.declared.copy_queue.Account.{Account}
+use Rattle.hand_core.specs.CopyQueue.{sender_of, messages_of, all_sent}
+use Rattle.hand_core.specs.CopyEnds.{is_mark_of, has_mark, copies_in_one, copies_in, copies_of}
+use Rattle.hand_core.specs.CopyInvariants.{marks_of_four}
 
 pub messages-append : (sender : ℕ) (xs ys : List Message) → messages_of sender (xs ++ ys) ≡ messages_of sender xs ++ messages_of sender ys
 messages-append sender xs ys = filter-append (λ (m : Message). sender_of m == sender) xs ys
@@ -75,7 +76,7 @@ all_marks-copy other copy came (sender ∷ senders) = and_both (marks-copy sende
     and_both {a} {b} {c} {d} e f = ap (λ x. x && c) e ∙ ap (λ x. b && x) f
 
 -- the marks of the first senders among four
-pub marks_of_first : (came : List Message) (senders : ℕ) → senders ≤ 4 → list_all (λ (m : Bool). m) (take senders (marks_of_four came)) ≡ list_all (has_mark came) (numbers_from 0 senders)
+pub marks_of_first : (came : List Message) (senders : ℕ) → senders ≤ 4 → list_all (λ (m : Bool). m) (take senders (marks_of_four came)) ≡ list_all (has_mark came) (range_with_len 0 senders)
 marks_of_first came zero few = refl
 marks_of_first came (suc zero) few = refl
 marks_of_first came (suc (suc zero)) few = refl
@@ -123,6 +124,30 @@ up_to_mark sender (c ∷ sent) marked (x ∷ came) queue is has =
     let has_rest : has_mark came sender ≡ true = ap (λ m. is_mark_of sender m || has_mark came sender) (sym first) ∙ has in
     ap (λ m. copies_in_one m ++ copies_in came) first ∙ ap (λ l. c ∷ l) (up_to_mark sender sent marked came queue rest has_rest)
 
+nil_back : (xs ys : List Message) → xs ++ ys ≡ [] → ys ≡ []
+nil_back [] ys e = e
+nil_back (x ∷ xs) ys e = absurd (cc)
+
+-- behind the mark there is nothing
+behind_mark : (sender : ℕ) (sent : List OnItsWay) (marked : Bool) (came queue : List Message)
+    → came ++ queue ≡ map (Copy sender) sent ++ cond marked (Mark sender ∷ []) [] → has_mark came sender ≡ true → queue ≡ []
+behind_mark sender [] true [] queue is has = absurd (cc)
+behind_mark sender [] false [] queue is has = absurd (cc)
+behind_mark sender [] false (x ∷ came) queue is has = absurd (cc)
+behind_mark sender [] true (x ∷ came) queue is has = nil_back came queue (cc)
+behind_mark sender (c ∷ sent) marked [] queue is has = absurd (cc)
+behind_mark sender (c ∷ sent) marked (x ∷ came) queue is has =
+    let first : x ≡ Copy sender c = cc in
+    let rest : came ++ queue ≡ map (Copy sender) sent ++ cond marked (Mark sender ∷ []) [] = cc in
+    behind_mark sender sent marked came queue rest (ap (λ m. is_mark_of sender m || has_mark came sender) (sym first) ∙ has)
+
+-- once a sender's mark came off, nothing that it sent is left
+pub none_left : (v : Account) (came queue : List Message) → messages_of v.sender (came ++ queue) ≡ all_sent v → has_mark came v.sender ≡ true → messages_of v.sender queue ≡ []
+none_left v came queue is has =
+    behind_mark v.sender v.sent v.marked (messages_of v.sender came) (messages_of v.sender queue)
+    (sym (messages-append v.sender came queue) ∙ is)
+    (mark_kept v.sender came ∙ has)
+
 -- once a sender's mark came off, so did all its copies
 pub all_came : (v : Account) (came queue : List Message) → messages_of v.sender (came ++ queue) ≡ all_sent v → has_mark came v.sender ≡ true → copies_of v.sender came ≡ v.sent
 all_came v came queue is has =
@@ -131,17 +156,7 @@ all_came v came queue is has =
     (mark_kept v.sender came ∙ has)
 
 -- each of the first numbers passes
-pub each_passes : (test : ℕ → Bool) (first count k : ℕ) → list_all test (numbers_from first count) ≡ true → k < count → test (first + k) ≡ true
-each_passes test first zero k all low = absurd (omega arith)
-each_passes test first (suc count) zero all low = ap test (let e : first + 0 ≡ first = omega arith in e) ∙ both_left (test first) (list_all test (numbers_from (first + 1) count)) all
-  where
-    both_left : (a b : Bool) → (a && b) ≡ true → a ≡ true
-    both_left true b e = refl
-    both_left false b e = e
-each_passes test first (suc count) (suc k) all low =
-    ap test (let e : first + suc k ≡ first + 1 + k = omega arith in e)
-    ∙ each_passes test (first + 1) count k (both_right (test first) (list_all test (numbers_from (first + 1) count)) all) (omega arith)
-  where
-    both_right : (a b : Bool) → (a && b) ≡ true → b ≡ true
-    both_right true b e = e
-    both_right false b e = absurd (cc)
+pub each_passes : (test : ℕ → Bool) (first count k : ℕ) → list_all test (range_with_len first count) ≡ true → k < count → test (first + k) ≡ true
+each_passes test first count k all low =
+    ap test (sym (get_or-range_with_len first count k 0 low))
+    ∙ AllPass-from_list_all test (range_with_len first count) all k 0 (let e = length-range_with_len first count in omega arith)

@@ -1,20 +1,21 @@
 -- Serials that follow one another, and lists that rise.
-use Rattle.std.proofs.Common.{◌≡◌, ℕ, zero, suc, ◌+◌, ◌-◌, ◌<◌, ◌≤◌, List, [], ◌∷◌, ◌++◌, length, get_or, All, sym, ap, ◌∙◌, subst, refl, arith, length-append, ⊎_elim}
+use Rattle.std.proofs.Common.{◌≡◌, ℕ, zero, suc, ◌+◌, ◌<◌, ◌≤◌, List, [], ◌∷◌, ◌++◌, length, get_or, All, sym, ap, ◌∙◌, subst, refl, arith, length-append, ⊎_elim}
 use Rattle.std.proofs.lemmas.Bool.{cases_lt}
 use Rattle.std.proofs.lemmas.List.{map-append}
 use Rattle.std.proofs.Math.ListN.{get_or-append}
-use Rattle.std.proofs.Math.Seq.{get_or-append_seam, get_or-append_right}
+use Rattle.std.proofs.Math.Seq.{get_or-append_seam, take-append_seam, drop-append_seam}
+use Rattle.std.specs.List.{range_with_len}
 use Rattle.std.specs.List.Sorted.{IsStrictlyIncreasing}
-use Rattle.std.proofs.lemmas.List.Elements.{All-map}
+use Rattle.std.proofs.lemmas.List.Elements.{All-map, All-take, All-drop}
 use Rattle.word_core.specs.Page.{OnItsWay}
-use Rattle.hand_core.specs.Pages.{serials_of, numbers_from, HasSerialsFrom, IsRising}
+use Rattle.word_core.specs.Serials.{serials_of, HasSerialsFrom, IsRising}
 
 -- one number more
-numbers_from-suc : (first count : ℕ) → numbers_from first (suc count) ≡ numbers_from first count ++ (first + count) ∷ []
-numbers_from-suc first zero = ap (λ n. n ∷ []) (let e : first ≡ first + 0 = omega arith in e)
-numbers_from-suc first (suc count) =
-    ap (λ l. first ∷ l) (numbers_from-suc (first + 1) count)
-    ∙ ap (λ n. first ∷ (numbers_from (first + 1) count ++ n ∷ [])) (let e : first + 1 + count ≡ first + suc count = omega arith in e)
+range_with_len-suc : (first count : ℕ) → range_with_len first (suc count) ≡ range_with_len first count ++ (first + count) ∷ []
+range_with_len-suc first zero = ap (λ n. n ∷ []) (let e : first ≡ first + 0 = omega arith in e)
+range_with_len-suc first (suc count) =
+    ap (λ l. first ∷ l) (range_with_len-suc (first + 1) count)
+    ∙ ap (λ n. first ∷ (range_with_len (first + 1) count ++ n ∷ [])) (let e : first + 1 + count ≡ first + suc count = omega arith in e)
 
 tail_of : (a b : ℕ) (xs ys : List ℕ) → a ∷ xs ≡ b ∷ ys → xs ≡ ys
 tail_of a b xs ys e = cc
@@ -28,43 +29,37 @@ serials-snoc first pages p h next =
     let longer : length (pages ++ p ∷ []) ≡ suc (length pages) = let e = length-append pages (p ∷ []) in omega arith in
     map-append (λ (q : OnItsWay). q.serial) pages (p ∷ [])
     ∙ ap (λ l. l ++ p.serial ∷ []) h
-    ∙ ap (λ n. numbers_from first (length pages) ++ n ∷ []) next
-    ∙ sym (numbers_from-suc first (length pages))
-    ∙ ap (λ n. numbers_from first n) (sym longer)
+    ∙ ap (λ n. range_with_len first (length pages) ++ n ∷ []) next
+    ∙ sym (range_with_len-suc first (length pages))
+    ∙ ap (λ n. range_with_len first n) (sym longer)
 
 -- the pages in front
 pub serials_front : (first : ℕ) (pages rest : List OnItsWay) → HasSerialsFrom first (pages ++ rest) → HasSerialsFrom first pages
 serials_front first [] rest h = refl
 serials_front first (p ∷ pages) rest h =
-    let inner = serials_front (first + 1) pages rest (tail_of p.serial first (serials_of (pages ++ rest)) (numbers_from (first + 1) (length (pages ++ rest))) h) in
-    let same : p.serial ≡ first = head_of p.serial first (serials_of (pages ++ rest)) (numbers_from (first + 1) (length (pages ++ rest))) h in
-    ap (λ l. p.serial ∷ l) inner ∙ ap (λ n. n ∷ numbers_from (first + 1) (length pages)) same
+    let inner = serials_front (first + 1) pages rest (tail_of p.serial first (serials_of (pages ++ rest)) (range_with_len (first + 1) (length (pages ++ rest))) h) in
+    let same : p.serial ≡ first = head_of p.serial first (serials_of (pages ++ rest)) (range_with_len (first + 1) (length (pages ++ rest))) h in
+    ap (λ l. p.serial ∷ l) inner ∙ ap (λ n. n ∷ range_with_len (first + 1) (length pages)) same
 
 -- the page behind them
 pub serial_at : (first : ℕ) (pages : List OnItsWay) (p : OnItsWay) (rest : List OnItsWay) → HasSerialsFrom first (pages ++ p ∷ rest) → p.serial ≡ first + length pages
-serial_at first [] p rest h = let e = head_of p.serial first (serials_of rest) (numbers_from (first + 1) (length rest)) h in omega arith
+serial_at first [] p rest h = let e = head_of p.serial first (serials_of rest) (range_with_len (first + 1) (length rest)) h in omega arith
 serial_at first (q ∷ pages) p rest h =
-    let e = serial_at (first + 1) pages p rest (tail_of q.serial first (serials_of (pages ++ p ∷ rest)) (numbers_from (first + 1) (length (pages ++ p ∷ rest))) h) in omega arith
+    let e = serial_at (first + 1) pages p rest (tail_of q.serial first (serials_of (pages ++ p ∷ rest)) (range_with_len (first + 1) (length (pages ++ p ∷ rest))) h) in omega arith
 
 -- no page has a serial that a later one will have
 pub serials_below : (first : ℕ) (pages : List OnItsWay) → HasSerialsFrom first pages → All (λ (q : OnItsWay). q.serial < first + length pages) pages
 serials_below first [] h k d lt = absurd (omega arith)
 serials_below first (p ∷ pages) h zero d lt =
-    let e = head_of p.serial first (serials_of pages) (numbers_from (first + 1) (length pages)) h in omega arith
+    let e = head_of p.serial first (serials_of pages) (range_with_len (first + 1) (length pages)) h in omega arith
 serials_below first (p ∷ pages) h (suc k) d lt =
-    let e = serials_below (first + 1) pages (tail_of p.serial first (serials_of pages) (numbers_from (first + 1) (length pages)) h) k d (omega arith) in omega arith
+    let e = serials_below (first + 1) pages (tail_of p.serial first (serials_of pages) (range_with_len (first + 1) (length pages)) h) k d (omega arith) in omega arith
 
 pub all_front : {A : Type 0} (P : A → Type 0) (xs ys : List A) → All P (xs ++ ys) → All P xs
-all_front P xs ys h k d lt = let e = length-append xs ys in subst P (get_or-append xs ys d k lt) (h k d (omega arith))
+all_front P xs ys h = subst (All P) (take-append_seam xs ys) (All-take P (length xs) (xs ++ ys) h)
 
 pub all_back : {A : Type 0} (P : A → Type 0) (xs ys : List A) → All P (xs ++ ys) → All P ys
-all_back P xs ys h k d lt =
-    let e = length-append xs ys in
-    let at : get_or (xs ++ ys) (length xs + k) d ≡ get_or ys (length xs + k - length xs) d = get_or-append_right xs ys (length xs + k) d (omega arith) in
-    let back : length xs + k - length xs ≡ k = omega arith in subst P (at ∙ ap (λ n. get_or ys n d) back) (h (length xs + k) d (omega arith))
-
-pub all_last : {A : Type 0} (P : A → Type 0) (xs : List A) (y : A) → All P (xs ++ y ∷ []) → P y
-all_last P xs y h = let e = length-append xs (y ∷ []) in subst P (get_or-append_seam xs y [] y) (h (length xs) y (omega arith))
+all_back P xs ys h = subst (All P) (drop-append_seam xs ys) (All-drop P (length xs) (xs ++ ys) h)
 
 -- a number above all others at the end
 increasing-snoc : (xs : List ℕ) (y : ℕ) → IsStrictlyIncreasing xs → All (λ x. x < y) xs → IsStrictlyIncreasing (xs ++ y ∷ [])

@@ -1,9 +1,9 @@
 ghost use Rattle.std.specs.Prelude.{◌≡◌, ◌<◌, ◌≤◌, ◌↔◌, ℕ, false, [], IfOk, vec_len, slice_get, Some};
 
+use crate::copy_queue::{Account, Makes, Message, Turns};
 use crate::done_sender::DoneSender;
 use crate::done_taker::DoneTaker;
 use crate::error::HandError;
-use crate::turns::{Account, Makes, Message, Turns};
 use crossbeam_channel::bounded_with;
 use std::alloc::Global;
 
@@ -15,7 +15,7 @@ pub fn done_open<R>(
     cap: usize,
 ) -> Result<(Vec<DoneSender>, DoneTaker), HandError>
     ensures range { (result ≡ Err HandError.Range) ↔ (¬ ((0 < senders) × (senders ≤ 4) × (0 < cap) × (cap ≤ 64))) }
-    ensures taker { IfOk result (λ ends. ends.1 ≡ record { way = ends.1.way; senders = senders; came = [] }) }
+    ensures taker { IfOk result (λ ends. ends.1 ≡ record { way = ends.1.way; room = cap; senders = senders; came = [] }) }
     ensures senders { IfOk result (λ ends. vec_len ends.0 ≡ senders) }
     ensures fresh { IfOk result (λ ends. (number : ℕ) → number < senders → slice_get ends.0.items number ≡ Some (record { way = ends.1.way; number = number; sent = []; marked = false; closed = false })) }
 {

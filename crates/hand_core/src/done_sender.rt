@@ -1,5 +1,5 @@
+use crate::copy_queue::{Account, Message, Sends, Turns};
 use crate::error::Gone;
-use crate::turns::{Account, Message, Sends, Turns};
 use crossbeam_channel::{Pass, RuledSender, SendError};
 use std::alloc::Global;
 use std::marker::Model;
@@ -18,13 +18,14 @@ pub struct DoneSender {
 impl Model for DoneSender {
     ghost use Rattle.crossbeam_channel.specs.Claims.{view as knows};
     ghost use Rattle.crossbeam_channel.specs.Ends.{sends_on};
-    ghost use Rattle.hand_core.specs.DoneEnds.{DoneSender as Seen, way_of};
+    ghost use Rattle.hand_core.specs.CopyEnds.{DoneSender as Seen};
+    ghost use Rattle.hand_core.specs.Queue.{name_of};
 
     ghost Value = { Seen };
 
-    ghost use Rattle.hand_core.specs.Sending.{IsSending};
+    ghost use Rattle.hand_core.specs.CopyInvariants.{IsSending};
 
-    ghost view = { λ s. record { way = way_of (sends_on s.to); number = s.number; sent = (knows s.pass).sent; marked = (knows s.pass).marked; closed = s.closed } };
+    ghost view = { λ s. record { way = name_of (sends_on s.to); number = s.number; sent = (knows s.pass).sent; marked = (knows s.pass).marked; closed = s.closed } };
 
     ghost invariant = { IsSending };
 }

@@ -1,15 +1,16 @@
-ghost use Rattle.std.specs.Prelude.{◌≡◌, true, All};
-ghost use Rattle.hand_core.specs.DoneEnds.{copies_of, has_ended};
+ghost use Rattle.std.specs.Prelude.{◌≡◌, true, [], All};
+ghost use Rattle.hand_core.specs.CopyEnds.{copies_of, has_ended, queue_between};
 
+use crate::copy_queue::{Folds, Whole};
 use crate::done_sender::DoneSender;
 use crate::done_taker::DoneTaker;
-use crate::turns::{Folds, Whole};
 
-/// Once the taker had its end, what came off of each sender is all that it sent, in its order.
+/// Once the taker had its end, what came off of each sender is all that it sent, in its order, and the queue holds nothing of it.
 pub fn done_settle(taker: DoneTaker, mut senders: Vec<DoneSender>)
     requires way { All (λ s. s.way ≡ taker.way) senders.items }
     requires ended { has_ended taker ≡ true }
-    ensures { All (λ s. copies_of s.number taker.came ≡ s.sent) senders.items }
+    ensures copies { All (λ s. copies_of s.number taker.came ≡ s.sent) senders.items }
+    ensures empty { All (λ s. queue_between s taker ≡ []) senders.items }
 {
     let DoneTaker { mut pass, .. } = taker;
     while let Some(sender) = senders.pop() {

@@ -1,7 +1,7 @@
 ghost use Rattle.std.specs.Prelude.{◌≡◌};
 ghost use Rattle.std.specs.List.{list_all};
 
-use crate::turns::{Account, Message, Receives, Turns};
+use crate::copy_queue::{Account, Message, Receives, Turns};
 use crossbeam_channel::{Pass, RuledReceiver};
 use std::alloc::Global;
 use std::marker::Model;
@@ -19,14 +19,15 @@ pub struct DoneTaker {
 
 impl Model for DoneTaker {
     ghost use Rattle.crossbeam_channel.specs.Claims.{view as knows};
-    ghost use Rattle.crossbeam_channel.specs.Ends.{receives_on};
-    ghost use Rattle.hand_core.specs.DoneEnds.{DoneTaker as Seen, way_of};
+    ghost use Rattle.crossbeam_channel.specs.Ends.{receives_on, ruled_capacity};
+    ghost use Rattle.hand_core.specs.CopyEnds.{DoneTaker as Seen};
+    ghost use Rattle.hand_core.specs.Queue.{name_of};
 
     ghost Value = { Seen };
 
-    ghost use Rattle.hand_core.specs.Receiving.{IsReceiving};
+    ghost use Rattle.hand_core.specs.CopyInvariants.{IsReceiving};
 
-    ghost view = { λ t. record { way = way_of (receives_on t.from); senders = t.senders; came = (knows t.pass).came } };
+    ghost view = { λ t. record { way = name_of (receives_on t.from); room = ruled_capacity (receives_on t.from); senders = t.senders; came = (knows t.pass).came } };
 
     ghost invariant = { IsReceiving };
 }
@@ -41,8 +42,7 @@ pub enum Came {
 
 impl DoneTaker {
     ghost use Rattle.std.specs.Prelude.{◌≡◌, ◌++◌, ◌∷◌, [], false, IfOk, OnErr};
-    ghost use Rattle.hand_core.specs.DoneEnds.{copies_in, has_ended};
-    ghost use Rattle.hand_core.specs.Came.{copy_answered, IsEndInTime};
+    ghost use Rattle.hand_core.specs.CopyEnds.{copies_in, has_ended, copy_answered, IsEndInTime};
 
     /// Takes the next copy, and waits for it. The end is answered once the mark of every sender came off.
     pub fn take<R: Wait>(&mut self, rt: &R) -> Came

@@ -1,5 +1,5 @@
 use crate::error::Gone;
-use crate::order::{Known, Note, Ordered, Puts};
+use crate::page_queue::{Known, Note, Ordered, Puts};
 use crossbeam_channel::{Pass, RuledSender, SendError};
 use frame_core::Serial;
 use std::alloc::Global;
@@ -11,7 +11,8 @@ use word_core::Isolated;
 #[derive(Drop)]
 pub struct Giver {
     pub(crate) base: Serial,
-    pub(crate) count: u32,
+    // The serial of the next page. There is none where it is 2^32.
+    pub(crate) next: u64,
     pub(crate) takers: usize,
     pub(crate) marks: usize,
     pub(crate) closed: bool,
@@ -21,38 +22,34 @@ pub struct Giver {
 
 impl Model for Giver {
     ghost use Rattle.crossbeam_channel.specs.Claims.{view as knows};
-    ghost use Rattle.crossbeam_channel.specs.Ends.{sends_on};
-    ghost use Rattle.hand_core.specs.Ends.{Giver as Seen, hand_over_of};
+    ghost use Rattle.crossbeam_channel.specs.Ends.{sends_on, ruled_capacity};
+    ghost use Rattle.hand_core.specs.PageEnds.{Giver as Seen};
+    ghost use Rattle.hand_core.specs.Queue.{name_of};
 
     ghost Value = { Seen };
 
-    ghost use Rattle.hand_core.specs.Giving.{IsGiving};
+    ghost use Rattle.hand_core.specs.PageInvariants.{IsGiving};
 
-    ghost view = { λ g. record { hand_over = hand_over_of (sends_on g.to); takers = g.takers; base = g.base; given = (knows g.pass).given; marks = (knows g.pass).marks; closed = g.closed } };
+    ghost view = { λ g. record { hand_over = name_of (sends_on g.to); room = ruled_capacity (sends_on g.to); takers = g.takers; base = g.base; given = (knows g.pass).given; marks = (knows g.pass).marks; closed = g.closed } };
 
     ghost invariant = { IsGiving };
 }
 
 impl Giver {
-    ghost use Rattle.std.specs.Prelude.{◌≡◌, ◌+◌, ◌<◌, ◌^◌, ◌++◌, ◌∷◌, [], true, false, length, OnOk, OnErr, IfErr};
+    ghost use Rattle.std.specs.Prelude.{◌≡◌, ◌+◌, ◌<◌, ◌++◌, ◌∷◌, [], true, false, length, OnOk, OnErr, IfErr};
 
     /// Puts the page at the back. Where every taker is gone it hands the page back.
     pub fn give<R: Wait>(&mut self, rt: &R, page: Isolated) -> Result<(), Isolated>
         requires open { self.old.closed ≡ false }
         requires next { page.serial ≡ self.old.base + length self.old.given }
-        requires room { page.serial + 1 < 2 ^ 32 }
         ensures ok { OnOk result (self.new ≡ record self.old { given = self.old.given ++ page ∷ [] }) }
         ensures back { IfErr result (λ handed_back. handed_back ≡ page) }
         ensures err { OnErr result (self.new ≡ self.old) }
     {
-        let Giver {
-            count,
-            to,
-            pass,
-            ..
-        } = self;
+        let Giver { next, to, pass, .. } = self;
+        let behind = u64::from(page.serial()) + 1;
         let Err(refused) = to.send_as::<Puts, R>(rt, pass, Note::Page(page)) else {
-            *count += 1;
+            *next = behind;
             return Ok(());
         };
         let SendError::Disconnected(Note::Page(page)) = refused else {

@@ -3,6 +3,7 @@
 //! Contracts see each end as what it gave or took, in its order, under the name of its queue.
 #![tactic(auto)]
 
+mod copy_queue;
 mod done_opening;
 mod done_sender;
 mod done_settling;
@@ -10,12 +11,11 @@ mod done_taker;
 mod error;
 mod giver;
 mod opening;
-mod order;
+mod page_queue;
 mod settling;
 mod taker;
 #[cfg(test)]
 mod tests;
-mod turns;
 
 pub use done_opening::done_open;
 pub use done_sender::DoneSender;

@@ -2,7 +2,7 @@ ghost use Rattle.std.specs.Prelude.{◌≡◌, ◌<◌, ◌≤◌, ◌↔◌, fa
 
 use crate::error::HandError;
 use crate::giver::Giver;
-use crate::order::{Known, Note, Ordered, Shares};
+use crate::page_queue::{Known, Note, Ordered, Shares};
 use crate::taker::Taker;
 use crossbeam_channel::bounded_with;
 use frame_core::Serial;
@@ -20,7 +20,7 @@ pub fn open<R>(
     cap: usize,
 ) -> Result<(Giver, Takers), HandError>
     ensures range { (result ≡ Err HandError.Range) ↔ (¬ ((0 < takers) × (takers ≤ 4) × (0 < cap) × (cap ≤ 64))) }
-    ensures giver { IfOk result (λ ends. ends.0 ≡ record { hand_over = ends.0.hand_over; takers = takers; base = base; given = []; marks = 0; closed = false }) }
+    ensures giver { IfOk result (λ ends. ends.0 ≡ record { hand_over = ends.0.hand_over; room = cap; takers = takers; base = base; given = []; marks = 0; closed = false }) }
     ensures takers { IfOk result (λ ends. vec_len ends.1 ≡ takers) }
     ensures fresh { IfOk result (λ ends. All (λ t. t ≡ record { hand_over = ends.0.hand_over; taken = []; ended = false }) ends.1.items) }
 {
@@ -46,7 +46,7 @@ pub fn open<R>(
     }
     let giver = Giver {
         base,
-        count: 0,
+        next: u64::from(base),
         takers,
         marks: 0,
         closed: false,

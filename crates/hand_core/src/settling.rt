@@ -1,11 +1,12 @@
-ghost use Rattle.std.specs.Prelude.{◌≡◌, ◌↔◌, true, All, IfOk, IfErr, IsOk, length, vec_len};
+ghost use Rattle.std.specs.Prelude.{◌≡◌, ◌↔◌, true, [], All, IfOk, IfErr, IsOk, length, vec_len};
+ghost use Rattle.std.specs.List.{range_with_len};
 ghost use Rattle.std.specs.List.Sorted.{IsPermutation};
-ghost use Rattle.hand_core.specs.Ends.{taken_by, have_ended};
-ghost use Rattle.hand_core.specs.Pages.{serials_of, numbers_from, IsRising};
+ghost use Rattle.hand_core.specs.PageEnds.{taken_by, have_ended, queue_between};
+ghost use Rattle.word_core.specs.Serials.{serials_of, IsRising};
 
 use crate::giver::Giver;
 use crate::opening::Takers;
-use crate::order::{Shares, Whole};
+use crate::page_queue::{Shares, Whole};
 use crate::taker::Taker;
 use frame_core::Serial;
 
@@ -13,7 +14,7 @@ use frame_core::Serial;
 #[derive(Clone, Copy, Debug, PartialEq, Eq)]
 pub struct Settled {
     pub base: Serial,
-    pub count: u32,
+    pub count: u64,
 }
 
 /// Answers Ok exactly where the giver put all its marks and every taker of its hand-over is there and took its mark.
@@ -22,8 +23,9 @@ pub fn settle(giver: Giver, takers: Takers) -> Result<Settled, (Giver, Takers)>
     ensures exact { IsOk result ↔ ((giver.marks ≡ giver.takers) × (vec_len takers ≡ giver.takers) × (have_ended takers.items ≡ true)) }
     ensures count { IfOk result (λ s. (s.base ≡ giver.base) × (s.count ≡ length giver.given)) }
     ensures pages { IfOk result (λ s. IsPermutation (taken_by takers.items) giver.given) }
-    ensures serials { IfOk result (λ s. IsPermutation (serials_of (taken_by takers.items)) (numbers_from s.base s.count)) }
+    ensures serials { IfOk result (λ s. IsPermutation (serials_of (taken_by takers.items)) (range_with_len s.base s.count)) }
     ensures rising { IfOk result (λ s. All (λ t. IsRising t.taken) takers.items) }
+    ensures empty { IfOk result (λ _. queue_between giver takers.items ≡ []) }
     ensures err { IfErr result (λ ends. (ends.0 ≡ giver) × (ends.1 ≡ takers)) }
 {
     if giver.marks != giver.takers || takers.len() != giver.takers || !all_ended(&takers) {
@@ -46,10 +48,11 @@ fn take_back(giver: Giver, mut takers: Takers) -> Settled
     ensures count { (result.base ≡ giver.base) × (result.count ≡ length giver.given) }
     ensures pages { IsPermutation (taken_by takers.items) giver.given }
     ensures rising { All (λ t. IsRising t.taken) takers.items }
+    ensures empty { queue_between giver takers.items ≡ [] }
 {
     let Giver {
         base,
-        count,
+        next,
         to,
         mut pass,
         ..
@@ -59,5 +62,8 @@ fn take_back(giver: Giver, mut takers: Takers) -> Settled
         to.absorb::<Shares>(&mut pass, theirs);
     }
     to.learn_as::<Whole>(&mut pass);
-    Settled { base, count }
+    Settled {
+        base,
+        count: next - u64::from(base),
+    }
 }

@@ -1,4 +1,4 @@
-use crate::order::{Gets, Known, Note, Ordered};
+use crate::page_queue::{Gets, Known, Note, Ordered};
 use crossbeam_channel::{Pass, RuledReceiver};
 use std::alloc::Global;
 use std::marker::Model;
@@ -16,13 +16,14 @@ pub struct Taker {
 impl Model for Taker {
     ghost use Rattle.crossbeam_channel.specs.Claims.{view as knows};
     ghost use Rattle.crossbeam_channel.specs.Ends.{receives_on};
-    ghost use Rattle.hand_core.specs.Ends.{Taker as Seen, hand_over_of};
+    ghost use Rattle.hand_core.specs.PageEnds.{Taker as Seen};
+    ghost use Rattle.hand_core.specs.Queue.{name_of};
 
     ghost Value = { Seen };
 
-    ghost use Rattle.hand_core.specs.Taking.{IsTaking};
+    ghost use Rattle.hand_core.specs.PageInvariants.{IsTaking};
 
-    ghost view = { λ t. record { hand_over = hand_over_of (receives_on t.from); taken = (knows t.pass).taken; ended = t.ended } };
+    ghost view = { λ t. record { hand_over = name_of (receives_on t.from); taken = (knows t.pass).taken; ended = t.ended } };
 
     ghost invariant = { IsTaking };
 }
@@ -37,8 +38,8 @@ pub enum Took {
 
 impl Taker {
     ghost use Rattle.std.specs.Prelude.{◌≡◌, false};
-    ghost use Rattle.hand_core.specs.Pages.{IsRising};
-    ghost use Rattle.hand_core.specs.Taken.{after_answer};
+    ghost use Rattle.word_core.specs.Serials.{IsRising};
+    ghost use Rattle.hand_core.specs.PageEnds.{after_answer};
 
     /// Takes what stands at the front, and waits for it.
     pub fn take<R: Wait>(&mut self, rt: &R) -> Took

@@ -1,5 +1,5 @@
 ghost use Rattle.std.specs.Prelude.{◌≡◌, ◌<◌, true, false, All};
-ghost use Rattle.hand_core.specs.DoneEnds.{has_ended};
+ghost use Rattle.hand_core.specs.CopyEnds.{has_ended};
 
 use super::{is_page, isolated};
 use crate::{Came, DoneSender, DoneTaker, HandError, done_open, done_settle};

@@ -156,7 +156,7 @@ fn assert_settles<R: Abort>(rt: &R, giver: Giver, takers: Vec<Taker>)
         panic!(rt; "the hand-over isn't settled");
     };
     assert_eq!(rt; settled.base, BASE);
-    assert_eq!(rt; settled.count, PAGES);
+    assert_eq!(rt; settled.count, u64::from(PAGES));
 }
 
 fn to_one_taker<R: Threads + Wait + Abort + Sync>(rt: &R, alloc: Global, cap: usize) {
@@ -300,6 +300,27 @@ fn settles_with_no_page(rt: HostRuntime) {
     };
     assert_eq!(rt; settled.base, 0);
     assert_eq!(rt; settled.count, 0);
+}
+
+#[test]
+fn hands_over_the_page_with_the_last_serial(rt: HostRuntime) -> Result<(), Fail> {
+    let (mut giver, mut takers) = opened(&rt, rt.alloc(), u32::MAX, 1, 2);
+    let mut one = next_taker(&rt, &giver, &mut takers);
+    let page = isolated(u32::MAX, 0).ok_or("in range")?;
+    assert!(rt; giver.give(&rt, page).is_ok());
+    assert!(rt; giver.close(&rt).is_ok());
+    let Took::Page(page) = one.take(&rt) else {
+        panic!(rt; "the page is lost");
+    };
+    assert_eq!(rt; page.serial(), u32::MAX);
+    assert!(rt; matches!(one.take(&rt), Took::End));
+    let takers = vec![in rt.alloc(); one].expect(&rt, "memory");
+    let Ok(settled) = settle(giver, takers) else {
+        panic!(rt; "the hand-over isn't settled");
+    };
+    assert_eq!(rt; settled.base, u32::MAX);
+    assert_eq!(rt; settled.count, 1);
+    Ok(())
 }
 
 #[test]

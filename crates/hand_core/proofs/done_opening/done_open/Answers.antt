@@ -1,4 +1,4 @@
-use Rattle.hand_core.proofs.Turned.{opens, makes}
+use Rattle.hand_core.proofs.CopySteps.{opens, makes}
 use Rattle.hand_core.proofs.done_opening.done_open.Goals as goal
 
 pub bounded_with-requires-clause-rule : goal.bounded_with-requires-clause-rule

@@ -1,13 +1,12 @@
-use Rattle.std.proofs.Common.{◌≡◌, ℕ, ◌+◌, ◌<◌, ◌++◌, ◌∷◌, [], List, true, All, ap, sym, ◌∙◌, subst, append_assoc, arith}
+use Rattle.std.proofs.Common.{◌≡◌, ℕ, ◌+◌, ◌<◌, ◌++◌, ◌∷◌, [], List, Some, true, ap, sym, ◌∙◌, subst, append_assoc, arith}
 use Rattle.crossbeam_channel.specs.Claims.{view}
-use Rattle.hand_core.specs.declared.turns.Account.{Account}
-use Rattle.hand_core.specs.declared.turns.Message.{Message}
-use Rattle.hand_core.specs.DoneEnds.{DoneSender, copies_of, has_mark}
-use Rattle.hand_core.specs.Turns.{Tells}
-use Rattle.hand_core.proofs.Messages.{all_came, each_passes}
-use Rattle.hand_core.proofs.Serials.{all_front, all_last}
-use Rattle.hand_core.proofs.Shared.{all_cons}
-use Rattle.hand_core.proofs.Turned.{folds, tells}
+use Rattle.hand_core.specs.declared.copy_queue.Account.{Account}
+use Rattle.hand_core.specs.declared.copy_queue.Message.{Message}
+use Rattle.hand_core.specs.CopyEnds.{DoneSender, DoneTaker, copies_of, has_mark, queue_between}
+use Rattle.hand_core.specs.CopyQueue.{Tells, left_in_queue}
+use Rattle.hand_core.proofs.Messages.{all_came, none_left, each_passes}
+use Rattle.std.proofs.lemmas.List.Elements.{All-cons, All-pop}
+use Rattle.hand_core.proofs.CopySteps.{folds, tells}
 use Rattle.hand_core.proofs.done_settling.done_settle.Goals as goal
 
 pub absorb-requires-clause-rule : goal.absorb-requires-clause-rule
@@ -19,12 +18,20 @@ learn_as-requires-clause-rule c =
     tells _ _ (ap (λ (v : Account). v.takes) e ∙ c.loop-sender.invariant.takes) (ap (λ (v : Account). v.sends) e)
 
 -- what was learned of one sender, under its own names
-compared : (came : List Message) (senders : ℕ) (s : DoneSender) (w : Account) (queue : List Message) → ((k : ℕ) → k < senders → has_mark came k ≡ true)
-    → w.came ≡ came → w.made ≡ senders → w.sender ≡ s.number → w.sent ≡ s.sent → Tells w queue → copies_of s.number came ≡ s.sent
-compared came senders s w queue marked is_came is_made is_number is_sent told =
-    let low : w.sender < senders = subst (λ n. w.sender < n) is_made told.0 in
-    let has : has_mark w.came w.sender ≡ true = subst (λ l. has_mark l w.sender ≡ true) (sym is_came) (marked w.sender low) in
-    subst (λ k. copies_of k came ≡ s.sent) is_number (subst (λ l. copies_of w.sender l ≡ s.sent) is_came (all_came w w.came queue told.1 has ∙ is_sent))
+compared : (taker : DoneTaker) (s : DoneSender) (w : Account) (queue : List Message) → ((k : ℕ) → k < taker.senders → has_mark taker.came k ≡ true)
+    → w.came ≡ taker.came → w.made ≡ taker.senders → w.sender ≡ s.number → w.sent ≡ s.sent → w.marked ≡ s.marked → Tells w queue
+    → (copies_of s.number taker.came ≡ s.sent) × (queue_between s taker ≡ [])
+compared taker s w queue marked is_came is_made is_number is_sent is_marked told =
+    let low : w.sender < taker.senders = subst (λ n. w.sender < n) is_made told.0 in
+    let has : has_mark w.came w.sender ≡ true = subst (λ l. has_mark l w.sender ≡ true) (sym is_came) (marked w.sender low) in (
+      subst (λ k. copies_of k taker.came ≡ s.sent) is_number (subst (λ l. copies_of w.sender l ≡ s.sent) is_came (all_came w w.came queue told.1 has ∙ is_sent)),
+      ap (λ k. left_in_queue k s.sent s.marked taker.came) (sym is_number)
+          ∙ ap (λ l. left_in_queue w.sender l s.marked taker.came) (sym is_sent)
+          ∙ ap (λ b. left_in_queue w.sender w.sent b taker.came) (sym is_marked)
+          ∙ ap (λ l. left_in_queue w.sender w.sent w.marked l) (sym is_came)
+          ∙ sym told.2
+          ∙ none_left w w.came queue told.1 has,
+    )
 
 pub loop-sender-preserved : goal.loop-sender-preserved
 loop-sender-preserved c =
@@ -38,16 +45,16 @@ loop-sender-preserved c =
     let items = c.in-Some.ensures.items in
     let before = old.back in
     let Left : DoneSender → Type 0 = λ u. u.way ≡ taker.way in
-    let left : All Left (c.pop.new.self.items ++ s ∷ []) = subst (All Left) items old.left in
-    let own : s.way ≡ taker.way = all_last Left c.pop.new.self.items s left in
+    let left = All-pop Left c.loop-sender.senders.items c.pop.new.self.items (Some s) items old.left in
+    let own : s.way ≡ taker.way = left.1 in
     let marked : (k : ℕ) → k < taker.senders → has_mark taker.came k ≡ true =
     λ k low. let zero_more : k ≡ 0 + k = omega arith in ap (has_mark taker.came) zero_more ∙ each_passes (has_mark taker.came) 0 taker.senders k c.requires.ended low in
     let came : (view c.absorb.new.pass).came ≡ taker.came = ap (λ (v : Account). v.came) e ∙ old.came in
     let made : (view c.absorb.new.pass).made ≡ taker.senders = ap (λ (v : Account). v.made) e ∙ old.made in
-    let this : copies_of s.number taker.came ≡ s.sent =
-    compared taker.came taker.senders s (view c.absorb.new.pass) told.0 marked came made
+    let this = compared taker s (view c.absorb.new.pass) told.0 marked came made
     (ap (λ (v : Account). v.sender) e ∙ c.sender.invariant.sender ∙ ap (λ (u : DoneSender). u.number) is)
     (ap (λ (v : Account). v.sent) e ∙ ap (λ (u : DoneSender). u.sent) is)
+    (ap (λ (v : Account). v.marked) e ∙ ap (λ (u : DoneSender). u.marked) is)
     told.1 in
     let seat = c.learn_as.ensures.channel.0 in
     let way = is in
@@ -60,10 +67,11 @@ loop-sender-preserved c =
       takes = ap (λ (v : Account). v.takes) (kept ∙ e) ∙ old.takes;
       came = ap (λ (v : Account). v.came) kept ∙ came;
       made = ap (λ (v : Account). v.made) kept ∙ made;
-      left = all_front Left c.pop.new.self.items (s ∷ []) left;
+      left = left.0;
       back = (
         s ∷ before.0,
         before.1 ∙ ap (λ l. l ++ before.0) items ∙ append_assoc c.pop.new.self.items (s ∷ []) before.0,
-        all_cons (λ (u : DoneSender). copies_of u.number taker.came ≡ u.sent) s before.0 this before.2,
+        All-cons (λ (u : DoneSender). copies_of u.number taker.came ≡ u.sent) s before.0 this.0 before.2,
+        All-cons (λ (u : DoneSender). queue_between u taker ≡ []) s before.0 this.1 before.3,
       );
     }

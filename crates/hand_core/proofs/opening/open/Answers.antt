@@ -1,5 +1,5 @@
 use Rattle.std.proofs.Common.{arith}
-use Rattle.hand_core.proofs.Steps.{opens, cuts}
+use Rattle.hand_core.proofs.PageSteps.{opens, cuts}
 use Rattle.hand_core.proofs.opening.open.Goals as goal
 
 pub bounded_with-requires-clause-rule : goal.bounded_with-requires-clause-rule

@@ -1,8 +1,8 @@
 use Rattle.std.proofs.Common.{◌≡◌, ◌+◌, ◌≤◌, false, [], All, vec_len, vec_capacity}
 use Rattle.crossbeam_channel.specs.Claims.{view, IsSeatAt}
-use Rattle.crossbeam_channel.specs.Ends.{sends_on, receives_on}
-use Rattle.hand_core.specs.Ends.{hand_over_of}
-use Rattle.hand_core.specs.Order.{giver_knows}
+use Rattle.crossbeam_channel.specs.Ends.{sends_on, receives_on, ruled_capacity}
+use Rattle.hand_core.specs.Queue.{name_of}
+use Rattle.hand_core.specs.PageQueue.{giver_knows}
 use Rattle.hand_core.proofs.opening.open.Given as goal
 
 abbrev pub invariant-loop-taker : goal.invariant-loop-taker
@@ -13,5 +13,6 @@ invariant-loop-taker g l = record {
   made : vec_len l.all ≡ l._taker;
   room : l.takers ≤ vec_capacity l.all;
   channel : receives_on l.from ≡ sends_on l.to;
-  fresh : All (λ t. t ≡ record { hand_over = hand_over_of (sends_on l.to); taken = []; ended = false }) l.all.items;
+  capacity : ruled_capacity (sends_on l.to) ≡ l.cap;
+  fresh : All (λ t. t ≡ record { hand_over = name_of (sends_on l.to); taken = []; ended = false }) l.all.items;
 }

@@ -1,9 +1,10 @@
 use Rattle.std.proofs.Common.{◌≡◌, length, ap, sym, ◌∙◌, subst}
+use Rattle.std.specs.List.{range_with_len}
 use Rattle.std.specs.List.Sorted.{IsPermutation}
 use Rattle.std.proofs.lemmas.List.Sorted.{IsPermutation-map}
 use Rattle.word_core.specs.Page.{OnItsWay}
-use Rattle.hand_core.specs.Ends.{Giver, taken_by}
-use Rattle.hand_core.specs.Pages.{serials_of, numbers_from, HasSerialsFrom}
+use Rattle.hand_core.specs.PageEnds.{Giver, taken_by}
+use Rattle.word_core.specs.Serials.{serials_of, HasSerialsFrom}
 use Rattle.hand_core.proofs.settling.settle.Goals as goal
 
 pub returns-clause-serials : goal.returns-clause-serials
@@ -12,7 +13,7 @@ returns-clause-serials c =
     let settled = c.take_back.result in
     let count = c.take_back.ensures.count in
     let serials : HasSerialsFrom giver.base giver.given = subst (λ (g : Giver). HasSerialsFrom g.base g.given) c.giver.view_is c.giver.invariant.serials in
-    let numbers : numbers_from giver.base (length giver.given) ≡ numbers_from settled.base settled.count =
-    ap (λ b. numbers_from b (length giver.given)) (sym count.0) ∙ ap (λ n. numbers_from settled.base n) (sym count.1) in
+    let numbers : range_with_len giver.base (length giver.given) ≡ range_with_len settled.base settled.count =
+    ap (λ b. range_with_len b (length giver.given)) (sym count.0) ∙ ap (λ n. range_with_len settled.base n) (sym count.1) in
     subst (λ l. IsPermutation (serials_of (taken_by c.args.takers.items)) l) (serials ∙ numbers)
     (IsPermutation-map (λ (p : OnItsWay). p.serial) (taken_by c.args.takers.items) giver.given c.take_back.ensures.pages)

@@ -1,13 +1,16 @@
-use Rattle.std.proofs.Common.{◌≡◌, ◌++◌, ◌∷◌, [], ◌-◌, List, take, true, All, ap, sym, ◌∙◌, subst, append_assoc, append-nil, arith}
+use Rattle.std.proofs.Common.{◌≡◌, ◌++◌, ◌∷◌, [], ◌-◌, List, length, suc, Bool, cond, take, Some, true, All, refl, ap, sym, ◌∙◌, subst, append_assoc, append-nil, arith}
+use Rattle.std.specs.List.{filter}
 use Rattle.std.specs.List.Sorted.{IsPermutation}
-use Rattle.std.proofs.lemmas.List.Sorted.{IsPermutation-sym, IsPermutation-trans}
+use Rattle.std.proofs.lemmas.List.Sorted.{IsPermutation-sym, IsPermutation-trans, length_permutation}
+use Rattle.std.proofs.lemmas.List.Sums.{length-filter}
 use Rattle.crossbeam_channel.specs.Claims.{view}
-use Rattle.hand_core.specs.declared.order.Known.{Known}
-use Rattle.hand_core.specs.Ends.{Giver, Taker, taken_by}
-use Rattle.hand_core.specs.Pages.{IsRising}
-use Rattle.hand_core.proofs.Serials.{all_front, all_last}
-use Rattle.hand_core.proofs.Shared.{list_back, all_cons}
-use Rattle.hand_core.proofs.Steps.{joins, settles}
+use Rattle.hand_core.specs.declared.page_queue.Known.{Known}
+use Rattle.hand_core.specs.PageEnds.{Giver, Taker, taken_by, marks_taken}
+use Rattle.hand_core.specs.PageQueue.{left_in_queue}
+use Rattle.word_core.specs.Serials.{IsRising}
+use Rattle.std.proofs.lemmas.List.Elements.{All-cons, All-pop}
+use Rattle.hand_core.proofs.Totals.{list_back}
+use Rattle.hand_core.proofs.PageSteps.{joins, settles}
 use Rattle.hand_core.proofs.settling.take_back.Goals as goal
 
 pub absorb-requires-clause-rule : goal.absorb-requires-clause-rule
@@ -27,8 +30,8 @@ loop-taker-preserved c =
     let len = c.in-Some.ensures.len in
     let mine : Known = view c.loop-taker.pass in
     let Left : Taker → Type 0 = λ u. (u.hand_over ≡ c.args.giver.hand_over) × (u.ended ≡ true) in
-    let left : All Left (c.pop.new.self.items ++ t ∷ []) = subst (All Left) items old.left in
-    let ended : inside.ended ≡ true = ap (λ (u : Taker). u.ended) is ∙ (all_last Left c.pop.new.self.items t left).1 in
+    let left = All-pop Left c.loop-taker.takers.items c.pop.new.self.items (Some t) items old.left in
+    let ended : inside.ended ≡ true = ap (λ (u : Taker). u.ended) is ∙ left.1.1 in
     let one : (view inside.pass).ended ≡ 1 = rw ended at his.marked in
     let shares_now = ap (λ (v : Known). v.shares) e in
     let ended_now = ap (λ (v : Known). v.ended) e in
@@ -50,12 +53,12 @@ loop-taker-preserved c =
       shares = omega arith;
       few = omega arith;
       ended = omega arith;
-      left = all_front Left c.pop.new.self.items (t ∷ []) left;
+      left = left.0;
       back = (
         t ∷ before.0,
         before.1 ∙ ap (λ l. l ++ before.0) items ∙ append_assoc c.pop.new.self.items (t ∷ []) before.0,
         taken,
-        all_cons (λ (u : Taker). IsRising u.taken) t before.0 rising before.3,
+        All-cons (λ (u : Taker). IsRising u.taken) t before.0 rising before.3,
       );
       count = old.count;
     }
@@ -95,3 +98,30 @@ returns-clause-rising c =
     let end = c.in_default.ensures in
     let empty : left.items ≡ [] = end.items ∙ append-nil c.pop.new.self.items ∙ end.rest ∙ ap (λ n. take (n - 1) left.items) end.cases.0 in
     subst (λ (l : List Taker). All (λ (t : Taker). IsRising t.taken) l) (sym (all_back c.args.takers.items left.items before.0 before.1 empty)) before.3
+
+-- each taker took its mark
+all_marked : (takers : List Taker) → All (λ (t : Taker). t.ended ≡ true) takers → length (filter (λ (t : Taker). t.ended) takers) ≡ length takers
+all_marked [] every = refl
+all_marked (t ∷ takers) every =
+    ap (λ (b : Bool). length (cond b (t ∷ filter (λ (u : Taker). u.ended) takers) (filter (λ (u : Taker). u.ended) takers))) (every 0 t (omega arith))
+    ∙ ap suc (all_marked takers (λ k d low. every (suc k) d (omega arith)))
+
+pub returns-clause-empty : goal.returns-clause-empty
+returns-clause-empty c =
+    let giver = c.args.giver in
+    let takers = c.args.takers.items in
+    let old = c.loop-taker.invariant in
+    let knows : Known = view c.loop-taker.pass in
+    let learned = c.learn_as.ensures.rule.1 in
+    let nothing : left_in_queue knows.given knows.marks (length knows.taken) knows.ended ≡ [] = sym learned.1 ∙ learned.2 in
+    let many : length (taken_by takers) ≡ length knows.taken = sym (length_permutation (taken_by takers) giver.given (returns-clause-pages c)) ∙ ap (λ l. length l) (sym old.given) ∙ length_permutation knows.taken knows.given learned.0 in
+    let marks : marks_taken takers ≡ length takers = sym (length-filter (λ (t : Taker). t.ended) takers) ∙ all_marked takers c.requires.ended in
+    let none = c.in_default.ensures.cases in
+    let ended_was = old.ended in
+    let came_back = c.requires.marks.1 in
+    let ended : marks_taken takers ≡ knows.ended = omega arith in
+    ap (λ l. left_in_queue l giver.marks (length (taken_by takers)) (marks_taken takers)) (sym old.given)
+    ∙ ap (λ m. left_in_queue knows.given m (length (taken_by takers)) (marks_taken takers)) (sym old.marks)
+    ∙ ap (λ n. left_in_queue knows.given knows.marks n (marks_taken takers)) many
+    ∙ ap (λ n. left_in_queue knows.given knows.marks (length knows.taken) n) ended
+    ∙ nothing

@@ -2,15 +2,16 @@ use Rattle.std.proofs.Common.{◌≡◌, ◌+◌, ◌++◌, ◌≤◌, List, tru
 use Rattle.std.specs.List.Sorted.{IsPermutation}
 use Rattle.crossbeam_channel.specs.Claims.{view, IsSeatAt}
 use Rattle.crossbeam_channel.specs.Ends.{sends_on}
-use Rattle.hand_core.specs.Ends.{Taker, hand_over_of, taken_by}
-use Rattle.hand_core.specs.Pages.{IsRising}
+use Rattle.hand_core.specs.PageEnds.{Taker, taken_by}
+use Rattle.hand_core.specs.Queue.{name_of}
+use Rattle.word_core.specs.Serials.{IsRising}
 use Rattle.hand_core.proofs.settling.take_back.Given as goal
 
 -- the takers that came off, whose lists the giver knows now
 abbrev pub invariant-loop-taker : goal.invariant-loop-taker
 invariant-loop-taker l = record {
   seat : IsSeatAt (sends_on l.to) l.pass;
-  channel : hand_over_of (sends_on l.to) ≡ l.fn.giver.hand_over;
+  channel : name_of (sends_on l.to) ≡ l.fn.giver.hand_over;
   gives : (view l.pass).gives ≡ true;
   given : (view l.pass).given ≡ l.fn.giver.given;
   shares : (view l.pass).shares + vec_len l.takers ≡ 1024;
@@ -19,7 +20,7 @@ invariant-loop-taker l = record {
   ended : (view l.pass).ended + vec_len l.takers ≡ l.fn.giver.takers;
   left : All (λ t. (t.hand_over ≡ l.fn.giver.hand_over) × (t.ended ≡ true)) l.takers.items;
   back : (back : List Taker) × (l.fn.takers.items ≡ l.takers.items ++ back) × IsPermutation (view l.pass).taken (taken_by back) × All (λ (t : Taker). IsRising t.taken) back;
-  count : (l.base ≡ l.fn.giver.base) × (l.count ≡ l.initial.count);
+  count : (l.base ≡ l.fn.giver.base) × (l.next ≡ l.initial.next);
 }
 
 abbrev pub decreases-loop-taker : goal.decreases-loop-taker

@@ -1,6 +1,6 @@
 use Rattle.std.proofs.Common.{ap, ◌∙◌}
-use Rattle.hand_core.specs.DoneEnds.{DoneSender}
-use Rattle.hand_core.proofs.Turned.{copy_in}
+use Rattle.hand_core.specs.CopyEnds.{DoneSender}
+use Rattle.hand_core.proofs.CopySteps.{copy_in}
 use Rattle.hand_core.proofs.done_sender.DoneSender.send.Goals as goal
 
 pub send_as-requires-clause-rule : goal.send_as-requires-clause-rule

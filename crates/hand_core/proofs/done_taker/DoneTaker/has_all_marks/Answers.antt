@@ -1,7 +1,7 @@
 use Rattle.std.proofs.Common.{◌∙◌, Bool, List, ap, take}
 use Rattle.std.specs.List.{list_all}
 use Rattle.crossbeam_channel.specs.Claims.{view}
-use Rattle.hand_core.specs.DoneEnds.{has_ended}
+use Rattle.hand_core.specs.CopyEnds.{has_ended}
 use Rattle.hand_core.proofs.Messages.{marks_of_first}
 use Rattle.hand_core.proofs.done_taker.DoneTaker.has_all_marks.Goals as goal
 

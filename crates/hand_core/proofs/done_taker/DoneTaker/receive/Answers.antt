@@ -1,4 +1,4 @@
-use Rattle.hand_core.proofs.Turned.{off}
+use Rattle.hand_core.proofs.CopySteps.{off}
 use Rattle.hand_core.proofs.done_taker.DoneTaker.receive.Goals as goal
 
 pub recv_as-requires-clause-rule : goal.recv_as-requires-clause-rule

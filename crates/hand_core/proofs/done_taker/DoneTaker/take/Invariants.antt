@@ -1,5 +1,5 @@
 use Rattle.std.proofs.Common.{◌≡◌, false}
-use Rattle.hand_core.specs.DoneEnds.{copies_in, has_ended}
+use Rattle.hand_core.specs.CopyEnds.{copies_in, has_ended}
 use Rattle.hand_core.proofs.done_taker.DoneTaker.take.Given as goal
 
 -- only marks came off so far, and not the last one

@@ -1,10 +1,10 @@
 use Rattle.std.proofs.Common.{◌≡◌, ◌+◌, ◌∷◌, [], length, ap, sym, ◌∙◌, subst, length-append, arith}
 use Rattle.crossbeam_channel.specs.Claims.{view}
-use Rattle.hand_core.specs.declared.order.Known.{Known}
-use Rattle.hand_core.specs.Ends.{Giver}
-use Rattle.hand_core.specs.Pages.{HasSerialsFrom}
+use Rattle.hand_core.specs.declared.page_queue.Known.{Known}
+use Rattle.hand_core.specs.PageEnds.{Giver}
+use Rattle.word_core.specs.Serials.{HasSerialsFrom}
 use Rattle.hand_core.proofs.Serials.{serials-snoc}
-use Rattle.hand_core.proofs.Steps.{page_in}
+use Rattle.hand_core.proofs.PageSteps.{page_in}
 use Rattle.hand_core.proofs.giver.Giver.give.Goals as goal
 
 pub send_as-requires-clause-rule : goal.send_as-requires-clause-rule
@@ -23,15 +23,14 @@ invariant_of-self g c =
     let k = c.self.invariant in
     let e = c.in_default.ensures.rule in
     let next : c.args.page.serial ≡ s.base + length (view s.pass).given = c.requires.next ∙ ap (λ (v : Giver). v.base + length v.given) (sym c.self.view_is) in
-    let room = c.requires.room in
-    let counted = k.counted in
+    let counted = k.next in
     let longer = length-append (view s.pass).given (c.args.page ∷ []) in
     let length_now = ap (λ (v : Known). length v.given) e in
     record {
       seat = c.in_default.ensures.channel.0;
       gives = ap (λ (v : Known). v.gives) e ∙ k.gives;
       serials = subst (HasSerialsFrom s.base) (sym (ap (λ (v : Known). v.given) e)) (serials-snoc s.base (view s.pass).given c.args.page k.serials next);
-      counted = omega arith;
+      next = omega arith;
       fits = omega arith;
       few = k.few;
       shares = ap (λ (v : Known). v.shares + s.takers) e ∙ k.shares;

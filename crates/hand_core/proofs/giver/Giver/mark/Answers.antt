@@ -1,4 +1,4 @@
-use Rattle.hand_core.proofs.Steps.{mark_in}
+use Rattle.hand_core.proofs.PageSteps.{mark_in}
 use Rattle.hand_core.proofs.giver.Giver.mark.Goals as goal
 
 pub send_as-requires-clause-rule : goal.send_as-requires-clause-rule

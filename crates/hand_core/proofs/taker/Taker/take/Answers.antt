@@ -1,5 +1,5 @@
 use Rattle.std.proofs.Common.{arith}
-use Rattle.hand_core.proofs.Steps.{off}
+use Rattle.hand_core.proofs.PageSteps.{off}
 use Rattle.hand_core.proofs.taker.Taker.take.Goals as goal
 
 pub recv_as-requires-clause-rule : goal.recv_as-requires-clause-rule

@@ -1,5 +1,5 @@
 use Rattle.std.proofs.Common.{◌≡◌, false}
-use Rattle.hand_core.specs.DoneEnds.{has_ended}
+use Rattle.hand_core.specs.CopyEnds.{has_ended}
 use Rattle.hand_core.proofs.tests.copying.take_all.Given as goal
 
 abbrev pub invariant-loop : goal.invariant-loop

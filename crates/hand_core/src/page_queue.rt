@@ -1,4 +1,4 @@
-// The queue of a hand-over, and the rule that it is under.
+// The queue of the pages, and the rule that it is under.
 
 use crossbeam_channel::protocol::{Join, Lesson, Outcome, Protocol, Split};
 use std::collections::LinkedList;
@@ -27,7 +27,7 @@ pub struct Known {
 pub struct Ordered;
 
 impl Protocol<Note, Known> for Ordered {
-    ghost use Rattle.hand_core.specs.Order.{InOrder, giver_knows};
+    ghost use Rattle.hand_core.specs.PageQueue.{InOrder, giver_knows};
 
     ghost holds = { InOrder };
 
@@ -39,7 +39,7 @@ pub struct Shares;
 
 impl Split<Known> for Shares {
     ghost use Rattle.std.specs.Prelude.{◌-◌};
-    ghost use Rattle.hand_core.specs.Order.{taker_knows};
+    ghost use Rattle.hand_core.specs.PageQueue.{taker_knows};
 
     ghost left = { λ v. record v { shares = v.shares - 1 } };
 
@@ -47,7 +47,7 @@ impl Split<Known> for Shares {
 }
 
 impl Join<Known> for Shares {
-    ghost use Rattle.hand_core.specs.Order.{joined, nothing_known};
+    ghost use Rattle.hand_core.specs.PageQueue.{joined, nothing_known};
 
     ghost both = { joined };
 
@@ -59,7 +59,7 @@ pub struct Puts;
 
 impl Outcome<Note, Known> for Puts {
     ghost use Rattle.std.specs.Prelude.{◌≡◌};
-    ghost use Rattle.hand_core.specs.Order.{after_put};
+    ghost use Rattle.hand_core.specs.PageQueue.{after_put};
 
     ghost then = { λ v note w. w ≡ after_put v note };
 }
@@ -72,7 +72,7 @@ impl Lesson<Note, Known> for Puts {
 pub struct Gets;
 
 impl Outcome<Note, Known> for Gets {
-    ghost use Rattle.hand_core.specs.Order.{Takes};
+    ghost use Rattle.hand_core.specs.PageQueue.{Takes};
 
     ghost then = { Takes };
 }
@@ -85,7 +85,7 @@ impl Lesson<Note, Known> for Gets {
 pub struct Whole;
 
 impl Lesson<Note, Known> for Whole {
-    ghost use Rattle.hand_core.specs.Order.{Settles};
+    ghost use Rattle.hand_core.specs.PageQueue.{Settles};
 
     ghost fact = { Settles };
 }

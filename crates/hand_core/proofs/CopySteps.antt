@@ -1,18 +1,19 @@
 -- Each step of the copies' queue keeps its rule.
 use Rattle.std.proofs.Common.{◌≡◌, ◌≢◌, ℕ, zero, suc, ◌+◌, ◌<◌, ◌≤◌, Bool, true, false, true≢false, List, [], ◌∷◌, ◌++◌, length, set, sym, refl, ap, ◌∙◌, subst, ⊎_elim, append_assoc, append-nil, arith, cond}
-use Rattle.std.specs.Prelude.{◌==◌}
+use Rattle.std.specs.Prelude.{◌==◌, drop}
+use Rattle.std.proofs.Math.Seq.{drop-append_seam}
 use Rattle.std.proofs.lemmas.Bool.{eq-eqb, ne_eqb, cases_lt}
 use mathlib.Core.Option.{some, some-ne-none, some-injective}
 use lib.ListN.{get_elem?}
 use Rattle.crossbeam_channel.specs.Fifo.{Pushes, Pops, Forks, Merges, Learns}
 use Rattle.atomic_table.proofs.Lists.{at_set, at_snoc}
 use Rattle.word_core.specs.Page.{OnItsWay}
-use Rattle.hand_core.specs.declared.turns.Message.{Message}
-use Rattle.hand_core.specs.declared.turns.Message.TheVariants.{Copy, Mark}
-use Rattle.hand_core.specs.declared.turns.Account.{Account}
-use Rattle.hand_core.specs.EachEnd.{Each}
-use Rattle.hand_core.specs.Turns.{taker_account, sender_account, sender_of, messages_of, all_sent, InTurn, after_send, Comes, folded, nothing_known, Tells}
-use Rattle.hand_core.proofs.Numbered.{each_set}
+use Rattle.hand_core.specs.declared.copy_queue.Message.{Message}
+use Rattle.hand_core.specs.declared.copy_queue.Message.TheVariants.{Copy, Mark}
+use Rattle.hand_core.specs.declared.copy_queue.Account.{Account}
+use Rattle.hand_core.specs.Queue.{Each}
+use Rattle.hand_core.specs.CopyQueue.{taker_account, sender_account, sender_of, messages_of, all_sent, InTurn, after_send, Comes, folded, nothing_known, Tells}
+use Rattle.hand_core.proofs.EachEnd.{each_set}
 use Rattle.hand_core.proofs.Messages.{messages-append, messages_own, messages_other, nobody_sent, all_sent-copy, all_sent-mark}
 
 -- what the rule says of a sender, and of the taker
@@ -185,4 +186,9 @@ pub tells : (number : ℕ) (v : Account) → v.takes ≡ true → v.sends ≡ tr
 tells number v takes sends queue ends r at =
     let this = r.taken number v at takes in
     let its = r.sent number v at sends in
-    (subst (λ n. v.sender < n) (sym this.2) its.1, subst (λ l. messages_of v.sender (l ++ queue) ≡ all_sent v) (sym this.1) its.2)
+    let mine : List Message = messages_of v.sender v.came in
+    let all : messages_of v.sender (v.came ++ queue) ≡ all_sent v = subst (λ l. messages_of v.sender (l ++ queue) ≡ all_sent v) (sym this.1) its.2 in (
+      subst (λ n. v.sender < n) (sym this.2) its.1,
+      all,
+      sym (drop-append_seam mine (messages_of v.sender queue)) ∙ ap (λ l. drop (length mine) l) (sym (messages-append v.sender v.came queue) ∙ all),
+    )

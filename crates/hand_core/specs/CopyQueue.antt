@@ -1,10 +1,10 @@
 -- The rule of the copies' queue, from several senders to one taker: what holds of the queue and of its ends after each step.
-use Rattle.std.specs.Prelude.{◌≡◌, ℕ, ◌<◌, ◌≤◌, ◌==◌, Bool, true, false, if◌then◌else◌, List, [], ◌∷◌, ◌++◌, map, filter}
+use Rattle.std.specs.Prelude.{◌≡◌, ℕ, ◌<◌, ◌≤◌, ◌==◌, Bool, true, false, if◌then◌else◌, List, [], ◌∷◌, ◌++◌, length, map, filter, drop}
 use Rattle.word_core.specs.Page.{OnItsWay}
-use Rattle.hand_core.specs.declared.turns.Message.{Message}
-use Rattle.hand_core.specs.declared.turns.Message.TheVariants.{Copy, Mark}
-use Rattle.hand_core.specs.declared.turns.Account.{Account}
-use Rattle.hand_core.specs.EachEnd.{Each}
+use Rattle.hand_core.specs.declared.copy_queue.Message.{Message}
+use Rattle.hand_core.specs.declared.copy_queue.Message.TheVariants.{Copy, Mark}
+use Rattle.hand_core.specs.declared.copy_queue.Account.{Account}
+use Rattle.hand_core.specs.Queue.{Each}
 
 -- what an end knows, part by part
 abbrev pub account : Bool → ℕ → List OnItsWay → Bool → Bool → ℕ → List Message → Account
@@ -27,9 +27,17 @@ sender_of (Mark sender) = sender
 abbrev pub messages_of : ℕ → List Message → List Message
 messages_of sender messages = filter (λ m. sender_of m == sender) messages
 
--- all that a sender sent: its copies in their order, and its mark behind them
+-- what a sender sent: its copies in their order, and its mark behind them
+abbrev pub sent_by : ℕ → List OnItsWay → Bool → List Message
+sent_by sender copies marked = map (Copy sender) copies ++ (if marked then Mark sender ∷ [] else [])
+
+-- all that an end sent
 abbrev pub all_sent : Account → List Message
-all_sent v = map (Copy v.sender) v.sent ++ (if v.marked then Mark v.sender ∷ [] else [])
+all_sent v = sent_by v.sender v.sent v.marked
+
+-- what is left in the queue of what a sender sent, where these messages came off
+abbrev pub left_in_queue : ℕ → List OnItsWay → Bool → List Message → List Message
+left_in_queue sender copies marked came = drop (length (messages_of sender came)) (sent_by sender copies marked)
 
 -- The messages `came` came off, to the end with the number `taker`. So many senders were made, and each is one end.
 pub record InTurn (queue : List Message) (ends : List Account) : Type 0 where
@@ -61,6 +69,9 @@ folded v sender = record v { sends = true; sender = sender.sender; sent = sender
 abbrev pub nothing_known : Account
 nothing_known = account false 0 [] false false 0 []
 
--- what the taker learns with a sender's knowledge
+-- what the taker learns with a sender's knowledge: what came off and what the queue holds of it is all that it sent, so the
+-- queue holds of it what is left
 abbrev pub Tells : Account → List Message → Type 0
-Tells v queue = (v.sender < v.made) × (messages_of v.sender (v.came ++ queue) ≡ all_sent v)
+Tells v queue = (v.sender < v.made)
+    × (messages_of v.sender (v.came ++ queue) ≡ all_sent v)
+    × (messages_of v.sender queue ≡ left_in_queue v.sender v.sent v.marked v.came)

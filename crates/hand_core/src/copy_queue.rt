@@ -26,7 +26,7 @@ pub struct Account {
 pub struct Turns;
 
 impl Protocol<Message, Account> for Turns {
-    ghost use Rattle.hand_core.specs.Turns.{InTurn, taker_account};
+    ghost use Rattle.hand_core.specs.CopyQueue.{InTurn, taker_account};
 
     ghost holds = { InTurn };
 
@@ -38,7 +38,7 @@ pub struct Makes;
 
 impl Split<Account> for Makes {
     ghost use Rattle.std.specs.Prelude.{◌+◌};
-    ghost use Rattle.hand_core.specs.Turns.{sender_account};
+    ghost use Rattle.hand_core.specs.CopyQueue.{sender_account};
 
     ghost left = { λ v. record v { made = v.made + 1 } };
 
@@ -50,7 +50,7 @@ pub struct Sends;
 
 impl Outcome<Message, Account> for Sends {
     ghost use Rattle.std.specs.Prelude.{◌≡◌};
-    ghost use Rattle.hand_core.specs.Turns.{after_send};
+    ghost use Rattle.hand_core.specs.CopyQueue.{after_send};
 
     ghost then = { λ v message w. w ≡ after_send v message };
 }
@@ -63,7 +63,7 @@ impl Lesson<Message, Account> for Sends {
 pub struct Receives;
 
 impl Outcome<Message, Account> for Receives {
-    ghost use Rattle.hand_core.specs.Turns.{Comes};
+    ghost use Rattle.hand_core.specs.CopyQueue.{Comes};
 
     ghost then = { Comes };
 }
@@ -76,7 +76,7 @@ impl Lesson<Message, Account> for Receives {
 pub struct Folds;
 
 impl Join<Account> for Folds {
-    ghost use Rattle.hand_core.specs.Turns.{folded, nothing_known};
+    ghost use Rattle.hand_core.specs.CopyQueue.{folded, nothing_known};
 
     ghost both = { folded };
 
@@ -87,7 +87,7 @@ impl Join<Account> for Folds {
 pub struct Whole;
 
 impl Lesson<Message, Account> for Whole {
-    ghost use Rattle.hand_core.specs.Turns.{Tells};
+    ghost use Rattle.hand_core.specs.CopyQueue.{Tells};
 
     ghost fact = { Tells };
 }

@@ -1,13 +1,13 @@
--- The rule of a hand-over of pages, from one giver to several takers: what holds of its queue and of its ends after each step.
-use Rattle.std.specs.Prelude.{◌≡◌, ℕ, ◌+◌, ◌<◌, Bool, true, false, List, [], ◌∷◌, ◌++◌, map, replicate}
+-- The rule of the pages' queue, from one giver to several takers: what holds of the queue and of its ends after each step.
+use Rattle.std.specs.Prelude.{◌≡◌, ℕ, ◌+◌, ◌<◌, Bool, true, false, List, [], ◌∷◌, ◌++◌, ◌-◌, length, map, replicate, drop}
 use Rattle.std.specs.List.{flat_map}
 use Rattle.std.specs.List.Sorted.{IsPermutation}
 use Rattle.word_core.specs.Page.{OnItsWay}
-use Rattle.hand_core.specs.declared.order.Note.{Note}
-use Rattle.hand_core.specs.declared.order.Note.TheVariants.{Page, Mark}
-use Rattle.hand_core.specs.declared.order.Known.{Known}
-use Rattle.hand_core.specs.Pages.{HasSerialsFrom, IsRising}
-use Rattle.hand_core.specs.EachEnd.{Each}
+use Rattle.hand_core.specs.declared.page_queue.Note.{Note}
+use Rattle.hand_core.specs.declared.page_queue.Note.TheVariants.{Page, Mark}
+use Rattle.hand_core.specs.declared.page_queue.Known.{Known}
+use Rattle.word_core.specs.Serials.{HasSerialsFrom, IsRising}
+use Rattle.hand_core.specs.Queue.{Each}
 
 -- what an end knows, part by part
 abbrev pub known : ℕ → Bool → List OnItsWay → ℕ → List OnItsWay → ℕ → Known
@@ -80,6 +80,11 @@ joined v taker = record v { shares = v.shares + taker.shares; taken = v.taken ++
 abbrev pub nothing_known : Known
 nothing_known = known 0 false [] 0 [] 0
 
--- what the giver learns once it has every share and each end mark ended a taker: each page given was taken once, and the queue is empty
+-- what is left in the queue where these pages and so many end marks were put, and so many of each came off
+abbrev pub left_in_queue : List OnItsWay → ℕ → ℕ → ℕ → List Note
+left_in_queue given marks taken ended = map Page (drop taken given) ++ replicate (marks - ended) Mark
+
+-- what the giver learns once it has every share and each end mark ended a taker: each page given was taken once, the queue
+-- is what is left, and it is empty
 abbrev pub Settles : Known → List Note → Type 0
-Settles v queue = IsPermutation v.taken v.given × (queue ≡ [])
+Settles v queue = IsPermutation v.taken v.given × (queue ≡ left_in_queue v.given v.marks (length v.taken) v.ended) × (queue ≡ [])

@@ -3,7 +3,7 @@ use Rattle.std.proofs.Common.{◌≡◌, ◌≢◌, ℕ, List, [], ◌∷◌, �
 use mathlib.Core.Option.{some}
 use lib.ListN.{get_elem?}
 use Rattle.atomic_table.proofs.Lists.{at_set, at_snoc}
-use Rattle.hand_core.specs.EachEnd.{Each}
+use Rattle.hand_core.specs.Queue.{Each}
 
 -- one end changed
 pub each_set : {V : Type 0} (holds : ℕ → V → Type 0) (ends : List V) (number : ℕ) (w : V) → holds number w

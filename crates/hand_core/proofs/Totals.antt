@@ -5,9 +5,9 @@ use Rattle.std.proofs.lemmas.List.Sorted.{IsPermutation-refl, IsPermutation-sym,
 use mathlib.Core.Option.{some, some-ne-none, some-injective}
 use lib.ListN.{get_elem?}
 use Rattle.word_core.specs.Page.{OnItsWay}
-use Rattle.hand_core.specs.declared.order.Known.{Known}
-use Rattle.hand_core.specs.Order.{total, all_taken}
-use Rattle.hand_core.specs.EachEnd.{Each}
+use Rattle.hand_core.specs.declared.page_queue.Known.{Known}
+use Rattle.hand_core.specs.PageQueue.{total, all_taken}
+use Rattle.hand_core.specs.Queue.{Each}
 use Rattle.hand_core.proofs.Serials.{all_front, all_back}
 
 abbrev Same : List OnItsWay → List OnItsWay → Type 0
@@ -148,7 +148,3 @@ all_of_end holds (x ∷ ends) (suc number) v at every = all_of_end holds ends nu
 -- a list that comes back is added to those that came back before
 pub list_back : (mine his before : List OnItsWay) → IsPermutation mine before → IsPermutation (mine ++ his) (his ++ before)
 list_back mine his before h = IsPermutation-trans (mine ++ his) (his ++ mine) (his ++ before) (IsPermutation-append_comm mine his) (IsPermutation-append_right his mine before h)
-
-pub all_cons : {A : Type 0} (P : A → Type 0) (x : A) (xs : List A) → P x → All P xs → All P (x ∷ xs)
-all_cons P x xs first rest zero d lt = first
-all_cons P x xs first rest (suc k) d lt = rest k d (omega arith)

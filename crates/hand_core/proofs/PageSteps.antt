@@ -1,23 +1,24 @@
 -- Each step of a hand-over keeps its rule.
 use Rattle.std.proofs.Common.{◌≡◌, ◌≢◌, ℕ, zero, suc, ◌+◌, ◌-◌, ◌<◌, true, false, true≢false, List, [], ◌∷◌, ◌++◌, length, map, set, All, sym, refl, ap, ◌∙◌, subst, ⊎_elim, append_assoc, append-nil, arith}
-use Rattle.std.specs.Prelude.{replicate}
+use Rattle.std.specs.Prelude.{replicate, drop}
 use Rattle.std.proofs.lemmas.List.{map-append, replicate_more}
 use Rattle.std.specs.List.Sorted.{IsPermutation}
-use Rattle.std.proofs.lemmas.List.Sorted.{IsPermutation-refl, IsPermutation-sym, IsPermutation-trans, IsPermutation-append_left, All-permutation}
+use Rattle.std.proofs.lemmas.List.Sorted.{IsPermutation-refl, IsPermutation-sym, IsPermutation-trans, IsPermutation-append_left, All-permutation, length_permutation}
+use Rattle.std.proofs.Math.Seq.{drop-append_seam}
 use mathlib.Core.Option.{some, some-ne-none}
 use lib.ListN.{get_elem?}
 use Rattle.crossbeam_channel.specs.Fifo.{Pushes, Pops, Forks, Merges, Learns}
 use Rattle.atomic_table.proofs.Lists.{at_set}
 use Rattle.word_core.specs.Page.{OnItsWay}
-use Rattle.hand_core.specs.declared.order.Note.{Note}
-use Rattle.hand_core.specs.declared.order.Note.TheVariants.{Page, Mark}
-use Rattle.hand_core.specs.declared.order.Known.{Known}
-use Rattle.hand_core.specs.Pages.{HasSerialsFrom, IsRising}
-use Rattle.hand_core.specs.Order.{giver_knows, taker_knows, total, all_taken, all_ended, InOrder, after_put, after_take, Takes, joined, nothing_known, Settles}
-use Rattle.hand_core.specs.EachEnd.{Each}
-use Rattle.hand_core.proofs.Numbered.{each_set, each_new}
+use Rattle.hand_core.specs.declared.page_queue.Note.{Note}
+use Rattle.hand_core.specs.declared.page_queue.Note.TheVariants.{Page, Mark}
+use Rattle.hand_core.specs.declared.page_queue.Known.{Known}
+use Rattle.word_core.specs.Serials.{HasSerialsFrom, IsRising}
+use Rattle.hand_core.specs.PageQueue.{giver_knows, taker_knows, total, all_taken, all_ended, InOrder, after_put, after_take, Takes, joined, nothing_known, Settles}
+use Rattle.hand_core.specs.Queue.{Each}
+use Rattle.hand_core.proofs.EachEnd.{each_set, each_new}
 use Rattle.hand_core.proofs.Serials.{serials-snoc, serials_front, serial_at, serials_below, rising-snoc, rising-nil}
-use Rattle.hand_core.proofs.Shared.{total_set, total_same, total_new, total_alone, taken_same, taken_new, taken_longer, taken_joined, taken_alone, all_of_end}
+use Rattle.hand_core.proofs.Totals.{total_set, total_same, total_new, total_alone, taken_same, taken_new, taken_longer, taken_joined, taken_alone, all_of_end}
 
 abbrev queue_of : List OnItsWay → ℕ → List Note
 queue_of waiting marks = map Page waiting ++ replicate marks Mark
@@ -296,7 +297,12 @@ settles number v gives every has_ended all_marks queue ends r at =
     let lists : all_taken ends ≡ v.taken = taken_alone ends number v at whole (λ j u e none. (r.spent j u e none).0) in
     let empty : r.waiting ≡ [] = r.done (omega arith) in
     let given : v.given ≡ r.off = this.1 ∙ ap (λ l. r.off ++ l) empty ∙ append-nil r.off in
-    let none : r.marks ≡ 0 = omega arith in (
+    let none : r.marks ≡ 0 = omega arith in
+    let came : length r.off ≡ length v.taken = length_permutation (all_taken ends) r.off r.together ∙ ap (λ l. length l) lists in
+    let waiting : r.waiting ≡ drop (length v.taken) v.given =
+    sym (drop-append_seam r.off r.waiting) ∙ ap (λ n. drop n (r.off ++ r.waiting)) came ∙ ap (λ l. drop (length v.taken) l) (sym this.1) in
+    let marks : r.marks ≡ v.marks - v.ended = omega arith in (
       subst (λ l. IsPermutation l v.given) lists (subst (λ l. IsPermutation (all_taken ends) l) (sym given) r.together),
+      r.queued ∙ ap (λ l. map Page l ++ replicate r.marks Mark) waiting ∙ ap (λ m. map Page (drop (length v.taken) v.given) ++ replicate m Mark) marks,
       r.queued ∙ ap (λ l. map Page l ++ replicate r.marks Mark) empty ∙ ap (λ m. replicate m Mark) none,
     )

@@ -1,0 +1,74 @@
+-- What contracts see of the two ends of the copies' queue.
+use Rattle.std.specs.Prelude.{◌≡◌, ℕ, ◌==◌, Bool, true, false, List, [], ◌∷◌}
+use Rattle.std.specs.List.{list_all, list_any, flat_map, range_with_len}
+use Rattle.word_core.specs.Page.{OnItsWay}
+use Rattle.hand_core.specs.declared.copy_queue.Message.{Message}
+use Rattle.hand_core.specs.declared.copy_queue.Message.TheVariants.{Copy, Mark}
+use Rattle.hand_core.specs.declared.done_taker.Came.{Came}
+use Rattle.hand_core.specs.Queue.{QueueName}
+use Rattle.hand_core.specs.CopyQueue.{messages_of, left_in_queue}
+
+-- which queue of copies an end belongs to
+abbrev pub Way : Type 0
+Way = QueueName Message
+
+-- what came off: a copy or an end mark, under the number of its sender
+abbrev pub Arrival : Type 0
+Arrival = Message
+
+-- a sender: its number, the copies that it sent, in their order, and whether it put its mark
+pub record DoneSender : Type 0 where
+  pub way : Way
+  pub number : ℕ
+  pub sent : List OnItsWay
+  pub marked : Bool
+  pub closed : Bool
+
+-- the taker of the copies of so many senders, over a queue with so much room: what came off, in its order
+pub record DoneTaker : Type 0 where
+  pub way : Way
+  pub room : ℕ
+  pub senders : ℕ
+  pub came : List Arrival
+
+-- the copy that an arrival is, if it is one
+abbrev pub copies_in_one : Arrival → List OnItsWay
+copies_in_one (Copy sender copy) = copy ∷ []
+copies_in_one (Mark sender) = []
+
+-- the copies among the arrivals, in their order
+abbrev pub copies_in : List Arrival → List OnItsWay
+copies_in came = flat_map copies_in_one came
+
+-- the copies of one sender among the arrivals, in their order
+abbrev pub copies_of : ℕ → List Arrival → List OnItsWay
+copies_of sender came = copies_in (messages_of sender came)
+
+-- whether an arrival is the sender's mark
+abbrev pub is_mark_of : ℕ → Arrival → Bool
+is_mark_of sender (Copy other copy) = false
+is_mark_of sender (Mark other) = other == sender
+
+-- whether the sender's mark is among the arrivals
+abbrev pub has_mark : List Arrival → ℕ → Bool
+has_mark came sender = list_any (is_mark_of sender) came
+
+-- whether the mark of every sender came off
+abbrev pub has_ended : DoneTaker → Bool
+has_ended t = list_all (has_mark t.came) (range_with_len 0 t.senders)
+
+-- what the queue between a sender and the taker holds of this sender: what it put into it and didn't come off
+abbrev pub queue_between : DoneSender → DoneTaker → List Arrival
+queue_between s t = left_in_queue s.number s.sent s.marked t.came
+
+-- the copy that a call of the taker answers, if it answers one
+abbrev pub copy_answered : Came → List OnItsWay
+copy_answered (Came.Copy copy) = copy ∷ []
+copy_answered Came.End = []
+copy_answered Came.Gone = []
+
+-- the end is answered once the mark of every sender came off, and not before
+abbrev pub IsEndInTime : DoneTaker → Came → Type 0
+IsEndInTime t (Came.Copy copy) = has_ended t ≡ false
+IsEndInTime t Came.End = has_ended t ≡ true
+IsEndInTime t Came.Gone = has_ended t ≡ false

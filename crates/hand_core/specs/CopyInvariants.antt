@@ -1,0 +1,26 @@
+-- What holds of the fields of a sender of copies, and of their taker.
+use Rattle.std.specs.Prelude.{◌≡◌, ◌≤◌, true, false, Bool, List, [], ◌∷◌}
+use Rattle.crossbeam_channel.specs.Claims.{view, IsSeatAt}
+use Rattle.crossbeam_channel.specs.Ends.{sends_on, receives_on}
+use Rattle.hand_core.specs.declared.done_sender.DoneSender.TheInside as sender
+use Rattle.hand_core.specs.declared.done_taker.DoneTaker.TheInside as taker
+use Rattle.hand_core.specs.CopyEnds.{Arrival, has_mark}
+
+-- the sender's pass is a seat at its channel, and it put no mark unless it is closed
+pub record IsSending (s : sender.Inside) : Type 0 where
+  pub seat : IsSeatAt (sends_on s.to) s.pass
+  pub sends : (view s.pass).sends ≡ true
+  pub sender : (view s.pass).sender ≡ s.number
+  pub fresh : s.closed ≡ false → (view s.pass).marked ≡ false
+
+-- for each of four senders whether its mark is among the arrivals
+abbrev pub marks_of_four : List Arrival → List Bool
+marks_of_four came = has_mark came 0 ∷ has_mark came 1 ∷ has_mark came 2 ∷ has_mark came 3 ∷ []
+
+-- the taker's pass is a seat at its channel, and it has noted whose marks came off
+pub record IsReceiving (t : taker.Inside) : Type 0 where
+  pub seat : IsSeatAt (receives_on t.from) t.pass
+  pub takes : (view t.pass).takes ≡ true
+  pub made : (view t.pass).made ≡ t.senders
+  pub few : t.senders ≤ 4
+  pub noted : t.marked ≡ marks_of_four (view t.pass).came

@@ -1,0 +1,21 @@
+-- The name of a queue, and what holds of each of its ends.
+use Rattle.std.specs.Prelude.{◌≡◌, ℕ, List}
+use mathlib.Core.Option.{some}
+use lib.ListN.{get_elem?}
+use Rattle.atomic_table.specs.Seated.{TableId}
+use Rattle.atomic_table.specs.declared.badge.Badge.{Badge}
+use Rattle.crossbeam_channel.specs.declared.flavors.array.Rows.{Rows}
+use Rattle.crossbeam_channel.specs.declared.flavors.array.Key.{Key}
+use Rattle.crossbeam_channel.specs.declared.flavors.array.Doing.{Doing}
+
+-- which queue of such messages it is
+abbrev pub QueueName : Type 0 → Type 0
+QueueName T = TableId × Badge (Key T)
+
+-- the name of the queue that goes through a channel
+abbrev pub name_of : {T V Q M L A : Type 0} → Rows (Badge (Key T)) (Doing T V) Q M (Key T) L A → QueueName T
+name_of channel = (channel.stamps.shared.table_id, channel.stamps.shared.key)
+
+-- what holds of each end, which has a number
+abbrev pub Each : {V : Type 0} → List V → (ℕ → V → Type 0) → Type 0
+Each {V} ends holds = (number : ℕ) (v : V) → get_elem? ends number ≡ some v → holds number v
