@@ -37,6 +37,13 @@ impl BlockCounts {
         BlockCounts { free }
     }
 
+    /// How many frames of a pageblock are free.
+    pub fn get(&self, block: BlockNo) -> u32
+        ensures { result ≡ slice_index self.now block }
+    {
+        self.free[block.get() as usize]
+    }
+
     /// Counts a frame that wasn't free and is.
     pub fn freed(&mut self, frame: FrameNo)
         requires { slice_index self.old (frame / 512) < 512 }

@@ -36,7 +36,8 @@ impl Frames {
     pub fn open(alloc: Global, blocks: u32) -> Result<Frames, AllocError>
         requires some { 0 < blocks }
         requires few { blocks ≤ 8 }
-        ensures { IfOk result (λ frames. frames ≡ all_free blocks) }
+        ensures open { IfOk result (λ frames. frames ≡ all_free blocks) }
+        ensures frames { IfOk result (λ frames. length frames.states ≡ 512 * blocks) }
     {
         let count = 512 * blocks as usize;
         let states = lists::filled(alloc, FrameState::Free, count)?;
@@ -56,6 +57,8 @@ impl Frames {
     /// How many frames there are.
     pub fn len(&self) -> u32
         ensures len { result ≡ length self.now.states }
+        ensures whole { result ≡ 512 * blocks_of self.now.states }
+        ensures some { 0 < result }
         ensures few { result ≤ 4096 }
         ensures movable { length self.now.movable ≡ length self.now.states }
     {
@@ -69,7 +72,7 @@ impl Frames {
         ensures some { 0 < result }
         ensures few { result ≤ 8 }
     {
-        self.states.len() as u32 / 512
+        self.len() / 512
     }
 
     /// What each frame is used for.
@@ -97,11 +100,13 @@ impl Frames {
     /// Uses a frame for something else, or frees it.
     pub fn put(&mut self, frame: FrameNo, state: FrameState)
         requires { frame < length self.old.states }
-        ensures { self.new ≡ record self.old { states = slice_set self.old.states frame state } }
+        ensures state { self.new ≡ record self.old { states = slice_set self.old.states frame state } }
+        ensures frames { length self.new.states ≡ length self.old.states }
     {
-        let was = lists::is_free(&self.states[frame.get() as usize]);
+        let index = frame.get() as usize;
+        let was = lists::is_free(&self.states[index]);
         self.tally.note(frame, was, lists::is_free(&state));
-        self.states[frame.get() as usize] = state;
+        self.states[index] = state;
         self.tally.lowest = lists::first_free(&self.states, self.tally.lowest);
     }
 
@@ -141,9 +146,11 @@ impl Frames {
 
     pub fn set_movable(&mut self, frame: FrameNo, movable: bool)
         requires { frame < length self.old.states }
-        ensures { self.new ≡ record self.old { movable = slice_set self.old.movable frame movable } }
+        ensures movable { self.new ≡ record self.old { movable = slice_set self.old.movable frame movable } }
+        ensures frames { length self.new.movable ≡ length self.old.movable }
     {
-        self.movable[frame.get() as usize] = movable;
+        let index = frame.get() as usize;
+        self.movable[index] = movable;
     }
 
     /// The next pair between the fingers, which then stand at its frames. Where there is none they stay.

@@ -10,6 +10,8 @@ mod frames;
 mod lists;
 mod pair;
 mod tally;
+#[cfg(test)]
+mod tests;
 
 pub use blocks::{BlockCounts, first_whole, whole_blocks};
 pub use fingers::{Fingers, Step};

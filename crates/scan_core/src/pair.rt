@@ -53,9 +53,9 @@ fn next_source(
     requires high { fingers.free ≤ length frames.now }
     ensures { result ≡ next_source frames.now movable.now marked.now fingers }
 {
-    for number in fingers.migrate..fingers.free {
-        if is_source(frames, movable, marked, number as usize) {
-            return FrameNo::new(number);
+    for frame in fingers.migrate..fingers.free {
+        if is_source(frames, movable, marked, frame as usize) {
+            return FrameNo::new(frame);
         }
     }
     None

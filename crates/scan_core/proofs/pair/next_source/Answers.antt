@@ -7,13 +7,13 @@ use Rattle.scan_core.proofs.pair.next_source.Goals as goal
 
 pub returns-then-is_source : goal.returns-then-is_source
 returns-then-is_source c =
-    let low : c.args.fingers.migrate ≤ c.loop-number.number = c.loop-number.auto.number in
-    some_is _ c.loop-number.number (c.new.ensures.valid.1 (omega arith)) c.new.ensures.value
-    ∙ sym (lowest_is _ _ c.loop-number.number c.loop-number-test.true
-    (λ i. le-leb c.args.fingers.migrate c.loop-number.number low i && sym c.if-is_source.ensures i) c.loop-number.invariant)
+    let low : c.args.fingers.migrate ≤ c.loop-frame.frame = c.loop-frame.auto.frame in
+    some_is _ c.loop-frame.frame (c.new.ensures.valid.1 (omega arith)) c.new.ensures.value
+    ∙ sym (lowest_is _ _ c.loop-frame.frame c.loop-frame-test.true
+    (λ i. le-leb c.args.fingers.migrate c.loop-frame.frame low i && sym c.if-is_source.ensures i) c.loop-frame.invariant)
 
-pub loop-number-preserved : goal.loop-number-preserved
-loop-number-preserved c = below_more _ _ c.loop-number.invariant (skipped_and _ _ (sym c.if-is_source.ensures))
+pub loop-frame-preserved : goal.loop-frame-preserved
+loop-frame-preserved c = below_more _ _ c.loop-frame.invariant (skipped_and _ _ (sym c.if-is_source.ensures))
 
 pub returns : goal.returns
-returns c = sym (lowest_none _ _ (λ (k : ℕ) (h : k < c.args.fingers.free). c.loop-number.invariant k (omega arith)))
+returns c = sym (lowest_none _ _ (λ (k : ℕ) (h : k < c.args.fingers.free). c.loop-frame.invariant k (omega arith)))
