@@ -5,9 +5,11 @@ pub mod Facts
 pub mod Finding
 pub mod Highest
 pub mod Holding
+pub mod Mapping
 pub mod Opened
 pub mod Pairing
 pub mod Placed
+pub mod Places
 pub mod Quiet
 pub mod Rounds
 pub mod Settled

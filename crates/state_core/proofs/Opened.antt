@@ -1,5 +1,5 @@
 -- A zone that was just opened.
-use Rattle.std.proofs.Common.{◌≡◌, ℕ, ◌+◌, ◌*◌, ◌≤◌, true, false, not, [], ◌⊎◌, sym, ap, ◌∙◌, arith}
+use Rattle.std.proofs.Common.{◌≡◌, ℕ, ◌*◌, true, false, not, sym, ap, ◌∙◌, arith}
 use Rattle.std.specs.Prelude.{Option, Some, None, IsSome, is_some, ◌&&◌}
 use Rattle.std.specs.FinSet as set
 use Rattle.std.specs.FinMap as map

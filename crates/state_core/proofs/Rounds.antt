@@ -1,5 +1,5 @@
 -- Whether a round begins calm, and what a zone is when it has begun.
-use Rattle.std.proofs.Common.{◌≡◌, ℕ, ◌-◌, ◌*◌, ◌<◌, Bool, true, false, not, List, length, take, refl, sym, ap, ◌∙◌, arith}
+use Rattle.std.proofs.Common.{◌≡◌, ℕ, ◌-◌, ◌<◌, Bool, true, false, not, List, length, take, refl, sym, ap, ◌∙◌, arith}
 use Rattle.std.specs.Prelude.{Some, nat_eq, ◌&&◌}
 use Rattle.state_core.specs.Moving.{round_begun}
 use Rattle.std.specs.List.{list_all}
