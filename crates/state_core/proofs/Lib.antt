@@ -1,11 +1,14 @@
 pub mod Accessed
 pub mod Carried
+pub mod Ending
 pub mod Entries
 pub mod Facts
 pub mod Finding
 pub mod Highest
 pub mod Holding
+pub mod Isolating
 pub mod Mapping
+pub mod Moving
 pub mod Opened
 pub mod Pairing
 pub mod Placed
@@ -13,3 +16,4 @@ pub mod Places
 pub mod Quiet
 pub mod Rounds
 pub mod Settled
+pub mod Unmapping
