@@ -149,15 +149,15 @@ module _ (v : ZoneState) (client : ℕ) (address : Address) (unmovable : Bool) (
           | inl here ↦ page_used q (same_Some q page (sym is ∙ named_here b here))
           | inr there ↦ still_used q (law.named b q (sym (named_there b there) ∙ is))
         ];
-        in_use = λ q used. elim (eqb_tells q page) [
-          | inl same ↦
-              (let one : maps next.records q ≡ 1 = ap (maps next.records) same.1 ∙ maps_one in
-              let none : pins next.records q ≡ 0 = ap (pins next.records) same.1 ∙ pins_none in
+        in_use = λ q used. elim (places.where_is can_map q) [
+          | inl here ↦
+              (let one : maps next.records q ≡ 1 = ap (maps next.records) here.0 ∙ maps_one in
+              let none : pins next.records q ≡ 0 = ap (pins next.records) here.0 ∙ pins_none in
               (omega arith, omega arith, omega arith))
-          | inr other ↦
-              (let before = law.in_use q (ap is_some (sym (at_other q other.1)) ∙ used) in
-              let same = maps_others q other.1 in
-              let kept = pins_others q other.1 in
+          | inr there ↦
+              (let before = law.in_use q (ap is_some (sym there.1) ∙ used) in
+              let same = maps_others q there.0 in
+              let kept = pins_others q there.0 in
               (omega (arith, before.0), omega (arith, before.1), omega (arith, before.2)))
         ];
         own_way = λ serial. (λ under. cc, λ way. absurd (both_ways _ (ap (λ o. is_under o serial) can.unused) ((law.under_way page serial).1 way)));

@@ -2,7 +2,6 @@
 use Rattle.std.proofs.Common.{◌≡◌, ◌≢◌, ℕ, ◌+◌, ◌-◌, ◌<◌, ◌≤◌, ◌∷◌, List, length, inl, inr, refl, sym, ap, ◌∙◌, arith}
 use Rattle.std.specs.Prelude.{Some, IsTrue, is_some, ◌↔◌}
 use Rattle.std.specs.FinMap as map
-use Rattle.std.proofs.lemmas.Bool.Decides.{eqb_tells}
 use Rattle.frame_core.specs.Below.{count_below}
 use Rattle.frame_core.specs.declared.place.Address.{Address}
 use Rattle.journal_core.specs.declared.record.Cause.{Cause}
@@ -16,7 +15,7 @@ use Rattle.state_core.specs.declared.placement.Placement.{Placement}
 use Rattle.state_core.specs.Lawful.{IsLawful, is_under}
 use Rattle.state_core.specs.Moving.{settled}
 use Rattle.state_core.specs.ZoneState.{ZoneState, frame_count}
-use Rattle.state_core.proofs.Places.{CanChangePlace, IsTold, ways_of, at_page, at_other, page_count, lawful_told}
+use Rattle.state_core.proofs.Places.{CanChangePlace, IsTold, ways_of, where_is, page_count, lawful_told}
 
 -- what it takes to settle a page in use elsewhere
 abbrev pub CanSettle : ZoneState → ℕ → Placement → Placement → Type 0
@@ -54,10 +53,7 @@ pub record IsRecorded (v : ZoneState) (entry : Record) (page : ℕ) (new : Place
 
 module _ {v : ZoneState} {page : ℕ} {old new : Placement} (can : CanSettle v page old new) where
   pub some_same : (q : ℕ) → is_some (map.get (map.insert v.placement page new) q) ≡ is_some (map.get v.placement q)
-  some_same q = elim (eqb_tells q page) [
-    | inl same ↦ ap (λ (p : ℕ). is_some (map.get (map.insert v.placement page new) p)) same.1 ∙ ap is_some (at_page can) ∙ sym (ap (λ (p : ℕ). is_some (map.get v.placement p)) same.1 ∙ ap is_some can.at)
-    | inr other ↦ ap is_some (at_other can q other.1)
-  ]
+  some_same q = elim (where_is can q) [ inl here ↦ ap is_some here.2 ∙ sym (ap is_some here.1) | inr there ↦ ap is_some there.1 ]
 
   pub same_pages : count_below (λ q. is_some (map.get (map.insert v.placement page new) q)) (frame_count v) ≡ count_below (λ q. is_some (map.get v.placement q)) (frame_count v)
   same_pages = omega (arith, page_count can)

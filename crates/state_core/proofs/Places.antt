@@ -116,21 +116,22 @@ module _ {v : ZoneState} {page : ℕ} {old new : Option Placement} (can : CanCha
   pub at_other : (q : ℕ) → q ≢ page → map.get next.placement q ≡ map.get v.placement q
   at_other q ne = get_put_other v.placement page q new ne
 
-  takes_page : (g : ℕ) → takes_up (map.get next.placement page) g ≡ takes_up new g
-  takes_page g = ap (λ (o : Option Placement). takes_up o g) at_page
-
-  takes_before : (g : ℕ) → takes_up (map.get v.placement page) g ≡ takes_up old g
-  takes_before g = ap (λ (o : Option Placement). takes_up o g) can.at
-
-  takes_other : (q g : ℕ) → q ≢ page → takes_up (map.get next.placement q) g ≡ takes_up (map.get v.placement q) g
-  takes_other q g ne = ap (λ (o : Option Placement). takes_up o g) (at_other q ne)
+  -- this page has its new place, and another the one that it had
+  pub where_is : (q : ℕ) → ((q ≡ page) × (map.get v.placement q ≡ old) × (map.get next.placement q ≡ new)) ⊎ ((q ≢ page) × (map.get next.placement q ≡ map.get v.placement q))
+  where_is q = elim (eqb_tells q page) [
+    | inl same ↦ inl (same.1, ap (map.get v.placement) same.1 ∙ can.at, get_put_same v.placement page q new same.1)
+    | inr other ↦ inr (other.1, at_other q other.1)
+  ]
 
   -- who takes up a frame
   took : (q g : ℕ) → takes_up (map.get next.placement q) g ≡ true → ((q ≡ page) × (takes_up new g ≡ true)) ⊎ ((q ≢ page) × (takes_up (map.get v.placement q) g ≡ true))
-  took q g e = elim (eqb_tells q page) [
-    | inl same ↦ inl (same.1, sym (takes_page g) ∙ ap (λ (p : ℕ). takes_up (map.get next.placement p) g) (sym same.1) ∙ e)
-    | inr other ↦ inr (other.1, sym (takes_other q g other.1) ∙ e)
+  took q g e = elim (where_is q) [
+    | inl here ↦ inl (here.0, sym (ap (λ o. takes_up o g) here.2) ∙ e)
+    | inr there ↦ inr (there.0, sym (ap (λ o. takes_up o g) there.1) ∙ e)
   ]
+
+  takes_before : (g : ℕ) → takes_up (map.get v.placement page) g ≡ takes_up old g
+  takes_before g = ap (λ o. takes_up o g) can.at
 
   -- no other page takes up a frame of this one, before and afterwards
   pub not_old : (q g : ℕ) → q ≢ page → takes_up (map.get v.placement q) g ≡ true → takes_up old g ≡ true → ⊥
@@ -148,14 +149,11 @@ module _ {v : ZoneState} {page : ℕ} {old new : Option Placement} (can : CanCha
   pub new_clear : (g : ℕ) → takes_up new g ≡ true → is_held v g ≡ false
   new_clear g e = elim (can.takes g e) [ inl had ↦ old_clear g had | inr free ↦ unheld_frame v g free.0 ]
 
-  by_both : (p q g : ℕ) → ((p ≡ page) × (takes_up new g ≡ true)) ⊎ ((p ≢ page) × (takes_up (map.get v.placement p) g ≡ true)) → ((q ≡ page) × (takes_up new g ≡ true)) ⊎ ((q ≢ page) × (takes_up (map.get v.placement q) g ≡ true)) → p ≡ q
-  by_both p q g (inl a) (inl b) = a.0 ∙ sym b.0
-  by_both p q g (inl a) (inr b) = absurd (not_new q g b.0 b.1 a.1)
-  by_both p q g (inr a) (inl b) = absurd (not_new p g a.0 a.1 b.1)
-  by_both p q g (inr a) (inr b) = can.lawful.apart p q g a.1 b.1
-
   pub apart : (p q g : ℕ) → takes_up (map.get next.placement p) g ≡ true → takes_up (map.get next.placement q) g ≡ true → p ≡ q
-  apart p q g a b = by_both p q g (took p g a) (took q g b)
+  apart p q g a b = elim (took p g a) [
+    | inl x ↦ elim (took q g b) [ inl y ↦ x.0 ∙ sym y.0 | inr y ↦ absurd (not_new q g y.0 y.1 x.1) ]
+    | inr x ↦ elim (took q g b) [ inl y ↦ absurd (not_new p g x.0 x.1 y.1) | inr y ↦ can.lawful.apart p q g x.1 y.1 ]
+  ]
 
   pub within : (q g : ℕ) → takes_up (map.get next.placement q) g ≡ true → g < frame_count v
   within q g a = elim (took q g a) [ inl mine ↦ new_within g mine.1 | inr theirs ↦ can.lawful.within q g theirs.1 ]
@@ -165,7 +163,7 @@ module _ {v : ZoneState} {page : ℕ} {old new : Option Placement} (can : CanCha
 
   -- which frames are free: none of the new place, those that the page left, and else those that were
   pub free_new : (g : ℕ) → takes_up new g ≡ true → is_free next g ≡ false
-  free_new g e = ap (λ b. not b && not (is_held v g)) (some_at (λ p. takes_up (map.get next.placement p) g) (frame_count v) page can.numbered (takes_page g ∙ e))
+  free_new g e = ap (λ b. not b && not (is_held v g)) (some_at (λ p. takes_up (map.get next.placement p) g) (frame_count v) page can.numbered (ap (λ o. takes_up o g) at_page ∙ e))
 
   pub free_old : (g : ℕ) → takes_up old g ≡ true → is_free v g ≡ false
   free_old g e = ap (λ b. not b && not (is_held v g)) (some_at (λ p. takes_up (map.get v.placement p) g) (frame_count v) page can.numbered (takes_before g ∙ e))
@@ -178,9 +176,9 @@ module _ {v : ZoneState} {page : ℕ} {old new : Option Placement} (can : CanCha
   pub free_kept : (g : ℕ) → takes_up old g ≡ false → takes_up new g ≡ false → is_free next g ≡ is_free v g
   free_kept g not_had not_has = ap (λ (p : ℕ → Bool). not (some_below p (frame_count v)) && not (is_held v g)) (λ i q. same q i) where
     same : (q : ℕ) → takes_up (map.get next.placement q) g ≡ takes_up (map.get v.placement q) g
-    same q = elim (eqb_tells q page) [
-      | inl is ↦ ap (λ (p : ℕ). takes_up (map.get next.placement p) g) is.1 ∙ takes_page g ∙ not_has ∙ sym (ap (λ (p : ℕ). takes_up (map.get v.placement p) g) is.1 ∙ takes_before g ∙ not_had)
-      | inr isnt ↦ takes_other q g isnt.1
+    same q = elim (where_is q) [
+      | inl here ↦ ap (λ o. takes_up o g) here.2 ∙ not_has ∙ sym (ap (λ o. takes_up o g) here.1 ∙ not_had)
+      | inr there ↦ ap (λ o. takes_up o g) there.1
     ]
 
   pub free_same : (g : ℕ) → takes_up old g ≡ takes_up new g → is_free next g ≡ is_free v g
@@ -237,25 +235,16 @@ module _ {v : ZoneState} {page : ℕ} {old new : Option Placement} (can : CanCha
   abbrev placement_then : map.FinMap nat_cmp Placement
   placement_then = put v.placement page new
 
-  used_before : (q : ℕ) → q ≢ page → IsSome (map.get placement_then q) → IsSome (map.get v.placement q)
-  used_before q ne used = ap is_some (sym (at_other can q ne)) ∙ used
-
-  under_here : (q serial : ℕ) → q ≡ page → is_under (map.get placement_then q) serial ≡ is_under new serial
-  under_here q serial e = ap (λ (p : ℕ). is_under (map.get placement_then p) serial) e ∙ ap (λ (o : Option Placement). is_under o serial) (at_page can)
-
-  under_there : (q serial : ℕ) → q ≢ page → is_under (map.get placement_then q) serial ≡ is_under (map.get v.placement q) serial
-  under_there q serial ne = ap (λ (o : Option Placement). is_under o serial) (at_other can q ne)
-
   way_then : (q serial : ℕ) → IsTrue (is_under (map.get placement_then q) serial) → IsTrue (is_out (entry ∷ v.records) serial) × (page_of (entry ∷ v.records) serial ≡ Some q)
-  way_then q serial under = elim (eqb_tells q page) [
-    | inl same ↦ (let way = (told.own_way serial).0 (sym (under_here q serial same.1) ∙ under) in (way.0, way.1 ∙ ap Some (sym same.1)))
-    | inr other ↦ (told.other_ways q serial other.1).0 ((can.lawful.under_way q serial).0 (sym (under_there q serial other.1) ∙ under))
+  way_then q serial under = elim (where_is can q) [
+    | inl here ↦ (let way = (told.own_way serial).0 (sym (ap (λ o. is_under o serial) here.2) ∙ under) in (way.0, way.1 ∙ ap Some (sym here.0)))
+    | inr there ↦ (told.other_ways q serial there.0).0 ((can.lawful.under_way q serial).0 (sym (ap (λ o. is_under o serial) there.1) ∙ under))
   ]
 
   under_then : (q serial : ℕ) → IsTrue (is_out (entry ∷ v.records) serial) × (page_of (entry ∷ v.records) serial ≡ Some q) → IsTrue (is_under (map.get placement_then q) serial)
-  under_then q serial way = elim (eqb_tells q page) [
-    | inl same ↦ under_here q serial same.1 ∙ (told.own_way serial).1 (way.0, way.1 ∙ ap Some same.1)
-    | inr other ↦ under_there q serial other.1 ∙ (can.lawful.under_way q serial).1 ((told.other_ways q serial other.1).1 way)
+  under_then q serial way = elim (where_is can q) [
+    | inl here ↦ ap (λ o. is_under o serial) here.2 ∙ (told.own_way serial).1 (way.0, way.1 ∙ ap Some here.0)
+    | inr there ↦ ap (λ o. is_under o serial) there.1 ∙ (can.lawful.under_way q serial).1 ((told.other_ways q serial there.0).1 way)
   ]
 
   pub lawful_told : (migrate free : ℕ) → (migrate ≤ free) × (free ≤ frame_count v) → IsLawful (record (noted (with_place v page new) entry) { unmovable = unmovable; migrate = migrate; free = free })
@@ -269,11 +258,11 @@ module _ {v : ZoneState} {page : ℕ} {old new : Option Placement} (can : CanCha
         room_left = told.room_left;
         named = told.named;
         in_use = told.in_use;
-        numbered = λ q used. elim (eqb_tells q page) [ inl same ↦ omega (arith, same.1, can.numbered) | inr other ↦ law.numbered q (used_before q other.1 used) ];
+        numbered = λ q used. elim (where_is can q) [ inl here ↦ omega (arith, here.0, can.numbered) | inr there ↦ law.numbered q (ap is_some (sym there.1) ∙ used) ];
         under_way = λ q serial. (way_then q serial, under_then q serial);
-        upward = λ q serial source target e. elim (eqb_tells q page) [
-          | inl same ↦ can.upward serial source target (sym (at_page can) ∙ ap (map.get placement_then) (sym same.1) ∙ e)
-          | inr other ↦ law.upward q serial source target (sym (at_other can q other.1) ∙ e)
+        upward = λ q serial source target e. elim (where_is can q) [
+          | inl here ↦ can.upward serial source target (sym here.2 ∙ e)
+          | inr there ↦ law.upward q serial source target (sym there.1 ∙ e)
         ];
         apart = apart can;
         within = within can;
