@@ -2,8 +2,7 @@
 use Rattle.std.proofs.Common.{◌≡◌, ◌≢◌, ℕ, Bool, true, false, [], ◌∷◌, refl, sym, ap, ◌∙◌}
 use Rattle.std.specs.Prelude.{Option, Some, None, map as each, nat_eq, ◌&&◌, if◌then◌else◌}
 use Rattle.std.specs.FinMap as map
-use Rattle.std.proofs.lemmas.Bool.{and_parts, and_from, eq-eqb, eqb-true}
-use Rattle.journal_core.proofs.Maps.{no_test}
+use Rattle.std.proofs.lemmas.Bool.{and_parts, and_from, both_ways, eq-eqb, eqb-true, ne_eqb}
 use Rattle.frame_core.specs.declared.place.Address.{Address}
 use Rattle.journal_core.specs.declared.record.Cause.{Cause}
 use Rattle.journal_core.specs.declared.record.Cause.TheVariants.{Pinned}
@@ -52,50 +51,41 @@ pub own_loaded : (z : ZoneState) (client : ℕ) (address : Address) (word : ℕ)
 own_loaded z client address word p own = record { own = own.own; same = own.same }
 
 -- a page that stands in a frame is none that is on its way
-stands_apart : (z : ZoneState) (page frame : ℕ) (p : OnItsWay) → map.get z.placement page ≡ Some (At frame) → is_own z p ≡ true → page ≢ p.page.number
-stands_apart z page frame p at own same =
-    let moving = own_moving z p own in
-    let bad : Some (At frame) ≡ Some (Moving p.serial moving.0 moving.1) = sym at ∙ ap (map.get z.placement) same ∙ moving.2 in
-    cc
+stands_apart : (z : ZoneState) (page frame : ℕ) (p : OnItsWay) → map.get z.placement page ≡ Some (At frame) → is_own z p ≡ true → p.page.number ≢ page
+stands_apart z page frame p at own same = both_ways _ (ap (λ o. is_under o p.serial) (ap (map.get z.placement) same ∙ at)) (own_under z p own)
 
-unused_apart : (z : ZoneState) (page : ℕ) (p : OnItsWay) → map.get z.placement page ≡ None → is_own z p ≡ true → page ≢ p.page.number
-unused_apart z page p unused own same =
-    let moving = own_moving z p own in
-    let bad : None ≡ Some (Moving p.serial moving.0 moving.1) = sym unused ∙ ap (map.get z.placement) same ∙ moving.2 in
-    cc
+unused_apart : (z : ZoneState) (page : ℕ) (p : OnItsWay) → map.get z.placement page ≡ None → is_own z p ≡ true → p.page.number ≢ page
+unused_apart z page p unused own same = both_ways _ (ap (λ o. is_under o p.serial) (ap (map.get z.placement) same ∙ unused)) (own_under z p own)
 
 -- two serials are of two pages
-serials_apart : (z : ZoneState) (p q : OnItsWay) → is_own z p ≡ true → is_own z q ≡ true → q.serial ≢ p.serial → q.page.number ≢ p.page.number
+serials_apart : (z : ZoneState) (p q : OnItsWay) → is_own z p ≡ true → is_own z q ≡ true → q.serial ≢ p.serial → p.page.number ≢ q.page.number
 serials_apart z p q own_p own_q ne same =
     let a = own_moving z p own_p in
     let b = own_moving z q own_q in
-    let one : Some (Moving q.serial b.0 b.1) ≡ Some (Moving p.serial a.0 a.1) = sym b.2 ∙ ap (map.get z.placement) same ∙ a.2 in
+    let one : Some (Moving q.serial b.0 b.1) ≡ Some (Moving p.serial a.0 a.1) = sym b.2 ∙ ap (map.get z.placement) (sym same) ∙ a.2 in
     let bad : q.serial ≡ p.serial = cc in
     ne bad
-
-other_way : (m n : ℕ) → m ≢ n → n ≢ m
-other_way m n ne e = ne (sym e)
 
 pub own_stored : (z : ZoneState) (client : ℕ) (address : Address) (word value frame : ℕ) → placement_at z address ≡ Some (At frame) → (p : OnItsWay) → IsOwnCopy z p → IsOwnCopy (stored z client address word value) p
 own_stored z client address word value frame at p own =
     let page = page_named z address (At frame) at in
     let unnamed : names z.records address p.page.number ≡ false =
-    ap (λ (o : Option ℕ). is_page o p.page.number) page.1 ∙ no_test page.0 p.page.number (stands_apart z page.0 frame p page.2 own.own) in
+    ap (λ (o : Option ℕ). is_page o p.page.number) page.1 ∙ ne_eqb page.0 p.page.number (λ same. stands_apart z page.0 frame p page.2 own.own (sym same)) in
     own_kept z (stored z client address word value) p refl refl (λ w. ap (λ b. if b && nat_eq word w then value else last z.records p.page.number w) unnamed) own
 
 pub own_placed : (z : ZoneState) (client : ℕ) (address : Address) (unmovable : Bool) (page frame : ℕ) → map.get z.placement page ≡ None → (p : OnItsWay) → IsOwnCopy z p → IsOwnCopy (placed z client address unmovable page frame) p
 own_placed z client address unmovable page frame unused p own =
-    let ne : page ≢ p.page.number = unused_apart z page p unused own.own in
+    let ne = unused_apart z page p unused own.own in
     own_kept z (placed z client address unmovable page frame) p refl
-    (get_insert_other z.placement page p.page.number (At frame) (other_way page p.page.number ne))
-    (λ w. skipped (nat_eq page p.page.number) 0 (last z.records p.page.number w) (no_test page p.page.number ne))
+    (get_insert_other z.placement page p.page.number (At frame) ne)
+    (λ w. skipped (nat_eq page p.page.number) 0 (last z.records p.page.number w) (ne_eqb page p.page.number (λ same. ne (sym same))))
     own
 
 -- another page goes on its way
 pub own_isolated : (z : ZoneState) (pair : Pair) (frame : ℕ) → map.get z.placement pair.page ≡ Some (At frame) → (p : OnItsWay) → IsOwnCopy z p → IsOwnCopy (isolated_next z pair) p
 own_isolated z pair frame at p own =
     own_kept z (isolated_next z pair) p refl
-    (get_insert_other z.placement pair.page p.page.number _ (other_way pair.page p.page.number (stands_apart z pair.page frame p at own.own)))
+    (get_insert_other z.placement pair.page p.page.number _ (stands_apart z pair.page frame p at own.own))
     (λ w. refl) own
 
 -- the page that goes on its way
@@ -110,7 +100,7 @@ own_fresh z pair = record {
 own_ended : (z : ZoneState) (entry : Record) (q : OnItsWay) (frame : ℕ) (p : OnItsWay) → is_own z q ≡ true → q.serial ≢ p.serial → ((w : ℕ) → last (entry ∷ z.records) p.page.number w ≡ last z.records p.page.number w) → IsOwnCopy z p → IsOwnCopy (settled z entry q.page.number (At frame)) p
 own_ended z entry q frame p own_q ne words own =
     own_kept z (settled z entry q.page.number (At frame)) p refl
-    (get_insert_other z.placement q.page.number p.page.number (At frame) (other_way q.page.number p.page.number (serials_apart z p q own.own own_q ne)))
+    (get_insert_other z.placement q.page.number p.page.number (At frame) (serials_apart z p q own.own own_q ne))
     words own
 
 pub own_put_back : (z : ZoneState) (cause : Cause) (q p : OnItsWay) → is_own z q ≡ true → q.serial ≢ p.serial → IsOwnCopy z p → IsOwnCopy (put_back_to_source z q.serial q.page.number cause) p

@@ -1,9 +1,10 @@
 -- What is known of a zone that is sound.
-use Rattle.std.proofs.Common.{◌≡◌, ◌≢◌, ℕ, ◌+◌, ◌-◌, ◌<◌, Bool, true, false, ◌∷◌, length, refl, ap, ◌∙◌}
+use Rattle.std.proofs.Common.{◌≡◌, ◌≢◌, ℕ, ◌<◌, true, false, length, refl, ap, ◌∙◌}
 use Rattle.std.specs.Prelude.{Option, Some, None, IsSome, is_some, nat_eq, ◌||◌, if◌then◌else◌}
 use Rattle.std.specs.Option.{option_and_then}
 use Rattle.std.specs.FinMap as map
 use Rattle.std.proofs.lemmas.Bool.{eq-eqb, ltb-true}
+pub use Rattle.std.proofs.lemmas.Bool.{cond-true as taken, cond-false as skipped}
 use Rattle.frame_core.specs.declared.place.Address.{Address}
 use Rattle.journal_core.specs.History.{page_at}
 use Rattle.journal_core.specs.Moves.{out}
@@ -14,12 +15,6 @@ use Rattle.state_core.specs.ZoneState.{words_frame, ZoneState, frame_count, take
 
 pub chosen : {A : Type 0} (n : ℕ) (x y : A) → (if nat_eq n n then x else y) ≡ x
 chosen n x y = ap (λ b. if b then x else y) (eq-eqb n n refl)
-
-pub taken : {A : Type 0} (b : Bool) (x y : A) → b ≡ true → (if b then x else y) ≡ x
-taken b x y e = ap (λ t. if t then x else y) e
-
-pub skipped : {A : Type 0} (b : Bool) (x y : A) → b ≡ false → (if b then x else y) ≡ y
-skipped b x y e = ap (λ t. if t then x else y) e
 
 pub not_none : {A : Type 0} (o : Option A) (x : A) → o ≡ Some x → IsSome o
 not_none o x e = ap is_some e

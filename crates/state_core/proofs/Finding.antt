@@ -1,12 +1,13 @@
 -- What the tables of a zone answer.
-use Rattle.std.proofs.Common.{◌≡◌, ℕ, ◌+◌, ◌-◌, ◌*◌, ◌/◌, ◌<◌, ◌≤◌, Bool, true, false, refl, sym, ap, ◌∙◌, arith}
-use Rattle.std.specs.Prelude.{Option, Some, None, IsSome, IsTrue, IfSome, is_some, is_none, if◌then◌else◌, ◌&&◌, ◌||◌}
+use Rattle.std.proofs.Common.{◌≡◌, ℕ, ◌+◌, ◌-◌, ◌<◌, ◌≤◌, Bool, true, refl, sym, ap, ◌∙◌, arith}
+use Rattle.std.specs.Prelude.{Option, Some, None, IsSome, IsTrue, IfSome, is_some, is_none}
 use Rattle.std.specs.FinMap.{get}
+use Rattle.std.proofs.lemmas.Bool.{both_ways, not-true, not-false, true_from_ne_false}
 use Rattle.frame_core.proofs.Searches.{lowest_some, lowest_before, no_lowest, count_all, count_some}
-use Rattle.frame_core.specs.Below.{lowest, count_below, count_from}
-use Rattle.state_core.specs.declared.placement.Placement.{Placement}
+use Rattle.frame_core.specs.Below.{count_below, count_from}
 use Rattle.state_core.specs.Lawful.{IsLawful}
 use Rattle.state_core.specs.ZoneState.{ZoneState, frame_count, is_free, lowest_free_frame, lowest_unused_page}
+use Rattle.state_core.proofs.Facts.{none_is}
 
 -- the lowest that is found is free, and in the zone
 pub lowest_is_free : (v : ZoneState) (o : Option ℕ) → o ≡ lowest_free_frame v → IfSome o (λ frame. IsTrue (is_free v frame))
@@ -17,14 +18,6 @@ pub lowest_is_within : (v : ZoneState) (o : Option ℕ) → o ≡ lowest_free_fr
 lowest_is_within v None e = tt
 lowest_is_within v (Some frame) e = (lowest_some (is_free v) (frame_count v) frame (sym e)).0
 
-is_none_none : (o : Option Placement) → is_none o ≡ true → o ≡ None
-is_none_none None e = refl
-is_none_none (Some placement) e = cc
-
-not_none_is : (o : Option Placement) → is_none o ≡ false → is_some o ≡ true
-not_none_is None e = cc
-not_none_is (Some placement) e = refl
-
 some_free : (v : ZoneState) (o : Option ℕ) → lowest_free_frame v ≡ o → IsSome o → (frame : ℕ) × (frame < frame_count v) × (is_free v frame ≡ true)
 some_free v None e s = cc
 some_free v (Some frame) e s = let found = lowest_some (is_free v) (frame_count v) frame e in (frame, found.0, found.1)
@@ -34,23 +27,19 @@ pub unused_left : (v : ZoneState) → IsLawful v → IsSome (lowest_free_frame v
 unused_left v law some none =
     let free = some_free v (lowest_free_frame v) refl some in
     let all : count_below (λ page. is_some (get v.placement page)) (frame_count v) ≡ frame_count v =
-    count_all (λ page. is_some (get v.placement page)) (frame_count v) (λ page h. not_none_is (get v.placement page) (no_lowest (λ q. is_none (get v.placement q)) (frame_count v) page none h)) in
+    count_all (λ page. is_some (get v.placement page)) (frame_count v) (λ page h. not-false _ (no_lowest (λ q. is_none (get v.placement q)) (frame_count v) page none h)) in
     let one = count_some (is_free v) (frame_count v) free.0 free.1 free.2 in
     omega (arith, law.sum, all, one)
 
-none_or_some : {A : Type 0} (o : Option A) → (o ≡ None → ⊥) → IsSome o
-none_or_some None ne = absurd (ne refl)
-none_or_some (Some x) ne = refl
-
 -- a free frame makes the search find one
 pub some_lowest : (v : ZoneState) (frame : ℕ) → is_free v frame ≡ true → frame < frame_count v → IsSome (lowest_free_frame v)
-some_lowest v frame free within = none_or_some (lowest_free_frame v) (λ none. (let bad : false ≡ true = sym (no_lowest (is_free v) (frame_count v) frame none within) ∙ free in cc))
+some_lowest v frame free within = true_from_ne_false _ (λ e. both_ways _ (no_lowest (is_free v) (frame_count v) frame (none_is _ e) within) free)
 
 -- the lowest unused page number is unused, and each below is in use
 pub unused_is : (v : ZoneState) (page : ℕ) → lowest_unused_page v ≡ Some page → (page < frame_count v) × (get v.placement page ≡ None) × ((q : ℕ) → q < page → is_some (get v.placement q) ≡ true)
 unused_is v page e =
     let found = lowest_some (λ q. is_none (get v.placement q)) (frame_count v) page e in
-    (found.0, is_none_none (get v.placement page) found.1, λ q h. not_none_is (get v.placement q) (lowest_before (λ r. is_none (get v.placement r)) (frame_count v) page q e h))
+    (found.0, none_is _ (not-true _ found.1), λ q h. not-false _ (lowest_before (λ r. is_none (get v.placement r)) (frame_count v) page q e h))
 
 pub count_from_some : (p : ℕ → Bool) (first n k : ℕ) → first ≤ k → k < first + n → p k ≡ true → 0 < count_from p first n
 unfolding count_from

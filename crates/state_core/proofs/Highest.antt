@@ -2,6 +2,7 @@
 use Rattle.std.proofs.Common.{◌≡◌, ℕ, zero, suc, ◌<◌, Bool, true, false, ◌⊎◌, inl, inr, refl, sym, ap, ◌∙◌, arith}
 use Rattle.std.specs.Prelude.{Option, Some, None, if◌then◌else◌}
 use Rattle.std.proofs.lemmas.Bool.Decides.{leb_tells}
+use Rattle.std.proofs.lemmas.Option.{same_Some}
 use Rattle.frame_core.specs.Below.{highest}
 use Rattle.state_core.proofs.Facts.{taken, skipped}
 
@@ -10,9 +11,8 @@ below_suc k n h = elim (leb_tells n k)
     [ inl at ↦ let same : k ≡ n = omega (arith, at.1) in inr same | inr under ↦ inl under.1 ]
 
 -- the last number passes, or it doesn't and the rest is searched
-by_last : (n k : ℕ) (o : Option ℕ) (b : Bool) → (if b then Some n else o) ≡ Some k → ((b ≡ true) × (n ≡ k))
-    ⊎ ((b ≡ false) × (o ≡ Some k))
-by_last n k o true e = let same : n ≡ k = cc in inl (refl, same)
+by_last : (n k : ℕ) (o : Option ℕ) (b : Bool) → (if b then Some n else o) ≡ Some k → ((b ≡ true) × (n ≡ k)) ⊎ ((b ≡ false) × (o ≡ Some k))
+by_last n k o true e = inl (refl, same_Some n k e)
 by_last n k o false e = inr (refl, e)
 
 by_none : (n : ℕ) (o : Option ℕ) (b : Bool) → (if b then Some n else o) ≡ None → (b ≡ false) × (o ≡ None)

@@ -1,12 +1,10 @@
 -- What the tables of a sound zone say of its state.
-use Rattle.std.proofs.Common.{◌≡◌, ℕ, ◌+◌, ◌<◌, ◌≤◌, Bool, true, false, [], ◌∷◌, ◌⊎◌, inl, inr, refl, sym, ap, ◌∙◌, arith}
-use Rattle.std.specs.Prelude.{Option, Some, None, ◌&&◌, ◌||◌, if◌then◌else◌}
+use Rattle.std.proofs.Common.{◌≡◌, ℕ, true, refl, sym, ap, ◌∙◌, arith}
+use Rattle.std.specs.Prelude.{Option, Some, None}
 use Rattle.std.specs.FinMap as map
-use Rattle.std.specs.FinSet as set
-use Rattle.std.proofs.lemmas.Bool.{eq-eqb}
-use Rattle.std.proofs.lemmas.Bool.Decides.{eqb_tells}
+use Rattle.std.proofs.lemmas.Bool.{eq-eqb, eqb-true}
+pub use Rattle.std.proofs.lemmas.Bool.{false_from_ne_true as when_not}
 use Rattle.frame_core.proofs.Searches.{lowest_is, lowest_none, lowest_some}
-use Rattle.state_core.specs.declared.information.Look.TheVariants as look
 use Rattle.state_core.specs.declared.placement.Placement.{Placement}
 use Rattle.state_core.specs.declared.placement.Placement.TheVariants.{At, Moving}
 use Rattle.state_core.specs.Lawful.{IsLawful}
@@ -18,11 +16,7 @@ use Rattle.state_core.proofs.Facts.{not_none}
 pub stands_at : (o : Option Placement) (frame : ℕ) → stands_in o frame ≡ true → o ≡ Some (At frame)
 stands_at None frame e = cc
 stands_at (Some (At f)) frame e =
-    elim (eqb_tells frame f) [
-      | inl same ↦ ap (λ (g : ℕ). Some (At g))
-          (sym same.1)
-      | inr other ↦ (let bad : false ≡ true = sym other.0 ∙ e in cc)
-    ]
+    ap (λ (g : ℕ). Some (At g)) (sym (eqb-true frame f e))
 stands_at (Some (Moving serial source target)) frame e = cc
 
 at_stands : (o : Option Placement) (frame : ℕ) → o ≡ Some (At frame) → stands_in o frame ≡ true
@@ -30,10 +24,6 @@ at_stands o frame e = ap (λ (p : Option Placement). stands_in p frame) e ∙ eq
 
 pub at_takes : (o : Option Placement) (frame : ℕ) → o ≡ Some (At frame) → takes_up o frame ≡ true
 at_takes o frame e = ap (λ (p : Option Placement). takes_up p frame) e ∙ eq-eqb frame frame refl
-
-pub when_not : (b : Bool) → (b ≡ true → ⊥) → b ≡ false
-when_not true ne = absurd (ne refl)
-when_not false ne = refl
 
 pub holder_at : (v : ZoneState) → IsLawful v → (page frame : ℕ) → map.get v.placement page ≡ Some (At frame) →
     holder v frame ≡ Some page

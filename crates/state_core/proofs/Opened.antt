@@ -1,13 +1,14 @@
 -- A zone that was just opened.
-use Rattle.std.proofs.Common.{◌≡◌, ℕ, ◌+◌, ◌*◌, ◌≤◌, true, false, not, [], ◌⊎◌, sym, ap, ◌∙◌, arith}
-use Rattle.std.specs.Prelude.{Option, Some, None, IsSome, is_some, ◌&&◌}
+use Rattle.std.proofs.Common.{◌≡◌, ℕ, ◌*◌, true, false, not, refl, sym, ap, ◌∙◌, arith}
+use Rattle.std.specs.Prelude.{Option, None, is_some, ◌&&◌}
 use Rattle.std.specs.FinSet as set
 use Rattle.std.specs.FinMap as map
 use Rattle.std.specs.Ordering.{nat_cmp}
+use Rattle.std.proofs.lemmas.Bool.{both_ways}
+use Rattle.std.proofs.lemmas.Option.{none-some}
 use Rattle.frame_core.proofs.Searches.{count_all, count_none, none_some}
 use Rattle.frame_core.specs.Below.{count_below}
 use Rattle.state_core.specs.declared.placement.Placement.{Placement}
-use Rattle.state_core.specs.declared.placement.Placement.TheVariants.{Moving}
 use Rattle.state_core.specs.Steps.{opened}
 use Rattle.state_core.specs.Refusals.{IsOpenable}
 use Rattle.state_core.specs.Lawful.{IsLawful, is_under}
@@ -50,18 +51,6 @@ module _ (number blocks places : ℕ) where
   pub huge_count : count_below (λ first. is_some (map.get new_zone.handed_out first)) (frame_count new_zone) ≡ 0
   huge_count = count_none (λ first. is_some (map.get new_zone.handed_out first)) (frame_count new_zone) (λ first h. ap is_some (no_block first))
 
-  none_some_clash : {A : Type 0} (o : Option A) → o ≡ None → IsSome o → ⊥
-  none_some_clash o e s = let bad : false ≡ true = sym (ap is_some e) ∙ s in cc
-
-  taken_clash : (page frame : ℕ) → takes_up (map.get new_zone.placement page) frame ≡ true → ⊥
-  taken_clash page frame e = let bad : false ≡ true = sym (untaken page frame) ∙ e in cc
-
-  covered_clash : (first frame : ℕ) → covers (map.get new_zone.handed_out first) first frame ≡ true → ⊥
-  covered_clash first frame e = let bad : false ≡ true = sym (uncovered first frame) ∙ e in cc
-
-  under_clash : (page serial : ℕ) → is_under (map.get new_zone.placement page) serial ≡ true → ⊥
-  under_clash page serial e = let bad : false ≡ true = sym (ap (λ (o : Option Placement). is_under o serial) (no_page page)) ∙ e in cc
-
   pub opened_lawful : IsOpenable blocks places → IsLawful new_zone
   opened_lawful openable = record {
     size = (openable.0, openable.1);
@@ -70,18 +59,18 @@ module _ (number blocks places : ℕ) where
     well_ended = tt;
     room_left = omega arith;
     named = λ address page e. cc;
-    in_use = λ page used. absurd (none_some_clash _ (no_page page) used);
-    numbered = λ page used. absurd (none_some_clash _ (no_page page) used);
-    under_way = λ page serial. (λ h. absurd (under_clash page serial h), λ h. (let bad : false ≡ true = h.0 in cc));
-    upward = λ page serial source target e. (let bad : None ≡ Some (Moving serial source target) = sym (no_page page) ∙ e in cc);
-    apart = λ p q frame h k. absurd (taken_clash p frame h);
-    within = λ page frame h. absurd (taken_clash page frame h);
-    clear = λ page frame h. absurd (taken_clash page frame h);
-    blocks = λ first order e. (let bad : None ≡ Some order = sym (no_block first) ∙ e in cc);
-    disjoint = λ a b frame h k. absurd (covered_clash a frame h);
+    in_use = λ page used. absurd (both_ways _ (ap is_some (no_page page)) used);
+    numbered = λ page used. absurd (both_ways _ (ap is_some (no_page page)) used);
+    under_way = λ page serial. (λ h. absurd (both_ways _ (ap (λ o. is_under o serial) (no_page page)) h), λ h. absurd (both_ways false refl h.0));
+    upward = λ page serial source target e. absurd (none-some _ (sym (no_page page) ∙ e));
+    apart = λ p q frame h k. absurd (both_ways _ (untaken p frame) h);
+    within = λ page frame h. absurd (both_ways _ (untaken page frame) h);
+    clear = λ page frame h. absurd (both_ways _ (untaken page frame) h);
+    blocks = λ first order e. absurd (none-some _ (sym (no_block first) ∙ e));
+    disjoint = λ a b frame h k. absurd (both_ways _ (uncovered a frame) h);
     given = no_block;
     marks = set.contains-empty nat_cmp;
-    unmovable = λ page e. (let bad : false ≡ true = sym (set.contains-empty nat_cmp page) ∙ e in cc);
+    unmovable = λ page e. absurd (both_ways _ (set.contains-empty nat_cmp page) e);
     fingers = (omega arith, omega arith);
     begun = λ start e. cc;
     sum = omega (arith, free_count, page_count, held_count);

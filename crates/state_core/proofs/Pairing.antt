@@ -1,28 +1,16 @@
 -- The pair that a search finds is the next, and where it finds none there is none.
-use Rattle.std.proofs.Common.{◌≡◌, ℕ, ◌<◌, ◌≤◌, Bool, true, false, not, inl, inr, refl, sym, ap, subst, ◌∙◌, arith}
+use Rattle.std.proofs.Common.{◌≡◌, ℕ, ◌<◌, ◌≤◌, Bool, true, not, inl, inr, refl, sym, ap, subst, ◌∙◌, arith}
 use Rattle.std.specs.Prelude.{Option, Some, None, IfNone, nat_le, nat_lt, ◌&&◌}
-use Rattle.std.proofs.lemmas.Bool.{ltb-true, leb-true, lt-ltb, le-leb}
+use Rattle.std.proofs.lemmas.Bool.{and_parts, both_ways, false_from_ne_true, not-true, ltb-true, leb-true, lt-ltb, le-leb}
 use Rattle.std.proofs.lemmas.Bool.Decides.{leb_tells}
+use Rattle.std.proofs.lemmas.Option.{same_Some, none-some}
 use Rattle.frame_core.proofs.Searches.{lowest_is, lowest_some, lowest_before}
 use Rattle.state_core.specs.declared.round.Pair.{Pair}
 use Rattle.state_core.specs.Lawful.{IsLawful}
 use Rattle.state_core.specs.Pairs.{IsSource, IsTarget, IsPair, is_marked, can_move, can_move_if_some, holder, holds_movable, takes_movable, next_source, next_target, pair_from, pair_at, next_pair}
 use Rattle.state_core.specs.ZoneState.{ZoneState, frame_count, is_free}
 use Rattle.state_core.proofs.Highest.{highest_is, highest_some, highest_above}
-use Rattle.state_core.proofs.Placed.{untrue}
 use Rattle.state_core.proofs.Holding.{holder_at, holder_found}
-
-both : (a b : Bool) → (a && b) ≡ true → (a ≡ true) × (b ≡ true)
-both true b e = (refl, e)
-both false b e = cc
-
-is_not : (b : Bool) → not b ≡ true → b ≡ false
-is_not true e = cc
-is_not false e = refl
-
-no_true : (b : Bool) → (b ≡ true → ⊥) → b ≡ false
-no_true true ne = absurd (ne refl)
-no_true false ne = refl
 
 -- a page that passes is there
 page_of_some : (v : ZoneState) (o : Option ℕ) → can_move_if_some v o ≡ true →
@@ -47,15 +35,15 @@ module _ (v : ZoneState) (law : IsLawful v) where
   passes_source : (frame : ℕ) → frame < v.free → is_from v frame ≡ true →
       (page : ℕ) × (holder v frame ≡ Some page) × IsSource v page frame
   passes_source frame high e =
-      let parts = both (nat_le v.migrate frame) (holds_movable v frame) e in
-      let inner = both (not (is_marked v frame)) (can_move_if_some v (holder v frame)) parts.1 in
+      let parts = and_parts (nat_le v.migrate frame) (holds_movable v frame) e in
+      let inner = and_parts (not (is_marked v frame)) (can_move_if_some v (holder v frame)) parts.1 in
       let page = page_of_some v (holder v frame) inner.1 in (
         page.0,
         page.1,
         record {
           here = holder_found v page.0 frame page.1;
           movable = page.2;
-          unmarked = is_not (is_marked v frame) inner.0;
+          unmarked = not-true (is_marked v frame) inner.0;
           low = leb-true v.migrate frame parts.0;
           high = high;
         },
@@ -68,11 +56,11 @@ module _ (v : ZoneState) (law : IsLawful v) where
 
   passes_target : (source frame : ℕ) → frame < v.free → is_to v source frame ≡ true → IsTarget v source frame
   passes_target source frame high e =
-      let parts = both (nat_lt source frame) (takes_movable v frame) e in
-      let inner = both (not (is_marked v frame)) (is_free v frame) parts.1 in
+      let parts = and_parts (nat_lt source frame) (takes_movable v frame) e in
+      let inner = and_parts (not (is_marked v frame)) (is_free v frame) parts.1 in
       record {
         free = inner.1;
-        unmarked = is_not (is_marked v frame) inner.0;
+        unmarked = not-true (is_marked v frame) inner.0;
         low = ltb-true source frame parts.0;
         high =
             high;
@@ -84,12 +72,12 @@ module _ (v : ZoneState) (law : IsLawful v) where
   pair_is page source target pair =
       let from : next_source v ≡ Some source =
       lowest_is (is_from v) v.free source pair.from.high (source_passes page source pair.from)
-      (λ j h. no_true (is_from v j) (λ e.
+      (λ j h. false_from_ne_true (is_from v j) (λ e.
       (let one = passes_source j (let high = pair.from.high in omega arith) e in
       let least : source ≤ j = pair.lowest one.0 j one.2 in omega arith))) in
       let to : next_target v source ≡ Some target =
       highest_is (is_to v source) v.free target pair.to.high (target_passes source target pair.to)
-      (λ j h high. no_true (is_to v source j) (λ e.
+      (λ j h high. false_from_ne_true (is_to v source j) (λ e.
       (let most : j ≤ target = pair.highest j (passes_target source j high e) in omega arith))) in
       ap (pair_at v) from ∙ ap (λ (o : Option ℕ). pair_from source o (next_target v source))
       (holder_at v law page source pair.from.here)
@@ -101,24 +89,22 @@ module _ (v : ZoneState) (law : IsLawful v) where
   found_pair page source target from holds to =
       let low = lowest_some (is_from v) v.free source from in
       let one = passes_source source low.0 low.1 in
-      let same : one.0 ≡ page = one_page (holder v source) one.0 page one.1 holds in
+      let same : one.0 ≡ page = same_Some one.0 page (sym one.1 ∙ holds) in
       let high = highest_some (is_to v source) v.free target to in
       record {
         from = subst (λ p. IsSource v p source) same one.2;
         lowest = λ other frame is. elim (leb_tells source frame) [
           | inl most ↦ most.1
-          | inr less ↦ absurd (untrue _ (lowest_before (is_from v) v.free source frame from less.1)
+          | inr less ↦ absurd (both_ways _ (lowest_before (is_from v) v.free source frame from less.1)
               (source_passes other frame is))
         ];
         to = passes_target source target high.0 high.1;
         highest = λ frame is. elim (leb_tells frame target) [
           | inl most ↦ most.1
-          | inr more ↦ absurd (untrue _ (highest_above (is_to v source) v.free target frame to more.1 is.high)
+          | inr more ↦ absurd (both_ways _ (highest_above (is_to v source) v.free target frame to more.1 is.high)
               (target_passes source frame is))
         ];
-      } where
-        one_page : (o : Option ℕ) (p q : ℕ) → o ≡ Some p → o ≡ Some q → p ≡ q
-        one_page o p q e f = cc
+      }
 
 -- the parts of a pair that is found
 pub record Parts (v : ZoneState) (pair : Pair) : Type 0 where
@@ -153,9 +139,7 @@ pair_found v law pair e =
     found_pair v law pair.page pair.source pair.target found.from found.holds found.to
 
 pub no_pair : (v : ZoneState) → IsLawful v → next_pair v ≡ None → (page source target : ℕ) → IsPair v page source target → ⊥
-no_pair v law none page source target pair = not_both (next_pair v) _ none (pair_is v law page source target pair) where
-  not_both : (o : Option Pair) (found : Pair) → o ≡ None → o ≡ Some found → ⊥
-  not_both o found e f = cc
+no_pair v law none page source target pair = none-some _ (sym none ∙ pair_is v law page source target pair)
 
 -- a search that finds none
 pub none_found : (v : ZoneState) → IsLawful v → (o : Option Pair) → o ≡ None → next_pair v ≡ None →

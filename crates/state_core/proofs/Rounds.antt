@@ -1,11 +1,12 @@
 -- Whether a round begins calm, and what a zone is when it has begun.
-use Rattle.std.proofs.Common.{◌≡◌, ℕ, ◌-◌, ◌*◌, ◌<◌, Bool, true, false, not, List, length, take, refl, sym, ap, ◌∙◌, arith}
+use Rattle.std.proofs.Common.{◌≡◌, ℕ, ◌-◌, ◌<◌, true, false, not, List, length, take, refl, sym, ap, ◌∙◌, arith}
 use Rattle.std.specs.Prelude.{Some, nat_eq, ◌&&◌}
 use Rattle.state_core.specs.Moving.{round_begun}
 use Rattle.std.specs.List.{list_all}
-use Rattle.std.proofs.lemmas.Bool.{eq-eqb}
+use Rattle.std.proofs.Math.Bool.{and-true}
+use Rattle.std.proofs.lemmas.Bool.{and_right, eq-eqb}
+use Rattle.std.proofs.lemmas.Option.{same_Some}
 use Rattle.frame_core.proofs.Searches.{some_at, none_some}
-use Rattle.frame_core.specs.Below.{some_below}
 use Rattle.journal_core.specs.declared.record.Record.{Record}
 use Rattle.journal_core.specs.Moves.{out}
 use Rattle.state_core.specs.declared.round.RoundStart.{RoundStart}
@@ -13,14 +14,9 @@ use Rattle.state_core.specs.Lawful.{IsLawful}
 use Rattle.state_core.specs.Pairs.{is_stuck, is_calm}
 use Rattle.state_core.specs.ZoneState.{ZoneState, frame_count, keeps_quiet, is_quiet_since}
 
-spoilt : (a b : Bool) → b ≡ true → false ≡ (a && not b)
-spoilt true b e = sym (ap not e)
-spoilt false b e = refl
-
 -- one stuck frame is enough
 pub not_calm : (v : ZoneState) (frame : ℕ) → frame < frame_count v → is_stuck v frame ≡ true → false ≡ is_calm v
-not_calm v frame within stuck = spoilt (nat_eq (length (out v.records)) 0) (some_below (is_stuck v) (frame_count v))
-    (some_at (is_stuck v) (frame_count v) frame within stuck)
+not_calm v frame within stuck = sym (and_right (nat_eq (length (out v.records)) 0) _ (ap not (some_at (is_stuck v) (frame_count v) frame within stuck)))
 
 pub calm : (v : ZoneState) → length (out v.records) ≡ 0 →
     ((frame : ℕ) → frame < frame_count v → is_stuck v frame ≡ false) → true ≡ is_calm v
@@ -28,9 +24,6 @@ calm v none free = sym (λ i. eq-eqb (length (out v.records)) 0 none i && not (n
 
 abbrev pub begun : ZoneState → RoundStart → ZoneState
 begun v start = record v { migrate = 0; free = frame_count v; round = Some start }
-
-one_start : (a b : RoundStart) → Some a ≡ Some b → a ≡ b
-one_start a b e = cc
 
 pub lawful_from : (v : ZoneState) → IsLawful v → (start : RoundStart) → start.records ≡ length v.records →
     IsLawful (begun v start)
@@ -55,20 +48,16 @@ lawful_from v law start here = record {
   unmovable = law.unmovable;
   fingers = (omega arith, omega arith);
   begun = λ other e. (let same : start.records ≡ other.records =
-      ap (λ (s : RoundStart). s.records) (one_start start other e) in omega arith);
+      ap (λ (s : RoundStart). s.records) (same_Some start other e) in omega arith);
   sum = law.sum;
 }
 
 pub lawful_begun : (v : ZoneState) → IsLawful v → IsLawful (round_begun v)
 lawful_begun v law = lawful_from v law (record { records = length v.records; calm = is_calm v }) refl
 
-and_all : (a : Bool) → (a && true) ≡ a
-and_all true = refl
-and_all false = refl
-
 -- no call was made since
 pub quiet_begun : (records : List Record) (start : RoundStart) → start.records ≡ length records →
     start.calm ≡ is_quiet_since records (Some start)
 quiet_begun records start here =
     let none : length records - start.records ≡ 0 = omega arith in
-    sym (ap (λ (n : ℕ). start.calm && list_all keeps_quiet (take n records)) none ∙ and_all start.calm)
+    sym (ap (λ (n : ℕ). start.calm && list_all keeps_quiet (take n records)) none ∙ and-true start.calm)

@@ -10,7 +10,7 @@ use Rattle.journal_core.specs.declared.record.Cause.TheVariants.{Pinned, NotCopi
 use Rattle.journal_core.specs.declared.record.Record.{Record}
 use Rattle.journal_core.specs.declared.record.Record.TheVariants.{Isolate, Moved as WasMoved, Back as WasPutBack}
 use Rattle.journal_core.specs.History.{page_at, last, dirty, pins, maps}
-use Rattle.journal_core.specs.Moves.{isolated, moved, out}
+use Rattle.journal_core.specs.Moves.{isolated, out}
 use Rattle.word_core.specs.Page.{Page, OnItsWay}
 use Rattle.state_core.specs.declared.error.ZoneError.{ZoneError}
 use Rattle.state_core.specs.declared.error.ZoneError.TheVariants.{JournalFull}

@@ -1,0 +1,156 @@
+-- The move of a page ends: it stands in its target or in its source, and the other frame is free.
+use Rattle.std.proofs.Common.{◌≡◌, ◌≢◌, ℕ, ◌+◌, ◌<◌, true, false, ◌∷◌, length, inl, refl, sym, ap, subst, ◌∙◌, arith}
+use Rattle.std.specs.Prelude.{Option, Some, IsSomeAnd, IsTrue, nat_eq, ◌||◌, ◌↔◌, ⊤}
+use Rattle.std.specs.List.{list_any}
+use Rattle.std.specs.FinMap as map
+use Rattle.std.proofs.Math.Bool.{or-false}
+use Rattle.std.proofs.lemmas.Bool.{both_ways, eq-eqb, eqb-true, ne_eqb, or_left, or_right}
+use Rattle.std.proofs.lemmas.Option.{same_Some}
+use Rattle.frame_core.specs.Below.{count_below}
+use Rattle.journal_core.proofs.OnTheWay.{still_out, ended_out, length_without}
+use Rattle.journal_core.specs.declared.record.Cause.{Cause}
+use Rattle.journal_core.specs.declared.record.Cause.TheVariants.{Pinned, NotCopied}
+use Rattle.journal_core.specs.declared.record.Record.{Record}
+use Rattle.journal_core.specs.declared.record.Record.TheVariants.{Moved, Back}
+use Rattle.journal_core.specs.History.{pins}
+use Rattle.journal_core.specs.Moves.{out, is_out, without, page_of, IsWellEnded}
+use Rattle.state_core.specs.declared.placement.Placement.{Placement}
+use Rattle.state_core.specs.declared.placement.Placement.TheVariants.{At, Moving}
+use Rattle.state_core.specs.Lawful.{IsLawful, is_under}
+use Rattle.state_core.specs.Moving.{settled, moved_to_target, put_back_to_source, source_of, target_of, HasCause}
+use Rattle.state_core.specs.ZoneState.{ZoneState, frame_count, takes_up, is_free}
+use Rattle.state_core.proofs.Facts.{not_none}
+use Rattle.state_core.proofs.Moving.{CanSettle, IsRecorded, moved_still, back_still, lawful_settled}
+use Rattle.state_core.proofs.Places.{free_old, free_left, free_same, free_count, ways_of}
+
+module _ (v : ZoneState) (page serial source target : ℕ) (law : IsLawful v) (at : map.get v.placement page ≡ Some (Moving serial source target)) where
+  abbrev way : Placement
+  way = Moving serial source target
+
+  known_out : IsTrue (is_out v.records serial) × (page_of v.records serial ≡ Some page)
+  known_out = (law.under_way page serial).0 (ap (λ (o : Option Placement). is_under o serial) at ∙ eq-eqb serial serial refl)
+
+  pub is_out_now : is_out v.records serial ≡ true
+  is_out_now = known_out.0
+
+  pub page_is : page_of v.records serial ≡ Some page
+  page_is = known_out.1
+
+  pub frames_apart : source ≢ target
+  frames_apart e = let up = law.upward page serial source target at in absurd (omega arith)
+
+  takes_source : takes_up (Some way) source ≡ true
+  takes_source = or_left _ _ (eq-eqb source source refl)
+
+  takes_target : takes_up (Some way) target ≡ true
+  takes_target = or_right (nat_eq target source) _ (eq-eqb target target refl)
+
+  can_end : (frame : ℕ) → takes_up (Some way) frame ≡ true → CanSettle v page way (At frame)
+  can_end frame had = record {
+    lawful = law;
+    at = at;
+    numbered = law.numbered page (not_none _ way at);
+    takes = λ g e. inl (ap (takes_up (Some way)) (eqb-true g frame e) ∙ had);
+    upward = λ s from to e. cc;
+  }
+
+  pub can_move_on : CanSettle v page way (At target)
+  can_move_on = can_end target takes_target
+
+  pub can_go_back : CanSettle v page way (At source)
+  can_go_back = can_end source takes_source
+
+  -- moved: the only frame that changes is the source
+  pub moved_others : (entry : Record) (g : ℕ) → g ≢ source → is_free (settled v entry page (At target)) g ≡ is_free v g
+  moved_others entry g ne = free_same can_move_on g (ap (λ b. b || nat_eq g target) (ne_eqb g source ne))
+
+  pub moved_source : (entry : Record) → is_free (settled v entry page (At target)) source ≡ true
+  moved_source entry = free_left can_move_on source takes_source (ne_eqb source target frames_apart)
+
+  -- put back: the only frame that changes is the target
+  pub back_others : (entry : Record) (g : ℕ) → g ≢ target → is_free (settled v entry page (At source)) g ≡ is_free v g
+  back_others entry g ne = free_same can_go_back g (ap (λ b. nat_eq g source || b) (ne_eqb g target ne) ∙ or-false (nat_eq g source))
+
+  pub back_target : (entry : Record) → is_free (settled v entry page (At source)) target ≡ true
+  back_target entry = free_left can_go_back target takes_target (ne_eqb target source (λ e. frames_apart (sym e)))
+
+  pub source_used : is_free v source ≡ false
+  source_used = free_old can_go_back source takes_source
+
+  pub target_used : is_free v target ≡ false
+  target_used = free_old can_go_back target takes_target
+
+  pub source_within : source < frame_count v
+  source_within = law.within page source (ap (λ (o : Option Placement). takes_up o source) at ∙ takes_source)
+
+  pub target_in : target < frame_count v
+  target_in = law.within page target (ap (λ (o : Option Placement). takes_up o target) at ∙ takes_target)
+
+  pub moved_more : (entry : Record) → count_below (is_free (settled v entry page (At target))) (frame_count v) ≡ count_below (is_free v) (frame_count v) + 1
+  moved_more entry = omega (arith, free_count can_move_on)
+
+  pub back_more : (entry : Record) → count_below (is_free (settled v entry page (At source))) (frame_count v) ≡ count_below (is_free v) (frame_count v) + 1
+  back_more entry = omega (arith, free_count can_go_back)
+
+  pub out_fewer : length (without serial (out v.records)) + 1 ≡ length (out v.records)
+  out_fewer = length_without v.records law.well_ended serial is_out_now
+
+  -- the serials that go on being out are the others
+  was_out : (s : ℕ) → list_any (nat_eq s) (without serial (out v.records)) ≡ true → (s ≢ serial) × (is_out v.records s ≡ true)
+  was_out s e =
+      let apart : s ≢ serial = λ same. both_ways _ (ended_out serial (out v.records)) (ap (λ (n : ℕ). list_any (nat_eq n) (without serial (out v.records))) (sym same) ∙ e) in
+      (apart, sym (still_out serial s (out v.records) apart) ∙ e)
+
+  no_way : (s : ℕ) → list_any (nat_eq s) (without serial (out v.records)) ≡ true → page_of v.records s ≡ Some page → ⊥
+  no_way s e of =
+      let old = was_out s e in
+      old.0 (sym (eqb-true serial s (sym (ap (λ (o : Option Placement). is_under o s) at) ∙ (law.under_way page s).1 (old.1, of))))
+
+  other_ways : (q s : ℕ) → q ≢ page → (IsTrue (is_out v.records s) × (page_of v.records s ≡ Some q)) ↔ (IsTrue (list_any (nat_eq s) (without serial (out v.records))) × (page_of v.records s ≡ Some q))
+  other_ways q s ne = (
+    λ known. (still_out serial s (out v.records) (λ same. ne (same_Some q page (sym known.1 ∙ ap (page_of v.records) same ∙ page_is))) ∙ known.0, known.1),
+    λ known. ((was_out s known.0).1, known.1),
+  )
+
+  pub moved_recorded : pins v.records page ≡ 0 → IsRecorded v (Moved serial) page (At target)
+  moved_recorded none =
+      let E : Option ℕ → Type 0 = λ o. IsSomeAnd o (λ p. pins v.records p ≡ 0) in
+      let room = law.room_left in
+      record {
+        still = moved_still v.records serial;
+        truthful = law.truthful;
+        well_ended = (record { under_way = is_out_now; page = subst E (sym page_is) none }, law.well_ended);
+        spare = omega (arith, out_fewer);
+        room_left = omega (arith, out_fewer);
+        own_way = λ s. (λ under. cc, λ known. absurd (no_way s known.0 known.1));
+        other_ways = other_ways;
+        ways = omega (arith, out_fewer, ap ways_of at);
+      }
+
+  ends_back : (cause : Cause) → HasCause cause (pins v.records page) → IsWellEnded (Back serial cause ∷ v.records)
+  ends_back Pinned has = let E : Option ℕ → Type 0 = λ o. IsSomeAnd o (λ p. 0 < pins v.records p) in (record { under_way = is_out_now; page = subst E (sym page_is) has }, law.well_ended)
+  ends_back NotCopied has = let E : Option ℕ → Type 0 = λ o. IsSomeAnd o (λ p. ⊤) in (record { under_way = is_out_now; page = subst E (sym page_is) tt }, law.well_ended)
+
+  pub back_recorded : (cause : Cause) → HasCause cause (pins v.records page) → IsRecorded v (Back serial cause) page (At source)
+  back_recorded cause has =
+      let room = law.room_left in
+      record {
+        still = back_still v.records serial cause;
+        truthful = law.truthful;
+        well_ended = ends_back cause has;
+        spare = omega (arith, out_fewer);
+        room_left = omega (arith, out_fewer);
+        own_way = λ s. (λ under. cc, λ known. absurd (no_way s known.0 known.1));
+        other_ways = other_ways;
+        ways = omega (arith, out_fewer, ap ways_of at);
+      }
+
+pub lawful_moved : (v : ZoneState) (serial page source target : ℕ) → IsLawful v → map.get v.placement page ≡ Some (Moving serial source target) → pins v.records page ≡ 0 → IsLawful (moved_to_target v serial page)
+lawful_moved v serial page source target law at none =
+    let there : IsLawful (settled v (Moved serial) page (At target)) = lawful_settled (can_move_on v page serial source target law at) (Moved serial) (moved_recorded v page serial source target law at none) v.migrate v.free law.fingers in
+    subst (λ (frame : ℕ). IsLawful (settled v (Moved serial) page (At frame))) (sym (ap target_of at)) there
+
+pub lawful_put_back : (v : ZoneState) (serial page source target : ℕ) (cause : Cause) → IsLawful v → map.get v.placement page ≡ Some (Moving serial source target) → HasCause cause (pins v.records page) → IsLawful (put_back_to_source v serial page cause)
+lawful_put_back v serial page source target cause law at has =
+    let there : IsLawful (settled v (Back serial cause) page (At source)) = lawful_settled (can_go_back v page serial source target law at) (Back serial cause) (back_recorded v page serial source target law at cause has) v.migrate v.free law.fingers in
+    subst (λ (frame : ℕ). IsLawful (settled v (Back serial cause) page (At frame))) (sym (ap source_of at)) there

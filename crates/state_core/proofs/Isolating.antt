@@ -1,0 +1,111 @@
+-- The page of a pair goes on its way: it takes up the target besides its source.
+use Rattle.std.proofs.Common.{◌≡◌, ◌≢◌, ℕ, ◌+◌, ◌<◌, true, false, ◌∷◌, length, inl, inr, refl, sym, ap, ◌∙◌, arith}
+use Rattle.std.specs.Prelude.{Option, Some, IsTrue, nat_eq, ◌||◌, ◌↔◌}
+use Rattle.std.proofs.Math.Bool.{or-false}
+use Rattle.std.proofs.lemmas.Bool.{and_parts, both_ways, cond-true, cond-false, eq-eqb, eqb-true, ne_eqb, or_cases, or_left, or_right}
+use Rattle.std.proofs.lemmas.Bool.Decides.{eqb_tells}
+use Rattle.std.proofs.lemmas.Option.{same_Some}
+use Rattle.frame_core.specs.Below.{count_below}
+use Rattle.journal_core.proofs.OnTheWay.{out_below, not_moving}
+use Rattle.journal_core.specs.declared.record.Record.TheVariants.{Isolate}
+use Rattle.journal_core.specs.History.{pins}
+use Rattle.journal_core.specs.Moves.{isolated, out, is_out, page_of}
+use Rattle.state_core.specs.declared.round.Pair.{Pair}
+use Rattle.state_core.specs.declared.placement.Placement.{Placement}
+use Rattle.state_core.specs.declared.placement.Placement.TheVariants.{At, Moving}
+use Rattle.state_core.specs.Lawful.{IsLawful, is_under}
+use Rattle.state_core.specs.Moving.{settled, isolated_next}
+use Rattle.state_core.specs.Pairs.{IsPair}
+use Rattle.state_core.specs.ZoneState.{ZoneState, frame_count, is_free}
+use Rattle.state_core.proofs.Facts.{not_none}
+use Rattle.state_core.proofs.Moving.{CanSettle, IsRecorded, isolate_still, lawful_settled}
+use Rattle.state_core.proofs.Places.{free_new, free_same, free_count, ways_of}
+
+module _ (v : ZoneState) (pair : Pair) (law : IsLawful v) (is : IsPair v pair.page pair.source pair.target) where
+  abbrev serial_next : ℕ
+  serial_next = isolated v.records
+
+  abbrev way_next : Placement
+  way_next = Moving serial_next pair.source pair.target
+
+  pub target_within : pair.target < frame_count v
+  target_within = omega (arith, is.to.high, law.fingers.1)
+
+  pub can_isolate : CanSettle v pair.page (At pair.source) way_next
+  can_isolate = record {
+    lawful = law;
+    at = is.from.here;
+    numbered = law.numbered pair.page (not_none _ (At pair.source) is.from.here);
+    takes = λ g e. elim (or_cases (nat_eq g pair.source) (nat_eq g pair.target) e) [
+      | inl source ↦ inl source
+      | inr target ↦ (let at : g ≡ pair.target = eqb-true g pair.target target in
+          let within = target_within in
+          inr (ap (is_free v) at ∙ is.to.free, omega arith))
+    ];
+    upward = λ serial source target e. (let low = is.to.low in let s : pair.source ≡ source = cc in let t : pair.target ≡ target = cc in omega arith);
+  }
+
+  -- the only frame that changes is the target
+  pub isolated_others : (g : ℕ) → g ≢ pair.target → is_free (settled v (Isolate serial_next pair.page) pair.page way_next) g ≡ is_free v g
+  isolated_others g ne = free_same can_isolate g (sym (ap (λ b. nat_eq g pair.source || b) (ne_eqb g pair.target ne) ∙ or-false (nat_eq g pair.source)))
+
+  pub isolated_target : is_free (settled v (Isolate serial_next pair.page) pair.page way_next) pair.target ≡ false
+  isolated_target = free_new can_isolate pair.target (or_right (nat_eq pair.target pair.source) _ (eq-eqb pair.target pair.target refl))
+
+  pub isolated_fewer : count_below (is_free v) (frame_count v) ≡ count_below (is_free (settled v (Isolate serial_next pair.page) pair.page way_next)) (frame_count v) + 1
+  isolated_fewer = omega (arith, free_count can_isolate)
+
+  -- no serial that is out is the next, or is of the page
+  old_serial : (serial : ℕ) → is_out v.records serial ≡ true → serial_next ≢ serial
+  old_serial serial e same = let below = out_below v.records law.well_ended serial e in absurd (omega arith)
+
+  at_rest : (serial : ℕ) → is_out v.records serial ≡ true → page_of v.records serial ≡ Some pair.page → ⊥
+  at_rest serial e under = both_ways _ (ap (λ (o : Option Placement). is_under o serial) is.from.here) ((law.under_way pair.page serial).1 (e, under))
+
+  -- what was out before, under another serial than the next
+  was_out : (q serial : ℕ) → serial_next ≢ serial → IsTrue (is_out (Isolate serial_next pair.page ∷ v.records) serial) × (page_of (Isolate serial_next pair.page ∷ v.records) serial ≡ Some q) → IsTrue (is_out v.records serial) × (page_of v.records serial ≡ Some q)
+  was_out q serial ne way = (
+    elim (or_cases (nat_eq serial serial_next) _ way.0) [ inl fresh ↦ absurd (ne (sym (eqb-true serial serial_next fresh))) | inr old ↦ old ],
+    sym (cond-false _ (Some pair.page) (page_of v.records serial) (ne_eqb serial_next serial ne)) ∙ way.1,
+  )
+
+  own_way : (serial : ℕ) → IsTrue (is_under (Some way_next) serial) ↔ (IsTrue (is_out (Isolate serial_next pair.page ∷ v.records) serial) × (page_of (Isolate serial_next pair.page ∷ v.records) serial ≡ Some pair.page))
+  own_way serial = (
+    λ under. (or_left _ _ (eq-eqb serial serial_next (sym (eqb-true serial_next serial under))), cond-true _ (Some pair.page) (page_of v.records serial) under),
+    λ way. elim (eqb_tells serial_next serial) [ inl same ↦ same.0 | inr other ↦ (let old = was_out pair.page serial other.1 way in absurd (at_rest serial old.0 old.1)) ],
+  )
+
+  other_ways : (q serial : ℕ) → q ≢ pair.page → (IsTrue (is_out v.records serial) × (page_of v.records serial ≡ Some q)) ↔ (IsTrue (is_out (Isolate serial_next pair.page ∷ v.records) serial) × (page_of (Isolate serial_next pair.page ∷ v.records) serial ≡ Some q))
+  other_ways q serial ne = (
+    λ way. (or_right _ _ way.0, cond-false _ (Some pair.page) (page_of v.records serial) (ne_eqb serial_next serial (old_serial serial way.0)) ∙ way.1),
+    λ way. elim (eqb_tells serial_next serial) [
+      | inl same ↦ absurd (ne (same_Some q pair.page (sym way.1 ∙ cond-true _ (Some pair.page) (page_of v.records serial) same.0)))
+      | inr other ↦ was_out q serial other.1 way
+    ],
+  )
+
+  pub isolate_recorded : length (out v.records) + 1 < v.room → IsRecorded v (Isolate serial_next pair.page) pair.page way_next
+  isolate_recorded room = record {
+    still = isolate_still v.records serial_next pair.page;
+    truthful = law.truthful;
+    well_ended = (
+      refl,
+      (let used = law.in_use pair.page (not_none _ (At pair.source) is.from.here) in
+          record {
+            in_use = used.0;
+            here = not_moving v.records pair.page at_rest;
+            unpinned = eqb-true (pins v.records pair.page) 0 (and_parts _ _ is.from.movable).0;
+          }),
+      law.well_ended,
+    );
+    spare = omega arith;
+    room_left = omega arith;
+    own_way = own_way;
+    other_ways = other_ways;
+    ways = omega (arith, ap ways_of is.from.here);
+  }
+
+pub lawful_isolated : (v : ZoneState) (pair : Pair) → IsLawful v → IsPair v pair.page pair.source pair.target → length (out v.records) + 1 < v.room → IsLawful (isolated_next v pair)
+lawful_isolated v pair law is room =
+    lawful_settled (can_isolate v pair law is) (Isolate (isolated v.records) pair.page) (isolate_recorded v pair law is room) (pair.source + 1) pair.target
+    (let low = is.to.low in let high = is.to.high in let fingers = law.fingers.1 in (omega arith, omega arith))

@@ -1,0 +1,172 @@
+-- A fresh page gets its first place: a free frame.
+use Rattle.std.proofs.Common.{◌≡◌, ◌≢◌, ℕ, ◌+◌, ◌<◌, Bool, true, false, length, inl, inr, refl, sym, ap, ◌∙◌, arith}
+use Rattle.std.specs.Prelude.{if◌then◌else◌, Option, Some, None, IsSome, is_some, nat_eq, ◌&&◌}
+use Rattle.std.specs.FinMap as map
+use Rattle.std.specs.FinSet as set
+use Rattle.std.proofs.lemmas.Bool.{and_parts, both_ways, cases_Bool, cond-true, cond-false, eq-eqb, eqb-true, ne_eqb}
+use Rattle.std.proofs.lemmas.Bool.Decides.{eqb_tells}
+use Rattle.std.proofs.lemmas.Option.{same_Some}
+use Rattle.frame_core.specs.Address.{InRange}
+use Rattle.frame_core.specs.Below.{count_below}
+use Rattle.frame_core.specs.declared.place.Address.{Address}
+use Rattle.journal_core.proofs.Maps.{maps_same, maps_more, maps_none}
+use Rattle.journal_core.specs.declared.record.Record.TheVariants.{Map}
+use Rattle.journal_core.specs.History.{same_address, page_at, is_page, names, maps, pins}
+use Rattle.journal_core.specs.Moves.{out}
+use Rattle.state_core.specs.declared.placement.Placement.TheVariants.{At}
+use Rattle.state_core.specs.Lawful.{IsLawful, is_under}
+use Rattle.state_core.specs.Steps.{placed}
+use Rattle.state_core.specs.ZoneState.{ZoneState, frame_count, takes_up, is_held, is_free}
+use Rattle.state_core.proofs.Entries.{contains_insert_other}
+use Rattle.state_core.proofs.Places as places
+use Rattle.state_core.proofs.Places.{CanChangePlace, IsTold, put, page_count, lawful_told}
+
+-- what it takes to place a fresh page
+pub record CanPlace (v : ZoneState) (address : Address) (page frame : ℕ) : Type 0 where
+  pub lawful : IsLawful v
+  pub spare : length (out v.records) < v.room
+  pub range : InRange address
+  pub vacant : page_at v.records address ≡ None
+  pub unused : map.get v.placement page ≡ None
+  pub numbered : page < frame_count v
+  pub free : is_free v frame ≡ true
+  pub within : frame < frame_count v
+
+pub clash : {A : Type 0} (o : Option A) → o ≡ None → IsSome o → ⊥
+clash o e used = both_ways _ (ap is_some e) used
+
+-- addresses that are the same are one
+pub one_address : (a b : Address) → same_address a b ≡ true → a ≡ b
+one_address a b e =
+    let parts = and_parts (nat_eq a.space b.space) (nat_eq a.vpage b.vpage) e in
+    λ i. record { space = eqb-true a.space b.space parts.0 i; vpage = eqb-true a.vpage b.vpage parts.1 i }
+
+same_itself : (a : Address) → same_address a a ≡ true
+same_itself a = λ i. eq-eqb a.space a.space refl i && eq-eqb a.vpage a.vpage refl i
+
+module _ (v : ZoneState) (client : ℕ) (address : Address) (unmovable : Bool) (page frame : ℕ) (can : CanPlace v address page frame) where
+  abbrev next : ZoneState
+  next = placed v client address unmovable page frame
+
+  pub can_map : CanChangePlace v page None (Some (At frame))
+  can_map = record {
+    lawful = can.lawful;
+    at = can.unused;
+    numbered = can.numbered;
+    takes = λ g e. (let same : frame ≡ g = sym (eqb-true g frame e) in let within = can.within in inr (ap (is_free v) (sym same) ∙ can.free, omega arith));
+    upward = λ serial source target e. cc;
+  }
+
+  -- placements
+  pub at_page : map.get next.placement page ≡ Some (At frame)
+  at_page = places.at_page can_map
+
+  pub at_other : (q : ℕ) → q ≢ page → map.get next.placement q ≡ map.get v.placement q
+  at_other = places.at_other can_map
+
+  pub unheld_frame : is_held v frame ≡ false
+  unheld_frame = places.unheld_frame v frame can.free
+
+  pub untaken : (q : ℕ) → takes_up (map.get v.placement q) frame ≡ false
+  untaken = places.untaken v can.lawful frame can.free
+
+  -- frames and counts
+  pub free_at_frame : is_free next frame ≡ false
+  free_at_frame = places.free_new can_map frame (eq-eqb frame frame refl)
+
+  pub free_away : (g : ℕ) → g ≢ frame → is_free next g ≡ is_free v g
+  free_away g ne = places.free_kept can_map g refl (ne_eqb g frame ne)
+
+  pub fewer_free : count_below (is_free v) (frame_count v) ≡ count_below (is_free next) (frame_count v) + 1
+  fewer_free = omega (arith, places.free_count can_map)
+
+  pub more_pages : count_below (λ p. is_some (map.get next.placement p)) (frame_count v) ≡ count_below (λ p. is_some (map.get v.placement p)) (frame_count v) + 1
+  more_pages = omega (arith, page_count can_map)
+
+  -- names
+  pub named_here : (b : Address) → same_address b address ≡ true → page_at next.records b ≡ Some page
+  named_here b e = cond-true (same_address b address) (Some page) (page_at v.records b) e
+
+  pub named_there : (b : Address) → same_address b address ≡ false → page_at next.records b ≡ page_at v.records b
+  named_there b e = cond-false (same_address b address) (Some page) (page_at v.records b) e
+
+  -- a page in use isn't the fresh one
+  used_apart : (q : ℕ) → IsSome (map.get v.placement q) → q ≢ page
+  used_apart q used same = clash _ can.unused (ap (λ (p : ℕ). is_some (map.get v.placement p)) (sym same) ∙ used)
+
+  -- no address named the fresh page
+  unnamed : (b : Address) → names v.records b page ≡ false
+  unnamed b = by_name (page_at v.records b) refl where
+    by_name : (o : Option ℕ) → page_at v.records b ≡ o → is_page (page_at v.records b) page ≡ false
+    by_name None e = ap (λ (p : Option ℕ). is_page p page) e
+    by_name (Some q) e = ap (λ (p : Option ℕ). is_page p page) e ∙ ne_eqb q page (used_apart q (can.lawful.named b q e))
+
+  pub maps_one : maps next.records page ≡ 1
+  maps_one =
+      let more = maps_more v.records next.records page address can.range.space can.range.vpage (unnamed address)
+      (ap (λ (o : Option ℕ). is_page o page) (named_here address (same_itself address)) ∙ eq-eqb page page refl)
+      (λ b apart. ap (λ (o : Option ℕ). is_page o page) (named_there b apart)) in
+      omega (arith, more, maps_none v.records page unnamed)
+
+  pub maps_others : (q : ℕ) → q ≢ page → maps next.records q ≡ maps v.records q
+  maps_others q ne = maps_same v.records next.records q (λ b. elim (cases_Bool (same_address b address)) [
+    | inl here ↦
+        ap (λ (o : Option ℕ). is_page o q) (named_here b here) ∙ ne_eqb page q (λ e. ne (sym e))
+        ∙ sym (ap (λ (o : Option ℕ). is_page o q) (ap (page_at v.records) (one_address b address here) ∙ can.vacant))
+    | inr there ↦ ap (λ (o : Option ℕ). is_page o q) (named_there b there)
+  ])
+
+  pub pins_none : pins next.records page ≡ 0
+  pins_none = cond-true (nat_eq page page) 0 (pins v.records page) (eq-eqb page page refl)
+
+  pub pins_others : (q : ℕ) → q ≢ page → pins next.records q ≡ pins v.records q
+  pins_others q ne = cond-false (nat_eq page q) 0 (pins v.records q) (ne_eqb page q (λ e. ne (sym e)))
+
+  -- which pages are in use
+  page_used : (q : ℕ) → q ≡ page → IsSome (map.get next.placement q)
+  page_used q same = ap (λ (p : ℕ). is_some (map.get next.placement p)) same ∙ ap is_some at_page
+
+  still_used : (q : ℕ) → IsSome (map.get v.placement q) → IsSome (map.get next.placement q)
+  still_used q used = ap is_some (at_other q (used_apart q used)) ∙ used
+
+  stay : (b : Bool) (q : ℕ) → set.contains (if b then set.insert v.unmovable page else v.unmovable) q ≡ true → IsSome (map.get next.placement q)
+  stay false q e = still_used q (can.lawful.unmovable q e)
+  stay true q e = elim (eqb_tells q page) [
+    | inl same ↦ page_used q same.1
+    | inr other ↦ still_used q (can.lawful.unmovable q (sym (contains_insert_other v.unmovable page q other.1) ∙ e))
+  ]
+
+  map_told : IsTold v page (Some (At frame)) (Map client address page) (if unmovable then set.insert v.unmovable page else v.unmovable)
+  map_told =
+      let law = can.lawful in
+      let room = can.spare in
+      record {
+        truthful = law.truthful;
+        well_ended = law.well_ended;
+        spare = omega arith;
+        room_left = omega arith;
+        named = λ b q is. elim (cases_Bool (same_address b address)) [
+          | inl here ↦ page_used q (same_Some q page (sym is ∙ named_here b here))
+          | inr there ↦ still_used q (law.named b q (sym (named_there b there) ∙ is))
+        ];
+        in_use = λ q used. elim (places.where_is can_map q) [
+          | inl here ↦
+              (let one : maps next.records q ≡ 1 = ap (maps next.records) here.0 ∙ maps_one in
+              let none : pins next.records q ≡ 0 = ap (pins next.records) here.0 ∙ pins_none in
+              (omega arith, omega arith, omega arith))
+          | inr there ↦
+              (let before = law.in_use q (ap is_some (sym there.1) ∙ used) in
+              let same = maps_others q there.0 in
+              let kept = pins_others q there.0 in
+              (omega (arith, before.0), omega (arith, before.1), omega (arith, before.2)))
+        ];
+        own_way = λ serial. (λ under. cc, λ way. absurd (both_ways _ (ap (λ o. is_under o serial) can.unused) ((law.under_way page serial).1 way)));
+        other_ways = λ q serial ne. (λ way. way, λ way. way);
+        ways = ap (λ o. length (out v.records) + places.ways_of o) can.unused;
+        given = λ first. refl;
+        marks = λ block. refl;
+        stay = stay unmovable;
+      }
+
+  pub placed_lawful : IsLawful next
+  placed_lawful = lawful_told can_map (Map client address page) _ map_told v.migrate v.free can.lawful.fingers

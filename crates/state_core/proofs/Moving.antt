@@ -1,0 +1,85 @@
+-- A page in use takes up other frames; its names, values and pins stay.
+use Rattle.std.proofs.Common.{◌≡◌, ◌≢◌, ℕ, ◌+◌, ◌-◌, ◌<◌, ◌≤◌, ◌∷◌, List, length, inl, inr, refl, sym, ap, ◌∙◌, arith}
+use Rattle.std.specs.Prelude.{Some, IsTrue, is_some, ◌↔◌}
+use Rattle.std.specs.FinMap as map
+use Rattle.frame_core.specs.Below.{count_below}
+use Rattle.frame_core.specs.declared.place.Address.{Address}
+use Rattle.journal_core.specs.declared.record.Cause.{Cause}
+use Rattle.journal_core.specs.declared.record.Record.{Record}
+use Rattle.journal_core.specs.declared.record.Record.TheVariants.{Isolate, Moved, Back}
+use Rattle.journal_core.specs.Blocks.{given_out, is_marked_by}
+use Rattle.journal_core.specs.History.{page_at, last, dirty, pins, maps}
+use Rattle.journal_core.specs.Moves.{out, is_out, page_of, IsWellEnded}
+use Rattle.journal_core.specs.Truth.{IsTruthful}
+use Rattle.state_core.specs.declared.placement.Placement.{Placement}
+use Rattle.state_core.specs.Lawful.{IsLawful, is_under}
+use Rattle.state_core.specs.Moving.{settled}
+use Rattle.state_core.specs.ZoneState.{ZoneState, frame_count}
+use Rattle.state_core.proofs.Places.{CanChangePlace, IsTold, ways_of, where_is, page_count, lawful_told}
+
+-- what it takes to settle a page in use elsewhere
+abbrev pub CanSettle : ZoneState → ℕ → Placement → Placement → Type 0
+CanSettle v page old new = CanChangePlace v page (Some old) (Some new)
+
+-- a record that leaves names, values, pins, blocks and marks as they are
+pub record IsStill (records : List Record) (entry : Record) : Type 0 where
+  pub names : (address : Address) → page_at (entry ∷ records) address ≡ page_at records address
+  pub last : (page word : ℕ) → last (entry ∷ records) page word ≡ last records page word
+  pub dirty : (page : ℕ) → dirty (entry ∷ records) page ≡ dirty records page
+  pub pins : (page : ℕ) → pins (entry ∷ records) page ≡ pins records page
+  pub maps : (page : ℕ) → maps (entry ∷ records) page ≡ maps records page
+  pub given : (first : ℕ) → given_out (entry ∷ records) first ≡ given_out records first
+  pub marks : (block : ℕ) → is_marked_by (entry ∷ records) block ≡ is_marked_by records block
+
+pub isolate_still : (records : List Record) (serial page : ℕ) → IsStill records (Isolate serial page)
+isolate_still records serial page = record { names = λ a. refl; last = λ p w. refl; dirty = λ p. refl; pins = λ p. refl; maps = λ p. refl; given = λ f. refl; marks = λ b. refl }
+
+pub moved_still : (records : List Record) (serial : ℕ) → IsStill records (Moved serial)
+moved_still records serial = record { names = λ a. refl; last = λ p w. refl; dirty = λ p. refl; pins = λ p. refl; maps = λ p. refl; given = λ f. refl; marks = λ b. refl }
+
+pub back_still : (records : List Record) (serial : ℕ) (cause : Cause) → IsStill records (Back serial cause)
+back_still records serial cause = record { names = λ a. refl; last = λ p w. refl; dirty = λ p. refl; pins = λ p. refl; maps = λ p. refl; given = λ f. refl; marks = λ b. refl }
+
+-- what the record of a move has to bring
+pub record IsRecorded (v : ZoneState) (entry : Record) (page : ℕ) (new : Placement) : Type 0 where
+  pub still : IsStill v.records entry
+  pub truthful : IsTruthful (entry ∷ v.records)
+  pub well_ended : IsWellEnded (entry ∷ v.records)
+  pub spare : 0 < v.room
+  pub room_left : length (out (entry ∷ v.records)) ≤ v.room - 1
+  pub own_way : (serial : ℕ) → IsTrue (is_under (Some new) serial) ↔ (IsTrue (is_out (entry ∷ v.records) serial) × (page_of (entry ∷ v.records) serial ≡ Some page))
+  pub other_ways : (q serial : ℕ) → q ≢ page → (IsTrue (is_out v.records serial) × (page_of v.records serial ≡ Some q)) ↔ (IsTrue (is_out (entry ∷ v.records) serial) × (page_of (entry ∷ v.records) serial ≡ Some q))
+  pub ways : length (out (entry ∷ v.records)) + ways_of (map.get v.placement page) ≡ length (out v.records) + ways_of (Some new)
+
+module _ {v : ZoneState} {page : ℕ} {old new : Placement} (can : CanSettle v page old new) where
+  pub some_same : (q : ℕ) → is_some (map.get (map.insert v.placement page new) q) ≡ is_some (map.get v.placement q)
+  some_same q = elim (where_is can q) [ inl here ↦ ap is_some here.2 ∙ sym (ap is_some here.1) | inr there ↦ ap is_some there.1 ]
+
+  pub same_pages : count_below (λ q. is_some (map.get (map.insert v.placement page new) q)) (frame_count v) ≡ count_below (λ q. is_some (map.get v.placement q)) (frame_count v)
+  same_pages = omega (arith, page_count can)
+
+  told : (entry : Record) → IsRecorded v entry page new → IsTold v page (Some new) entry v.unmovable
+  told entry recorded =
+      let law = can.lawful in
+      let still = recorded.still in
+      record {
+        truthful = recorded.truthful;
+        well_ended = recorded.well_ended;
+        spare = recorded.spare;
+        room_left = recorded.room_left;
+        named = λ a q is. some_same q ∙ law.named a q (sym (still.names a) ∙ is);
+        in_use = λ q used.
+            let before = law.in_use q (sym (some_same q) ∙ used) in
+            let m = still.maps q in
+            let p = still.pins q in
+            (omega (arith, before.0, m), omega (arith, before.1, m), omega (arith, before.2, p));
+        own_way = recorded.own_way;
+        other_ways = recorded.other_ways;
+        ways = recorded.ways;
+        given = still.given;
+        marks = still.marks;
+        stay = λ q e. some_same q ∙ law.unmovable q e;
+      }
+
+  pub lawful_settled : (entry : Record) → IsRecorded v entry page new → (migrate free : ℕ) → (migrate ≤ free) × (free ≤ frame_count v) → IsLawful (record (settled v entry page new) { migrate = migrate; free = free })
+  lawful_settled entry recorded = lawful_told can entry v.unmovable (told entry recorded)
