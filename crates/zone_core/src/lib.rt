@@ -7,7 +7,6 @@
 
 mod hand;
 mod hands;
-mod law;
 mod seats;
 #[cfg(test)]
 mod tests;
@@ -15,7 +14,6 @@ mod world;
 mod zone;
 
 pub use hand::{Finished, Hand, Scanned};
-pub use law::keeps_order;
 pub use seats::{Answered, Blanks, EndSeat, ScanSeat, Seats};
 pub use state_core::{Audit, Ended, Info, Look, Next, Placement, RoundStart, Stranger, ZoneError};
 pub use world::{Rest, World, WorldError};

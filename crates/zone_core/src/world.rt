@@ -1,6 +1,6 @@
 //! A zone with its seats, the pages of it that are on their way, and four hands.
 
-ghost use Rattle.std.specs.Prelude.{◌≡◌, ◌<◌, ◌≤◌, ◌*◌, ◌↔◌, [], ◌∷◌, length, true, Some, None, Err, IfOk, IfErr, OnOk, OnErr, IsErr};
+ghost use Rattle.std.specs.Prelude.{◌≡◌, ◌<◌, ◌≤◌, ◌+◌, ◌*◌, ◌↔◌, ℕ, IsTrue, [], ◌∷◌, length, true, Some, None, Err, IfOk, IfErr, OnOk, OnErr, IsErr};
 ghost use Rattle.std.specs.Int.RustNames.{bit_and};
 ghost use Rattle.zone_core.specs.Books.{IsFor};
 ghost use Rattle.journal_core.specs.Moves.{page_of};
@@ -8,11 +8,11 @@ ghost use Rattle.std.specs.VecDeque.{deque_capacity};
 ghost use Rattle.zone_core.specs.Carried.{serials_of, AreOwn};
 ghost use Rattle.zone_core.specs.ErrorNumber.{world_number_of};
 ghost use Rattle.state_core.specs.Moving.{IsOwnCopy, isolate_refusal};
-ghost use Rattle.zone_core.specs.Seats.{audit_refusal};
+ghost use Rattle.zone_core.specs.Seats.{seat_full, seat_ended, audit_refusal};
 ghost use Rattle.state_core.specs.Pairs.{next_pair};
 ghost use Rattle.state_core.specs.Refusals.{IsOpenable, result_err, map_refusal, map_at_refusal, access_refusal};
 ghost use Rattle.state_core.specs.Steps.{mapped, value_at, loaded, stored, is_unmovable};
-ghost use Rattle.zone_core.specs.World.{IsRising, world_opened, world_closed, with_zone, round_opened, scanned_by, isolated_by, finished_as, finished_in, all_put_back, scan_refusal, scan_answer, scanned, take_step, copy_step, finish_step, shut_step};
+ghost use Rattle.zone_core.specs.World.{IsOrderly, IsRising, waits, world_opened, world_closed, with_zone, round_opened, scan_stopped, scanned_by, isolated_by, finished_as, finished_in, all_put_back, scan_refusal, scan_answer, scanned, take_step, copy_step, finish_step, shut_step};
 ghost use Rattle.state_core.specs.ZoneState.{lowest_free_frame};
 
 use crate::hand::{Finished, Scanned};
@@ -73,9 +73,9 @@ impl<I: Ledger, N: Ledger, M: Ledger, B: Ledger> Model for World<I, N, M, B> {
 
     ghost use Rattle.zone_core.specs.Carried.{world_of, IsCarried};
 
-    ghost view = { λ w. world_of w.zone w.is_open w.waiting.items w.hands.held };
+    ghost view = { λ w. world_of w.zone w.scan w.ends w.is_open w.waiting.items w.hands.held };
 
-    ghost invariant = { λ w. IsCarried w.zone w.is_open w.waiting.items w.hands.held w.ends.parts (deque_capacity w.waiting) };
+    ghost invariant = { λ w. IsCarried w.zone w.scan w.ends w.is_open w.waiting.items w.hands.held (deque_capacity w.waiting) };
 }
 
 /// What a world has besides its zone and its seats, while nothing of the zone is on its way: the memory of its list. It fits
@@ -131,7 +131,10 @@ impl<I: Ledger, N: Ledger, M: Ledger, B: Ledger> World<I, N, M, B> {
 
     /// Its zone.
     pub fn zone(&self) -> &Zone<I, M, B>
-        ensures { result.now ≡ self.now.zone }
+        ensures zone { result.now ≡ self.now.zone }
+        // Whatever calls were made, in any order: the pages that wait and those in hands are just those on their way, each
+        // once, and those that wait do so in the order of their serials.
+        ensures orderly { IsOrderly self.now }
     {
         &self.zone
     }
@@ -204,12 +207,13 @@ impl<I: Ledger, N: Ledger, M: Ledger, B: Ledger> World<I, N, M, B> {
         self.zone.store(client, address, word, value)
     }
 
-    /// Takes the next page on its way, which waits behind the others. It opens a round where none is open.
+    /// Takes the next page on its way, which waits behind the others. It opens a round where none is open, and the seat
+    /// notes its answer.
     pub fn scan(&mut self) -> Result<Scanned, WorldError>
-        ensures error { IfErr result (λ error. error ≡ WorldError.Zone ZoneError.JournalFull) }
         ensures refused { OnErr result (scan_refusal self.old ≡ Some ZoneError.JournalFull) }
-        ensures err { OnErr result (self.new ≡ round_opened self.old) }
-        ensures open { OnOk result (scan_refusal self.old ≡ None) }
+        ensures error { IfErr result (λ error. error ≡ WorldError.Zone ZoneError.JournalFull) }
+        ensures err { OnErr result (self.new ≡ scan_stopped self.old) }
+        ensures room { OnOk result (scan_refusal self.old ≡ None) }
         ensures found { IfOk result (λ found. found ≡ scan_answer self.old) }
         ensures ok { OnOk result (self.new ≡ scanned self.old) }
     {
@@ -231,10 +235,10 @@ impl<I: Ledger, N: Ledger, M: Ledger, B: Ledger> World<I, N, M, B> {
     /// Takes the next page of the open round on its way.
     fn scan_next(&mut self) -> Result<Scanned, WorldError>
         requires open { self.old.is_open ≡ true }
-        ensures error { IfErr result (λ error. error ≡ WorldError.Zone ZoneError.JournalFull) }
         ensures refused { OnErr result (isolate_refusal self.old.zone ≡ Some ZoneError.JournalFull) }
-        ensures err { OnErr result (self.new ≡ self.old) }
-        ensures open { OnOk result (isolate_refusal self.old.zone ≡ None) }
+        ensures error { IfErr result (λ error. error ≡ WorldError.Zone ZoneError.JournalFull) }
+        ensures err { OnErr result (self.new ≡ record self.old { scan = seat_full self.old.scan }) }
+        ensures room { OnOk result (isolate_refusal self.old.zone ≡ None) }
         ensures found { IfOk result (λ found. found ≡ scanned_by self.old.zone (next_pair self.old.zone)) }
         ensures ok { OnOk result (self.new ≡ isolated_by self.old (next_pair self.old.zone)) }
     {
@@ -253,10 +257,11 @@ impl<I: Ledger, N: Ledger, M: Ledger, B: Ledger> World<I, N, M, B> {
     pub fn take(&mut self, k: u32) -> Result<Serial, WorldError>
         requires low { 0 < k }
         requires high { k ≤ 4 }
-        ensures ok { IfOk result (λ serial. take_step self.old k ≡ Some (serial, self.new)) }
-        ensures hand { IfErr result (λ error. error ≡ WorldError.Hand) }
         ensures refused { OnErr result (take_step self.old k ≡ None) }
+        ensures hand { IfErr result (λ error. error ≡ WorldError.Hand) }
         ensures err { OnErr result (self.new ≡ self.old) }
+        ensures ok { IfOk result (λ serial. take_step self.old k ≡ Some (serial, self.new)) }
+        ensures least { IfOk result (λ serial. (waiting : ℕ) → IsTrue (waits self.old waiting) → serial ≤ waiting) }
     {
         if !self.hands.is_empty(k) {
             return Err(WorldError::Hand);
@@ -273,10 +278,10 @@ impl<I: Ledger, N: Ledger, M: Ledger, B: Ledger> World<I, N, M, B> {
     pub fn copy(&mut self, k: u32) -> Result<(), WorldError>
         requires low { 0 < k }
         requires high { k ≤ 4 }
-        ensures ok { OnOk result (copy_step self.old k ≡ Some self.new) }
-        ensures hand { IfErr result (λ error. error ≡ WorldError.Hand) }
         ensures refused { OnErr result (copy_step self.old k ≡ None) }
+        ensures hand { IfErr result (λ error. error ≡ WorldError.Hand) }
         ensures err { OnErr result (self.new ≡ self.old) }
+        ensures ok { OnOk result (copy_step self.old k ≡ Some self.new) }
     {
         let Some(page) = self.hands.page_from(k) else {
             return Err(WorldError::Hand);
@@ -289,10 +294,10 @@ impl<I: Ledger, N: Ledger, M: Ledger, B: Ledger> World<I, N, M, B> {
     pub fn finish(&mut self, k: u32) -> Result<Finished, WorldError>
         requires low { 0 < k }
         requires high { k ≤ 4 }
-        ensures ok { IfOk result (λ finished. finish_step self.old k ≡ Some (finished, self.new)) }
-        ensures hand { IfErr result (λ error. error ≡ WorldError.Hand) }
         ensures refused { OnErr result (finish_step self.old k ≡ None) }
+        ensures hand { IfErr result (λ error. error ≡ WorldError.Hand) }
         ensures err { OnErr result (self.new ≡ self.old) }
+        ensures ok { IfOk result (λ finished. finish_step self.old k ≡ Some (finished, self.new)) }
     {
         let Some(copy) = self.hands.copy_from(k) else {
             return Err(WorldError::Hand);
@@ -302,10 +307,10 @@ impl<I: Ledger, N: Ledger, M: Ledger, B: Ledger> World<I, N, M, B> {
 
     /// Where each hand is empty, closes the round: puts the pages that wait back, in order, and tells how many.
     pub fn shut(&mut self) -> Result<u32, WorldError>
-        ensures ok { IfOk result (λ count. shut_step self.old ≡ Some (count, self.new)) }
-        ensures hand { IfErr result (λ error. error ≡ WorldError.Hand) }
         ensures refused { OnErr result (shut_step self.old ≡ None) }
+        ensures hand { IfErr result (λ error. error ≡ WorldError.Hand) }
         ensures err { OnErr result (self.new ≡ self.old) }
+        ensures ok { IfOk result (λ count. shut_step self.old ≡ Some (count, self.new)) }
     {
         if !self.hands.are_empty() {
             return Err(WorldError::Hand);
@@ -320,7 +325,9 @@ impl<I: Ledger, N: Ledger, M: Ledger, B: Ledger> World<I, N, M, B> {
         ensures refused { IsErr result ↔ (self.is_open ≡ true) }
         ensures err { IfErr result (λ world. world ≡ self) }
         ensures zone { IfOk result (λ parts. parts.0 ≡ self.zone) }
-        ensures seats { IfOk result (λ parts. parts.1.ends.parts ≡ 64) }
+        ensures scan { IfOk result (λ parts. parts.1.scan ≡ self.scan) }
+        ensures ends { IfOk result (λ parts. parts.1.ends ≡ self.ends) }
+        ensures whole { IfOk result (λ parts. parts.1.ends.parts ≡ 64) }
         ensures audit { IfOk result (λ parts. audit_refusal parts.0 parts.1.ends ≡ None) }
         ensures rest { IfOk result (λ parts. parts.2 ≡ self.zone.blocks) }
     {
@@ -341,11 +348,10 @@ impl<I: Ledger, N: Ledger, M: Ledger, B: Ledger> World<I, N, M, B> {
     pub fn join(zone: Zone<I, M, B>, seats: Seats<I, N, M, B>, rest: Rest) -> World<I, N, M, B>
         requires whole { audit_refusal zone seats.ends ≡ None }
         requires rest { rest ≡ zone.blocks }
-        ensures { result ≡ world_closed zone }
+        ensures { result ≡ world_closed zone seats.scan seats.ends }
     {
         let _ = zone.journal();
         let Seats { scan, ends } = seats;
-        let _ = ends.is_whole();
         World {
             zone,
             scan,
@@ -366,7 +372,7 @@ fn finish_in<I: Ledger, M: Ledger, B: Ledger>(
     requires own { IsOwnCopy zone.old copy }
     ensures finished { result ≡ finished_as zone.old copy.serial }
     ensures zone { zone.new ≡ finished_in zone.old copy.serial }
-    ensures parts { ends.new.parts ≡ ends.old.parts }
+    ensures seat { ends.new ≡ seat_ended ends.old result.ended }
 {
     let _ = zone.journal();
     let serial = copy.serial();
@@ -385,7 +391,7 @@ fn put_back_in<I: Ledger, M: Ledger, B: Ledger>(
     requires own { IsOwnCopy zone.old page }
     ensures zone { zone.new ≡ all_put_back zone.old (page.serial ∷ []) }
     ensures page { page_of zone.old.records page.serial ≡ Some page.page.number }
-    ensures parts { ends.new.parts ≡ ends.old.parts }
+    ensures seat { ends.new ≡ record ends.old { back = ends.old.back + 1 } }
 {
     let _ = zone.journal();
     let Ok(()) = zone.put_back(ends, page) else {
@@ -407,7 +413,7 @@ fn put_all_back_in<I: Ledger, M: Ledger, B: Ledger>(
     ensures blocks { zone.new.blocks ≡ zone.old.blocks }
     ensures waiting { waiting.new.items ≡ [] }
     ensures capacity { deque_capacity waiting.new ≡ deque_capacity waiting.old }
-    ensures parts { ends.new.parts ≡ ends.old.parts }
+    ensures seat { ends.new ≡ record ends.old { back = ends.old.back + length waiting.old.items } }
 {
     let mut count = 0;
     while let Some(page) = waiting.pop_front() {

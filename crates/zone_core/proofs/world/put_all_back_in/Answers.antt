@@ -1,6 +1,7 @@
-use Rattle.std.proofs.Common.{◌+◌, ◌∷◌, List, length, refl, sym, ap, subst, ◌∙◌, arith}
+use Rattle.std.proofs.Common.{ℕ, ◌+◌, add-zero, add_assoc, ◌∷◌, List, length, refl, sym, ap, subst, ◌∙◌, arith}
 use Rattle.word_core.specs.Page.{OnItsWay}
 use Rattle.state_core.specs.ZoneState.{ZoneState}
+use Rattle.zone_core.specs.Seats.{EndSeat}
 use Rattle.zone_core.proofs.Carrying.{IsClosing, closing_first, closing_next}
 use Rattle.zone_core.proofs.world.put_all_back_in.Goals as goal
 
@@ -8,7 +9,7 @@ pub loop-page-init : goal.loop-page-init
 loop-page-init g c = record {
   closing = closing_first c.args.zone.now c.args.waiting.now.items c.requires.own c.requires.rising;
   capacity = refl;
-  parts = refl;
+  seat = ap (λ (n : ℕ). record c.args.ends.now { back = n }) (sym (add-zero c.args.ends.now.back));
 }
 
 pub put_back_in-requires : goal.put_back_in-requires
@@ -29,5 +30,5 @@ loop-page-preserved g c =
       closing = subst (λ (zone : ZoneState). IsClosing zone c.pop_front.new.self.items (c.loop-page.count + 1) c.args.zone.now c.args.waiting.now.items) (sym c.put_back_in.ensures.zone)
           (closing_next c.loop-page.zone c.in-Some.page c.pop_front.new.self.items c.loop-page.count c.args.zone.now c.args.waiting.now.items was c.put_back_in.ensures.page);
       capacity = c.pop_front.ensures.capacity ∙ c.loop-page.invariant.capacity;
-      parts = c.put_back_in.ensures.parts ∙ c.loop-page.invariant.parts;
+      seat = c.put_back_in.ensures.seat ∙ ap (λ (seat : EndSeat). record seat { back = seat.back + 1 }) c.loop-page.invariant.seat ∙ ap (λ (n : ℕ). record c.args.ends.now { back = n }) (add_assoc c.args.ends.now.back c.loop-page.count 1);
     }

@@ -22,11 +22,11 @@ hands_are g c =
 pub invariant_of-self-2 : goal.invariant_of-self-2
 invariant_of-self-2 g c =
     let z = c.self.inside in
-    rw (hands_are g c) (carried_copied z.zone z.is_open c.in-Some.page z.waiting.items z.hands.held c.args.k z.ends.parts (deque_capacity z.waiting) c.requires.low c.requires.high (sym c.in-Some.ensures.page) c.self.invariant)
+    rw (hands_are g c) (carried_copied z.zone z.scan z.ends z.is_open c.in-Some.page z.waiting.items z.hands.held c.args.k (deque_capacity z.waiting) c.requires.low c.requires.high (sym c.in-Some.ensures.page) c.self.invariant)
 
 pub returns-clause-ok : goal.returns-clause-ok
 returns-clause-ok g c =
     let z = c.self.inside in
     ap (λ (w : WorldState). copy_step w c.args.k) (sym c.self.view_is)
-    ∙ step_copied z.zone z.is_open c.in-Some.page z.waiting.items z.hands.held c.args.k z.ends.parts (deque_capacity z.waiting) c.requires.low c.requires.high (sym c.in-Some.ensures.page) c.self.invariant
-    ∙ ap (λ (held : List Held). Some (world_of z.zone z.is_open z.waiting.items held)) (sym (hands_are g c))
+    ∙ step_copied z.zone z.scan z.ends z.is_open c.in-Some.page z.waiting.items z.hands.held c.args.k (deque_capacity z.waiting) c.requires.low c.requires.high (sym c.in-Some.ensures.page) c.self.invariant
+    ∙ ap (λ (held : List Held). Some (world_of z.zone z.scan z.ends z.is_open z.waiting.items held)) (sym (hands_are g c))
