@@ -1,5 +1,5 @@
 -- What contracts see of the seats of a zone, and what the calls with a seat note in it.
-use Rattle.std.specs.Prelude.{◌≡◌, ℕ, ◌+◌, length, not, nat_eq, nat_lt, if◌then◌else◌, [], Option, Some, None}
+use Rattle.std.specs.Prelude.{◌≡◌, ℕ, ◌+◌, ◌<◌, ◌^◌, ⊤, length, not, nat_eq, nat_lt, if◌then◌else◌, [], Option, Some, None}
 use Rattle.journal_core.specs.Moves.{isolated, moved, put_back, out}
 use Rattle.journal_core.specs.Ends.{AreEndedOnce}
 use Rattle.state_core.specs.declared.error.ZoneError.{ZoneError}
@@ -44,6 +44,11 @@ seat_full seat = record seat { last = Some answered.JournalFull }
 abbrev pub seat_noted : ScanSeat → Next → ScanSeat
 seat_noted seat next.Met = record seat { last = Some answered.Met }
 seat_noted seat (next.Page p) = record seat { count = seat.count + 1; last = Some answered.Page }
+
+-- the serial of a page isn't the last number
+abbrev pub IsFollowed : Next → Type 0
+IsFollowed next.Met = ⊤
+IsFollowed (next.Page p) = p.serial + 1 < 2 ^ 32
 
 -- the seat counts what was ended with it
 abbrev pub seat_ended : EndSeat → Ended → EndSeat

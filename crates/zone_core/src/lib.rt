@@ -5,8 +5,10 @@
 //! (`specs/Steps.antt`).
 #![tactic(auto)]
 
+mod ending;
 mod hand;
 mod hands;
+mod rest;
 mod seats;
 #[cfg(test)]
 mod tests;
@@ -14,7 +16,8 @@ mod world;
 mod zone;
 
 pub use hand::{Finished, Hand, Scanned};
+pub use rest::Rest;
 pub use seats::{Answered, Blanks, EndSeat, ScanSeat, Seats};
 pub use state_core::{Audit, Ended, Info, Look, Next, Placement, RoundStart, Stranger, ZoneError};
-pub use world::{Rest, World, WorldError};
+pub use world::{World, WorldError};
 pub use zone::Zone;

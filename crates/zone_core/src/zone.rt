@@ -1,10 +1,10 @@
 ghost use Rattle.std.specs.Prelude.{◌≡◌, ◌+◌, ◌==◌, ◌≤◌, ◌↔◌, ℕ, true, false, Some, None, is_some, if◌then◌else◌, IsOk, IfOk, IfErr, OnOk, OnErr};
 ghost use Rattle.std.specs.Int.RustNames.{bit_and};
-ghost use Rattle.zone_core.specs.Books.{IsFor};
+ghost use Rattle.zone_core.specs.Books.{AreFor};
 ghost use Rattle.state_core.specs.Lawful.{IsLawful};
 ghost use Rattle.journal_core.specs.Moves.{isolated};
 ghost use Rattle.state_core.specs.Moving.{round_begun, isolate_refusal, next_answer, next_state, Scans, is_own, IsOwnCopy, Ends, ended_as, committed, put_back_to_source, look_of};
-ghost use Rattle.zone_core.specs.Seats.{seat_begun, seat_full, seat_noted, seat_ended, audit_refusal, IsAudited};
+ghost use Rattle.zone_core.specs.Seats.{IsFollowed, seat_begun, seat_full, seat_noted, seat_ended, audit_refusal, IsAudited};
 ghost use Rattle.state_core.specs.Pairs.{next_pair};
 ghost use Rattle.state_core.specs.Refusals.{IsOpenable, result_err, map_refusal, map_at_refusal, access_refusal};
 ghost use Rattle.zone_core.specs.Seats.{fresh_scan_seat, fresh_end_seat};
@@ -57,10 +57,7 @@ impl<I: Ledger, M: Ledger, B: Ledger> Zone<I, M, B> {
         places: u32,
         blanks: Blanks,
     ) -> Result<(Zone<I, M, B>, ScanSeat<I, N>, EndSeat<M, B>), ZoneError>
-        requires isolated { IsFor blanks.isolated.name blanks.isolated.parts I.name I.parts }
-        requires rounds { IsFor blanks.rounds.name blanks.rounds.parts N.name N.parts }
-        requires moved { IsFor blanks.moved.name blanks.moved.parts M.name M.parts }
-        requires back { IsFor blanks.back.name blanks.back.parts B.name B.parts }
+        requires blanks { AreFor blanks I.name I.parts N.name N.parts M.name M.parts B.name B.parts }
         ensures range { ¬ (IsOpenable blocks places) → result ≡ Err ZoneError.Range }
         ensures memory { IsOpenable blocks places → IfErr result (λ error. error ≡ ZoneError.Memory) }
         ensures zone { IfOk result (λ opening. opening.0 ≡ opened number blocks places) }
@@ -82,10 +79,7 @@ impl<I: Ledger, M: Ledger, B: Ledger> Zone<I, M, B> {
     ) -> (Zone<I, M, B>, ScanSeat<I, N>, EndSeat<M, B>)
         requires fresh { (number blocks places : ℕ) × (plain ≡ opened number blocks places) }
         requires lawful { IsLawful plain }
-        requires isolated { IsFor blanks.isolated.name blanks.isolated.parts I.name I.parts }
-        requires rounds { IsFor blanks.rounds.name blanks.rounds.parts N.name N.parts }
-        requires moved { IsFor blanks.moved.name blanks.moved.parts M.name M.parts }
-        requires back { IsFor blanks.back.name blanks.back.parts B.name B.parts }
+        requires blanks { AreFor blanks I.name I.parts N.name N.parts M.name M.parts B.name B.parts }
         ensures zone { result.0 ≡ plain }
         ensures lawful { IsLawful result.0 }
         ensures scan { result.1 ≡ fresh_scan_seat }
@@ -233,6 +227,8 @@ impl<I: Ledger, M: Ledger, B: Ledger> Zone<I, M, B> {
         // The page is the one of the pair, and where there is none the answer is `Met`.
         ensures pair { IfOk result (λ next. Scans self.old self.new next) }
         ensures serial { seat.old.count ≡ isolated self.old.records }
+        // A journal has places for fewer serials than there are numbers.
+        ensures followed { IfOk result IsFollowed }
         ensures seat { IfOk result (λ next. seat.new ≡ seat_noted seat.old next) }
         ensures full { OnErr result (seat.new ≡ seat_full seat.old) }
         ensures lawful { IsLawful self.new }
@@ -358,7 +354,8 @@ impl<I: Ledger, M: Ledger, B: Ledger> Zone<I, M, B> {
 
     /// How many pageblocks it has, 1 to 8.
     pub fn blocks(&self) -> u32
-        ensures { result ≡ self.now.blocks }
+        ensures blocks { result ≡ self.now.blocks }
+        ensures lawful { IsLawful self.now }
     {
         self.plain.blocks()
     }

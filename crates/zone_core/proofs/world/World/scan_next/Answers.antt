@@ -43,3 +43,6 @@ invariant_of-self-in-Err g c =
     let z = c.self.inside in
     rw c.in-Err.ensures.err
     (carried_noted z.zone z.scan z.ends z.is_open z.waiting.items z.hands.held (deque_capacity z.waiting) c.self.invariant c.isolate_next.new.seat)
+
+pub returns-in-Ok-Page-clause-orderly : goal.returns-in-Ok-Page-clause-orderly
+returns-in-Ok-Page-clause-orderly g c = (invariant_of-self g c).orderly

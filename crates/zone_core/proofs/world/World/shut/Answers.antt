@@ -15,6 +15,7 @@ pub put_all_back_in-count-requires : goal.put_all_back_in-count-requires
 put_all_back_in-count-requires g c =
     let z = c.self.inside in
     record {
+      lawful = c.self.invariant.orderly.lawful;
       own = c.self.invariant.waiting;
       rising = c.self.invariant.orderly.rising;
       few = short_list z.zone z.scan z.ends z.is_open z.waiting.items z.hands.held (deque_capacity z.waiting) c.self.invariant;
@@ -41,3 +42,6 @@ pub returns-then-not-are_empty-clause-refused : goal.returns-then-not-are_empty-
 returns-then-not-are_empty-clause-refused g c =
     let z = c.self.inside in
     ap shut_step (sym c.self.view_is) ∙ not_shut z.zone z.scan z.ends z.is_open z.waiting.items z.hands.held (sym c.are_empty.ensures ∙ c.if-not-are_empty.true)
+
+pub returns-clause-orderly : goal.returns-clause-orderly
+returns-clause-orderly g c = (invariant_of-self g c).orderly
