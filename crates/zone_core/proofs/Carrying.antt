@@ -4,7 +4,7 @@ use Rattle.std.specs.Prelude.{Option, Some, None, IsSome, Result, Ok, Err, IfOk,
 use Rattle.std.specs.FinMap as map
 use Rattle.std.specs.List.{list_any, list_all}
 use Rattle.std.specs.Option.{option_and_then}
-use Rattle.std.proofs.lemmas.Bool.{and_parts, eq-eqb, ltb-true, ltb-false, or_left, or_right}
+use Rattle.std.proofs.lemmas.Bool.{and_parts, eq-eqb, eqb-true, ltb-true, ltb-false, or_left, or_right}
 use Rattle.std.proofs.lemmas.Bool.Decides.{eqb_tells, leb_tells}
 use Rattle.std.proofs.lemmas.List.{length-set, map-set, length-map}
 use Rattle.std.proofs.lemmas.Option.{slice_get_within}
@@ -29,16 +29,16 @@ use Rattle.state_core.specs.declared.placement.Placement.TheVariants.{At, Moving
 use Rattle.state_core.specs.Lawful.{IsLawful}
 use Rattle.state_core.specs.Pairs.{next_pair}
 use Rattle.state_core.specs.Moving.{IsOwnCopy, page_now, round_begun, isolate_refusal, isolated_next, next_answer, next_state, Scans, committed, put_back_to_source, moved_to_target}
-use Rattle.zone_core.specs.Seats.{audit_refusal, EndSeat}
+use Rattle.zone_core.specs.Seats.{ScanSeat, EndSeat, seat_begun, seat_noted, seat_full, seat_ended, audit_refusal}
 use Rattle.state_core.specs.Refusals.{IsOpenable, result_err, placement_refusal, access_refusal, map_at_refusal}
 use Rattle.state_core.specs.Steps.{mapped, placed, loaded, stored}
-use Rattle.zone_core.specs.World.{WorldState, IsOrderly, IsRising, world_closed, hand_of, with_hand, with_zone, serial_in, page_in, copy_in, is_empty, take_step, copy_step, finish_step, finished_as, finished_in, all_put_back, shut_step, taken_by, isolated_by}
+use Rattle.zone_core.specs.World.{WorldState, IsOrderly, IsRising, world_closed, hand_of, with_hand, with_zone, serial_in, page_in, copy_in, is_empty, take_step, copy_step, finish_step, finished_as, finished_in, finished_by, all_put_back, shut, shut_step, taken_by, isolated_by}
 use Rattle.state_core.specs.ZoneState.{ZoneState, frame_count, has_room, is_free, placement_at, lowest_free_frame, lowest_unused_page}
 use Rattle.state_core.proofs.Accessed.{lawful_loaded, lawful_stored}
 use Rattle.state_core.proofs.Finding.{some_lowest, unused_left, unused_is}
 use Rattle.state_core.proofs.Carried.{own_page, own_begun, own_loaded, own_stored, own_placed, own_isolated, own_fresh, own_committed, own_put_back}
 use Rattle.state_core.proofs.Facts.{taken, skipped, spare, not_none}
-use Rattle.zone_core.proofs.Orderly.{orderly_with_zone, orderly_taken, orderly_copied, orderly_finished, orderly_shut, orderly_round_opened, orderly_isolated}
+use Rattle.zone_core.proofs.Orderly.{orderly_with_zone, orderly_taken, orderly_copied, orderly_finished, orderly_shut, orderly_round_opened, orderly_noted, orderly_isolated}
 
 -- Lists of what hands hold
 each_set : (held : List Held) (i : ℕ) (x : Held) → each hand_as (slice_set held i x) ≡ slice_set (each hand_as held) i (hand_as x)
@@ -122,22 +122,20 @@ waits_at (q ∷ list) zero p e = let same : q ≡ p = cc in or_left (nat_eq p.se
 waits_at (q ∷ list) (suc i) p e = or_right (nat_eq p.serial q.serial) _ (waits_at list i p e)
 
 -- Another zone
-module _ (zone next : ZoneState) (is_open : Bool) (list : List OnItsWay) (held : List Held) (parts capacity : ℕ) (was : IsCarried zone is_open list held parts capacity) where
-  pub carried_with : (opened : Bool) → IsOrderly (world_of next opened list held) → ((p : OnItsWay) → IsOwnCopy zone p → IsOwnCopy next p) → next.blocks ≡ zone.blocks → IsCarried next opened list held parts capacity
-  carried_with opened orderly own blocks = record {
+module _ (zone next : ZoneState) (scan : ScanSeat) (ends : EndSeat) (is_open : Bool) (list : List OnItsWay) (held : List Held) (capacity : ℕ) (was : IsCarried zone scan ends is_open list held capacity) where
+  pub carried_with : (seat : ScanSeat) (opened : Bool) → IsOrderly (world_of next seat ends opened list held) → ((p : OnItsWay) → IsOwnCopy zone p → IsOwnCopy next p) → next.blocks ≡ zone.blocks → IsCarried next seat ends opened list held capacity
+  carried_with seat opened orderly own blocks = record {
     orderly = orderly;
     waiting = λ i p e. own p (was.waiting i p e);
     pages = λ i p e. own p (was.pages i p e);
     copies = λ i p e. own p (was.copies i p e);
-    parts = was.parts;
     room = was.room ∙ ap (λ n. 256 * n) (sym blocks);
-    few = subst (λ n. n ≤ 8) (sym blocks) was.few;
   }
 
 -- Taking, copying and finishing
-module _ (zone : ZoneState) (is_open : Bool) (p : OnItsWay) (list : List OnItsWay) (held : List Held) (k parts capacity : ℕ) (low : 0 < k) (high : k ≤ 4) (nothing : is_nothing (held_at held k) ≡ true) (was : IsCarried zone is_open (p ∷ list) held parts capacity) where
+module _ (zone : ZoneState) (scan : ScanSeat) (ends : EndSeat) (is_open : Bool) (p : OnItsWay) (list : List OnItsWay) (held : List Held) (k capacity : ℕ) (low : 0 < k) (high : k ≤ 4) (nothing : is_nothing (held_at held k) ≡ true) (was : IsCarried zone scan ends is_open (p ∷ list) held capacity) where
   abbrev before : WorldState
-  before = world_of zone is_open (p ∷ list) held
+  before = world_of zone scan ends is_open (p ∷ list) held
 
   abbrev hands_taken : List Held
   hands_taken = slice_set held (k - 1) (Page p)
@@ -145,14 +143,14 @@ module _ (zone : ZoneState) (is_open : Bool) (p : OnItsWay) (list : List OnItsWa
   hand_empty : hand_of before k ≡ hand.Empty
   hand_empty = seen_at held (k - 1) ∙ ap hand_as (nothing_is (held_at held k) nothing)
 
-  pub step_taken : take_step before k ≡ Some (p.serial, world_of zone is_open list hands_taken)
+  pub step_taken : take_step before k ≡ Some (p.serial, world_of zone scan ends is_open list hands_taken)
   step_taken =
       ap (λ (h : Hand). taken_by before k h (p.serial ∷ serials_of list)) hand_empty
-      ∙ ap (λ (hs : List Hand). Some (p.serial, record { zone = zone; is_open = is_open; waiting = serials_of list; hands = hs })) (sym (each_set held (k - 1) (Page p)))
+      ∙ ap (λ (hs : List Hand). Some (p.serial, record { zone = zone; scan = scan; ends = ends; is_open = is_open; waiting = serials_of list; hands = hs })) (sym (each_set held (k - 1) (Page p)))
 
-  pub carried_taken : IsCarried zone is_open list hands_taken parts capacity
+  pub carried_taken : IsCarried zone scan ends is_open list hands_taken capacity
   carried_taken = record {
-    orderly = orderly_taken before k p.serial (world_of zone is_open list hands_taken) low high was.orderly step_taken;
+    orderly = orderly_taken before k p.serial (world_of zone scan ends is_open list hands_taken) low high was.orderly step_taken;
     waiting = λ i q e. was.waiting (suc i) q e;
     pages = λ i q e. elim (held_after held (k - 1) i (Page p) (Page q) e) [
       | inl here ↦ subst (IsOwnCopy zone) (page_same here.1) (was.waiting zero p refl)
@@ -162,14 +160,12 @@ module _ (zone : ZoneState) (is_open : Bool) (p : OnItsWay) (list : List OnItsWa
       | inl here ↦ absurd (page_no_copy here.1)
       | inr there ↦ was.copies i q there.1
     ];
-    parts = was.parts;
     room = was.room;
-    few = was.few;
   }
 
-module _ (zone : ZoneState) (is_open : Bool) (p : OnItsWay) (list : List OnItsWay) (held : List Held) (k parts capacity : ℕ) (low : 0 < k) (high : k ≤ 4) (page : page_held (held_at held k) ≡ Some p) (was : IsCarried zone is_open list held parts capacity) where
+module _ (zone : ZoneState) (scan : ScanSeat) (ends : EndSeat) (is_open : Bool) (p : OnItsWay) (list : List OnItsWay) (held : List Held) (k capacity : ℕ) (low : 0 < k) (high : k ≤ 4) (page : page_held (held_at held k) ≡ Some p) (was : IsCarried zone scan ends is_open list held capacity) where
   abbrev uncopied : WorldState
-  uncopied = world_of zone is_open list held
+  uncopied = world_of zone scan ends is_open list held
 
   abbrev hands_copied : List Held
   hands_copied = slice_set held (k - 1) (Copy p)
@@ -177,14 +173,14 @@ module _ (zone : ZoneState) (is_open : Bool) (p : OnItsWay) (list : List OnItsWa
   page_at_hand : slice_get held (k - 1) ≡ Some (Page p)
   page_at_hand = is_page_held (slice_get held (k - 1)) p page
 
-  pub step_copied : copy_step uncopied k ≡ Some (world_of zone is_open list hands_copied)
+  pub step_copied : copy_step uncopied k ≡ Some (world_of zone scan ends is_open list hands_copied)
   step_copied =
       ap (λ (h : Hand). option_and_then (λ serial. Some (with_hand uncopied k (hand.Copy serial))) (page_in h)) (seen_some held (k - 1) (Page p) page_at_hand)
-      ∙ ap (λ (hs : List Hand). Some (record { zone = zone; is_open = is_open; waiting = serials_of list; hands = hs })) (sym (each_set held (k - 1) (Copy p)))
+      ∙ ap (λ (hs : List Hand). Some (record { zone = zone; scan = scan; ends = ends; is_open = is_open; waiting = serials_of list; hands = hs })) (sym (each_set held (k - 1) (Copy p)))
 
-  pub carried_copied : IsCarried zone is_open list hands_copied parts capacity
+  pub carried_copied : IsCarried zone scan ends is_open list hands_copied capacity
   carried_copied = record {
-    orderly = orderly_copied uncopied k (world_of zone is_open list hands_copied) low high was.orderly step_copied;
+    orderly = orderly_copied uncopied k (world_of zone scan ends is_open list hands_copied) low high was.orderly step_copied;
     waiting = was.waiting;
     pages = λ i q e. elim (held_after held (k - 1) i (Copy p) (Page q) e) [
       | inl here ↦ absurd (copy_no_page here.1)
@@ -194,20 +190,21 @@ module _ (zone : ZoneState) (is_open : Bool) (p : OnItsWay) (list : List OnItsWa
       | inl here ↦ subst (IsOwnCopy zone) (copy_same here.1) (was.pages (k - 1) p page_at_hand)
       | inr there ↦ was.copies i q there.1
     ];
-    parts = was.parts;
     room = was.room;
-    few = was.few;
   }
 
-module _ (zone : ZoneState) (is_open : Bool) (p : OnItsWay) (list : List OnItsWay) (held : List Held) (k parts capacity : ℕ) (low : 0 < k) (high : k ≤ 4) (copy : copy_held (held_at held k) ≡ Some p) (was : IsCarried zone is_open list held parts capacity) where
+module _ (zone : ZoneState) (scan : ScanSeat) (ends : EndSeat) (is_open : Bool) (p : OnItsWay) (list : List OnItsWay) (held : List Held) (k capacity : ℕ) (low : 0 < k) (high : k ≤ 4) (copy : copy_held (held_at held k) ≡ Some p) (was : IsCarried zone scan ends is_open list held capacity) where
   abbrev unfinished : WorldState
-  unfinished = world_of zone is_open list held
+  unfinished = world_of zone scan ends is_open list held
 
   abbrev hands_finished : List Held
   hands_finished = slice_set held (k - 1) Nothing
 
   abbrev zone_finished : ZoneState
   zone_finished = finished_in zone p.serial
+
+  abbrev ends_finished : EndSeat
+  ends_finished = seat_ended ends (finished_as zone p.serial).ended
 
   copy_at_hand : slice_get held (k - 1) ≡ Some (Copy p)
   copy_at_hand = is_copy_held (slice_get held (k - 1)) p copy
@@ -218,10 +215,10 @@ module _ (zone : ZoneState) (is_open : Bool) (p : OnItsWay) (list : List OnItsWa
   hand_copy : hand_of unfinished k ≡ hand.Copy p.serial
   hand_copy = seen_some held (k - 1) (Copy p) copy_at_hand
 
-  pub step_finished : finish_step unfinished k ≡ Some (finished_as zone p.serial, world_of zone_finished is_open list hands_finished)
+  pub step_finished : finish_step unfinished k ≡ Some (finished_as zone p.serial, world_of zone_finished scan ends_finished is_open list hands_finished)
   step_finished =
-      ap (λ (h : Hand). option_and_then (λ serial. Some (finished_as zone serial, with_zone (with_hand unfinished k hand.Empty) (finished_in zone serial))) (copy_in h)) hand_copy
-      ∙ ap (λ (hs : List Hand). Some (finished_as zone p.serial, record { zone = zone_finished; is_open = is_open; waiting = serials_of list; hands = hs })) (sym (each_set held (k - 1) Nothing))
+      ap (λ (h : Hand). option_and_then (λ serial. Some (finished_as zone serial, finished_by unfinished k serial)) (copy_in h)) hand_copy
+      ∙ ap (λ (hs : List Hand). Some (finished_as zone p.serial, record { zone = zone_finished; scan = scan; ends = ends_finished; is_open = is_open; waiting = serials_of list; hands = hs })) (sym (each_set held (k - 1) Nothing))
 
   finished_is : zone_finished ≡ committed zone p.serial p.page.number
   finished_is = ap (λ (o : Option ℕ). committed zone p.serial (unwrap_or o 0)) (own_page zone was.orderly.lawful p own_in_hand.own)
@@ -252,9 +249,9 @@ module _ (zone : ZoneState) (is_open : Bool) (p : OnItsWay) (list : List OnItsWa
       let bad : i ≡ k - 1 = omega arith in
       other bad
 
-  pub carried_finished : IsCarried zone_finished is_open list hands_finished parts capacity
+  pub carried_finished : IsCarried zone_finished scan ends_finished is_open list hands_finished capacity
   carried_finished = record {
-    orderly = orderly_finished unfinished k (finished_as zone p.serial) (world_of zone_finished is_open list hands_finished) low high was.orderly step_finished;
+    orderly = orderly_finished unfinished k (finished_as zone p.serial) (world_of zone_finished scan ends_finished is_open list hands_finished) low high was.orderly step_finished;
     waiting = λ i q e. own_stays q (not_waiting i q e) (was.waiting i q e);
     pages = λ i q e. elim (held_after held (k - 1) i Nothing (Page q) e) [
       | inl here ↦ absurd (nothing_no_page here.1)
@@ -264,9 +261,7 @@ module _ (zone : ZoneState) (is_open : Bool) (p : OnItsWay) (list : List OnItsWa
       | inl here ↦ absurd (nothing_no_copy here.1)
       | inr there ↦ own_stays q (in_other_hand i (Copy q) q there.0 there.1 refl) (was.copies i q there.1)
     ];
-    parts = was.parts;
     room = was.room ∙ ap (λ n. 256 * n) (sym blocks_same);
-    few = subst (λ n. n ≤ 8) (sym blocks_same) was.few;
   }
 
 -- A closed round
@@ -275,15 +270,16 @@ empty_hands zero i = refl
 empty_hands (suc n) zero = refl
 empty_hands (suc n) (suc i) = empty_hands n i
 
-module _ (zone : ZoneState) (law : IsLawful zone) (none : (serial : ℕ) → is_out zone.records serial ≡ false) where
-  empty_hand : (k serial : ℕ) → serial_in (hand_of (world_closed zone) k) ≡ Some serial → ⊥
+module _ (zone : ZoneState) (scan : ScanSeat) (ends : EndSeat) (law : IsLawful zone) (whole : ends.parts ≡ 64) (none : (serial : ℕ) → is_out zone.records serial ≡ false) where
+  empty_hand : (k serial : ℕ) → serial_in (hand_of (world_closed zone scan ends) k) ≡ Some serial → ⊥
   empty_hand k serial e =
       let bad : None ≡ Some serial = ap serial_in (sym (empty_hands 4 (k - 1))) ∙ e in
       cc
 
-  orderly_closed : IsOrderly (world_closed zone)
+  orderly_closed : IsOrderly (world_closed zone scan ends)
   orderly_closed = record {
     lawful = law;
+    whole = whole;
     four = refl;
     rising = tt;
     out = λ serial. (λ t. absurd (true_not_false _ t (none serial)), λ t. absurd (true_not_false _ t refl));
@@ -293,15 +289,13 @@ module _ (zone : ZoneState) (law : IsLawful zone) (none : (serial : ℕ) → is_
     few = (omega (arith, law.fingers.0), omega (arith, law.fingers.1));
   }
 
-  pub carried_closed : (parts capacity : ℕ) → parts ≡ 64 → capacity ≡ 256 * zone.blocks → zone.blocks ≤ 8 → IsCarried zone false [] (Nothing ∷ Nothing ∷ Nothing ∷ Nothing ∷ []) parts capacity
-  carried_closed parts capacity whole room few = record {
+  pub carried_closed : (capacity : ℕ) → capacity ≡ 256 * zone.blocks → IsCarried zone scan ends false [] (Nothing ∷ Nothing ∷ Nothing ∷ Nothing ∷ []) capacity
+  carried_closed capacity room = record {
     orderly = orderly_closed;
     waiting = λ i p e. cc;
     pages = λ i p e. absurd (no_page 4 i p e);
     copies = λ i p e. absurd (no_copy 4 i p e);
-    parts = whole;
     room = room;
-    few = few;
   }
 
 -- in a closed round nothing waits
@@ -311,8 +305,8 @@ no_list (p ∷ list) none =
     let bad : true ≡ false = sym (waits_at (p ∷ list) zero p refl) ∙ none p.serial in
     cc
 
-pub closed_waits : (zone : ZoneState) (is_open : Bool) (list : List OnItsWay) (held : List Held) → IsOrderly (world_of zone is_open list held) → is_open ≡ false → list ≡ []
-closed_waits zone is_open list held orderly closed = no_list list (λ serial. not_waiting_then serial (list_any (nat_eq serial) (serials_of list)) refl) where
+pub closed_waits : (zone : ZoneState) (scan : ScanSeat) (ends : EndSeat) (is_open : Bool) (list : List OnItsWay) (held : List Held) → IsOrderly (world_of zone scan ends is_open list held) → is_open ≡ false → list ≡ []
+closed_waits zone scan ends is_open list held orderly closed = no_list list (λ serial. not_waiting_then serial (list_any (nat_eq serial) (serials_of list)) refl) where
   not_waiting_then : (serial : ℕ) (b : Bool) → list_any (nat_eq serial) (serials_of list) ≡ b → b ≡ false
   not_waiting_then serial false e = refl
   not_waiting_then serial true e =
@@ -362,47 +356,53 @@ empty_seen (Nothing ∷ held) = empty_seen held
 empty_seen (Page p ∷ held) = refl
 empty_seen (Copy p ∷ held) = refl
 
-pub not_shut : (zone : ZoneState) (is_open : Bool) (list : List OnItsWay) (held : List Held) → list_all is_nothing held ≡ false → shut_step (world_of zone is_open list held) ≡ None
-not_shut zone is_open list held full =
-    skipped (list_all is_empty (each hand_as held)) (Some (length (serials_of list), record { zone = all_put_back zone (serials_of list); is_open = false; waiting = []; hands = each hand_as held })) None (empty_seen held ∙ full)
+pub not_shut : (zone : ZoneState) (scan : ScanSeat) (ends : EndSeat) (is_open : Bool) (list : List OnItsWay) (held : List Held) → list_all is_nothing held ≡ false → shut_step (world_of zone scan ends is_open list held) ≡ None
+not_shut zone scan ends is_open list held full =
+    skipped (list_all is_empty (each hand_as held)) (Some (length (serials_of list), shut (world_of zone scan ends is_open list held))) None (empty_seen held ∙ full)
 
 -- the list of a world is short
-pub short_list : (zone : ZoneState) (is_open : Bool) (list : List OnItsWay) (held : List Held) (parts capacity : ℕ) → IsCarried zone is_open list held parts capacity → length list ≤ 4096
-short_list zone is_open list held parts capacity was =
-    omega (arith, was.orderly.few.1, was.few, length-map list (λ (p : OnItsWay). p.serial))
+pub short_list : (zone : ZoneState) (scan : ScanSeat) (ends : EndSeat) (is_open : Bool) (list : List OnItsWay) (held : List Held) (capacity : ℕ) → IsCarried zone scan ends is_open list held capacity → length list ≤ 4096
+short_list zone scan ends is_open list held capacity was =
+    omega (arith, was.orderly.few.1, was.orderly.lawful.size.1, length-map list (λ (p : OnItsWay). p.serial))
 
-module _ (zone next : ZoneState) (is_open : Bool) (list : List OnItsWay) (held : List Held) (parts capacity count : ℕ) (was : IsCarried zone is_open list held parts capacity) (empty : list_all is_nothing held ≡ true) (done : next ≡ all_put_back zone (serials_of list)) (blocks : next.blocks ≡ zone.blocks) (counted : count ≡ length list) where
+module _ (zone next : ZoneState) (scan : ScanSeat) (ends : EndSeat) (is_open : Bool) (list : List OnItsWay) (held : List Held) (capacity count : ℕ) (was : IsCarried zone scan ends is_open list held capacity) (empty : list_all is_nothing held ≡ true) (done : next ≡ all_put_back zone (serials_of list)) (blocks : next.blocks ≡ zone.blocks) (counted : count ≡ length list) where
   abbrev open_world : WorldState
-  open_world = world_of zone is_open list held
+  open_world = world_of zone scan ends is_open list held
 
-  pub step_shut : shut_step open_world ≡ Some (count, world_of next false [] held)
+  abbrev ends_shut : EndSeat
+  ends_shut = record ends { back = ends.back + count }
+
+  pub step_shut : shut_step open_world ≡ Some (count, world_of next scan ends_shut false [] held)
   step_shut =
-      taken (list_all is_empty (each hand_as held)) (Some (length (serials_of list), record open_world { zone = all_put_back zone (serials_of list); is_open = false; waiting = [] })) None (empty_seen held ∙ empty)
-      ∙ (λ i. Some (number i, world_of (back i) false [] held)) where
+      taken (list_all is_empty (each hand_as held)) (Some (length (serials_of list), shut open_world)) None (empty_seen held ∙ empty)
+      ∙ (λ i. Some (number i, world_of (back i) scan (record ends { back = ends.back + number i }) false [] held)) where
         back : all_put_back zone (serials_of list) ≡ next
         back = sym done
 
         number : length (serials_of list) ≡ count
         number = length-map list (λ (p : OnItsWay). p.serial) ∙ sym counted
 
-  pub carried_shut : IsCarried next false [] held parts capacity
+  pub carried_shut : IsCarried next scan ends_shut false [] held capacity
   carried_shut = record {
-    orderly = orderly_shut open_world count (world_of next false [] held) was.orderly step_shut;
+    orderly = orderly_shut open_world count (world_of next scan ends_shut false [] held) was.orderly step_shut;
     waiting = λ i p e. cc;
     pages = λ i p e. absurd (nothing_no_page (sym (all_empty held empty i (Page p) e)));
     copies = λ i p e. absurd (nothing_no_copy (sym (all_empty held empty i (Copy p) e)));
-    parts = was.parts;
     room = was.room ∙ ap (λ n. 256 * n) (sym blocks);
-    few = subst (λ n. n ≤ 8) (sym blocks) was.few;
   }
 
+-- the seat of the scanner notes something
+pub carried_noted : (zone : ZoneState) (scan : ScanSeat) (ends : EndSeat) (is_open : Bool) (list : List OnItsWay) (held : List Held) (capacity : ℕ) → IsCarried zone scan ends is_open list held capacity → (seat : ScanSeat) → IsCarried zone seat ends is_open list held capacity
+carried_noted zone scan ends is_open list held capacity was seat =
+    carried_with zone zone scan ends is_open list held capacity was seat is_open (orderly_noted (world_of zone scan ends is_open list held) seat was.orderly) (λ p own. own) refl
+
 -- A round opens, and a page goes on its way
-pub carried_opened : (zone : ZoneState) (is_open : Bool) (list : List OnItsWay) (held : List Held) (parts capacity : ℕ) → IsCarried zone is_open list held parts capacity → is_open ≡ false → IsCarried (round_begun zone) true list held parts capacity
-carried_opened zone is_open list held parts capacity was closed =
-    carried_with zone (round_begun zone) is_open list held parts capacity was true orderly (own_begun zone) refl where
-      orderly : IsOrderly (world_of (round_begun zone) true list held)
-      orderly = subst (λ (b : Bool). IsOrderly (record { zone = if b then zone else round_begun zone; is_open = true; waiting = serials_of list; hands = each hand_as held })) closed
-          (orderly_round_opened (world_of zone is_open list held) was.orderly)
+pub carried_opened : (zone : ZoneState) (scan : ScanSeat) (ends : EndSeat) (is_open : Bool) (list : List OnItsWay) (held : List Held) (capacity : ℕ) → IsCarried zone scan ends is_open list held capacity → is_open ≡ false → IsCarried (round_begun zone) (seat_begun scan) ends true list held capacity
+carried_opened zone scan ends is_open list held capacity was closed =
+    carried_with zone (round_begun zone) scan ends is_open list held capacity was (seat_begun scan) true orderly (own_begun zone) refl where
+      orderly : IsOrderly (world_of (round_begun zone) (seat_begun scan) ends true list held)
+      orderly = subst (λ (b : Bool). IsOrderly (record { zone = if b then zone else round_begun zone; scan = if b then scan else seat_begun scan; ends = ends; is_open = true; waiting = serials_of list; hands = each hand_as held })) closed
+          (orderly_round_opened (world_of zone scan ends is_open list held) was.orderly)
 
 serials_more : (list : List OnItsWay) (p : OnItsWay) → serials_of (list ++ p ∷ []) ≡ serials_of list ++ p.serial ∷ []
 serials_more [] p = refl
@@ -433,18 +433,21 @@ met_same zone next answer state = by_pair (next_pair zone) answer state where
   by_pair None answer state = state
   by_pair (Some pair) answer state = cc
 
-module _ (zone next : ZoneState) (is_open : Bool) (list : List OnItsWay) (held : List Held) (parts capacity : ℕ) (p : OnItsWay) (was : IsCarried zone is_open list held parts capacity) (opened : is_open ≡ true) (room : isolate_refusal zone ≡ None) (take : IsTaken zone next p) (scans : Scans zone next (Found p)) where
+module _ (zone next : ZoneState) (scan : ScanSeat) (ends : EndSeat) (is_open : Bool) (list : List OnItsWay) (held : List Held) (capacity : ℕ) (p : OnItsWay) (was : IsCarried zone scan ends is_open list held capacity) (opened : is_open ≡ true) (room : isolate_refusal zone ≡ None) (take : IsTaken zone next p) (scans : Scans zone next (Found p)) where
   abbrev scanning : WorldState
-  scanning = world_of zone is_open list held
+  scanning = world_of zone scan ends is_open list held
+
+  abbrev seat_counted : ScanSeat
+  seat_counted = seat_noted scan (Found p)
 
   at_source : map.get zone.placement take.pair.page ≡ Some (At scans.source)
   at_source = ap (λ (q : OnItsWay). map.get zone.placement q.page.number) (sym take.page) ∙ scans.pair.from.here
 
-  world_is : isolated_by scanning (next_pair zone) ≡ world_of next is_open (list ++ p ∷ []) held
+  world_is : isolated_by scanning (next_pair zone) ≡ world_of next seat_counted ends is_open (list ++ p ∷ []) held
   world_is =
       ap (isolated_by scanning) take.is
-      ∙ (λ i. record { zone = sym take.state i; is_open = is_open; waiting = serials_of list ++ sym (ap (λ (q : OnItsWay). q.serial) take.page) i ∷ []; hands = each hand_as held })
-      ∙ ap (λ (waiting : List ℕ). record { zone = next; is_open = is_open; waiting = waiting; hands = each hand_as held }) (sym (serials_more list p))
+      ∙ (λ i. record { zone = sym take.state i; scan = seat_counted; ends = ends; is_open = is_open; waiting = serials_of list ++ sym (ap (λ (q : OnItsWay). q.serial) take.page) i ∷ []; hands = each hand_as held })
+      ∙ ap (λ (waiting : List ℕ). record { zone = next; scan = seat_counted; ends = ends; is_open = is_open; waiting = waiting; hands = each hand_as held }) (sym (serials_more list p))
 
   own_then : (q : OnItsWay) → IsOwnCopy zone q → IsOwnCopy next q
   own_then q own = subst (λ (v : ZoneState). IsOwnCopy v q) (sym take.state) (own_isolated zone take.pair scans.source at_source q own)
@@ -457,7 +460,7 @@ module _ (zone next : ZoneState) (is_open : Bool) (list : List OnItsWay) (held :
   blocks_then : next.blocks ≡ zone.blocks
   blocks_then = ap (λ (v : ZoneState). v.blocks) take.state
 
-  pub carried_scanned : IsCarried next is_open (list ++ p ∷ []) held parts capacity
+  pub carried_scanned : IsCarried next seat_counted ends is_open (list ++ p ∷ []) held capacity
   carried_scanned = record {
     orderly = subst IsOrderly world_is (orderly_isolated scanning was.orderly opened room);
     waiting = λ i q e. elim (one_more list p i q e) [
@@ -466,9 +469,7 @@ module _ (zone next : ZoneState) (is_open : Bool) (list : List OnItsWay) (held :
     ];
     pages = λ i q e. own_then q (was.pages i q e);
     copies = λ i q e. own_then q (was.copies i q e);
-    parts = was.parts;
     room = was.room ∙ ap (λ n. 256 * n) (sym blocks_then);
-    few = subst (λ n. n ≤ 8) (sym blocks_then) was.few;
   }
 
   -- the list has a place for it
@@ -493,18 +494,18 @@ place_then true true true d e = cc
 place_then true true false false e = cc
 place_then true true false true e = (refl, refl)
 
-module _ (zone next : ZoneState) (is_open : Bool) (list : List OnItsWay) (held : List Held) (parts capacity : ℕ) (was : IsCarried zone is_open list held parts capacity) where
+module _ (zone next : ZoneState) (scan : ScanSeat) (ends : EndSeat) (is_open : Bool) (list : List OnItsWay) (held : List Held) (capacity : ℕ) (was : IsCarried zone scan ends is_open list held capacity) where
   -- a refused call changes nothing
-  unchanged : next ≡ zone → IsCarried next is_open list held parts capacity
-  unchanged same = subst (λ (v : ZoneState). IsCarried v is_open list held parts capacity) (sym same) was
+  unchanged : next ≡ zone → IsCarried next scan ends is_open list held capacity
+  unchanged same = subst (λ (v : ZoneState). IsCarried v scan ends is_open list held capacity) (sym same) was
 
-  changed : (after : ZoneState) → next ≡ after → IsLawful after → out after.records ≡ out zone.records → after.migrate ≡ zone.migrate → after.free ≡ zone.free → after.blocks ≡ zone.blocks → ((p : OnItsWay) → IsOwnCopy zone p → IsOwnCopy after p) → IsCarried next is_open list held parts capacity
+  changed : (after : ZoneState) → next ≡ after → IsLawful after → out after.records ≡ out zone.records → after.migrate ≡ zone.migrate → after.free ≡ zone.free → after.blocks ≡ zone.blocks → ((p : OnItsWay) → IsOwnCopy zone p → IsOwnCopy after p) → IsCarried next scan ends is_open list held capacity
   changed after is law same_out migrate free blocks own =
-      subst (λ (v : ZoneState). IsCarried v is_open list held parts capacity) (sym is)
-      (carried_with zone after is_open list held parts capacity was is_open
-      (orderly_with_zone (world_of zone is_open list held) after was.orderly law (λ serial. ap (list_any (nat_eq serial)) same_out) migrate free blocks) own blocks)
+      subst (λ (v : ZoneState). IsCarried v scan ends is_open list held capacity) (sym is)
+      (carried_with zone after scan ends is_open list held capacity was scan is_open
+      (orderly_with_zone (world_of zone scan ends is_open list held) after was.orderly law (λ serial. ap (list_any (nat_eq serial)) same_out) migrate free blocks) own blocks)
 
-  pub carried_loaded : {T : Type 0} (client : ℕ) (address : Address) (word : ℕ) (result : Result T ZoneError) → result_err result ≡ access_refusal zone address → OnErr result (next ≡ zone) → OnOk result (next ≡ loaded zone client address word) → IsCarried next is_open list held parts capacity
+  pub carried_loaded : {T : Type 0} (client : ℕ) (address : Address) (word : ℕ) (result : Result T ZoneError) → result_err result ≡ access_refusal zone address → OnErr result (next ≡ zone) → OnOk result (next ≡ loaded zone client address word) → IsCarried next scan ends is_open list held capacity
   carried_loaded client address word (Err error) refused err ok = unchanged err
   carried_loaded client address word (Ok value) refused err ok =
       let room = room_then (has_room zone) (placement_refusal (placement_at zone address)) (sym refused) in
@@ -513,7 +514,7 @@ module _ (zone next : ZoneState) (is_open : Bool) (list : List OnItsWay) (held :
       (lawful_loaded zone was.orderly.lawful (spare zone room.0) client address at.0 word at.1)
       refl refl refl refl (own_loaded zone client address word)
 
-  pub carried_stored : {T : Type 0} (client : ℕ) (address : Address) (word value : ℕ) (result : Result T ZoneError) → result_err result ≡ access_refusal zone address → OnErr result (next ≡ zone) → OnOk result (next ≡ stored zone client address word value) → IsCarried next is_open list held parts capacity
+  pub carried_stored : {T : Type 0} (client : ℕ) (address : Address) (word value : ℕ) (result : Result T ZoneError) → result_err result ≡ access_refusal zone address → OnErr result (next ≡ zone) → OnOk result (next ≡ stored zone client address word value) → IsCarried next scan ends is_open list held capacity
   carried_stored client address word value (Err error) refused err ok = unchanged err
   carried_stored client address word value (Ok done) refused err ok =
       let room = room_then (has_room zone) (placement_refusal (placement_at zone address)) (sym refused) in
@@ -522,9 +523,9 @@ module _ (zone next : ZoneState) (is_open : Bool) (list : List OnItsWay) (held :
       (lawful_stored zone was.orderly.lawful (spare zone room.0) client address word value)
       refl refl refl refl (own_stored zone client address word value at.0 at.1)
 
-  carried_placed : (client : ℕ) (address : Address) (unmovable : Bool) (frame : ℕ) → IsSome (lowest_free_frame zone) → IsLawful next → next ≡ mapped zone client address unmovable frame → IsCarried next is_open list held parts capacity
+  carried_placed : (client : ℕ) (address : Address) (unmovable : Bool) (frame : ℕ) → IsSome (lowest_free_frame zone) → IsLawful next → next ≡ mapped zone client address unmovable frame → IsCarried next scan ends is_open list held capacity
   carried_placed client address unmovable frame free law is = by_page (lowest_unused_page zone) refl where
-    by_page : (o : Option ℕ) → lowest_unused_page zone ≡ o → IsCarried next is_open list held parts capacity
+    by_page : (o : Option ℕ) → lowest_unused_page zone ≡ o → IsCarried next scan ends is_open list held capacity
     by_page None none = absurd (unused_left zone was.orderly.lawful free none)
     by_page (Some page) unused =
         let fresh : next ≡ placed zone client address unmovable page frame =
@@ -532,48 +533,39 @@ module _ (zone next : ZoneState) (is_open : Bool) (list : List OnItsWay) (held :
         changed (placed zone client address unmovable page frame) fresh (subst IsLawful fresh law)
         refl refl refl refl (own_placed zone client address unmovable page frame (unused_is zone page unused).1)
 
-  pub carried_mapped : (client : ℕ) (address : Address) (unmovable : Bool) (result : Result ℕ ZoneError) → IsLawful next → OnErr result (next ≡ zone) → IfOk result (λ frame. lowest_free_frame zone ≡ Some frame) → IfOk result (λ frame. next ≡ mapped zone client address unmovable frame) → IsCarried next is_open list held parts capacity
+  pub carried_mapped : (client : ℕ) (address : Address) (unmovable : Bool) (result : Result ℕ ZoneError) → IsLawful next → OnErr result (next ≡ zone) → IfOk result (λ frame. lowest_free_frame zone ≡ Some frame) → IfOk result (λ frame. next ≡ mapped zone client address unmovable frame) → IsCarried next scan ends is_open list held capacity
   carried_mapped client address unmovable (Err error) law err lowest ok = unchanged err
   carried_mapped client address unmovable (Ok frame) law err lowest ok = carried_placed client address unmovable frame (not_none _ frame lowest) law ok
 
-  pub carried_mapped_at : {T : Type 0} (client : ℕ) (address : Address) (unmovable : Bool) (frame : ℕ) (result : Result T ZoneError) → IsLawful next → result_err result ≡ map_at_refusal zone address frame → OnErr result (next ≡ zone) → OnOk result (next ≡ mapped zone client address unmovable frame) → IsCarried next is_open list held parts capacity
+  pub carried_mapped_at : {T : Type 0} (client : ℕ) (address : Address) (unmovable : Bool) (frame : ℕ) (result : Result T ZoneError) → IsLawful next → result_err result ≡ map_at_refusal zone address frame → OnErr result (next ≡ zone) → OnOk result (next ≡ mapped zone client address unmovable frame) → IsCarried next scan ends is_open list held capacity
   carried_mapped_at client address unmovable frame (Err error) law refused err ok = unchanged err
   carried_mapped_at client address unmovable frame (Ok done) law refused err ok =
       let free = place_then (nat_lt frame (frame_count zone)) (has_room zone) (is_some (page_at zone.records address)) (is_free zone frame) (sym refused) in
       carried_placed client address unmovable frame (some_lowest zone frame free.1 (ltb-true frame (frame_count zone) free.0)) law ok
 
--- An opened world, and one that is joined
-pub few_blocks : {T : Type 0} (blocks places : ℕ) (x : T) → ((IsOpenable blocks places → ⊥) → ◌≡◌ {A = Result T ZoneError} (Ok x) (Err Range)) → blocks ≤ 8
-few_blocks blocks places x range = elim (leb_tells blocks 8) [
-  | inl few ↦ few.1
-  | inr many ↦ (
-      let refused = range (λ openable. let few = openable.1 in absurd (omega arith)) in
-      cc)
-]
+-- A world that is joined
+audit_then : (a b : Bool) → (if not a then Some Missing else if b then Some Out else None) ≡ None → (a ≡ true) × (b ≡ false)
+audit_then false b e = cc
+audit_then true true e = cc
+audit_then true false e = (refl, refl)
 
-audit_then : (a b : Bool) → (if a then Some Missing else if b then Some Out else None) ≡ None → (a ≡ false) × (b ≡ false)
-audit_then true b e = cc
-audit_then false true e = cc
-audit_then false false e = (refl, refl)
-
-pub carried_joined : (zone : ZoneState) (ends : EndSeat) (list : List OnItsWay) (held : List Held) (capacity : ℕ) → IsLawful zone → audit_refusal zone ends ≡ None → ends.parts ≤ 64 → IsRest list capacity → capacity / 256 ≡ zone.blocks → held ≡ Nothing ∷ Nothing ∷ Nothing ∷ Nothing ∷ [] → IsCarried zone false list held ends.parts capacity
-carried_joined zone ends list held capacity law audit most rest blocks empty =
-    let whole = audit_then (nat_lt ends.parts 64) (nat_lt 0 (length (out zone.records))) audit in
-    let least = ltb-false ends.parts 64 whole.0 in
-    let gone = ltb-false 0 (length (out zone.records)) whole.1 in
+pub carried_joined : (zone : ZoneState) (scan : ScanSeat) (ends : EndSeat) (list : List OnItsWay) (held : List Held) (capacity : ℕ) → IsLawful zone → audit_refusal zone ends ≡ None → IsRest list capacity → capacity / 256 ≡ zone.blocks → held ≡ Nothing ∷ Nothing ∷ Nothing ∷ Nothing ∷ [] → IsCarried zone scan ends false list held capacity
+carried_joined zone scan ends list held capacity law audit rest blocks empty =
+    let passed = audit_then (nat_eq ends.parts 64) (nat_lt 0 (length (out zone.records))) audit in
+    let gone = ltb-false 0 (length (out zone.records)) passed.1 in
     rw (rest.none, empty)
-    (carried_closed zone law (out_empty zone.records (omega arith)) ends.parts capacity (omega arith) (omega (arith, rest.room, blocks)) (omega (arith, rest.few, blocks)))
+    (carried_closed zone scan ends law (eqb-true ends.parts 64 passed.0) (out_empty zone.records (omega arith)) capacity (omega (arith, rest.room, blocks)))
 
 -- where no round is open, the zone and its seats pass an audit
-pub audit_left : (zone : ZoneState) (is_open : Bool) (list : List OnItsWay) (held : List Held) (parts capacity : ℕ) → IsCarried zone is_open list held parts capacity → is_open ≡ false → (ends : EndSeat) → ends.parts ≡ parts → audit_refusal zone ends ≡ None
-audit_left zone is_open list held parts capacity was closed ends same =
-    ap (λ (n : ℕ). if nat_lt n 64 then Some Missing else if nat_lt 0 (length (out zone.records)) then Some Out else None) (same ∙ was.parts)
+pub audit_left : (zone : ZoneState) (scan : ScanSeat) (ends : EndSeat) (is_open : Bool) (list : List OnItsWay) (held : List Held) (capacity : ℕ) → IsCarried zone scan ends is_open list held capacity → is_open ≡ false → audit_refusal zone ends ≡ None
+audit_left zone scan ends is_open list held capacity was closed =
+    ap (λ (n : ℕ). if not (nat_eq n 64) then Some Missing else if nat_lt 0 (length (out zone.records)) then Some Out else None) was.orderly.whole
     ∙ ap (λ (serials : List ℕ). if nat_lt 0 (length serials) then Some Out else None) (none_out zone.records (was.orderly.closed closed))
 
 -- where no round is open nothing waits
-pub rest_left : (zone : ZoneState) (is_open : Bool) (list : List OnItsWay) (held : List Held) (parts capacity : ℕ) → IsCarried zone is_open list held parts capacity → is_open ≡ false → IsRest list capacity
-rest_left zone is_open list held parts capacity was closed = record {
-  none = closed_waits zone is_open list held was.orderly closed;
+pub rest_left : (zone : ZoneState) (scan : ScanSeat) (ends : EndSeat) (is_open : Bool) (list : List OnItsWay) (held : List Held) (capacity : ℕ) → IsCarried zone scan ends is_open list held capacity → is_open ≡ false → IsRest list capacity
+rest_left zone scan ends is_open list held capacity was closed = record {
+  none = closed_waits zone scan ends is_open list held was.orderly closed;
   room = omega (arith, was.room);
-  few = omega (arith, was.room, was.few);
+  few = omega (arith, was.room, was.orderly.lawful.size.1);
 }

@@ -1,4 +1,3 @@
-pub mod Calls
 pub mod Carrying
 pub mod Orderly
 pub mod Seated

@@ -18,6 +18,9 @@ use Rattle.state_core.specs.declared.error.ZoneError.TheVariants.{JournalFull}
 use Rattle.zone_core.specs.declared.hand.Hand.{Hand}
 use Rattle.zone_core.specs.declared.hand.Hand.TheVariants.{Empty, Page, Copy}
 use Rattle.zone_core.specs.declared.hand.Finished.{Finished}
+use Rattle.state_core.specs.declared.moves.Ended.{Ended}
+use Rattle.state_core.specs.declared.moves.Ended.TheVariants as ended
+use Rattle.state_core.specs.declared.moves.Next.TheVariants as next
 use Rattle.state_core.specs.declared.round.Pair.{Pair}
 use Rattle.state_core.specs.declared.placement.Placement.{Placement}
 use Rattle.state_core.specs.declared.placement.Placement.TheVariants.{At, Moving}
@@ -25,7 +28,8 @@ use Rattle.state_core.specs.Lawful.{IsLawful, is_under}
 use Rattle.state_core.specs.Moving.{round_begun, isolate_refusal, isolated_next, moved_to_target, put_back_to_source}
 use Rattle.state_core.specs.Pairs.{IsPair, next_pair}
 use Rattle.state_core.specs.Refusals.{IsOpenable}
-use Rattle.zone_core.specs.World.{WorldState, IsOrderly, IsRising, world_opened, with_zone, with_hand, hand_of, waits, is_in, is_empty, serial_in, page_in, copy_in, round_opened, isolated_by, taken_by, take_step, copy_step, finished_as, finished_in, finish_step, all_put_back, shut_step}
+use Rattle.zone_core.specs.World.{WorldState, IsOrderly, IsRising, world_opened, with_zone, with_hand, hand_of, waits, is_in, is_empty, serial_in, page_in, copy_in, round_opened, isolated_by, taken_by, take_step, copy_step, finished_as, finished_in, finished_by, finish_step, all_put_back, shut, shut_step}
+use Rattle.zone_core.specs.Seats.{ScanSeat, EndSeat, seat_begun, seat_noted, seat_ended}
 use Rattle.state_core.specs.ZoneState.{ZoneState, frame_count}
 use Rattle.state_core.proofs.Opened.{opened_lawful}
 use Rattle.state_core.proofs.Pairing.{pair_found}
@@ -110,6 +114,7 @@ no_hand k s e = let bad : holds (Empty ∷ Empty ∷ Empty ∷ Empty ∷ []) s �
 pub orderly_opened : (number blocks places : ℕ) → IsOpenable blocks places → IsOrderly (world_opened number blocks places)
 orderly_opened number blocks places openable = record {
   lawful = opened_lawful number blocks places openable;
+  whole = refl;
   four = refl;
   rising = tt;
   out = λ s. (λ h. h, λ h. h);
@@ -122,6 +127,7 @@ orderly_opened number blocks places openable = record {
 pub orderly_with_zone : (w : WorldState) (zone : ZoneState) → IsOrderly w → IsLawful zone → ((serial : ℕ) → is_out zone.records serial ≡ is_out w.zone.records serial) → zone.migrate ≡ w.zone.migrate → zone.free ≡ w.zone.free → zone.blocks ≡ w.zone.blocks → IsOrderly (with_zone w zone)
 orderly_with_zone w zone o law same migrate free blocks = record {
   lawful = law;
+  whole = o.whole;
   four = o.four;
   rising = o.rising;
   out = λ s. (λ h. (o.out s).0 (sym (same s) ∙ h), λ h. same s ∙ (o.out s).1 h);
@@ -135,13 +141,28 @@ none_waits : (serials : List ℕ) → ((s : ℕ) → list_any (nat_eq s) serials
 none_waits [] none = refl
 none_waits (x ∷ serials) none = absurd (none x (or_left (nat_eq x x) _ (eq-eqb x x refl)))
 
+-- the seat of the scanner notes something
+pub orderly_noted : (w : WorldState) (seat : ScanSeat) → IsOrderly w → IsOrderly (record w { scan = seat })
+orderly_noted w seat o = record {
+  lawful = o.lawful;
+  whole = o.whole;
+  four = o.four;
+  rising = o.rising;
+  out = o.out;
+  one_hand = o.one_hand;
+  one_place = o.one_place;
+  closed = o.closed;
+  few = o.few;
+}
+
 pub orderly_round_opened : (w : WorldState) → IsOrderly w → IsOrderly (round_opened w)
 orderly_round_opened w o = by_open w.is_open refl where
-  begun : w.is_open ≡ false → IsOrderly (record w { zone = round_begun w.zone; is_open = true })
-  begun closed =
+  begun : w.is_open ≡ false → (seat : ScanSeat) → IsOrderly (record w { zone = round_begun w.zone; scan = seat; is_open = true })
+  begun closed seat =
       let none : length w.waiting ≡ 0 = none_waits w.waiting (λ s h. both_ways _ (o.closed closed s) (waits_out w o s h)) in
       record {
         lawful = lawful_begun w.zone o.lawful;
+        whole = o.whole;
         four = o.four;
         rising = o.rising;
         out = o.out;
@@ -153,9 +174,10 @@ orderly_round_opened w o = by_open w.is_open refl where
 
   by_open : (b : Bool) → w.is_open ≡ b → IsOrderly (round_opened w)
   by_open true e =
-      subst (λ (b : Bool). IsOrderly (record w { zone = if b then w.zone else round_begun w.zone; is_open = true })) (sym e)
+      subst (λ (b : Bool). IsOrderly (record w { zone = if b then w.zone else round_begun w.zone; scan = if b then w.scan else seat_begun w.scan; is_open = true })) (sym e)
       (record {
         lawful = o.lawful;
+        whole = o.whole;
         four = o.four;
         rising = o.rising;
         out = o.out;
@@ -165,7 +187,8 @@ orderly_round_opened w o = by_open w.is_open refl where
         few = o.few;
       })
   by_open false e =
-      subst (λ (b : Bool). IsOrderly (record w { zone = if b then w.zone else round_begun w.zone; is_open = true })) (sym e) (begun e)
+      subst (λ (b : Bool). IsOrderly (record w { zone = if b then w.zone else round_begun w.zone; scan = if b then w.scan else seat_begun w.scan; is_open = true })) (sym e)
+      (begun e (seat_begun w.scan))
 
 -- one more that waits
 waited : (waiting : List ℕ) (n s : ℕ) → list_any (nat_eq s) (waiting ++ n ∷ []) ≡ true → (list_any (nat_eq s) waiting ≡ true) ⊎ (s ≡ n)
@@ -233,6 +256,7 @@ module _ (w : WorldState) (o : IsOrderly w) (is_open : w.is_open ≡ true) (pair
       let longer : length now_waiting ≡ length w.waiting + 1 = length-append w.waiting (next_serial ∷ []) in
       record {
         lawful = law;
+        whole = o.whole;
         four = o.four;
         rising = rising_more w.waiting next_serial o.rising (λ s h. below_next s (waits_out w o s h));
         out = λ s. (λ h. stands_so now_waiting w.hands s (isolated_stands s h), λ h. isolated_out s (stands now_waiting w.hands s h));
@@ -245,7 +269,7 @@ module _ (w : WorldState) (o : IsOrderly w) (is_open : w.is_open ≡ true) (pair
 pub orderly_isolated : (w : WorldState) → IsOrderly w → w.is_open ≡ true → isolate_refusal w.zone ≡ None → IsOrderly (isolated_by w (next_pair w.zone))
 orderly_isolated w o is_open room = by_pair (next_pair w.zone) refl where
   by_pair : (p : Option Pair) → next_pair w.zone ≡ p → IsOrderly (isolated_by w p)
-  by_pair None e = o
+  by_pair None e = orderly_noted w (seat_noted w.scan next.Met) o
   by_pair (Some pair) e =
       let is_pair = pair_found w.zone o.lawful pair e in
       orderly_with_pair w o is_open pair (lawful_isolated w.zone pair o.lawful is_pair (ltb-true _ _ (not_refused _ room))) is_pair
@@ -320,6 +344,7 @@ module _ (w : WorldState) (k first : ℕ) (more : List ℕ) (low : 0 < k) (high 
       let longer : length w.waiting ≡ length more + 1 = ap length waiting ∙ (let one : length (first ∷ more) ≡ length more + 1 = omega arith in one) in
       record {
         lawful = o.lawful;
+        whole = o.whole;
         four = length-set w.hands (k - 1) (Page first) ∙ o.four;
         rising = rising_first.1;
         out = λ s. (λ h. stands_so more hands_then s (taken_stands s (stands_out w o s h)), λ h. (o.out s).1 (stands_so w.waiting w.hands s (taken_stood s (stands more hands_then s h))));
@@ -381,6 +406,7 @@ module _ (w : WorldState) (k serial : ℕ) (low : 0 < k) (high : k ≤ 4) (o : I
   orderly_with_copy : IsOrderly (with_hand w k (Copy serial))
   orderly_with_copy = record {
     lawful = o.lawful;
+    whole = o.whole;
     four = length-set w.hands (k - 1) (Copy serial) ∙ o.four;
     rising = o.rising;
     out = λ s. (λ h. stands_so w.waiting with_copy s (copied_stands s (stands_out w o s h)), λ h. (o.out s).1 (stands_so w.waiting w.hands s (copied_stood s (stands w.waiting with_copy s h))));
@@ -464,7 +490,7 @@ copy_serial serial (Page s) e = cc
 copy_serial serial (Copy s) e = e
 
 -- hand k brings its copy to the zone
-module _ (w : WorldState) (k serial : ℕ) (low : 0 < k) (high : k ≤ 4) (o : IsOrderly w) (copy : copy_in (hand_of w k) ≡ Some serial) (zone : ZoneState) (ended : IsEnded w.zone zone serial) where
+module _ (w : WorldState) (k serial : ℕ) (low : 0 < k) (high : k ≤ 4) (o : IsOrderly w) (copy : copy_in (hand_of w k) ≡ Some serial) (zone : ZoneState) (ended : IsEnded w.zone zone serial) (ends : EndSeat) (whole : ends.parts ≡ 64) where
   abbrev hands_left : List Hand
   hands_left = slice_set w.hands (k - 1) Empty
 
@@ -506,9 +532,10 @@ module _ (w : WorldState) (k serial : ℕ) (low : 0 < k) (high : k ≤ 4) (o : I
   still_out : (s : ℕ) → s ≢ serial → is_out w.zone.records s ≡ true → is_out zone.records s ≡ true
   still_out s apart e = ended.gone s ∙ and_from _ _ e (not_from_false _ (ne_eqb s serial apart))
 
-  orderly_with_end : IsOrderly (with_zone (with_hand w k Empty) zone)
+  orderly_with_end : IsOrderly (record (with_hand w k Empty) { zone = zone; ends = ends })
   orderly_with_end = record {
     lawful = ended.lawful;
+    whole = whole;
     four = length-set w.hands (k - 1) Empty ∙ o.four;
     rising = o.rising;
     out = λ s. (
@@ -522,14 +549,19 @@ module _ (w : WorldState) (k serial : ℕ) (low : 0 < k) (high : k ≤ 4) (o : I
     few = (omega (arith, o.few.0, ended.migrate), omega (arith, o.few.1, ended.free, ended.blocks));
   }
 
+parts_ended : (seat : EndSeat) (e : Ended) → (seat_ended seat e).parts ≡ seat.parts
+parts_ended seat ended.Moved = refl
+parts_ended seat ended.Back = refl
+
 pub orderly_finished : (w : WorldState) (k : ℕ) (finished : Finished) (after : WorldState) → 0 < k → k ≤ 4 → IsOrderly w → finish_step w k ≡ Some (finished, after) → IsOrderly after
 orderly_finished w k finished after low high o e = by_copy (copy_in (hand_of w k)) refl e where
-  by_copy : (p : Option ℕ) → copy_in (hand_of w k) ≡ p → option_and_then {U = Finished × WorldState} (λ serial. Some (finished_as w.zone serial, with_zone (with_hand w k Empty) (finished_in w.zone serial))) p ≡ Some (finished, after) → IsOrderly after
+  by_copy : (p : Option ℕ) → copy_in (hand_of w k) ≡ p → option_and_then {U = Finished × WorldState} (λ serial. Some (finished_as w.zone serial, finished_by w k serial)) p ≡ Some (finished, after) → IsOrderly after
   by_copy None is e = cc
   by_copy (Some serial) is e =
       let out_now = in_hand_out w o k serial low (copy_serial serial (hand_of w k) is) in
       subst IsOrderly (some_pair_parts _ finished _ after e).1
-      (orderly_with_end w k serial low high o is (finished_in w.zone serial) (finished_ended w.zone o.lawful serial out_now))
+      (orderly_with_end w k serial low high o is (finished_in w.zone serial) (finished_ended w.zone o.lawful serial out_now)
+      (seat_ended w.ends (finished_as w.zone serial).ended) (parts_ended w.ends (finished_as w.zone serial).ended ∙ o.whole))
 
 -- a zone in which the moves of serials ended
 record AreEnded (old new : ZoneState) (serials : List ℕ) : Type 0 where
@@ -573,11 +605,12 @@ module _ (w : WorldState) (o : IsOrderly w) (empty : list_all is_empty w.hands �
       let gone = shut_ended.gone s e in
       elim (stands_out w o s gone.0) [ inl there ↦ both_ways _ gone.1 there | inr there ↦ empty_hand there.0 s there.2 ]
 
-  orderly_with_shut : IsOrderly (record w { zone = zone_shut; is_open = false; waiting = [] })
+  orderly_with_shut : IsOrderly (shut w)
   orderly_with_shut =
       let within : zone_shut.free ≤ frame_count zone_shut = shut_ended.lawful.fingers.1 in
       record {
         lawful = shut_ended.lawful;
+        whole = o.whole;
         four = o.four;
         rising = tt;
         out = λ s. (λ h. absurd (none_left_out s h), λ h. absurd (both_ways _ (none_held w.hands s empty) h));
@@ -589,6 +622,6 @@ module _ (w : WorldState) (o : IsOrderly w) (empty : list_all is_empty w.hands �
 
 pub orderly_shut : (w : WorldState) (n : ℕ) (after : WorldState) → IsOrderly w → shut_step w ≡ Some (n, after) → IsOrderly after
 orderly_shut w n after o e = by_empty (list_all is_empty w.hands) refl e where
-  by_empty : (b : Bool) → list_all is_empty w.hands ≡ b → if◌then◌else◌ {A = Option (ℕ × WorldState)} b (Some (length w.waiting, record w { zone = all_put_back w.zone w.waiting; is_open = false; waiting = [] })) None ≡ Some (n, after) → IsOrderly after
+  by_empty : (b : Bool) → list_all is_empty w.hands ≡ b → if◌then◌else◌ {A = Option (ℕ × WorldState)} b (Some (length w.waiting, shut w)) None ≡ Some (n, after) → IsOrderly after
   by_empty true is e = subst IsOrderly (some_pair_parts _ n _ after e).1 (orderly_with_shut w o is)
   by_empty false is e = cc

@@ -1,19 +1,20 @@
 -- What public calls say of pages, books and seats.
-use Rattle.std.proofs.Common.{◌≡◌, ℕ, ◌+◌, Bool, true, false, ◌≤◌, not, inl, inr, refl, sym, ap, subst, ◌∙◌, arith}
-use Rattle.std.specs.Prelude.{Option, Some, None, IfSome, IfOk, ◌&&◌, nat_eq, nat_lt}
+use Rattle.std.proofs.Common.{◌≡◌, ℕ, ◌+◌, Bool, true, false, ◌≤◌, [], length, refl, sym, ap, subst, ◌∙◌, arith}
+use Rattle.std.specs.Prelude.{Option, Some, None, IsSome, IfSome, Result, IsOk, IfOk, ◌↔◌, ◌&&◌, nat_eq}
 use Rattle.std.specs.FinMap as map
-use Rattle.std.proofs.lemmas.Bool.Decides.{leb_tells}
-use Rattle.std.proofs.lemmas.Bool.{lt-ltb}
+use Rattle.std.proofs.lemmas.Bool.{eq-eqb, both_ways}
+use Rattle.std.proofs.lemmas.List.{nil_from_length}
 use Rattle.std.specs.Option.{ok_or}
 use Rattle.journal_core.specs.declared.record.Record.{Record}
-use Rattle.journal_core.specs.Moves.{isolated, moved, put_back}
+use Rattle.journal_core.specs.Moves.{isolated, moved, put_back, out}
+use Rattle.journal_core.proofs.Ends.{is_balanced, ended_once as each_once}
 use Rattle.word_core.specs.Page.{OnItsWay}
 use Rattle.state_core.specs.declared.error.ZoneError.{ZoneError}
 use Rattle.state_core.specs.declared.information.Audit.{Audit}
 use Rattle.state_core.specs.declared.placement.Placement.{Placement}
 use Rattle.state_core.specs.declared.placement.Placement.TheVariants.{At, Moving}
 use Rattle.zone_core.specs.Books.{AreBooks}
-use Rattle.state_core.specs.Lawful.{is_under}
+use Rattle.state_core.specs.Lawful.{IsLawful, is_under}
 use Rattle.state_core.specs.Moving.{settled, is_own, IsSettled, IsEnded}
 use Rattle.zone_core.specs.Seats.{IsAudited, ScanSeat, EndSeat}
 use Rattle.state_core.specs.ZoneState.{ZoneState}
@@ -36,22 +37,39 @@ ended_in z v new p page serial source target kept left view number under way set
     (record { source = source; target = target; way = way; settled = settled })))
 
 -- the counts of a zone and its seats, where they agree
-pub audited : (z v : ZoneState) (scan : ScanSeat) (ends : EndSeat) (i m b : ℕ) (o : Option Audit) → z ≡ v → AreBooks i m b z → scan.count ≡ i → ends.moved ≡ m → ends.back ≡ b → IfSome o (λ a. a.isolated ≡ isolated z.records) → IfSome o (λ a. a.moved ≡ moved z.records) → IfSome o (λ a. a.back ≡ put_back z.records) → IfSome o (λ a. a.moved + a.back ≡ a.isolated) → IfSome o (λ a. IsAudited v scan ends a)
-audited z v scan ends i m b None view books s t u isolated_is moved_is back_is sum = tt
-audited z v scan ends i m b (Some a) view books s t u isolated_is moved_is back_is sum = record {
-  isolated = isolated_is ∙ ap (λ (w : ZoneState). isolated w.records) view;
-  moved = moved_is ∙ ap (λ (w : ZoneState). moved w.records) view;
-  back = back_is ∙ ap (λ (w : ZoneState). put_back w.records) view;
-  sum = sum;
-  scan = isolated_is ∙ sym books.isolated ∙ sym s;
-  ends_moved = moved_is ∙ sym books.moved ∙ sym t;
-  ends_back = back_is ∙ sym books.back ∙ sym u;
-}
+pub audited : (z v : ZoneState) (scan : ScanSeat) (ends : EndSeat) (i m b : ℕ) (o : Option Audit) → z ≡ v → IsLawful z → AreBooks i m b z → scan.count ≡ i → ends.moved ≡ m → ends.back ≡ b → IsSome o ↔ (length (out z.records) ≡ 0) → IfSome o (λ a. a.isolated ≡ isolated z.records) → IfSome o (λ a. a.moved ≡ moved z.records) → IfSome o (λ a. a.back ≡ put_back z.records) → IfSome o (λ a. a.moved + a.back ≡ a.isolated) → IfSome o (λ a. IsAudited v scan ends a)
+audited z v scan ends i m b None view law books s t u none isolated_is moved_is back_is sum = tt
+audited z v scan ends i m b (Some a) view law books s t u none isolated_is moved_is back_is sum =
+    let empty : out z.records ≡ [] = nil_from_length (out z.records) (none.0 refl) in
+    subst (λ (w : ZoneState). IsAudited w scan ends a) view (record {
+      isolated = isolated_is;
+      moved = moved_is;
+      back = back_is;
+      sum = sum;
+      scan = isolated_is ∙ sym books.isolated ∙ sym s;
+      ends_moved = moved_is ∙ sym books.moved ∙ sym t;
+      ends_back = back_is ∙ sym books.back ∙ sym u;
+      none_out = empty;
+      once = each_once z.records law.well_ended empty;
+    })
 
 pub ok_if_some : (P : Audit → Type 0) (o : Option Audit) (error : ZoneError) → IfSome o P → IfOk (ok_or o error) P
 ok_if_some P None error h = tt
 ok_if_some P (Some a) error h = h
 
--- a seat that isn't less than whole has its 64 parts
-pub whole_parts : (parts : ℕ) → not (nat_lt parts 64) ≡ true → parts ≤ 64 → parts ≡ 64
-whole_parts parts e most = elim (leb_tells 64 parts) [ inl all ↦ omega (arith, all.1) | inr less ↦ (let bad : false ≡ true = sym (ap not (lt-ltb parts 64 less.1)) ∙ e in cc) ]
+-- a whole seat passes an audit just where its counts make up that of the scan seat
+pub passes_exactly : (z : ZoneState) (scan : ScanSeat) (ends : EndSeat) (i m b : ℕ) (o : Option Audit) (r : Result Audit ZoneError) (error : ZoneError) → IsLawful z → AreBooks i m b z → scan.count ≡ i → ends.moved ≡ m → ends.back ≡ b → IsSome o ↔ (length (out z.records) ≡ 0) → r ≡ ok_or o error → IsOk r ↔ (ends.moved + ends.back ≡ scan.count)
+passes_exactly z scan ends i m b o r error law books s t u none is =
+    subst (λ (x : Result Audit ZoneError). IsOk x ↔ (ends.moved + ends.back ≡ scan.count)) (sym is) (by_audit o none) where
+      balanced : length (out z.records) + ends.moved + ends.back ≡ scan.count
+      balanced = omega (arith, is_balanced z.records law.well_ended, s, t, u, books.isolated, books.moved, books.back)
+
+      by_audit : (p : Option Audit) → IsSome p ↔ (length (out z.records) ≡ 0) → IsOk (ok_or p error) ↔ (ends.moved + ends.back ≡ scan.count)
+      by_audit None some = (λ bad. cc, λ sum. (let bad = some.1 (omega (arith, balanced, sum)) in cc))
+      by_audit (Some a) some = (λ ok. (let gone = some.0 refl in omega (arith, balanced)), λ sum. refl)
+
+-- a seat that isn't whole has less than its 64 parts
+pub part_missing : (ends told : EndSeat) → told ≡ ends → nat_eq told.parts 64 ≡ false → told.parts ≤ 64 → 64 ≤ ends.parts → ⊥
+part_missing ends told same less most least =
+    let all : told.parts ≡ 64 = omega (arith, ap (λ (s : EndSeat). s.parts) same) in
+    both_ways _ less (eq-eqb told.parts 64 all)

@@ -1,12 +1,21 @@
 -- How the ledgers of a zone stand for its journal.
 use Rattle.std.specs.Prelude.{◌≡◌, ℕ}
-use Rattle.journal_core.specs.Moves.{isolated, moved, put_back}
+use Rattle.journal_core.specs.Moves.{isolated as isolated_of, moved as moved_of, put_back}
 use Rattle.state_core.specs.ZoneState.{ZoneState}
+use Rattle.zone_core.specs.declared.seats.Blanks.{Blanks}
 
 -- a blank that is made for the ledger with this name and so many parts
 pub record IsFor (blank_name blank_parts name parts : ℕ) : Type 0 where
   pub name_is : blank_name ≡ name
   pub parts_are : blank_parts ≡ parts
+
+-- blanks that are made for the ledgers with these names and parts: of the pages that are isolated, of rounds, and of the pages
+-- that are moved and put back
+pub record AreFor (blanks : Blanks) (isolated isolated_parts rounds rounds_parts moved moved_parts back back_parts : ℕ) : Type 0 where
+  pub isolated_is : IsFor blanks.isolated.name blanks.isolated.parts isolated isolated_parts
+  pub rounds_is : IsFor blanks.rounds.name blanks.rounds.parts rounds rounds_parts
+  pub moved_is : IsFor blanks.moved.name blanks.moved.parts moved moved_parts
+  pub back_is : IsFor blanks.back.name blanks.back.parts back back_parts
 
 -- the share of isolated pages is whole, and the shares of ended pages are cut into 64 parts
 pub record AreCut (isolated_parts moved_parts back_parts : ℕ) : Type 0 where
@@ -16,6 +25,6 @@ pub record AreCut (isolated_parts moved_parts back_parts : ℕ) : Type 0 where
 
 -- the three books are the numbers of pages that were isolated, moved and put back
 pub record AreBooks (isolated_total moved_total back_total : ℕ) (v : ZoneState) : Type 0 where
-  pub isolated : isolated_total ≡ isolated v.records
-  pub moved : moved_total ≡ moved v.records
+  pub isolated : isolated_total ≡ isolated_of v.records
+  pub moved : moved_total ≡ moved_of v.records
   pub back : back_total ≡ put_back v.records

@@ -6,6 +6,7 @@ use Rattle.zone_core.specs.declared.hand.Hand.TheVariants as hand
 use Rattle.zone_core.specs.declared.hands.Held.{Held}
 use Rattle.zone_core.specs.declared.hands.Held.TheVariants.{Nothing, Page, Copy}
 use Rattle.state_core.specs.Moving.{IsOwnCopy}
+use Rattle.zone_core.specs.Seats.{ScanSeat, EndSeat}
 use Rattle.zone_core.specs.World.{WorldState, IsOrderly}
 use Rattle.state_core.specs.ZoneState.{ZoneState}
 
@@ -40,19 +41,17 @@ serials_of list = each (λ p. p.serial) list
 abbrev pub AreOwn : ZoneState → List OnItsWay → Type 0
 AreOwn zone list = (i : ℕ) (p : OnItsWay) → slice_get list i ≡ Some p → IsOwnCopy zone p
 
-abbrev pub world_of : ZoneState → Bool → List OnItsWay → List Held → WorldState
-world_of zone is_open list held = record { zone = zone; is_open = is_open; waiting = serials_of list; hands = each hand_as held }
+abbrev pub world_of : ZoneState → ScanSeat → EndSeat → Bool → List OnItsWay → List Held → WorldState
+world_of zone scan ends is_open list held =
+    record { zone = zone; scan = scan; ends = ends; is_open = is_open; waiting = serials_of list; hands = each hand_as held }
 
--- what a world carries is of its zone, its end seat is whole, and its list has just the room for the pages that a round can
--- isolate
-pub record IsCarried (zone : ZoneState) (is_open : Bool) (list : List OnItsWay) (held : List Held) (seat_parts capacity : ℕ) : Type 0 where
-  pub orderly : IsOrderly (world_of zone is_open list held)
+-- what a world carries is of its zone, and its list has just the room for the pages that a round can isolate
+pub record IsCarried (zone : ZoneState) (scan : ScanSeat) (ends : EndSeat) (is_open : Bool) (list : List OnItsWay) (held : List Held) (capacity : ℕ) : Type 0 where
+  pub orderly : IsOrderly (world_of zone scan ends is_open list held)
   pub waiting : AreOwn zone list
   pub pages : (i : ℕ) (p : OnItsWay) → slice_get held i ≡ Some (Page p) → IsOwnCopy zone p
   pub copies : (i : ℕ) (p : OnItsWay) → slice_get held i ≡ Some (Copy p) → IsOwnCopy zone p
-  pub parts : seat_parts ≡ 64
   pub room : capacity ≡ 256 * zone.blocks
-  pub few : zone.blocks ≤ 8
 
 -- an empty list with just the room for the pages that a round of a zone of up to 8 pageblocks can isolate
 pub record IsRest (list : List OnItsWay) (capacity : ℕ) : Type 0 where

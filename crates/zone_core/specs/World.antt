@@ -2,26 +2,28 @@
 use Rattle.std.specs.Prelude.{◌≡◌, ℕ, ◌+◌, ◌-◌, ◌<◌, ◌≤◌, ◌↔◌, nat_eq, Bool, true, false, ◌||◌, List, [], ◌∷◌, ◌++◌, length, replicate, slice_get, slice_set, unwrap_or, if◌then◌else◌, Option, Some, None, IsTrue}
 use Rattle.std.specs.List.{list_any, list_all}
 use Rattle.std.specs.Option.{option_and_then}
-use Rattle.frame_core.specs.Address.{InRange}
-use Rattle.frame_core.specs.declared.place.Address.{Address}
 use Rattle.journal_core.specs.declared.record.Cause.TheVariants.{NotCopied}
 use Rattle.journal_core.specs.Moves.{isolated, is_out, page_of}
 use Rattle.state_core.specs.declared.error.ZoneError.{ZoneError}
+use Rattle.state_core.specs.declared.moves.Next.TheVariants as next
 use Rattle.state_core.specs.declared.round.Pair.{Pair}
 use Rattle.zone_core.specs.declared.hand.Hand.{Hand}
 use Rattle.zone_core.specs.declared.hand.Hand.TheVariants.{Empty, Page, Copy as CopyOf}
 use Rattle.zone_core.specs.declared.hand.Scanned.{Scanned}
-use Rattle.zone_core.specs.declared.hand.Scanned.TheVariants as scan
+use Rattle.zone_core.specs.declared.hand.Scanned.TheVariants as found
 use Rattle.zone_core.specs.declared.hand.Finished.{Finished}
 use Rattle.state_core.specs.Lawful.{IsLawful}
-use Rattle.state_core.specs.Moving.{round_begun, isolate_refusal, isolated_next, committed, ended_as, put_back_to_source}
+use Rattle.state_core.specs.Moving.{round_begun, isolate_refusal, isolated_next, next_answer, committed, ended_as, put_back_to_source}
 use Rattle.state_core.specs.Pairs.{next_pair}
-use Rattle.state_core.specs.Refusals.{map_refusal, map_at_refusal, access_refusal}
-use Rattle.state_core.specs.Steps.{opened, mapped, loaded, stored}
-use Rattle.state_core.specs.ZoneState.{ZoneState, frame_count, lowest_free_frame}
+use Rattle.state_core.specs.Steps.{opened}
+use Rattle.state_core.specs.ZoneState.{ZoneState, frame_count}
+use Rattle.zone_core.specs.Seats.{ScanSeat, EndSeat, fresh_scan_seat, fresh_end_seat, seat_begun, seat_full, seat_noted, seat_ended}
 
 pub record WorldState : Type 0 where
   pub zone : ZoneState
+  -- the seat of its scanner, and the seat of those who end moves
+  pub scan : ScanSeat
+  pub ends : EndSeat
   -- whether a hand round is open
   pub is_open : Bool
   -- the serials of the pages that wait to be taken
@@ -29,13 +31,13 @@ pub record WorldState : Type 0 where
   -- what each of the four hands holds
   pub hands : List Hand
 
--- a world of a zone with no page on its way
-abbrev pub world_closed : ZoneState → WorldState
-world_closed zone = record { zone = zone; is_open = false; waiting = []; hands = replicate 4 Empty }
+-- a world of a zone, with its seats, that has no page on its way
+abbrev pub world_closed : ZoneState → ScanSeat → EndSeat → WorldState
+world_closed zone scan ends = record { zone = zone; scan = scan; ends = ends; is_open = false; waiting = []; hands = replicate 4 Empty }
 
 -- a world with an empty zone
 abbrev pub world_opened : ℕ → ℕ → ℕ → WorldState
-world_opened number blocks places = world_closed (opened number blocks places)
+world_opened number blocks places = world_closed (opened number blocks places) fresh_scan_seat fresh_end_seat
 
 -- a call of the zone
 abbrev pub with_zone : WorldState → ZoneState → WorldState
@@ -66,22 +68,34 @@ serial_in Empty = None
 serial_in (Page serial) = Some serial
 serial_in (CopyOf serial) = Some serial
 
--- a scan opens a round where none is open
+-- a scan opens a round where none is open, and the seat counts it
 abbrev pub round_opened : WorldState → WorldState
-round_opened w = record w { zone = if w.is_open then w.zone else round_begun w.zone; is_open = true }
+round_opened w = record w {
+  zone = if w.is_open then w.zone else round_begun w.zone;
+  scan = if w.is_open then w.scan else seat_begun w.scan;
+  is_open = true;
+}
 
 abbrev pub scanned_by : ZoneState → Option Pair → Scanned
-scanned_by z None = scan.Met
-scanned_by z (Some pair) = scan.Serial (isolated z.records)
+scanned_by z None = found.Met
+scanned_by z (Some pair) = found.Serial (isolated z.records)
 
 abbrev pub isolated_by : WorldState → Option Pair → WorldState
-isolated_by w None = w
-isolated_by w (Some pair) = record w { zone = isolated_next w.zone pair; waiting = w.waiting ++ isolated w.zone.records ∷ [] }
+isolated_by w None = record w { scan = seat_noted w.scan next.Met }
+isolated_by w (Some pair) = record w {
+  zone = isolated_next w.zone pair;
+  scan = seat_noted w.scan (next_answer w.zone (Some pair));
+  waiting = w.waiting ++ isolated w.zone.records ∷ [];
+}
 
 abbrev pub scan_refusal : WorldState → Option ZoneError
 scan_refusal w = isolate_refusal (round_opened w).zone
 
--- a scan isolates the next page, and it waits behind the others
+-- a scan for which the journal is full has opened the round, and the seat notes it
+abbrev pub scan_stopped : WorldState → WorldState
+scan_stopped w = record (round_opened w) { scan = seat_full (round_opened w).scan }
+
+-- a scan isolates the next page, and it waits behind the others; the seat notes the answer
 abbrev pub scan_answer : WorldState → Scanned
 scan_answer w = scanned_by (round_opened w).zone (next_pair (round_opened w).zone)
 
@@ -107,21 +121,32 @@ finished_as z serial = record { serial = serial; ended = ended_as z (unwrap_or (
 abbrev pub finished_in : ZoneState → ℕ → ZoneState
 finished_in z serial = committed z serial (unwrap_or (page_of z.records serial) 0)
 
--- a hand with a copy brings it to the zone, and is empty then
+-- a hand with a copy brings it to the zone, and is empty then; the end seat counts the page
+abbrev pub finished_by : WorldState → ℕ → ℕ → WorldState
+finished_by w k serial = record (with_hand w k Empty) {
+  zone = finished_in w.zone serial;
+  ends = seat_ended w.ends (finished_as w.zone serial).ended;
+}
+
 abbrev pub finish_step : WorldState → ℕ → Option (Finished × WorldState)
-finish_step w k = option_and_then (λ serial. Some (finished_as w.zone serial, with_zone (with_hand w k Empty) (finished_in w.zone serial))) (copy_in (hand_of w k))
+finish_step w k = option_and_then (λ serial. Some (finished_as w.zone serial, finished_by w k serial)) (copy_in (hand_of w k))
 
 -- pages that no copier reached are put back, in order
 abbrev pub all_put_back : ZoneState → List ℕ → ZoneState
 all_put_back z [] = z
 all_put_back z (serial ∷ more) = all_put_back (put_back_to_source z serial (unwrap_or (page_of z.records serial) 0) NotCopied) more
 
--- where each hand is empty, the pages that wait are put back and the round is closed
+-- where each hand is empty, the pages that wait are put back, which the end seat counts, and the round is closed
+abbrev pub shut : WorldState → WorldState
+shut w = record w {
+  zone = all_put_back w.zone w.waiting;
+  ends = record w.ends { back = w.ends.back + length w.waiting };
+  is_open = false;
+  waiting = [];
+}
+
 abbrev pub shut_step : WorldState → Option (ℕ × WorldState)
-shut_step w =
-    if list_all is_empty w.hands
-    then Some (length w.waiting, record w { zone = all_put_back w.zone w.waiting; is_open = false; waiting = [] })
-    else None
+shut_step w = if list_all is_empty w.hands then Some (length w.waiting, shut w) else None
 
 -- each number is less than those behind it
 abbrev pub IsRising : List ℕ → Type 0
@@ -142,6 +167,8 @@ is_in_hand w serial = list_any (λ hand. is_in serial (serial_in hand)) w.hands
 -- the pages that wait and those in hands are just those that are out, each once, and the list of those that wait is rising
 pub record IsOrderly (w : WorldState) : Type 0 where
   pub lawful : IsLawful w.zone
+  -- no part of the end seat is missing
+  pub whole : w.ends.parts ≡ 64
   pub four : length w.hands ≡ 4
   pub rising : IsRising w.waiting
   pub out : (serial : ℕ) → IsTrue (is_out w.zone.records serial) ↔ IsTrue (waits w serial || is_in_hand w serial)
@@ -152,61 +179,3 @@ pub record IsOrderly (w : WorldState) : Type 0 where
   pub closed : w.is_open ≡ false → (serial : ℕ) → is_out w.zone.records serial ≡ false
   -- the list has room for each page that a round can isolate
   pub few : (length w.waiting ≤ w.zone.migrate) × (length w.waiting + w.zone.free ≤ frame_count w.zone)
-
--- a call of a world
-pub data Call : Type 0 where
-  Map : (client : ℕ) (address : Address) (unmovable : Bool) → Call
-  MapAt : (client : ℕ) (address : Address) (unmovable : Bool) (frame : ℕ) → Call
-  Load : (client : ℕ) (address : Address) (word : ℕ) → Call
-  Store : (client : ℕ) (address : Address) (word value : ℕ) → Call
-  Scan : Call
-  Take : (k : ℕ) → Call
-  Copy : (k : ℕ) → Call
-  Finish : (k : ℕ) → Call
-  Shut : Call
-
--- an address is one that there is, and a hand one of the four
-abbrev pub IsInRange : Call → Type 0
-IsInRange (Map client address unmovable) = InRange address
-IsInRange (MapAt client address unmovable frame) = InRange address
-IsInRange (Load client address word) = InRange address
-IsInRange (Store client address word value) = InRange address
-IsInRange (Take k) = (0 < k) × (k ≤ 4)
-IsInRange (Copy k) = (0 < k) × (k ≤ 4)
-IsInRange (Finish k) = (0 < k) × (k ≤ 4)
-IsInRange _ = Unit {0}
-
-abbrev pub AllInRange : List Call → Type 0
-AllInRange [] = Unit {0}
-AllInRange (call ∷ later) = IsInRange call × AllInRange later
-
--- what a call leaves: the old where it is refused
-abbrev pub unless_refused : {A : Type 0} → Option ZoneError → A → A → A
-unless_refused None old new = new
-unless_refused (Some error) old new = old
-
--- the world that a step answers with, and the old where there is no such step
-abbrev pub world_after : {A : Type 0} → WorldState → Option (A × WorldState) → WorldState
-world_after w None = w
-world_after w (Some (answer, after)) = after
-
--- the world after a call; a call that is refused leaves it, but that a scan has opened the round
-abbrev pub after_call : WorldState → Call → WorldState
-after_call w (Map client address unmovable) =
-    with_zone w (unless_refused (map_refusal w.zone address) w.zone (mapped w.zone client address unmovable (unwrap_or (lowest_free_frame w.zone) 0)))
-after_call w (MapAt client address unmovable frame) =
-    with_zone w (unless_refused (map_at_refusal w.zone address frame) w.zone (mapped w.zone client address unmovable frame))
-after_call w (Load client address word) =
-    with_zone w (unless_refused (access_refusal w.zone address) w.zone (loaded w.zone client address word))
-after_call w (Store client address word value) =
-    with_zone w (unless_refused (access_refusal w.zone address) w.zone (stored w.zone client address word value))
-after_call w Scan = unless_refused (scan_refusal w) (round_opened w) (scanned w)
-after_call w (Take k) = world_after w (take_step w k)
-after_call w (Copy k) = unwrap_or (copy_step w k) w
-after_call w (Finish k) = world_after w (finish_step w k)
-after_call w Shut = world_after w (shut_step w)
-
--- after a list of calls, the first of which is made first
-abbrev pub after_calls : WorldState → List Call → WorldState
-after_calls w [] = w
-after_calls w (call ∷ later) = after_calls (after_call w call) later

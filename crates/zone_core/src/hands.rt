@@ -5,6 +5,7 @@ ghost use Rattle.std.specs.List.{list_all};
 ghost use Rattle.zone_core.specs.Carried.{held_at, page_held, copy_held, is_nothing};
 ghost use Rattle.zone_core.specs.declared.hands.Held.TheVariants.{Nothing};
 
+use frame_core::HandNo;
 use std::mem;
 use word_core::{Copied, Isolated};
 
@@ -33,12 +34,11 @@ impl Hands {
     }
 
     /// Whether a hand holds nothing.
-    pub(crate) fn is_empty(&self, k: u32) -> bool
-        requires low { 0 < k }
-        requires high { k ≤ 4 }
-        ensures { result ≡ is_nothing (held_at self.now.held k) }
+    pub(crate) fn is_empty(&self, hand: HandNo) -> bool
+        ensures nothing { result ≡ is_nothing (held_at self.now.held hand) }
+        ensures number { (0 < hand) × (hand ≤ 4) }
     {
-        match &self.held[k as usize - 1] {
+        match &self.held[hand.get() as usize - 1] {
             Held::Nothing => true,
             _ => false,
         }
@@ -55,14 +55,13 @@ impl Hands {
     }
 
     /// Takes the page out of a hand.
-    pub(crate) fn page_from(&mut self, k: u32) -> Option<Isolated>
-        requires low { 0 < k }
-        requires high { k ≤ 4 }
-        ensures page { result ≡ page_held (held_at self.old.held k) }
-        ensures some { OnSome result (self.new.held ≡ slice_set self.old.held (k - 1) Nothing) }
+    pub(crate) fn page_from(&mut self, hand: HandNo) -> Option<Isolated>
+        ensures page { result ≡ page_held (held_at self.old.held hand) }
+        ensures some { OnSome result (self.new.held ≡ slice_set self.old.held (hand - 1) Nothing) }
         ensures none { IfNone result (self.new ≡ self.old) }
+        ensures number { (0 < hand) × (hand ≤ 4) }
     {
-        let held = &mut self.held[k as usize - 1];
+        let held = &mut self.held[hand.get() as usize - 1];
         match mem::replace(held, Held::Nothing) {
             Held::Page(page) => Some(page),
             other => {
@@ -73,14 +72,13 @@ impl Hands {
     }
 
     /// Takes the copy out of a hand.
-    pub(crate) fn copy_from(&mut self, k: u32) -> Option<Copied>
-        requires low { 0 < k }
-        requires high { k ≤ 4 }
-        ensures copy { result ≡ copy_held (held_at self.old.held k) }
-        ensures some { OnSome result (self.new.held ≡ slice_set self.old.held (k - 1) Nothing) }
+    pub(crate) fn copy_from(&mut self, hand: HandNo) -> Option<Copied>
+        ensures copy { result ≡ copy_held (held_at self.old.held hand) }
+        ensures some { OnSome result (self.new.held ≡ slice_set self.old.held (hand - 1) Nothing) }
         ensures none { IfNone result (self.new ≡ self.old) }
+        ensures number { (0 < hand) × (hand ≤ 4) }
     {
-        let held = &mut self.held[k as usize - 1];
+        let held = &mut self.held[hand.get() as usize - 1];
         match mem::replace(held, Held::Nothing) {
             Held::Copy(copy) => Some(copy),
             other => {
@@ -91,11 +89,9 @@ impl Hands {
     }
 
     /// Puts something in a hand.
-    pub(crate) fn put(&mut self, k: u32, held: Held)
-        requires low { 0 < k }
-        requires high { k ≤ 4 }
-        ensures { self.new.held ≡ slice_set self.old.held (k - 1) held }
+    pub(crate) fn put(&mut self, hand: HandNo, held: Held)
+        ensures { self.new.held ≡ slice_set self.old.held (hand - 1) held }
     {
-        self.held[k as usize - 1] = held;
+        self.held[hand.get() as usize - 1] = held;
     }
 }

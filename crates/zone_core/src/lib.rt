@@ -5,9 +5,10 @@
 //! (`specs/Steps.antt`).
 #![tactic(auto)]
 
+mod ending;
 mod hand;
 mod hands;
-mod law;
+mod rest;
 mod seats;
 #[cfg(test)]
 mod tests;
@@ -15,8 +16,8 @@ mod world;
 mod zone;
 
 pub use hand::{Finished, Hand, Scanned};
-pub use law::keeps_order;
+pub use rest::Rest;
 pub use seats::{Answered, Blanks, EndSeat, ScanSeat, Seats};
 pub use state_core::{Audit, Ended, Info, Look, Next, Placement, RoundStart, Stranger, ZoneError};
-pub use world::{Rest, World, WorldError};
+pub use world::{World, WorldError};
 pub use zone::Zone;

@@ -1,5 +1,5 @@
-ghost use Rattle.std.specs.Prelude.{◌≡◌, ◌+◌, ◌-◌, ◌<◌, ◌≤◌, ◌↔◌, not, nat_lt, Some, None, IsSome, IfSome, OnSome, IfNone};
-ghost use Rattle.zone_core.specs.Seats.{fresh_scan_seat, fresh_end_seat};
+ghost use Rattle.std.specs.Prelude.{◌≡◌, ◌+◌, ◌-◌, ◌<◌, ◌≤◌, ◌↔◌, nat_eq, Some, None, IsSome, IfSome, OnSome, IfNone};
+ghost use Rattle.zone_core.specs.Seats.{fresh_scan_seat, fresh_end_seat, seat_begun};
 
 use std::marker::Model;
 use std::sync::ledger::{Blank, Book, Ledger, Share};
@@ -136,7 +136,7 @@ impl<I: Ledger, N: Ledger> ScanSeat<I, N> {
 
     /// Counts one round more, which has no answer yet.
     pub(crate) fn begin(&mut self)
-        ensures { self.new ≡ record self.old { rounds = self.old.rounds + 1; last = None } }
+        ensures { self.new ≡ seat_begun self.old }
     {
         self.rounds.add(&mut self.begun, 1);
         self.last = None;
@@ -173,10 +173,10 @@ impl<M: Ledger, B: Ledger> EndSeat<M, B> {
 
     /// Whether no part of it is missing.
     pub(crate) fn is_whole(&self) -> bool
-        ensures whole { result ≡ not (nat_lt self.now.parts 64) }
+        ensures whole { result ≡ nat_eq self.now.parts 64 }
         ensures most { self.now.parts ≤ 64 }
     {
-        self.parts >= 64
+        self.parts == 64
     }
 
     /// Gives one part off, as a seat with which nothing was counted. None where this seat has one part.

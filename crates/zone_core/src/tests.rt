@@ -1,4 +1,4 @@
-ghost use Rattle.zone_core.specs.Books.{IsFor};
+ghost use Rattle.zone_core.specs.Books.{AreFor};
 
 mod moving;
 mod worlds;
@@ -22,10 +22,7 @@ fn calls_each<I: Ledger, N: Ledger, M: Ledger, B: Ledger, R: Abort + AllocGlobal
     rt: &R,
     blanks: Blanks,
 )
-    requires isolated { IsFor blanks.isolated.name blanks.isolated.parts I.name I.parts }
-    requires rounds { IsFor blanks.rounds.name blanks.rounds.parts N.name N.parts }
-    requires moved { IsFor blanks.moved.name blanks.moved.parts M.name M.parts }
-    requires back { IsFor blanks.back.name blanks.back.parts B.name B.parts }
+    requires blanks { AreFor blanks I.name I.parts N.name N.parts M.name M.parts B.name B.parts }
 {
     let client = ClientNo::new(0).expect(rt, "a client");
     let word = WordNo::new(7).expect(rt, "a word");

@@ -1,25 +1,28 @@
 //! A zone with its seats, the pages of it that are on their way, and four hands.
 
-ghost use Rattle.std.specs.Prelude.{◌≡◌, ◌<◌, ◌≤◌, ◌*◌, ◌↔◌, [], ◌∷◌, length, true, Some, None, Err, IfOk, IfErr, OnOk, OnErr, IsErr};
+ghost use Rattle.std.specs.Prelude.{◌≡◌, ◌<◌, ◌≤◌, ◌+◌, ◌*◌, ◌↔◌, ℕ, IsTrue, [], ◌∷◌, length, true, Some, None, Err, IfOk, IfErr, OnOk, OnErr, IsErr};
 ghost use Rattle.std.specs.Int.RustNames.{bit_and};
-ghost use Rattle.zone_core.specs.Books.{IsFor};
+ghost use Rattle.zone_core.specs.Books.{AreFor};
 ghost use Rattle.journal_core.specs.Moves.{page_of};
 ghost use Rattle.std.specs.VecDeque.{deque_capacity};
 ghost use Rattle.zone_core.specs.Carried.{serials_of, AreOwn};
 ghost use Rattle.zone_core.specs.ErrorNumber.{world_number_of};
+ghost use Rattle.state_core.specs.Lawful.{IsLawful};
 ghost use Rattle.state_core.specs.Moving.{IsOwnCopy, isolate_refusal};
-ghost use Rattle.zone_core.specs.Seats.{audit_refusal};
+ghost use Rattle.zone_core.specs.Seats.{seat_full, seat_ended, audit_refusal};
 ghost use Rattle.state_core.specs.Pairs.{next_pair};
 ghost use Rattle.state_core.specs.Refusals.{IsOpenable, result_err, map_refusal, map_at_refusal, access_refusal};
 ghost use Rattle.state_core.specs.Steps.{mapped, value_at, loaded, stored, is_unmovable};
-ghost use Rattle.zone_core.specs.World.{IsRising, world_opened, world_closed, with_zone, round_opened, scanned_by, isolated_by, finished_as, finished_in, all_put_back, scan_refusal, scan_answer, scanned, take_step, copy_step, finish_step, shut_step};
+ghost use Rattle.zone_core.specs.World.{IsOrderly, IsRising, waits, world_opened, world_closed, with_zone, round_opened, scan_stopped, scanned_by, isolated_by, finished_as, finished_in, all_put_back, scan_refusal, scan_answer, scanned, take_step, copy_step, finish_step, shut_step};
 ghost use Rattle.state_core.specs.ZoneState.{lowest_free_frame};
 
+use crate::ending::{finish_in, put_all_back_in};
 use crate::hand::{Finished, Scanned};
 use crate::hands::{Hands, Held};
+use crate::rest::Rest;
 use crate::seats::{Blanks, EndSeat, ScanSeat, Seats};
 use crate::zone::Zone;
-use frame_core::{Address, ClientNo, FrameNo, PageFlags, Serial, WordNo, ZoneNo};
+use frame_core::{Address, ClientNo, FrameNo, HandNo, PageFlags, Serial, WordNo, ZoneNo};
 use state_core::{Next, ZoneError};
 use std::alloc::Global;
 use std::collections::VecDeque;
@@ -73,29 +76,9 @@ impl<I: Ledger, N: Ledger, M: Ledger, B: Ledger> Model for World<I, N, M, B> {
 
     ghost use Rattle.zone_core.specs.Carried.{world_of, IsCarried};
 
-    ghost view = { λ w. world_of w.zone w.is_open w.waiting.items w.hands.held };
+    ghost view = { λ w. world_of w.zone w.scan w.ends w.is_open w.waiting.items w.hands.held };
 
-    ghost invariant = { λ w. IsCarried w.zone w.is_open w.waiting.items w.hands.held w.ends.parts (deque_capacity w.waiting) };
-}
-
-/// What a world has besides its zone and its seats, while nothing of the zone is on its way: the memory of its list. It fits
-/// zones with as many pageblocks.
-#[derive(Drop)]
-pub struct Rest {
-    waiting: VecDeque<Isolated>,
-}
-
-impl Model for Rest {
-    ghost use Rattle.std.specs.Prelude.{◌/◌, ℕ};
-    ghost use Rattle.std.specs.VecDeque.{deque_capacity};
-
-    ghost Value = { ℕ };
-
-    ghost use Rattle.zone_core.specs.Carried.{IsRest};
-
-    ghost view = { λ r. deque_capacity r.waiting / 256 };
-
-    ghost invariant = { λ r. IsRest r.waiting.items (deque_capacity r.waiting) };
+    ghost invariant = { λ w. IsCarried w.zone w.scan w.ends w.is_open w.waiting.items w.hands.held (deque_capacity w.waiting) };
 }
 
 impl<I: Ledger, N: Ledger, M: Ledger, B: Ledger> World<I, N, M, B> {
@@ -107,13 +90,11 @@ impl<I: Ledger, N: Ledger, M: Ledger, B: Ledger> World<I, N, M, B> {
         places: u32,
         blanks: Blanks,
     ) -> Result<World<I, N, M, B>, ZoneError>
-        requires isolated { IsFor blanks.isolated.name blanks.isolated.parts I.name I.parts }
-        requires rounds { IsFor blanks.rounds.name blanks.rounds.parts N.name N.parts }
-        requires moved { IsFor blanks.moved.name blanks.moved.parts M.name M.parts }
-        requires back { IsFor blanks.back.name blanks.back.parts B.name B.parts }
+        requires blanks { AreFor blanks I.name I.parts N.name N.parts M.name M.parts B.name B.parts }
         ensures range { ¬ (IsOpenable blocks places) → result ≡ Err ZoneError.Range }
         ensures memory { IsOpenable blocks places → IfErr result (λ error. error ≡ ZoneError.Memory) }
         ensures ok { IfOk result (λ world. world ≡ world_opened number blocks places) }
+        ensures orderly { IfOk result (λ world. IsOrderly world) }
     {
         let (zone, scan, ends) = Zone::open(alloc, number, blocks, places, blanks)?;
         let Ok(waiting) = VecDeque::with_capacity(alloc, 256 * blocks as usize) else {
@@ -131,7 +112,10 @@ impl<I: Ledger, N: Ledger, M: Ledger, B: Ledger> World<I, N, M, B> {
 
     /// Its zone.
     pub fn zone(&self) -> &Zone<I, M, B>
-        ensures { result.now ≡ self.now.zone }
+        ensures zone { result.now ≡ self.now.zone }
+        // Whatever calls were made, in any order: the pages that wait and those in hands are just those on their way, each
+        // once, and those that wait do so in the order of their serials.
+        ensures orderly { IsOrderly self.now }
     {
         &self.zone
     }
@@ -148,11 +132,9 @@ impl<I: Ledger, N: Ledger, M: Ledger, B: Ledger> World<I, N, M, B> {
         ensures err { OnErr result (self.new ≡ self.old) }
         ensures frame { IfOk result (λ frame. lowest_free_frame self.old.zone ≡ Some frame) }
         ensures ok { IfOk result (λ frame. self.new ≡ with_zone self.old (mapped self.old.zone client address (is_unmovable flags) frame)) }
+        ensures orderly { IsOrderly self.new }
     {
-        let frame = self.zone.map(client, address, flags);
-        // It is lawful.
-        let _ = self.zone.journal();
-        frame
+        self.zone.map(client, address, flags)
     }
 
     /// Binds an address to a fresh page in the frame that is given.
@@ -167,11 +149,9 @@ impl<I: Ledger, N: Ledger, M: Ledger, B: Ledger> World<I, N, M, B> {
         ensures refused { result_err result ≡ map_at_refusal self.old.zone address frame }
         ensures err { OnErr result (self.new ≡ self.old) }
         ensures ok { OnOk result (self.new ≡ with_zone self.old (mapped self.old.zone client address (is_unmovable flags) frame)) }
+        ensures orderly { IsOrderly self.new }
     {
-        let done = self.zone.map_at(client, address, flags, frame);
-        // It is lawful.
-        let _ = self.zone.journal();
-        done
+        self.zone.map_at(client, address, flags, frame)
     }
 
     /// Reads a word of the page that an address names.
@@ -185,6 +165,7 @@ impl<I: Ledger, N: Ledger, M: Ledger, B: Ledger> World<I, N, M, B> {
         ensures err { OnErr result (self.new ≡ self.old) }
         ensures value { IfOk result (λ value. value ≡ value_at self.old.zone address word) }
         ensures ok { OnOk result (self.new ≡ with_zone self.old (loaded self.old.zone client address word)) }
+        ensures orderly { IsOrderly self.new }
     {
         self.zone.load(client, address, word)
     }
@@ -200,18 +181,21 @@ impl<I: Ledger, N: Ledger, M: Ledger, B: Ledger> World<I, N, M, B> {
         ensures refused { result_err result ≡ access_refusal self.old.zone address }
         ensures err { OnErr result (self.new ≡ self.old) }
         ensures ok { OnOk result (self.new ≡ with_zone self.old (stored self.old.zone client address word value)) }
+        ensures orderly { IsOrderly self.new }
     {
         self.zone.store(client, address, word, value)
     }
 
-    /// Takes the next page on its way, which waits behind the others. It opens a round where none is open.
+    /// Takes the next page on its way, which waits behind the others. It opens a round where none is open, and the seat
+    /// notes its answer.
     pub fn scan(&mut self) -> Result<Scanned, WorldError>
-        ensures error { IfErr result (λ error. error ≡ WorldError.Zone ZoneError.JournalFull) }
         ensures refused { OnErr result (scan_refusal self.old ≡ Some ZoneError.JournalFull) }
-        ensures err { OnErr result (self.new ≡ round_opened self.old) }
-        ensures open { OnOk result (scan_refusal self.old ≡ None) }
+        ensures error { IfErr result (λ error. error ≡ WorldError.Zone ZoneError.JournalFull) }
+        ensures err { OnErr result (self.new ≡ scan_stopped self.old) }
+        ensures room { OnOk result (scan_refusal self.old ≡ None) }
         ensures found { IfOk result (λ found. found ≡ scan_answer self.old) }
         ensures ok { OnOk result (self.new ≡ scanned self.old) }
+        ensures orderly { IsOrderly self.new }
     {
         self.open_round();
         self.scan_next()
@@ -219,7 +203,8 @@ impl<I: Ledger, N: Ledger, M: Ledger, B: Ledger> World<I, N, M, B> {
 
     /// Opens a round where none is open.
     fn open_round(&mut self)
-        ensures { self.new ≡ round_opened self.old }
+        ensures round { self.new ≡ round_opened self.old }
+        ensures orderly { IsOrderly self.new }
     {
         if self.is_open {
             return;
@@ -231,12 +216,13 @@ impl<I: Ledger, N: Ledger, M: Ledger, B: Ledger> World<I, N, M, B> {
     /// Takes the next page of the open round on its way.
     fn scan_next(&mut self) -> Result<Scanned, WorldError>
         requires open { self.old.is_open ≡ true }
-        ensures error { IfErr result (λ error. error ≡ WorldError.Zone ZoneError.JournalFull) }
         ensures refused { OnErr result (isolate_refusal self.old.zone ≡ Some ZoneError.JournalFull) }
-        ensures err { OnErr result (self.new ≡ self.old) }
-        ensures open { OnOk result (isolate_refusal self.old.zone ≡ None) }
+        ensures error { IfErr result (λ error. error ≡ WorldError.Zone ZoneError.JournalFull) }
+        ensures err { OnErr result (self.new ≡ record self.old { scan = seat_full self.old.scan }) }
+        ensures room { OnOk result (isolate_refusal self.old.zone ≡ None) }
         ensures found { IfOk result (λ found. found ≡ scanned_by self.old.zone (next_pair self.old.zone)) }
         ensures ok { OnOk result (self.new ≡ isolated_by self.old (next_pair self.old.zone)) }
+        ensures orderly { IsOrderly self.new }
     {
         match self.zone.isolate_next(&mut self.scan) {
             Ok(Next::Page(page)) => {
@@ -250,51 +236,49 @@ impl<I: Ledger, N: Ledger, M: Ledger, B: Ledger> World<I, N, M, B> {
     }
 
     /// An empty hand takes the page that has waited longest.
-    pub fn take(&mut self, k: u32) -> Result<Serial, WorldError>
-        requires low { 0 < k }
-        requires high { k ≤ 4 }
-        ensures ok { IfOk result (λ serial. take_step self.old k ≡ Some (serial, self.new)) }
+    pub fn take(&mut self, hand: HandNo) -> Result<Serial, WorldError>
+        ensures refused { OnErr result (take_step self.old hand ≡ None) }
         ensures hand { IfErr result (λ error. error ≡ WorldError.Hand) }
-        ensures refused { OnErr result (take_step self.old k ≡ None) }
         ensures err { OnErr result (self.new ≡ self.old) }
+        ensures ok { IfOk result (λ serial. take_step self.old hand ≡ Some (serial, self.new)) }
+        ensures least { IfOk result (λ serial. (waiting : ℕ) → IsTrue (waits self.old waiting) → serial ≤ waiting) }
+        ensures orderly { IsOrderly self.new }
     {
-        if !self.hands.is_empty(k) {
+        if !self.hands.is_empty(hand) {
             return Err(WorldError::Hand);
         }
         let Some(page) = self.waiting.pop_front() else {
             return Err(WorldError::Hand);
         };
         let serial = page.serial();
-        self.hands.put(k, Held::Page(page));
+        self.hands.put(hand, Held::Page(page));
         Ok(serial)
     }
 
     /// A hand with a page copies it, and has the copy in its place.
-    pub fn copy(&mut self, k: u32) -> Result<(), WorldError>
-        requires low { 0 < k }
-        requires high { k ≤ 4 }
-        ensures ok { OnOk result (copy_step self.old k ≡ Some self.new) }
+    pub fn copy(&mut self, hand: HandNo) -> Result<(), WorldError>
+        ensures refused { OnErr result (copy_step self.old hand ≡ None) }
         ensures hand { IfErr result (λ error. error ≡ WorldError.Hand) }
-        ensures refused { OnErr result (copy_step self.old k ≡ None) }
         ensures err { OnErr result (self.new ≡ self.old) }
+        ensures ok { OnOk result (copy_step self.old hand ≡ Some self.new) }
+        ensures orderly { IsOrderly self.new }
     {
-        let Some(page) = self.hands.page_from(k) else {
+        let Some(page) = self.hands.page_from(hand) else {
             return Err(WorldError::Hand);
         };
-        self.hands.put(k, Held::Copy(page.copy_into_new()));
+        self.hands.put(hand, Held::Copy(page.copy_into_new()));
         Ok(())
     }
 
     /// A hand with a copy brings it to the zone, which ends the move of its page. The hand is empty then.
-    pub fn finish(&mut self, k: u32) -> Result<Finished, WorldError>
-        requires low { 0 < k }
-        requires high { k ≤ 4 }
-        ensures ok { IfOk result (λ finished. finish_step self.old k ≡ Some (finished, self.new)) }
+    pub fn finish(&mut self, hand: HandNo) -> Result<Finished, WorldError>
+        ensures refused { OnErr result (finish_step self.old hand ≡ None) }
         ensures hand { IfErr result (λ error. error ≡ WorldError.Hand) }
-        ensures refused { OnErr result (finish_step self.old k ≡ None) }
         ensures err { OnErr result (self.new ≡ self.old) }
+        ensures ok { IfOk result (λ finished. finish_step self.old hand ≡ Some (finished, self.new)) }
+        ensures orderly { IsOrderly self.new }
     {
-        let Some(copy) = self.hands.copy_from(k) else {
+        let Some(copy) = self.hands.copy_from(hand) else {
             return Err(WorldError::Hand);
         };
         Ok(finish_in(&mut self.zone, &mut self.ends, copy))
@@ -302,10 +286,11 @@ impl<I: Ledger, N: Ledger, M: Ledger, B: Ledger> World<I, N, M, B> {
 
     /// Where each hand is empty, closes the round: puts the pages that wait back, in order, and tells how many.
     pub fn shut(&mut self) -> Result<u32, WorldError>
-        ensures ok { IfOk result (λ count. shut_step self.old ≡ Some (count, self.new)) }
-        ensures hand { IfErr result (λ error. error ≡ WorldError.Hand) }
         ensures refused { OnErr result (shut_step self.old ≡ None) }
+        ensures hand { IfErr result (λ error. error ≡ WorldError.Hand) }
         ensures err { OnErr result (self.new ≡ self.old) }
+        ensures ok { IfOk result (λ count. shut_step self.old ≡ Some (count, self.new)) }
+        ensures orderly { IsOrderly self.new }
     {
         if !self.hands.are_empty() {
             return Err(WorldError::Hand);
@@ -320,7 +305,9 @@ impl<I: Ledger, N: Ledger, M: Ledger, B: Ledger> World<I, N, M, B> {
         ensures refused { IsErr result ↔ (self.is_open ≡ true) }
         ensures err { IfErr result (λ world. world ≡ self) }
         ensures zone { IfOk result (λ parts. parts.0 ≡ self.zone) }
-        ensures seats { IfOk result (λ parts. parts.1.ends.parts ≡ 64) }
+        ensures scan { IfOk result (λ parts. parts.1.scan ≡ self.scan) }
+        ensures ends { IfOk result (λ parts. parts.1.ends ≡ self.ends) }
+        ensures whole { IfOk result (λ parts. parts.1.ends.parts ≡ 64) }
         ensures audit { IfOk result (λ parts. audit_refusal parts.0 parts.1.ends ≡ None) }
         ensures rest { IfOk result (λ parts. parts.2 ≡ self.zone.blocks) }
     {
@@ -341,11 +328,11 @@ impl<I: Ledger, N: Ledger, M: Ledger, B: Ledger> World<I, N, M, B> {
     pub fn join(zone: Zone<I, M, B>, seats: Seats<I, N, M, B>, rest: Rest) -> World<I, N, M, B>
         requires whole { audit_refusal zone seats.ends ≡ None }
         requires rest { rest ≡ zone.blocks }
-        ensures { result ≡ world_closed zone }
+        ensures world { result ≡ world_closed zone seats.scan seats.ends }
+        ensures orderly { IsOrderly result }
     {
-        let _ = zone.journal();
+        prove!(rest.blocks() == zone.blocks());
         let Seats { scan, ends } = seats;
-        let _ = ends.is_whole();
         World {
             zone,
             scan,
@@ -355,64 +342,4 @@ impl<I: Ledger, N: Ledger, M: Ledger, B: Ledger> World<I, N, M, B> {
             is_open: false,
         }
     }
-}
-
-/// Ends the move of a page of the zone with its copy.
-fn finish_in<I: Ledger, M: Ledger, B: Ledger>(
-    zone: &mut Zone<I, M, B>,
-    ends: &mut EndSeat<M, B>,
-    copy: Copied,
-) -> Finished
-    requires own { IsOwnCopy zone.old copy }
-    ensures finished { result ≡ finished_as zone.old copy.serial }
-    ensures zone { zone.new ≡ finished_in zone.old copy.serial }
-    ensures parts { ends.new.parts ≡ ends.old.parts }
-{
-    let _ = zone.journal();
-    let serial = copy.serial();
-    let Ok(ended) = zone.commit(ends, copy) else {
-        unreachable!();
-    };
-    Finished { serial, ended }
-}
-
-/// Ends the move of a page of the zone that no copier reached.
-fn put_back_in<I: Ledger, M: Ledger, B: Ledger>(
-    zone: &mut Zone<I, M, B>,
-    ends: &mut EndSeat<M, B>,
-    page: Isolated,
-)
-    requires own { IsOwnCopy zone.old page }
-    ensures zone { zone.new ≡ all_put_back zone.old (page.serial ∷ []) }
-    ensures page { page_of zone.old.records page.serial ≡ Some page.page.number }
-    ensures parts { ends.new.parts ≡ ends.old.parts }
-{
-    let _ = zone.journal();
-    let Ok(()) = zone.put_back(ends, page) else {
-        unreachable!();
-    };
-}
-
-/// Ends the moves of pages of the zone that no copier reached, in order, and tells how many there are.
-fn put_all_back_in<I: Ledger, M: Ledger, B: Ledger>(
-    zone: &mut Zone<I, M, B>,
-    ends: &mut EndSeat<M, B>,
-    waiting: &mut VecDeque<Isolated>,
-) -> u32
-    requires own { AreOwn zone.old waiting.old.items }
-    requires rising { IsRising (serials_of waiting.old.items) }
-    requires few { length waiting.old.items ≤ 4096 }
-    ensures count { result ≡ length waiting.old.items }
-    ensures zone { zone.new ≡ all_put_back zone.old (serials_of waiting.old.items) }
-    ensures blocks { zone.new.blocks ≡ zone.old.blocks }
-    ensures waiting { waiting.new.items ≡ [] }
-    ensures capacity { deque_capacity waiting.new ≡ deque_capacity waiting.old }
-    ensures parts { ends.new.parts ≡ ends.old.parts }
-{
-    let mut count = 0;
-    while let Some(page) = waiting.pop_front() {
-        put_back_in(zone, ends, page);
-        count += 1;
-    }
-    count
 }

@@ -1,10 +1,10 @@
-ghost use Rattle.std.specs.Prelude.{◌≡◌, ◌+◌, ◌==◌, ◌↔◌, ℕ, true, false, Some, None, is_some, if◌then◌else◌, IsOk, IfOk, IfErr, OnOk, OnErr};
+ghost use Rattle.std.specs.Prelude.{◌≡◌, ◌+◌, ◌==◌, ◌≤◌, ◌↔◌, ℕ, true, false, Some, None, is_some, if◌then◌else◌, IsOk, IfOk, IfErr, OnOk, OnErr};
 ghost use Rattle.std.specs.Int.RustNames.{bit_and};
-ghost use Rattle.zone_core.specs.Books.{IsFor};
+ghost use Rattle.zone_core.specs.Books.{AreFor};
 ghost use Rattle.state_core.specs.Lawful.{IsLawful};
 ghost use Rattle.journal_core.specs.Moves.{isolated};
 ghost use Rattle.state_core.specs.Moving.{round_begun, isolate_refusal, next_answer, next_state, Scans, is_own, IsOwnCopy, Ends, ended_as, committed, put_back_to_source, look_of};
-ghost use Rattle.zone_core.specs.Seats.{seat_noted, seat_ended, audit_refusal, IsAudited};
+ghost use Rattle.zone_core.specs.Seats.{IsFollowed, seat_begun, seat_full, seat_noted, seat_ended, audit_refusal, IsAudited};
 ghost use Rattle.state_core.specs.Pairs.{next_pair};
 ghost use Rattle.state_core.specs.Refusals.{IsOpenable, result_err, map_refusal, map_at_refusal, access_refusal};
 ghost use Rattle.zone_core.specs.Seats.{fresh_scan_seat, fresh_end_seat};
@@ -33,6 +33,7 @@ pub struct Zone<I: Ledger, M: Ledger, B: Ledger> {
 }
 
 impl<I: Ledger, M: Ledger, B: Ledger> Model for Zone<I, M, B> {
+    ghost use Rattle.state_core.specs.Lawful.{IsLawful};
     ghost use Rattle.state_core.specs.ZoneState.{ZoneState};
     ghost use Rattle.zone_core.specs.Books.{AreBooks, AreCut};
     ghost use Rattle.plain_core.specs.contracts.plain.PlainZone as plain_zone;
@@ -43,7 +44,7 @@ impl<I: Ledger, M: Ledger, B: Ledger> Model for Zone<I, M, B> {
 
     ghost view = { λ z. z.plain };
 
-    ghost invariant = { λ z. AreBooks z.isolated.total z.moved.total z.back.total z.plain × AreCut I.parts M.parts B.parts };
+    ghost invariant = { λ z. AreBooks z.isolated.total z.moved.total z.back.total z.plain × AreCut I.parts M.parts B.parts × IsLawful z.plain };
 }
 
 impl<I: Ledger, M: Ledger, B: Ledger> Zone<I, M, B> {
@@ -56,10 +57,7 @@ impl<I: Ledger, M: Ledger, B: Ledger> Zone<I, M, B> {
         places: u32,
         blanks: Blanks,
     ) -> Result<(Zone<I, M, B>, ScanSeat<I, N>, EndSeat<M, B>), ZoneError>
-        requires isolated { IsFor blanks.isolated.name blanks.isolated.parts I.name I.parts }
-        requires rounds { IsFor blanks.rounds.name blanks.rounds.parts N.name N.parts }
-        requires moved { IsFor blanks.moved.name blanks.moved.parts M.name M.parts }
-        requires back { IsFor blanks.back.name blanks.back.parts B.name B.parts }
+        requires blanks { AreFor blanks I.name I.parts N.name N.parts M.name M.parts B.name B.parts }
         ensures range { ¬ (IsOpenable blocks places) → result ≡ Err ZoneError.Range }
         ensures memory { IsOpenable blocks places → IfErr result (λ error. error ≡ ZoneError.Memory) }
         ensures zone { IfOk result (λ opening. opening.0 ≡ opened number blocks places) }
@@ -81,10 +79,7 @@ impl<I: Ledger, M: Ledger, B: Ledger> Zone<I, M, B> {
     ) -> (Zone<I, M, B>, ScanSeat<I, N>, EndSeat<M, B>)
         requires fresh { (number blocks places : ℕ) × (plain ≡ opened number blocks places) }
         requires lawful { IsLawful plain }
-        requires isolated { IsFor blanks.isolated.name blanks.isolated.parts I.name I.parts }
-        requires rounds { IsFor blanks.rounds.name blanks.rounds.parts N.name N.parts }
-        requires moved { IsFor blanks.moved.name blanks.moved.parts M.name M.parts }
-        requires back { IsFor blanks.back.name blanks.back.parts B.name B.parts }
+        requires blanks { AreFor blanks I.name I.parts N.name N.parts M.name M.parts B.name B.parts }
         ensures zone { result.0 ≡ plain }
         ensures lawful { IsLawful result.0 }
         ensures scan { result.1 ≡ fresh_scan_seat }
@@ -123,6 +118,7 @@ impl<I: Ledger, M: Ledger, B: Ledger> Zone<I, M, B> {
         ensures err { OnErr result (self.new ≡ self.old) }
         ensures frame { IfOk result (λ frame. lowest_free_frame self.old ≡ Some frame) }
         ensures ok { IfOk result (λ frame. self.new ≡ mapped self.old client address (is_unmovable flags) frame) }
+        ensures lawful { IsLawful self.new }
     {
         if !self.plain.has_room() {
             return Err(ZoneError::JournalFull);
@@ -150,6 +146,7 @@ impl<I: Ledger, M: Ledger, B: Ledger> Zone<I, M, B> {
         ensures refused { result_err result ≡ map_at_refusal self.old address frame }
         ensures err { OnErr result (self.new ≡ self.old) }
         ensures ok { OnOk result (self.new ≡ mapped self.old client address (is_unmovable flags) frame) }
+        ensures lawful { IsLawful self.new }
     {
         if !self.plain.has_frame(frame) {
             return Err(ZoneError::Range);
@@ -179,6 +176,7 @@ impl<I: Ledger, M: Ledger, B: Ledger> Zone<I, M, B> {
         ensures err { OnErr result (self.new ≡ self.old) }
         ensures value { IfOk result (λ value. value ≡ value_at self.old address word) }
         ensures ok { OnOk result (self.new ≡ loaded self.old client address word) }
+        ensures lawful { IsLawful self.new }
     {
         if !self.plain.has_room() {
             return Err(ZoneError::JournalFull);
@@ -198,6 +196,7 @@ impl<I: Ledger, M: Ledger, B: Ledger> Zone<I, M, B> {
         ensures refused { result_err result ≡ access_refusal self.old address }
         ensures err { OnErr result (self.new ≡ self.old) }
         ensures ok { OnOk result (self.new ≡ stored self.old client address word value) }
+        ensures lawful { IsLawful self.new }
     {
         if !self.plain.has_room() {
             return Err(ZoneError::JournalFull);
@@ -211,7 +210,8 @@ impl<I: Ledger, M: Ledger, B: Ledger> Zone<I, M, B> {
     /// the round.
     pub fn begin_round<N: Ledger>(&mut self, seat: &mut ScanSeat<I, N>)
         ensures zone { self.new ≡ round_begun self.old }
-        ensures seat { seat.new ≡ record seat.old { rounds = seat.old.rounds + 1; last = None } }
+        ensures seat { seat.new ≡ seat_begun seat.old }
+        ensures lawful { IsLawful self.new }
     {
         self.plain.begin_round();
         seat.begin();
@@ -227,8 +227,11 @@ impl<I: Ledger, M: Ledger, B: Ledger> Zone<I, M, B> {
         // The page is the one of the pair, and where there is none the answer is `Met`.
         ensures pair { IfOk result (λ next. Scans self.old self.new next) }
         ensures serial { seat.old.count ≡ isolated self.old.records }
+        // A journal has places for fewer serials than there are numbers.
+        ensures followed { IfOk result IsFollowed }
         ensures seat { IfOk result (λ next. seat.new ≡ seat_noted seat.old next) }
-        ensures full { OnErr result (seat.new ≡ record seat.old { last = Some Answered.JournalFull }) }
+        ensures full { OnErr result (seat.new ≡ seat_full seat.old) }
+        ensures lawful { IsLawful self.new }
     {
         seat.tell(&mut self.isolated);
         if !self.plain.has_room_for_two() {
@@ -260,6 +263,7 @@ impl<I: Ledger, M: Ledger, B: Ledger> Zone<I, M, B> {
         ensures settled { IfOk result (λ ended. Ends self.old self.new copied ended) }
         ensures once { OnOk result (is_own self.new copied ≡ false) }
         ensures seat { IfOk result (λ ended. seat.new ≡ seat_ended seat.old ended) }
+        ensures lawful { IsLawful self.new }
     {
         let Some(way) = self.plain.way_of(copied.serial(), copied.page()) else {
             return Err(Stranger(copied));
@@ -291,6 +295,7 @@ impl<I: Ledger, M: Ledger, B: Ledger> Zone<I, M, B> {
         ensures settled { OnOk result (Ends self.old self.new isolated Ended.Back) }
         ensures once { OnOk result (is_own self.new isolated ≡ false) }
         ensures seat { OnOk result (seat.new ≡ record seat.old { back = seat.old.back + 1 }) }
+        ensures lawful { IsLawful self.new }
     {
         let Some(way) = self.plain.way_of(isolated.serial(), isolated.page()) else {
             return Err(Stranger(isolated));
@@ -325,8 +330,12 @@ impl<I: Ledger, M: Ledger, B: Ledger> Zone<I, M, B> {
     ) -> Result<Audit, ZoneError>
         ensures refused { result_err result ≡ audit_refusal self.old ends.old }
         ensures ok { IfOk result (λ audit. IsAudited self.old scan.old ends.old audit) }
+        ensures whole { OnOk result (ends.new.parts ≡ 64) }
+        // No zone is needed to tell whether a whole seat passes: its counts make up that of the scan seat.
+        ensures exact { 64 ≤ ends.old.parts → (IsOk result ↔ (ends.old.moved + ends.old.back ≡ scan.old.count)) }
         ensures same { self.new ≡ self.old }
         ensures seats { (scan.new ≡ scan.old) × (ends.new ≡ ends.old) }
+        ensures lawful { IsLawful self.new }
     {
         scan.tell(&mut self.isolated);
         ends.tell(&mut self.moved, &mut self.back);
@@ -345,7 +354,8 @@ impl<I: Ledger, M: Ledger, B: Ledger> Zone<I, M, B> {
 
     /// How many pageblocks it has, 1 to 8.
     pub fn blocks(&self) -> u32
-        ensures { result ≡ self.now.blocks }
+        ensures blocks { result ≡ self.now.blocks }
+        ensures lawful { IsLawful self.now }
     {
         self.plain.blocks()
     }

@@ -1,6 +1,6 @@
 ghost use Rattle.std.specs.Prelude.{◌≡◌};
 ghost use Rattle.std.specs.Int.RustNames.{bit_and};
-ghost use Rattle.zone_core.specs.Books.{IsFor};
+ghost use Rattle.zone_core.specs.Books.{AreFor};
 
 use super::address;
 use crate::{Audit, Blanks, EndSeat, Ended, Info, Look, Next, ScanSeat, Stranger, Zone, ZoneError};
@@ -31,10 +31,7 @@ fn opened<I: Ledger, N: Ledger, M: Ledger, B: Ledger, R: Abort + AllocGlobal>(
     places: u32,
     blanks: Blanks,
 ) -> (Zone<I, M, B>, ScanSeat<I, N>, EndSeat<M, B>)
-    requires isolated { IsFor blanks.isolated.name blanks.isolated.parts I.name I.parts }
-    requires rounds { IsFor blanks.rounds.name blanks.rounds.parts N.name N.parts }
-    requires moved { IsFor blanks.moved.name blanks.moved.parts M.name M.parts }
-    requires back { IsFor blanks.back.name blanks.back.parts B.name B.parts }
+    requires blanks { AreFor blanks I.name I.parts N.name N.parts M.name M.parts B.name B.parts }
 {
     let number = ZoneNo::new(3).expect(rt, "a zone");
     Zone::<I, M, B>::open::<N>(rt.alloc(), number, 1, places, blanks).expect(rt, "a zone")
@@ -96,10 +93,7 @@ fn moves_a_page<I: Ledger, N: Ledger, M: Ledger, B: Ledger, R: Abort + AllocGlob
     rt: &R,
     blanks: Blanks,
 )
-    requires isolated { IsFor blanks.isolated.name blanks.isolated.parts I.name I.parts }
-    requires rounds { IsFor blanks.rounds.name blanks.rounds.parts N.name N.parts }
-    requires moved { IsFor blanks.moved.name blanks.moved.parts M.name M.parts }
-    requires back { IsFor blanks.back.name blanks.back.parts B.name B.parts }
+    requires blanks { AreFor blanks I.name I.parts N.name N.parts M.name M.parts B.name B.parts }
 {
     let (mut zone, mut scan, mut ends) = opened::<I, N, M, B, R>(rt, 64, blanks);
     map_words(rt, &mut zone);
@@ -137,10 +131,7 @@ fn commits_a_changed_copy<I: Ledger, N: Ledger, M: Ledger, B: Ledger, R: Abort +
     rt: &R,
     blanks: Blanks,
 )
-    requires isolated { IsFor blanks.isolated.name blanks.isolated.parts I.name I.parts }
-    requires rounds { IsFor blanks.rounds.name blanks.rounds.parts N.name N.parts }
-    requires moved { IsFor blanks.moved.name blanks.moved.parts M.name M.parts }
-    requires back { IsFor blanks.back.name blanks.back.parts B.name B.parts }
+    requires blanks { AreFor blanks I.name I.parts N.name N.parts M.name M.parts B.name B.parts }
 {
     let (mut zone, mut scan, mut ends) = opened::<I, N, M, B, R>(rt, 64, blanks);
     map_words(rt, &mut zone);
@@ -180,10 +171,7 @@ fn splits_a_seat<I: Ledger, N: Ledger, M: Ledger, B: Ledger, R: Abort + AllocGlo
     rt: &R,
     blanks: Blanks,
 )
-    requires isolated { IsFor blanks.isolated.name blanks.isolated.parts I.name I.parts }
-    requires rounds { IsFor blanks.rounds.name blanks.rounds.parts N.name N.parts }
-    requires moved { IsFor blanks.moved.name blanks.moved.parts M.name M.parts }
-    requires back { IsFor blanks.back.name blanks.back.parts B.name B.parts }
+    requires blanks { AreFor blanks I.name I.parts N.name N.parts M.name M.parts B.name B.parts }
 {
     let (mut zone, mut scan, mut ends) = opened::<I, N, M, B, R>(rt, 4, blanks);
     map_page(rt, &mut zone, PageFlags::empty());
@@ -219,10 +207,7 @@ fn ends_a_serial_twice<I: Ledger, N: Ledger, M: Ledger, B: Ledger, R: Abort + Al
     rt: &R,
     blanks: Blanks,
 )
-    requires isolated { IsFor blanks.isolated.name blanks.isolated.parts I.name I.parts }
-    requires rounds { IsFor blanks.rounds.name blanks.rounds.parts N.name N.parts }
-    requires moved { IsFor blanks.moved.name blanks.moved.parts M.name M.parts }
-    requires back { IsFor blanks.back.name blanks.back.parts B.name B.parts }
+    requires blanks { AreFor blanks I.name I.parts N.name N.parts M.name M.parts B.name B.parts }
 {
     let (mut zone, mut scan, mut ends) = opened::<I, N, M, B, R>(rt, 64, blanks);
     map_words(rt, &mut zone);
@@ -251,10 +236,7 @@ fn ends_strangers<I: Ledger, N: Ledger, M: Ledger, B: Ledger, R: Abort + AllocGl
     rt: &R,
     blanks: Blanks,
 )
-    requires isolated { IsFor blanks.isolated.name blanks.isolated.parts I.name I.parts }
-    requires rounds { IsFor blanks.rounds.name blanks.rounds.parts N.name N.parts }
-    requires moved { IsFor blanks.moved.name blanks.moved.parts M.name M.parts }
-    requires back { IsFor blanks.back.name blanks.back.parts B.name B.parts }
+    requires blanks { AreFor blanks I.name I.parts N.name N.parts M.name M.parts B.name B.parts }
 {
     let (mut zone, mut scan, mut ends) = opened::<I, N, M, B, R>(rt, 64, blanks);
     let none = PageFlags::empty();
@@ -296,10 +278,7 @@ fn fills_a_journal<I: Ledger, N: Ledger, M: Ledger, B: Ledger, R: Abort + AllocG
     rt: &R,
     blanks: Blanks,
 )
-    requires isolated { IsFor blanks.isolated.name blanks.isolated.parts I.name I.parts }
-    requires rounds { IsFor blanks.rounds.name blanks.rounds.parts N.name N.parts }
-    requires moved { IsFor blanks.moved.name blanks.moved.parts M.name M.parts }
-    requires back { IsFor blanks.back.name blanks.back.parts B.name B.parts }
+    requires blanks { AreFor blanks I.name I.parts N.name N.parts M.name M.parts B.name B.parts }
 {
     let (mut zone, mut scan, mut ends) = opened::<I, N, M, B, R>(rt, 65536, blanks);
     map_page(rt, &mut zone, PageFlags::empty());
@@ -327,10 +306,7 @@ fn is_quiet_at_times<I: Ledger, N: Ledger, M: Ledger, B: Ledger, R: Abort + Allo
     rt: &R,
     blanks: Blanks,
 )
-    requires isolated { IsFor blanks.isolated.name blanks.isolated.parts I.name I.parts }
-    requires rounds { IsFor blanks.rounds.name blanks.rounds.parts N.name N.parts }
-    requires moved { IsFor blanks.moved.name blanks.moved.parts M.name M.parts }
-    requires back { IsFor blanks.back.name blanks.back.parts B.name B.parts }
+    requires blanks { AreFor blanks I.name I.parts N.name N.parts M.name M.parts B.name B.parts }
 {
     let (mut zone, mut scan, _ends) = opened::<I, N, M, B, R>(rt, 64, blanks);
     let none = PageFlags::empty();
@@ -355,10 +331,7 @@ fn refuses_a_page_on_its_way<I: Ledger, N: Ledger, M: Ledger, B: Ledger, R: Abor
     rt: &R,
     blanks: Blanks,
 )
-    requires isolated { IsFor blanks.isolated.name blanks.isolated.parts I.name I.parts }
-    requires rounds { IsFor blanks.rounds.name blanks.rounds.parts N.name N.parts }
-    requires moved { IsFor blanks.moved.name blanks.moved.parts M.name M.parts }
-    requires back { IsFor blanks.back.name blanks.back.parts B.name B.parts }
+    requires blanks { AreFor blanks I.name I.parts N.name N.parts M.name M.parts B.name B.parts }
 {
     let (mut zone, mut scan, mut ends) = opened::<I, N, M, B, R>(rt, 64, blanks);
     map_page(rt, &mut zone, PageFlags::empty());
@@ -394,10 +367,7 @@ fn leaves_an_unmovable_page<I: Ledger, N: Ledger, M: Ledger, B: Ledger, R: Abort
     rt: &R,
     blanks: Blanks,
 )
-    requires isolated { IsFor blanks.isolated.name blanks.isolated.parts I.name I.parts }
-    requires rounds { IsFor blanks.rounds.name blanks.rounds.parts N.name N.parts }
-    requires moved { IsFor blanks.moved.name blanks.moved.parts M.name M.parts }
-    requires back { IsFor blanks.back.name blanks.back.parts B.name B.parts }
+    requires blanks { AreFor blanks I.name I.parts N.name N.parts M.name M.parts B.name B.parts }
 {
     let (mut zone, mut scan, _ends) = opened::<I, N, M, B, R>(rt, 64, blanks);
     map_page(rt, &mut zone, PageFlags::UNMOVABLE);

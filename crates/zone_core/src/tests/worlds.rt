@@ -1,9 +1,9 @@
-ghost use Rattle.zone_core.specs.Books.{IsFor};
+ghost use Rattle.zone_core.specs.Books.{AreFor};
 
 use super::address;
 use crate::{Blanks, Ended, Finished, Scanned, World, WorldError};
 use bitflags::Flags;
-use frame_core::{ClientNo, PageFlags, ZoneNo};
+use frame_core::{ClientNo, HandNo, PageFlags, ZoneNo};
 use std::marker::Brand;
 use std::process::Abort;
 use std::sync::ledger::Ledger;
@@ -13,13 +13,11 @@ fn splits_a_world<I: Ledger, N: Ledger, M: Ledger, B: Ledger, R: Abort + AllocGl
     rt: &R,
     blanks: Blanks,
 )
-    requires isolated { IsFor blanks.isolated.name blanks.isolated.parts I.name I.parts }
-    requires rounds { IsFor blanks.rounds.name blanks.rounds.parts N.name N.parts }
-    requires moved { IsFor blanks.moved.name blanks.moved.parts M.name M.parts }
-    requires back { IsFor blanks.back.name blanks.back.parts B.name B.parts }
+    requires blanks { AreFor blanks I.name I.parts N.name N.parts M.name M.parts B.name B.parts }
 {
     let number = ZoneNo::new(3).expect(rt, "a zone");
     let client = ClientNo::new(0).expect(rt, "a client");
+    let first = HandNo::new(1).expect(rt, "a hand");
     let mut world = World::<I, N, M, B>::open(rt.alloc(), number, 1, 64, blanks).expect(
         rt, "a world",
     );
@@ -33,17 +31,19 @@ fn splits_a_world<I: Ledger, N: Ledger, M: Ledger, B: Ledger, R: Abort + AllocGl
     let Ok((zone, seats, rest)) = open.split() else {
         panic!(rt; "a closed world is not split");
     };
+    assert_eq!(rt; zone.number(), number);
+    assert_eq!(rt; (zone.blocks(), rest.blocks()), (1, 1));
     let mut world = World::join(zone, seats, rest);
-    assert_eq!(rt; world.take(1), Err(WorldError::Hand));
+    assert_eq!(rt; world.take(first), Err(WorldError::Hand));
     assert_eq!(rt; world.scan(), Ok(Scanned::Serial(1)));
-    assert_eq!(rt; world.take(1), Ok(1));
+    assert_eq!(rt; world.take(first), Ok(1));
     assert_eq!(rt; world.shut(), Err(WorldError::Hand));
-    assert_eq!(rt; world.copy(1), Ok(()));
+    assert_eq!(rt; world.copy(first), Ok(()));
     let moved = Finished {
         serial: 1,
         ended: Ended::Moved,
     };
-    assert_eq!(rt; world.finish(1), Ok(moved));
+    assert_eq!(rt; world.finish(first), Ok(moved));
     assert_eq!(rt; world.zone().info().moving, 0);
 }
 

@@ -11,9 +11,9 @@ use Rattle.zone_core.proofs.world.World.copy.Given.{Over}
 use Rattle.zone_core.proofs.world.World.copy.Goals as goal
 use Rattle.zone_core.proofs.world.World.copy.Goals.{After-put}
 
-hands_are : (g : Over) (c : After-put g) → c.put.new.self.held ≡ slice_set c.self.inside.hands.held (c.args.k - 1) (Copy c.in-Some.page)
+hands_are : (g : Over) (c : After-put g) → c.put.new.self.held ≡ slice_set c.self.inside.hands.held (c.args.hand - 1) (Copy c.in-Some.page)
 hands_are g c =
-    let i = c.args.k - 1 in
+    let i = c.args.hand - 1 in
     c.put.ensures
     ∙ ap (λ (held : List Held). slice_set held i (Copy c.copy_into_new.result)) c.in-Some.ensures.some
     ∙ set_twice c.self.inside.hands.held i _ (Copy c.copy_into_new.result)
@@ -22,11 +22,14 @@ hands_are g c =
 pub invariant_of-self-2 : goal.invariant_of-self-2
 invariant_of-self-2 g c =
     let z = c.self.inside in
-    rw (hands_are g c) (carried_copied z.zone z.is_open c.in-Some.page z.waiting.items z.hands.held c.args.k z.ends.parts (deque_capacity z.waiting) c.requires.low c.requires.high (sym c.in-Some.ensures.page) c.self.invariant)
+    rw (hands_are g c) (carried_copied z.zone z.scan z.ends z.is_open c.in-Some.page z.waiting.items z.hands.held c.args.hand (deque_capacity z.waiting) c.in-Some.ensures.number.0 c.in-Some.ensures.number.1 (sym c.in-Some.ensures.page) c.self.invariant)
 
 pub returns-clause-ok : goal.returns-clause-ok
 returns-clause-ok g c =
     let z = c.self.inside in
-    ap (λ (w : WorldState). copy_step w c.args.k) (sym c.self.view_is)
-    ∙ step_copied z.zone z.is_open c.in-Some.page z.waiting.items z.hands.held c.args.k z.ends.parts (deque_capacity z.waiting) c.requires.low c.requires.high (sym c.in-Some.ensures.page) c.self.invariant
-    ∙ ap (λ (held : List Held). Some (world_of z.zone z.is_open z.waiting.items held)) (sym (hands_are g c))
+    ap (λ (w : WorldState). copy_step w c.args.hand) (sym c.self.view_is)
+    ∙ step_copied z.zone z.scan z.ends z.is_open c.in-Some.page z.waiting.items z.hands.held c.args.hand (deque_capacity z.waiting) c.in-Some.ensures.number.0 c.in-Some.ensures.number.1 (sym c.in-Some.ensures.page) c.self.invariant
+    ∙ ap (λ (held : List Held). Some (world_of z.zone z.scan z.ends z.is_open z.waiting.items held)) (sym (hands_are g c))
+
+pub returns-clause-orderly : goal.returns-clause-orderly
+returns-clause-orderly g c = (invariant_of-self-2 g c).orderly

@@ -6,5 +6,5 @@ use Rattle.zone_core.proofs.world.World.map_at.Goals as goal
 pub invariant_of-self : goal.invariant_of-self
 invariant_of-self g c =
     let z = c.self.inside in
-    carried_mapped_at z.zone c.map_at-done.new.self z.is_open z.waiting.items z.hands.held z.ends.parts (deque_capacity z.waiting) c.self.invariant
-    c.args.client c.args.address (is_unmovable c.args.flags) c.args.frame c.map_at-done.result c.journal.ensures.lawful c.map_at-done.ensures.refused c.map_at-done.ensures.err c.map_at-done.ensures.ok
+    carried_mapped_at z.zone c.map_at.new.self z.scan z.ends z.is_open z.waiting.items z.hands.held (deque_capacity z.waiting) c.self.invariant
+    c.args.client c.args.address (is_unmovable c.args.flags) c.args.frame c.map_at.result c.map_at.ensures.lawful c.map_at.ensures.refused c.map_at.ensures.err c.map_at.ensures.ok

@@ -1,4 +1,3 @@
-use Rattle.std.proofs.Common.{refl}
 use Rattle.std.specs.VecDeque.{deque_capacity}
 use Rattle.zone_core.proofs.Carrying.{rest_left, audit_left}
 use Rattle.zone_core.proofs.world.World.split.Goals as goal
@@ -6,12 +5,12 @@ use Rattle.zone_core.proofs.world.World.split.Goals as goal
 pub invariant_of-result : goal.invariant_of-result
 invariant_of-result g c =
     let z = c.self.inside in
-    rest_left z.zone z.is_open z.waiting.items z.hands.held z.ends.parts (deque_capacity z.waiting) c.self.invariant c.if-self.false
+    rest_left z.zone z.scan z.ends z.is_open z.waiting.items z.hands.held (deque_capacity z.waiting) c.self.invariant c.if-self.false
 
-pub returns-clause-seats : goal.returns-clause-seats
-returns-clause-seats g c = c.self.invariant.parts
+pub returns-clause-whole : goal.returns-clause-whole
+returns-clause-whole g c = c.self.invariant.orderly.whole
 
 pub returns-clause-audit : goal.returns-clause-audit
 returns-clause-audit g c =
     let z = c.self.inside in
-    audit_left z.zone z.is_open z.waiting.items z.hands.held z.ends.parts (deque_capacity z.waiting) c.self.invariant c.if-self.false z.ends refl
+    audit_left z.zone z.scan z.ends z.is_open z.waiting.items z.hands.held (deque_capacity z.waiting) c.self.invariant c.if-self.false

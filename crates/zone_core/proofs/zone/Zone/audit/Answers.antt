@@ -1,16 +1,29 @@
 use Rattle.std.proofs.Common.{◌≡◌, ◌∙◌, ap, subst, sym}
-use Rattle.std.specs.Prelude.{IfOk}
+use Rattle.std.specs.Prelude.{IfOk, OnOk}
+use Rattle.std.proofs.lemmas.Bool.{eqb-true}
 use Rattle.state_core.specs.declared.error.ZoneError.TheVariants.{Out}
-use Rattle.zone_core.specs.Seats.{IsAudited}
-use Rattle.zone_core.specs.Seats.{EndSeat}
-use Rattle.zone_core.proofs.Seated.{audited, ok_if_some, whole_parts}
+use Rattle.zone_core.specs.Seats.{EndSeat, IsAudited}
+use Rattle.zone_core.proofs.Seated.{audited, ok_if_some, passes_exactly, part_missing}
+use Rattle.zone_core.proofs.zone.Zone.audit.Given.{Over}
 use Rattle.zone_core.proofs.zone.Zone.audit.Goals as goal
+use Rattle.zone_core.proofs.zone.Zone.audit.Goals.{After-ok_or}
+
+whole_seat : (g : Over) (c : After-ok_or g) → c.args.ends.now.parts ≡ 64
+whole_seat g c = ap (λ (s : EndSeat). s.parts) (sym c.tell-2.ensures.seat) ∙ eqb-true _ 64 (sym c.is_whole.ensures.whole ∙ c.if-not-is_whole.false)
 
 pub returns-clause-ok : goal.returns-clause-ok
 returns-clause-ok g c =
-    let parts : c.args.ends.now.parts ≡ 64 = ap (λ (s : EndSeat). s.parts) (sym c.tell-2.ensures.seat) ∙ whole_parts _ (sym c.is_whole.ensures.whole ∙ c.if-not-is_whole.false) c.is_whole.ensures.most in
     subst (λ r. IfOk r (λ audit. IsAudited c.args.self.now c.args.scan.now c.args.ends.now audit)) (sym c.ok_or.ensures.value)
     (ok_if_some (λ audit. IsAudited c.args.self.now c.args.scan.now c.args.ends.now audit) c.counted.result Out
-    (audited c.self.inside.plain c.args.self.now c.args.scan.now c.args.ends.now _ _ _ c.counted.result c.self.view_is c.self.invariant.0
-    c.tell.ensures.count (c.tell-2.ensures.moved parts) (c.tell-2.ensures.back parts)
+    (audited c.self.inside.plain c.args.self.now c.args.scan.now c.args.ends.now _ _ _ c.counted.result c.self.view_is c.self.invariant.2 c.self.invariant.0
+    c.tell.ensures.count (c.tell-2.ensures.moved (whole_seat g c)) (c.tell-2.ensures.back (whole_seat g c)) c.counted.ensures.some
     c.counted.ensures.isolated c.counted.ensures.moved c.counted.ensures.back c.counted.ensures.sum))
+
+pub returns-clause-exact : goal.returns-clause-exact
+returns-clause-exact g c most =
+    passes_exactly c.self.inside.plain c.args.scan.now c.args.ends.now _ _ _ c.counted.result c.ok_or.result Out c.self.invariant.2 c.self.invariant.0
+    c.tell.ensures.count (c.tell-2.ensures.moved (whole_seat g c)) (c.tell-2.ensures.back (whole_seat g c)) c.counted.ensures.some c.ok_or.ensures.value
+
+pub returns-then-not-is_whole-clause-exact : goal.returns-then-not-is_whole-clause-exact
+returns-then-not-is_whole-clause-exact g c least =
+    absurd (part_missing c.args.ends.now c.tell-2.new.self c.tell-2.ensures.seat (sym c.is_whole.ensures.whole ∙ c.if-not-is_whole.true) c.is_whole.ensures.most least)

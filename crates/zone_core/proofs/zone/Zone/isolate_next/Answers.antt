@@ -1,4 +1,4 @@
-use Rattle.std.proofs.Common.{◌∙◌, ℕ, ap, subst, sym}
+use Rattle.std.proofs.Common.{◌∙◌, ◌<◌, ◌^◌, ℕ, ap, subst, sym, arith, lit<}
 use Rattle.std.specs.Prelude.{Some}
 use Rattle.std.specs.FinMap as map
 use Rattle.journal_core.specs.History.{page_at}
@@ -7,7 +7,14 @@ use Rattle.state_core.specs.declared.placement.Placement.TheVariants.{Moving}
 use Rattle.state_core.specs.Pairs.{IsPair}
 use Rattle.state_core.specs.ZoneState.{ZoneState}
 use Rattle.state_core.proofs.Entries.{get_insert_same, get_insert_other}
+use Rattle.plain_core.proofs.Departed.{isolated_most}
 use Rattle.zone_core.proofs.zone.Zone.isolate_next.Goals as goal
+
+pub returns-clause-followed : goal.returns-clause-followed
+returns-clause-followed g c =
+    let serial = ap (λ (p : OnItsWay). p.serial) c.isolate-page.ensures.page in
+    let few : 65537 < 2 ^ 32 = lit< tt in
+    omega (arith, isolated_most c.self.inside.plain.records, c.self.invariant.2.places)
 
 pub returns-clause-pair : goal.returns-clause-pair
 returns-clause-pair g c =
