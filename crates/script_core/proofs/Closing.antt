@@ -8,11 +8,11 @@ use Rattle.script_core.specs.declared.error.Fault.{Fault}
 use Rattle.script_core.specs.declared.error.Fault.TheVariants.{Syntax, LongLine, Read, Write, Memory}
 use Rattle.script_core.specs.Ends.{EndsIn, FailsBehind, StopsIn}
 use Rattle.script_core.specs.Outbox.{Owes}
-use Rattle.script_core.specs.Reply.{newlines}
+use Rattle.text_core.specs.Reply.{newlines}
 use Rattle.script_core.specs.Script.{Answer, answers_from, answers_of, commands_from, commands_of, fault_of, parts_of, texts}
 use Rattle.script_core.specs.Player.{Player, BreaksOff, Finishes, HasStopped, StopsBy, HasRead, begun}
 use Rattle.script_core.proofs.Waiting.{owes_empty}
-use Rattle.script_core.proofs.Newlines.{newlines-append}
+use Rattle.text_core.proofs.Newlines.{newlines-append}
 use Rattle.script_core.proofs.Reading.{stops_in_all}
 use Rattle.script_core.proofs.Inputs.{consumed, owes_end, read_clean}
 use Rattle.script_core.proofs.Variants.{known_weaker}

@@ -10,7 +10,7 @@ use Rattle.script_core.specs.declared.error.Fault.TheVariants.{Syntax, LongLine,
 use Rattle.script_core.specs.declared.script.Totals.{Totals}
 use Rattle.script_core.specs.Ends.{IsOpening, StopsIn}
 use Rattle.script_core.specs.Outbox.{Owes}
-use Rattle.script_core.specs.Reply.{newlines}
+use Rattle.text_core.specs.Reply.{newlines}
 use Rattle.script_core.specs.Script.{Numbered, answers_from, answers_of, commands_from, commands_of, cut_fault, fault_from, fault_of}
 use Rattle.script_core.specs.Player.{Player, EndsBy, Finishes, HasStopped, StopsBy, HasEnded, HasRead, HasFault}
 use Rattle.script_core.proofs.Lines.{length-answers_from, parts-end}

@@ -1,6 +1,3 @@
-pub mod Numbers
-pub mod Words
-pub mod Newlines
 pub mod Variants
 pub mod Waiting
 pub mod Lines

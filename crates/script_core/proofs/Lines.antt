@@ -11,14 +11,14 @@ use Rattle.std.proofs.lemmas.List.Sums.{fails_before_first}
 use Rattle.std.proofs.lemmas.List.Elements.{All-from_recursion}
 use Rattle.std.proofs.lemmas.List.Splits.{slice_split_at, slice_split_none}
 use Rattle.zone_core.specs.World.{WorldState}
-use Rattle.script_core.specs.declared.error.ScriptError.TheVariants as of_line
+use Rattle.text_core.specs.declared.error.ScriptError.TheVariants as of_line
 use Rattle.script_core.specs.declared.error.Fault.TheVariants.{Syntax, LongLine}
-use Rattle.script_core.specs.Line.{line_of, words_say}
-use Rattle.script_core.specs.Word.{words}
+use Rattle.text_core.specs.Line.{line_of, lexemes_say}
+use Rattle.text_core.specs.Token.{lexemes}
 use Rattle.script_core.specs.Machine.{step}
-use Rattle.script_core.specs.Reply.{newlines}
+use Rattle.text_core.specs.Reply.{newlines}
 use Rattle.script_core.specs.Script.{Answer, Numbered, answers_from, commands_from, fault_from, line_fault, onto_commands, parts_of, world_behind}
-use Rattle.script_core.proofs.Newlines.{newlines-append}
+use Rattle.text_core.proofs.Newlines.{newlines-append}
 
 newline_first : (b : ℕ) (bytes : List ℕ) → newlines (b ∷ bytes) ≡ 0 → (nat_eq b 10 ≡ false) × (newlines bytes ≡ 0)
 newline_first b bytes e =
@@ -82,7 +82,7 @@ fault-line n text rest e = let p = parts_are rest in ap (fault_from n) (parts-li
 line_of-long : (text : List ℕ) → 200 < length text → line_of text ≡ Err of_line.LongLine
 line_of-long text h =
     let long : nat_lt 200 (length text) ≡ true = grind (arith, nat_tests) in
-    ap (λ (t : Bool). if t then Err of_line.LongLine else words_say (words text)) long
+    ap (λ (t : Bool). if t then Err of_line.LongLine else lexemes_say (lexemes text)) long
 
 commands_long : (n : ℕ) (text : List ℕ) (others : List (List ℕ)) → 200 < length text → commands_from n (text ∷ others) ≡ []
 commands_long n text [] h = refl

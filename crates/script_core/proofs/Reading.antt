@@ -2,23 +2,23 @@
 use Rattle.std.proofs.Common.{◌≡◌, ℕ, ◌+◌, ◌<◌, ◌≤◌, IsTrue, List, [], ◌∷◌, ◌++◌, length, length-append, refl, sym, ap, subst, ◌∙◌, append_assoc, append-nil, arith, Option, Some, None, Ok, Err}
 use Rattle.std.specs.Option.{option_or}
 use Rattle.zone_core.specs.World.{WorldState}
-use Rattle.script_core.specs.declared.command.Command.{Command}
+use Rattle.text_core.specs.declared.command.Command.{Command}
 use Rattle.script_core.specs.declared.error.RunError.{RunError}
 use Rattle.script_core.specs.declared.error.Fault.{Fault}
 use Rattle.script_core.specs.declared.error.Fault.TheVariants.{Syntax, LongLine, Read, Write, Memory}
-use Rattle.script_core.specs.declared.error.ScriptError.{ScriptError}
-use Rattle.script_core.specs.declared.error.ScriptError.TheVariants as of_line
-use Rattle.script_core.specs.declared.reply.Reply.{Reply}
+use Rattle.text_core.specs.declared.error.ScriptError.{ScriptError}
+use Rattle.text_core.specs.declared.error.ScriptError.TheVariants as of_line
+use Rattle.text_core.specs.declared.reply.Reply.{Reply}
 use Rattle.script_core.specs.Ends.{IsOpening, StopsIn}
 use Rattle.script_core.specs.ErrorNumber.{fault_of_line}
-use Rattle.script_core.specs.Line.{line_of}
+use Rattle.text_core.specs.Line.{line_of}
 use Rattle.script_core.specs.Machine.{Step, opens, step}
 use Rattle.script_core.specs.Outbox.{Outbox, Owes}
-use Rattle.script_core.specs.Reply.{newlines}
+use Rattle.text_core.specs.Reply.{newlines}
 use Rattle.script_core.specs.Script.{Answer, Numbered, answers_from, answers_of, commands_from, commands_of, fault_from, fault_of, line_fault, onto_commands, parts_of, world_behind}
 use Rattle.script_core.specs.Player.{Player, EndsBy, HasEnded, HasRead, HasFault, HasNoMemory}
 use Rattle.script_core.proofs.Lines.{commands-line, commands-long, fault-line, fault-long, answers_from-append, world_behind-append}
-use Rattle.script_core.proofs.Newlines.{newlines-append}
+use Rattle.text_core.proofs.Newlines.{newlines-append}
 
 stops_more : (answers more : List Answer) (old new : Option (List ℕ)) (line : ℕ) → StopsIn answers old new line → StopsIn (answers ++ more) old new line
 stops_more answers more old new line stops = record {

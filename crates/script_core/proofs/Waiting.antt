@@ -8,11 +8,11 @@ use Rattle.std.proofs.lemmas.Bool.Decides.{nat_tests}
 use Rattle.std.proofs.lemmas.Grind.{flat_map-append}
 use Rattle.std.proofs.lemmas.List.{length-map, map-append, take-append-le, take-append-drop}
 use Rattle.std.proofs.Math.Seq.{take-append-add, get_or-append_seam}
-use Rattle.script_core.specs.Reply.{IsOneLine, newlines, text_of}
+use Rattle.text_core.specs.Reply.{IsOneLine, newlines, text_of}
 use Rattle.script_core.specs.Script.{Answer, texts}
 use Rattle.script_core.specs.Ends.{StopsIn}
 use Rattle.script_core.specs.Outbox.{Outbox, IsMarked, Owes, empty}
-use Rattle.script_core.proofs.Newlines.{newlines-append}
+use Rattle.text_core.proofs.Newlines.{newlines-append}
 
 abbrev pub AreOneLine : List Answer → Type 0
 AreOneLine answers = AllByRecursion (λ a. IsOneLine (text_of a.reply)) answers

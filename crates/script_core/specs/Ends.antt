@@ -6,7 +6,7 @@ use Rattle.script_core.specs.declared.error.Fault.TheVariants.{Syntax, LongLine,
 use Rattle.script_core.specs.declared.error.RunError.{RunError}
 use Rattle.script_core.specs.declared.script.Totals.{Totals}
 use Rattle.script_core.specs.Machine.{opens}
-use Rattle.script_core.specs.Reply.{newlines, text_of}
+use Rattle.text_core.specs.Reply.{newlines, text_of}
 use Rattle.script_core.specs.Script.{Answer, Numbered, answers_from, answers_of, commands_of, fault_of, output_of, texts, world_behind}
 
 -- whether a fault is one of the script itself

@@ -1,14 +1,9 @@
 -- The numbers of faults.
 use Rattle.std.specs.Prelude.{ℕ}
-use Rattle.script_core.specs.declared.error.ScriptError.{ScriptError}
-use Rattle.script_core.specs.declared.error.ScriptError.TheVariants as of_line
+use Rattle.text_core.specs.declared.error.ScriptError.{ScriptError}
+use Rattle.text_core.specs.declared.error.ScriptError.TheVariants as of_line
 use Rattle.script_core.specs.declared.error.Fault.{Fault}
 use Rattle.script_core.specs.declared.error.Fault.TheVariants.{Syntax, LongLine, Read, Write, Memory}
-
--- the number of what is wrong with a line
-abbrev pub script_error_number : ScriptError → ℕ
-script_error_number of_line.Syntax = 41
-script_error_number of_line.LongLine = 42
 
 -- a line that is wrong ends a run
 abbrev pub fault_of_line : ScriptError → Fault

@@ -1,7 +1,4 @@
-pub mod Word
-pub mod Line
 pub mod ErrorNumber
-pub mod Reply
 pub mod Machine
 pub mod Script
 pub mod Ends

@@ -2,7 +2,7 @@
 use Rattle.std.specs.Prelude.{◌≡◌, ℕ, ◌+◌, ◌<◌, ◌≤◌, List, [], ◌++◌, length, map, take, Option}
 use Rattle.std.specs.List.{AllByRecursion}
 use Rattle.std.specs.Io.KnownBytes.{Appends}
-use Rattle.script_core.specs.Reply.{IsOneLine, newlines, text_of}
+use Rattle.text_core.specs.Reply.{IsOneLine, newlines, text_of}
 use Rattle.script_core.specs.Script.{Answer, texts}
 
 -- their text, and the line of each

@@ -7,7 +7,7 @@ use Rattle.script_core.specs.declared.error.Fault.TheVariants.{Syntax, LongLine,
 use Rattle.script_core.specs.declared.error.RunError.{RunError}
 use Rattle.script_core.specs.Ends.{IsOpening, StopsIn}
 use Rattle.script_core.specs.Outbox.{Outbox, Owes, empty}
-use Rattle.script_core.specs.Reply.{newlines}
+use Rattle.text_core.specs.Reply.{newlines}
 use Rattle.script_core.specs.Script.{Numbered, answers_from, answers_of, commands_from, commands_of, fault_from, fault_of, parts_of, world_behind}
 
 -- the places of a journal, the world, the line that has begun and its number, how many replies there were, and those that wait

@@ -3,16 +3,16 @@ use Rattle.std.specs.Prelude.{ℕ, ◌+◌, List, [], ◌∷◌, length, flat_ma
 use Rattle.std.specs.List.{slice_split}
 use Rattle.std.specs.Option.{option_or}
 use Rattle.zone_core.specs.World.{WorldState}
-use Rattle.script_core.specs.declared.command.Command.{Command}
-use Rattle.script_core.specs.declared.error.ScriptError.{ScriptError}
+use Rattle.text_core.specs.declared.command.Command.{Command}
+use Rattle.text_core.specs.declared.error.ScriptError.{ScriptError}
 use Rattle.script_core.specs.declared.error.Fault.TheVariants.{Syntax, LongLine}
 use Rattle.script_core.specs.declared.error.RunError.{RunError}
-use Rattle.script_core.specs.declared.reply.Reply.{Reply}
+use Rattle.text_core.specs.declared.reply.Reply.{Reply}
 use Rattle.script_core.specs.declared.script.Totals.{Totals}
 use Rattle.script_core.specs.ErrorNumber.{fault_of_line}
-use Rattle.script_core.specs.Line.{line_of}
+use Rattle.text_core.specs.Line.{line_of}
 use Rattle.script_core.specs.Machine.{step}
-use Rattle.script_core.specs.Reply.{newlines, text_of}
+use Rattle.text_core.specs.Reply.{newlines, text_of}
 
 -- a command with the number of its line
 pub record Numbered : Type 0 where

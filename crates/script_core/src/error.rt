@@ -1,28 +1,8 @@
 ghost use Rattle.std.specs.Prelude.{◌≡◌, ◌↔◌, IsTrue};
-ghost use Rattle.script_core.specs.ErrorNumber.{fault_number, fault_of_line, script_error_number};
+ghost use Rattle.script_core.specs.ErrorNumber.{fault_number, fault_of_line};
 
+use text_core::ScriptError;
 use thiserror::Error;
-
-/// Why a line is no line of a script.
-#[derive(Clone, Copy, Debug, PartialEq, Eq, Error)]
-pub enum ScriptError {
-    #[error("the line is no command")]
-    Syntax,
-    #[error("the line has more than 200 bytes")]
-    LongLine,
-}
-
-impl ScriptError {
-    /// Its number, 41 or 42.
-    pub fn number(&self) -> u16
-        ensures { result ≡ script_error_number self.now }
-    {
-        match self {
-            ScriptError::Syntax => 41,
-            ScriptError::LongLine => 42,
-        }
-    }
-}
 
 /// What can end a run before its script does.
 #[derive(Clone, Copy, Debug, PartialEq, Eq)]

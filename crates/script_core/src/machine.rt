@@ -1,37 +1,30 @@
-ghost use Rattle.std.specs.Prelude.{◌≡◌, ◌<◌, ◌≤◌, ℕ, nat_lt, bit_and, if◌then◌else◌, Some, None, IfOk, OnErr, IsTrue};
-ghost use Rattle.script_core.specs.Machine.{is_hand, opens, step};
-ghost use Rattle.script_core.specs.declared.command.Command.TheVariants as command;
+ghost use Rattle.std.specs.Prelude.{◌≡◌, ◌<◌, ◌≤◌, bit_and, Some, None, IfOk, OnErr, IsTrue};
+ghost use Rattle.script_core.specs.Machine.{call_step, ending, found, open_step, opens, step, step_on};
+ghost use Rattle.text_core.specs.declared.reply.Reply.TheVariants as reply;
 ghost use Rattle.zone_core.specs.Books.{IsFor};
+ghost use Rattle.zone_core.specs.ErrorNumber.{world_number_of};
+ghost use Rattle.state_core.specs.ErrorNumber.{number_of};
 ghost use Rattle.state_core.specs.Steps.{is_unmovable};
 
-use crate::command::Command;
-use crate::place::Place;
-use crate::reply::Reply;
 use bitflags::Flags;
-use frame_core::{ClientNo, FrameNo, PageFlags, WordNo, ZoneNo};
+use frame_core::{ClientNo, PageFlags, ZoneNo};
+use state_core::{Ended, ZoneError};
 use std::alloc::{AllocError, Global};
 use std::marker::Model;
 use std::sync::ledger::Ledger;
-use zone_core::{Blanks, Ended, Finished, Scanned, World};
-
-/// The world of the zone that was opened, with the number of the zone.
-#[derive(Drop)]
-struct OpenWorld<I: Ledger, N: Ledger, M: Ledger, B: Ledger> {
-    number: u64,
-    world: World<I, N, M, B>,
-    ghost same: { number ≡ world.zone.number },
-}
+use text_core::{BlockCount, Call, Command, Reply};
+use zone_core::{Blanks, Finished, Scanned, World, WorldError};
 
 /// What a script works on: no zone yet, with the blanks to open one, or the world of the one zone that it opened.
 #[derive(Drop)]
 pub(crate) struct Machine<I: Ledger, N: Ledger, M: Ledger, B: Ledger> {
     blanks: Option<Blanks>,
-    open_world: Option<OpenWorld<I, N, M, B>>,
+    world: Option<World<I, N, M, B>>,
 }
 
 impl<I: Ledger, N: Ledger, M: Ledger, B: Ledger> Model for Machine<I, N, M, B> {
     ghost use Rattle.std.specs.Prelude.{Option};
-    ghost use Rattle.std.specs.Option.{ForSome, option_map};
+    ghost use Rattle.std.specs.Option.{ForSome};
     ghost use Rattle.zone_core.specs.Books.{IsFor};
     ghost use Rattle.zone_core.specs.World.{WorldState};
     ghost use Rattle.std.specs.Coded.{codes};
@@ -41,7 +34,7 @@ impl<I: Ledger, N: Ledger, M: Ledger, B: Ledger> Model for Machine<I, N, M, B> {
 
     ghost coded = { Prim.hlevel (codes, plain_zone.the_row.coded) };
 
-    ghost view = { λ m. option_map (λ o. o.world) m.open_world };
+    ghost view = { λ m. m.world };
 
     ghost invariant = { λ m. ForSome m.blanks (λ b.
         IsFor b.isolated.name b.isolated.parts I.name I.parts
@@ -61,7 +54,7 @@ impl<I: Ledger, N: Ledger, M: Ledger, B: Ledger> Machine<I, N, M, B> {
     {
         Machine {
             blanks: Some(blanks),
-            open_world: None,
+            world: None,
         }
     }
 
@@ -76,274 +69,126 @@ impl<I: Ledger, N: Ledger, M: Ledger, B: Ledger> Machine<I, N, M, B> {
         ensures ok { IfOk result (λ reply. record { reply = reply; world = self.new } ≡ step places self.old command) }
         ensures memory { OnErr result (IsTrue (opens self.old command)) }
     {
-        let reply = match command {
-            Command::Zone { zone, blocks } => return self.open(alloc, places, zone, blocks),
-            Command::Map { place, unmovable } => self.map(place, unmovable),
-            Command::MapAt {
-                place,
-                frame,
-                unmovable,
-            } => self.map_at(place, frame, unmovable),
-            Command::Store { place, word, value } => self.store(place, word, value),
-            Command::Load { place, word } => self.load(place, word),
-            Command::Info { zone } => self.info(zone),
-            Command::Scan { zone } => self.scan(zone),
-            Command::Take { zone, hand } => self.take(zone, hand),
-            Command::Copy { zone, hand } => self.copy(zone, hand),
-            Command::Finish { zone, hand } => self.finish(zone, hand),
-            Command::Shut { zone } => self.shut(zone),
-            Command::Look { place } => self.look(place),
-        };
-        Ok(reply)
+        match command {
+            Command::OutOfRange => Ok(Reply::Refused(1)),
+            Command::Open { zone, blocks } => self.open(alloc, places, zone, blocks),
+            Command::On { zone, call } => Ok(self.call(zone, call)),
+        }
     }
 
+    /// Opens a zone, where none is open yet.
     fn open(
         &mut self,
         alloc: Global,
         places: u32,
-        zone: u64,
-        blocks: u64,
+        zone: ZoneNo,
+        blocks: BlockCount,
     ) -> Result<Reply, AllocError>
         requires { (0 < places) × (places ≤ 65536) }
-        ensures ok { IfOk result (λ reply. record { reply = reply; world = self.new }
-            ≡ step places self.old (command.Zone zone blocks)) }
-        ensures memory { OnErr result (IsTrue (opens self.old (command.Zone zone blocks))) }
+        ensures ok { IfOk result (λ reply. record { reply = reply; world = self.new } ≡ open_step zone blocks places self.old) }
+        ensures memory { OnErr result (self.old ≡ None) }
     {
-        if zone >= 4 || blocks == 0 || blocks > 8 {
-            return Ok(Reply::Refused(1));
-        }
-        if self.open_world.is_some() {
+        if self.world.is_some() {
             return Ok(Reply::Refused(44));
         }
-        let number = ZoneNo::new(zone as u32).unwrap();
         let Some(blanks) = self.blanks.take() else {
             return Err(AllocError);
         };
-        let Ok(world) = World::open(alloc, number, blocks as u32, places, blanks) else {
+        let Ok(world) = World::open(alloc, zone, blocks.get(), places, blanks) else {
             return Err(AllocError);
         };
-        self.open_world = Some(OpenWorld {
-            number: zone,
-            world,
-        });
+        self.world = Some(world);
         Ok(Reply::Done)
     }
 
-    fn map(&mut self, place: Place, unmovable: bool) -> Reply
-        ensures { (places : ℕ) → step places self.old (command.Map place unmovable)
-            ≡ record { reply = result; world = self.new } }
+    /// Answers a call on the zone with this number, where that is the one that is open.
+    fn call(&mut self, zone: ZoneNo, call: Call) -> Reply
+        ensures { record { reply = result; world = self.new } ≡ step_on zone call self.old }
     {
-        let Some(address) = place.address() else {
-            return Reply::Refused(1);
-        };
-        match &mut self.open_world {
-            Some(open) if open.number == place.zone => {
-                match open.world.map(script_client(), address, flags(unmovable)) {
-                    Ok(_) => Reply::Done,
-                    Err(error) => Reply::Refused(error.number()),
-                }
-            }
-            _ => Reply::Refused(43),
-        }
-    }
-
-    fn map_at(&mut self, place: Place, frame: u64, unmovable: bool) -> Reply
-        ensures { (places : ℕ) → step places self.old (command.MapAt place frame unmovable)
-            ≡ record { reply = result; world = self.new } }
-    {
-        let (Some(address), Some(frame)) = (place.address(), frame_no(frame)) else {
-            return Reply::Refused(1);
-        };
-        match &mut self.open_world {
-            Some(open) if open.number == place.zone => {
-                match open
-                    .world
-                    .map_at(script_client(), address, flags(unmovable), frame)
-                {
-                    Ok(()) => Reply::Done,
-                    Err(error) => Reply::Refused(error.number()),
-                }
-            }
-            _ => Reply::Refused(43),
-        }
-    }
-
-    fn store(&mut self, place: Place, word: u64, value: u64) -> Reply
-        ensures { (places : ℕ) → step places self.old (command.Store place word value)
-            ≡ record { reply = result; world = self.new } }
-    {
-        let (Some(address), Some(word)) = (place.address(), word_no(word)) else {
-            return Reply::Refused(1);
-        };
-        match &mut self.open_world {
-            Some(open) if open.number == place.zone => {
-                match open.world.store(script_client(), address, word, value) {
-                    Ok(()) => Reply::Done,
-                    Err(error) => Reply::Refused(error.number()),
-                }
-            }
-            _ => Reply::Refused(43),
-        }
-    }
-
-    fn load(&mut self, place: Place, word: u64) -> Reply
-        ensures { (places : ℕ) → step places self.old (command.Load place word)
-            ≡ record { reply = result; world = self.new } }
-    {
-        let (Some(address), Some(word)) = (place.address(), word_no(word)) else {
-            return Reply::Refused(1);
-        };
-        match &mut self.open_world {
-            Some(open) if open.number == place.zone => {
-                match open.world.load(script_client(), address, word) {
-                    Ok(value) => Reply::Value(value),
-                    Err(error) => Reply::Refused(error.number()),
-                }
-            }
-            _ => Reply::Refused(43),
-        }
-    }
-
-    fn info(&self, zone: u64) -> Reply
-        ensures { (places : ℕ) → step places self.now (command.Info zone) ≡ record { reply = result; world = self.now } }
-    {
-        if zone >= 4 {
-            return Reply::Refused(1);
-        }
-        match &self.open_world {
-            Some(open) if open.number == zone => Reply::Info(open.world.zone().info()),
-            _ => Reply::Refused(43),
-        }
-    }
-
-    fn scan(&mut self, zone: u64) -> Reply
-        ensures { (places : ℕ) → step places self.old (command.Scan zone) ≡ record { reply = result; world = self.new } }
-    {
-        if zone >= 4 {
-            return Reply::Refused(1);
-        }
-        match &mut self.open_world {
-            Some(open) if open.number == zone => match open.world.scan() {
-                Ok(Scanned::Serial(serial)) => Reply::Serial(serial),
-                Ok(Scanned::Met) => Reply::Met,
-                Err(error) => Reply::Refused(error.number()),
-            },
-            _ => Reply::Refused(43),
-        }
-    }
-
-    fn take(&mut self, zone: u64, hand: u64) -> Reply
-        ensures { (places : ℕ) → step places self.old (command.Take zone hand)
-            ≡ record { reply = result; world = self.new } }
-    {
-        let Some(hand) = hand_no(zone, hand) else {
-            return Reply::Refused(1);
-        };
-        match &mut self.open_world {
-            Some(open) if open.number == zone => match open.world.take(hand) {
-                Ok(serial) => Reply::Serial(serial),
-                Err(error) => Reply::Refused(error.number()),
-            },
-            _ => Reply::Refused(43),
-        }
-    }
-
-    fn copy(&mut self, zone: u64, hand: u64) -> Reply
-        ensures { (places : ℕ) → step places self.old (command.Copy zone hand)
-            ≡ record { reply = result; world = self.new } }
-    {
-        let Some(hand) = hand_no(zone, hand) else {
-            return Reply::Refused(1);
-        };
-        match &mut self.open_world {
-            Some(open) if open.number == zone => match open.world.copy(hand) {
-                Ok(()) => Reply::Done,
-                Err(error) => Reply::Refused(error.number()),
-            },
-            _ => Reply::Refused(43),
-        }
-    }
-
-    fn finish(&mut self, zone: u64, hand: u64) -> Reply
-        ensures { (places : ℕ) → step places self.old (command.Finish zone hand)
-            ≡ record { reply = result; world = self.new } }
-    {
-        let Some(hand) = hand_no(zone, hand) else {
-            return Reply::Refused(1);
-        };
-        match &mut self.open_world {
-            Some(open) if open.number == zone => match open.world.finish(hand) {
-                Ok(Finished { serial, ended }) => match ended {
-                    Ended::Moved => Reply::Moved(serial),
-                    Ended::Back => Reply::Back(serial),
-                },
-                Err(error) => Reply::Refused(error.number()),
-            },
-            _ => Reply::Refused(43),
-        }
-    }
-
-    fn shut(&mut self, zone: u64) -> Reply
-        ensures { (places : ℕ) → step places self.old (command.Shut zone) ≡ record { reply = result; world = self.new } }
-    {
-        if zone >= 4 {
-            return Reply::Refused(1);
-        }
-        match &mut self.open_world {
-            Some(open) if open.number == zone => match open.world.shut() {
-                Ok(count) => Reply::PutBack(count),
-                Err(error) => Reply::Refused(error.number()),
-            },
-            _ => Reply::Refused(43),
-        }
-    }
-
-    fn look(&self, place: Place) -> Reply
-        ensures { (places : ℕ) → step places self.now (command.Look place) ≡ record { reply = result; world = self.now } }
-    {
-        let Some(address) = place.address() else {
-            return Reply::Refused(1);
-        };
-        match &self.open_world {
-            Some(open) if open.number == place.zone => match open.world.zone().look(address) {
-                Ok(look) => Reply::Looked(look),
-                Err(error) => Reply::Refused(error.number()),
-            },
+        match &mut self.world {
+            Some(world) if world.zone().number() == zone => answer(world, call),
             _ => Reply::Refused(43),
         }
     }
 }
 
-/// The frame, where its number is in its range.
-fn frame_no(number: u64) -> Option<FrameNo>
-    ensures { result ≡ (if nat_lt number 4096 then Some number else None) }
+/// Answers a call on the zone of a world.
+fn answer<I: Ledger, N: Ledger, M: Ledger, B: Ledger>(
+    world: &mut World<I, N, M, B>,
+    call: Call,
+) -> Reply
+    ensures { record { reply = result; world = Some world.new } ≡ call_step world.old call }
 {
-    if number < 4096 {
-        FrameNo::new(number as u32)
-    } else {
-        None
+    let client = script_client();
+    match call {
+        Call::Map { address, unmovable } => world
+            .map(client, address, flags(unmovable))
+            .map_or_else(by_zone, |_| Reply::Done),
+        Call::MapAt {
+            address,
+            frame,
+            unmovable,
+        } => world
+            .map_at(client, address, flags(unmovable), frame)
+            .map_or_else(by_zone, |()| Reply::Done),
+        Call::Store {
+            address,
+            word,
+            value,
+        } => world
+            .store(client, address, word, value)
+            .map_or_else(by_zone, |()| Reply::Done),
+        Call::Load { address, word } => world
+            .load(client, address, word)
+            .map_or_else(by_zone, Reply::Value),
+        Call::Info => Reply::Info(world.zone().info()),
+        Call::Scan => world.scan().map_or_else(by_world, scan_reply),
+        Call::Take(hand) => world.take(hand.get()).map_or_else(by_world, Reply::Serial),
+        Call::Copy(hand) => world
+            .copy(hand.get())
+            .map_or_else(by_world, |()| Reply::Done),
+        Call::Finish(hand) => world.finish(hand.get()).map_or_else(by_world, end_reply),
+        Call::Shut => world.shut().map_or_else(by_world, Reply::Shut),
+        Call::Look(address) => world
+            .zone()
+            .look(address)
+            .map_or_else(by_zone, Reply::Looked),
     }
 }
 
-/// The word, where its number is in its range.
-fn word_no(number: u64) -> Option<WordNo>
-    ensures { result ≡ (if nat_lt number 8 then Some number else None) }
+/// A refusal of the zone.
+fn by_zone(error: ZoneError) -> Reply
+    ensures { result ≡ reply.Refused (number_of error) }
 {
-    if number < 8 {
-        WordNo::new(number as u32)
-    } else {
-        None
+    Reply::Refused(error.number())
+}
+
+/// A refusal of the world.
+fn by_world(error: WorldError) -> Reply
+    ensures { result ≡ reply.Refused (world_number_of error) }
+{
+    Reply::Refused(error.number())
+}
+
+/// What a scan found.
+fn scan_reply(scanned: Scanned) -> Reply
+    ensures { result ≡ found scanned }
+{
+    match scanned {
+        Scanned::Serial(serial) => Reply::Serial(serial),
+        Scanned::Met => Reply::Met,
     }
 }
 
-/// The hand of a zone, where both numbers are in their ranges.
-fn hand_no(zone: u64, hand: u64) -> Option<u32>
-    ensures { result ≡ (if is_hand zone hand then Some hand else None) }
+/// How the move of a page ended.
+fn end_reply(finished: Finished) -> Reply
+    ensures { result ≡ ending finished.serial finished.ended }
 {
-    if zone >= 4 || hand == 0 || hand > 4 {
-        return None;
+    let Finished { serial, ended } = finished;
+    match ended {
+        Ended::Moved => Reply::Moved(serial),
+        Ended::Back => Reply::PutBack(serial),
     }
-    Some(hand as u32)
 }
 
 /// The flags of a page that is mapped.

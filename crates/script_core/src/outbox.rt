@@ -3,12 +3,12 @@ ghost use Rattle.std.specs.Io.KnownBytes.{Appends};
 ghost use Rattle.script_core.specs.Ends.{StopsIn};
 ghost use Rattle.script_core.specs.Outbox.{HasRoom, Owes, empty};
 ghost use Rattle.script_core.specs.Script.{Answer, texts};
-ghost use Rattle.script_core.specs.Reply.{IsOneLine, newlines};
+ghost use Rattle.text_core.specs.Reply.{IsOneLine, newlines};
 
-use crate::reply::{Reply, reply_text};
 use arrayvec::ArrayVec;
 use std::io::Write;
 use std::marker::Model;
+use text_core::{Reply, reply_text};
 
 /// Replies that wait to be written together, with the line that each of them answers.
 #[derive(Drop)]

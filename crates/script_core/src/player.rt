@@ -1,16 +1,14 @@
 ghost use Rattle.std.specs.Prelude.{◌≡◌, ℕ, ◌+◌, ◌^◌, ◌<◌, ◌≤◌, [], ◌∷◌, ◌++◌, List, Option, length, position, nat_eq, Some, None, Ok, IfNone, IfSome, IfErr, IfOk, OnOk};
 ghost use Rattle.zone_core.specs.Books.{IsFor};
-ghost use Rattle.script_core.specs.Line.{line_of};
-ghost use Rattle.script_core.specs.Reply.{newlines};
+ghost use Rattle.text_core.specs.Line.{line_of};
+ghost use Rattle.text_core.specs.Reply.{newlines};
 ghost use Rattle.std.specs.Io.KnownBytes.{Appends};
 ghost use Rattle.script_core.specs.Ends.{EndsIn, StopsIn};
 ghost use Rattle.script_core.specs.Outbox.{Owes};
 ghost use Rattle.script_core.specs.Script.{Answer, fault_of, output_of, texts, totals_of};
 ghost use Rattle.script_core.specs.Player.{Finishes, HasEnded, HasRead, HasStopped, begun};
 
-use crate::command::Command;
-use crate::error::{Fault, RunError, ScriptError};
-use crate::line::read_line;
+use crate::error::{Fault, RunError};
 use crate::machine::Machine;
 use crate::outbox::Outbox;
 use crate::script::Totals;
@@ -20,6 +18,7 @@ use std::io::{Read, Write};
 use std::marker::Model;
 use std::mem;
 use std::sync::ledger::Ledger;
+use text_core::{Command, ScriptError, read_line};
 use zone_core::Blanks;
 
 /// Plays a script: the machine that answers it, the line that has begun, and the replies that wait.

@@ -2,7 +2,7 @@ use Rattle.std.proofs.Common.{◌≡◌, ◌∙◌, ℕ, ◌<◌, List, length, 
 use Rattle.std.specs.Io.KnownBytes.{Appends}
 use Rattle.script_core.specs.Ends.{StopsIn}
 use Rattle.script_core.specs.Outbox.{Outbox}
-use Rattle.script_core.specs.Reply.{newlines}
+use Rattle.text_core.specs.Reply.{newlines}
 use Rattle.script_core.proofs.Waiting.{owes_stops}
 use Rattle.script_core.proofs.outbox.Outbox.flush.Goals as goal
 

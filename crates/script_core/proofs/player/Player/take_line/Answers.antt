@@ -1,5 +1,5 @@
 use Rattle.std.proofs.Common.{◌≡◌, ◌++◌, ◌∷◌, [], ℕ, None, Ok, ap, sym, subst, ◌∙◌}
-use Rattle.script_core.specs.Line.{line_of}
+use Rattle.text_core.specs.Line.{line_of}
 use Rattle.script_core.specs.Player.{Player, HasEnded, HasRead}
 use Rattle.script_core.proofs.Reading.{read_skipped, read_wrong, ended_wrong}
 use Rattle.script_core.proofs.player.Player.take_line.Goals as goal

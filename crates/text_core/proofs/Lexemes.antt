@@ -1,0 +1,66 @@
+-- The lexemes of a text.
+use Rattle.std.proofs.Common.{◌≡◌, ℕ, ◌+◌, ◌<◌, ◌≤◌, Bool, true, false, not, List, [], ◌∷◌, length, take, drop, get_or, refl, sym, ap, ◌∙◌, arith, Some, None, add-one, drop-cons, cond}
+use Rattle.std.specs.Prelude.{nat_eq, nat_lt, filter, codes, position, unwrap_or}
+use Rattle.std.specs.List.{slice_split, onto_first, starts_with, position_or_len, after_first}
+use Rattle.std.proofs.lemmas.List.{drop_all, take_all}
+use Rattle.std.proofs.lemmas.List.Sums.{prefix_len-le-length, passes_at_first, fails_before_first}
+use Rattle.std.proofs.lemmas.List.Folds.{length-prefix_len}
+use Rattle.std.proofs.lemmas.List.Splits.{slice_split_first, slice_split_none}
+use Rattle.std.proofs.lemmas.Bool.Decides.{nat_tests}
+use Rattle.text_core.specs.Token.{lexemes}
+
+abbrev pub is_space : ℕ → Bool
+is_space byte = nat_eq byte 32
+
+abbrev pub is_lexeme : List ℕ → Bool
+is_lexeme part = nat_lt 0 (length part)
+
+abbrev pub lexeme_len : List ℕ → ℕ
+lexeme_len xs = position_or_len is_space xs
+
+pub lexeme_len_is : (xs : List ℕ) → unwrap_or (position is_space xs) (length xs) ≡ lexeme_len xs
+lexeme_len_is xs = at_test (nat_lt (lexeme_len xs) (length xs)) refl where
+  at_test : (t : Bool) → nat_lt (lexeme_len xs) (length xs) ≡ t → unwrap_or (cond t (Some (lexeme_len xs)) None) (length xs) ≡ lexeme_len xs
+  at_test true e = refl
+  at_test false e = (let most = prefix_len-le-length (λ b. not (is_space b)) xs in grind (arith, nat_tests, most))
+
+-- a space begins no lexeme
+lexemes_space : (b : ℕ) (xs : List ℕ) → is_space b ≡ true → lexemes (b ∷ xs) ≡ lexemes xs
+lexemes_space b xs e = ap (λ (t : Bool). filter is_lexeme (cond t ([] ∷ slice_split is_space xs) (onto_first b (slice_split is_space xs)))) e
+
+first_kept : (part : List ℕ) (parts : List (List ℕ)) → 0 < length part → filter is_lexeme (part ∷ parts) ≡ part ∷ filter is_lexeme parts
+first_kept part parts h =
+    let some : is_lexeme part ≡ true = grind (arith, nat_tests) in
+    ap (λ (t : Bool). cond t (part ∷ filter is_lexeme parts) (filter is_lexeme parts)) some
+
+lexeme_len_pos : (x : ℕ) (xs : List ℕ) → is_space x ≡ false → 0 < lexeme_len (x ∷ xs)
+lexeme_len_pos x xs e =
+    let is : lexeme_len (x ∷ xs) ≡ 1 + lexeme_len xs = ap (λ (t : Bool). cond (not t) (1 + lexeme_len xs) 0) e in
+    omega arith
+
+lexeme_then_space : (xs : List ℕ) → 0 < lexeme_len xs → lexeme_len xs < length xs → lexemes xs ≡ take (lexeme_len xs) xs ∷ lexemes (drop (lexeme_len xs) xs)
+lexeme_then_space xs some h =
+    let n = lexeme_len xs in
+    let len : length (take n xs) ≡ n = length-prefix_len (λ b. not (is_space b)) xs in
+    let ahead : drop n xs ≡ get_or xs n 0 ∷ drop (n + 1) xs = rw (add-one, drop-cons xs n 0) refl in
+    let behind : lexemes (drop n xs) ≡ lexemes (drop (n + 1) xs) =
+    ap lexemes ahead ∙ lexemes_space (get_or xs n 0) (drop (n + 1) xs) (passes_at_first is_space xs 0 h) in
+    ap (filter is_lexeme) (slice_split_first is_space xs 0 h) ∙ first_kept (take n xs) (slice_split is_space (after_first is_space xs)) (omega arith) ∙ ap (λ (r : List (List ℕ)). take n xs ∷ r) (sym behind)
+
+lexeme_to_end : (xs : List ℕ) → 0 < length xs → length xs ≤ lexeme_len xs → lexemes xs ≡ take (lexeme_len xs) xs ∷ lexemes (drop (lexeme_len xs) xs)
+lexeme_to_end xs some h =
+    ap (filter is_lexeme) (slice_split_none is_space xs (λ k d below. fails_before_first is_space xs k d (omega arith)))
+    ∙ first_kept xs [] some
+    ∙ ap (λ (r : List ℕ). r ∷ []) (sym (take_all (lexeme_len xs) xs h))
+    ∙ ap (λ (r : List ℕ). take (lexeme_len xs) xs ∷ lexemes r) (sym (drop_all (lexeme_len xs) xs h))
+
+-- where a text begins with a lexeme, that is the first
+pub lexemes_first : (xs : List ℕ) → 0 < length xs → starts_with nat_eq xs (codes " ") ≡ false → lexemes xs ≡ take (lexeme_len xs) xs ∷ lexemes (drop (lexeme_len xs) xs)
+lexemes_first [] h e = absurd (omega arith)
+lexemes_first (x ∷ xs) h e = at_test (nat_lt (lexeme_len (x ∷ xs)) (length (x ∷ xs))) refl where
+  apart : (a : ℕ) (ys : List ℕ) → starts_with nat_eq (a ∷ ys) (codes " ") ≡ false → is_space a ≡ false
+  apart a ys e = grind (arith, nat_tests)
+
+  at_test : (t : Bool) → nat_lt (lexeme_len (x ∷ xs)) (length (x ∷ xs)) ≡ t → lexemes (x ∷ xs) ≡ take (lexeme_len (x ∷ xs)) (x ∷ xs) ∷ lexemes (drop (lexeme_len (x ∷ xs)) (x ∷ xs))
+  at_test true below = lexeme_then_space (x ∷ xs) (lexeme_len_pos x xs (apart x xs e)) (let h : lexeme_len (x ∷ xs) < length (x ∷ xs) = grind (arith, nat_tests) in h)
+  at_test false below = lexeme_to_end (x ∷ xs) h (let h : length (x ∷ xs) ≤ lexeme_len (x ∷ xs) = grind (arith, nat_tests) in h)

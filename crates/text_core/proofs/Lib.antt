@@ -1,0 +1,4 @@
+pub mod Numbers
+pub mod Lexemes
+pub mod Newlines
+pub mod LongLines

@@ -1,0 +1,86 @@
+-- The commands of the language: the row of each says what stands in its line, and what that makes.
+use Rattle.std.specs.Prelude.{ℕ, Bool, true, false, ◌&&◌, List, [], ◌∷◌, nat_lt, nat_le, Option, Some, None, option_map, if◌then◌else◌}
+use Rattle.frame_core.specs.declared.place.Address.{Address}
+use Rattle.text_core.specs.declared.token.Token.{Token}
+use Rattle.text_core.specs.declared.token.Token.TheVariants.{Number, Zone, Map, MapAt, Store, Load, Info, Unmovable, Scan, Take, Copy, Finish, Shut, Look}
+use Rattle.text_core.specs.declared.command.Call.{Call}
+use Rattle.text_core.specs.declared.command.Call.TheVariants as call
+use Rattle.text_core.specs.declared.command.Command.{Command}
+use Rattle.text_core.specs.declared.command.Command.TheVariants.{Open, On, OutOfRange}
+
+-- the kinds of arguments: a number below a bound, and one from 1 to a bound
+abbrev pub below : ℕ → ℕ → Option ℕ
+below bound n = if nat_lt n bound then Some n else None
+
+abbrev pub up_to : ℕ → ℕ → Option ℕ
+up_to most n = if nat_le 1 n && nat_le n most then Some n else None
+
+-- a zone, a frame of it, a word of a page, how many pageblocks, and a hand
+abbrev pub zone_of : ℕ → Option ℕ
+zone_of n = below 4 n
+
+abbrev pub frame_of : ℕ → Option ℕ
+frame_of n = below 4096 n
+
+abbrev pub word_of : ℕ → Option ℕ
+word_of n = below 8 n
+
+abbrev pub blocks_of : ℕ → Option ℕ
+blocks_of n = up_to 8 n
+
+abbrev pub hand_of : ℕ → Option ℕ
+hand_of n = up_to 4 n
+
+-- a virtual page of a space
+abbrev pub address_of : ℕ → ℕ → Option Address
+address_of s v = if nat_lt s 8 && nat_lt v 4096 then Some (record { space = s; vpage = v }) else None
+
+-- what arguments make, if each is in its range
+abbrev pub map_call : Option Address → Bool → Option Call
+map_call (Some a) unmovable = Some (call.Map a unmovable)
+map_call None unmovable = None
+
+abbrev pub map_at_call : Option Address → Option ℕ → Bool → Option Call
+map_at_call (Some a) (Some f) unmovable = Some (call.MapAt a f unmovable)
+map_at_call _ _ unmovable = None
+
+abbrev pub store_call : Option Address → Option ℕ → ℕ → Option Call
+store_call (Some a) (Some w) value = Some (call.Store a w value)
+store_call _ _ value = None
+
+abbrev pub load_call : Option Address → Option ℕ → Option Call
+load_call (Some a) (Some w) = Some (call.Load a w)
+load_call _ _ = None
+
+abbrev pub opening : Option ℕ → Option ℕ → Command
+opening (Some z) (Some b) = Open z b
+opening _ _ = OutOfRange
+
+abbrev pub call_on : Option ℕ → Option Call → Command
+call_on (Some z) (Some c) = On z c
+call_on _ _ = OutOfRange
+
+-- what a keyword, a zone and the arguments behind it make, if there is such a row
+abbrev pub row_of : Token → Option ℕ → List Token → Option Command
+row_of Zone z (Number b ∷ []) = Some (opening z (blocks_of b))
+row_of Map z (Number s ∷ Number v ∷ []) = Some (call_on z (map_call (address_of s v) false))
+row_of Map z (Number s ∷ Number v ∷ Unmovable ∷ []) = Some (call_on z (map_call (address_of s v) true))
+row_of MapAt z (Number s ∷ Number v ∷ Number f ∷ []) = Some (call_on z (map_at_call (address_of s v) (frame_of f) false))
+row_of MapAt z (Number s ∷ Number v ∷ Number f ∷ Unmovable ∷ []) =
+    Some (call_on z (map_at_call (address_of s v) (frame_of f) true))
+row_of Store z (Number s ∷ Number v ∷ Number w ∷ Number x ∷ []) =
+    Some (call_on z (store_call (address_of s v) (word_of w) x))
+row_of Load z (Number s ∷ Number v ∷ Number w ∷ []) = Some (call_on z (load_call (address_of s v) (word_of w)))
+row_of Info z [] = Some (call_on z (Some call.Info))
+row_of Scan z [] = Some (call_on z (Some call.Scan))
+row_of Take z (Number k ∷ []) = Some (call_on z (option_map call.Take (hand_of k)))
+row_of Copy z (Number k ∷ []) = Some (call_on z (option_map call.Copy (hand_of k)))
+row_of Finish z (Number k ∷ []) = Some (call_on z (option_map call.Finish (hand_of k)))
+row_of Shut z [] = Some (call_on z (Some call.Shut))
+row_of Look z (Number s ∷ Number v ∷ []) = Some (call_on z (option_map call.Look (address_of s v)))
+row_of _ z _ = None
+
+-- the command that tokens are, if they are one
+abbrev pub command_of : List Token → Option Command
+command_of (keyword ∷ Number z ∷ arguments) = row_of keyword (zone_of z) arguments
+command_of _ = None

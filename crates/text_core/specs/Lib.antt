@@ -1,0 +1,5 @@
+pub mod Token
+pub mod Grammar
+pub mod Line
+pub mod ErrorNumber
+pub mod Reply

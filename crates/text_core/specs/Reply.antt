@@ -1,0 +1,57 @@
+-- The line of a reply.
+use Rattle.std.specs.Prelude.{◌≡◌, ℕ, Bool, ◌==◌, List, [], ◌∷◌, ◌++◌, codes, decimal, count_by, nat_eq, if◌then◌else◌}
+use Rattle.std.specs.Int.RustNames.{bit_and}
+use Rattle.frame_core.specs.declared.flags.PageFlags.{PageFlags}
+use Rattle.state_core.specs.declared.information.Look.{Look}
+use Rattle.state_core.specs.declared.information.Look.TheVariants.{At, Moving}
+use Rattle.state_core.specs.Steps.{is_unmovable}
+use Rattle.state_core.specs.declared.information.Info.{Info}
+use Rattle.text_core.specs.declared.reply.Reply.{Reply}
+use Rattle.text_core.specs.declared.reply.Reply.TheVariants as reply
+
+-- how many newlines there are
+abbrev pub newlines : List ℕ → ℕ
+newlines bytes = count_by (λ byte. nat_eq byte 10) bytes
+
+-- the counts of a zone
+abbrev pub info_text : Info → List ℕ
+info_text i = codes "free=" ++ decimal i.free ++ codes " pages=" ++ decimal i.pages ++ codes " moving=" ++ decimal i.moving
+    ++ codes " huge=" ++ decimal i.huge ++ codes " whole=" ++ decimal i.whole ++ codes "\n"
+
+-- whether the flags of a page say that it was stored to
+abbrev pub is_dirty : PageFlags → Bool
+is_dirty flags = bit_and flags.0 2 == 2
+
+-- 1 where something is so, and 0 where not
+abbrev pub one_if : Bool → List ℕ
+one_if b = decimal (if b then 1 else 0)
+
+-- the pins of a page, and the addresses that name it
+abbrev pub uses_text : ℕ → ℕ → List ℕ
+uses_text pins maps = codes " pins=" ++ decimal pins ++ codes " maps=" ++ decimal maps
+
+-- what is known of a page, without a newline
+abbrev pub look_text : Look → List ℕ
+look_text (At frame flags pins maps) =
+    codes "frame=" ++ decimal frame ++ codes " dirty=" ++ one_if (is_dirty flags)
+    ++ codes " unmovable=" ++ one_if (is_unmovable flags) ++ uses_text pins maps
+look_text (Moving serial pins maps) = codes "moving serial=" ++ decimal serial ++ uses_text pins maps
+
+-- the line of a reply, with its newline; cause 1 is that the page has a pin
+abbrev pub text_of : Reply → List ℕ
+text_of reply.Done = codes "ok\n"
+text_of (reply.Value x) = codes "value=" ++ decimal x ++ codes "\n"
+text_of (reply.Info i) = info_text i
+text_of (reply.Serial n) = codes "serial=" ++ decimal n ++ codes "\n"
+text_of reply.Met = codes "met\n"
+text_of (reply.Moved n) = codes "moved serial=" ++ decimal n ++ codes "\n"
+text_of (reply.PutBack n) = codes "back serial=" ++ decimal n ++ codes " cause=1\n"
+text_of (reply.Shut n) = codes "back=" ++ decimal n ++ codes "\n"
+text_of (reply.Looked l) = look_text l ++ codes "\n"
+text_of (reply.Refused k) = codes "refused " ++ decimal k ++ codes "\n"
+
+-- one newline, and it stands at the end
+pub record IsOneLine (text : List ℕ) : Type 0 where
+  pub body : List ℕ
+  pub ends : text ≡ body ++ 10 ∷ []
+  pub one : newlines body ≡ 0

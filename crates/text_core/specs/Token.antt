@@ -1,0 +1,43 @@
+-- The tokens of a line.
+use Rattle.std.specs.Prelude.{ℕ, ◌^◌, Bool, ◌&&◌, List, length, filter, codes, bytes_eq, nat_eq, nat_lt, nat_le, Option, Some, None, if◌then◌else◌}
+use Rattle.std.specs.List.{slice_split}
+use Rattle.std.specs.Str.{all_ascii_digits}
+use Rattle.std.specs.Str.Parse.{digits_value}
+use Rattle.text_core.specs.declared.token.Token.{Token}
+use Rattle.text_core.specs.declared.token.Token.TheVariants.{Number, Zone, Map, MapAt, Store, Load, Info, Unmovable, Scan, Take, Copy, Finish, Shut, Look, Other}
+
+-- a lexeme is what stands between spaces, and not empty
+abbrev pub lexemes : List ℕ → List (List ℕ)
+lexemes text = filter (λ part. nat_lt 0 (length part)) (slice_split (λ byte. nat_eq byte 32) text)
+
+-- a number has 1 to 20 digits and fits 64 bits
+abbrev pub is_number : List ℕ → Bool
+is_number bytes =
+    nat_le 1 (length bytes) && nat_le (length bytes) 20 && all_ascii_digits bytes && nat_lt (digits_value 10 bytes) (2 ^ 64)
+
+-- the number that bytes are, if they are one
+abbrev pub number_of : List ℕ → Option ℕ
+number_of bytes = if is_number bytes then Some (digits_value 10 bytes) else None
+
+-- a number, or else nothing of the language
+abbrev pub number_or_other : Option ℕ → Token
+number_or_other None = Other
+number_or_other (Some n) = Number n
+
+-- what a lexeme means
+abbrev pub token_of : List ℕ → Token
+token_of lexeme =
+    if bytes_eq lexeme (codes "zone") then Zone
+    else if bytes_eq lexeme (codes "map") then Map
+    else if bytes_eq lexeme (codes "mapat") then MapAt
+    else if bytes_eq lexeme (codes "store") then Store
+    else if bytes_eq lexeme (codes "load") then Load
+    else if bytes_eq lexeme (codes "info") then Info
+    else if bytes_eq lexeme (codes "unmovable") then Unmovable
+    else if bytes_eq lexeme (codes "scan") then Scan
+    else if bytes_eq lexeme (codes "take") then Take
+    else if bytes_eq lexeme (codes "copy") then Copy
+    else if bytes_eq lexeme (codes "finish") then Finish
+    else if bytes_eq lexeme (codes "shut") then Shut
+    else if bytes_eq lexeme (codes "look") then Look
+    else number_or_other (number_of lexeme)

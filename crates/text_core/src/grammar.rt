@@ -1,0 +1,153 @@
+//! The rows of the language, as `specs/Grammar.antt` has them. That an argument is in its range is tested here, by its type.
+
+ghost use Rattle.std.specs.Prelude.{◌≡◌};
+ghost use Rattle.text_core.specs.Grammar.{address_of, blocks_of, command_of, frame_of, hand_of, load_call, map_at_call, map_call, call_on, opening, row_of, store_call, word_of, zone_of};
+
+use crate::blocks::BlockCount;
+use crate::command::{Call, Command};
+use crate::token::Token;
+use frame_core::{Address, FrameNo, HandNo, SpaceNo, VPage, WordNo, ZoneNo};
+
+/// The command that these tokens are, if they are one.
+pub(crate) fn command(tokens: &[Token]) -> Option<Command>
+    ensures { result ≡ command_of tokens.now }
+{
+    match *tokens {
+        [keyword, Token::Number(number), ref arguments @ ..] => row(
+            keyword,
+            zone(number),
+            arguments,
+        ),
+        _ => None,
+    }
+}
+
+/// What a keyword, a zone and the arguments behind it make, if there is such a row.
+fn row(keyword: Token, zone: Option<ZoneNo>, arguments: &[Token]) -> Option<Command>
+    ensures { result ≡ row_of keyword zone arguments.now }
+{
+    use Token::{
+        Copy, Finish, Info, Load, Look, Map, MapAt, Number, Scan, Shut, Store, Take, Unmovable,
+        Zone,
+    };
+    match (keyword, arguments) {
+        (Zone, &[Number(b)]) => Some(open(zone, blocks(b))),
+        (Map, &[Number(s), Number(v)]) => Some(on(zone, map(address(s, v), false))),
+        (Map, &[Number(s), Number(v), Unmovable]) => Some(on(zone, map(address(s, v), true))),
+        (MapAt, &[Number(s), Number(v), Number(f)]) => {
+            Some(on(zone, map_at(address(s, v), frame(f), false)))
+        }
+        (MapAt, &[Number(s), Number(v), Number(f), Unmovable]) => {
+            Some(on(zone, map_at(address(s, v), frame(f), true)))
+        }
+        (Store, &[Number(s), Number(v), Number(w), Number(x)]) => {
+            Some(on(zone, store(address(s, v), word(w), x)))
+        }
+        (Load, &[Number(s), Number(v), Number(w)]) => {
+            Some(on(zone, load(address(s, v), word(w))))
+        }
+        (Info, []) => Some(on(zone, Some(Call::Info))),
+        (Scan, []) => Some(on(zone, Some(Call::Scan))),
+        (Take, &[Number(k)]) => Some(on(zone, hand(k).map(Call::Take))),
+        (Copy, &[Number(k)]) => Some(on(zone, hand(k).map(Call::Copy))),
+        (Finish, &[Number(k)]) => Some(on(zone, hand(k).map(Call::Finish))),
+        (Shut, []) => Some(on(zone, Some(Call::Shut))),
+        (Look, &[Number(s), Number(v)]) => Some(on(zone, address(s, v).map(Call::Look))),
+        _ => None,
+    }
+}
+
+fn open(zone: Option<ZoneNo>, blocks: Option<BlockCount>) -> Command
+    ensures { result ≡ opening zone blocks }
+{
+    match (zone, blocks) {
+        (Some(zone), Some(blocks)) => Command::Open { zone, blocks },
+        _ => Command::OutOfRange,
+    }
+}
+
+fn on(zone: Option<ZoneNo>, call: Option<Call>) -> Command
+    ensures { result ≡ call_on zone call }
+{
+    match (zone, call) {
+        (Some(zone), Some(call)) => Command::On { zone, call },
+        _ => Command::OutOfRange,
+    }
+}
+
+fn map(address: Option<Address>, unmovable: bool) -> Option<Call>
+    ensures { result ≡ map_call address unmovable }
+{
+    Some(Call::Map {
+        address: address?,
+        unmovable,
+    })
+}
+
+fn map_at(address: Option<Address>, frame: Option<FrameNo>, unmovable: bool) -> Option<Call>
+    ensures { result ≡ map_at_call address frame unmovable }
+{
+    Some(Call::MapAt {
+        address: address?,
+        frame: frame?,
+        unmovable,
+    })
+}
+
+fn store(address: Option<Address>, word: Option<WordNo>, value: u64) -> Option<Call>
+    ensures { result ≡ store_call address word value }
+{
+    Some(Call::Store {
+        address: address?,
+        word: word?,
+        value,
+    })
+}
+
+fn load(address: Option<Address>, word: Option<WordNo>) -> Option<Call>
+    ensures { result ≡ load_call address word }
+{
+    Some(Call::Load {
+        address: address?,
+        word: word?,
+    })
+}
+
+fn zone(number: u64) -> Option<ZoneNo>
+    ensures { result ≡ zone_of number }
+{
+    ZoneNo::new(u32::try_from(number).ok()?)
+}
+
+fn frame(number: u64) -> Option<FrameNo>
+    ensures { result ≡ frame_of number }
+{
+    FrameNo::new(u32::try_from(number).ok()?)
+}
+
+fn word(number: u64) -> Option<WordNo>
+    ensures { result ≡ word_of number }
+{
+    WordNo::new(u32::try_from(number).ok()?)
+}
+
+fn blocks(number: u64) -> Option<BlockCount>
+    ensures { result ≡ blocks_of number }
+{
+    BlockCount::new(u32::try_from(number).ok()?)
+}
+
+fn hand(number: u64) -> Option<HandNo>
+    ensures { result ≡ hand_of number }
+{
+    HandNo::new(u32::try_from(number).ok()?)
+}
+
+fn address(space: u64, vpage: u64) -> Option<Address>
+    ensures { result ≡ address_of space vpage }
+{
+    Some(Address {
+        space: SpaceNo::new(u32::try_from(space).ok()?)?,
+        vpage: VPage::new(u32::try_from(vpage).ok()?)?,
+    })
+}

@@ -1,0 +1,21 @@
+//! The text of scripts: lines become commands, and replies become lines.
+//!
+//! `specs/Grammar.antt` has a row for each command, `specs/Line.antt` says what a line means, and `specs/Reply.antt` how a
+//! reply reads.
+#![tactic(auto)]
+
+mod blocks;
+mod command;
+mod error;
+mod grammar;
+mod line;
+mod reply;
+#[cfg(test)]
+mod tests;
+mod token;
+
+pub use blocks::BlockCount;
+pub use command::{Call, Command};
+pub use error::ScriptError;
+pub use line::read_line;
+pub use reply::{Reply, reply_text};

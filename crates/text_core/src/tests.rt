@@ -1,0 +1,212 @@
+use crate::{BlockCount, Call, Command, Reply, ScriptError, read_line, reply_text};
+use frame_core::{Address, FrameNo, HandNo, PageFlags, SpaceNo, VPage, WordNo, ZoneNo};
+use state_core::{Info, Look};
+
+type Line = Result<Option<Command>, ScriptError>;
+
+/// The line of a call on a zone.
+fn on(zone: u32, call: Call) -> Line {
+    let zone = ZoneNo::new(zone).unwrap();
+    Ok(Some(Command::On { zone, call }))
+}
+
+#[test]
+fn reads_lines(rt: HostRuntime) {
+    let address = Address {
+        space: SpaceNo::new(1).unwrap(),
+        vpage: VPage::new(2).unwrap(),
+    };
+    let frame = FrameNo::new(9).unwrap();
+    let word = WordNo::new(7).unwrap();
+    let hand = HandNo::new(4).unwrap();
+    let rows: [(&str, &[u8], Line); 25] = [
+        ("nothing", b"", Ok(None)),
+        ("spaces", b"   ", Ok(None)),
+        ("a comment", b"  #zone 0 1", Ok(None)),
+        (
+            "a zone",
+            b"zone 3 8",
+            Ok(Some(Command::Open {
+                zone: ZoneNo::new(3).unwrap(),
+                blocks: BlockCount::new(8).unwrap(),
+            })),
+        ),
+        ("many spaces", b"  info    2  ", on(2, Call::Info)),
+        (
+            "a map",
+            b"map 0 1 2",
+            on(
+                0,
+                Call::Map {
+                    address,
+                    unmovable: false,
+                },
+            ),
+        ),
+        (
+            "unmovable",
+            b"map 0 1 2 unmovable",
+            on(
+                0,
+                Call::Map {
+                    address,
+                    unmovable: true,
+                },
+            ),
+        ),
+        (
+            "a frame",
+            b"mapat 0 1 2 9",
+            on(
+                0,
+                Call::MapAt {
+                    address,
+                    frame,
+                    unmovable: false,
+                },
+            ),
+        ),
+        (
+            "a frame, unmovable",
+            b"mapat 0 1 2 9 unmovable",
+            on(
+                0,
+                Call::MapAt {
+                    address,
+                    frame,
+                    unmovable: true,
+                },
+            ),
+        ),
+        (
+            "the largest number",
+            b"store 0 1 2 7 18446744073709551615",
+            on(
+                0,
+                Call::Store {
+                    address,
+                    word,
+                    value: 18446744073709551615,
+                },
+            ),
+        ),
+        (
+            "one more",
+            b"store 0 1 2 7 18446744073709551616",
+            Err(ScriptError::Syntax),
+        ),
+        (
+            "20 digits",
+            b"load 0 1 2 00000000000000000007",
+            on(0, Call::Load { address, word }),
+        ),
+        (
+            "21 digits",
+            b"load 0 1 2 000000000000000000007",
+            Err(ScriptError::Syntax),
+        ),
+        ("a scan", b"scan 3", on(3, Call::Scan)),
+        ("a take", b"take 3 4", on(3, Call::Take(hand))),
+        ("a copy", b"copy 3 4", on(3, Call::Copy(hand))),
+        ("a finish", b"finish 3 4", on(3, Call::Finish(hand))),
+        ("a shut", b"shut 3", on(3, Call::Shut)),
+        ("a look", b"look 0 1 2", on(0, Call::Look(address))),
+        ("no hand", b"take 3", Err(ScriptError::Syntax)),
+        ("a sign", b"info +1", Err(ScriptError::Syntax)),
+        ("a capital", b"Info 1", Err(ScriptError::Syntax)),
+        ("a token too few", b"zone 0", Err(ScriptError::Syntax)),
+        ("a token too many", b"info 0 0", Err(ScriptError::Syntax)),
+        (
+            "eight tokens",
+            b"store 0 1 2 3 4 5 6",
+            Err(ScriptError::Syntax),
+        ),
+    ];
+    for (name, line, expected) in rows {
+        assert_eq!(rt; read_line(line), expected, "{name}");
+    }
+}
+
+#[test]
+fn tests_each_range(rt: HostRuntime) {
+    let lines: [&[u8]; 17] = [
+        b"zone 4 1",
+        b"zone 0 0",
+        b"zone 0 9",
+        b"map 4 0 0",
+        b"map 0 8 0",
+        b"map 0 0 4096",
+        b"mapat 0 0 0 4096 unmovable",
+        b"store 0 0 0 8 1",
+        b"load 0 0 0 8",
+        b"info 4",
+        b"info 4294967296",
+        b"scan 4",
+        b"take 0 0",
+        b"copy 0 5",
+        b"finish 4 1",
+        b"shut 4",
+        b"look 0 8 0",
+    ];
+    for line in lines {
+        assert_eq!(rt; read_line(line), Ok(Some(Command::OutOfRange)));
+    }
+}
+
+#[test]
+fn reads_no_more_than_200_bytes(rt: HostRuntime) {
+    assert_eq!(rt; read_line(&[b'#'; 200]), Ok(None));
+    assert_eq!(rt; read_line(&[b'#'; 201]), Err(ScriptError::LongLine));
+    assert_eq!(rt; read_line(&[b' '; 201]), Err(ScriptError::LongLine));
+}
+
+#[test]
+fn prints_replies(rt: HostRuntime) {
+    let info = Info {
+        free: 510,
+        pages: 1,
+        moving: 2,
+        huge: 3,
+        whole: 4,
+        held: 5,
+    };
+    let at = Look::At {
+        frame: FrameNo::new(4095).unwrap(),
+        flags: PageFlags::DIRTY,
+        pins: 255,
+        maps: 4,
+    };
+    let moving = Look::Moving {
+        serial: 4294967295,
+        pins: 1,
+        maps: 2,
+    };
+    let rows: [(Reply, &[u8]); 11] = [
+        (Reply::Done, b"ok\n"),
+        (
+            Reply::Value(18446744073709551615),
+            b"value=18446744073709551615\n",
+        ),
+        (
+            Reply::Info(info),
+            b"free=510 pages=1 moving=2 huge=3 whole=4\n",
+        ),
+        (Reply::Serial(4294967295), b"serial=4294967295\n"),
+        (Reply::Met, b"met\n"),
+        (Reply::Moved(7), b"moved serial=7\n"),
+        (Reply::PutBack(7), b"back serial=7 cause=1\n"),
+        (Reply::Shut(2), b"back=2\n"),
+        (
+            Reply::Looked(at),
+            b"frame=4095 dirty=1 unmovable=0 pins=255 maps=4\n",
+        ),
+        (
+            Reply::Looked(moving),
+            b"moving serial=4294967295 pins=1 maps=2\n",
+        ),
+        (Reply::Refused(44), b"refused 44\n"),
+    ];
+    for (reply, expected) in rows {
+        assert_eq!(rt; reply_text(&reply).as_slice(), expected);
+    }
+}
