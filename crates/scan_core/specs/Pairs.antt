@@ -1,4 +1,5 @@
--- The pair of frames that a round takes next: between its fingers the lowest frame with a page that may be taken, and the highest free frame above it.
+-- The pair of frames that a round takes next, between its fingers:
+-- the lowest frame with a page that may be taken, and the highest free frame above it.
 use Rattle.std.specs.Prelude.{◌≡◌, ℕ, ◌+◌, ◌/◌, ◌<◌, ◌≤◌, Bool, true, false, not, ◌&&◌, ◌||◌, List, nat_lt, nat_le, Option, Some, None}
 use Rattle.frame_core.specs.Below.{lowest, highest}
 use Rattle.frame_core.specs.declared.state.FrameState.{FrameState}
@@ -51,16 +52,20 @@ is_source states movable marked frame = not (is_marked marked frame) && (holds_a
 abbrev pub is_target : List FrameState → List Bool → ℕ → Bool
 is_target states marked frame = not (is_marked marked frame) && free_at states frame
 
+-- the source, as a scanner finds it
 abbrev pub next_source : List FrameState → List Bool → List Bool → Fingers → Option ℕ
 next_source states movable marked fingers = lowest (λ frame. nat_le fingers.migrate frame && is_source states movable marked frame) fingers.free
 
+-- the target, as the other finds it
 abbrev pub next_target : List FrameState → List Bool → Fingers → ℕ → Option ℕ
 next_target states marked fingers source = highest (λ frame. nat_lt source frame && is_target states marked frame) fingers.free
 
+-- a source with the target that was found for it
 abbrev pub step_to : ℕ → Option ℕ → Step
 step_to source None = Met
 step_to source (Some target) = Pair source target
 
+-- a source that was found, with its target
 abbrev pub step_from : List FrameState → List Bool → Fingers → Option ℕ → Step
 step_from states marked fingers None = Met
 step_from states marked fingers (Some source) = step_to source (next_target states marked fingers source)

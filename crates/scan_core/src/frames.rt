@@ -90,6 +90,7 @@ impl Frames {
         self.states[frame.get() as usize]
     }
 
+    /// Whether a frame is free.
     pub fn is_free(&self, frame: FrameNo) -> bool
         requires { frame < length self.now.states }
         ensures { result ≡ free_at self.now.states frame }
@@ -144,6 +145,7 @@ impl Frames {
         self.movable[frame.get() as usize]
     }
 
+    /// Says whether the page that a frame holds may be taken from it.
     pub fn set_movable(&mut self, frame: FrameNo, movable: bool)
         requires { frame < length self.old.states }
         ensures movable { self.new ≡ record self.old { movable = slice_set self.old.movable frame movable } }
