@@ -1,6 +1,5 @@
 -- A fresh page gets its first place: a free frame.
-use Rattle.std.proofs.Common.{◌≡◌, ◌≢◌, ℕ, ◌+◌, ◌<◌, Bool, true, false, length, inl, inr, refl, sym, ap, ◌∙◌, arith}
-use Rattle.std.specs.Prelude.{if◌then◌else◌, Option, Some, None, IsSome, is_some, nat_eq, ◌&&◌}
+use Rattle.std.proofs.Common.{◌≡◌, ◌≢◌, ℕ, ◌+◌, ◌<◌, Bool, true, false, length, inl, inr, refl, sym, ap, ◌∙◌, arith, if◌then◌else◌, Option, Some, None, IsSome, is_some, nat_eq, ◌&&◌}
 use Rattle.std.specs.FinMap as map
 use Rattle.std.specs.FinSet as set
 use Rattle.std.proofs.lemmas.Bool.{and_parts, both_ways, cases_Bool, cond-true, cond-false, eq-eqb, eqb-true, ne_eqb}

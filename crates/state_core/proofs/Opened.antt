@@ -1,6 +1,5 @@
 -- A zone that was just opened.
-use Rattle.std.proofs.Common.{◌≡◌, ℕ, ◌*◌, true, false, not, refl, sym, ap, ◌∙◌, arith}
-use Rattle.std.specs.Prelude.{Option, None, is_some, ◌&&◌}
+use Rattle.std.proofs.Common.{◌≡◌, ℕ, ◌*◌, true, false, not, refl, sym, ap, ◌∙◌, arith, Option, None, is_some, ◌&&◌}
 use Rattle.std.specs.FinSet as set
 use Rattle.std.specs.FinMap as map
 use Rattle.std.specs.Ordering.{nat_cmp}

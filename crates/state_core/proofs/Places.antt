@@ -1,6 +1,5 @@
 -- A page gets another place, its first, or none: where each page is then, which frames are free, and that the zone stays lawful.
-use Rattle.std.proofs.Common.{◌≡◌, ◌≢◌, ℕ, zero, suc, ◌+◌, ◌-◌, ◌<◌, ◌≤◌, Bool, true, false, not, ◌∷◌, length, ◌⊎◌, inl, inr, refl, sym, ap, ◌∙◌, arith}
-use Rattle.std.specs.Prelude.{Option, Some, None, IsSome, IsTrue, is_some, nat_eq, ◌&&◌, ◌||◌, ◌↔◌}
+use Rattle.std.proofs.Common.{◌≡◌, ◌≢◌, ℕ, zero, suc, ◌+◌, ◌-◌, ◌<◌, ◌≤◌, Bool, true, false, not, List, ◌∷◌, length, ◌⊎◌, inl, inr, refl, sym, ap, ◌∙◌, arith, Option, Some, None, IsSome, IsTrue, is_some, nat_eq, ◌&&◌, ◌||◌, ◌↔◌}
 use Rattle.std.specs.FinMap as map
 use Rattle.std.specs.FinSet as set
 use Rattle.std.specs.Ordering.{nat_cmp}
@@ -43,6 +42,10 @@ abbrev pub ways_of : Option Placement → ℕ
 ways_of None = 0
 ways_of (Some (At frame)) = 0
 ways_of (Some (Moving serial source target)) = 1
+
+-- a page is out under a serial
+abbrev pub IsOutWith : List Record → ℕ → ℕ → Type 0
+IsOutWith records page serial = IsTrue (is_out records serial) × (page_of records serial ≡ Some page)
 
 -- what it takes to change the place of a page: each frame that it takes up then is one that it took up, or one that is free
 pub record CanChangePlace (v : ZoneState) (page : ℕ) (old new : Option Placement) : Type 0 where
@@ -219,8 +222,8 @@ pub record IsTold (v : ZoneState) (page : ℕ) (new : Option Placement) (entry :
   pub named : (address : Address) (q : ℕ) → page_at (entry ∷ v.records) address ≡ Some q → IsSome (map.get (put v.placement page new) q)
   pub in_use : (q : ℕ) → IsSome (map.get (put v.placement page new) q) → (0 < maps (entry ∷ v.records) q) × (maps (entry ∷ v.records) q ≤ 4) × (pins (entry ∷ v.records) q ≤ 255)
   -- this page is on its way under just the serial that it is out with, and the others go on so
-  pub own_way : (serial : ℕ) → IsTrue (is_under new serial) ↔ (IsTrue (is_out (entry ∷ v.records) serial) × (page_of (entry ∷ v.records) serial ≡ Some page))
-  pub other_ways : (q serial : ℕ) → q ≢ page → (IsTrue (is_out v.records serial) × (page_of v.records serial ≡ Some q)) ↔ (IsTrue (is_out (entry ∷ v.records) serial) × (page_of (entry ∷ v.records) serial ≡ Some q))
+  pub own_way : (serial : ℕ) → IsTrue (is_under new serial) ↔ IsOutWith (entry ∷ v.records) page serial
+  pub other_ways : (q serial : ℕ) → q ≢ page → IsOutWith v.records q serial ↔ IsOutWith (entry ∷ v.records) q serial
   pub ways : length (out (entry ∷ v.records)) + ways_of (map.get v.placement page) ≡ length (out v.records) + ways_of new
   pub given : (first : ℕ) → given_out (entry ∷ v.records) first ≡ given_out v.records first
   pub marks : (block : ℕ) → is_marked_by (entry ∷ v.records) block ≡ is_marked_by v.records block
@@ -235,13 +238,13 @@ module _ {v : ZoneState} {page : ℕ} {old new : Option Placement} (can : CanCha
   abbrev placement_then : map.FinMap nat_cmp Placement
   placement_then = put v.placement page new
 
-  way_then : (q serial : ℕ) → IsTrue (is_under (map.get placement_then q) serial) → IsTrue (is_out (entry ∷ v.records) serial) × (page_of (entry ∷ v.records) serial ≡ Some q)
+  way_then : (q serial : ℕ) → IsTrue (is_under (map.get placement_then q) serial) → IsOutWith (entry ∷ v.records) q serial
   way_then q serial under = elim (where_is can q) [
     | inl here ↦ (let way = (told.own_way serial).0 (sym (ap (λ o. is_under o serial) here.2) ∙ under) in (way.0, way.1 ∙ ap Some (sym here.0)))
     | inr there ↦ (told.other_ways q serial there.0).0 ((can.lawful.under_way q serial).0 (sym (ap (λ o. is_under o serial) there.1) ∙ under))
   ]
 
-  under_then : (q serial : ℕ) → IsTrue (is_out (entry ∷ v.records) serial) × (page_of (entry ∷ v.records) serial ≡ Some q) → IsTrue (is_under (map.get placement_then q) serial)
+  under_then : (q serial : ℕ) → IsOutWith (entry ∷ v.records) q serial → IsTrue (is_under (map.get placement_then q) serial)
   under_then q serial way = elim (where_is can q) [
     | inl here ↦ ap (λ o. is_under o serial) here.2 ∙ (told.own_way serial).1 (way.0, way.1 ∙ ap Some here.0)
     | inr there ↦ ap (λ o. is_under o serial) there.1 ∙ (can.lawful.under_way q serial).1 ((told.other_ways q serial there.0).1 way)
