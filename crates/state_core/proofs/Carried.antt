@@ -20,17 +20,15 @@ use Rattle.state_core.specs.ZoneState.{ZoneState, placement_at}
 use Rattle.state_core.proofs.Facts.{skipped, page_named}
 use Rattle.state_core.proofs.Entries.{get_insert_same, get_insert_other}
 
-under_moving : (o : Option Placement) (serial : ℕ) → is_under o serial ≡ true → (source : ℕ) × (target : ℕ) × (o ≡ Some (Moving serial source target))
-under_moving None serial e = cc
-under_moving (Some (At frame)) serial e = cc
-under_moving (Some (Moving s source target)) serial e = (source, target, ap (λ n. Some (Moving n source target)) (eqb-true s serial e))
+-- a page is on its way under one serial
+one_serial : (o : Option Placement) (s t : ℕ) → is_under o s ≡ true → is_under o t ≡ true → s ≡ t
+one_serial None s t e f = cc
+one_serial (Some (At frame)) s t e f = cc
+one_serial (Some (Moving serial source target)) s t e f = sym (eqb-true serial s e) ∙ eqb-true serial t f
 
 -- a page of a zone is on its way there under its serial
 pub own_under : (z : ZoneState) (p : OnItsWay) → is_own z p ≡ true → is_under (map.get z.placement p.page.number) p.serial ≡ true
 own_under z p own = (and_parts (nat_eq p.page.zone z.number) (is_under (map.get z.placement p.page.number) p.serial) own).1
-
-pub own_moving : (z : ZoneState) (p : OnItsWay) → is_own z p ≡ true → (source : ℕ) × (target : ℕ) × (map.get z.placement p.page.number ≡ Some (Moving p.serial source target))
-own_moving z p own = under_moving (map.get z.placement p.page.number) p.serial (own_under z p own)
 
 -- the journal knows which page it is
 pub own_page : (z : ZoneState) → IsLawful z → (p : OnItsWay) → is_own z p ≡ true → page_of z.records p.serial ≡ Some p.page.number
@@ -58,12 +56,7 @@ unused_apart z page p unused own same = both_ways _ (ap (λ o. is_under o p.seri
 
 -- two serials are of two pages
 serials_apart : (z : ZoneState) (p q : OnItsWay) → is_own z p ≡ true → is_own z q ≡ true → q.serial ≢ p.serial → p.page.number ≢ q.page.number
-serials_apart z p q own_p own_q ne same =
-    let a = own_moving z p own_p in
-    let b = own_moving z q own_q in
-    let one : Some (Moving q.serial b.0 b.1) ≡ Some (Moving p.serial a.0 a.1) = sym b.2 ∙ ap (map.get z.placement) (sym same) ∙ a.2 in
-    let bad : q.serial ≡ p.serial = cc in
-    ne bad
+serials_apart z p q own_p own_q ne same = ne (one_serial _ q.serial p.serial (own_under z q own_q) (ap (λ n. is_under (map.get z.placement n) p.serial) (sym same) ∙ own_under z p own_p))
 
 pub own_stored : (z : ZoneState) (client : ℕ) (address : Address) (word value frame : ℕ) → placement_at z address ≡ Some (At frame) → (p : OnItsWay) → IsOwnCopy z p → IsOwnCopy (stored z client address word value) p
 own_stored z client address word value frame at p own =

@@ -1,7 +1,6 @@
 -- What the tables of a sound zone say of its state.
-use Rattle.std.proofs.Common.{◌≡◌, ℕ, true, refl, sym, ap, ◌∙◌, arith, Option, Some, None}
+use Rattle.std.proofs.Common.{◌≡◌, ℕ, true, refl, sym, ap, ◌∙◌, arith, Option, Some, None, eq-eqb, eqb-true}
 use Rattle.std.specs.FinMap as map
-use Rattle.std.proofs.lemmas.Bool.{eq-eqb, eqb-true}
 pub use Rattle.std.proofs.lemmas.Bool.{false_from_ne_true as when_not}
 use Rattle.frame_core.proofs.Searches.{lowest_is, lowest_none, lowest_some}
 use Rattle.state_core.specs.declared.placement.Placement.{Placement}

@@ -31,17 +31,15 @@ put placement page (Some place) = map.insert placement page place
 abbrev pub with_place : ZoneState → ℕ → Option Placement → ZoneState
 with_place v page place = record v { placement = put v.placement page place }
 
--- how many frames a page takes up that is placed so
-abbrev pub frames_of : Option Placement → ℕ
-frames_of None = 0
-frames_of (Some (At frame)) = 1
-frames_of (Some (Moving serial source target)) = 2
-
 -- how many pages are on their way by it
 abbrev pub ways_of : Option Placement → ℕ
 ways_of None = 0
 ways_of (Some (At frame)) = 0
 ways_of (Some (Moving serial source target)) = 1
+
+-- how many frames a page takes up that is placed so: one if it is in use, and another if it is on its way
+abbrev pub frames_of : Option Placement → ℕ
+frames_of o = one_if (is_some o) + ways_of o
 
 -- a page is out under a serial
 abbrev pub IsOutWith : List Record → ℕ → ℕ → Type 0
@@ -63,18 +61,15 @@ get_put_other : (m : map.FinMap nat_cmp Placement) (page q : ℕ) (place : Optio
 get_put_other m page q None ne = get_remove_other m page q ne
 get_put_other m page q (Some place) ne = get_insert_other m page q place ne
 
-free_parts : (v : ZoneState) (frame : ℕ) → is_free v frame ≡ true → (is_used v frame ≡ false) × (is_held v frame ≡ false)
-free_parts v frame e = let parts = and_parts (not (is_used v frame)) (not (is_held v frame)) e in (not-true _ parts.0, not-true _ parts.1)
-
 pub unheld_frame : (v : ZoneState) (frame : ℕ) → is_free v frame ≡ true → is_held v frame ≡ false
-unheld_frame v frame e = (free_parts v frame e).1
+unheld_frame v frame free = not-true _ (and_parts (not (is_used v frame)) _ free).1
 
 -- no page takes up a free frame
 pub untaken : (v : ZoneState) → IsLawful v → (frame : ℕ) → is_free v frame ≡ true → (page : ℕ) → takes_up (map.get v.placement page) frame ≡ false
 untaken v law frame free page = by_use (map.get v.placement page) refl where
   by_use : (o : Option Placement) → map.get v.placement page ≡ o → takes_up (map.get v.placement page) frame ≡ false
   by_use None e = ap (λ (o : Option Placement). takes_up o frame) e
-  by_use (Some place) e = some_none (λ p. takes_up (map.get v.placement p) frame) (frame_count v) (free_parts v frame free).0 page (law.numbered page (not_none _ place e))
+  by_use (Some place) e = some_none (λ p. takes_up (map.get v.placement p) frame) (frame_count v) (not-true _ (and_parts _ (not (is_held v frame)) free).0) page (law.numbered page (not_none _ place e))
 
 -- counts of tests that add up to the same at each number
 counts_add_up : (a b c d : ℕ → Bool) (n : ℕ) → ((k : ℕ) → k < n → one_if (a k) + one_if (b k) ≡ one_if (c k) + one_if (d k)) → count_below a n + count_below b n ≡ count_below c n + count_below d n
@@ -229,11 +224,6 @@ pub record IsTold (v : ZoneState) (page : ℕ) (new : Option Placement) (entry :
   pub marks : (block : ℕ) → is_marked_by (entry ∷ v.records) block ≡ is_marked_by v.records block
   pub stay : (q : ℕ) → set.contains unmovable q ≡ true → IsSome (map.get (put v.placement page new) q)
 
-frames_and_ways : (o : Option Placement) → frames_of o ≡ one_if (is_some o) + ways_of o
-frames_and_ways None = refl
-frames_and_ways (Some (At frame)) = refl
-frames_and_ways (Some (Moving serial source target)) = refl
-
 module _ {v : ZoneState} {page : ℕ} {old new : Option Placement} (can : CanChangePlace v page old new) (entry : Record) (unmovable : set.FinSet nat_cmp) (told : IsTold v page new entry unmovable) where
   abbrev placement_then : map.FinMap nat_cmp Placement
   placement_then = put v.placement page new
@@ -277,5 +267,5 @@ module _ {v : ZoneState} {page : ℕ} {old new : Option Placement} (can : CanCha
         unmovable = told.stay;
         fingers = fingers;
         begun = λ start e. begun_more v.records entry v.round law.begun start e;
-        sum = omega (arith, law.sum, free_count can, page_count can, told.ways, ap ways_of can.at, frames_and_ways old, frames_and_ways new);
+        sum = omega (arith, law.sum, free_count can, page_count can, told.ways, ap ways_of can.at);
       }
