@@ -8,7 +8,6 @@ use Rattle.state_core.specs.Lawful.{IsLawful}
 use Rattle.state_core.specs.Moving.{settled}
 use Rattle.state_core.specs.ZoneState.{ZoneState, frame_count, takes_up, is_held, is_free}
 use Rattle.state_core.proofs.Moving as moving
-use Rattle.state_core.proofs.Moving.{CanSettle, IsRecorded}
 use Rattle.state_core.proofs.Places as places
 pub use Rattle.state_core.proofs.Moving.{CanSettle, IsStill, IsRecorded, isolate_still, moved_still, back_still}
 pub use Rattle.state_core.proofs.Isolating.{target_within, can_isolate, isolated_others, isolated_target, isolated_fewer, isolate_recorded, lawful_isolated}
