@@ -3,7 +3,6 @@ use Rattle.std.proofs.Common.{◌≡◌, ◌≢◌, ℕ, ◌+◌, ◌<◌, Bool,
 use Rattle.std.specs.FinMap as map
 use Rattle.std.specs.FinSet as set
 use Rattle.std.proofs.lemmas.Bool.{and_from, and_parts, both_ways, cases_Bool, cond-true, cond-false, eq-eqb, eqb-true, ne_eqb}
-use Rattle.std.proofs.lemmas.Bool.Decides.{eqb_tells}
 use Rattle.std.proofs.lemmas.Option.{same_Some}
 use Rattle.frame_core.specs.Address.{InRange}
 use Rattle.frame_core.specs.Below.{count_below}
@@ -127,9 +126,9 @@ module _ (v : ZoneState) (client : ℕ) (address : Address) (unmovable : Bool) (
 
   stay : (b : Bool) (q : ℕ) → set.contains (if b then set.insert v.unmovable page else v.unmovable) q ≡ true → IsSome (map.get next.placement q)
   stay false q e = still_used q (can.lawful.unmovable q e)
-  stay true q e = elim (eqb_tells q page) [
-    | inl same ↦ page_used q same.1
-    | inr other ↦ still_used q (can.lawful.unmovable q (sym (contains_insert_other v.unmovable page q other.1) ∙ e))
+  stay true q e = elim (places.where_is can_map q) [
+    | inl here ↦ page_used q here.0
+    | inr there ↦ still_used q (can.lawful.unmovable q (sym (contains_insert_other v.unmovable page q there.0) ∙ e))
   ]
 
   map_told : IsTold v page (Some (At frame)) (Map client address page) (if unmovable then set.insert v.unmovable page else v.unmovable)

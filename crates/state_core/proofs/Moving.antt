@@ -14,7 +14,7 @@ use Rattle.state_core.specs.declared.placement.Placement.{Placement}
 use Rattle.state_core.specs.Lawful.{IsLawful, is_under}
 use Rattle.state_core.specs.Moving.{settled}
 use Rattle.state_core.specs.ZoneState.{ZoneState, frame_count}
-use Rattle.state_core.proofs.Places.{CanChangePlace, IsOutWith, IsTold, ways_of, where_is, page_count, lawful_told}
+use Rattle.state_core.proofs.Places.{CanChangePlace, IsOutWith, ways_of, where_is, page_count, lawful_told}
 
 -- what it takes to settle a page in use elsewhere
 abbrev pub CanSettle : ZoneState → ℕ → Placement → Placement → Type 0
@@ -57,11 +57,11 @@ module _ {v : ZoneState} {page : ℕ} {old new : Placement} (can : CanSettle v p
   pub same_pages : count_below (λ q. is_some (map.get (map.insert v.placement page new) q)) (frame_count v) ≡ count_below (λ q. is_some (map.get v.placement q)) (frame_count v)
   same_pages = omega (arith, page_count can)
 
-  told : (entry : Record) → IsRecorded v entry page new → IsTold v page (Some new) entry v.unmovable
-  told entry recorded =
+  pub lawful_settled : (entry : Record) → IsRecorded v entry page new → (migrate free : ℕ) → (migrate ≤ free) × (free ≤ frame_count v) → IsLawful (record (settled v entry page new) { migrate = migrate; free = free })
+  lawful_settled entry recorded =
       let law = can.lawful in
       let still = recorded.still in
-      record {
+      lawful_told can entry v.unmovable (record {
         truthful = recorded.truthful;
         well_ended = recorded.well_ended;
         spare = recorded.spare;
@@ -78,7 +78,4 @@ module _ {v : ZoneState} {page : ℕ} {old new : Placement} (can : CanSettle v p
         given = still.given;
         marks = still.marks;
         stay = λ q e. some_same q ∙ law.unmovable q e;
-      }
-
-  pub lawful_settled : (entry : Record) → IsRecorded v entry page new → (migrate free : ℕ) → (migrate ≤ free) × (free ≤ frame_count v) → IsLawful (record (settled v entry page new) { migrate = migrate; free = free })
-  lawful_settled entry recorded = lawful_told can entry v.unmovable (told entry recorded)
+      })

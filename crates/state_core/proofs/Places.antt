@@ -100,8 +100,12 @@ frames_counted (Some (Moving serial source target)) n within upward =
     let apart : target ≢ source = omega arith in
     let high : target < n = within target (or_right (nat_eq target source) _ (eq-eqb target target refl)) in
     let low : source < n = omega arith in
-    omega (arith, one_frame source n low, count_more (λ g. nat_eq g source) (λ g. nat_eq g source || nat_eq g target) n target high (ne_eqb target source apart) (or_right _ _ (eq-eqb target target refl))
-        (λ g ne. ap (λ b. nat_eq g source || b) (ne_eqb g target ne) ∙ or-false (nat_eq g source)))
+    omega (
+      arith,
+      one_frame source n low,
+      count_more (λ g. nat_eq g source) (λ g. nat_eq g source || nat_eq g target) n target high (ne_eqb target source apart) (or_right _ _ (eq-eqb target target refl))
+          (λ g ne. ap (λ b. nat_eq g source || b) (ne_eqb g target ne) ∙ or-false (nat_eq g source)),
+    )
 
 module _ {v : ZoneState} {page : ℕ} {old new : Option Placement} (can : CanChangePlace v page old new) where
   abbrev next : ZoneState
