@@ -142,10 +142,10 @@ module _ (v : ZoneState) (page serial source target : ℕ) (law : IsLawful v) (a
 
 pub lawful_moved : (v : ZoneState) (serial page source target : ℕ) → IsLawful v → map.get v.placement page ≡ Some (Moving serial source target) → pins v.records page ≡ 0 → IsLawful (moved_to_target v serial page)
 lawful_moved v serial page source target law at none =
-    let there : IsLawful (settled v (Moved serial) page (At target)) = lawful_settled (can_move_on v page serial source target law at) (Moved serial) (moved_recorded v page serial source target law at none) v.migrate v.free law.fingers in
-    subst (λ (frame : ℕ). IsLawful (settled v (Moved serial) page (At frame))) (sym (ap target_of at)) there
+    subst (λ (frame : ℕ). IsLawful (settled v (Moved serial) page (At frame))) (sym (ap target_of at))
+    (lawful_settled (can_move_on v page serial source target law at) (Moved serial) (moved_recorded v page serial source target law at none) v.migrate v.free law.fingers)
 
 pub lawful_put_back : (v : ZoneState) (serial page source target : ℕ) (cause : Cause) → IsLawful v → map.get v.placement page ≡ Some (Moving serial source target) → HasCause cause (pins v.records page) → IsLawful (put_back_to_source v serial page cause)
 lawful_put_back v serial page source target cause law at has =
-    let there : IsLawful (settled v (Back serial cause) page (At source)) = lawful_settled (can_go_back v page serial source target law at) (Back serial cause) (back_recorded v page serial source target law at cause has) v.migrate v.free law.fingers in
-    subst (λ (frame : ℕ). IsLawful (settled v (Back serial cause) page (At frame))) (sym (ap source_of at)) there
+    subst (λ (frame : ℕ). IsLawful (settled v (Back serial cause) page (At frame))) (sym (ap source_of at))
+    (lawful_settled (can_go_back v page serial source target law at) (Back serial cause) (back_recorded v page serial source target law at cause has) v.migrate v.free law.fingers)

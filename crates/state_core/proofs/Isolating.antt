@@ -54,10 +54,7 @@ module _ (v : ZoneState) (pair : Pair) (law : IsLawful v) (is : IsPair v pair.pa
   pub isolated_fewer : count_below (is_free v) (frame_count v) ≡ count_below (is_free (settled v (Isolate serial_next pair.page) pair.page way_next)) (frame_count v) + 1
   isolated_fewer = omega (arith, free_count can_isolate)
 
-  -- no serial that is out is the next, or is of the page
-  old_serial : (serial : ℕ) → is_out v.records serial ≡ true → serial_next ≢ serial
-  old_serial serial e same = let below = out_below v.records law.well_ended serial e in absurd (omega arith)
-
+  -- no serial that is out is of the page
   at_rest : (serial : ℕ) → is_out v.records serial ≡ true → page_of v.records serial ≡ Some pair.page → ⊥
   at_rest serial e under = both_ways _ (ap (λ (o : Option Placement). is_under o serial) is.from.here) ((law.under_way pair.page serial).1 (e, under))
 
@@ -89,7 +86,7 @@ module _ (v : ZoneState) (pair : Pair) (law : IsLawful v) (is : IsPair v pair.pa
       λ way. elim (eqb_tells serial_next serial) [ inl same ↦ same.0 | inr other ↦ (let old = was_out pair.page serial other.1 way in absurd (at_rest serial old.0 old.1)) ],
     );
     other_ways = λ q serial ne. (
-      λ way. (or_right _ _ way.0, cond-false _ (Some pair.page) (page_of v.records serial) (ne_eqb serial_next serial (old_serial serial way.0)) ∙ way.1),
+      λ way. (or_right _ _ way.0, cond-false _ (Some pair.page) (page_of v.records serial) (ne_eqb serial_next serial (λ same. let below = out_below v.records law.well_ended serial way.0 in absurd (omega arith))) ∙ way.1),
       λ way. elim (eqb_tells serial_next serial) [
         | inl same ↦ absurd (ne (same_Some q pair.page (sym way.1 ∙ cond-true _ (Some pair.page) (page_of v.records serial) same.0)))
         | inr other ↦ was_out q serial other.1 way
