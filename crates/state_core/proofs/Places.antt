@@ -53,6 +53,14 @@ pub record CanChangePlace (v : ZoneState) (page : ℕ) (old new : Option Placeme
   pub takes : (frame : ℕ) → takes_up new frame ≡ true → (takes_up old frame ≡ true) ⊎ ((is_free v frame ≡ true) × (frame < frame_count v))
   pub upward : (serial source target : ℕ) → new ≡ Some (Moving serial source target) → source < target
 
+-- what is lawful of the places alone
+pub record HasLawfulPlaces (z : ZoneState) : Type 0 where
+  pub numbered : (page : ℕ) → IsSome (map.get z.placement page) → page < frame_count z
+  pub upward : (page serial source target : ℕ) → map.get z.placement page ≡ Some (Moving serial source target) → source < target
+  pub apart : (p q frame : ℕ) → takes_up (map.get z.placement p) frame ≡ true → takes_up (map.get z.placement q) frame ≡ true → p ≡ q
+  pub within : (page frame : ℕ) → takes_up (map.get z.placement page) frame ≡ true → frame < frame_count z
+  pub clear : (page frame : ℕ) → takes_up (map.get z.placement page) frame ≡ true → is_held z frame ≡ false
+
 get_put_same : (m : map.FinMap nat_cmp Placement) (page q : ℕ) (place : Option Placement) → q ≡ page → map.get (put m page place) q ≡ place
 get_put_same m page q None e = get_remove_same m page q e
 get_put_same m page q (Some place) e = get_insert_same m page q place e
@@ -151,17 +159,17 @@ module _ {v : ZoneState} {page : ℕ} {old new : Option Placement} (can : CanCha
   pub new_clear : (g : ℕ) → takes_up new g ≡ true → is_held v g ≡ false
   new_clear g e = elim (can.takes g e) [ inl had ↦ old_clear g had | inr free ↦ unheld_frame v g free.0 ]
 
-  pub apart : (p q g : ℕ) → takes_up (map.get next.placement p) g ≡ true → takes_up (map.get next.placement q) g ≡ true → p ≡ q
-  apart p q g a b = elim (took p g a) [
-    | inl x ↦ elim (took q g b) [ inl y ↦ x.0 ∙ sym y.0 | inr y ↦ absurd (not_new q g y.0 y.1 x.1) ]
-    | inr x ↦ elim (took q g b) [ inl y ↦ absurd (not_new p g x.0 x.1 y.1) | inr y ↦ can.lawful.apart p q g x.1 y.1 ]
-  ]
-
-  pub within : (q g : ℕ) → takes_up (map.get next.placement q) g ≡ true → g < frame_count v
-  within q g a = elim (took q g a) [ inl mine ↦ new_within g mine.1 | inr theirs ↦ can.lawful.within q g theirs.1 ]
-
-  pub clear : (q g : ℕ) → takes_up (map.get next.placement q) g ≡ true → is_held v g ≡ false
-  clear q g a = elim (took q g a) [ inl mine ↦ new_clear g mine.1 | inr theirs ↦ can.lawful.clear q g theirs.1 ]
+  pub lawful_places : HasLawfulPlaces next
+  lawful_places = record {
+    numbered = λ q used. elim (where_is q) [ inl here ↦ omega (arith, here.0, can.numbered) | inr there ↦ can.lawful.numbered q (ap is_some (sym there.1) ∙ used) ];
+    upward = λ q serial source target e. elim (where_is q) [ inl here ↦ can.upward serial source target (sym here.2 ∙ e) | inr there ↦ can.lawful.upward q serial source target (sym there.1 ∙ e) ];
+    apart = λ p q g a b. elim (took p g a) [
+      | inl x ↦ elim (took q g b) [ inl y ↦ x.0 ∙ sym y.0 | inr y ↦ absurd (not_new q g y.0 y.1 x.1) ]
+      | inr x ↦ elim (took q g b) [ inl y ↦ absurd (not_new p g x.0 x.1 y.1) | inr y ↦ can.lawful.apart p q g x.1 y.1 ]
+    ];
+    within = λ q g a. elim (took q g a) [ inl mine ↦ new_within g mine.1 | inr theirs ↦ can.lawful.within q g theirs.1 ];
+    clear = λ q g a. elim (took q g a) [ inl mine ↦ new_clear g mine.1 | inr theirs ↦ can.lawful.clear q g theirs.1 ];
+  }
 
   -- which frames are free: none of the new place, those that the page left, and else those that were
   pub free_new : (g : ℕ) → takes_up new g ≡ true → is_free next g ≡ false
@@ -247,6 +255,7 @@ module _ {v : ZoneState} {page : ℕ} {old new : Option Placement} (can : CanCha
   pub lawful_told : (migrate free : ℕ) → (migrate ≤ free) × (free ≤ frame_count v) → IsLawful (record (noted (with_place v page new) entry) { unmovable = unmovable; migrate = migrate; free = free })
   lawful_told migrate free fingers =
       let law = can.lawful in
+      let geometry = lawful_places can in
       record {
         size = law.size;
         places = (let before = law.places in let spare = told.spare in omega arith);
@@ -255,15 +264,12 @@ module _ {v : ZoneState} {page : ℕ} {old new : Option Placement} (can : CanCha
         room_left = told.room_left;
         named = told.named;
         in_use = told.in_use;
-        numbered = λ q used. elim (where_is can q) [ inl here ↦ omega (arith, here.0, can.numbered) | inr there ↦ law.numbered q (ap is_some (sym there.1) ∙ used) ];
+        numbered = geometry.numbered;
         under_way = λ q serial. (way_then q serial, under_then q serial);
-        upward = λ q serial source target e. elim (where_is can q) [
-          | inl here ↦ can.upward serial source target (sym here.2 ∙ e)
-          | inr there ↦ law.upward q serial source target (sym there.1 ∙ e)
-        ];
-        apart = apart can;
-        within = within can;
-        clear = clear can;
+        upward = geometry.upward;
+        apart = geometry.apart;
+        within = geometry.within;
+        clear = geometry.clear;
         blocks = law.blocks;
         disjoint = law.disjoint;
         given = λ first. law.given first ∙ sym (told.given first);
