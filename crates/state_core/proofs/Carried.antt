@@ -47,12 +47,9 @@ own_begun z p own = record { own = own.own; same = own.same }
 pub own_loaded : (z : ZoneState) (client : ℕ) (address : Address) (word : ℕ) (p : OnItsWay) → IsOwnCopy z p → IsOwnCopy (loaded z client address word) p
 own_loaded z client address word p own = record { own = own.own; same = own.same }
 
--- a page that stands in a frame is none that is on its way
-stands_apart : (z : ZoneState) (page frame : ℕ) (p : OnItsWay) → map.get z.placement page ≡ Some (At frame) → is_own z p ≡ true → p.page.number ≢ page
-stands_apart z page frame p at own same = both_ways _ (ap (λ o. is_under o p.serial) (ap (map.get z.placement) same ∙ at)) (own_under z p own)
-
-unused_apart : (z : ZoneState) (page : ℕ) (p : OnItsWay) → map.get z.placement page ≡ None → is_own z p ≡ true → p.page.number ≢ page
-unused_apart z page p unused own same = both_ways _ (ap (λ o. is_under o p.serial) (ap (map.get z.placement) same ∙ unused)) (own_under z p own)
+-- a page that is nowhere or stands in a frame is none that is on its way
+apart_from : (z : ZoneState) (page : ℕ) (o : Option Placement) (p : OnItsWay) → map.get z.placement page ≡ o → is_under o p.serial ≡ false → is_own z p ≡ true → p.page.number ≢ page
+apart_from z page o p at off own same = both_ways _ (ap (λ x. is_under x p.serial) (ap (map.get z.placement) same ∙ at) ∙ off) (own_under z p own)
 
 -- two serials are of two pages
 serials_apart : (z : ZoneState) (p q : OnItsWay) → is_own z p ≡ true → is_own z q ≡ true → q.serial ≢ p.serial → p.page.number ≢ q.page.number
@@ -62,12 +59,12 @@ pub own_stored : (z : ZoneState) (client : ℕ) (address : Address) (word value 
 own_stored z client address word value frame at p own =
     let page = page_named z address (At frame) at in
     let unnamed : names z.records address p.page.number ≡ false =
-    ap (λ (o : Option ℕ). is_page o p.page.number) page.1 ∙ ne_eqb page.0 p.page.number (λ same. stands_apart z page.0 frame p page.2 own.own (sym same)) in
+    ap (λ (o : Option ℕ). is_page o p.page.number) page.1 ∙ ne_eqb page.0 p.page.number (λ same. apart_from z page.0 _ p page.2 refl own.own (sym same)) in
     own_kept z (stored z client address word value) p refl refl (λ w. ap (λ b. if b && nat_eq word w then value else last z.records p.page.number w) unnamed) own
 
 pub own_placed : (z : ZoneState) (client : ℕ) (address : Address) (unmovable : Bool) (page frame : ℕ) → map.get z.placement page ≡ None → (p : OnItsWay) → IsOwnCopy z p → IsOwnCopy (placed z client address unmovable page frame) p
 own_placed z client address unmovable page frame unused p own =
-    let ne = unused_apart z page p unused own.own in
+    let ne = apart_from z page _ p unused refl own.own in
     own_kept z (placed z client address unmovable page frame) p refl
     (get_insert_other z.placement page p.page.number (At frame) ne)
     (λ w. skipped (nat_eq page p.page.number) 0 (last z.records p.page.number w) (ne_eqb page p.page.number (λ same. ne (sym same))))
@@ -77,7 +74,7 @@ own_placed z client address unmovable page frame unused p own =
 pub own_isolated : (z : ZoneState) (pair : Pair) (frame : ℕ) → map.get z.placement pair.page ≡ Some (At frame) → (p : OnItsWay) → IsOwnCopy z p → IsOwnCopy (isolated_next z pair) p
 own_isolated z pair frame at p own =
     own_kept z (isolated_next z pair) p refl
-    (get_insert_other z.placement pair.page p.page.number _ (stands_apart z pair.page frame p at own.own))
+    (get_insert_other z.placement pair.page p.page.number _ (apart_from z pair.page _ p at refl own.own))
     (λ w. refl) own
 
 -- the page that goes on its way

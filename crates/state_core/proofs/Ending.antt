@@ -109,12 +109,11 @@ module _ (v : ZoneState) (page serial source target : ℕ) (law : IsLawful v) (a
 
   pub moved_recorded : pins v.records page ≡ 0 → IsRecorded v (Moved serial) page (At target)
   moved_recorded none =
-      let E : Option ℕ → Type 0 = λ o. IsSomeAnd o (λ p. pins v.records p ≡ 0) in
       let room = law.room_left in
       record {
         still = moved_still v.records serial;
         truthful = law.truthful;
-        well_ended = (record { under_way = known_out.0; page = subst E (sym known_out.1) none }, law.well_ended);
+        well_ended = (record { under_way = known_out.0; page = subst (λ (o : Option ℕ). IsSomeAnd o (λ p. pins v.records p ≡ 0)) (sym known_out.1) none }, law.well_ended);
         spare = omega (arith, out_fewer);
         room_left = omega (arith, out_fewer);
         own_way = λ s. (λ under. cc, λ known. absurd (no_way s known.0 known.1));

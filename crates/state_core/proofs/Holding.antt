@@ -13,8 +13,7 @@ use Rattle.state_core.proofs.Facts.{not_none}
 -- the page in a frame
 pub stands_at : (o : Option Placement) (frame : ℕ) → stands_in o frame ≡ true → o ≡ Some (At frame)
 stands_at None frame e = cc
-stands_at (Some (At f)) frame e =
-    ap (λ (g : ℕ). Some (At g)) (sym (eqb-true frame f e))
+stands_at (Some (At f)) frame e = ap (λ (g : ℕ). Some (At g)) (sym (eqb-true frame f e))
 stands_at (Some (Moving serial source target)) frame e = cc
 
 pub at_takes : (o : Option Placement) (frame : ℕ) → o ≡ Some (At frame) → takes_up o frame ≡ true

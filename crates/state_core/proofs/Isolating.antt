@@ -37,9 +37,7 @@ module _ (v : ZoneState) (pair : Pair) (law : IsLawful v) (is : IsPair v pair.pa
     numbered = law.numbered pair.page (not_none _ (At pair.source) is.from.here);
     takes = λ g e. elim (or_cases (nat_eq g pair.source) (nat_eq g pair.target) e) [
       | inl source ↦ inl source
-      | inr target ↦ (let at : g ≡ pair.target = eqb-true g pair.target target in
-          let within = target_within in
-          inr (ap (is_free v) at ∙ is.to.free, omega arith))
+      | inr target ↦ inr (ap (is_free v) (eqb-true g pair.target target) ∙ is.to.free, omega (arith, eqb-true g pair.target target, target_within))
     ];
     upward = λ serial source target e. (let low = is.to.low in let s : pair.source ≡ source = cc in let t : pair.target ≡ target = cc in omega arith);
   }
