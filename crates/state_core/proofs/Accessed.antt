@@ -1,6 +1,6 @@
 -- A load and a store leave a zone sound.
-use Rattle.std.proofs.Common.{◌≡◌, ℕ, ◌<◌, length, refl, sym, subst, arith}
-use Rattle.std.specs.Prelude.{Option, Some, IsSomeAnd, unwrap_or}
+use Rattle.std.proofs.Common.{◌≡◌, ℕ, ◌<◌, length, refl, sym, subst, arith, Option, Some, IsSomeAnd}
+use Rattle.std.specs.Prelude.{unwrap_or}
 use Rattle.frame_core.specs.declared.place.Address.{Address}
 use Rattle.journal_core.specs.declared.record.Record.TheVariants.{Load, Store}
 use Rattle.journal_core.specs.History.{last}

@@ -1,6 +1,5 @@
 -- What a call of the zone does not change of the pages on their way.
-use Rattle.std.proofs.Common.{◌≡◌, ◌≢◌, ℕ, Bool, true, false, [], ◌∷◌, refl, sym, ap, ◌∙◌}
-use Rattle.std.specs.Prelude.{Option, Some, None, map as each, nat_eq, ◌&&◌, if◌then◌else◌}
+use Rattle.std.proofs.Common.{◌≡◌, ◌≢◌, ℕ, Bool, true, false, [], ◌∷◌, refl, sym, ap, ◌∙◌, Option, Some, None, map as each, nat_eq, ◌&&◌, if◌then◌else◌}
 use Rattle.std.specs.FinMap as map
 use Rattle.std.proofs.lemmas.Bool.{and_parts, and_from, both_ways, eq-eqb, eqb-true, ne_eqb}
 use Rattle.frame_core.specs.declared.place.Address.{Address}
@@ -21,17 +20,15 @@ use Rattle.state_core.specs.ZoneState.{ZoneState, placement_at}
 use Rattle.state_core.proofs.Facts.{skipped, page_named}
 use Rattle.state_core.proofs.Entries.{get_insert_same, get_insert_other}
 
-under_moving : (o : Option Placement) (serial : ℕ) → is_under o serial ≡ true → (source : ℕ) × (target : ℕ) × (o ≡ Some (Moving serial source target))
-under_moving None serial e = cc
-under_moving (Some (At frame)) serial e = cc
-under_moving (Some (Moving s source target)) serial e = (source, target, ap (λ n. Some (Moving n source target)) (eqb-true s serial e))
+-- a page is on its way under one serial
+one_serial : (o : Option Placement) (s t : ℕ) → is_under o s ≡ true → is_under o t ≡ true → s ≡ t
+one_serial None s t e f = cc
+one_serial (Some (At frame)) s t e f = cc
+one_serial (Some (Moving serial source target)) s t e f = sym (eqb-true serial s e) ∙ eqb-true serial t f
 
 -- a page of a zone is on its way there under its serial
 pub own_under : (z : ZoneState) (p : OnItsWay) → is_own z p ≡ true → is_under (map.get z.placement p.page.number) p.serial ≡ true
 own_under z p own = (and_parts (nat_eq p.page.zone z.number) (is_under (map.get z.placement p.page.number) p.serial) own).1
-
-pub own_moving : (z : ZoneState) (p : OnItsWay) → is_own z p ≡ true → (source : ℕ) × (target : ℕ) × (map.get z.placement p.page.number ≡ Some (Moving p.serial source target))
-own_moving z p own = under_moving (map.get z.placement p.page.number) p.serial (own_under z p own)
 
 -- the journal knows which page it is
 pub own_page : (z : ZoneState) → IsLawful z → (p : OnItsWay) → is_own z p ≡ true → page_of z.records p.serial ≡ Some p.page.number
@@ -50,32 +47,24 @@ own_begun z p own = record { own = own.own; same = own.same }
 pub own_loaded : (z : ZoneState) (client : ℕ) (address : Address) (word : ℕ) (p : OnItsWay) → IsOwnCopy z p → IsOwnCopy (loaded z client address word) p
 own_loaded z client address word p own = record { own = own.own; same = own.same }
 
--- a page that stands in a frame is none that is on its way
-stands_apart : (z : ZoneState) (page frame : ℕ) (p : OnItsWay) → map.get z.placement page ≡ Some (At frame) → is_own z p ≡ true → p.page.number ≢ page
-stands_apart z page frame p at own same = both_ways _ (ap (λ o. is_under o p.serial) (ap (map.get z.placement) same ∙ at)) (own_under z p own)
-
-unused_apart : (z : ZoneState) (page : ℕ) (p : OnItsWay) → map.get z.placement page ≡ None → is_own z p ≡ true → p.page.number ≢ page
-unused_apart z page p unused own same = both_ways _ (ap (λ o. is_under o p.serial) (ap (map.get z.placement) same ∙ unused)) (own_under z p own)
+-- a page that is nowhere or stands in a frame is none that is on its way
+apart_from : (z : ZoneState) (page : ℕ) (o : Option Placement) (p : OnItsWay) → map.get z.placement page ≡ o → is_under o p.serial ≡ false → is_own z p ≡ true → p.page.number ≢ page
+apart_from z page o p at off own same = both_ways _ (ap (λ x. is_under x p.serial) (ap (map.get z.placement) same ∙ at) ∙ off) (own_under z p own)
 
 -- two serials are of two pages
 serials_apart : (z : ZoneState) (p q : OnItsWay) → is_own z p ≡ true → is_own z q ≡ true → q.serial ≢ p.serial → p.page.number ≢ q.page.number
-serials_apart z p q own_p own_q ne same =
-    let a = own_moving z p own_p in
-    let b = own_moving z q own_q in
-    let one : Some (Moving q.serial b.0 b.1) ≡ Some (Moving p.serial a.0 a.1) = sym b.2 ∙ ap (map.get z.placement) (sym same) ∙ a.2 in
-    let bad : q.serial ≡ p.serial = cc in
-    ne bad
+serials_apart z p q own_p own_q ne same = ne (one_serial _ q.serial p.serial (own_under z q own_q) (ap (λ n. is_under (map.get z.placement n) p.serial) (sym same) ∙ own_under z p own_p))
 
 pub own_stored : (z : ZoneState) (client : ℕ) (address : Address) (word value frame : ℕ) → placement_at z address ≡ Some (At frame) → (p : OnItsWay) → IsOwnCopy z p → IsOwnCopy (stored z client address word value) p
 own_stored z client address word value frame at p own =
     let page = page_named z address (At frame) at in
     let unnamed : names z.records address p.page.number ≡ false =
-    ap (λ (o : Option ℕ). is_page o p.page.number) page.1 ∙ ne_eqb page.0 p.page.number (λ same. stands_apart z page.0 frame p page.2 own.own (sym same)) in
+    ap (λ (o : Option ℕ). is_page o p.page.number) page.1 ∙ ne_eqb page.0 p.page.number (λ same. apart_from z page.0 _ p page.2 refl own.own (sym same)) in
     own_kept z (stored z client address word value) p refl refl (λ w. ap (λ b. if b && nat_eq word w then value else last z.records p.page.number w) unnamed) own
 
 pub own_placed : (z : ZoneState) (client : ℕ) (address : Address) (unmovable : Bool) (page frame : ℕ) → map.get z.placement page ≡ None → (p : OnItsWay) → IsOwnCopy z p → IsOwnCopy (placed z client address unmovable page frame) p
 own_placed z client address unmovable page frame unused p own =
-    let ne = unused_apart z page p unused own.own in
+    let ne = apart_from z page _ p unused refl own.own in
     own_kept z (placed z client address unmovable page frame) p refl
     (get_insert_other z.placement page p.page.number (At frame) ne)
     (λ w. skipped (nat_eq page p.page.number) 0 (last z.records p.page.number w) (ne_eqb page p.page.number (λ same. ne (sym same))))
@@ -85,7 +74,7 @@ own_placed z client address unmovable page frame unused p own =
 pub own_isolated : (z : ZoneState) (pair : Pair) (frame : ℕ) → map.get z.placement pair.page ≡ Some (At frame) → (p : OnItsWay) → IsOwnCopy z p → IsOwnCopy (isolated_next z pair) p
 own_isolated z pair frame at p own =
     own_kept z (isolated_next z pair) p refl
-    (get_insert_other z.placement pair.page p.page.number _ (stands_apart z pair.page frame p at own.own))
+    (get_insert_other z.placement pair.page p.page.number _ (apart_from z pair.page _ p at refl own.own))
     (λ w. refl) own
 
 -- the page that goes on its way

@@ -1,6 +1,6 @@
 -- The move of a page ends: it stands in its target or in its source, and the other frame is free.
-use Rattle.std.proofs.Common.{◌≡◌, ◌≢◌, ℕ, ◌+◌, ◌<◌, true, false, ◌∷◌, length, inl, refl, sym, ap, subst, ◌∙◌, arith}
-use Rattle.std.specs.Prelude.{Option, Some, IsSomeAnd, IsTrue, nat_eq, ◌||◌, ◌↔◌, ⊤}
+use Rattle.std.proofs.Common.{◌≡◌, ◌≢◌, ℕ, ◌+◌, ◌<◌, true, false, ◌∷◌, length, inl, refl, sym, ap, subst, ◌∙◌, arith, Option, Some, IsSomeAnd, IsTrue, nat_eq, ◌||◌, ◌↔◌}
+use Rattle.std.specs.Prelude.{⊤}
 use Rattle.std.specs.List.{list_any}
 use Rattle.std.specs.FinMap as map
 use Rattle.std.proofs.Math.Bool.{or-false}
@@ -21,20 +21,15 @@ use Rattle.state_core.specs.Moving.{settled, moved_to_target, put_back_to_source
 use Rattle.state_core.specs.ZoneState.{ZoneState, frame_count, takes_up, is_free}
 use Rattle.state_core.proofs.Facts.{not_none}
 use Rattle.state_core.proofs.Moving.{CanSettle, IsRecorded, moved_still, back_still, lawful_settled}
-use Rattle.state_core.proofs.Places.{free_old, free_left, free_same, free_count, ways_of}
+use Rattle.state_core.proofs.Places.{IsOutWith, free_old, free_left, free_same, free_count, ways_of}
 
 module _ (v : ZoneState) (page serial source target : ℕ) (law : IsLawful v) (at : map.get v.placement page ≡ Some (Moving serial source target)) where
   abbrev way : Placement
   way = Moving serial source target
 
-  known_out : IsTrue (is_out v.records serial) × (page_of v.records serial ≡ Some page)
+  -- the page is out under its serial
+  known_out : IsOutWith v.records page serial
   known_out = (law.under_way page serial).0 (ap (λ (o : Option Placement). is_under o serial) at ∙ eq-eqb serial serial refl)
-
-  pub is_out_now : is_out v.records serial ≡ true
-  is_out_now = known_out.0
-
-  pub page_is : page_of v.records serial ≡ Some page
-  page_is = known_out.1
 
   pub frames_apart : source ≢ target
   frames_apart e = let up = law.upward page serial source target at in absurd (omega arith)
@@ -93,7 +88,7 @@ module _ (v : ZoneState) (page serial source target : ℕ) (law : IsLawful v) (a
   back_more entry = omega (arith, free_count can_go_back)
 
   pub out_fewer : length (without serial (out v.records)) + 1 ≡ length (out v.records)
-  out_fewer = length_without v.records law.well_ended serial is_out_now
+  out_fewer = length_without v.records law.well_ended serial known_out.0
 
   -- the serials that go on being out are the others
   was_out : (s : ℕ) → list_any (nat_eq s) (without serial (out v.records)) ≡ true → (s ≢ serial) × (is_out v.records s ≡ true)
@@ -106,20 +101,19 @@ module _ (v : ZoneState) (page serial source target : ℕ) (law : IsLawful v) (a
       let old = was_out s e in
       old.0 (sym (eqb-true serial s (sym (ap (λ (o : Option Placement). is_under o s) at) ∙ (law.under_way page s).1 (old.1, of))))
 
-  other_ways : (q s : ℕ) → q ≢ page → (IsTrue (is_out v.records s) × (page_of v.records s ≡ Some q)) ↔ (IsTrue (list_any (nat_eq s) (without serial (out v.records))) × (page_of v.records s ≡ Some q))
+  other_ways : (q s : ℕ) → q ≢ page → IsOutWith v.records q s ↔ (IsTrue (list_any (nat_eq s) (without serial (out v.records))) × (page_of v.records s ≡ Some q))
   other_ways q s ne = (
-    λ known. (still_out serial s (out v.records) (λ same. ne (same_Some q page (sym known.1 ∙ ap (page_of v.records) same ∙ page_is))) ∙ known.0, known.1),
+    λ known. (still_out serial s (out v.records) (λ same. ne (same_Some q page (sym known.1 ∙ ap (page_of v.records) same ∙ known_out.1))) ∙ known.0, known.1),
     λ known. ((was_out s known.0).1, known.1),
   )
 
   pub moved_recorded : pins v.records page ≡ 0 → IsRecorded v (Moved serial) page (At target)
   moved_recorded none =
-      let E : Option ℕ → Type 0 = λ o. IsSomeAnd o (λ p. pins v.records p ≡ 0) in
       let room = law.room_left in
       record {
         still = moved_still v.records serial;
         truthful = law.truthful;
-        well_ended = (record { under_way = is_out_now; page = subst E (sym page_is) none }, law.well_ended);
+        well_ended = (record { under_way = known_out.0; page = subst (λ (o : Option ℕ). IsSomeAnd o (λ p. pins v.records p ≡ 0)) (sym known_out.1) none }, law.well_ended);
         spare = omega (arith, out_fewer);
         room_left = omega (arith, out_fewer);
         own_way = λ s. (λ under. cc, λ known. absurd (no_way s known.0 known.1));
@@ -128,8 +122,8 @@ module _ (v : ZoneState) (page serial source target : ℕ) (law : IsLawful v) (a
       }
 
   ends_back : (cause : Cause) → HasCause cause (pins v.records page) → IsWellEnded (Back serial cause ∷ v.records)
-  ends_back Pinned has = let E : Option ℕ → Type 0 = λ o. IsSomeAnd o (λ p. 0 < pins v.records p) in (record { under_way = is_out_now; page = subst E (sym page_is) has }, law.well_ended)
-  ends_back NotCopied has = let E : Option ℕ → Type 0 = λ o. IsSomeAnd o (λ p. ⊤) in (record { under_way = is_out_now; page = subst E (sym page_is) tt }, law.well_ended)
+  ends_back Pinned has = let E : Option ℕ → Type 0 = λ o. IsSomeAnd o (λ p. 0 < pins v.records p) in (record { under_way = known_out.0; page = subst E (sym known_out.1) has }, law.well_ended)
+  ends_back NotCopied has = let E : Option ℕ → Type 0 = λ o. IsSomeAnd o (λ p. ⊤) in (record { under_way = known_out.0; page = subst E (sym known_out.1) tt }, law.well_ended)
 
   pub back_recorded : (cause : Cause) → HasCause cause (pins v.records page) → IsRecorded v (Back serial cause) page (At source)
   back_recorded cause has =
@@ -147,10 +141,10 @@ module _ (v : ZoneState) (page serial source target : ℕ) (law : IsLawful v) (a
 
 pub lawful_moved : (v : ZoneState) (serial page source target : ℕ) → IsLawful v → map.get v.placement page ≡ Some (Moving serial source target) → pins v.records page ≡ 0 → IsLawful (moved_to_target v serial page)
 lawful_moved v serial page source target law at none =
-    let there : IsLawful (settled v (Moved serial) page (At target)) = lawful_settled (can_move_on v page serial source target law at) (Moved serial) (moved_recorded v page serial source target law at none) v.migrate v.free law.fingers in
-    subst (λ (frame : ℕ). IsLawful (settled v (Moved serial) page (At frame))) (sym (ap target_of at)) there
+    subst (λ (frame : ℕ). IsLawful (settled v (Moved serial) page (At frame))) (sym (ap target_of at))
+    (lawful_settled (can_move_on v page serial source target law at) (Moved serial) (moved_recorded v page serial source target law at none) v.migrate v.free law.fingers)
 
 pub lawful_put_back : (v : ZoneState) (serial page source target : ℕ) (cause : Cause) → IsLawful v → map.get v.placement page ≡ Some (Moving serial source target) → HasCause cause (pins v.records page) → IsLawful (put_back_to_source v serial page cause)
 lawful_put_back v serial page source target cause law at has =
-    let there : IsLawful (settled v (Back serial cause) page (At source)) = lawful_settled (can_go_back v page serial source target law at) (Back serial cause) (back_recorded v page serial source target law at cause has) v.migrate v.free law.fingers in
-    subst (λ (frame : ℕ). IsLawful (settled v (Back serial cause) page (At frame))) (sym (ap source_of at)) there
+    subst (λ (frame : ℕ). IsLawful (settled v (Back serial cause) page (At frame))) (sym (ap source_of at))
+    (lawful_settled (can_go_back v page serial source target law at) (Back serial cause) (back_recorded v page serial source target law at cause has) v.migrate v.free law.fingers)

@@ -1,6 +1,5 @@
 -- One more entry in a map, one fewer, and one more number in a set.
-use Rattle.std.proofs.Common.{◌≡◌, ◌≢◌, ℕ, true, arith}
-use Rattle.std.specs.Prelude.{Some, None}
+use Rattle.std.proofs.Common.{◌≡◌, ◌≢◌, ℕ, true, arith, Some, None}
 use Rattle.std.specs.Ordering.{nat_cmp}
 use Rattle.std.specs.Cmp.{nat_cmp_total, unsigned_tied}
 use Rattle.std.specs.FinMap.{FinMap, get, insert, remove, get-insert, get-remove}

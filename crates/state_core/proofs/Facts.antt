@@ -1,10 +1,8 @@
 -- What is known of a zone that is sound.
-use Rattle.std.proofs.Common.{◌≡◌, ◌≢◌, ℕ, ◌<◌, true, false, length, refl, ap, ◌∙◌}
-use Rattle.std.specs.Prelude.{Option, Some, None, IsSome, is_some, nat_eq, ◌||◌, if◌then◌else◌}
-use Rattle.std.specs.Option.{option_and_then}
+use Rattle.std.proofs.Common.{◌≡◌, ◌≢◌, ℕ, ◌<◌, true, false, length, refl, ap, ◌∙◌, Option, Some, None, IsSome, is_some, nat_eq, ◌||◌, if◌then◌else◌, eq-eqb, ltb-true}
 use Rattle.std.specs.FinMap as map
-use Rattle.std.proofs.lemmas.Bool.{eq-eqb, ltb-true}
 pub use Rattle.std.proofs.lemmas.Bool.{cond-true as taken, cond-false as skipped}
+use Rattle.std.proofs.lemmas.Option.{option_and_then_some}
 use Rattle.frame_core.specs.declared.place.Address.{Address}
 use Rattle.journal_core.specs.History.{page_at}
 use Rattle.journal_core.specs.Moves.{out}
@@ -33,10 +31,7 @@ spare v room = ltb-true _ _ room
 
 -- an address that names a page in a frame
 pub page_named : (v : ZoneState) (address : Address) (placement : Placement) → placement_at v address ≡ Some placement → (page : ℕ) × (page_at v.records address ≡ Some page) × (map.get v.placement page ≡ Some placement)
-page_named v address placement e = by_page (page_at v.records address) refl e where
-  by_page : (o : Option ℕ) → page_at v.records address ≡ o → option_and_then (map.get v.placement) o ≡ Some placement → (page : ℕ) × (page_at v.records address ≡ Some page) × (map.get v.placement page ≡ Some placement)
-  by_page None is e = cc
-  by_page (Some page) is e = (page, is, e)
+page_named v address placement e = option_and_then_some (map.get v.placement) (page_at v.records address) placement e (λ page is at. (page, is, at))
 
 -- a page takes up the frame that has its words
 pub takes_own : (placement : Placement) → takes_up (Some placement) (words_frame placement) ≡ true

@@ -1,34 +1,21 @@
 -- What the tables of a zone answer.
-use Rattle.std.proofs.Common.{◌≡◌, ℕ, ◌+◌, ◌-◌, ◌<◌, ◌≤◌, Bool, true, refl, sym, ap, ◌∙◌, arith}
-use Rattle.std.specs.Prelude.{Option, Some, None, IsSome, IsTrue, IfSome, is_some, is_none}
+use Rattle.std.proofs.Common.{◌≡◌, ℕ, ◌+◌, ◌-◌, ◌<◌, ◌≤◌, Bool, true, ap, ◌∙◌, arith, Some, None, IsSome, is_some, is_none}
 use Rattle.std.specs.FinMap.{get}
 use Rattle.std.proofs.lemmas.Bool.{both_ways, not-true, not-false, true_from_ne_false}
 use Rattle.frame_core.proofs.Searches.{lowest_some, lowest_before, no_lowest, count_all, count_some}
 use Rattle.frame_core.specs.Below.{count_below, count_from}
 use Rattle.state_core.specs.Lawful.{IsLawful}
 use Rattle.state_core.specs.ZoneState.{ZoneState, frame_count, is_free, lowest_free_frame, lowest_unused_page}
-use Rattle.state_core.proofs.Facts.{none_is}
-
--- the lowest that is found is free, and in the zone
-pub lowest_is_free : (v : ZoneState) (o : Option ℕ) → o ≡ lowest_free_frame v → IfSome o (λ frame. IsTrue (is_free v frame))
-lowest_is_free v None e = tt
-lowest_is_free v (Some frame) e = (lowest_some (is_free v) (frame_count v) frame (sym e)).1
-
-pub lowest_is_within : (v : ZoneState) (o : Option ℕ) → o ≡ lowest_free_frame v → IfSome o (λ frame. frame < frame_count v)
-lowest_is_within v None e = tt
-lowest_is_within v (Some frame) e = (lowest_some (is_free v) (frame_count v) frame (sym e)).0
-
-some_free : (v : ZoneState) (o : Option ℕ) → lowest_free_frame v ≡ o → IsSome o → (frame : ℕ) × (frame < frame_count v) × (is_free v frame ≡ true)
-some_free v None e s = cc
-some_free v (Some frame) e s = let found = lowest_some (is_free v) (frame_count v) frame e in (frame, found.0, found.1)
+use Rattle.state_core.proofs.Facts.{none_is, some_is}
 
 -- where a frame is free, a page number is left
 pub unused_left : (v : ZoneState) → IsLawful v → IsSome (lowest_free_frame v) → lowest_unused_page v ≡ None → ⊥
 unused_left v law some none =
-    let free = some_free v (lowest_free_frame v) refl some in
+    let found = some_is (lowest_free_frame v) some in
+    let free = lowest_some (is_free v) (frame_count v) found.0 found.1 in
     let all : count_below (λ page. is_some (get v.placement page)) (frame_count v) ≡ frame_count v =
     count_all (λ page. is_some (get v.placement page)) (frame_count v) (λ page h. not-false _ (no_lowest (λ q. is_none (get v.placement q)) (frame_count v) page none h)) in
-    let one = count_some (is_free v) (frame_count v) free.0 free.1 free.2 in
+    let one = count_some (is_free v) (frame_count v) found.0 free.0 free.1 in
     omega (arith, law.sum, all, one)
 
 -- a free frame makes the search find one

@@ -1,6 +1,5 @@
 -- Laws of the highest number below a bound that passes.
-use Rattle.std.proofs.Common.{◌≡◌, ℕ, zero, suc, ◌<◌, Bool, true, false, ◌⊎◌, inl, inr, refl, sym, ap, ◌∙◌, arith}
-use Rattle.std.specs.Prelude.{Option, Some, None, if◌then◌else◌}
+use Rattle.std.proofs.Common.{◌≡◌, ℕ, zero, suc, ◌<◌, Bool, true, false, ◌⊎◌, inl, inr, refl, sym, ap, ◌∙◌, arith, Option, Some, None, if◌then◌else◌}
 use Rattle.std.proofs.lemmas.Bool.Decides.{leb_tells}
 use Rattle.std.proofs.lemmas.Option.{same_Some}
 use Rattle.frame_core.specs.Below.{highest}
@@ -14,10 +13,6 @@ below_suc k n h = elim (leb_tells n k)
 by_last : (n k : ℕ) (o : Option ℕ) (b : Bool) → (if b then Some n else o) ≡ Some k → ((b ≡ true) × (n ≡ k)) ⊎ ((b ≡ false) × (o ≡ Some k))
 by_last n k o true e = inl (refl, same_Some n k e)
 by_last n k o false e = inr (refl, e)
-
-by_none : (n : ℕ) (o : Option ℕ) (b : Bool) → (if b then Some n else o) ≡ None → (b ≡ false) × (o ≡ None)
-by_none n o true e = cc
-by_none n o false e = (refl, e)
 
 module _ (p : ℕ → Bool) where
   pub highest_none : (n : ℕ) → ((k : ℕ) → k < n → p k ≡ false) → highest p n ≡ None
@@ -33,12 +28,6 @@ module _ (p : ℕ → Bool) where
             ∙ highest_is n k under passes (λ j l m. fails j l (omega arith))
         | inr at ↦ taken (p n) (Some n) (highest p n) (ap p (sym at) ∙ passes) ∙ ap Some (sym at)
       ]
-
-  pub no_highest : (n k : ℕ) → highest p n ≡ None → k < n → p k ≡ false
-  no_highest zero k none h = absurd (omega arith)
-  no_highest (suc n) k none h =
-      let parts = by_none n (highest p n) (p n) none in
-      elim (below_suc k n h) [ inl under ↦ no_highest n k parts.1 under | inr at ↦ ap p at ∙ parts.0 ]
 
   pub highest_some : (n k : ℕ) → highest p n ≡ Some k → (k < n) × (p k ≡ true)
   highest_some zero k e = cc

@@ -1,8 +1,6 @@
 -- What the tables of a sound zone say of its state.
-use Rattle.std.proofs.Common.{◌≡◌, ℕ, true, refl, sym, ap, ◌∙◌, arith}
-use Rattle.std.specs.Prelude.{Option, Some, None}
+use Rattle.std.proofs.Common.{◌≡◌, ℕ, true, refl, sym, ap, ◌∙◌, arith, Option, Some, None, eq-eqb, eqb-true}
 use Rattle.std.specs.FinMap as map
-use Rattle.std.proofs.lemmas.Bool.{eq-eqb, eqb-true}
 pub use Rattle.std.proofs.lemmas.Bool.{false_from_ne_true as when_not}
 use Rattle.frame_core.proofs.Searches.{lowest_is, lowest_none, lowest_some}
 use Rattle.state_core.specs.declared.placement.Placement.{Placement}
@@ -15,12 +13,8 @@ use Rattle.state_core.proofs.Facts.{not_none}
 -- the page in a frame
 pub stands_at : (o : Option Placement) (frame : ℕ) → stands_in o frame ≡ true → o ≡ Some (At frame)
 stands_at None frame e = cc
-stands_at (Some (At f)) frame e =
-    ap (λ (g : ℕ). Some (At g)) (sym (eqb-true frame f e))
+stands_at (Some (At f)) frame e = ap (λ (g : ℕ). Some (At g)) (sym (eqb-true frame f e))
 stands_at (Some (Moving serial source target)) frame e = cc
-
-at_stands : (o : Option Placement) (frame : ℕ) → o ≡ Some (At frame) → stands_in o frame ≡ true
-at_stands o frame e = ap (λ (p : Option Placement). stands_in p frame) e ∙ eq-eqb frame frame refl
 
 pub at_takes : (o : Option Placement) (frame : ℕ) → o ≡ Some (At frame) → takes_up o frame ≡ true
 at_takes o frame e = ap (λ (p : Option Placement). takes_up p frame) e ∙ eq-eqb frame frame refl
@@ -29,7 +23,7 @@ pub holder_at : (v : ZoneState) → IsLawful v → (page frame : ℕ) → map.ge
     holder v frame ≡ Some page
 holder_at v law page frame at =
     lowest_is (λ q. stands_in (map.get v.placement q) frame) (frame_count v) page
-    (law.numbered page (not_none _ (At frame) at)) (at_stands _ frame at)
+    (law.numbered page (not_none _ (At frame) at)) (ap (λ o. stands_in o frame) at ∙ eq-eqb frame frame refl)
     (λ q h. when_not _ (λ stands.
     (let same = law.apart q page frame (at_takes _ frame (stands_at _ frame stands)) (at_takes _ frame at) in
     omega arith)))

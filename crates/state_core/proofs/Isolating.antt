@@ -1,6 +1,5 @@
 -- The page of a pair goes on its way: it takes up the target besides its source.
-use Rattle.std.proofs.Common.{◌≡◌, ◌≢◌, ℕ, ◌+◌, ◌<◌, true, false, ◌∷◌, length, inl, inr, refl, sym, ap, ◌∙◌, arith}
-use Rattle.std.specs.Prelude.{Option, Some, IsTrue, nat_eq, ◌||◌, ◌↔◌}
+use Rattle.std.proofs.Common.{◌≡◌, ◌≢◌, ℕ, ◌+◌, ◌<◌, true, false, ◌∷◌, length, inl, inr, refl, sym, ap, ◌∙◌, arith, Option, Some, nat_eq, ◌||◌}
 use Rattle.std.proofs.Math.Bool.{or-false}
 use Rattle.std.proofs.lemmas.Bool.{and_parts, both_ways, cond-true, cond-false, eq-eqb, eqb-true, ne_eqb, or_cases, or_left, or_right}
 use Rattle.std.proofs.lemmas.Bool.Decides.{eqb_tells}
@@ -19,7 +18,7 @@ use Rattle.state_core.specs.Pairs.{IsPair}
 use Rattle.state_core.specs.ZoneState.{ZoneState, frame_count, is_free}
 use Rattle.state_core.proofs.Facts.{not_none}
 use Rattle.state_core.proofs.Moving.{CanSettle, IsRecorded, isolate_still, lawful_settled}
-use Rattle.state_core.proofs.Places.{free_new, free_same, free_count, ways_of}
+use Rattle.state_core.proofs.Places.{IsOutWith, free_new, free_same, free_count, ways_of}
 
 module _ (v : ZoneState) (pair : Pair) (law : IsLawful v) (is : IsPair v pair.page pair.source pair.target) where
   abbrev serial_next : ℕ
@@ -38,9 +37,7 @@ module _ (v : ZoneState) (pair : Pair) (law : IsLawful v) (is : IsPair v pair.pa
     numbered = law.numbered pair.page (not_none _ (At pair.source) is.from.here);
     takes = λ g e. elim (or_cases (nat_eq g pair.source) (nat_eq g pair.target) e) [
       | inl source ↦ inl source
-      | inr target ↦ (let at : g ≡ pair.target = eqb-true g pair.target target in
-          let within = target_within in
-          inr (ap (is_free v) at ∙ is.to.free, omega arith))
+      | inr target ↦ inr (ap (is_free v) (eqb-true g pair.target target) ∙ is.to.free, omega (arith, eqb-true g pair.target target, target_within))
     ];
     upward = λ serial source target e. (let low = is.to.low in let s : pair.source ≡ source = cc in let t : pair.target ≡ target = cc in omega arith);
   }
@@ -55,33 +52,15 @@ module _ (v : ZoneState) (pair : Pair) (law : IsLawful v) (is : IsPair v pair.pa
   pub isolated_fewer : count_below (is_free v) (frame_count v) ≡ count_below (is_free (settled v (Isolate serial_next pair.page) pair.page way_next)) (frame_count v) + 1
   isolated_fewer = omega (arith, free_count can_isolate)
 
-  -- no serial that is out is the next, or is of the page
-  old_serial : (serial : ℕ) → is_out v.records serial ≡ true → serial_next ≢ serial
-  old_serial serial e same = let below = out_below v.records law.well_ended serial e in absurd (omega arith)
-
+  -- no serial that is out is of the page
   at_rest : (serial : ℕ) → is_out v.records serial ≡ true → page_of v.records serial ≡ Some pair.page → ⊥
   at_rest serial e under = both_ways _ (ap (λ (o : Option Placement). is_under o serial) is.from.here) ((law.under_way pair.page serial).1 (e, under))
 
-  -- what was out before, under another serial than the next
-  was_out : (q serial : ℕ) → serial_next ≢ serial → IsTrue (is_out (Isolate serial_next pair.page ∷ v.records) serial) × (page_of (Isolate serial_next pair.page ∷ v.records) serial ≡ Some q) → IsTrue (is_out v.records serial) × (page_of v.records serial ≡ Some q)
+  -- what is out under another serial than the next was out before
+  was_out : (q serial : ℕ) → serial_next ≢ serial → IsOutWith (Isolate serial_next pair.page ∷ v.records) q serial → IsOutWith v.records q serial
   was_out q serial ne way = (
     elim (or_cases (nat_eq serial serial_next) _ way.0) [ inl fresh ↦ absurd (ne (sym (eqb-true serial serial_next fresh))) | inr old ↦ old ],
     sym (cond-false _ (Some pair.page) (page_of v.records serial) (ne_eqb serial_next serial ne)) ∙ way.1,
-  )
-
-  own_way : (serial : ℕ) → IsTrue (is_under (Some way_next) serial) ↔ (IsTrue (is_out (Isolate serial_next pair.page ∷ v.records) serial) × (page_of (Isolate serial_next pair.page ∷ v.records) serial ≡ Some pair.page))
-  own_way serial = (
-    λ under. (or_left _ _ (eq-eqb serial serial_next (sym (eqb-true serial_next serial under))), cond-true _ (Some pair.page) (page_of v.records serial) under),
-    λ way. elim (eqb_tells serial_next serial) [ inl same ↦ same.0 | inr other ↦ (let old = was_out pair.page serial other.1 way in absurd (at_rest serial old.0 old.1)) ],
-  )
-
-  other_ways : (q serial : ℕ) → q ≢ pair.page → (IsTrue (is_out v.records serial) × (page_of v.records serial ≡ Some q)) ↔ (IsTrue (is_out (Isolate serial_next pair.page ∷ v.records) serial) × (page_of (Isolate serial_next pair.page ∷ v.records) serial ≡ Some q))
-  other_ways q serial ne = (
-    λ way. (or_right _ _ way.0, cond-false _ (Some pair.page) (page_of v.records serial) (ne_eqb serial_next serial (old_serial serial way.0)) ∙ way.1),
-    λ way. elim (eqb_tells serial_next serial) [
-      | inl same ↦ absurd (ne (same_Some q pair.page (sym way.1 ∙ cond-true _ (Some pair.page) (page_of v.records serial) same.0)))
-      | inr other ↦ was_out q serial other.1 way
-    ],
   )
 
   pub isolate_recorded : length (out v.records) + 1 < v.room → IsRecorded v (Isolate serial_next pair.page) pair.page way_next
@@ -100,8 +79,17 @@ module _ (v : ZoneState) (pair : Pair) (law : IsLawful v) (is : IsPair v pair.pa
     );
     spare = omega arith;
     room_left = omega arith;
-    own_way = own_way;
-    other_ways = other_ways;
+    own_way = λ serial. (
+      λ under. (or_left _ _ (eq-eqb serial serial_next (sym (eqb-true serial_next serial under))), cond-true _ (Some pair.page) (page_of v.records serial) under),
+      λ way. elim (eqb_tells serial_next serial) [ inl same ↦ same.0 | inr other ↦ (let old = was_out pair.page serial other.1 way in absurd (at_rest serial old.0 old.1)) ],
+    );
+    other_ways = λ q serial ne. (
+      λ way. (or_right _ _ way.0, cond-false _ (Some pair.page) (page_of v.records serial) (ne_eqb serial_next serial (λ same. let below = out_below v.records law.well_ended serial way.0 in absurd (omega arith))) ∙ way.1),
+      λ way. elim (eqb_tells serial_next serial) [
+        | inl same ↦ absurd (ne (same_Some q pair.page (sym way.1 ∙ cond-true _ (Some pair.page) (page_of v.records serial) same.0)))
+        | inr other ↦ was_out q serial other.1 way
+      ],
+    );
     ways = omega (arith, ap ways_of is.from.here);
   }
 

@@ -1,10 +1,8 @@
 -- A fresh page gets its first place: a free frame.
-use Rattle.std.proofs.Common.{◌≡◌, ◌≢◌, ℕ, ◌+◌, ◌<◌, Bool, true, false, length, inl, inr, refl, sym, ap, ◌∙◌, arith}
-use Rattle.std.specs.Prelude.{if◌then◌else◌, Option, Some, None, IsSome, is_some, nat_eq, ◌&&◌}
+use Rattle.std.proofs.Common.{◌≡◌, ◌≢◌, ℕ, ◌+◌, ◌<◌, Bool, true, false, length, inl, inr, refl, sym, ap, ◌∙◌, arith, if◌then◌else◌, Option, Some, None, IsSome, is_some, nat_eq}
 use Rattle.std.specs.FinMap as map
 use Rattle.std.specs.FinSet as set
-use Rattle.std.proofs.lemmas.Bool.{and_parts, both_ways, cases_Bool, cond-true, cond-false, eq-eqb, eqb-true, ne_eqb}
-use Rattle.std.proofs.lemmas.Bool.Decides.{eqb_tells}
+use Rattle.std.proofs.lemmas.Bool.{and_from, and_parts, both_ways, cases_Bool, cond-true, cond-false, eq-eqb, eqb-true, ne_eqb}
 use Rattle.std.proofs.lemmas.Option.{same_Some}
 use Rattle.frame_core.specs.Address.{InRange}
 use Rattle.frame_core.specs.Below.{count_below}
@@ -40,9 +38,6 @@ pub one_address : (a b : Address) → same_address a b ≡ true → a ≡ b
 one_address a b e =
     let parts = and_parts (nat_eq a.space b.space) (nat_eq a.vpage b.vpage) e in
     λ i. record { space = eqb-true a.space b.space parts.0 i; vpage = eqb-true a.vpage b.vpage parts.1 i }
-
-same_itself : (a : Address) → same_address a a ≡ true
-same_itself a = λ i. eq-eqb a.space a.space refl i && eq-eqb a.vpage a.vpage refl i
 
 module _ (v : ZoneState) (client : ℕ) (address : Address) (unmovable : Bool) (page frame : ℕ) (can : CanPlace v address page frame) where
   abbrev next : ZoneState
@@ -104,7 +99,7 @@ module _ (v : ZoneState) (client : ℕ) (address : Address) (unmovable : Bool) (
   pub maps_one : maps next.records page ≡ 1
   maps_one =
       let more = maps_more v.records next.records page address can.range.space can.range.vpage (unnamed address)
-      (ap (λ (o : Option ℕ). is_page o page) (named_here address (same_itself address)) ∙ eq-eqb page page refl)
+      (ap (λ (o : Option ℕ). is_page o page) (named_here address (and_from _ _ (eq-eqb address.space address.space refl) (eq-eqb address.vpage address.vpage refl))) ∙ eq-eqb page page refl)
       (λ b apart. ap (λ (o : Option ℕ). is_page o page) (named_there b apart)) in
       omega (arith, more, maps_none v.records page unnamed)
 
@@ -131,9 +126,9 @@ module _ (v : ZoneState) (client : ℕ) (address : Address) (unmovable : Bool) (
 
   stay : (b : Bool) (q : ℕ) → set.contains (if b then set.insert v.unmovable page else v.unmovable) q ≡ true → IsSome (map.get next.placement q)
   stay false q e = still_used q (can.lawful.unmovable q e)
-  stay true q e = elim (eqb_tells q page) [
-    | inl same ↦ page_used q same.1
-    | inr other ↦ still_used q (can.lawful.unmovable q (sym (contains_insert_other v.unmovable page q other.1) ∙ e))
+  stay true q e = elim (places.where_is can_map q) [
+    | inl here ↦ page_used q here.0
+    | inr there ↦ still_used q (can.lawful.unmovable q (sym (contains_insert_other v.unmovable page q there.0) ∙ e))
   ]
 
   map_told : IsTold v page (Some (At frame)) (Map client address page) (if unmovable then set.insert v.unmovable page else v.unmovable)

@@ -1,6 +1,5 @@
 -- A page in use takes up other frames; its names, values and pins stay.
-use Rattle.std.proofs.Common.{◌≡◌, ◌≢◌, ℕ, ◌+◌, ◌-◌, ◌<◌, ◌≤◌, ◌∷◌, List, length, inl, inr, refl, sym, ap, ◌∙◌, arith}
-use Rattle.std.specs.Prelude.{Some, IsTrue, is_some, ◌↔◌}
+use Rattle.std.proofs.Common.{◌≡◌, ◌≢◌, ℕ, ◌+◌, ◌-◌, ◌<◌, ◌≤◌, ◌∷◌, List, length, inl, inr, refl, sym, ap, ◌∙◌, arith, Some, IsTrue, is_some, ◌↔◌}
 use Rattle.std.specs.FinMap as map
 use Rattle.frame_core.specs.Below.{count_below}
 use Rattle.frame_core.specs.declared.place.Address.{Address}
@@ -9,13 +8,13 @@ use Rattle.journal_core.specs.declared.record.Record.{Record}
 use Rattle.journal_core.specs.declared.record.Record.TheVariants.{Isolate, Moved, Back}
 use Rattle.journal_core.specs.Blocks.{given_out, is_marked_by}
 use Rattle.journal_core.specs.History.{page_at, last, dirty, pins, maps}
-use Rattle.journal_core.specs.Moves.{out, is_out, page_of, IsWellEnded}
+use Rattle.journal_core.specs.Moves.{out, IsWellEnded}
 use Rattle.journal_core.specs.Truth.{IsTruthful}
 use Rattle.state_core.specs.declared.placement.Placement.{Placement}
 use Rattle.state_core.specs.Lawful.{IsLawful, is_under}
 use Rattle.state_core.specs.Moving.{settled}
 use Rattle.state_core.specs.ZoneState.{ZoneState, frame_count}
-use Rattle.state_core.proofs.Places.{CanChangePlace, IsTold, ways_of, where_is, page_count, lawful_told}
+use Rattle.state_core.proofs.Places.{CanChangePlace, IsOutWith, ways_of, where_is, page_count, lawful_told}
 
 -- what it takes to settle a page in use elsewhere
 abbrev pub CanSettle : ZoneState → ℕ → Placement → Placement → Type 0
@@ -47,8 +46,8 @@ pub record IsRecorded (v : ZoneState) (entry : Record) (page : ℕ) (new : Place
   pub well_ended : IsWellEnded (entry ∷ v.records)
   pub spare : 0 < v.room
   pub room_left : length (out (entry ∷ v.records)) ≤ v.room - 1
-  pub own_way : (serial : ℕ) → IsTrue (is_under (Some new) serial) ↔ (IsTrue (is_out (entry ∷ v.records) serial) × (page_of (entry ∷ v.records) serial ≡ Some page))
-  pub other_ways : (q serial : ℕ) → q ≢ page → (IsTrue (is_out v.records serial) × (page_of v.records serial ≡ Some q)) ↔ (IsTrue (is_out (entry ∷ v.records) serial) × (page_of (entry ∷ v.records) serial ≡ Some q))
+  pub own_way : (serial : ℕ) → IsTrue (is_under (Some new) serial) ↔ IsOutWith (entry ∷ v.records) page serial
+  pub other_ways : (q serial : ℕ) → q ≢ page → IsOutWith v.records q serial ↔ IsOutWith (entry ∷ v.records) q serial
   pub ways : length (out (entry ∷ v.records)) + ways_of (map.get v.placement page) ≡ length (out v.records) + ways_of (Some new)
 
 module _ {v : ZoneState} {page : ℕ} {old new : Placement} (can : CanSettle v page old new) where
@@ -58,11 +57,11 @@ module _ {v : ZoneState} {page : ℕ} {old new : Placement} (can : CanSettle v p
   pub same_pages : count_below (λ q. is_some (map.get (map.insert v.placement page new) q)) (frame_count v) ≡ count_below (λ q. is_some (map.get v.placement q)) (frame_count v)
   same_pages = omega (arith, page_count can)
 
-  told : (entry : Record) → IsRecorded v entry page new → IsTold v page (Some new) entry v.unmovable
-  told entry recorded =
+  pub lawful_settled : (entry : Record) → IsRecorded v entry page new → (migrate free : ℕ) → (migrate ≤ free) × (free ≤ frame_count v) → IsLawful (record (settled v entry page new) { migrate = migrate; free = free })
+  lawful_settled entry recorded =
       let law = can.lawful in
       let still = recorded.still in
-      record {
+      lawful_told can entry v.unmovable (record {
         truthful = recorded.truthful;
         well_ended = recorded.well_ended;
         spare = recorded.spare;
@@ -79,7 +78,4 @@ module _ {v : ZoneState} {page : ℕ} {old new : Placement} (can : CanSettle v p
         given = still.given;
         marks = still.marks;
         stay = λ q e. some_same q ∙ law.unmovable q e;
-      }
-
-  pub lawful_settled : (entry : Record) → IsRecorded v entry page new → (migrate free : ℕ) → (migrate ≤ free) × (free ≤ frame_count v) → IsLawful (record (settled v entry page new) { migrate = migrate; free = free })
-  lawful_settled entry recorded = lawful_told can entry v.unmovable (told entry recorded)
+      })

@@ -1,10 +1,9 @@
 -- A zone that was just opened.
-use Rattle.std.proofs.Common.{◌≡◌, ℕ, ◌*◌, true, false, not, refl, sym, ap, ◌∙◌, arith}
-use Rattle.std.specs.Prelude.{Option, None, is_some, ◌&&◌}
+use Rattle.std.proofs.Common.{◌≡◌, ℕ, ◌*◌, true, false, not, refl, sym, ap, ◌∙◌, arith, Option, None, is_some}
 use Rattle.std.specs.FinSet as set
 use Rattle.std.specs.FinMap as map
 use Rattle.std.specs.Ordering.{nat_cmp}
-use Rattle.std.proofs.lemmas.Bool.{both_ways}
+use Rattle.std.proofs.lemmas.Bool.{and_from, both_ways}
 use Rattle.std.proofs.lemmas.Option.{none-some}
 use Rattle.frame_core.proofs.Searches.{count_all, count_none, none_some}
 use Rattle.frame_core.specs.Below.{count_below}
@@ -12,7 +11,7 @@ use Rattle.state_core.specs.declared.placement.Placement.{Placement}
 use Rattle.state_core.specs.Steps.{opened}
 use Rattle.state_core.specs.Refusals.{IsOpenable}
 use Rattle.state_core.specs.Lawful.{IsLawful, is_under}
-use Rattle.state_core.specs.ZoneState.{ZoneState, frame_count, takes_up, covers, is_used, is_held, is_free}
+use Rattle.state_core.specs.ZoneState.{ZoneState, frame_count, takes_up, covers, is_held, is_free}
 
 module _ (number blocks places : ℕ) where
   abbrev new_zone : ZoneState
@@ -30,14 +29,11 @@ module _ (number blocks places : ℕ) where
   uncovered : (first frame : ℕ) → covers (map.get new_zone.handed_out first) first frame ≡ false
   uncovered first frame = ap (λ (o : Option ℕ). covers o first frame) (no_block first)
 
-  unused : (frame : ℕ) → is_used new_zone frame ≡ false
-  unused frame = none_some (λ page. takes_up (map.get new_zone.placement page) frame) (frame_count new_zone) (λ page h. untaken page frame)
-
   pub unheld : (frame : ℕ) → is_held new_zone frame ≡ false
   unheld frame = none_some (λ first. covers (map.get new_zone.handed_out first) first frame) (frame_count new_zone) (λ first h. uncovered first frame)
 
   pub all_free : (frame : ℕ) → is_free new_zone frame ≡ true
-  all_free frame = λ i. not (unused frame i) && not (unheld frame i)
+  all_free frame = and_from _ _ (ap not (none_some (λ page. takes_up (map.get new_zone.placement page) frame) (frame_count new_zone) (λ page h. untaken page frame))) (ap not (unheld frame))
 
   pub free_count : count_below (is_free new_zone) (frame_count new_zone) ≡ 512 * blocks
   free_count = count_all (is_free new_zone) (frame_count new_zone) (λ frame h. all_free frame)

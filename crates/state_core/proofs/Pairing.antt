@@ -1,6 +1,5 @@
 -- The pair that a search finds is the next, and where it finds none there is none.
-use Rattle.std.proofs.Common.{◌≡◌, ℕ, ◌<◌, ◌≤◌, Bool, true, not, inl, inr, refl, sym, ap, subst, ◌∙◌, arith}
-use Rattle.std.specs.Prelude.{Option, Some, None, IfNone, nat_le, nat_lt, ◌&&◌}
+use Rattle.std.proofs.Common.{◌≡◌, ℕ, ◌<◌, ◌≤◌, Bool, true, not, inl, inr, refl, sym, ap, subst, ◌∙◌, arith, Option, Some, None, IfNone, nat_le, nat_lt, ◌&&◌}
 use Rattle.std.proofs.lemmas.Bool.{and_parts, both_ways, false_from_ne_true, not-true, ltb-true, leb-true, lt-ltb, le-leb}
 use Rattle.std.proofs.lemmas.Bool.Decides.{leb_tells}
 use Rattle.std.proofs.lemmas.Option.{same_Some, none-some}
@@ -106,45 +105,21 @@ module _ (v : ZoneState) (law : IsLawful v) where
         ];
       }
 
--- the parts of a pair that is found
-pub record Parts (v : ZoneState) (pair : Pair) : Type 0 where
-  pub from : next_source v ≡ Some pair.source
-  pub holds : holder v pair.source ≡ Some pair.page
-  pub to : next_target v pair.source ≡ Some pair.target
+pub pair_found : (v : ZoneState) → IsLawful v → (pair : Pair) → next_pair v ≡ Some pair → IsPair v pair.page pair.source pair.target
+pair_found v law pair e = by_source (next_source v) refl e where
+  by_parts : (source : ℕ) (p t : Option ℕ) → next_source v ≡ Some source → holder v source ≡ p → next_target v source ≡ t → pair_from source p t ≡ Some pair → IsPair v pair.page pair.source pair.target
+  by_parts source None t from holds to e = cc
+  by_parts source (Some page) None from holds to e = cc
+  by_parts source (Some page) (Some target) from holds to e = subst (λ (q : Pair). IsPair v q.page q.source q.target) (same_Some _ pair e) (found_pair v law page source target from holds to)
 
-pair_parts : (source : ℕ) (p t : Option ℕ) (pair : Pair) → pair_from source p t ≡ Some pair →
-    (source ≡ pair.source) × (p ≡ Some pair.page) × (t ≡ Some pair.target)
-pair_parts source None t pair e = cc
-pair_parts source (Some page) None pair e = cc
-pair_parts source (Some page) (Some target) pair e =
-    let same : record { page = page; source = source; target = target } ≡ pair = cc in
-    (ap (λ (q : Pair). q.source) same, ap (λ (q : Pair). Some q.page) same, ap (λ (q : Pair). Some q.target) same)
-
-parts : (v : ZoneState) (pair : Pair) → next_pair v ≡ Some pair → Parts v pair
-parts v pair e = by_source (next_source v) refl e where
-  by_source : (o : Option ℕ) → next_source v ≡ o → pair_at v o ≡ Some pair → Parts v pair
-  by_source None is e = cc
-  by_source (Some source) is e =
-      let found = pair_parts source (holder v source) (next_target v source) pair e in
-      record {
-        from = is ∙ ap Some found.0;
-        holds = ap (holder v) (sym found.0) ∙ found.1;
-        to = ap (next_target v) (sym found.0) ∙ found.2;
-      }
-
-pub pair_found : (v : ZoneState) → IsLawful v → (pair : Pair) → next_pair v ≡ Some pair →
-    IsPair v pair.page pair.source pair.target
-pair_found v law pair e =
-    let found = parts v pair e in
-    found_pair v law pair.page pair.source pair.target found.from found.holds found.to
-
-pub no_pair : (v : ZoneState) → IsLawful v → next_pair v ≡ None → (page source target : ℕ) → IsPair v page source target → ⊥
-no_pair v law none page source target pair = none-some _ (sym none ∙ pair_is v law page source target pair)
+  by_source : (o : Option ℕ) → next_source v ≡ o → pair_at v o ≡ Some pair → IsPair v pair.page pair.source pair.target
+  by_source None from e = cc
+  by_source (Some source) from e = by_parts source (holder v source) (next_target v source) from refl refl e
 
 -- a search that finds none
 pub none_found : (v : ZoneState) → IsLawful v → (o : Option Pair) → o ≡ None → next_pair v ≡ None →
     IfNone o ((page source target : ℕ) → IsPair v page source target → ⊥)
-none_found v law None e none = no_pair v law none
+none_found v law None e none = λ page source target pair. none-some _ (sym none ∙ pair_is v law page source target pair)
 none_found v law (Some pair) e none = cc
 
 no_target : (source : ℕ) (o : Option ℕ) → pair_from source o None ≡ None

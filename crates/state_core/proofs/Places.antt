@@ -1,6 +1,5 @@
 -- A page gets another place, its first, or none: where each page is then, which frames are free, and that the zone stays lawful.
-use Rattle.std.proofs.Common.{◌≡◌, ◌≢◌, ℕ, zero, suc, ◌+◌, ◌-◌, ◌<◌, ◌≤◌, Bool, true, false, not, ◌∷◌, length, ◌⊎◌, inl, inr, refl, sym, ap, ◌∙◌, arith}
-use Rattle.std.specs.Prelude.{Option, Some, None, IsSome, IsTrue, is_some, nat_eq, ◌&&◌, ◌||◌, ◌↔◌}
+use Rattle.std.proofs.Common.{◌≡◌, ◌≢◌, ℕ, zero, suc, ◌+◌, ◌-◌, ◌<◌, ◌≤◌, Bool, true, false, not, List, ◌∷◌, length, ◌⊎◌, inl, inr, refl, sym, ap, ◌∙◌, arith, Option, Some, None, IsSome, IsTrue, is_some, nat_eq, ◌&&◌, ◌||◌, ◌↔◌}
 use Rattle.std.specs.FinMap as map
 use Rattle.std.specs.FinSet as set
 use Rattle.std.specs.Ordering.{nat_cmp}
@@ -32,17 +31,19 @@ put placement page (Some place) = map.insert placement page place
 abbrev pub with_place : ZoneState → ℕ → Option Placement → ZoneState
 with_place v page place = record v { placement = put v.placement page place }
 
--- how many frames a page takes up that is placed so
-abbrev pub frames_of : Option Placement → ℕ
-frames_of None = 0
-frames_of (Some (At frame)) = 1
-frames_of (Some (Moving serial source target)) = 2
-
 -- how many pages are on their way by it
 abbrev pub ways_of : Option Placement → ℕ
 ways_of None = 0
 ways_of (Some (At frame)) = 0
 ways_of (Some (Moving serial source target)) = 1
+
+-- how many frames a page takes up that is placed so: one if it is in use, and another if it is on its way
+abbrev pub frames_of : Option Placement → ℕ
+frames_of o = one_if (is_some o) + ways_of o
+
+-- a page is out under a serial
+abbrev pub IsOutWith : List Record → ℕ → ℕ → Type 0
+IsOutWith records page serial = IsTrue (is_out records serial) × (page_of records serial ≡ Some page)
 
 -- what it takes to change the place of a page: each frame that it takes up then is one that it took up, or one that is free
 pub record CanChangePlace (v : ZoneState) (page : ℕ) (old new : Option Placement) : Type 0 where
@@ -52,6 +53,14 @@ pub record CanChangePlace (v : ZoneState) (page : ℕ) (old new : Option Placeme
   pub takes : (frame : ℕ) → takes_up new frame ≡ true → (takes_up old frame ≡ true) ⊎ ((is_free v frame ≡ true) × (frame < frame_count v))
   pub upward : (serial source target : ℕ) → new ≡ Some (Moving serial source target) → source < target
 
+-- what is lawful of the places alone
+pub record HasLawfulPlaces (z : ZoneState) : Type 0 where
+  pub numbered : (page : ℕ) → IsSome (map.get z.placement page) → page < frame_count z
+  pub upward : (page serial source target : ℕ) → map.get z.placement page ≡ Some (Moving serial source target) → source < target
+  pub apart : (p q frame : ℕ) → takes_up (map.get z.placement p) frame ≡ true → takes_up (map.get z.placement q) frame ≡ true → p ≡ q
+  pub within : (page frame : ℕ) → takes_up (map.get z.placement page) frame ≡ true → frame < frame_count z
+  pub clear : (page frame : ℕ) → takes_up (map.get z.placement page) frame ≡ true → is_held z frame ≡ false
+
 get_put_same : (m : map.FinMap nat_cmp Placement) (page q : ℕ) (place : Option Placement) → q ≡ page → map.get (put m page place) q ≡ place
 get_put_same m page q None e = get_remove_same m page q e
 get_put_same m page q (Some place) e = get_insert_same m page q place e
@@ -60,18 +69,15 @@ get_put_other : (m : map.FinMap nat_cmp Placement) (page q : ℕ) (place : Optio
 get_put_other m page q None ne = get_remove_other m page q ne
 get_put_other m page q (Some place) ne = get_insert_other m page q place ne
 
-free_parts : (v : ZoneState) (frame : ℕ) → is_free v frame ≡ true → (is_used v frame ≡ false) × (is_held v frame ≡ false)
-free_parts v frame e = let parts = and_parts (not (is_used v frame)) (not (is_held v frame)) e in (not-true _ parts.0, not-true _ parts.1)
-
 pub unheld_frame : (v : ZoneState) (frame : ℕ) → is_free v frame ≡ true → is_held v frame ≡ false
-unheld_frame v frame e = (free_parts v frame e).1
+unheld_frame v frame free = not-true _ (and_parts (not (is_used v frame)) _ free).1
 
 -- no page takes up a free frame
 pub untaken : (v : ZoneState) → IsLawful v → (frame : ℕ) → is_free v frame ≡ true → (page : ℕ) → takes_up (map.get v.placement page) frame ≡ false
 untaken v law frame free page = by_use (map.get v.placement page) refl where
   by_use : (o : Option Placement) → map.get v.placement page ≡ o → takes_up (map.get v.placement page) frame ≡ false
   by_use None e = ap (λ (o : Option Placement). takes_up o frame) e
-  by_use (Some place) e = some_none (λ p. takes_up (map.get v.placement p) frame) (frame_count v) (free_parts v frame free).0 page (law.numbered page (not_none _ place e))
+  by_use (Some place) e = some_none (λ p. takes_up (map.get v.placement p) frame) (frame_count v) (not-true _ (and_parts _ (not (is_held v frame)) free).0) page (law.numbered page (not_none _ place e))
 
 -- counts of tests that add up to the same at each number
 counts_add_up : (a b c d : ℕ → Bool) (n : ℕ) → ((k : ℕ) → k < n → one_if (a k) + one_if (b k) ≡ one_if (c k) + one_if (d k)) → count_below a n + count_below b n ≡ count_below c n + count_below d n
@@ -102,8 +108,12 @@ frames_counted (Some (Moving serial source target)) n within upward =
     let apart : target ≢ source = omega arith in
     let high : target < n = within target (or_right (nat_eq target source) _ (eq-eqb target target refl)) in
     let low : source < n = omega arith in
-    omega (arith, one_frame source n low, count_more (λ g. nat_eq g source) (λ g. nat_eq g source || nat_eq g target) n target high (ne_eqb target source apart) (or_right _ _ (eq-eqb target target refl))
-        (λ g ne. ap (λ b. nat_eq g source || b) (ne_eqb g target ne) ∙ or-false (nat_eq g source)))
+    omega (
+      arith,
+      one_frame source n low,
+      count_more (λ g. nat_eq g source) (λ g. nat_eq g source || nat_eq g target) n target high (ne_eqb target source apart) (or_right _ _ (eq-eqb target target refl))
+          (λ g ne. ap (λ b. nat_eq g source || b) (ne_eqb g target ne) ∙ or-false (nat_eq g source)),
+    )
 
 module _ {v : ZoneState} {page : ℕ} {old new : Option Placement} (can : CanChangePlace v page old new) where
   abbrev next : ZoneState
@@ -149,17 +159,17 @@ module _ {v : ZoneState} {page : ℕ} {old new : Option Placement} (can : CanCha
   pub new_clear : (g : ℕ) → takes_up new g ≡ true → is_held v g ≡ false
   new_clear g e = elim (can.takes g e) [ inl had ↦ old_clear g had | inr free ↦ unheld_frame v g free.0 ]
 
-  pub apart : (p q g : ℕ) → takes_up (map.get next.placement p) g ≡ true → takes_up (map.get next.placement q) g ≡ true → p ≡ q
-  apart p q g a b = elim (took p g a) [
-    | inl x ↦ elim (took q g b) [ inl y ↦ x.0 ∙ sym y.0 | inr y ↦ absurd (not_new q g y.0 y.1 x.1) ]
-    | inr x ↦ elim (took q g b) [ inl y ↦ absurd (not_new p g x.0 x.1 y.1) | inr y ↦ can.lawful.apart p q g x.1 y.1 ]
-  ]
-
-  pub within : (q g : ℕ) → takes_up (map.get next.placement q) g ≡ true → g < frame_count v
-  within q g a = elim (took q g a) [ inl mine ↦ new_within g mine.1 | inr theirs ↦ can.lawful.within q g theirs.1 ]
-
-  pub clear : (q g : ℕ) → takes_up (map.get next.placement q) g ≡ true → is_held v g ≡ false
-  clear q g a = elim (took q g a) [ inl mine ↦ new_clear g mine.1 | inr theirs ↦ can.lawful.clear q g theirs.1 ]
+  pub lawful_places : HasLawfulPlaces next
+  lawful_places = record {
+    numbered = λ q used. elim (where_is q) [ inl here ↦ omega (arith, here.0, can.numbered) | inr there ↦ can.lawful.numbered q (ap is_some (sym there.1) ∙ used) ];
+    upward = λ q serial source target e. elim (where_is q) [ inl here ↦ can.upward serial source target (sym here.2 ∙ e) | inr there ↦ can.lawful.upward q serial source target (sym there.1 ∙ e) ];
+    apart = λ p q g a b. elim (took p g a) [
+      | inl x ↦ elim (took q g b) [ inl y ↦ x.0 ∙ sym y.0 | inr y ↦ absurd (not_new q g y.0 y.1 x.1) ]
+      | inr x ↦ elim (took q g b) [ inl y ↦ absurd (not_new p g x.0 x.1 y.1) | inr y ↦ can.lawful.apart p q g x.1 y.1 ]
+    ];
+    within = λ q g a. elim (took q g a) [ inl mine ↦ new_within g mine.1 | inr theirs ↦ can.lawful.within q g theirs.1 ];
+    clear = λ q g a. elim (took q g a) [ inl mine ↦ new_clear g mine.1 | inr theirs ↦ can.lawful.clear q g theirs.1 ];
+  }
 
   -- which frames are free: none of the new place, those that the page left, and else those that were
   pub free_new : (g : ℕ) → takes_up new g ≡ true → is_free next g ≡ false
@@ -219,29 +229,24 @@ pub record IsTold (v : ZoneState) (page : ℕ) (new : Option Placement) (entry :
   pub named : (address : Address) (q : ℕ) → page_at (entry ∷ v.records) address ≡ Some q → IsSome (map.get (put v.placement page new) q)
   pub in_use : (q : ℕ) → IsSome (map.get (put v.placement page new) q) → (0 < maps (entry ∷ v.records) q) × (maps (entry ∷ v.records) q ≤ 4) × (pins (entry ∷ v.records) q ≤ 255)
   -- this page is on its way under just the serial that it is out with, and the others go on so
-  pub own_way : (serial : ℕ) → IsTrue (is_under new serial) ↔ (IsTrue (is_out (entry ∷ v.records) serial) × (page_of (entry ∷ v.records) serial ≡ Some page))
-  pub other_ways : (q serial : ℕ) → q ≢ page → (IsTrue (is_out v.records serial) × (page_of v.records serial ≡ Some q)) ↔ (IsTrue (is_out (entry ∷ v.records) serial) × (page_of (entry ∷ v.records) serial ≡ Some q))
+  pub own_way : (serial : ℕ) → IsTrue (is_under new serial) ↔ IsOutWith (entry ∷ v.records) page serial
+  pub other_ways : (q serial : ℕ) → q ≢ page → IsOutWith v.records q serial ↔ IsOutWith (entry ∷ v.records) q serial
   pub ways : length (out (entry ∷ v.records)) + ways_of (map.get v.placement page) ≡ length (out v.records) + ways_of new
   pub given : (first : ℕ) → given_out (entry ∷ v.records) first ≡ given_out v.records first
   pub marks : (block : ℕ) → is_marked_by (entry ∷ v.records) block ≡ is_marked_by v.records block
   pub stay : (q : ℕ) → set.contains unmovable q ≡ true → IsSome (map.get (put v.placement page new) q)
 
-frames_and_ways : (o : Option Placement) → frames_of o ≡ one_if (is_some o) + ways_of o
-frames_and_ways None = refl
-frames_and_ways (Some (At frame)) = refl
-frames_and_ways (Some (Moving serial source target)) = refl
-
 module _ {v : ZoneState} {page : ℕ} {old new : Option Placement} (can : CanChangePlace v page old new) (entry : Record) (unmovable : set.FinSet nat_cmp) (told : IsTold v page new entry unmovable) where
   abbrev placement_then : map.FinMap nat_cmp Placement
   placement_then = put v.placement page new
 
-  way_then : (q serial : ℕ) → IsTrue (is_under (map.get placement_then q) serial) → IsTrue (is_out (entry ∷ v.records) serial) × (page_of (entry ∷ v.records) serial ≡ Some q)
+  way_then : (q serial : ℕ) → IsTrue (is_under (map.get placement_then q) serial) → IsOutWith (entry ∷ v.records) q serial
   way_then q serial under = elim (where_is can q) [
     | inl here ↦ (let way = (told.own_way serial).0 (sym (ap (λ o. is_under o serial) here.2) ∙ under) in (way.0, way.1 ∙ ap Some (sym here.0)))
     | inr there ↦ (told.other_ways q serial there.0).0 ((can.lawful.under_way q serial).0 (sym (ap (λ o. is_under o serial) there.1) ∙ under))
   ]
 
-  under_then : (q serial : ℕ) → IsTrue (is_out (entry ∷ v.records) serial) × (page_of (entry ∷ v.records) serial ≡ Some q) → IsTrue (is_under (map.get placement_then q) serial)
+  under_then : (q serial : ℕ) → IsOutWith (entry ∷ v.records) q serial → IsTrue (is_under (map.get placement_then q) serial)
   under_then q serial way = elim (where_is can q) [
     | inl here ↦ ap (λ o. is_under o serial) here.2 ∙ (told.own_way serial).1 (way.0, way.1 ∙ ap Some here.0)
     | inr there ↦ ap (λ o. is_under o serial) there.1 ∙ (can.lawful.under_way q serial).1 ((told.other_ways q serial there.0).1 way)
@@ -250,6 +255,7 @@ module _ {v : ZoneState} {page : ℕ} {old new : Option Placement} (can : CanCha
   pub lawful_told : (migrate free : ℕ) → (migrate ≤ free) × (free ≤ frame_count v) → IsLawful (record (noted (with_place v page new) entry) { unmovable = unmovable; migrate = migrate; free = free })
   lawful_told migrate free fingers =
       let law = can.lawful in
+      let geometry = lawful_places can in
       record {
         size = law.size;
         places = (let before = law.places in let spare = told.spare in omega arith);
@@ -258,15 +264,12 @@ module _ {v : ZoneState} {page : ℕ} {old new : Option Placement} (can : CanCha
         room_left = told.room_left;
         named = told.named;
         in_use = told.in_use;
-        numbered = λ q used. elim (where_is can q) [ inl here ↦ omega (arith, here.0, can.numbered) | inr there ↦ law.numbered q (ap is_some (sym there.1) ∙ used) ];
+        numbered = geometry.numbered;
         under_way = λ q serial. (way_then q serial, under_then q serial);
-        upward = λ q serial source target e. elim (where_is can q) [
-          | inl here ↦ can.upward serial source target (sym here.2 ∙ e)
-          | inr there ↦ law.upward q serial source target (sym there.1 ∙ e)
-        ];
-        apart = apart can;
-        within = within can;
-        clear = clear can;
+        upward = geometry.upward;
+        apart = geometry.apart;
+        within = geometry.within;
+        clear = geometry.clear;
         blocks = law.blocks;
         disjoint = law.disjoint;
         given = λ first. law.given first ∙ sym (told.given first);
@@ -274,5 +277,5 @@ module _ {v : ZoneState} {page : ℕ} {old new : Option Placement} (can : CanCha
         unmovable = told.stay;
         fingers = fingers;
         begun = λ start e. begun_more v.records entry v.round law.begun start e;
-        sum = omega (arith, law.sum, free_count can, page_count can, told.ways, ap ways_of can.at, frames_and_ways old, frames_and_ways new);
+        sum = omega (arith, law.sum, free_count can, page_count can, told.ways, ap ways_of can.at);
       }

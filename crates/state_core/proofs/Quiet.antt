@@ -1,6 +1,5 @@
 -- One more record, and whether the latest round is quiet so far.
-use Rattle.std.proofs.Common.{◌≡◌, ℕ, suc, ◌-◌, ◌≤◌, true, false, List, ◌∷◌, length, take, refl, ap, ◌∙◌, arith}
-use Rattle.std.specs.Prelude.{Option, Some, None, ◌&&◌}
+use Rattle.std.proofs.Common.{◌≡◌, ℕ, suc, ◌-◌, ◌≤◌, true, false, List, ◌∷◌, length, take, refl, ap, ◌∙◌, arith, Option, Some, None, ◌&&◌}
 use Rattle.std.specs.List.{list_all}
 use Rattle.std.proofs.lemmas.Bool.{and_right}
 use Rattle.journal_core.specs.declared.record.Record.{Record}

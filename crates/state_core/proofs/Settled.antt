@@ -1,6 +1,5 @@
 -- The names under which other crates cite what is so when a page in use takes up other frames.
-use Rattle.std.proofs.Common.{◌≡◌, ◌≢◌, ℕ, ◌≤◌, true, false}
-use Rattle.std.specs.Prelude.{Some, is_some}
+use Rattle.std.proofs.Common.{◌≡◌, ◌≢◌, ℕ, ◌≤◌, true, false, Some, is_some}
 use Rattle.std.specs.FinMap as map
 use Rattle.frame_core.specs.Below.{count_below}
 use Rattle.journal_core.specs.declared.record.Record.{Record}
@@ -9,11 +8,10 @@ use Rattle.state_core.specs.Lawful.{IsLawful}
 use Rattle.state_core.specs.Moving.{settled}
 use Rattle.state_core.specs.ZoneState.{ZoneState, frame_count, takes_up, is_held, is_free}
 use Rattle.state_core.proofs.Moving as moving
-use Rattle.state_core.proofs.Moving.{CanSettle, IsRecorded}
 use Rattle.state_core.proofs.Places as places
 pub use Rattle.state_core.proofs.Moving.{CanSettle, IsStill, IsRecorded, isolate_still, moved_still, back_still}
 pub use Rattle.state_core.proofs.Isolating.{target_within, can_isolate, isolated_others, isolated_target, isolated_fewer, isolate_recorded, lawful_isolated}
-pub use Rattle.state_core.proofs.Ending.{is_out_now, page_is, frames_apart, can_move_on, can_go_back, moved_others, moved_source, back_others, back_target, source_used, target_used, source_within, target_in, moved_more, back_more, out_fewer, moved_recorded, back_recorded, lawful_moved, lawful_put_back}
+pub use Rattle.state_core.proofs.Ending.{frames_apart, can_move_on, can_go_back, moved_others, moved_source, back_others, back_target, source_used, target_used, source_within, target_in, moved_more, back_more, out_fewer, moved_recorded, back_recorded, lawful_moved, lawful_put_back}
 
 module _ (v : ZoneState) (page : ℕ) (old new : Placement) (can : CanSettle v page old new) (entry : Record) where
   pub at_page : map.get (settled v entry page new).placement page ≡ Some new
