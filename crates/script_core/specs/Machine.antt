@@ -14,7 +14,7 @@ use Rattle.state_core.specs.Moving.{look_of}
 use Rattle.state_core.specs.Refusals.{map_refusal, map_at_refusal, access_refusal}
 use Rattle.state_core.specs.Steps.{mapped, stored, loaded, value_at, info_of}
 use Rattle.state_core.specs.ZoneState.{ZoneState, lowest_free_frame}
-use Rattle.zone_core.specs.World.{WorldState, world_opened, with_zone, round_opened, scan_refusal, scan_answer, scanned, take_step, copy_step, finish_step, shut_step}
+use Rattle.zone_core.specs.World.{WorldState, world_opened, with_zone, scan_refusal, scan_stopped, scan_answer, scanned, take_step, copy_step, finish_step, shut_step}
 use Rattle.text_core.specs.declared.command.Call.{Call}
 use Rattle.text_core.specs.declared.command.Call.TheVariants.{Map, MapAt, Store, Load, Info, Scan, Take, Copy, Finish, Shut, Look}
 use Rattle.text_core.specs.declared.command.Command.{Command}
@@ -81,7 +81,7 @@ call_step w (Store a word value) = unless (access_refusal w.zone a) w (done w (s
 call_step w (Load a word) =
     unless (access_refusal w.zone a) w (says (reply.Value (value_at w.zone a word)) (with_zone w (loaded w.zone 0 a word)))
 call_step w Info = says (reply.Info (info_of w.zone)) w
-call_step w Scan = unless (scan_refusal w) (round_opened w) (says (found (scan_answer w)) (scanned w))
+call_step w Scan = unless (scan_refusal w) (scan_stopped w) (says (found (scan_answer w)) (scanned w))
 call_step w (Take hand) = by_hand (λ serial. reply.Serial serial) w (take_step w hand)
 call_step w (Copy hand) = copied w (copy_step w hand)
 call_step w (Finish hand) = by_hand (λ (f : Finished). ending f.serial f.ended) w (finish_step w hand)

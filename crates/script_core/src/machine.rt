@@ -1,7 +1,7 @@
 ghost use Rattle.std.specs.Prelude.{◌≡◌, ◌<◌, ◌≤◌, bit_and, Some, None, IfOk, OnErr, IsTrue};
 ghost use Rattle.script_core.specs.Machine.{call_step, ending, found, open_step, opens, step, step_on};
 ghost use Rattle.text_core.specs.declared.reply.Reply.TheVariants as reply;
-ghost use Rattle.zone_core.specs.Books.{IsFor};
+ghost use Rattle.zone_core.specs.Books.{AreFor};
 ghost use Rattle.zone_core.specs.ErrorNumber.{world_number_of};
 ghost use Rattle.state_core.specs.ErrorNumber.{number_of};
 ghost use Rattle.state_core.specs.Steps.{is_unmovable};
@@ -25,7 +25,7 @@ pub(crate) struct Machine<I: Ledger, N: Ledger, M: Ledger, B: Ledger> {
 impl<I: Ledger, N: Ledger, M: Ledger, B: Ledger> Model for Machine<I, N, M, B> {
     ghost use Rattle.std.specs.Prelude.{Option};
     ghost use Rattle.std.specs.Option.{ForSome};
-    ghost use Rattle.zone_core.specs.Books.{IsFor};
+    ghost use Rattle.zone_core.specs.Books.{AreFor};
     ghost use Rattle.zone_core.specs.World.{WorldState};
     ghost use Rattle.std.specs.Coded.{codes};
     ghost use Rattle.plain_core.specs.contracts.plain.PlainZone as plain_zone;
@@ -36,20 +36,13 @@ impl<I: Ledger, N: Ledger, M: Ledger, B: Ledger> Model for Machine<I, N, M, B> {
 
     ghost view = { λ m. m.world };
 
-    ghost invariant = { λ m. ForSome m.blanks (λ b.
-        IsFor b.isolated.name b.isolated.parts I.name I.parts
-        × IsFor b.rounds.name b.rounds.parts N.name N.parts
-        × IsFor b.moved.name b.moved.parts M.name M.parts
-        × IsFor b.back.name b.back.parts B.name B.parts) };
+    ghost invariant = { λ m. ForSome m.blanks (λ b. AreFor b I.name I.parts N.name N.parts M.name M.parts B.name B.parts) };
 }
 
 impl<I: Ledger, N: Ledger, M: Ledger, B: Ledger> Machine<I, N, M, B> {
     /// No zone yet.
     pub(crate) fn new(blanks: Blanks) -> Self
-        requires isolated { IsFor blanks.isolated.name blanks.isolated.parts I.name I.parts }
-        requires rounds { IsFor blanks.rounds.name blanks.rounds.parts N.name N.parts }
-        requires moved { IsFor blanks.moved.name blanks.moved.parts M.name M.parts }
-        requires back { IsFor blanks.back.name blanks.back.parts B.name B.parts }
+        requires blanks { AreFor blanks I.name I.parts N.name N.parts M.name M.parts B.name B.parts }
         ensures { result ≡ None }
     {
         Machine {
@@ -143,11 +136,9 @@ fn answer<I: Ledger, N: Ledger, M: Ledger, B: Ledger>(
             .map_or_else(by_zone, Reply::Value),
         Call::Info => Reply::Info(world.zone().info()),
         Call::Scan => world.scan().map_or_else(by_world, scan_reply),
-        Call::Take(hand) => world.take(hand.get()).map_or_else(by_world, Reply::Serial),
-        Call::Copy(hand) => world
-            .copy(hand.get())
-            .map_or_else(by_world, |()| Reply::Done),
-        Call::Finish(hand) => world.finish(hand.get()).map_or_else(by_world, end_reply),
+        Call::Take(hand) => world.take(hand).map_or_else(by_world, Reply::Serial),
+        Call::Copy(hand) => world.copy(hand).map_or_else(by_world, |()| Reply::Done),
+        Call::Finish(hand) => world.finish(hand).map_or_else(by_world, end_reply),
         Call::Shut => world.shut().map_or_else(by_world, Reply::Shut),
         Call::Look(address) => world
             .zone()

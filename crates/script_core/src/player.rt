@@ -1,5 +1,5 @@
 ghost use Rattle.std.specs.Prelude.{◌≡◌, ℕ, ◌+◌, ◌^◌, ◌<◌, ◌≤◌, [], ◌∷◌, ◌++◌, List, Option, length, position, nat_eq, Some, None, Ok, IfNone, IfSome, IfErr, IfOk, OnOk};
-ghost use Rattle.zone_core.specs.Books.{IsFor};
+ghost use Rattle.zone_core.specs.Books.{AreFor};
 ghost use Rattle.text_core.specs.Line.{line_of};
 ghost use Rattle.text_core.specs.Reply.{newlines};
 ghost use Rattle.std.specs.Io.KnownBytes.{Appends};
@@ -52,10 +52,7 @@ impl<I: Ledger, N: Ledger, M: Ledger, B: Ledger> Player<I, N, M, B> {
     /// At the first byte of a script.
     pub(crate) fn new(alloc: Global, places: u32, blanks: Blanks) -> Self
         requires places { (0 < places) × (places ≤ 65536) }
-        requires isolated { IsFor blanks.isolated.name blanks.isolated.parts I.name I.parts }
-        requires rounds { IsFor blanks.rounds.name blanks.rounds.parts N.name N.parts }
-        requires moved { IsFor blanks.moved.name blanks.moved.parts M.name M.parts }
-        requires back { IsFor blanks.back.name blanks.back.parts B.name B.parts }
+        requires blanks { AreFor blanks I.name I.parts N.name N.parts M.name M.parts B.name B.parts }
         ensures { result ≡ begun places }
     {
         Player {

@@ -1,6 +1,6 @@
 ghost use Rattle.std.specs.Prelude.{◌≡◌, IfErr, IfOk, IfSome, IsTrue, OnOk, OnSome, None, Some};
 ghost use Rattle.std.specs.Io.KnownBytes.{Appends};
-ghost use Rattle.zone_core.specs.Books.{IsFor};
+ghost use Rattle.zone_core.specs.Books.{AreFor};
 ghost use Rattle.script_core.specs.declared.error.Fault.{Fault};
 ghost use Rattle.script_core.specs.Ends.{EndsIn, FailsBehind, LacksMemory, StopsIn, is_of_script, is_over};
 ghost use Rattle.script_core.specs.Script.{answers_of, fault_of, output_of, totals_of};
@@ -62,10 +62,7 @@ fn run_with<I: Ledger, N: Ledger, M: Ledger, B: Ledger, R: Read, W: Write>(
     options: Options,
     blanks: Blanks,
 ) -> Result<Totals, RunError>
-    requires isolated { IsFor blanks.isolated.name blanks.isolated.parts I.name I.parts }
-    requires rounds { IsFor blanks.rounds.name blanks.rounds.parts N.name N.parts }
-    requires moved { IsFor blanks.moved.name blanks.moved.parts M.name M.parts }
-    requires back { IsFor blanks.back.name blanks.back.parts B.name B.parts }
+    requires blanks { AreFor blanks I.name I.parts N.name N.parts M.name M.parts B.name B.parts }
     ensures ok { OnOk result (IfSome (R.remaining reader.old) (λ input. fault_of input ≡ None)) }
     ensures totals { IfOk result (λ totals. IfSome (R.remaining reader.old) (λ input.
         totals ≡ totals_of options.journal input)) }

@@ -1,5 +1,5 @@
 -- Lines that are too long for a row.
-use Rattle.std.proofs.Common.{◌≡◌, ℕ, ◌<◌, List, [], ◌∷◌, length, arith, Option, None}
+use Rattle.std.proofs.Common.{◌≡◌, ℕ, ◌<◌, List, length, arith, Option, None}
 use Rattle.text_core.specs.declared.token.Token.{Token}
 use Rattle.text_core.specs.Grammar.{command_of, row_of}
 

@@ -2,115 +2,120 @@ use crate::{BlockCount, Call, Command, Reply, ScriptError, read_line, reply_text
 use frame_core::{Address, FrameNo, HandNo, PageFlags, SpaceNo, VPage, WordNo, ZoneNo};
 use state_core::{Info, Look};
 
-type Line = Result<Option<Command>, ScriptError>;
+/// Page 2 of space 1.
+fn address() -> Address {
+    Address {
+        space: SpaceNo::new(1).unwrap(),
+        vpage: VPage::new(2).unwrap(),
+    }
+}
 
-/// The line of a call on a zone.
-fn on(zone: u32, call: Call) -> Line {
-    let zone = ZoneNo::new(zone).unwrap();
-    Ok(Some(Command::On { zone, call }))
+#[test]
+fn reads_calls(rt: HostRuntime) {
+    let zone = ZoneNo::new(3).unwrap();
+    let frame = FrameNo::new(9).unwrap();
+    let word = WordNo::new(7).unwrap();
+    let hand = HandNo::new(4).unwrap();
+    let rows: [(&str, &[u8], Call); 14] = [
+        (
+            "a map",
+            b"map 3 1 2",
+            Call::Map {
+                address: address(),
+                unmovable: false,
+            },
+        ),
+        (
+            "unmovable",
+            b"map 3 1 2 unmovable",
+            Call::Map {
+                address: address(),
+                unmovable: true,
+            },
+        ),
+        (
+            "a frame",
+            b"mapat 3 1 2 9",
+            Call::MapAt {
+                address: address(),
+                frame,
+                unmovable: false,
+            },
+        ),
+        (
+            "a frame, unmovable",
+            b"mapat 3 1 2 9 unmovable",
+            Call::MapAt {
+                address: address(),
+                frame,
+                unmovable: true,
+            },
+        ),
+        (
+            "the largest number",
+            b"store 3 1 2 7 18446744073709551615",
+            Call::Store {
+                address: address(),
+                word,
+                value: 18446744073709551615,
+            },
+        ),
+        (
+            "20 digits",
+            b"load 3 1 2 00000000000000000007",
+            Call::Load {
+                address: address(),
+                word,
+            },
+        ),
+        ("many spaces", b"  info    3  ", Call::Info),
+        ("a scan", b"scan 3", Call::Scan),
+        ("a take", b"take 3 4", Call::Take(hand)),
+        ("a copy", b"copy 3 4", Call::Copy(hand)),
+        ("a finish", b"finish 3 4", Call::Finish(hand)),
+        ("a shut", b"shut 3", Call::Shut),
+        ("a look", b"look 3 1 2", Call::Look(address())),
+        (
+            "a load",
+            b"load 3 1 2 7",
+            Call::Load {
+                address: address(),
+                word,
+            },
+        ),
+    ];
+    for (name, line, call) in rows {
+        assert_eq!(rt;
+            read_line(line),
+            Ok(Some(Command::On { zone, call })),
+            "{name}"
+        );
+    }
 }
 
 #[test]
 fn reads_lines(rt: HostRuntime) {
-    let address = Address {
-        space: SpaceNo::new(1).unwrap(),
-        vpage: VPage::new(2).unwrap(),
-    };
-    let frame = FrameNo::new(9).unwrap();
-    let word = WordNo::new(7).unwrap();
-    let hand = HandNo::new(4).unwrap();
-    let rows: [(&str, &[u8], Line); 25] = [
+    let zone = ZoneNo::new(3).unwrap();
+    let blocks = BlockCount::new(8).unwrap();
+    let rows: [(&str, &[u8], Result<Option<Command>, ScriptError>); 12] = [
         ("nothing", b"", Ok(None)),
         ("spaces", b"   ", Ok(None)),
         ("a comment", b"  #zone 0 1", Ok(None)),
         (
             "a zone",
             b"zone 3 8",
-            Ok(Some(Command::Open {
-                zone: ZoneNo::new(3).unwrap(),
-                blocks: BlockCount::new(8).unwrap(),
-            })),
-        ),
-        ("many spaces", b"  info    2  ", on(2, Call::Info)),
-        (
-            "a map",
-            b"map 0 1 2",
-            on(
-                0,
-                Call::Map {
-                    address,
-                    unmovable: false,
-                },
-            ),
+            Ok(Some(Command::Open { zone, blocks })),
         ),
         (
-            "unmovable",
-            b"map 0 1 2 unmovable",
-            on(
-                0,
-                Call::Map {
-                    address,
-                    unmovable: true,
-                },
-            ),
-        ),
-        (
-            "a frame",
-            b"mapat 0 1 2 9",
-            on(
-                0,
-                Call::MapAt {
-                    address,
-                    frame,
-                    unmovable: false,
-                },
-            ),
-        ),
-        (
-            "a frame, unmovable",
-            b"mapat 0 1 2 9 unmovable",
-            on(
-                0,
-                Call::MapAt {
-                    address,
-                    frame,
-                    unmovable: true,
-                },
-            ),
-        ),
-        (
-            "the largest number",
-            b"store 0 1 2 7 18446744073709551615",
-            on(
-                0,
-                Call::Store {
-                    address,
-                    word,
-                    value: 18446744073709551615,
-                },
-            ),
-        ),
-        (
-            "one more",
+            "a number too large",
             b"store 0 1 2 7 18446744073709551616",
             Err(ScriptError::Syntax),
-        ),
-        (
-            "20 digits",
-            b"load 0 1 2 00000000000000000007",
-            on(0, Call::Load { address, word }),
         ),
         (
             "21 digits",
             b"load 0 1 2 000000000000000000007",
             Err(ScriptError::Syntax),
         ),
-        ("a scan", b"scan 3", on(3, Call::Scan)),
-        ("a take", b"take 3 4", on(3, Call::Take(hand))),
-        ("a copy", b"copy 3 4", on(3, Call::Copy(hand))),
-        ("a finish", b"finish 3 4", on(3, Call::Finish(hand))),
-        ("a shut", b"shut 3", on(3, Call::Shut)),
-        ("a look", b"look 0 1 2", on(0, Call::Look(address))),
         ("no hand", b"take 3", Err(ScriptError::Syntax)),
         ("a sign", b"info +1", Err(ScriptError::Syntax)),
         ("a capital", b"Info 1", Err(ScriptError::Syntax)),
