@@ -15,7 +15,7 @@ use Rattle.state_core.specs.declared.round.Pair.{Pair}
 use Rattle.state_core.specs.declared.placement.Placement.TheVariants.{At, Moving}
 use Rattle.plain_core.specs.Fits.{state_by, WordsFit, SerialsFit, CountsFit}
 use Rattle.state_core.specs.Lawful.{IsLawful}
-use Rattle.state_core.specs.Moving.{settled}
+use Rattle.state_core.specs.Carrying.{settled}
 use Rattle.state_core.specs.Pairs.{IsPair}
 use Rattle.state_core.specs.ZoneState.{ZoneState, frame_count, is_free}
 use Rattle.state_core.proofs.Placed.{untrue}

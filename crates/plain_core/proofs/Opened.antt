@@ -20,15 +20,13 @@ use Rattle.plain_core.specs.declared.note.Note.{Note}
 use Rattle.plain_core.specs.declared.counts.Counts.{Counts}
 use Rattle.plain_core.specs.declared.plain.PlainZone.TheInside.{Inside}
 use Rattle.state_core.specs.declared.placement.Placement.{Placement}
-use Rattle.state_core.specs.Steps.{opened}
-use Rattle.state_core.specs.Refusals.{IsOpenable}
+use Rattle.state_core.specs.Opening.{opened, IsOpenable}
 use Rattle.plain_core.specs.Fits.{state_by}
 use Rattle.plain_core.specs.Sound.{state_of, IsSound, order_of, is_marked_of}
 use Rattle.plain_core.specs.Found.{placement_of, is_unmovable_of, says_unmovable}
 use Rattle.state_core.specs.ZoneState.{is_free}
 use Rattle.plain_core.specs.Tabulated.{tabulated, gathered}
-use Rattle.plain_core.proofs.Tabulating.{tabulated_none}
-use Rattle.plain_core.proofs.Tabulating.{gathered_none}
+use Rattle.plain_core.proofs.Tabulating.{tabulated_none, gathered_none}
 use Rattle.state_core.proofs.Opened.{huge_count, free_count, unheld, held_count, all_free, page_count, opened_lawful}
 
 abbrev pub unused_note : Note

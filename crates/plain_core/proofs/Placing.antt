@@ -32,15 +32,14 @@ use Rattle.plain_core.specs.Fits.{state_by, entry_for, FramesFit, EntriesFit, Wo
 use Rattle.state_core.specs.ZoneState.{words_frame, ZoneState, takes_up, is_held, is_free, free_in_block, placement_at}
 use Rattle.plain_core.specs.Found.{placement_of, is_unmovable_of, says_unmovable}
 use Rattle.plain_core.specs.Sound.{state_of, IsSound}
-use Rattle.state_core.specs.Steps.{placed}
+use Rattle.state_core.specs.Mapping.{placed}
 use Rattle.plain_core.specs.Tabulated.{tabulated, gathered}
 use Rattle.plain_core.proofs.Accessed.{words_set_same, words_set_other}
 use Rattle.state_core.proofs.Facts.{chosen, taken, skipped, takes_own}
 use Rattle.plain_core.proofs.Finding.{placement_past, get_placements}
 use Rattle.state_core.proofs.Placed.{CanPlace, untrue, clash, placed_lawful, at_page, at_other, untaken, unheld_frame, free_at_frame, free_away, fewer_free, more_pages, named_here, named_there, maps_one, maps_others, pins_none, pins_others}
 use Rattle.state_core.proofs.Quiet.{quiet_ended}
-use Rattle.plain_core.proofs.Tabulating.{tabulated_insert}
-use Rattle.plain_core.proofs.Tabulating.{gathered_insert, gathered_same}
+use Rattle.plain_core.proofs.Tabulating.{tabulated_insert, gathered_insert, gathered_same}
 
 -- the note of the fresh page
 abbrev pub fresh_note : Bool → ℕ → Note

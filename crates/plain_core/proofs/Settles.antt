@@ -18,7 +18,8 @@ use Rattle.plain_core.specs.declared.counts.Counts.{Counts}
 use Rattle.state_core.specs.declared.placement.Placement.TheVariants.{At, Moving}
 use Rattle.plain_core.specs.Fits.{state_by, WordsFit, SerialsFit, CountsFit, BlocksFit}
 use Rattle.state_core.specs.Lawful.{IsLawful}
-use Rattle.state_core.specs.Moving.{settled, IsSettled}
+use Rattle.state_core.specs.Carrying.{settled}
+use Rattle.state_core.specs.Ending.{IsSettled}
 use Rattle.state_core.specs.ZoneState.{ZoneState, frame_count, is_free}
 use Rattle.plain_core.proofs.Accessed.{words_set_same, words_set_other}
 use Rattle.plain_core.proofs.Departed.{isolated_most}

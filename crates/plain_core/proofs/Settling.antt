@@ -27,7 +27,7 @@ use Rattle.plain_core.specs.Fits.{state_by, entry_for, FramesFit, EntriesFit, Wo
 use Rattle.state_core.specs.ZoneState.{words_frame, ZoneState, frame_count, takes_up, is_free, is_quiet, free_in_block}
 use Rattle.plain_core.specs.Found.{placement_of, is_unmovable_of, says_unmovable}
 use Rattle.state_core.specs.Lawful.{is_under}
-use Rattle.state_core.specs.Moving.{settled}
+use Rattle.state_core.specs.Carrying.{settled}
 use Rattle.plain_core.specs.Sound.{state_of, order_of, is_marked_of, IsSound}
 use Rattle.plain_core.specs.Tabulated.{tabulated, gathered}
 use Rattle.state_core.proofs.Facts.{takes_own}
@@ -35,8 +35,7 @@ use Rattle.plain_core.proofs.Finding.{placement_past, get_placements}
 use Rattle.state_core.proofs.Placed.{untrue, clash}
 use Rattle.plain_core.proofs.Placing.{state_taken}
 use Rattle.state_core.proofs.Settled.{CanSettle, IsRecorded, at_page, at_other, some_same, not_old, not_new, new_clear, old_clear, free_new, free_kept, lawful_settled}
-use Rattle.plain_core.proofs.Tabulating.{tabulated_insert}
-use Rattle.plain_core.proofs.Tabulating.{gathered_same}
+use Rattle.plain_core.proofs.Tabulating.{tabulated_insert, gathered_same}
 
 -- how frames change with their page
 pub record FramesSettled (frames settled : List FrameState) (page : ℕ) (old new : Placement) : Type 0 where

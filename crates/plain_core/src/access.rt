@@ -3,8 +3,8 @@
 ghost use Rattle.std.specs.Prelude.{◌≡◌, ◌+◌, length, nat_lt, Some, IsTrue, IfOk};
 ghost use Rattle.journal_core.specs.Moves.{out};
 ghost use Rattle.state_core.specs.Lawful.{IsLawful};
-ghost use Rattle.state_core.specs.Refusals.{placement_refusal, result_err};
-ghost use Rattle.state_core.specs.Steps.{value_at, loaded, stored};
+ghost use Rattle.state_core.specs.Access.{placement_refusal, value_at, loaded, stored};
+ghost use Rattle.std.specs.Result.{result_err};
 ghost use Rattle.state_core.specs.ZoneState.{has_room, placement_at};
 ghost use Rattle.state_core.specs.declared.placement.Placement.TheVariants.{At};
 

@@ -5,7 +5,9 @@ ghost use Rattle.std.specs.FinMap as map;
 ghost use Rattle.journal_core.specs.History.{pins, maps};
 ghost use Rattle.journal_core.specs.Moves.{out, page_of, isolated, moved, put_back};
 ghost use Rattle.state_core.specs.Lawful.{IsLawful};
-ghost use Rattle.state_core.specs.Moving.{HasCause, IsSettled, words_now, is_own, moved_to_target, put_back_to_source, look_of};
+ghost use Rattle.state_core.specs.Ending.{HasCause, IsSettled, is_own, moved_to_target, put_back_to_source};
+ghost use Rattle.state_core.specs.Carrying.{words_now};
+ghost use Rattle.state_core.specs.Looking.{look_of};
 ghost use Rattle.state_core.specs.ZoneState.{is_quiet};
 ghost use Rattle.state_core.specs.declared.placement.Placement.TheVariants.{Moving};
 

@@ -3,7 +3,7 @@
 ghost use Rattle.std.specs.Prelude.{◌≡◌, ◌+◌, ◌*◌, ◌≤◌};
 ghost use Rattle.frame_core.specs.Below.{count_below};
 ghost use Rattle.state_core.specs.Lawful.{IsLawful};
-ghost use Rattle.state_core.specs.Steps.{info_of};
+ghost use Rattle.state_core.specs.Looking.{info_of};
 ghost use Rattle.state_core.specs.ZoneState.{is_whole, frame_count};
 
 use crate::plain::PlainZone;

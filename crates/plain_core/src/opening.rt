@@ -1,7 +1,6 @@
 ghost use Rattle.std.specs.Prelude.{◌≡◌, replicate, IfOk, IfErr};
 ghost use Rattle.state_core.specs.Lawful.{IsLawful};
-ghost use Rattle.state_core.specs.Refusals.{IsOpenable};
-ghost use Rattle.state_core.specs.Steps.{opened};
+ghost use Rattle.state_core.specs.Opening.{IsOpenable, opened};
 
 use crate::counts::Counts;
 use crate::note::Note;

@@ -10,9 +10,9 @@ use Rattle.state_core.specs.declared.moves.Ended.{Ended}
 use Rattle.state_core.specs.declared.moves.Ended.TheVariants as ended
 use Rattle.state_core.specs.declared.information.Look.{Look as Known}
 use Rattle.state_core.specs.ErrorNumber.{number_of}
-use Rattle.state_core.specs.Moving.{look_of}
-use Rattle.state_core.specs.Refusals.{map_refusal, map_at_refusal, access_refusal}
-use Rattle.state_core.specs.Steps.{mapped, stored, loaded, value_at, info_of}
+use Rattle.state_core.specs.Looking.{look_of, info_of}
+use Rattle.state_core.specs.Mapping.{map_refusal, map_at_refusal, mapped}
+use Rattle.state_core.specs.Access.{access_refusal, stored, loaded, value_at}
 use Rattle.state_core.specs.ZoneState.{ZoneState, lowest_free_frame}
 use Rattle.zone_core.specs.World.{WorldState, world_opened, with_zone, scan_refusal, scan_stopped, scan_answer, scanned, take_step, copy_step, finish_step, shut_step}
 use Rattle.text_core.specs.declared.command.Call.{Call}

@@ -4,7 +4,7 @@ ghost use Rattle.text_core.specs.declared.reply.Reply.TheVariants as reply;
 ghost use Rattle.zone_core.specs.Books.{AreFor};
 ghost use Rattle.zone_core.specs.ErrorNumber.{world_number_of};
 ghost use Rattle.state_core.specs.ErrorNumber.{number_of};
-ghost use Rattle.state_core.specs.Steps.{is_unmovable};
+ghost use Rattle.frame_core.specs.PageFlags.{is_unmovable};
 
 use bitflags::Flags;
 use frame_core::{ClientNo, PageFlags, ZoneNo};

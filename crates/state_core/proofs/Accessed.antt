@@ -7,7 +7,7 @@ use Rattle.journal_core.specs.History.{last}
 use Rattle.journal_core.specs.Moves.{out}
 use Rattle.state_core.specs.declared.placement.Placement.TheVariants.{At}
 use Rattle.state_core.specs.Lawful.{IsLawful}
-use Rattle.state_core.specs.Steps.{value_at, loaded, stored}
+use Rattle.state_core.specs.Access.{value_at, loaded, stored}
 use Rattle.state_core.specs.ZoneState.{ZoneState, placement_at}
 use Rattle.state_core.proofs.Quiet.{begun_more}
 use Rattle.state_core.proofs.Facts.{page_named}

@@ -14,8 +14,12 @@ use Rattle.state_core.specs.declared.round.Pair.{Pair}
 use Rattle.state_core.specs.declared.placement.Placement.{Placement}
 use Rattle.state_core.specs.declared.placement.Placement.TheVariants.{At, Moving}
 use Rattle.state_core.specs.Lawful.{IsLawful, is_under}
-use Rattle.state_core.specs.Moving.{is_own, IsOwnCopy, page_now, round_begun, isolated_next, settled, moved_to_target, put_back_to_source, committed}
-use Rattle.state_core.specs.Steps.{placed, loaded, stored}
+use Rattle.state_core.specs.Ending.{is_own, IsOwnCopy, moved_to_target, put_back_to_source, committed}
+use Rattle.state_core.specs.Carrying.{page_now, settled}
+use Rattle.state_core.specs.Rounds.{round_begun}
+use Rattle.state_core.specs.Isolating.{isolated_next}
+use Rattle.state_core.specs.Mapping.{placed}
+use Rattle.state_core.specs.Access.{loaded, stored}
 use Rattle.state_core.specs.ZoneState.{ZoneState, placement_at}
 use Rattle.state_core.proofs.Facts.{skipped, page_named}
 use Rattle.state_core.proofs.Entries.{get_insert_same, get_insert_other}

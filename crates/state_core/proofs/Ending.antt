@@ -17,7 +17,8 @@ use Rattle.journal_core.specs.Moves.{out, is_out, without, page_of, IsWellEnded}
 use Rattle.state_core.specs.declared.placement.Placement.{Placement}
 use Rattle.state_core.specs.declared.placement.Placement.TheVariants.{At, Moving}
 use Rattle.state_core.specs.Lawful.{IsLawful, is_under}
-use Rattle.state_core.specs.Moving.{settled, moved_to_target, put_back_to_source, source_of, target_of, HasCause}
+use Rattle.state_core.specs.Carrying.{settled}
+use Rattle.state_core.specs.Ending.{moved_to_target, put_back_to_source, source_of, target_of, HasCause}
 use Rattle.state_core.specs.ZoneState.{ZoneState, frame_count, takes_up, is_free}
 use Rattle.state_core.proofs.Facts.{not_none}
 use Rattle.state_core.proofs.Moving.{CanSettle, IsRecorded, moved_still, back_still, lawful_settled}

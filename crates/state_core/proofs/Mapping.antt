@@ -13,7 +13,7 @@ use Rattle.journal_core.specs.History.{same_address, page_at, is_page, names, ma
 use Rattle.journal_core.specs.Moves.{out}
 use Rattle.state_core.specs.declared.placement.Placement.TheVariants.{At}
 use Rattle.state_core.specs.Lawful.{IsLawful, is_under}
-use Rattle.state_core.specs.Steps.{placed}
+use Rattle.state_core.specs.Mapping.{placed}
 use Rattle.state_core.specs.ZoneState.{ZoneState, frame_count, takes_up, is_held, is_free}
 use Rattle.state_core.proofs.Entries.{contains_insert_other}
 use Rattle.state_core.proofs.Places as places

@@ -12,7 +12,7 @@ use Rattle.journal_core.specs.Moves.{out, IsWellEnded}
 use Rattle.journal_core.specs.Truth.{IsTruthful}
 use Rattle.state_core.specs.declared.placement.Placement.{Placement}
 use Rattle.state_core.specs.Lawful.{IsLawful, is_under}
-use Rattle.state_core.specs.Moving.{settled}
+use Rattle.state_core.specs.Carrying.{settled}
 use Rattle.state_core.specs.ZoneState.{ZoneState, frame_count}
 use Rattle.state_core.proofs.Places.{CanChangePlace, IsOutWith, ways_of, where_is, page_count, lawful_told}
 

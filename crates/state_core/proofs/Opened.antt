@@ -8,8 +8,7 @@ use Rattle.std.proofs.lemmas.Option.{none-some}
 use Rattle.frame_core.proofs.Searches.{count_all, count_none, none_some}
 use Rattle.frame_core.specs.Below.{count_below}
 use Rattle.state_core.specs.declared.placement.Placement.{Placement}
-use Rattle.state_core.specs.Steps.{opened}
-use Rattle.state_core.specs.Refusals.{IsOpenable}
+use Rattle.state_core.specs.Opening.{opened, IsOpenable}
 use Rattle.state_core.specs.Lawful.{IsLawful, is_under}
 use Rattle.state_core.specs.ZoneState.{ZoneState, frame_count, takes_up, covers, is_held, is_free}
 

@@ -1,6 +1,6 @@
 -- Whether a round begins calm, and what a zone is when it has begun.
 use Rattle.std.proofs.Common.{◌≡◌, ℕ, ◌-◌, ◌<◌, true, false, not, List, length, take, refl, sym, ap, ◌∙◌, arith, Some, nat_eq, ◌&&◌}
-use Rattle.state_core.specs.Moving.{round_begun}
+use Rattle.state_core.specs.Rounds.{round_begun}
 use Rattle.std.specs.List.{list_all}
 use Rattle.std.proofs.Math.Bool.{and-true}
 use Rattle.std.proofs.lemmas.Bool.{and_right, eq-eqb}

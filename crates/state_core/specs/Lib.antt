@@ -1,7 +1,12 @@
+pub mod Access
+pub mod Carrying
+pub mod Ending
 pub mod ErrorNumber
+pub mod Isolating
 pub mod Lawful
-pub mod Moving
+pub mod Looking
+pub mod Mapping
+pub mod Opening
 pub mod Pairs
-pub mod Refusals
-pub mod Steps
+pub mod Rounds
 pub mod ZoneState

@@ -4,7 +4,7 @@ use Rattle.std.specs.Int.RustNames.{bit_and}
 use Rattle.frame_core.specs.declared.flags.PageFlags.{PageFlags}
 use Rattle.state_core.specs.declared.information.Look.{Look}
 use Rattle.state_core.specs.declared.information.Look.TheVariants.{At, Moving}
-use Rattle.state_core.specs.Steps.{is_unmovable}
+use Rattle.frame_core.specs.PageFlags.{is_unmovable}
 use Rattle.state_core.specs.declared.information.Info.{Info}
 use Rattle.text_core.specs.declared.reply.Reply.{Reply}
 use Rattle.text_core.specs.declared.reply.Reply.TheVariants as reply

@@ -25,9 +25,11 @@ use Rattle.state_core.specs.declared.round.Pair.{Pair}
 use Rattle.state_core.specs.declared.placement.Placement.{Placement}
 use Rattle.state_core.specs.declared.placement.Placement.TheVariants.{At, Moving}
 use Rattle.state_core.specs.Lawful.{IsLawful, is_under}
-use Rattle.state_core.specs.Moving.{round_begun, isolate_refusal, isolated_next, moved_to_target, put_back_to_source}
+use Rattle.state_core.specs.Rounds.{round_begun}
+use Rattle.state_core.specs.Isolating.{isolate_refusal, isolated_next}
+use Rattle.state_core.specs.Ending.{moved_to_target, put_back_to_source}
 use Rattle.state_core.specs.Pairs.{IsPair, next_pair}
-use Rattle.state_core.specs.Refusals.{IsOpenable}
+use Rattle.state_core.specs.Opening.{IsOpenable}
 use Rattle.zone_core.specs.World.{WorldState, IsOrderly, IsRising, world_opened, with_zone, with_hand, hand_of, waits, is_in, is_empty, serial_in, page_in, copy_in, round_opened, isolated_by, taken_by, take_step, copy_step, finished_as, finished_in, finished_by, finish_step, all_put_back, shut, shut_step}
 use Rattle.zone_core.specs.Seats.{ScanSeat, EndSeat, seat_begun, seat_noted, seat_ended}
 use Rattle.state_core.specs.ZoneState.{ZoneState, frame_count}

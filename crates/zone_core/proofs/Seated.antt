@@ -15,7 +15,8 @@ use Rattle.state_core.specs.declared.placement.Placement.{Placement}
 use Rattle.state_core.specs.declared.placement.Placement.TheVariants.{At, Moving}
 use Rattle.zone_core.specs.Books.{AreBooks}
 use Rattle.state_core.specs.Lawful.{IsLawful, is_under}
-use Rattle.state_core.specs.Moving.{settled, is_own, IsSettled, IsEnded}
+use Rattle.state_core.specs.Carrying.{settled}
+use Rattle.state_core.specs.Ending.{is_own, IsSettled, IsEnded}
 use Rattle.zone_core.specs.Seats.{IsAudited, ScanSeat, EndSeat}
 use Rattle.state_core.specs.ZoneState.{ZoneState}
 use Rattle.state_core.proofs.Entries.{get_insert_same}

@@ -5,7 +5,7 @@ use Rattle.zone_core.specs.declared.hand.Hand.{Hand}
 use Rattle.zone_core.specs.declared.hand.Hand.TheVariants as hand
 use Rattle.zone_core.specs.declared.hands.Held.{Held}
 use Rattle.zone_core.specs.declared.hands.Held.TheVariants.{Nothing, Page, Copy}
-use Rattle.state_core.specs.Moving.{IsOwnCopy}
+use Rattle.state_core.specs.Ending.{IsOwnCopy}
 use Rattle.zone_core.specs.Seats.{ScanSeat, EndSeat}
 use Rattle.zone_core.specs.World.{WorldState, IsOrderly}
 use Rattle.state_core.specs.ZoneState.{ZoneState}

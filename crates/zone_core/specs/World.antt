@@ -13,9 +13,11 @@ use Rattle.zone_core.specs.declared.hand.Scanned.{Scanned}
 use Rattle.zone_core.specs.declared.hand.Scanned.TheVariants as found
 use Rattle.zone_core.specs.declared.hand.Finished.{Finished}
 use Rattle.state_core.specs.Lawful.{IsLawful}
-use Rattle.state_core.specs.Moving.{round_begun, isolate_refusal, isolated_next, next_answer, committed, ended_as, put_back_to_source}
+use Rattle.state_core.specs.Rounds.{round_begun}
+use Rattle.state_core.specs.Isolating.{isolate_refusal, isolated_next, next_answer}
+use Rattle.state_core.specs.Ending.{committed, ended_as, put_back_to_source}
 use Rattle.state_core.specs.Pairs.{next_pair}
-use Rattle.state_core.specs.Steps.{opened}
+use Rattle.state_core.specs.Opening.{opened}
 use Rattle.state_core.specs.ZoneState.{ZoneState, frame_count}
 use Rattle.zone_core.specs.Seats.{ScanSeat, EndSeat, fresh_scan_seat, fresh_end_seat, seat_begun, seat_full, seat_noted, seat_ended}
 

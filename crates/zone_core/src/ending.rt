@@ -4,7 +4,7 @@ ghost use Rattle.std.specs.Prelude.{◌≡◌, ◌+◌, ◌≤◌, [], ◌∷◌
 ghost use Rattle.std.specs.VecDeque.{deque_capacity};
 ghost use Rattle.journal_core.specs.Moves.{page_of};
 ghost use Rattle.state_core.specs.Lawful.{IsLawful};
-ghost use Rattle.state_core.specs.Moving.{IsOwnCopy};
+ghost use Rattle.state_core.specs.Ending.{IsOwnCopy};
 ghost use Rattle.zone_core.specs.Carried.{serials_of, AreOwn};
 ghost use Rattle.zone_core.specs.Seats.{seat_ended};
 ghost use Rattle.zone_core.specs.World.{IsRising, finished_as, finished_in, all_put_back};

@@ -1,6 +1,6 @@
 use Rattle.std.proofs.Common.{◌≡◌, ◌∙◌, subst, sym, arith}
 use Rattle.state_core.specs.declared.placement.Placement.TheVariants.{Moving}
-use Rattle.state_core.specs.Moving.{words_now}
+use Rattle.state_core.specs.Carrying.{words_now}
 use Rattle.plain_core.specs.Sound.{IsSound}
 use Rattle.word_core.specs.Words.{words_of}
 use Rattle.state_core.proofs.Facts.{frame_within}

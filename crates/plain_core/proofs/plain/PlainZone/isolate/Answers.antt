@@ -10,7 +10,7 @@ use Rattle.table_core.specs.Tables.{Replaces}
 use Rattle.plain_core.specs.declared.plain.PlainZone.TheInside.{Inside}
 use Rattle.state_core.specs.declared.placement.Placement.TheVariants.{At, Moving}
 use Rattle.plain_core.specs.Fits.{SerialsFit}
-use Rattle.state_core.specs.Moving.{settled}
+use Rattle.state_core.specs.Carrying.{settled}
 use Rattle.plain_core.specs.Sound.{IsSound}
 use Rattle.plain_core.proofs.Departed.{isolated_most, isolated_frames, isolated_words, isolated_freer, isolated_start, isolated_counts, isolated_serials}
 use Rattle.state_core.proofs.Facts.{not_none}

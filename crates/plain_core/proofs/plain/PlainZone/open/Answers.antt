@@ -4,7 +4,7 @@ use Rattle.journal_core.specs.Journal.{Journal}
 use Rattle.plain_core.specs.declared.plain.PlainZone.TheInside.{Inside}
 use Rattle.state_core.specs.ZoneState.{ZoneState}
 use Rattle.plain_core.specs.Sound.{IsSound, state_of}
-use Rattle.state_core.specs.Steps.{opened}
+use Rattle.state_core.specs.Opening.{opened}
 use Rattle.plain_core.proofs.Opened.{IsFresh, opened_view, opened_sound}
 use Rattle.plain_core.proofs.plain.PlainZone.open.Goals as goal
 use Rattle.plain_core.proofs.plain.PlainZone.open.Goals.{After-of_free}

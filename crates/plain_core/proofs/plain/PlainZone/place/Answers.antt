@@ -6,7 +6,7 @@ use Rattle.frame_core.specs.declared.state.FrameState.TheVariants.{Holds}
 use Rattle.plain_core.specs.declared.note.Note.{Note}
 use Rattle.plain_core.specs.declared.plain.PlainZone.TheInside.{Inside}
 use Rattle.plain_core.specs.Sound.{IsSound, state_of}
-use Rattle.state_core.specs.Steps.{placed}
+use Rattle.state_core.specs.Mapping.{placed}
 use Rattle.state_core.proofs.Facts.{spare}
 use Rattle.state_core.proofs.Finding.{some_lowest, unused_is}
 use Rattle.plain_core.proofs.Finding.{free_counted}

@@ -2,7 +2,7 @@ use Rattle.std.proofs.Common.{◌≡◌, ◌∙◌, ◌∷◌, ℕ, ap, subst, s
 use Rattle.journal_core.specs.declared.record.Record.TheVariants.{Load}
 use Rattle.state_core.specs.declared.placement.Placement.TheVariants.{At}
 use Rattle.plain_core.specs.Sound.{IsSound, state_of}
-use Rattle.state_core.specs.Steps.{value_at, loaded}
+use Rattle.state_core.specs.Access.{value_at, loaded}
 use Rattle.plain_core.proofs.Accessed.{loaded_sound, word_read}
 use Rattle.state_core.proofs.Facts.{page_named, frame_within, spare}
 use Rattle.plain_core.proofs.Facts.{noted_view}

@@ -5,7 +5,7 @@ use Rattle.std.proofs.lemmas.Option.{slice_get-get_or, get_or_from_slice_get}
 use Rattle.frame_core.specs.declared.state.FrameState.TheVariants.{Holds}
 use Rattle.plain_core.specs.declared.plain.PlainZone.TheInside.{Inside}
 use Rattle.plain_core.specs.Sound.{IsSound, state_of}
-use Rattle.state_core.specs.Steps.{stored}
+use Rattle.state_core.specs.Access.{stored}
 use Rattle.plain_core.proofs.Accessed.{Storing, resident, holder_is, store_view, store_sound, after_store}
 use Rattle.state_core.proofs.Facts.{spare}
 use Rattle.plain_core.proofs.plain.PlainZone.write.Goals as goal

@@ -1,5 +1,5 @@
 use Rattle.std.specs.VecDeque.{deque_capacity}
-use Rattle.state_core.specs.Steps.{is_unmovable}
+use Rattle.frame_core.specs.PageFlags.{is_unmovable}
 use Rattle.zone_core.proofs.Carrying.{carried_mapped_at}
 use Rattle.zone_core.proofs.world.World.map_at.Goals as goal
 

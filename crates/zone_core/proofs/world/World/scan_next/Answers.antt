@@ -2,7 +2,7 @@ use Rattle.std.proofs.Common.{◌≡◌, true, ap, sym, subst, ◌∙◌, arith}
 use Rattle.std.specs.Prelude.{None}
 use Rattle.std.specs.VecDeque.{deque_capacity}
 use Rattle.state_core.specs.declared.moves.Next.TheVariants.{Page}
-use Rattle.state_core.specs.Moving.{Scans, isolate_refusal}
+use Rattle.state_core.specs.Isolating.{Scans, isolate_refusal}
 use Rattle.zone_core.specs.Seats.{seat_noted}
 use Rattle.zone_core.specs.World.{WorldState}
 use Rattle.zone_core.proofs.Carrying.{IsTaken, is_taken, met_same, carried_noted, carried_scanned, place_left}

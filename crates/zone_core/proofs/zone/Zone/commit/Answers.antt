@@ -3,7 +3,7 @@ use Rattle.std.specs.FinMap as map
 use Rattle.journal_core.specs.declared.record.Cause.TheVariants.{Pinned}
 use Rattle.journal_core.specs.declared.record.Record.TheVariants.{Moved, Back}
 use Rattle.word_core.specs.Page.{Page}
-use Rattle.state_core.specs.Moving.{is_own, source_of, target_of}
+use Rattle.state_core.specs.Ending.{is_own, source_of, target_of}
 use Rattle.state_core.specs.ZoneState.{ZoneState}
 use Rattle.zone_core.proofs.Seated.{ended_once, ended_in}
 use Rattle.zone_core.proofs.zone.Zone.commit.Goals as goal

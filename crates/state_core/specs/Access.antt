@@ -1,0 +1,30 @@
+-- A load and a store: when they are refused, what a load answers, and what they leave.
+use Rattle.std.specs.Prelude.{ℕ, ◌<◌, ◌≤◌, not, if◌then◌else◌, Option, Some, None, ◌==◌, [], unwrap_or}
+use Rattle.frame_core.specs.declared.place.Address.{Address}
+use Rattle.journal_core.specs.History.{page_at, last}
+use Rattle.state_core.specs.declared.placement.Placement.{Placement}
+use Rattle.state_core.specs.declared.placement.Placement.TheVariants.{At, Moving as OnItsWay}
+use Rattle.state_core.specs.declared.error.ZoneError.{ZoneError}
+use Rattle.state_core.specs.declared.error.ZoneError.TheVariants.{JournalFull, Unmapped, Moving}
+use Rattle.state_core.specs.ZoneState.{ZoneState, has_room, placement_at, noted}
+use Rattle.journal_core.specs.declared.record.Record.TheVariants.{Store, Load}
+
+-- a page that is nowhere or on its way can't be read or written
+abbrev pub placement_refusal : Option Placement → Option ZoneError
+placement_refusal None = Some Unmapped
+placement_refusal (Some (At frame)) = None
+placement_refusal (Some (OnItsWay serial source target)) = Some Moving
+
+-- of a load and of a store
+abbrev pub access_refusal : ZoneState → Address → Option ZoneError
+access_refusal z address = if not (has_room z) then Some JournalFull else placement_refusal (placement_at z address)
+
+-- the last value of a word of the page that an address names
+abbrev pub value_at : ZoneState → Address → ℕ → ℕ
+value_at z address word = last z.records (unwrap_or (page_at z.records address) 0) word
+
+abbrev pub loaded : ZoneState → ℕ → Address → ℕ → ZoneState
+loaded z client address word = noted z (Load client address word (value_at z address word))
+
+abbrev pub stored : ZoneState → ℕ → Address → ℕ → ℕ → ZoneState
+stored z client address word value = noted z (Store client address word value)

@@ -1,0 +1,27 @@
+-- A page as it is carried, and where a page is that moves.
+use Rattle.std.specs.Prelude.{◌≡◌, ◌≢◌, ℕ, ◌+◌, ◌<◌, ◌&&◌, List, ◌∷◌, [], map as each, if◌then◌else◌, ⊤}
+use Rattle.std.specs.FinMap as map
+use Rattle.std.specs.FinSet as set
+use Rattle.frame_core.specs.declared.flags.PageFlags.{PageFlags}
+use Rattle.frame_core.specs.PageFlags.{page_flags}
+use Rattle.journal_core.specs.declared.record.Record.{Record}
+use Rattle.journal_core.specs.History.{last, dirty}
+use Rattle.word_core.specs.Page.{Page}
+use Rattle.state_core.specs.declared.placement.Placement.{Placement}
+use Rattle.state_core.specs.ZoneState.{ZoneState, noted}
+
+-- the flags that are noted of a page
+abbrev pub flags_of : ZoneState → ℕ → PageFlags
+flags_of z page = page_flags (set.contains z.unmovable page) (dirty z.records page)
+
+-- the last values of the eight words of a page
+abbrev pub words_now : ZoneState → ℕ → List ℕ
+words_now z page = each (last z.records page) (0 ∷ 1 ∷ 2 ∷ 3 ∷ 4 ∷ 5 ∷ 6 ∷ 7 ∷ [])
+
+-- a page as it is carried
+abbrev pub page_now : ZoneState → ℕ → Page
+page_now z page = record { zone = z.number; number = page; flags = flags_of z page; words = words_now z page }
+
+-- a page in use is somewhere else now
+abbrev pub settled : ZoneState → Record → ℕ → Placement → ZoneState
+settled z entry page placement = record (noted z entry) { placement = map.insert z.placement page placement }

@@ -1,0 +1,76 @@
+-- The calls that end the move of a page: which pages they take, how the move ends, and what they leave.
+use Rattle.std.specs.Prelude.{◌≡◌, ◌≢◌, ℕ, ◌+◌, ◌<◌, Bool, true, ◌&&◌, ◌∷◌, [], nat_eq, if◌then◌else◌, Option, Some, ⊤}
+use Rattle.std.specs.FinMap as map
+use Rattle.frame_core.specs.declared.place.Address.{Address}
+use Rattle.journal_core.specs.declared.record.Cause.{Cause}
+use Rattle.journal_core.specs.declared.record.Cause.TheVariants.{Pinned, NotCopied}
+use Rattle.journal_core.specs.declared.record.Record.TheVariants.{Moved as WasMoved, Back as WasPutBack}
+use Rattle.journal_core.specs.History.{page_at, pins}
+use Rattle.word_core.specs.Page.{OnItsWay}
+use Rattle.state_core.specs.declared.moves.Ended.{Ended}
+use Rattle.state_core.specs.declared.moves.Ended.TheVariants as ended
+use Rattle.state_core.specs.declared.placement.Placement.{Placement}
+use Rattle.state_core.specs.declared.placement.Placement.TheVariants.{At, Moving}
+use Rattle.state_core.specs.Lawful.{is_under}
+use Rattle.state_core.specs.ZoneState.{ZoneState, is_free}
+use Rattle.state_core.specs.Carrying.{flags_of, words_now, settled}
+
+-- whether a page of this zone is on its way under its serial
+abbrev pub is_own : ZoneState → OnItsWay → Bool
+is_own z p = nat_eq p.page.zone z.number && is_under (map.get z.placement p.page.number) p.serial
+
+-- a copy of a page of this zone that is on its way under its serial, with the words that the page has
+pub record IsOwnCopy (z : ZoneState) (copy : OnItsWay) : Type 0 where
+  pub own : is_own z copy ≡ true
+  pub same : copy.page.words ≡ words_now z copy.page.number
+
+-- the frames of a page on its way
+abbrev pub source_of : Option Placement → ℕ
+source_of (Some (Moving serial source target)) = source
+source_of _ = 0
+
+abbrev pub target_of : Option Placement → ℕ
+target_of (Some (Moving serial source target)) = target
+target_of _ = 0
+
+-- a copy is committed where its page has no pin
+abbrev pub ended_as : ZoneState → ℕ → Ended
+ended_as z page = if nat_eq (pins z.records page) 0 then ended.Moved else ended.Back
+
+-- the page stands in its new frame
+abbrev pub moved_to_target : ZoneState → ℕ → ℕ → ZoneState
+moved_to_target z serial page = settled z (WasMoved serial) page (At (target_of (map.get z.placement page)))
+
+-- the page stands in its old frame again
+abbrev pub put_back_to_source : ZoneState → ℕ → ℕ → Cause → ZoneState
+put_back_to_source z serial page cause = settled z (WasPutBack serial cause) page (At (source_of (map.get z.placement page)))
+
+abbrev pub committed : ZoneState → ℕ → ℕ → ZoneState
+committed z serial page =
+    if nat_eq (pins z.records page) 0 then moved_to_target z serial page else put_back_to_source z serial page Pinned
+
+-- a page that was on its way stands in one of its frames, with its flags and words, at each address that names it; its other
+-- frame is free, and nothing else moved
+pub record IsSettled (old new : ZoneState) (page kept left : ℕ) : Type 0 where
+  pub here : map.get new.placement page ≡ Some (At kept)
+  pub freed : is_free new left ≡ true
+  pub flags : flags_of new page ≡ flags_of old page
+  pub words : words_now new page ≡ words_now old page
+  pub others : (other : ℕ) → other ≢ page → map.get new.placement other ≡ map.get old.placement other
+  pub names : (address : Address) → page_at new.records address ≡ page_at old.records address
+
+-- how a move ends: in the target where the page has no pin, and else in the source
+pub record IsEnded (old new : ZoneState) (page serial : ℕ) (kept left : ℕ → ℕ → ℕ) : Type 0 where
+  pub source : ℕ
+  pub target : ℕ
+  pub way : map.get old.placement page ≡ Some (Moving serial source target)
+  pub settled : IsSettled old new page (kept source target) (left source target)
+
+abbrev pub Ends : ZoneState → ZoneState → OnItsWay → Ended → Type 0
+Ends old new p ended.Moved = IsEnded old new p.page.number p.serial (λ source target. target) (λ source target. source)
+Ends old new p ended.Back = IsEnded old new p.page.number p.serial (λ source target. source) (λ source target. target)
+
+-- the pins that a cause wants
+abbrev pub HasCause : Cause → ℕ → Type 0
+HasCause Pinned pins = 0 < pins
+HasCause NotCopied pins = ⊤

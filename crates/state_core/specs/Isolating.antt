@@ -1,0 +1,48 @@
+-- The call that takes the next page of a round on its way: when it is refused, its answer, and what it leaves.
+use Rattle.std.specs.Prelude.{◌≡◌, ◌≢◌, ℕ, ◌+◌, ◌<◌, ◌&&◌, ◌∷◌, [], length, nat_lt, if◌then◌else◌, Option, Some, None, ⊤}
+use Rattle.std.specs.FinMap as map
+use Rattle.frame_core.specs.declared.place.Address.{Address}
+use Rattle.journal_core.specs.declared.record.Record.TheVariants.{Isolate}
+use Rattle.journal_core.specs.History.{page_at}
+use Rattle.journal_core.specs.Moves.{isolated, out}
+use Rattle.state_core.specs.declared.error.ZoneError.{ZoneError}
+use Rattle.state_core.specs.declared.error.ZoneError.TheVariants.{JournalFull}
+use Rattle.state_core.specs.declared.moves.Next.{Next}
+use Rattle.state_core.specs.declared.moves.Next.TheVariants as next
+use Rattle.state_core.specs.declared.round.Pair.{Pair}
+use Rattle.state_core.specs.declared.placement.Placement.TheVariants.{Moving}
+use Rattle.state_core.specs.Pairs.{IsPair}
+use Rattle.state_core.specs.ZoneState.{ZoneState}
+use Rattle.state_core.specs.Carrying.{page_now, settled}
+
+-- the journal has a place for the isolation and one to end it, besides those that end the pages that are out
+abbrev pub isolate_refusal : ZoneState → Option ZoneError
+isolate_refusal z = if nat_lt (length (out z.records) + 1) z.room then None else Some JournalFull
+
+-- the page of a pair is on its way under the next serial, and the fingers stand behind its frames
+abbrev pub isolated_next : ZoneState → Pair → ZoneState
+isolated_next z pair =
+    let serial = isolated z.records in
+    record (settled z (Isolate serial pair.page) pair.page (Moving serial pair.source pair.target)) { migrate = pair.source + 1; free = pair.target }
+
+abbrev pub next_answer : ZoneState → Option Pair → Next
+next_answer z None = next.Met
+next_answer z (Some pair) = next.Page (record { serial = isolated z.records; page = page_now z pair.page })
+
+abbrev pub next_state : ZoneState → Option Pair → ZoneState
+next_state z None = z
+next_state z (Some pair) = isolated_next z pair
+
+-- the page of the pair is on its way under a serial, at each address that names it, and nothing else moved
+pub record IsIsolated (old new : ZoneState) (page serial : ℕ) : Type 0 where
+  pub source : ℕ
+  pub target : ℕ
+  pub pair : IsPair old page source target
+  pub way : map.get new.placement page ≡ Some (Moving serial source target)
+  pub others : (other : ℕ) → other ≢ page → map.get new.placement other ≡ map.get old.placement other
+  pub names : (address : Address) → page_at new.records address ≡ page_at old.records address
+
+-- the answer in the words of pairs: the page of the pair is on its way now, or there is no pair
+abbrev pub Scans : ZoneState → ZoneState → Next → Type 0
+Scans old new next.Met = (page source target : ℕ) → IsPair old page source target → ⊥
+Scans old new (next.Page p) = IsIsolated old new p.page.number p.serial

@@ -1,0 +1,36 @@
+-- The calls that bind an address to a fresh page: when they are refused, and what they leave.
+use Rattle.std.specs.Prelude.{ℕ, ◌<◌, ◌≤◌, not, nat_lt, if◌then◌else◌, Option, Some, None, is_none, is_some, ◌==◌, Bool, [], unwrap_or}
+use Rattle.frame_core.specs.declared.place.Address.{Address}
+use Rattle.journal_core.specs.History.{page_at}
+use Rattle.state_core.specs.declared.placement.Placement.TheVariants.{At}
+use Rattle.state_core.specs.declared.error.ZoneError.{ZoneError}
+use Rattle.state_core.specs.declared.error.ZoneError.TheVariants.{Range, JournalFull, Occupied, NoFrame}
+use Rattle.state_core.specs.ZoneState.{ZoneState, frame_count, has_room, is_free, lowest_free_frame, lowest_unused_page, noted}
+use Rattle.std.specs.FinMap as map
+use Rattle.std.specs.FinSet as set
+use Rattle.journal_core.specs.declared.record.Record.TheVariants.{Map}
+
+abbrev pub map_refusal : ZoneState → Address → Option ZoneError
+map_refusal z address =
+    if not (has_room z) then Some JournalFull
+    else if is_some (page_at z.records address) then Some Occupied
+    else if is_none (lowest_free_frame z) then Some NoFrame
+    else None
+
+abbrev pub map_at_refusal : ZoneState → Address → ℕ → Option ZoneError
+map_at_refusal z address frame =
+    if not (nat_lt frame (frame_count z)) then Some Range
+    else if not (has_room z) then Some JournalFull
+    else if is_some (page_at z.records address) then Some Occupied
+    else if not (is_free z frame) then Some NoFrame
+    else None
+
+-- the address names a fresh page with this number, which is at this frame
+abbrev pub placed : ZoneState → ℕ → Address → Bool → ℕ → ℕ → ZoneState
+placed z client address unmovable page frame =
+    let next = noted z (Map client address page) in
+    record next { placement = map.insert z.placement page (At frame); unmovable = if unmovable then set.insert z.unmovable page else z.unmovable }
+
+-- a map and a map_at: the fresh page has the lowest number that isn't in use
+abbrev pub mapped : ZoneState → ℕ → Address → Bool → ℕ → ZoneState
+mapped z client address unmovable frame = placed z client address unmovable (unwrap_or (lowest_unused_page z) 0) frame

@@ -1,0 +1,25 @@
+-- The call that opens a zone.
+use Rattle.std.specs.Prelude.{ℕ, ◌<◌, ◌≤◌, if◌then◌else◌, None, ◌==◌, []}
+use Rattle.state_core.specs.ZoneState.{ZoneState}
+use Rattle.std.specs.FinMap as map
+use Rattle.std.specs.FinSet as set
+
+-- 1 to 8 pageblocks, and 1 to 65536 places in the journal
+abbrev pub IsOpenable : ℕ → ℕ → Type 0
+IsOpenable blocks places = (0 < blocks) × (blocks ≤ 8) × (0 < places) × (places ≤ 65536)
+
+-- an empty zone
+abbrev pub opened : ℕ → ℕ → ℕ → ZoneState
+opened number blocks places = record {
+  number = number;
+  blocks = blocks;
+  records = [];
+  room = places;
+  unmovable = set.empty;
+  marked = set.empty;
+  handed_out = map.empty;
+  placement = map.empty;
+  migrate = 0;
+  free = 0;
+  round = None;
+}

@@ -1,0 +1,12 @@
+-- The call that begins a round.
+use Rattle.std.specs.Prelude.{◌≡◌, ◌≢◌, ◌+◌, ◌<◌, ◌&&◌, ◌∷◌, [], length, if◌then◌else◌, Some, ⊤}
+use Rattle.state_core.specs.Pairs.{is_calm}
+use Rattle.state_core.specs.ZoneState.{ZoneState, frame_count}
+
+-- a round begins: the fingers stand at the ends of the zone
+abbrev pub round_begun : ZoneState → ZoneState
+round_begun z = record z {
+  migrate = 0;
+  free = frame_count z;
+  round = Some (record { records = length z.records; calm = is_calm z });
+}
