@@ -61,22 +61,21 @@ fn options_from<'a, S: AsStr>(alloc: Global, words: &'a [S]) -> Result<Options, 
 {
     let matches = command_line(alloc)?.try_get_matches_from(words)?;
     Ok(Options {
-        copiers: number(&matches, "copiers", 2, 4) as usize,
-        capacity: number(&matches, "capacity", 8, 64) as usize,
-        journal: number(&matches, "journal", 65536, 65536),
+        copiers: number::<4>(&matches, "copiers", 2) as usize,
+        capacity: number::<64>(&matches, "capacity", 8) as usize,
+        journal: number::<65536>(&matches, "journal", 65536),
     })
 }
 
-/// The number that was given for an option, or the option's own.
-fn number(matches: &ArgMatches<'_>, name: &str, own: u32, most: u32) -> u32
-    requires found { FindsUpTo (found_of matches.now) name.now most }
+/// The number that was given for an option, 1 to `MOST`, or the option's own.
+fn number<const MOST: u32>(matches: &ArgMatches<'_>, name: &str, own: u32) -> u32
+    requires found { FindsUpTo (found_of matches.now) name.now MOST }
     requires low { 1 ≤ own }
-    requires high { own ≤ most }
+    requires high { own ≤ MOST }
     ensures value { result ≡ unwrap_or (option_map decimal (one_text (found_of matches.now) name.now)) own }
     ensures least { 1 ≤ result }
-    ensures most { result ≤ most }
+    ensures most { result ≤ MOST }
 {
-    let _limit = most;
     matches.get_one(name).unwrap_or(own)
 }
 
