@@ -24,10 +24,14 @@ use Rattle.state_core.specs.declared.placement.Placement.{Placement}
 use Rattle.state_core.specs.declared.placement.Placement.TheVariants.{At, Moving}
 use Rattle.state_core.specs.Lawful.{IsLawful}
 use Rattle.state_core.specs.Pairs.{next_pair}
-use Rattle.state_core.specs.Moving.{IsOwnCopy, page_now, round_begun, isolate_refusal, isolated_next, next_answer, next_state, Scans}
+use Rattle.state_core.specs.Ending.{IsOwnCopy}
+use Rattle.state_core.specs.Carrying.{page_now}
+use Rattle.state_core.specs.Rounds.{round_begun}
+use Rattle.state_core.specs.Isolating.{isolate_refusal, isolated_next, next_answer, next_state, Scans}
 use Rattle.zone_core.specs.Seats.{ScanSeat, EndSeat, seat_begun, seat_noted}
-use Rattle.state_core.specs.Refusals.{result_err, placement_refusal, access_refusal, map_at_refusal}
-use Rattle.state_core.specs.Steps.{mapped, placed, loaded, stored}
+use Rattle.std.specs.Result.{result_err}
+use Rattle.state_core.specs.Access.{placement_refusal, access_refusal, loaded, stored}
+use Rattle.state_core.specs.Mapping.{map_at_refusal, mapped, placed}
 use Rattle.zone_core.specs.World.{WorldState, IsOrderly, isolated_by}
 use Rattle.state_core.specs.ZoneState.{ZoneState, frame_count, has_room, is_free, placement_at, lowest_free_frame, lowest_unused_page}
 use Rattle.state_core.proofs.Accessed.{lawful_loaded, lawful_stored}

@@ -14,7 +14,7 @@ use Rattle.zone_core.specs.declared.hands.Held.{Held}
 use Rattle.zone_core.specs.declared.hands.Held.TheVariants.{Nothing, Page, Copy}
 use Rattle.zone_core.specs.Carried.{hand_as, is_nothing, serials_of, AreOwn, world_of, IsCarried, IsRest}
 use Rattle.state_core.specs.Lawful.{IsLawful}
-use Rattle.state_core.specs.Moving.{IsOwnCopy, put_back_to_source}
+use Rattle.state_core.specs.Ending.{IsOwnCopy, put_back_to_source}
 use Rattle.zone_core.specs.Seats.{ScanSeat, EndSeat, audit_refusal}
 use Rattle.zone_core.specs.World.{WorldState, IsOrderly, IsRising, world_closed, hand_of, serial_in, is_empty, all_put_back, shut, shut_step}
 use Rattle.state_core.specs.ZoneState.{ZoneState}

@@ -11,7 +11,7 @@ use Rattle.zone_core.specs.declared.hand.Hand.TheVariants as hand
 use Rattle.zone_core.specs.declared.hands.Held.{Held}
 use Rattle.zone_core.specs.declared.hands.Held.TheVariants.{Nothing, Page, Copy}
 use Rattle.zone_core.specs.Carried.{hand_as, page_held, copy_held, is_nothing, held_at, serials_of, world_of, IsCarried}
-use Rattle.state_core.specs.Moving.{IsOwnCopy, committed, put_back_to_source, moved_to_target}
+use Rattle.state_core.specs.Ending.{IsOwnCopy, committed, put_back_to_source, moved_to_target}
 use Rattle.zone_core.specs.Seats.{ScanSeat, EndSeat, seat_ended}
 use Rattle.zone_core.specs.World.{WorldState, hand_of, with_hand, serial_in, page_in, copy_in, take_step, copy_step, finish_step, finished_as, finished_in, finished_by, taken_by}
 use Rattle.state_core.specs.ZoneState.{ZoneState}

@@ -22,7 +22,7 @@ use Rattle.state_core.specs.declared.moves.Ended.TheVariants as ended
 use Rattle.state_core.specs.declared.placement.Placement.{Placement}
 use Rattle.state_core.specs.declared.placement.Placement.TheVariants.{At, Moving}
 use Rattle.state_core.specs.Lawful.{IsLawful, is_under}
-use Rattle.state_core.specs.Moving.{moved_to_target, put_back_to_source}
+use Rattle.state_core.specs.Ending.{moved_to_target, put_back_to_source}
 use Rattle.zone_core.specs.World.{WorldState, IsOrderly, IsRising, with_hand, hand_of, waits, is_empty, serial_in, copy_in, finished_as, finished_in, finished_by, finish_step, all_put_back, shut, shut_step}
 use Rattle.zone_core.specs.Seats.{EndSeat, seat_ended}
 use Rattle.state_core.specs.ZoneState.{ZoneState, frame_count}

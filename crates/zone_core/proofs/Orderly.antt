@@ -10,7 +10,8 @@ use Rattle.state_core.specs.declared.error.ZoneError.TheVariants.{JournalFull}
 use Rattle.state_core.specs.declared.moves.Next.TheVariants as next
 use Rattle.state_core.specs.declared.round.Pair.{Pair}
 use Rattle.state_core.specs.Lawful.{IsLawful}
-use Rattle.state_core.specs.Moving.{round_begun, isolate_refusal, isolated_next}
+use Rattle.state_core.specs.Rounds.{round_begun}
+use Rattle.state_core.specs.Isolating.{isolate_refusal, isolated_next}
 use Rattle.state_core.specs.Pairs.{IsPair, next_pair}
 use Rattle.zone_core.specs.World.{WorldState, IsOrderly, IsRising, with_zone, hand_of, serial_in, round_opened, isolated_by}
 use Rattle.zone_core.specs.Seats.{ScanSeat, seat_begun, seat_noted}

@@ -12,8 +12,11 @@ ghost use Rattle.state_core.specs.Ending.{IsOwnCopy};
 ghost use Rattle.state_core.specs.Isolating.{isolate_refusal};
 ghost use Rattle.zone_core.specs.Seats.{seat_full, seat_ended, audit_refusal};
 ghost use Rattle.state_core.specs.Pairs.{next_pair};
-ghost use Rattle.state_core.specs.Refusals.{IsOpenable, result_err, map_refusal, map_at_refusal, access_refusal};
-ghost use Rattle.state_core.specs.Steps.{mapped, value_at, loaded, stored, is_unmovable};
+ghost use Rattle.state_core.specs.Opening.{IsOpenable};
+ghost use Rattle.std.specs.Result.{result_err};
+ghost use Rattle.state_core.specs.Mapping.{map_refusal, map_at_refusal, mapped};
+ghost use Rattle.state_core.specs.Access.{access_refusal, value_at, loaded, stored};
+ghost use Rattle.frame_core.specs.PageFlags.{is_unmovable};
 ghost use Rattle.zone_core.specs.World.{WorldState, IsOrderly, IsRising, waits, world_opened, world_closed, with_zone, round_opened, scan_stopped, scanned_by, isolated_by, finished_as, finished_in, all_put_back, scan_refusal, scan_answer, scanned, take_step, copy_step, finish_step, shut_step};
 ghost use Rattle.state_core.specs.ZoneState.{lowest_free_frame};
 
