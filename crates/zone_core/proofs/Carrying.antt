@@ -1,4 +1,4 @@
--- Each step of a world keeps what it carries.
+-- What a world carries stays its own where its zone changes.
 use Rattle.std.proofs.Common.{◌≡◌, ◌≢◌, ℕ, zero, suc, ◌+◌, ◌-◌, ◌*◌, ◌/◌, ◌<◌, ◌≤◌, Bool, true, false, not, List, [], ◌∷◌, ◌++◌, length, ◌⊎◌, inl, inr, refl, sym, ap, subst, ◌∙◌, arith}
 use Rattle.std.specs.Prelude.{Option, Some, None, IsSome, Result, Ok, Err, IfOk, OnOk, OnErr, map as each, replicate, slice_get, slice_set, unwrap_or, nat_eq, nat_lt, is_some, if◌then◌else◌}
 use Rattle.std.specs.FinMap as map
@@ -43,10 +43,12 @@ use Rattle.state_core.proofs.Accessed.{lawful_loaded, lawful_stored}
 use Rattle.state_core.proofs.Finding.{some_lowest, unused_left, unused_is}
 use Rattle.state_core.proofs.Carried.{own_page, own_begun, own_loaded, own_stored, own_placed, own_isolated, own_fresh, own_committed, own_put_back}
 use Rattle.state_core.proofs.Facts.{taken, skipped, spare, not_none}
-use Rattle.zone_core.proofs.Orderly.{orderly_with_zone, orderly_taken, orderly_copied, orderly_finished, orderly_shut, orderly_round_opened, orderly_noted, orderly_isolated}
+use Rattle.zone_core.proofs.Orderly.{orderly_with_zone, orderly_round_opened, orderly_noted, orderly_isolated}
+use Rattle.zone_core.proofs.HandsTaking.{orderly_taken, orderly_copied}
+use Rattle.zone_core.proofs.MovesEnded.{orderly_finished, orderly_shut}
 
 -- Lists of what hands hold
-each_set : (held : List Held) (i : ℕ) (x : Held) → each hand_as (slice_set held i x) ≡ slice_set (each hand_as held) i (hand_as x)
+pub each_set : (held : List Held) (i : ℕ) (x : Held) → each hand_as (slice_set held i x) ≡ slice_set (each hand_as held) i (hand_as x)
 each_set held i x = map-set hand_as held i x
 
 pub set_twice : (held : List Held) (i : ℕ) (x y : Held) → slice_set (slice_set held i x) i y ≡ slice_set held i y
@@ -55,16 +57,16 @@ set_twice (h ∷ held) zero x y = refl
 set_twice (h ∷ held) (suc i) x y = ap (λ (t : List Held). h ∷ t) (set_twice held i x y)
 
 -- what a hand shows is what it holds
-seen_at : (held : List Held) (i : ℕ) → unwrap_or (slice_get (each hand_as held) i) hand.Empty ≡ hand_as (unwrap_or (slice_get held i) Nothing)
+pub seen_at : (held : List Held) (i : ℕ) → unwrap_or (slice_get (each hand_as held) i) hand.Empty ≡ hand_as (unwrap_or (slice_get held i) Nothing)
 seen_at [] i = refl
 seen_at (h ∷ held) zero = refl
 seen_at (h ∷ held) (suc i) = seen_at held i
 
-seen_some : (held : List Held) (i : ℕ) (h : Held) → slice_get held i ≡ Some h → unwrap_or (slice_get (each hand_as held) i) hand.Empty ≡ hand_as h
+pub seen_some : (held : List Held) (i : ℕ) (h : Held) → slice_get held i ≡ Some h → unwrap_or (slice_get (each hand_as held) i) hand.Empty ≡ hand_as h
 seen_some held i h e = seen_at held i ∙ ap (λ (o : Option Held). hand_as (unwrap_or o Nothing)) e
 
 -- after a hand holds x, each hand holds x or is another, with what it held
-held_after : (held : List Held) (i j : ℕ) (x y : Held) → slice_get (slice_set held i x) j ≡ Some y → ((j ≡ i) × (x ≡ y)) ⊎ ((j ≢ i) × (slice_get held j ≡ Some y))
+pub held_after : (held : List Held) (i j : ℕ) (x y : Held) → slice_get (slice_set held i x) j ≡ Some y → ((j ≡ i) × (x ≡ y)) ⊎ ((j ≢ i) × (slice_get held j ≡ Some y))
 held_after held i j x y e = elim (eqb_tells j i) [
   | inl same ↦ (
       let within : i < length held = omega (arith, slice_get_within (slice_set held i x) j y e, length-set held i x, same.1) in
@@ -73,55 +75,55 @@ held_after held i j x y e = elim (eqb_tells j i) [
   | inr other ↦ inr (other.1, sym (slice_get_set_other held i j x other.1) ∙ e)
 ]
 
-is_page_held : (o : Option Held) (p : OnItsWay) → page_held (unwrap_or o Nothing) ≡ Some p → o ≡ Some (Page p)
+pub is_page_held : (o : Option Held) (p : OnItsWay) → page_held (unwrap_or o Nothing) ≡ Some p → o ≡ Some (Page p)
 is_page_held None p e = cc
 is_page_held (Some Nothing) p e = cc
 is_page_held (Some (Page q)) p e = let same : q ≡ p = cc in ap (λ (x : OnItsWay). Some (Page x)) same
 is_page_held (Some (Copy q)) p e = cc
 
-is_copy_held : (o : Option Held) (p : OnItsWay) → copy_held (unwrap_or o Nothing) ≡ Some p → o ≡ Some (Copy p)
+pub is_copy_held : (o : Option Held) (p : OnItsWay) → copy_held (unwrap_or o Nothing) ≡ Some p → o ≡ Some (Copy p)
 is_copy_held None p e = cc
 is_copy_held (Some Nothing) p e = cc
 is_copy_held (Some (Page q)) p e = cc
 is_copy_held (Some (Copy q)) p e = let same : q ≡ p = cc in ap (λ (x : OnItsWay). Some (Copy x)) same
 
-page_same : {p q : OnItsWay} → Page p ≡ Page q → p ≡ q
+pub page_same : {p q : OnItsWay} → Page p ≡ Page q → p ≡ q
 page_same {p} {q} e = cc
 
-copy_same : {p q : OnItsWay} → Copy p ≡ Copy q → p ≡ q
+pub copy_same : {p q : OnItsWay} → Copy p ≡ Copy q → p ≡ q
 copy_same {p} {q} e = cc
 
-page_no_copy : {p q : OnItsWay} → Page p ≡ Copy q → ⊥
+pub page_no_copy : {p q : OnItsWay} → Page p ≡ Copy q → ⊥
 page_no_copy {p} {q} e = cc
 
-copy_no_page : {p q : OnItsWay} → Copy p ≡ Page q → ⊥
+pub copy_no_page : {p q : OnItsWay} → Copy p ≡ Page q → ⊥
 copy_no_page {p} {q} e = cc
 
-nothing_no_page : {q : OnItsWay} → Nothing ≡ Page q → ⊥
+pub nothing_no_page : {q : OnItsWay} → Nothing ≡ Page q → ⊥
 nothing_no_page {q} e = cc
 
-nothing_no_copy : {q : OnItsWay} → Nothing ≡ Copy q → ⊥
+pub nothing_no_copy : {q : OnItsWay} → Nothing ≡ Copy q → ⊥
 nothing_no_copy {q} e = cc
 
-true_not_false : (b : Bool) → b ≡ true → b ≡ false → ⊥
+pub true_not_false : (b : Bool) → b ≡ true → b ≡ false → ⊥
 true_not_false b t f = let bad : true ≡ false = sym t ∙ f in cc
 
-no_page : (n i : ℕ) (p : OnItsWay) → slice_get (replicate n Nothing) i ≡ Some (Page p) → ⊥
+pub no_page : (n i : ℕ) (p : OnItsWay) → slice_get (replicate n Nothing) i ≡ Some (Page p) → ⊥
 no_page zero i p e = cc
 no_page (suc n) zero p e = cc
 no_page (suc n) (suc i) p e = no_page n i p e
 
-no_copy : (n i : ℕ) (p : OnItsWay) → slice_get (replicate n Nothing) i ≡ Some (Copy p) → ⊥
+pub no_copy : (n i : ℕ) (p : OnItsWay) → slice_get (replicate n Nothing) i ≡ Some (Copy p) → ⊥
 no_copy zero i p e = cc
 no_copy (suc n) zero p e = cc
 no_copy (suc n) (suc i) p e = no_copy n i p e
 
-nothing_is : (h : Held) → is_nothing h ≡ true → h ≡ Nothing
+pub nothing_is : (h : Held) → is_nothing h ≡ true → h ≡ Nothing
 nothing_is Nothing e = refl
 nothing_is (Page p) e = cc
 nothing_is (Copy p) e = cc
 
-waits_at : (list : List OnItsWay) (i : ℕ) (p : OnItsWay) → slice_get list i ≡ Some p → list_any (nat_eq p.serial) (serials_of list) ≡ true
+pub waits_at : (list : List OnItsWay) (i : ℕ) (p : OnItsWay) → slice_get list i ≡ Some p → list_any (nat_eq p.serial) (serials_of list) ≡ true
 waits_at [] i p e = cc
 waits_at (q ∷ list) zero p e = let same : q ≡ p = cc in or_left (nat_eq p.serial q.serial) _ (eq-eqb p.serial q.serial (ap (λ x. x.serial) (sym same)))
 waits_at (q ∷ list) (suc i) p e = or_right (nat_eq p.serial q.serial) _ (waits_at list i p e)
@@ -134,265 +136,6 @@ module _ (zone next : ZoneState) (scan : ScanSeat) (ends : EndSeat) (is_open : B
     waiting = λ i p e. own p (was.waiting i p e);
     pages = λ i p e. own p (was.pages i p e);
     copies = λ i p e. own p (was.copies i p e);
-    room = was.room ∙ ap (λ n. 256 * n) (sym blocks);
-  }
-
--- Taking, copying and finishing
-module _ (zone : ZoneState) (scan : ScanSeat) (ends : EndSeat) (is_open : Bool) (p : OnItsWay) (list : List OnItsWay) (held : List Held) (k capacity : ℕ) (low : 0 < k) (high : k ≤ 4) (nothing : is_nothing (held_at held k) ≡ true) (was : IsCarried zone scan ends is_open (p ∷ list) held capacity) where
-  abbrev before : WorldState
-  before = world_of zone scan ends is_open (p ∷ list) held
-
-  abbrev hands_taken : List Held
-  hands_taken = slice_set held (k - 1) (Page p)
-
-  hand_empty : hand_of before k ≡ hand.Empty
-  hand_empty = seen_at held (k - 1) ∙ ap hand_as (nothing_is (held_at held k) nothing)
-
-  pub step_taken : take_step before k ≡ Some (p.serial, world_of zone scan ends is_open list hands_taken)
-  step_taken =
-      ap (λ (h : Hand). taken_by before k h (p.serial ∷ serials_of list)) hand_empty
-      ∙ ap (λ (hs : List Hand). Some (p.serial, record { zone = zone; scan = scan; ends = ends; is_open = is_open; waiting = serials_of list; hands = hs })) (sym (each_set held (k - 1) (Page p)))
-
-  pub carried_taken : IsCarried zone scan ends is_open list hands_taken capacity
-  carried_taken = record {
-    orderly = orderly_taken before k p.serial (world_of zone scan ends is_open list hands_taken) low high was.orderly step_taken;
-    waiting = λ i q e. was.waiting (suc i) q e;
-    pages = λ i q e. elim (held_after held (k - 1) i (Page p) (Page q) e) [
-      | inl here ↦ subst (IsOwnCopy zone) (page_same here.1) (was.waiting zero p refl)
-      | inr there ↦ was.pages i q there.1
-    ];
-    copies = λ i q e. elim (held_after held (k - 1) i (Page p) (Copy q) e) [
-      | inl here ↦ absurd (page_no_copy here.1)
-      | inr there ↦ was.copies i q there.1
-    ];
-    room = was.room;
-  }
-
-module _ (zone : ZoneState) (scan : ScanSeat) (ends : EndSeat) (is_open : Bool) (p : OnItsWay) (list : List OnItsWay) (held : List Held) (k capacity : ℕ) (low : 0 < k) (high : k ≤ 4) (page : page_held (held_at held k) ≡ Some p) (was : IsCarried zone scan ends is_open list held capacity) where
-  abbrev uncopied : WorldState
-  uncopied = world_of zone scan ends is_open list held
-
-  abbrev hands_copied : List Held
-  hands_copied = slice_set held (k - 1) (Copy p)
-
-  page_at_hand : slice_get held (k - 1) ≡ Some (Page p)
-  page_at_hand = is_page_held (slice_get held (k - 1)) p page
-
-  pub step_copied : copy_step uncopied k ≡ Some (world_of zone scan ends is_open list hands_copied)
-  step_copied =
-      ap (λ (h : Hand). option_and_then (λ serial. Some (with_hand uncopied k (hand.Copy serial))) (page_in h)) (seen_some held (k - 1) (Page p) page_at_hand)
-      ∙ ap (λ (hs : List Hand). Some (record { zone = zone; scan = scan; ends = ends; is_open = is_open; waiting = serials_of list; hands = hs })) (sym (each_set held (k - 1) (Copy p)))
-
-  pub carried_copied : IsCarried zone scan ends is_open list hands_copied capacity
-  carried_copied = record {
-    orderly = orderly_copied uncopied k (world_of zone scan ends is_open list hands_copied) low high was.orderly step_copied;
-    waiting = was.waiting;
-    pages = λ i q e. elim (held_after held (k - 1) i (Copy p) (Page q) e) [
-      | inl here ↦ absurd (copy_no_page here.1)
-      | inr there ↦ was.pages i q there.1
-    ];
-    copies = λ i q e. elim (held_after held (k - 1) i (Copy p) (Copy q) e) [
-      | inl here ↦ subst (IsOwnCopy zone) (copy_same here.1) (was.pages (k - 1) p page_at_hand)
-      | inr there ↦ was.copies i q there.1
-    ];
-    room = was.room;
-  }
-
-module _ (zone : ZoneState) (scan : ScanSeat) (ends : EndSeat) (is_open : Bool) (p : OnItsWay) (list : List OnItsWay) (held : List Held) (k capacity : ℕ) (low : 0 < k) (high : k ≤ 4) (copy : copy_held (held_at held k) ≡ Some p) (was : IsCarried zone scan ends is_open list held capacity) where
-  abbrev unfinished : WorldState
-  unfinished = world_of zone scan ends is_open list held
-
-  abbrev hands_finished : List Held
-  hands_finished = slice_set held (k - 1) Nothing
-
-  abbrev zone_finished : ZoneState
-  zone_finished = finished_in zone p.serial
-
-  abbrev ends_finished : EndSeat
-  ends_finished = seat_ended ends (finished_as zone p.serial).ended
-
-  copy_at_hand : slice_get held (k - 1) ≡ Some (Copy p)
-  copy_at_hand = is_copy_held (slice_get held (k - 1)) p copy
-
-  pub own_in_hand : IsOwnCopy zone p
-  own_in_hand = was.copies (k - 1) p copy_at_hand
-
-  hand_copy : hand_of unfinished k ≡ hand.Copy p.serial
-  hand_copy = seen_some held (k - 1) (Copy p) copy_at_hand
-
-  pub step_finished : finish_step unfinished k ≡ Some (finished_as zone p.serial, world_of zone_finished scan ends_finished is_open list hands_finished)
-  step_finished =
-      ap (λ (h : Hand). option_and_then (λ serial. Some (finished_as zone serial, finished_by unfinished k serial)) (copy_in h)) hand_copy
-      ∙ ap (λ (hs : List Hand). Some (finished_as zone p.serial, record { zone = zone_finished; scan = scan; ends = ends_finished; is_open = is_open; waiting = serials_of list; hands = hs })) (sym (each_set held (k - 1) Nothing))
-
-  finished_is : zone_finished ≡ committed zone p.serial p.page.number
-  finished_is = ap (λ (o : Option ℕ). committed zone p.serial (unwrap_or o 0)) (own_page zone was.orderly.lawful p own_in_hand.own)
-
-  blocks_same : zone_finished.blocks ≡ zone.blocks
-  blocks_same = ap (λ (v : ZoneState). v.blocks) finished_is ∙ by_pins (nat_eq (pins zone.records p.page.number) 0) where
-    by_pins : (b : Bool) → (if b then moved_to_target zone p.serial p.page.number else put_back_to_source zone p.serial p.page.number Pinned).blocks ≡ zone.blocks
-    by_pins true = refl
-    by_pins false = refl
-
-  own_stays : (q : OnItsWay) → p.serial ≢ q.serial → IsOwnCopy zone q → IsOwnCopy zone_finished q
-  own_stays q ne own = subst (λ (v : ZoneState). IsOwnCopy v q) (sym finished_is) (own_committed zone p q own_in_hand.own ne own)
-
-  not_waiting : (i : ℕ) (q : OnItsWay) → slice_get list i ≡ Some q → p.serial ≢ q.serial
-  not_waiting i q e same =
-      let none = was.orderly.one_place k p.serial low (ap serial_in hand_copy) in
-      let one = waits_at list i q e in
-      let bad : true ≡ false = sym one ∙ ap (λ (s : ℕ). list_any (nat_eq s) (serials_of list)) (sym same) ∙ none in
-      cc
-
-  in_other_hand : (i : ℕ) (h : Held) (q : OnItsWay) → i ≢ k - 1 → slice_get held i ≡ Some h → serial_in (hand_as h) ≡ Some q.serial → p.serial ≢ q.serial
-  in_other_hand i h q other e is same =
-      let place : i + 1 - 1 ≡ i = omega arith in
-      let here : serial_in (hand_of unfinished (i + 1)) ≡ Some q.serial =
-      ap (λ (n : ℕ). serial_in (unwrap_or (slice_get (each hand_as held) n) hand.Empty)) place ∙ ap serial_in (seen_some held i h e) ∙ is in
-      let there : serial_in (hand_of unfinished k) ≡ Some q.serial = ap serial_in hand_copy ∙ ap Some same in
-      let one : i + 1 ≡ k = was.orderly.one_hand (i + 1) k q.serial here there (omega arith) low in
-      let bad : i ≡ k - 1 = omega arith in
-      other bad
-
-  pub carried_finished : IsCarried zone_finished scan ends_finished is_open list hands_finished capacity
-  carried_finished = record {
-    orderly = orderly_finished unfinished k (finished_as zone p.serial) (world_of zone_finished scan ends_finished is_open list hands_finished) low high was.orderly step_finished;
-    waiting = λ i q e. own_stays q (not_waiting i q e) (was.waiting i q e);
-    pages = λ i q e. elim (held_after held (k - 1) i Nothing (Page q) e) [
-      | inl here ↦ absurd (nothing_no_page here.1)
-      | inr there ↦ own_stays q (in_other_hand i (Page q) q there.0 there.1 refl) (was.pages i q there.1)
-    ];
-    copies = λ i q e. elim (held_after held (k - 1) i Nothing (Copy q) e) [
-      | inl here ↦ absurd (nothing_no_copy here.1)
-      | inr there ↦ own_stays q (in_other_hand i (Copy q) q there.0 there.1 refl) (was.copies i q there.1)
-    ];
-    room = was.room ∙ ap (λ n. 256 * n) (sym blocks_same);
-  }
-
--- A closed round
-empty_hands : (n i : ℕ) → unwrap_or (slice_get (replicate n hand.Empty) i) hand.Empty ≡ hand.Empty
-empty_hands zero i = refl
-empty_hands (suc n) zero = refl
-empty_hands (suc n) (suc i) = empty_hands n i
-
-module _ (zone : ZoneState) (scan : ScanSeat) (ends : EndSeat) (law : IsLawful zone) (whole : ends.parts ≡ 64) (none : (serial : ℕ) → is_out zone.records serial ≡ false) where
-  empty_hand : (k serial : ℕ) → serial_in (hand_of (world_closed zone scan ends) k) ≡ Some serial → ⊥
-  empty_hand k serial e =
-      let bad : None ≡ Some serial = ap serial_in (sym (empty_hands 4 (k - 1))) ∙ e in
-      cc
-
-  orderly_closed : IsOrderly (world_closed zone scan ends)
-  orderly_closed = record {
-    lawful = law;
-    whole = whole;
-    four = refl;
-    rising = tt;
-    out = λ serial. (λ t. absurd (true_not_false _ t (none serial)), λ t. absurd (true_not_false _ t refl));
-    one_hand = λ j k serial a b low_j low_k. absurd (empty_hand j serial a);
-    one_place = λ k serial low e. absurd (empty_hand k serial e);
-    closed = λ e. none;
-    few = (omega (arith, law.fingers.0), omega (arith, law.fingers.1));
-  }
-
-  pub carried_closed : (capacity : ℕ) → capacity ≡ 256 * zone.blocks → IsCarried zone scan ends false [] (Nothing ∷ Nothing ∷ Nothing ∷ Nothing ∷ []) capacity
-  carried_closed capacity room = record {
-    orderly = orderly_closed;
-    waiting = λ i p e. cc;
-    pages = λ i p e. absurd (no_page 4 i p e);
-    copies = λ i p e. absurd (no_copy 4 i p e);
-    room = room;
-  }
-
--- in a closed round nothing waits
-no_list : (list : List OnItsWay) → ((serial : ℕ) → list_any (nat_eq serial) (serials_of list) ≡ false) → list ≡ []
-no_list [] none = refl
-no_list (p ∷ list) none =
-    let bad : true ≡ false = sym (waits_at (p ∷ list) zero p refl) ∙ none p.serial in
-    cc
-
-pub closed_waits : (zone : ZoneState) (scan : ScanSeat) (ends : EndSeat) (is_open : Bool) (list : List OnItsWay) (held : List Held) → IsOrderly (world_of zone scan ends is_open list held) → is_open ≡ false → list ≡ []
-closed_waits zone scan ends is_open list held orderly closed = no_list list (λ serial. not_waiting_then serial (list_any (nat_eq serial) (serials_of list)) refl) where
-  not_waiting_then : (serial : ℕ) (b : Bool) → list_any (nat_eq serial) (serials_of list) ≡ b → b ≡ false
-  not_waiting_then serial false e = refl
-  not_waiting_then serial true e =
-      let bad : true ≡ false = sym ((orderly.out serial).1 (or_left _ _ e)) ∙ orderly.closed closed serial in
-      cc
-
--- Closing a round
-pub record IsClosing (zone : ZoneState) (list : List OnItsWay) (count : ℕ) (first : ZoneState) (all : List OnItsWay) : Type 0 where
-  pub own : AreOwn zone list
-  pub rising : IsRising (serials_of list)
-  pub ahead : all_put_back zone (serials_of list) ≡ all_put_back first (serials_of all)
-  pub counted : count + length list ≡ length all
-  pub blocks : zone.blocks ≡ first.blocks
-
-pub closing_first : (zone : ZoneState) (list : List OnItsWay) → AreOwn zone list → IsRising (serials_of list) → IsClosing zone list 0 zone list
-closing_first zone list own rising = record {
-  own = own;
-  rising = rising;
-  ahead = refl;
-  counted = omega arith;
-  blocks = refl;
-}
-
-pub closing_next : (zone : ZoneState) (p : OnItsWay) (list : List OnItsWay) (count : ℕ) (first : ZoneState) (all : List OnItsWay) → IsClosing zone (p ∷ list) count first all → page_of zone.records p.serial ≡ Some p.page.number → IsClosing (all_put_back zone (p.serial ∷ [])) list (count + 1) first all
-closing_next zone p list count first all was page = record {
-  own = λ i q e. subst (λ (v : ZoneState). IsOwnCopy v q) (sym put_is)
-      (own_put_back zone NotCopied p q (was.own zero p refl).own (rises i q e) (was.own (suc i) q e));
-  rising = was.rising.1;
-  ahead = was.ahead;
-  counted = omega (arith, was.counted);
-  blocks = was.blocks;
-} where
-  put_is : all_put_back zone (p.serial ∷ []) ≡ put_back_to_source zone p.serial p.page.number NotCopied
-  put_is = ap (λ (o : Option ℕ). put_back_to_source zone p.serial (unwrap_or o 0) NotCopied) page
-
-  rises : (i : ℕ) (q : OnItsWay) → slice_get list i ≡ Some q → p.serial ≢ q.serial
-  rises i q e same = let less : p.serial < q.serial = was.rising.0 q.serial (waits_at list i q e) in absurd (omega arith)
-
-all_empty : (held : List Held) → list_all is_nothing held ≡ true → (i : ℕ) (h : Held) → slice_get held i ≡ Some h → h ≡ Nothing
-all_empty [] e i h is = cc
-all_empty (x ∷ held) e zero h is = let same : x ≡ h = cc in sym same ∙ nothing_is x (and_parts (is_nothing x) _ e).0
-all_empty (x ∷ held) e (suc i) h is = all_empty held (and_parts (is_nothing x) _ e).1 i h is
-
-empty_seen : (held : List Held) → list_all is_empty (each hand_as held) ≡ list_all is_nothing held
-empty_seen [] = refl
-empty_seen (Nothing ∷ held) = empty_seen held
-empty_seen (Page p ∷ held) = refl
-empty_seen (Copy p ∷ held) = refl
-
-pub not_shut : (zone : ZoneState) (scan : ScanSeat) (ends : EndSeat) (is_open : Bool) (list : List OnItsWay) (held : List Held) → list_all is_nothing held ≡ false → shut_step (world_of zone scan ends is_open list held) ≡ None
-not_shut zone scan ends is_open list held full =
-    skipped (list_all is_empty (each hand_as held)) (Some (length (serials_of list), shut (world_of zone scan ends is_open list held))) None (empty_seen held ∙ full)
-
--- the list of a world is short
-pub short_list : (zone : ZoneState) (scan : ScanSeat) (ends : EndSeat) (is_open : Bool) (list : List OnItsWay) (held : List Held) (capacity : ℕ) → IsCarried zone scan ends is_open list held capacity → length list ≤ 4096
-short_list zone scan ends is_open list held capacity was =
-    omega (arith, was.orderly.few.1, was.orderly.lawful.size.1, length-map list (λ (p : OnItsWay). p.serial))
-
-module _ (zone next : ZoneState) (scan : ScanSeat) (ends : EndSeat) (is_open : Bool) (list : List OnItsWay) (held : List Held) (capacity count : ℕ) (was : IsCarried zone scan ends is_open list held capacity) (empty : list_all is_nothing held ≡ true) (done : next ≡ all_put_back zone (serials_of list)) (blocks : next.blocks ≡ zone.blocks) (counted : count ≡ length list) where
-  abbrev open_world : WorldState
-  open_world = world_of zone scan ends is_open list held
-
-  abbrev ends_shut : EndSeat
-  ends_shut = record ends { back = ends.back + count }
-
-  pub step_shut : shut_step open_world ≡ Some (count, world_of next scan ends_shut false [] held)
-  step_shut =
-      taken (list_all is_empty (each hand_as held)) (Some (length (serials_of list), shut open_world)) None (empty_seen held ∙ empty)
-      ∙ (λ i. Some (number i, world_of (back i) scan (record ends { back = ends.back + number i }) false [] held)) where
-        back : all_put_back zone (serials_of list) ≡ next
-        back = sym done
-
-        number : length (serials_of list) ≡ count
-        number = length-map list (λ (p : OnItsWay). p.serial) ∙ sym counted
-
-  pub carried_shut : IsCarried next scan ends_shut false [] held capacity
-  carried_shut = record {
-    orderly = orderly_shut open_world count (world_of next scan ends_shut false [] held) was.orderly step_shut;
-    waiting = λ i p e. cc;
-    pages = λ i p e. absurd (nothing_no_page (sym (all_empty held empty i (Page p) e)));
-    copies = λ i p e. absurd (nothing_no_copy (sym (all_empty held empty i (Copy p) e)));
     room = was.room ∙ ap (λ n. 256 * n) (sym blocks);
   }
 
@@ -547,30 +290,3 @@ module _ (zone next : ZoneState) (scan : ScanSeat) (ends : EndSeat) (is_open : B
   carried_mapped_at client address unmovable frame (Ok done) law refused err ok =
       let free = place_then (nat_lt frame (frame_count zone)) (has_room zone) (is_some (page_at zone.records address)) (is_free zone frame) (sym refused) in
       carried_placed client address unmovable frame (some_lowest zone frame free.1 (ltb-true frame (frame_count zone) free.0)) law ok
-
--- A world that is joined
-audit_then : (a b : Bool) → (if not a then Some Missing else if b then Some Out else None) ≡ None → (a ≡ true) × (b ≡ false)
-audit_then false b e = cc
-audit_then true true e = cc
-audit_then true false e = (refl, refl)
-
-pub carried_joined : (zone : ZoneState) (scan : ScanSeat) (ends : EndSeat) (list : List OnItsWay) (held : List Held) (capacity : ℕ) → IsLawful zone → audit_refusal zone ends ≡ None → IsRest list capacity → capacity / 256 ≡ zone.blocks → held ≡ Nothing ∷ Nothing ∷ Nothing ∷ Nothing ∷ [] → IsCarried zone scan ends false list held capacity
-carried_joined zone scan ends list held capacity law audit rest blocks empty =
-    let passed = audit_then (nat_eq ends.parts 64) (nat_lt 0 (length (out zone.records))) audit in
-    let gone = ltb-false 0 (length (out zone.records)) passed.1 in
-    rw (rest.none, empty)
-    (carried_closed zone scan ends law (eqb-true ends.parts 64 passed.0) (out_empty zone.records (omega arith)) capacity (omega (arith, rest.room, blocks)))
-
--- where no round is open, the zone and its seats pass an audit
-pub audit_left : (zone : ZoneState) (scan : ScanSeat) (ends : EndSeat) (is_open : Bool) (list : List OnItsWay) (held : List Held) (capacity : ℕ) → IsCarried zone scan ends is_open list held capacity → is_open ≡ false → audit_refusal zone ends ≡ None
-audit_left zone scan ends is_open list held capacity was closed =
-    ap (λ (n : ℕ). if not (nat_eq n 64) then Some Missing else if nat_lt 0 (length (out zone.records)) then Some Out else None) was.orderly.whole
-    ∙ ap (λ (serials : List ℕ). if nat_lt 0 (length serials) then Some Out else None) (none_out zone.records (was.orderly.closed closed))
-
--- where no round is open nothing waits
-pub rest_left : (zone : ZoneState) (scan : ScanSeat) (ends : EndSeat) (is_open : Bool) (list : List OnItsWay) (held : List Held) (capacity : ℕ) → IsCarried zone scan ends is_open list held capacity → is_open ≡ false → IsRest list capacity
-rest_left zone scan ends is_open list held capacity was closed = record {
-  none = closed_waits zone scan ends is_open list held was.orderly closed;
-  room = omega (arith, was.room);
-  few = omega (arith, was.room, was.orderly.lawful.size.1);
-}

@@ -14,10 +14,12 @@ ghost use Rattle.zone_core.specs.Seats.{seat_full, seat_ended, audit_refusal};
 ghost use Rattle.state_core.specs.Pairs.{next_pair};
 ghost use Rattle.state_core.specs.Opening.{IsOpenable};
 ghost use Rattle.std.specs.Result.{result_err};
-ghost use Rattle.state_core.specs.Mapping.{map_refusal, map_at_refusal, mapped};
-ghost use Rattle.state_core.specs.Access.{access_refusal, value_at, loaded, stored};
+ghost use Rattle.state_core.specs.Mapping.{map_refusal, map_at_refusal};
+ghost use Rattle.state_core.specs.Access.{access_refusal};
+ghost use Rattle.state_core.specs.Mapping.{mapped};
+ghost use Rattle.state_core.specs.Access.{value_at, loaded, stored};
 ghost use Rattle.frame_core.specs.PageFlags.{is_unmovable};
-ghost use Rattle.zone_core.specs.World.{IsOrderly, IsRising, waits, world_opened, world_closed, with_zone, round_opened, scan_stopped, scanned_by, isolated_by, finished_as, finished_in, all_put_back, scan_refusal, scan_answer, scanned, take_step, copy_step, finish_step, shut_step};
+ghost use Rattle.zone_core.specs.World.{WorldState, IsOrderly, IsRising, waits, world_opened, world_closed, with_zone, round_opened, scan_stopped, scanned_by, isolated_by, finished_as, finished_in, all_put_back, scan_refusal, scan_answer, scanned, take_step, copy_step, finish_step, shut_step};
 ghost use Rattle.state_core.specs.ZoneState.{lowest_free_frame};
 
 use crate::ending::{finish_in, put_all_back_in};
@@ -120,6 +122,8 @@ impl<I: Ledger, N: Ledger, M: Ledger, B: Ledger> World<I, N, M, B> {
         // Whatever calls were made, in any order: the pages that wait and those in hands are just those on their way, each
         // once, and those that wait do so in the order of their serials.
         ensures orderly { IsOrderly self.now }
+        ensures least { (hand serial : ℕ) (after : WorldState) → 0 < hand → hand ≤ 4 → take_step self.now hand ≡ Some (serial, after)
+            → (waiting : ℕ) → IsTrue (waits self.now waiting) → serial ≤ waiting }
     {
         &self.zone
     }

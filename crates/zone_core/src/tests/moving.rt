@@ -25,16 +25,31 @@ fn frame_no<R: Abort>(rt: &R, number: u32) -> FrameNo {
     FrameNo::new(number).expect(rt, "a frame")
 }
 
-/// Zone 3, of one pageblock, with its seats.
+/// A zone that was just opened, with its seats.
+#[derive(Drop)]
+struct Opening<I: Ledger, N: Ledger, M: Ledger, B: Ledger> {
+    zone: Zone<I, M, B>,
+    scan: ScanSeat<I, N>,
+    ends: EndSeat<M, B>,
+}
+
+/// Zone 3, of one pageblock.
 fn opened<I: Ledger, N: Ledger, M: Ledger, B: Ledger, R: Abort + AllocGlobal>(
     rt: &R,
     places: u32,
     blanks: Blanks,
-) -> (Zone<I, M, B>, ScanSeat<I, N>, EndSeat<M, B>)
+) -> Opening<I, N, M, B>
     requires blanks { AreFor blanks I.name I.parts N.name N.parts M.name M.parts B.name B.parts }
 {
     let number = ZoneNo::new(3).expect(rt, "a zone");
-    Zone::<I, M, B>::open::<N>(rt.alloc(), number, 1, places, blanks).expect(rt, "a zone")
+    let (zone, scan, ends) = Zone::<I, M, B>::open::<N>(
+        rt.alloc(),
+        number,
+        1,
+        places,
+        blanks,
+    ).expect(rt, "a zone");
+    Opening { zone, scan, ends }
 }
 
 /// The virtual page 9 names a fresh page at the lowest free frame.
@@ -91,11 +106,13 @@ fn twin_of<R: Abort>(rt: &R, page: &Page) -> Page {
 
 fn moves_a_page<I: Ledger, N: Ledger, M: Ledger, B: Ledger, R: Abort + AllocGlobal>(
     rt: &R,
-    blanks: Blanks,
-)
-    requires blanks { AreFor blanks I.name I.parts N.name N.parts M.name M.parts B.name B.parts }
-{
-    let (mut zone, mut scan, mut ends) = opened::<I, N, M, B, R>(rt, 64, blanks);
+    opening: Opening<I, N, M, B>,
+) {
+    let Opening {
+        mut zone,
+        mut scan,
+        mut ends,
+    } = opening;
     map_words(rt, &mut zone);
     let page = isolated(rt, &mut zone, &mut scan);
     assert_eq!(rt; page.page_no().get(), 0);
@@ -114,11 +131,6 @@ fn moves_a_page<I: Ledger, N: Ledger, M: Ledger, B: Ledger, R: Abort + AllocGlob
     assert_eq!(rt; zone.look(address(rt, 8)), Err(ZoneError::Unmapped));
 }
 
-#[test]
-fn a_page_is_moved_with_its_words(rt: HostRuntime) {
-    moves_a_page::<Brand, Brand, Brand, Brand, HostRuntime>(&rt, Blanks::new());
-}
-
 /// What is told of a zone: its counts, the length of its journal, and what is known of its page.
 fn told<I: Ledger, M: Ledger, B: Ledger, R: Abort>(
     rt: &R,
@@ -129,11 +141,13 @@ fn told<I: Ledger, M: Ledger, B: Ledger, R: Abort>(
 
 fn commits_a_changed_copy<I: Ledger, N: Ledger, M: Ledger, B: Ledger, R: Abort + AllocGlobal>(
     rt: &R,
-    blanks: Blanks,
-)
-    requires blanks { AreFor blanks I.name I.parts N.name N.parts M.name M.parts B.name B.parts }
-{
-    let (mut zone, mut scan, mut ends) = opened::<I, N, M, B, R>(rt, 64, blanks);
+    opening: Opening<I, N, M, B>,
+) {
+    let Opening {
+        mut zone,
+        mut scan,
+        mut ends,
+    } = opening;
     map_words(rt, &mut zone);
     let isolated = isolated(rt, &mut zone, &mut scan);
     let last = word_no(rt, 7);
@@ -162,18 +176,15 @@ fn commits_a_changed_copy<I: Ledger, N: Ledger, M: Ledger, B: Ledger, R: Abort +
     assert_eq!(rt; zone.audit(&mut scan, &mut ends), Ok(counted));
 }
 
-#[test]
-fn a_changed_copy_is_handed_back(rt: HostRuntime) {
-    commits_a_changed_copy::<Brand, Brand, Brand, Brand, HostRuntime>(&rt, Blanks::new());
-}
-
 fn splits_a_seat<I: Ledger, N: Ledger, M: Ledger, B: Ledger, R: Abort + AllocGlobal>(
     rt: &R,
-    blanks: Blanks,
-)
-    requires blanks { AreFor blanks I.name I.parts N.name N.parts M.name M.parts B.name B.parts }
-{
-    let (mut zone, mut scan, mut ends) = opened::<I, N, M, B, R>(rt, 4, blanks);
+    opening: Opening<I, N, M, B>,
+) {
+    let Opening {
+        mut zone,
+        mut scan,
+        mut ends,
+    } = opening;
     map_page(rt, &mut zone, PageFlags::empty());
     let mut parts = Vec::new(rt.alloc());
     for _ in 0..63 {
@@ -198,18 +209,15 @@ fn splits_a_seat<I: Ledger, N: Ledger, M: Ledger, B: Ledger, R: Abort + AllocGlo
     assert_eq!(rt; zone.audit(&mut scan, &mut ends), Ok(counted));
 }
 
-#[test]
-fn a_seat_is_split_into_64_parts_and_joined(rt: HostRuntime) {
-    splits_a_seat::<Brand, Brand, Brand, Brand, HostRuntime>(&rt, Blanks::new());
-}
-
 fn ends_a_serial_twice<I: Ledger, N: Ledger, M: Ledger, B: Ledger, R: Abort + AllocGlobal>(
     rt: &R,
-    blanks: Blanks,
-)
-    requires blanks { AreFor blanks I.name I.parts N.name N.parts M.name M.parts B.name B.parts }
-{
-    let (mut zone, mut scan, mut ends) = opened::<I, N, M, B, R>(rt, 64, blanks);
+    opening: Opening<I, N, M, B>,
+) {
+    let Opening {
+        mut zone,
+        mut scan,
+        mut ends,
+    } = opening;
     map_words(rt, &mut zone);
     let page = isolated(rt, &mut zone, &mut scan);
     assert_eq!(rt; zone.audit(&mut scan, &mut ends), Err(ZoneError::Out));
@@ -227,18 +235,15 @@ fn ends_a_serial_twice<I: Ledger, N: Ledger, M: Ledger, B: Ledger, R: Abort + Al
     assert_eq!(rt; zone.audit(&mut scan, &mut ends), Ok(counted));
 }
 
-#[test]
-fn a_serial_is_ended_once(rt: HostRuntime) {
-    ends_a_serial_twice::<Brand, Brand, Brand, Brand, HostRuntime>(&rt, Blanks::new());
-}
-
 fn ends_strangers<I: Ledger, N: Ledger, M: Ledger, B: Ledger, R: Abort + AllocGlobal>(
     rt: &R,
-    blanks: Blanks,
-)
-    requires blanks { AreFor blanks I.name I.parts N.name N.parts M.name M.parts B.name B.parts }
-{
-    let (mut zone, mut scan, mut ends) = opened::<I, N, M, B, R>(rt, 64, blanks);
+    opening: Opening<I, N, M, B>,
+) {
+    let Opening {
+        mut zone,
+        mut scan,
+        mut ends,
+    } = opening;
     let none = PageFlags::empty();
     map_page(rt, &mut zone, none);
     assert!(rt; zone.map(client(rt), address(rt, 10), none).is_ok());
@@ -269,18 +274,15 @@ fn ends_strangers<I: Ledger, N: Ledger, M: Ledger, B: Ledger, R: Abort + AllocGl
     assert!(rt; zone.put_back(&mut ends, page).is_ok());
 }
 
-#[test]
-fn a_page_that_is_not_on_its_way_here_is_a_stranger(rt: HostRuntime) {
-    ends_strangers::<Brand, Brand, Brand, Brand, HostRuntime>(&rt, Blanks::new());
-}
-
 fn fills_a_journal<I: Ledger, N: Ledger, M: Ledger, B: Ledger, R: Abort + AllocGlobal>(
     rt: &R,
-    blanks: Blanks,
-)
-    requires blanks { AreFor blanks I.name I.parts N.name N.parts M.name M.parts B.name B.parts }
-{
-    let (mut zone, mut scan, mut ends) = opened::<I, N, M, B, R>(rt, 65536, blanks);
+    opening: Opening<I, N, M, B>,
+) {
+    let Opening {
+        mut zone,
+        mut scan,
+        mut ends,
+    } = opening;
     map_page(rt, &mut zone, PageFlags::empty());
     for serial in 0..32767 {
         let page = isolated(rt, &mut zone, &mut scan);
@@ -297,18 +299,15 @@ fn fills_a_journal<I: Ledger, N: Ledger, M: Ledger, B: Ledger, R: Abort + AllocG
     assert_eq!(rt; zone.journal().len(), 65536);
 }
 
-#[test]
-fn the_largest_journal_takes_as_many_serials(rt: HostRuntime) {
-    fills_a_journal::<Brand, Brand, Brand, Brand, HostRuntime>(&rt, Blanks::new());
-}
-
 fn is_quiet_at_times<I: Ledger, N: Ledger, M: Ledger, B: Ledger, R: Abort + AllocGlobal>(
     rt: &R,
-    blanks: Blanks,
-)
-    requires blanks { AreFor blanks I.name I.parts N.name N.parts M.name M.parts B.name B.parts }
-{
-    let (mut zone, mut scan, _ends) = opened::<I, N, M, B, R>(rt, 64, blanks);
+    opening: Opening<I, N, M, B>,
+) {
+    let Opening {
+        mut zone,
+        mut scan,
+        ..
+    } = opening;
     let none = PageFlags::empty();
     assert!(rt; !zone.quiet());
     map_page(rt, &mut zone, none);
@@ -322,18 +321,15 @@ fn is_quiet_at_times<I: Ledger, N: Ledger, M: Ledger, B: Ledger, R: Abort + Allo
     assert!(rt; !zone.quiet());
 }
 
-#[test]
-fn a_round_is_quiet_up_to_a_map(rt: HostRuntime) {
-    is_quiet_at_times::<Brand, Brand, Brand, Brand, HostRuntime>(&rt, Blanks::new());
-}
-
 fn refuses_a_page_on_its_way<I: Ledger, N: Ledger, M: Ledger, B: Ledger, R: Abort + AllocGlobal>(
     rt: &R,
-    blanks: Blanks,
-)
-    requires blanks { AreFor blanks I.name I.parts N.name N.parts M.name M.parts B.name B.parts }
-{
-    let (mut zone, mut scan, mut ends) = opened::<I, N, M, B, R>(rt, 64, blanks);
+    opening: Opening<I, N, M, B>,
+) {
+    let Opening {
+        mut zone,
+        mut scan,
+        mut ends,
+    } = opening;
     map_page(rt, &mut zone, PageFlags::empty());
     let page = isolated(rt, &mut zone, &mut scan);
     let client = client(rt);
@@ -358,25 +354,74 @@ fn refuses_a_page_on_its_way<I: Ledger, N: Ledger, M: Ledger, B: Ledger, R: Abor
     assert_eq!(rt; zone.load(client, address(rt, 9), word), Ok(0));
 }
 
-#[test]
-fn a_page_on_its_way_is_not_loaded_or_stored(rt: HostRuntime) {
-    refuses_a_page_on_its_way::<Brand, Brand, Brand, Brand, HostRuntime>(&rt, Blanks::new());
-}
-
 fn leaves_an_unmovable_page<I: Ledger, N: Ledger, M: Ledger, B: Ledger, R: Abort + AllocGlobal>(
     rt: &R,
-    blanks: Blanks,
-)
-    requires blanks { AreFor blanks I.name I.parts N.name N.parts M.name M.parts B.name B.parts }
-{
-    let (mut zone, mut scan, _ends) = opened::<I, N, M, B, R>(rt, 64, blanks);
+    opening: Opening<I, N, M, B>,
+) {
+    let Opening {
+        mut zone,
+        mut scan,
+        ..
+    } = opening;
     map_page(rt, &mut zone, PageFlags::UNMOVABLE);
     zone.begin_round(&mut scan);
     assert!(rt; !zone.quiet());
     assert!(rt; matches!(zone.isolate_next(&mut scan), Ok(Next::Met)));
 }
 
+/// What is tried with a zone that was just opened.
+#[derive(Clone, Copy, PartialEq, Eq)]
+enum Trial {
+    APageIsMovedWithItsWords,
+    AChangedCopyIsHandedBack,
+    ASeatIsSplitIntoPartsAndJoined,
+    ASerialIsEndedOnce,
+    APageThatIsNotOnItsWayHereIsAStranger,
+    TheLargestJournalTakesAsManySerials,
+    ARoundIsQuietUpToAMap,
+    APageOnItsWayIsNotLoadedOrStored,
+    AnUnmovablePageStays,
+}
+
+fn tries<I: Ledger, N: Ledger, M: Ledger, B: Ledger, R: Abort + AllocGlobal>(
+    rt: &R,
+    trial: Trial,
+    blanks: Blanks,
+)
+    requires blanks { AreFor blanks I.name I.parts N.name N.parts M.name M.parts B.name B.parts }
+{
+    let places = match trial {
+        Trial::ASeatIsSplitIntoPartsAndJoined => 4,
+        Trial::TheLargestJournalTakesAsManySerials => 65536,
+        _ => 64,
+    };
+    let opening = opened::<I, N, M, B, R>(rt, places, blanks);
+    match trial {
+        Trial::APageIsMovedWithItsWords => moves_a_page(rt, opening),
+        Trial::AChangedCopyIsHandedBack => commits_a_changed_copy(rt, opening),
+        Trial::ASeatIsSplitIntoPartsAndJoined => splits_a_seat(rt, opening),
+        Trial::ASerialIsEndedOnce => ends_a_serial_twice(rt, opening),
+        Trial::APageThatIsNotOnItsWayHereIsAStranger => ends_strangers(rt, opening),
+        Trial::TheLargestJournalTakesAsManySerials => fills_a_journal(rt, opening),
+        Trial::ARoundIsQuietUpToAMap => is_quiet_at_times(rt, opening),
+        Trial::APageOnItsWayIsNotLoadedOrStored => refuses_a_page_on_its_way(rt, opening),
+        Trial::AnUnmovablePageStays => leaves_an_unmovable_page(rt, opening),
+    }
+}
+
 #[test]
-fn an_unmovable_page_stays(rt: HostRuntime) {
-    leaves_an_unmovable_page::<Brand, Brand, Brand, Brand, HostRuntime>(&rt, Blanks::new());
+fn moves_are_made_and_ended(rt: HostRuntime) {
+    for trial in [
+        Trial::APageIsMovedWithItsWords,
+        Trial::AChangedCopyIsHandedBack,
+        Trial::ASeatIsSplitIntoPartsAndJoined,
+        Trial::ASerialIsEndedOnce,
+        Trial::APageThatIsNotOnItsWayHereIsAStranger,
+        Trial::TheLargestJournalTakesAsManySerials,
+        Trial::ARoundIsQuietUpToAMap,
+        Trial::APageOnItsWayIsNotLoadedOrStored,
+        Trial::AnUnmovablePageStays,
+    ] {
+        tries::<Brand, Brand, Brand, Brand, HostRuntime>(&rt, trial, Blanks::new());
+    }
 }

@@ -2,7 +2,7 @@ use Rattle.std.proofs.Common.{ℕ, ◌+◌, add-zero, add_assoc, ◌∷◌, List
 use Rattle.word_core.specs.Page.{OnItsWay}
 use Rattle.state_core.specs.ZoneState.{ZoneState}
 use Rattle.zone_core.specs.Seats.{EndSeat}
-use Rattle.zone_core.proofs.Carrying.{IsClosing, closing_first, closing_next}
+use Rattle.zone_core.proofs.Closing.{IsClosing, closing_first, closing_next}
 use Rattle.zone_core.proofs.ending.put_all_back_in.Goals as goal
 
 pub loop-page-init : goal.loop-page-init

@@ -1,7 +1,7 @@
 use Rattle.std.proofs.Common.{◌≡◌, ◌+◌, length}
 use Rattle.std.specs.VecDeque.{deque_capacity}
 use Rattle.state_core.specs.Lawful.{IsLawful}
-use Rattle.zone_core.proofs.Carrying.{IsClosing}
+use Rattle.zone_core.proofs.Closing.{IsClosing}
 use Rattle.zone_core.proofs.ending.put_all_back_in.Given as goal
 
 abbrev pub invariant-loop-page : goal.invariant-loop-page

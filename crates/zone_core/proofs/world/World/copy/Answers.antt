@@ -6,7 +6,8 @@ use Rattle.zone_core.specs.declared.hands.Held.{Held}
 use Rattle.zone_core.specs.declared.hands.Held.TheVariants.{Copy}
 use Rattle.zone_core.specs.Carried.{world_of}
 use Rattle.zone_core.specs.World.{WorldState, copy_step}
-use Rattle.zone_core.proofs.Carrying.{set_twice, step_copied, carried_copied}
+use Rattle.zone_core.proofs.Carrying.{set_twice}
+use Rattle.zone_core.proofs.Holding.{step_copied, carried_copied}
 use Rattle.zone_core.proofs.world.World.copy.Given.{Over}
 use Rattle.zone_core.proofs.world.World.copy.Goals as goal
 use Rattle.zone_core.proofs.world.World.copy.Goals.{After-put}

@@ -5,7 +5,7 @@ use Rattle.zone_core.specs.Carried.{world_of}
 use Rattle.zone_core.specs.World.{WorldState, finish_step, finished_as}
 use Rattle.zone_core.specs.Seats.{seat_ended}
 use Rattle.zone_core.specs.declared.hand.Finished.{Finished}
-use Rattle.zone_core.proofs.Carrying.{own_in_hand, step_finished, carried_finished}
+use Rattle.zone_core.proofs.Holding.{own_in_hand, step_finished, carried_finished}
 use Rattle.zone_core.proofs.world.World.finish.Given.{Over}
 use Rattle.zone_core.proofs.world.World.finish.Goals as goal
 use Rattle.zone_core.proofs.world.World.finish.Goals.{After-finish_in}

@@ -1,6 +1,6 @@
 use Rattle.std.proofs.Common.{◌∙◌}
 use Rattle.std.specs.VecDeque.{deque_capacity}
-use Rattle.zone_core.proofs.Carrying.{carried_joined}
+use Rattle.zone_core.proofs.Closing.{carried_joined}
 use Rattle.zone_core.proofs.world.World.join.Goals as goal
 
 pub invariant_of-result : goal.invariant_of-result

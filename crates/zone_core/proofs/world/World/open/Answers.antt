@@ -3,7 +3,7 @@ use Rattle.std.specs.VecDeque.{deque_capacity}
 use Rattle.zone_core.specs.Seats.{EndSeat}
 use Rattle.state_core.specs.Lawful.{IsLawful}
 use Rattle.state_core.specs.Opening.{opened}
-use Rattle.zone_core.proofs.Carrying.{carried_closed}
+use Rattle.zone_core.proofs.Closing.{carried_closed}
 use Rattle.zone_core.proofs.world.World.open.Goals as goal
 
 pub invariant_of-result : goal.invariant_of-result

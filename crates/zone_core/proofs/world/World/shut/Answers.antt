@@ -4,7 +4,7 @@ use Rattle.std.specs.VecDeque.{deque_capacity}
 use Rattle.zone_core.specs.Carried.{world_of}
 use Rattle.zone_core.specs.Seats.{EndSeat}
 use Rattle.zone_core.specs.World.{shut_step}
-use Rattle.zone_core.proofs.Carrying.{short_list, step_shut, carried_shut, not_shut}
+use Rattle.zone_core.proofs.Closing.{short_list, step_shut, carried_shut, not_shut}
 use Rattle.zone_core.proofs.world.World.shut.Goals as goal
 
 -- the end seat counts the pages that waited

@@ -1,5 +1,5 @@
 use Rattle.std.specs.VecDeque.{deque_capacity}
-use Rattle.zone_core.proofs.Carrying.{rest_left, audit_left}
+use Rattle.zone_core.proofs.Closing.{rest_left, audit_left}
 use Rattle.zone_core.proofs.world.World.split.Goals as goal
 
 pub invariant_of-result : goal.invariant_of-result

@@ -4,7 +4,7 @@ use Rattle.std.specs.VecDeque.{deque_capacity}
 use Rattle.word_core.specs.Page.{OnItsWay}
 use Rattle.zone_core.specs.Carried.{is_nothing, held_at, world_of, IsCarried}
 use Rattle.zone_core.specs.World.{WorldState, take_step}
-use Rattle.zone_core.proofs.Carrying.{step_taken, carried_taken}
+use Rattle.zone_core.proofs.Holding.{step_taken, carried_taken}
 use Rattle.zone_core.proofs.world.World.take.Given.{Over}
 use Rattle.zone_core.proofs.world.World.take.Goals as goal
 use Rattle.zone_core.proofs.world.World.take.Goals.{After-put}
