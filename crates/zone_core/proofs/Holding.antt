@@ -1,54 +1,24 @@
 -- Hands that take, copy and finish keep what a world carries.
-use Rattle.std.proofs.Common.{◌≡◌, ◌≢◌, ℕ, zero, suc, ◌+◌, ◌-◌, ◌*◌, ◌/◌, ◌<◌, ◌≤◌, Bool, true, false, not, List, [], ◌∷◌, ◌++◌, length, ◌⊎◌, inl, inr, refl, sym, ap, subst, ◌∙◌, arith}
-use Rattle.std.specs.Prelude.{Option, Some, None, IsSome, Result, Ok, Err, IfOk, OnOk, OnErr, map as each, replicate, slice_get, slice_set, unwrap_or, nat_eq, nat_lt, is_some, if◌then◌else◌}
-use Rattle.std.specs.FinMap as map
-use Rattle.std.specs.List.{list_any, list_all}
+use Rattle.std.proofs.Common.{◌≡◌, ◌≢◌, ℕ, zero, suc, ◌+◌, ◌-◌, ◌*◌, ◌<◌, ◌≤◌, Bool, true, false, List, ◌∷◌, inl, inr, refl, sym, ap, subst, ◌∙◌, arith}
+use Rattle.std.specs.Prelude.{Option, Some, map as each, slice_get, slice_set, unwrap_or, nat_eq, if◌then◌else◌}
+use Rattle.std.specs.List.{list_any}
 use Rattle.std.specs.Option.{option_and_then}
-use Rattle.std.proofs.lemmas.Bool.{and_parts, eq-eqb, eqb-true, ltb-true, ltb-false, or_left, or_right}
-use Rattle.std.proofs.lemmas.Bool.Decides.{eqb_tells, leb_tells}
-use Rattle.std.proofs.lemmas.List.{length-set, map-set, length-map}
-use Rattle.std.proofs.lemmas.Option.{slice_get_within}
-use Rattle.frame_core.proofs.Lists.{slice_get_set_same, slice_get_set_other}
-use Rattle.frame_core.specs.declared.place.Address.{Address}
-use Rattle.journal_core.specs.declared.record.Cause.TheVariants.{Pinned, NotCopied}
-use Rattle.journal_core.specs.History.{page_at, pins}
-use Rattle.journal_core.specs.Moves.{isolated, out, is_out, page_of}
-use Rattle.journal_core.proofs.OnTheWay.{out_empty, none_out}
+use Rattle.journal_core.specs.declared.record.Cause.TheVariants.{Pinned}
+use Rattle.journal_core.specs.History.{pins}
 use Rattle.word_core.specs.Page.{OnItsWay}
-use Rattle.state_core.specs.declared.error.ZoneError.{ZoneError}
-use Rattle.state_core.specs.declared.error.ZoneError.TheVariants.{Range, JournalFull, Occupied, NoFrame, Missing, Out}
 use Rattle.zone_core.specs.declared.hand.Hand.{Hand}
 use Rattle.zone_core.specs.declared.hand.Hand.TheVariants as hand
 use Rattle.zone_core.specs.declared.hands.Held.{Held}
 use Rattle.zone_core.specs.declared.hands.Held.TheVariants.{Nothing, Page, Copy}
-use Rattle.zone_core.specs.Carried.{hand_as, page_held, copy_held, is_nothing, held_at, serials_of, AreOwn, world_of, IsCarried, IsRest}
-use Rattle.state_core.specs.declared.moves.Next.TheVariants.{Page as Found, Met}
-use Rattle.state_core.specs.declared.round.Pair.{Pair}
-use Rattle.state_core.specs.declared.placement.Placement.{Placement}
-use Rattle.state_core.specs.declared.placement.Placement.TheVariants.{At, Moving}
-use Rattle.state_core.specs.Lawful.{IsLawful}
-use Rattle.state_core.specs.Pairs.{next_pair}
+use Rattle.zone_core.specs.Carried.{hand_as, page_held, copy_held, is_nothing, held_at, serials_of, world_of, IsCarried}
 use Rattle.state_core.specs.Ending.{IsOwnCopy, committed, put_back_to_source, moved_to_target}
-use Rattle.state_core.specs.Carrying.{page_now}
-use Rattle.state_core.specs.Rounds.{round_begun}
-use Rattle.state_core.specs.Isolating.{isolate_refusal, isolated_next, next_answer, next_state, Scans}
-use Rattle.zone_core.specs.Seats.{ScanSeat, EndSeat, seat_begun, seat_noted, seat_full, seat_ended, audit_refusal}
-use Rattle.state_core.specs.Opening.{IsOpenable}
-use Rattle.std.specs.Result.{result_err}
-use Rattle.state_core.specs.Access.{placement_refusal, access_refusal}
-use Rattle.state_core.specs.Mapping.{map_at_refusal}
-use Rattle.state_core.specs.Mapping.{mapped, placed}
-use Rattle.state_core.specs.Access.{loaded, stored}
-use Rattle.zone_core.specs.World.{WorldState, IsOrderly, IsRising, world_closed, hand_of, with_hand, with_zone, serial_in, page_in, copy_in, is_empty, take_step, copy_step, finish_step, finished_as, finished_in, finished_by, all_put_back, shut, shut_step, taken_by, isolated_by}
-use Rattle.state_core.specs.ZoneState.{ZoneState, frame_count, has_room, is_free, placement_at, lowest_free_frame, lowest_unused_page}
-use Rattle.state_core.proofs.Accessed.{lawful_loaded, lawful_stored}
-use Rattle.state_core.proofs.Finding.{some_lowest, unused_left, unused_is}
-use Rattle.state_core.proofs.Carried.{own_page, own_begun, own_loaded, own_stored, own_placed, own_isolated, own_fresh, own_committed, own_put_back}
-use Rattle.state_core.proofs.Facts.{taken, skipped, spare, not_none}
-use Rattle.zone_core.proofs.Orderly.{orderly_with_zone, orderly_round_opened, orderly_noted, orderly_isolated}
+use Rattle.zone_core.specs.Seats.{ScanSeat, EndSeat, seat_ended}
+use Rattle.zone_core.specs.World.{WorldState, hand_of, with_hand, serial_in, page_in, copy_in, take_step, copy_step, finish_step, finished_as, finished_in, finished_by, taken_by}
+use Rattle.state_core.specs.ZoneState.{ZoneState}
+use Rattle.state_core.proofs.Carried.{own_page, own_committed}
 use Rattle.zone_core.proofs.HandsTaking.{orderly_taken, orderly_copied}
-use Rattle.zone_core.proofs.MovesEnded.{orderly_finished, orderly_shut}
-use Rattle.zone_core.proofs.Carrying.{each_set, seen_at, seen_some, held_after, is_page_held, is_copy_held, page_same, copy_same, page_no_copy, copy_no_page, nothing_no_page, nothing_no_copy, true_not_false, no_page, no_copy, nothing_is, waits_at, carried_with}
+use Rattle.zone_core.proofs.MovesEnded.{orderly_finished}
+use Rattle.zone_core.proofs.Carrying.{each_set, seen_at, seen_some, held_after, is_page_held, is_copy_held, page_same, copy_same, page_no_copy, copy_no_page, nothing_no_page, nothing_no_copy, nothing_is, waits_at}
 
 -- Taking, copying and finishing
 module _ (zone : ZoneState) (scan : ScanSeat) (ends : EndSeat) (is_open : Bool) (p : OnItsWay) (list : List OnItsWay) (held : List Held) (k capacity : ℕ) (low : 0 < k) (high : k ≤ 4) (nothing : is_nothing (held_at held k) ≡ true) (was : IsCarried zone scan ends is_open (p ∷ list) held capacity) where

@@ -1,43 +1,25 @@
 -- Calls of the zone, rounds and scans keep a world orderly.
-use Rattle.std.proofs.Common.{◌≡◌, ◌≢◌, ℕ, zero, suc, ◌+◌, ◌-◌, ◌<◌, ◌≤◌, Bool, true, false, not, List, [], ◌∷◌, ◌++◌, length, ◌⊎◌, inl, inr, refl, sym, ap, subst, ◌∙◌, arith}
-use Rattle.std.specs.Prelude.{Option, Some, None, slice_get, slice_set, unwrap_or, nat_eq, ◌||◌, ◌&&◌, if◌then◌else◌}
-use Rattle.std.specs.FinMap as map
-use Rattle.std.specs.List.{list_any, list_all}
-use Rattle.std.specs.Option.{option_and_then}
-use Rattle.std.proofs.lemmas.Bool.{eq-eqb, eqb-true, ne_eqb, ltb-true, or_cases, or_left, or_right, or_from, and_parts, and_from, and_left, not-true, not_from_false, false_from_ne_true, both_ways}
-use Rattle.std.proofs.lemmas.Bool.Decides.{eqb_tells}
-use Rattle.std.proofs.lemmas.List.{get_or-set_same, get_or-set_other, length-set, length-append}
-use Rattle.std.proofs.lemmas.Option.{unwrap_or-slice_get, some_pair_parts, same_Some}
-use Rattle.journal_core.proofs.OnTheWay.{out_below, any_without}
-use Rattle.journal_core.specs.declared.record.Cause.TheVariants.{Pinned, NotCopied}
-use Rattle.journal_core.specs.declared.record.Record.{Record}
-use Rattle.journal_core.specs.declared.record.Record.TheVariants.{Isolate, Moved, Back}
-use Rattle.journal_core.specs.History.{pins}
-use Rattle.journal_core.specs.Moves.{isolated, out, is_out, page_of}
+use Rattle.std.proofs.Common.{◌≡◌, ℕ, ◌+◌, ◌<◌, ◌≤◌, Bool, true, false, List, [], ◌∷◌, ◌++◌, length, ◌⊎◌, inl, inr, refl, sym, subst, ◌∙◌, arith}
+use Rattle.std.specs.Prelude.{Option, Some, None, nat_eq, ◌||◌, if◌then◌else◌}
+use Rattle.std.specs.List.{list_any}
+use Rattle.std.proofs.lemmas.Bool.{eq-eqb, eqb-true, ltb-true, or_cases, or_left, or_right, false_from_ne_true, both_ways}
+use Rattle.std.proofs.lemmas.List.{length-append}
+use Rattle.journal_core.proofs.OnTheWay.{out_below}
+use Rattle.journal_core.specs.Moves.{isolated, is_out}
 use Rattle.state_core.specs.declared.error.ZoneError.TheVariants.{JournalFull}
-use Rattle.zone_core.specs.declared.hand.Hand.{Hand}
-use Rattle.zone_core.specs.declared.hand.Hand.TheVariants.{Empty, Page, Copy}
-use Rattle.zone_core.specs.declared.hand.Finished.{Finished}
-use Rattle.state_core.specs.declared.moves.Ended.{Ended}
-use Rattle.state_core.specs.declared.moves.Ended.TheVariants as ended
 use Rattle.state_core.specs.declared.moves.Next.TheVariants as next
 use Rattle.state_core.specs.declared.round.Pair.{Pair}
-use Rattle.state_core.specs.declared.placement.Placement.{Placement}
-use Rattle.state_core.specs.declared.placement.Placement.TheVariants.{At, Moving}
-use Rattle.state_core.specs.Lawful.{IsLawful, is_under}
+use Rattle.state_core.specs.Lawful.{IsLawful}
 use Rattle.state_core.specs.Rounds.{round_begun}
 use Rattle.state_core.specs.Isolating.{isolate_refusal, isolated_next}
-use Rattle.state_core.specs.Ending.{moved_to_target, put_back_to_source}
 use Rattle.state_core.specs.Pairs.{IsPair, next_pair}
-use Rattle.state_core.specs.Opening.{IsOpenable}
-use Rattle.zone_core.specs.World.{WorldState, IsOrderly, IsRising, world_opened, with_zone, with_hand, hand_of, waits, is_in, is_empty, serial_in, page_in, copy_in, round_opened, isolated_by, taken_by, take_step, copy_step, finished_as, finished_in, finished_by, finish_step, all_put_back, shut, shut_step}
-use Rattle.zone_core.specs.Seats.{ScanSeat, EndSeat, seat_begun, seat_noted, seat_ended}
-use Rattle.state_core.specs.ZoneState.{ZoneState, frame_count}
-use Rattle.state_core.proofs.Opened.{opened_lawful}
+use Rattle.zone_core.specs.World.{WorldState, IsOrderly, IsRising, with_zone, hand_of, serial_in, round_opened, isolated_by}
+use Rattle.zone_core.specs.Seats.{ScanSeat, seat_begun, seat_noted}
+use Rattle.state_core.specs.ZoneState.{ZoneState}
 use Rattle.state_core.proofs.Pairing.{pair_found}
 use Rattle.state_core.proofs.Rounds.{lawful_begun}
-use Rattle.state_core.proofs.Settled.{lawful_isolated, lawful_moved, lawful_put_back}
-use Rattle.zone_core.proofs.Standing.{held, holds, holds_at, Stands, stands, stands_so, set_cases, stands_out, waits_out, in_hand_out}
+use Rattle.state_core.proofs.Settled.{lawful_isolated}
+use Rattle.zone_core.proofs.Standing.{Stands, stands, stands_so, stands_out, waits_out, in_hand_out}
 
 pub orderly_with_zone : (w : WorldState) (zone : ZoneState) → IsOrderly w → IsLawful zone → ((serial : ℕ) → is_out zone.records serial ≡ is_out w.zone.records serial) → zone.migrate ≡ w.zone.migrate → zone.free ≡ w.zone.free → zone.blocks ≡ w.zone.blocks → IsOrderly (with_zone w zone)
 orderly_with_zone w zone o law same migrate free blocks = record {
