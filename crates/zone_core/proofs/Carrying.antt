@@ -30,8 +30,10 @@ use Rattle.state_core.specs.Rounds.{round_begun}
 use Rattle.state_core.specs.Isolating.{isolate_refusal, isolated_next, next_answer, next_state, Scans}
 use Rattle.zone_core.specs.Seats.{ScanSeat, EndSeat, seat_begun, seat_noted}
 use Rattle.std.specs.Result.{result_err}
-use Rattle.state_core.specs.Access.{placement_refusal, access_refusal, loaded, stored}
-use Rattle.state_core.specs.Mapping.{map_at_refusal, mapped, placed}
+use Rattle.state_core.specs.Access.{placement_refusal, access_refusal}
+use Rattle.state_core.specs.Mapping.{map_at_refusal}
+use Rattle.state_core.specs.Mapping.{mapped, placed}
+use Rattle.state_core.specs.Access.{loaded, stored}
 use Rattle.zone_core.specs.World.{WorldState, IsOrderly, isolated_by}
 use Rattle.state_core.specs.ZoneState.{ZoneState, frame_count, has_room, is_free, placement_at, lowest_free_frame, lowest_unused_page}
 use Rattle.state_core.proofs.Accessed.{lawful_loaded, lawful_stored}

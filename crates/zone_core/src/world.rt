@@ -1,23 +1,18 @@
 //! A zone with its seats, the pages of it that are on their way, and four hands.
 
-ghost use Rattle.std.specs.Prelude.{◌≡◌, ◌<◌, ◌≤◌, ◌+◌, ◌*◌, ◌↔◌, ℕ, IsTrue, [], ◌∷◌, length, true, Some, None, Err, IfOk, IfErr, OnOk, OnErr, IsErr};
+ghost use Rattle.std.specs.Prelude.{◌≡◌, ◌<◌, ◌≤◌, ◌↔◌, ℕ, IsTrue, true, Some, None, Err, IfOk, IfErr, OnOk, OnErr, IsErr};
 ghost use Rattle.std.specs.Int.RustNames.{bit_and};
 ghost use Rattle.zone_core.specs.Books.{AreFor};
-ghost use Rattle.journal_core.specs.Moves.{page_of};
-ghost use Rattle.std.specs.VecDeque.{deque_capacity};
-ghost use Rattle.zone_core.specs.Carried.{serials_of, AreOwn};
 ghost use Rattle.zone_core.specs.ErrorNumber.{world_number_of};
-ghost use Rattle.state_core.specs.Lawful.{IsLawful};
-ghost use Rattle.state_core.specs.Ending.{IsOwnCopy};
 ghost use Rattle.state_core.specs.Isolating.{isolate_refusal};
-ghost use Rattle.zone_core.specs.Seats.{seat_full, seat_ended, audit_refusal};
+ghost use Rattle.zone_core.specs.Seats.{seat_full, audit_refusal};
 ghost use Rattle.state_core.specs.Pairs.{next_pair};
 ghost use Rattle.state_core.specs.Opening.{IsOpenable};
 ghost use Rattle.std.specs.Result.{result_err};
 ghost use Rattle.state_core.specs.Mapping.{map_refusal, map_at_refusal, mapped};
 ghost use Rattle.state_core.specs.Access.{access_refusal, value_at, loaded, stored};
 ghost use Rattle.frame_core.specs.PageFlags.{is_unmovable};
-ghost use Rattle.zone_core.specs.World.{WorldState, IsOrderly, IsRising, waits, world_opened, world_closed, with_zone, round_opened, scan_stopped, scanned_by, isolated_by, finished_as, finished_in, all_put_back, scan_refusal, scan_answer, scanned, take_step, copy_step, finish_step, shut_step};
+ghost use Rattle.zone_core.specs.World.{WorldState, IsOrderly, waits, world_opened, world_closed, with_zone, round_opened, scan_stopped, scanned_by, isolated_by, scan_refusal, scan_answer, scanned, take_step, copy_step, finish_step, shut_step};
 ghost use Rattle.state_core.specs.ZoneState.{lowest_free_frame};
 
 use crate::ending::{finish_in, put_all_back_in};
@@ -33,7 +28,7 @@ use std::collections::VecDeque;
 use std::marker::Model;
 use std::sync::ledger::Ledger;
 use thiserror::Error;
-use word_core::{Copied, Isolated};
+use word_core::Isolated;
 
 /// Why a call of a world was refused.
 #[derive(Clone, Copy, Debug, PartialEq, Eq, Error)]
