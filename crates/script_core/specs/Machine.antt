@@ -59,11 +59,12 @@ abbrev pub fresh_page : WorldState → Address → Bool → Option ℕ → Step
 fresh_page w a unmovable None = refused (number_of NoFrame) (Some w)
 fresh_page w a unmovable (Some frame) = done w (mapped w.zone 0 a unmovable frame)
 
--- what a scan found, and how a move ended
+-- what a scan found
 abbrev pub found : Scanned → Reply
 found (scan.Serial serial) = reply.Serial serial
 found scan.Met = reply.Met
 
+-- how the move of the page with this serial ended
 abbrev pub ending : ℕ → Ended → Reply
 ending serial ended.Moved = reply.Moved serial
 ending serial ended.Back = reply.PutBack serial

@@ -16,4 +16,4 @@ mod tests;
 pub use error::{Fault, RunError};
 pub use options::Options;
 pub use script::{Totals, run};
-pub use text_core::{Call, Command, Reply, ScriptError, read_line, reply_text};
+pub use text_core::{BlockCount, Call, Command, Reply, ScriptError, read_line, reply_text};

@@ -8,54 +8,64 @@ use Rattle.text_core.specs.declared.command.Call.TheVariants as call
 use Rattle.text_core.specs.declared.command.Command.{Command}
 use Rattle.text_core.specs.declared.command.Command.TheVariants.{Open, On, OutOfRange}
 
--- the kinds of arguments: a number below a bound, and one from 1 to a bound
+-- a number below a bound
 abbrev pub below : ℕ → ℕ → Option ℕ
 below bound n = if nat_lt n bound then Some n else None
 
+-- a number from 1 to a bound
 abbrev pub up_to : ℕ → ℕ → Option ℕ
 up_to most n = if nat_le 1 n && nat_le n most then Some n else None
 
--- a zone, a frame of it, a word of a page, how many pageblocks, and a hand
+-- the number of a zone
 abbrev pub zone_of : ℕ → Option ℕ
 zone_of n = below 4 n
 
+-- the number of a frame
 abbrev pub frame_of : ℕ → Option ℕ
 frame_of n = below 4096 n
 
+-- the number of a word of a page
 abbrev pub word_of : ℕ → Option ℕ
 word_of n = below 8 n
 
+-- how many pageblocks a zone has
 abbrev pub blocks_of : ℕ → Option ℕ
 blocks_of n = up_to 8 n
 
+-- the number of a hand
 abbrev pub hand_of : ℕ → Option ℕ
 hand_of n = up_to 4 n
 
--- a virtual page of a space
+-- virtual page v of space s
 abbrev pub address_of : ℕ → ℕ → Option Address
 address_of s v = if nat_lt s 8 && nat_lt v 4096 then Some (record { space = s; vpage = v }) else None
 
--- what arguments make, if each is in its range
+-- a map, if its address is one
 abbrev pub map_call : Option Address → Bool → Option Call
 map_call (Some a) unmovable = Some (call.Map a unmovable)
 map_call None unmovable = None
 
+-- a map into a frame, if both are there
 abbrev pub map_at_call : Option Address → Option ℕ → Bool → Option Call
 map_at_call (Some a) (Some f) unmovable = Some (call.MapAt a f unmovable)
 map_at_call _ _ unmovable = None
 
+-- a store, if its address and its word are there
 abbrev pub store_call : Option Address → Option ℕ → ℕ → Option Call
 store_call (Some a) (Some w) value = Some (call.Store a w value)
 store_call _ _ value = None
 
+-- a load, if its address and its word are there
 abbrev pub load_call : Option Address → Option ℕ → Option Call
 load_call (Some a) (Some w) = Some (call.Load a w)
 load_call _ _ = None
 
+-- the opening of a zone, or else an argument is out of its range
 abbrev pub opening : Option ℕ → Option ℕ → Command
 opening (Some z) (Some b) = Open z b
 opening _ _ = OutOfRange
 
+-- a call on a zone, or else an argument is out of its range
 abbrev pub call_on : Option ℕ → Option Call → Command
 call_on (Some z) (Some c) = On z c
 call_on _ _ = OutOfRange

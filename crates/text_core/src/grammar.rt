@@ -57,6 +57,7 @@ fn row(keyword: Token, zone: Option<ZoneNo>, arguments: &[Token]) -> Option<Comm
     }
 }
 
+/// The opening of a zone, where each argument is in its range.
 fn open(zone: Option<ZoneNo>, blocks: Option<BlockCount>) -> Command
     ensures { result ≡ opening zone blocks }
 {
@@ -66,6 +67,7 @@ fn open(zone: Option<ZoneNo>, blocks: Option<BlockCount>) -> Command
     }
 }
 
+/// A call on a zone, where the zone and each argument is in its range.
 fn on(zone: Option<ZoneNo>, call: Option<Call>) -> Command
     ensures { result ≡ call_on zone call }
 {
