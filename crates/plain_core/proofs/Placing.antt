@@ -1,5 +1,5 @@
 -- A fresh page in a free frame: the tables of the zone go on fitting.
-use Rattle.std.proofs.Common.{◌≡◌, ◌≢◌, ℕ, ◌+◌, ◌-◌, ◌*◌, ◌/◌, ◌<◌, ◌≤◌, Bool, true, false, not, List, ◌∷◌, length, ◌⊎◌, inl, inr, refl, sym, ap, subst, ◌∙◌, arith}
+use Rattle.std.proofs.Common.{◌≡◌, ◌≢◌, ℕ, ◌+◌, ◌-◌, ◌*◌, ◌/◌, ◌<◌, ◌≤◌, Bool, true, false, not, List, length, ◌⊎◌, inl, inr, refl, sym, ap, subst, ◌∙◌, arith}
 use Rattle.std.specs.Prelude.{Option, Some, None, is_some, slice_get, slice_set, nat_eq, ◌&&◌, ◌||◌, if◌then◌else◌}
 use Rattle.std.specs.Option.{option_and_then}
 use Rattle.std.specs.FinMap as map
@@ -18,7 +18,7 @@ use Rattle.frame_core.specs.declared.state.FrameState.TheVariants.{Holds, Source
 use Rattle.journal_core.proofs.Maps.{no_test}
 use Rattle.journal_core.specs.declared.record.Record.TheVariants.{Map}
 use Rattle.journal_core.specs.History.{same_address, page_at, last, dirty, pins, maps}
-use Rattle.journal_core.specs.Journal.{Journal}
+use Rattle.plain_core.specs.History.{History, told}
 use Rattle.table_core.specs.declared.entry.Entry.{Entry}
 use Rattle.table_core.specs.declared.entry.Entry.TheVariants.{Present}
 use Rattle.table_core.specs.Tables.{entry_at, ChangesOnly}
@@ -30,15 +30,15 @@ use Rattle.state_core.specs.declared.placement.Placement.{Placement}
 use Rattle.state_core.specs.declared.placement.Placement.TheVariants.{At, Moving}
 use Rattle.plain_core.specs.Fits.{state_by, entry_for, FramesFit, EntriesFit, WordsFit, NoteFits, NotesFit, BlocksFit}
 use Rattle.state_core.specs.ZoneState.{words_frame, ZoneState, takes_up, is_held, is_free, free_in_block, placement_at}
-use Rattle.plain_core.specs.Found.{placement_of, is_unmovable_of, says_unmovable}
+use Rattle.plain_core.specs.Notes.{placement_of, is_unmovable_of, says_unmovable}
 use Rattle.plain_core.specs.Sound.{state_of, IsSound}
 use Rattle.state_core.specs.Steps.{placed}
 use Rattle.plain_core.specs.Tabulated.{tabulated, gathered}
 use Rattle.plain_core.proofs.Accessed.{words_set_same, words_set_other}
 use Rattle.state_core.proofs.Facts.{chosen, taken, skipped, takes_own}
 use Rattle.plain_core.proofs.Finding.{placement_past, get_placements}
-use Rattle.state_core.proofs.Placed.{CanPlace, untrue, clash, placed_lawful, at_page, at_other, untaken, unheld_frame, free_at_frame, free_away, fewer_free, more_pages, named_here, named_there, maps_one, maps_others, pins_none, pins_others}
-use Rattle.state_core.proofs.Quiet.{quiet_ended}
+use Rattle.state_core.proofs.Placed.{CanPlace, untrue, clash, placed_lawful, at_page, at_other, untaken, unheld_frame, free_at_frame, free_away, fewer_free, named_here, named_there, maps_one, maps_others, pins_none, pins_others}
+use Rattle.plain_core.proofs.Serials.{moves_kept}
 use Rattle.plain_core.proofs.Tabulating.{tabulated_insert}
 use Rattle.plain_core.proofs.Tabulating.{gathered_insert, gathered_same}
 
@@ -181,97 +181,76 @@ module _ (v : ZoneState) (client : ℕ) (address : Address) (unmovable : Bool) (
   }
 
 -- what is known when a fresh page is placed
-pub record Placing (z : Inside) (v : ZoneState) (client : ℕ) (address : Address) (unmovable : Bool) (page frame block left : ℕ) (tables : List Entry) (log : Journal) : Type 0 where
+pub record Placing (z : Inside) (v : ZoneState) (client : ℕ) (address : Address) (unmovable : Bool) (page frame block left : ℕ) (tables : List Entry) (history : History) : Type 0 where
   pub sound : IsSound z v
   pub view : state_of z ≡ v
   pub can : CanPlace v address page frame
-  pub before : (q : ℕ) → q < page → is_some (map.get v.placement q) ≡ true
   pub tables_new : ChangesOnly z.tables tables address (Present frame)
   pub block_is : block ≡ frame / 512
   pub left_is : slice_get z.free_in_block block ≡ Some (left + 1)
-  pub records : log.records ≡ Map client address page ∷ z.journal.records
-  pub room : log.room + 1 ≡ z.journal.room
+  pub history_is : history ≡ told z.history (Map client address page)
 
 -- the fields of a zone after a fresh page was placed
-abbrev pub after_place : Inside → Bool → ℕ → ℕ → ℕ → ℕ → List Entry → Journal → Inside
-after_place z unmovable page frame block left tables log = record z {
+abbrev pub after_place : Inside → Bool → ℕ → ℕ → ℕ → ℕ → List Entry → History → Inside
+after_place z unmovable page frame block left tables history = record z {
   frames = with_item z.frames frame (Holds page);
   tables = tables;
   words = with_words z.words frame blank_words;
-  notes = with_item z.notes page (fresh_note unmovable frame);
-  counts = record z.counts { free = z.counts.free - 1; pages = z.counts.pages + 1 };
+  notes = slice_set z.notes page (fresh_note unmovable frame);
+  free_frames = z.free_frames - 1;
   free_in_block = slice_set z.free_in_block block left;
-  unused_from = page + 1;
-  quiet = false;
-  journal = log;
+  history = history;
 }
 
 movable_none : (o : Option Note) → option_and_then (λ (note : Note). note.placement) o ≡ None → says_unmovable o ≡ false
 movable_none None e = refl
 movable_none (Some note) e = ap (λ (o : Option Placement). is_some o && note.unmovable) e
 
-module _ (z : Inside) (v : ZoneState) (client : ℕ) (address : Address) (unmovable : Bool) (page frame block left : ℕ) (tables : List Entry) (log : Journal) (known : Placing z v client address unmovable page frame block left tables log) where
+module _ (z : Inside) (v : ZoneState) (client : ℕ) (address : Address) (unmovable : Bool) (page frame block left : ℕ) (tables : List Entry) (history : History) (known : Placing z v client address unmovable page frame block left tables history) where
   abbrev notes_new : List Note
-  notes_new = slice_set z.notes.items page (fresh_note unmovable frame)
+  notes_new = slice_set z.notes page (fresh_note unmovable frame)
 
-  pub place_sound : IsSound (after_place z unmovable page frame block left tables log) (placed v client address unmovable page frame)
+  pub place_sound : IsSound (after_place z unmovable page frame block left tables history) (placed v client address unmovable page frame)
   place_sound =
       let sound = known.sound in
       let can = known.can in
-      let counts = sound.counts in
       record {
         lawful = placed_lawful v client address unmovable page frame can;
         orders = sound.orders;
         frames = frames_placed v client address unmovable page frame can z.frames.items sound.frames;
         entries = entries_placed v client address unmovable page frame can z.tables tables sound.entries known.tables_new;
         words = words_placed v client address unmovable page frame can z.words sound.words;
-        notes = notes_placed v client address unmovable page frame can z.notes.items sound.notes;
-        counts = record {
-          free = omega (arith, counts.free, fewer_free v client address unmovable page frame can);
-          pages = omega (arith, counts.pages, more_pages v client address unmovable page frame can);
-          huge = counts.huge;
-          held = counts.held;
-          isolated = counts.isolated;
-          moved = counts.moved;
-          back = counts.back;
-          out = counts.out;
-        };
-        serials = (let fit = sound.serials in let room = can.spare in record { count = fit.count; each = fit.each; room = (let kept = fit.room in omega arith) });
+        notes = notes_placed v client address unmovable page frame can z.notes sound.notes;
+        moves = (let spare = can.spare in moves_kept z.moves v.records v.room sound.moves (Map client address page) refl (λ serial. refl) refl refl (omega arith));
+        free = omega (arith, sound.free, fewer_free v client address unmovable page frame can);
         blocks = blocks_placed v client address unmovable page frame can z.free_in_block block left sound.blocks known.block_is known.left_is;
-        quiet = sym (quiet_ended v.records (Map client address page) v.round refl sound.lawful.begun);
-        starts = record {
-          frames = λ g h. elim (eqb_tells g frame) [
-            | inl same ↦ ap (is_free (placed v client address unmovable page frame)) same.1 ∙ free_at_frame v client address unmovable page frame can
-            | inr other ↦ free_away v client address unmovable page frame can g other.1 ∙ sound.starts.frames g h
-          ];
-          pages = λ q h. elim (eqb_tells q page) [
-            | inl same ↦ ap (λ (p : ℕ). is_some (map.get (placed v client address unmovable page frame).placement p)) same.1 ∙ ap is_some (at_page v client address unmovable page frame can)
-            | inr other ↦ ap is_some (at_other v client address unmovable page frame can q other.1) ∙ known.before q (omega (arith, h, other.1))
-          ];
-        };
+        from = λ g h. elim (eqb_tells g frame) [
+          | inl same ↦ ap (is_free (placed v client address unmovable page frame)) same.1 ∙ free_at_frame v client address unmovable page frame can
+          | inr other ↦ free_away v client address unmovable page frame can g other.1 ∙ sound.from g h
+        ];
       }
 
   -- where the notes had the fresh page: nowhere
-  unused_before : placement_of z.notes.items page ≡ None
-  unused_before = sym (get_placements z.notes.items page) ∙ ap (λ (u : ZoneState). map.get u.placement page) known.view ∙ known.can.unused
+  unused_before : placement_of z.notes page ≡ None
+  unused_before = sym (get_placements z.notes page) ∙ ap (λ (u : ZoneState). map.get u.placement page) known.view ∙ known.can.unused
 
-  note_within : page < length z.notes.items
+  note_within : page < length z.notes
   note_within = omega (arith, known.can.numbered, known.sound.notes.count)
 
-  note_there : (q : ℕ) → q ≢ page → slice_get notes_new q ≡ slice_get z.notes.items q
-  note_there q ne = slice_get_set_other z.notes.items page q (fresh_note unmovable frame) ne
+  note_there : (q : ℕ) → q ≢ page → slice_get notes_new q ≡ slice_get z.notes q
+  note_there q ne = slice_get_set_other z.notes page q (fresh_note unmovable frame) ne
 
   note_here : slice_get notes_new page ≡ Some (fresh_note unmovable frame)
-  note_here = slice_get_set_same z.notes.items page page (fresh_note unmovable frame) refl note_within
+  note_here = slice_get_set_same z.notes page page (fresh_note unmovable frame) refl note_within
 
-  len : length notes_new ≡ length z.notes.items
-  len = length-set z.notes.items page (fresh_note unmovable frame)
+  len : length notes_new ≡ length z.notes
+  len = length-set z.notes page (fresh_note unmovable frame)
 
   placement_new : tabulated (placement_of notes_new) (length notes_new) ≡ map.insert (state_of z).placement page (At frame)
   placement_new =
       ap (tabulated (placement_of notes_new)) len
-      ∙ tabulated_insert (placement_of z.notes.items) (placement_of notes_new) (length z.notes.items) page (At frame)
-      (placement_past z.notes.items) (λ q past. placement_past notes_new q (omega (arith, len, past)))
+      ∙ tabulated_insert (placement_of z.notes) (placement_of notes_new) (length z.notes) page (At frame)
+      (placement_past z.notes) (λ q past. placement_past notes_new q (omega (arith, len, past)))
       (ap (option_and_then (λ (note : Note). note.placement)) note_here) (λ q ne. ap (option_and_then (λ (note : Note). note.placement)) (note_there q ne))
 
   unmovable_past : (notes : List Note) (n : ℕ) → length notes ≤ n → is_unmovable_of notes n ≡ false
@@ -280,21 +259,20 @@ module _ (z : Inside) (v : ZoneState) (client : ℕ) (address : Address) (unmova
   unmovable_new : (b : Bool) → unmovable ≡ b → gathered (is_unmovable_of notes_new) (length notes_new) ≡ (if b then set.insert (state_of z).unmovable page else (state_of z).unmovable)
   unmovable_new true is =
       ap (gathered (is_unmovable_of notes_new)) len
-      ∙ gathered_insert (is_unmovable_of z.notes.items) (is_unmovable_of notes_new) (length z.notes.items) page
-      (unmovable_past z.notes.items) (λ q past. unmovable_past notes_new q (omega (arith, len, past)))
+      ∙ gathered_insert (is_unmovable_of z.notes) (is_unmovable_of notes_new) (length z.notes) page
+      (unmovable_past z.notes) (λ q past. unmovable_past notes_new q (omega (arith, len, past)))
       (ap says_unmovable note_here ∙ is) (λ q ne. ap says_unmovable (note_there q ne))
   unmovable_new false is =
-      ap (gathered (is_unmovable_of notes_new)) len ∙ gathered_same (is_unmovable_of notes_new) (is_unmovable_of z.notes.items) (length z.notes.items) same where
-        same : (q : ℕ) → is_unmovable_of notes_new q ≡ is_unmovable_of z.notes.items q
+      ap (gathered (is_unmovable_of notes_new)) len ∙ gathered_same (is_unmovable_of notes_new) (is_unmovable_of z.notes) (length z.notes) same where
+        same : (q : ℕ) → is_unmovable_of notes_new q ≡ is_unmovable_of z.notes q
         same q = elim (eqb_tells q page) [
-          | inl at ↦ ap (is_unmovable_of notes_new) at.1 ∙ ap says_unmovable note_here ∙ is ∙ sym (ap (is_unmovable_of z.notes.items) at.1 ∙ movable_none (slice_get z.notes.items page) unused_before)
+          | inl at ↦ ap (is_unmovable_of notes_new) at.1 ∙ ap says_unmovable note_here ∙ is ∙ sym (ap (is_unmovable_of z.notes) at.1 ∙ movable_none (slice_get z.notes page) unused_before)
           | inr off ↦ ap says_unmovable (note_there q off.1)
         ]
 
-  pub place_view : state_of (after_place z unmovable page frame block left tables log) ≡ placed v client address unmovable page frame
+  pub place_view : state_of (after_place z unmovable page frame block left tables history) ≡ placed v client address unmovable page frame
   place_view =
-      let left_room : log.room ≡ z.journal.room - 1 = omega (arith, known.room) in
       let u = unmovable_new unmovable refl in
-      let here : state_of (after_place z unmovable page frame block left tables log) ≡ placed (state_of z) client address unmovable page frame =
-      λ i. record (state_of z) { records = known.records i; room = left_room i; placement = placement_new i; unmovable = u i } in
+      let here : state_of (after_place z unmovable page frame block left tables history) ≡ placed (state_of z) client address unmovable page frame =
+      λ i. record (state_of z) { records = (known.history_is i).records; room = (known.history_is i).room; round = (known.history_is i).round; placement = placement_new i; unmovable = u i } in
       here ∙ ap (λ (s : ZoneState). placed s client address unmovable page frame) known.view

@@ -1,5 +1,5 @@
 -- The move of a page ends: how each table changes.
-use Rattle.std.proofs.Common.{◌≡◌, ◌≢◌, ℕ, ◌+◌, ◌*◌, ◌<◌, ◌≤◌, Bool, true, false, List, length, ◌⊎◌, inl, inr, refl, sym, ap, ◌∙◌, get_or, arith}
+use Rattle.std.proofs.Common.{◌≡◌, ◌≢◌, ℕ, ◌+◌, ◌*◌, ◌<◌, Bool, true, false, List, length, ◌⊎◌, inl, inr, refl, sym, ap, ◌∙◌, get_or, arith}
 use Rattle.std.specs.FinMap as map
 use Rattle.std.specs.Prelude.{Some, None, slice_get, slice_set, nat_eq, ◌||◌, if◌then◌else◌}
 use Rattle.std.proofs.lemmas.Bool.{eq-eqb}
@@ -14,16 +14,16 @@ use Rattle.journal_core.specs.declared.record.Cause.{Cause}
 use Rattle.journal_core.specs.declared.record.Record.{Record}
 use Rattle.journal_core.specs.declared.record.Record.TheVariants.{Moved, Back}
 use Rattle.word_core.specs.Words.{words_of, with_words}
-use Rattle.plain_core.specs.declared.counts.Counts.{Counts}
+use Rattle.frame_core.specs.Below.{count_below}
+use Rattle.journal_core.specs.Moves.{out}
 use Rattle.state_core.specs.declared.placement.Placement.TheVariants.{At, Moving}
-use Rattle.plain_core.specs.Fits.{state_by, WordsFit, SerialsFit, CountsFit, BlocksFit}
+use Rattle.plain_core.specs.Fits.{state_by, WordsFit, BlocksFit}
 use Rattle.state_core.specs.Lawful.{IsLawful}
 use Rattle.state_core.specs.Moving.{settled, IsSettled}
 use Rattle.state_core.specs.ZoneState.{ZoneState, frame_count, is_free}
 use Rattle.plain_core.proofs.Accessed.{words_set_same, words_set_other}
-use Rattle.plain_core.proofs.Departed.{isolated_most}
 use Rattle.state_core.proofs.Placed.{untrue}
-use Rattle.state_core.proofs.Settled.{can_move_on, can_go_back, moved_others, moved_source, back_others, back_target, source_used, target_used, source_within, target_in, moved_more, back_more, out_fewer, same_pages, at_page, at_other}
+use Rattle.state_core.proofs.Settled.{can_move_on, can_go_back, moved_others, moved_source, back_others, back_target, source_used, target_used, source_within, target_in, moved_more, back_more, out_fewer, at_page, at_other}
 use Rattle.plain_core.proofs.Settling.{FramesSettled, WordsSettled, IsFreer}
 
 differs : (g x : ℕ) → nat_eq g x ≡ false → g ≢ x
@@ -130,35 +130,14 @@ module _ (v : ZoneState) (page serial source target : ℕ) (law : IsLawful v) (a
   pub back_start : (entry : Record) (from : ℕ) → ((g : ℕ) → g < from → is_free v g ≡ false) → (g : ℕ) → g < from → g < target → is_free (settled v entry page (At source)) g ≡ false
   back_start entry from before g h below = back_others v page serial source target law at entry g (λ e. absurd (omega arith)) ∙ before g h
 
-  pub moved_counts : (counts : Counts) → CountsFit counts v → CountsFit (record counts { free = counts.free + 1; moved = counts.moved + 1 }) (settled v (Moved serial) page (At target))
-  moved_counts counts fit = record {
-    free = omega (arith, fit.free, moved_more v page serial source target law at (Moved serial));
-    pages = fit.pages ∙ sym (same_pages v page (Moving serial source target) (At target) (can_move_on v page serial source target law at) (Moved serial));
-    huge = fit.huge;
-    held = fit.held;
-    isolated = fit.isolated;
-    moved = omega (arith, fit.moved);
-    back = fit.back;
-    out = omega (arith, fit.out, out_fewer v page serial source target law at);
-  }
+  pub moved_free : (free : ℕ) → free ≡ count_below (is_free v) (frame_count v) → free + 1 ≡ count_below (is_free (settled v (Moved serial) page (At target))) (frame_count v)
+  moved_free free fit = omega (arith, fit, moved_more v page serial source target law at (Moved serial))
 
-  pub back_counts : (cause : Cause) (counts : Counts) → CountsFit counts v → CountsFit (record counts { free = counts.free + 1; back = counts.back + 1 }) (settled v (Back serial cause) page (At source))
-  back_counts cause counts fit = record {
-    free = omega (arith, fit.free, back_more v page serial source target law at (Back serial cause));
-    pages = fit.pages ∙ sym (same_pages v page (Moving serial source target) (At source) (can_go_back v page serial source target law at) (Back serial cause));
-    huge = fit.huge;
-    held = fit.held;
-    isolated = fit.isolated;
-    moved = fit.moved;
-    back = omega (arith, fit.back);
-    out = omega (arith, fit.out, out_fewer v page serial source target law at);
-  }
+  pub back_free : (cause : Cause) (free : ℕ) → free ≡ count_below (is_free v) (frame_count v) → free + 1 ≡ count_below (is_free (settled v (Back serial cause) page (At source))) (frame_count v)
+  back_free cause free fit = omega (arith, fit, back_more v page serial source target law at (Back serial cause))
 
-  pub moved_serials : (pages : List ℕ) (capacity : ℕ) → SerialsFit pages capacity v → 0 < v.room → SerialsFit pages capacity (settled v (Moved serial) page (At target))
-  moved_serials pages capacity fit room = record { count = fit.count; each = fit.each; room = (let enough = fit.room in omega arith) }
-
-  pub back_serials : (cause : Cause) (pages : List ℕ) (capacity : ℕ) → SerialsFit pages capacity v → 0 < v.room → SerialsFit pages capacity (settled v (Back serial cause) page (At source))
-  back_serials cause pages capacity fit room = record { count = fit.count; each = fit.each; room = (let enough = fit.room in omega arith) }
+  pub some_on_the_way : 0 < length (out v.records)
+  some_on_the_way = omega (arith, out_fewer v page serial source target law at)
 
   pub ending_room : 0 < v.room
   ending_room = let left = law.room_left in omega (arith, out_fewer v page serial source target law at)
@@ -185,9 +164,6 @@ module _ (v : ZoneState) (page serial source target : ℕ) (law : IsLawful v) (a
   }
 
 -- the counts stay small
-pub ended_most : (v : ZoneState) (counts : Counts) → CountsFit counts v → length v.records + v.room ≤ 65536 → (counts.moved < 65537) × (counts.back < 65537)
-ended_most v counts fit places = (omega (arith, fit.out, fit.isolated, isolated_most v.records), omega (arith, fit.out, fit.isolated, isolated_most v.records))
-
 pub block_most : (v : ZoneState) (free : List ℕ) → BlocksFit free v → (block : ℕ) → block < v.blocks → get_or free block 0 < 513
 block_most v free fit block h =
     let most = count_from_most (is_free v) (512 * block) 512 in

@@ -1,6 +1,6 @@
 -- A page in use is somewhere else: the tables of the zone go on fitting.
 use Rattle.std.proofs.Common.{◌≡◌, ◌≢◌, ℕ, ◌+◌, ◌-◌, ◌*◌, ◌/◌, ◌<◌, ◌≤◌, Bool, true, false, List, ◌∷◌, length, ◌⊎◌, inl, inr, refl, sym, ap, subst, ◌∙◌, arith}
-use Rattle.std.specs.Prelude.{Option, Some, None, IsSome, is_some, slice_get, slice_set, ◌&&◌, vec_capacity}
+use Rattle.std.specs.Prelude.{Option, Some, None, IsSome, is_some, slice_get, slice_set, ◌&&◌}
 use Rattle.std.specs.Option.{option_and_then}
 use Rattle.std.specs.FinMap as map
 use Rattle.std.proofs.lemmas.Bool.{eq-eqb}
@@ -23,18 +23,21 @@ use Rattle.plain_core.specs.declared.note.Note.{Note}
 use Rattle.plain_core.specs.declared.plain.PlainZone.TheInside.{Inside}
 use Rattle.state_core.specs.declared.placement.Placement.{Placement}
 use Rattle.state_core.specs.declared.placement.Placement.TheVariants.{At, Moving}
-use Rattle.plain_core.specs.Fits.{state_by, entry_for, FramesFit, EntriesFit, WordsFit, NoteFits, NotesFit, SerialsFit, CountsFit, BlocksFit}
-use Rattle.state_core.specs.ZoneState.{words_frame, ZoneState, frame_count, takes_up, is_free, is_quiet, free_in_block}
-use Rattle.plain_core.specs.Found.{placement_of, is_unmovable_of, says_unmovable}
+use Rattle.plain_core.specs.Fits.{state_by, entry_for, FramesFit, EntriesFit, WordsFit, NoteFits, NotesFit, MovesFit, BlocksFit}
+use Rattle.state_core.specs.ZoneState.{words_frame, ZoneState, frame_count, takes_up, is_free, free_in_block}
+use Rattle.plain_core.specs.Notes.{placement_of, is_unmovable_of, says_unmovable}
 use Rattle.state_core.specs.Lawful.{is_under}
 use Rattle.state_core.specs.Moving.{settled}
-use Rattle.plain_core.specs.Sound.{state_of, order_of, is_marked_of, IsSound}
+use Rattle.frame_core.specs.Below.{count_below}
+use Rattle.plain_core.specs.HandedOut.{order_of}
+use Rattle.plain_core.specs.History.{told}
+use Rattle.plain_core.specs.Sound.{state_of, is_marked_of, IsSound}
 use Rattle.plain_core.specs.Tabulated.{tabulated, gathered}
 use Rattle.state_core.proofs.Facts.{takes_own}
 use Rattle.plain_core.proofs.Finding.{placement_past, get_placements}
 use Rattle.state_core.proofs.Placed.{untrue, clash}
 use Rattle.plain_core.proofs.Placing.{state_taken}
-use Rattle.state_core.proofs.Settled.{CanSettle, IsRecorded, at_page, at_other, some_same, not_old, not_new, new_clear, old_clear, free_new, free_kept, lawful_settled}
+use Rattle.state_core.proofs.Settled.{CanSettle, IsRecorded, at_page, at_other, not_old, not_new, new_clear, old_clear, free_new, free_kept, lawful_settled}
 use Rattle.plain_core.proofs.Tabulating.{tabulated_insert}
 use Rattle.plain_core.proofs.Tabulating.{gathered_same}
 
@@ -214,29 +217,25 @@ pub record Settling (z changed : Inside) (v : ZoneState) (page : ℕ) (old new :
   pub can : CanSettle v page old new
   pub recorded : IsRecorded v entry page new
   pub spare : 0 < v.room
-  pub note_is : slice_get z.notes.items page ≡ Some note
+  pub note_is : slice_get z.notes page ≡ Some note
   -- what changed
   pub frames : FramesSettled z.frames.items changed.frames.items page old new
   pub tables : Replaces z.tables changed.tables (entry_for (Some old)) (entry_for (Some new))
   pub words : WordsSettled z.words changed.words old new
-  pub notes : changed.notes.items ≡ slice_set z.notes.items page (record note { placement = Some new })
-  pub serials : SerialsFit changed.pages.items (vec_capacity changed.pages) (settled v entry page new)
-  pub counts : CountsFit changed.counts (settled v entry page new)
+  pub notes : changed.notes ≡ slice_set z.notes page (record note { placement = Some new })
+  pub moves : MovesFit changed.moves (entry ∷ v.records) (v.room - 1)
+  pub free : changed.free_frames ≡ count_below (is_free (settled v entry page new)) (frame_count v)
   pub blocks : BlocksFit changed.free_in_block (settled v entry page new)
   pub free_from : (frame : ℕ) → frame < changed.free_from → is_free (settled v entry page new) frame ≡ false
-  pub quiet : changed.quiet ≡ is_quiet (settled v entry page new)
   pub migrate_is : changed.migrate ≡ migrate_new
   pub free_is : changed.free ≡ free_new
   pub fingers : (migrate_new ≤ free_new) × (free_new ≤ frame_count v)
-  pub records : changed.journal.records ≡ entry ∷ z.journal.records
-  pub room : changed.journal.room + 1 ≡ z.journal.room
+  pub history : changed.history ≡ told z.history entry
   -- what stayed
   pub number_same : changed.number ≡ z.number
   pub blocks_same : changed.blocks ≡ z.blocks
   pub marked_same : changed.marked ≡ z.marked
-  pub handed_out_same : changed.handed_out.items ≡ z.handed_out.items
-  pub unused_same : changed.unused_from ≡ z.unused_from
-  pub round_same : changed.round ≡ z.round
+  pub handed_out_same : changed.handed_out ≡ z.handed_out
 
 module _ (z changed : Inside) (v : ZoneState) (page : ℕ) (old new : Placement) (entry : Record) (note : Note) (migrate free : ℕ) (known : Settling z changed v page old new entry note migrate free) where
   abbrev after : ZoneState
@@ -245,8 +244,8 @@ module _ (z changed : Inside) (v : ZoneState) (page : ℕ) (old new : Placement)
   abbrev settled_note : Note
   settled_note = record note { placement = Some new }
 
-  placement_before : placement_of z.notes.items page ≡ Some old
-  placement_before = sym (get_placements z.notes.items page) ∙ ap (λ (u : ZoneState). map.get u.placement page) known.view ∙ known.can.at
+  placement_before : placement_of z.notes page ≡ Some old
+  placement_before = sym (get_placements z.notes page) ∙ ap (λ (u : ZoneState). map.get u.placement page) known.view ∙ known.can.at
 
   note_placed : note.placement ≡ Some old
   note_placed = sym (ap (option_and_then (λ (n : Note). n.placement)) known.note_is) ∙ placement_before
@@ -262,59 +261,54 @@ module _ (z changed : Inside) (v : ZoneState) (page : ℕ) (old new : Placement)
         entries = (let fit = entries_settled v page old new known.can entry known.recorded z.tables changed.tables sound.entries known.tables in record { each = fit.each });
         words = (let fit = words_settled v page old new known.can entry known.recorded z.words changed.words sound.words known.words in record { count = fit.count; eight = fit.eight; each = fit.each });
         notes = subst (λ (ns : List Note). NotesFit ns after) (sym known.notes)
-            (let fit = notes_settled v page old new known.can entry known.recorded z.notes.items note sound.notes known.note_is (ap is_some note_placed) in record { count = fit.count; each = λ q n e used. (let one = fit.each q n e used in record { dirty = one.dirty; pins = one.pins; maps = one.maps }) });
-        serials = (let fit = known.serials in record { count = fit.count; each = fit.each; room = fit.room });
-        counts = (let fit = known.counts in record { free = fit.free; pages = fit.pages; huge = fit.huge; held = fit.held; isolated = fit.isolated; moved = fit.moved; back = fit.back; out = fit.out });
+            (let fit = notes_settled v page old new known.can entry known.recorded z.notes note sound.notes known.note_is (ap is_some note_placed) in record { count = fit.count; each = λ q n e used. (let one = fit.each q n e used in record { dirty = one.dirty; pins = one.pins; maps = one.maps }) });
+        moves = known.moves;
+        free = known.free;
         blocks = (let fit = known.blocks in record { each = fit.each });
-        quiet = known.quiet;
-        starts = record {
-          frames = known.free_from;
-          pages = λ q h. some_same v page old new known.can entry q ∙ sound.starts.pages q (omega (arith, h, known.unused_same));
-        };
+        from = known.free_from;
       }
 
-  note_there : (q : ℕ) → q ≢ page → slice_get changed.notes.items q ≡ slice_get z.notes.items q
-  note_there q ne = ap (λ (ns : List Note). slice_get ns q) known.notes ∙ slice_get_set_other z.notes.items page q settled_note ne
+  note_there : (q : ℕ) → q ≢ page → slice_get changed.notes q ≡ slice_get z.notes q
+  note_there q ne = ap (λ (ns : List Note). slice_get ns q) known.notes ∙ slice_get_set_other z.notes page q settled_note ne
 
-  note_here : slice_get changed.notes.items page ≡ Some settled_note
-  note_here = ap (λ (ns : List Note). slice_get ns page) known.notes ∙ slice_get_set_same z.notes.items page page settled_note refl (slice_get_within z.notes.items page note known.note_is)
+  note_here : slice_get changed.notes page ≡ Some settled_note
+  note_here = ap (λ (ns : List Note). slice_get ns page) known.notes ∙ slice_get_set_same z.notes page page settled_note refl (slice_get_within z.notes page note known.note_is)
 
-  len : length changed.notes.items ≡ length z.notes.items
-  len = ap length known.notes ∙ length-set z.notes.items page settled_note
+  len : length changed.notes ≡ length z.notes
+  len = ap length known.notes ∙ length-set z.notes page settled_note
 
-  placement_new : tabulated (placement_of changed.notes.items) (length changed.notes.items) ≡ map.insert (state_of z).placement page new
+  placement_new : tabulated (placement_of changed.notes) (length changed.notes) ≡ map.insert (state_of z).placement page new
   placement_new =
-      ap (tabulated (placement_of changed.notes.items)) len
-      ∙ tabulated_insert (placement_of z.notes.items) (placement_of changed.notes.items) (length z.notes.items) page new
-      (placement_past z.notes.items) (λ q past. placement_past changed.notes.items q (omega (arith, len, past)))
+      ap (tabulated (placement_of changed.notes)) len
+      ∙ tabulated_insert (placement_of z.notes) (placement_of changed.notes) (length z.notes) page new
+      (placement_past z.notes) (λ q past. placement_past changed.notes q (omega (arith, len, past)))
       (ap (option_and_then (λ (n : Note). n.placement)) note_here) (λ q ne. ap (option_and_then (λ (n : Note). n.placement)) (note_there q ne))
 
-  unmovable_same : (q : ℕ) → is_unmovable_of changed.notes.items q ≡ is_unmovable_of z.notes.items q
+  unmovable_same : (q : ℕ) → is_unmovable_of changed.notes q ≡ is_unmovable_of z.notes q
   unmovable_same q = elim (eqb_tells q page) [
     | inl same ↦
-        ap (is_unmovable_of changed.notes.items) same.1 ∙ ap says_unmovable note_here
-        ∙ sym (ap (is_unmovable_of z.notes.items) same.1 ∙ ap says_unmovable known.note_is ∙ ap (λ (o : Option Placement). is_some o && note.unmovable) note_placed)
+        ap (is_unmovable_of changed.notes) same.1 ∙ ap says_unmovable note_here
+        ∙ sym (ap (is_unmovable_of z.notes) same.1 ∙ ap says_unmovable known.note_is ∙ ap (λ (o : Option Placement). is_some o && note.unmovable) note_placed)
     | inr other ↦ ap says_unmovable (note_there q other.1)
   ]
 
-  unmovable_new : gathered (is_unmovable_of changed.notes.items) (length changed.notes.items) ≡ (state_of z).unmovable
-  unmovable_new = ap (gathered (is_unmovable_of changed.notes.items)) len ∙ gathered_same _ _ (length z.notes.items) unmovable_same
+  unmovable_new : gathered (is_unmovable_of changed.notes) (length changed.notes) ≡ (state_of z).unmovable
+  unmovable_new = ap (gathered (is_unmovable_of changed.notes)) len ∙ gathered_same _ _ (length z.notes) unmovable_same
 
   pub settle_view : state_of changed ≡ after
   settle_view =
-      let left : changed.journal.room ≡ z.journal.room - 1 = omega (arith, known.room) in
       let here : state_of changed ≡ record (settled (state_of z) entry page new) { migrate = migrate; free = free } =
       λ i. record {
         number = known.number_same i;
         blocks = known.blocks_same i;
-        records = known.records i;
-        room = left i;
+        records = (known.history i).records;
+        room = (known.history i).room;
         unmovable = unmovable_new i;
         marked = gathered (is_marked_of (known.marked_same i)) 8;
         handed_out = tabulated (order_of (known.handed_out_same i)) (length (known.handed_out_same i));
         placement = placement_new i;
         migrate = known.migrate_is i;
         free = known.free_is i;
-        round = known.round_same i;
+        round = (known.history i).round;
       } in
       here ∙ ap (λ (u : ZoneState). record (settled u entry page new) { migrate = migrate; free = free }) known.view

@@ -9,7 +9,6 @@ ghost use Rattle.state_core.specs.Moving.{HasCause, IsSettled, words_now, is_own
 ghost use Rattle.state_core.specs.ZoneState.{is_quiet};
 ghost use Rattle.state_core.specs.declared.placement.Placement.TheVariants.{Moving};
 
-use crate::counts::Counts;
 use crate::plain::PlainZone;
 use frame_core::{Address, FrameNo, FrameState, PageNo, Serial, block_of};
 use journal_core::{Cause, Record};
@@ -36,12 +35,11 @@ impl PlainZone {
         if page.zone() != self.number {
             return None;
         }
-        let note = self.notes.get(page.number().get() as usize)?;
         let Placement::Moving {
             serial: under,
             source,
             target,
-        } = note.placement?
+        } = self.notes.placement(page.number())?
         else {
             return None;
         };
@@ -69,8 +67,7 @@ impl PlainZone {
         requires { IsSome (map.get self.now.placement page) }
         ensures { result ≡ not (nat_eq (pins self.now.records page) 0) }
     {
-        let note = self.notes[page.get() as usize];
-        note.pins != 0
+        self.notes.get(page).pins != 0
     }
 
     /// Ends a move: the page stands in its target, with the words of its copy.
@@ -89,17 +86,17 @@ impl PlainZone {
             target,
         } = *way;
         let block = block_of(source).get() as usize;
-        self.counts.free += 1;
-        self.counts.moved += 1;
+        self.free_frames += 1;
+        self.moves.arrive();
         self.free_in_block[block] += 1;
         self.free_from = self.free_from.min(source.get());
         self.frames[source.get() as usize] = FrameState::Free;
         self.frames[target.get() as usize] = FrameState::Holds(page);
         self.words.write_in(target, copy);
         self.tables.to_present(serial, target);
-        let note = &mut self.notes[page.get() as usize];
-        note.placement = Some(Placement::At(target));
-        self.journal.push(Record::Moved { serial });
+        let note = self.notes.get(page);
+        self.notes.put(page, note.placed(Placement::At(target)));
+        self.history.note(Record::Moved { serial });
     }
 
     /// Ends a move: the page stands in its source again.
@@ -117,17 +114,16 @@ impl PlainZone {
             target,
         } = *way;
         let block = block_of(target).get() as usize;
-        self.counts.free += 1;
-        self.counts.back += 1;
+        self.free_frames += 1;
+        self.moves.go_back();
         self.free_in_block[block] += 1;
         self.free_from = self.free_from.min(target.get());
         self.frames[target.get() as usize] = FrameState::Free;
         self.frames[source.get() as usize] = FrameState::Holds(page);
         self.tables.to_present(serial, source);
-        let note = &mut self.notes[page.get() as usize];
-        note.placement = Some(Placement::At(source));
-        self.quiet = false;
-        self.journal.push(Record::Back { serial, cause });
+        let note = self.notes.get(page);
+        self.notes.put(page, note.placed(Placement::At(source)));
+        self.history.note(Record::Back { serial, cause });
     }
 
     /// What is known of the page that an address names.
@@ -158,7 +154,7 @@ impl PlainZone {
     fn page_under(&self, serial: Serial) -> Option<PageNo>
         ensures { result ≡ page_of self.now.records serial }
     {
-        self.pages.get(serial as usize).copied()
+        self.moves.page(serial)
     }
 
     /// How many pins a page in use has, and how many addresses name it.
@@ -167,7 +163,7 @@ impl PlainZone {
         ensures pins { result.0 ≡ pins self.now.records page }
         ensures maps { result.1 ≡ maps self.now.records page }
     {
-        let note = self.notes[page.get() as usize];
+        let note = self.notes.get(page);
         (note.pins, note.maps)
     }
 
@@ -175,7 +171,7 @@ impl PlainZone {
     pub fn quiet(&self) -> bool
         ensures { result ≡ is_quiet self.now }
     {
-        self.quiet
+        self.history.quiet()
     }
 
     /// The counts of pages, where none is on its way.
@@ -186,19 +182,9 @@ impl PlainZone {
         ensures back { IfSome result (λ audit. audit.back ≡ put_back self.now.records) }
         ensures sum { IfSome result (λ audit. audit.moved + audit.back ≡ audit.isolated) }
     {
-        let Counts {
-            isolated,
-            moved,
-            back,
-            ..
-        } = self.counts;
-        if isolated > moved + back {
+        if self.moves.out() != 0 {
             return None;
         }
-        Some(Audit {
-            isolated,
-            moved,
-            back,
-        })
+        Some(self.moves.counts())
     }
 }

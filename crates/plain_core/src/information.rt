@@ -30,12 +30,12 @@ impl PlainZone {
         ensures sum { result.free + result.pages + result.moving + result.held ≡ frame_count self.now }
     {
         Info {
-            free: self.counts.free,
-            pages: self.counts.pages,
-            moving: self.counts.isolated - self.counts.moved - self.counts.back,
-            huge: self.counts.huge,
+            free: self.free_frames,
+            pages: self.notes.in_use(),
+            moving: self.moves.out(),
+            huge: self.handed_out.blocks(),
             whole: self.whole_blocks(),
-            held: self.counts.held,
+            held: self.handed_out.frames(),
         }
     }
 
@@ -56,6 +56,6 @@ impl PlainZone {
         ensures room { result.now.room ≡ self.now.room }
         ensures lawful { IsLawful self.now }
     {
-        &self.journal
+        self.history.journal()
     }
 }

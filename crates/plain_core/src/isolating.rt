@@ -10,10 +10,9 @@ ghost use Rattle.state_core.specs.ZoneState.{frame_count};
 ghost use Rattle.state_core.specs.declared.placement.Placement.TheVariants.{At};
 
 use crate::plain::PlainZone;
-use bitflags::Flags;
 use frame_core::{FrameNo, FrameState, PageFlags, PageNo, block_of};
 use journal_core::Record;
-use state_core::{Pair, Placement, RoundStart};
+use state_core::{Pair, Placement};
 use word_core::{Isolated, Page};
 
 impl PlainZone {
@@ -41,7 +40,7 @@ impl PlainZone {
         requires { IsSome (map.get self.now.placement page) }
         ensures { result ≡ can_move self.now page }
     {
-        let note = self.notes[page.get() as usize];
+        let note = self.notes.get(page);
         note.pins == 0 && !note.unmovable
     }
 
@@ -117,13 +116,8 @@ impl PlainZone {
         requires { IsSome (map.get self.now.placement page) }
         ensures { result ≡ flags_of self.now page }
     {
-        let note = self.notes[page.get() as usize];
-        match (note.unmovable, note.dirty) {
-            (false, false) => PageFlags::empty(),
-            (true, false) => PageFlags::UNMOVABLE,
-            (false, true) => PageFlags::DIRTY,
-            (true, true) => PageFlags::UNMOVABLE.union(PageFlags::DIRTY),
-        }
+        let note = self.notes.get(page);
+        PageFlags::of(note.unmovable, note.dirty)
     }
 
     /// A page as it is carried.
@@ -150,25 +144,24 @@ impl PlainZone {
             source,
             target,
         } = pair;
-        let serial = self.counts.isolated;
         let carried = self.carried(page, source);
+        let serial = self.moves.isolate(page);
         let block = block_of(target).get() as usize;
-        self.counts.free -= 1;
-        self.counts.isolated += 1;
+        self.free_frames -= 1;
         self.free_in_block[block] -= 1;
         self.frames[source.get() as usize] = FrameState::Source(serial);
         self.frames[target.get() as usize] = FrameState::Target(serial);
         self.tables.to_migration(source, serial);
-        let note = &mut self.notes[page.get() as usize];
-        note.placement = Some(Placement::Moving {
+        let way = Placement::Moving {
             serial,
             source,
             target,
-        });
-        self.pages.push_reserved(page);
+        };
+        let note = self.notes.get(page);
+        self.notes.put(page, note.placed(way));
         self.migrate = source.get() + 1;
         self.free = target.get();
-        self.journal.push(Record::Isolate { serial, page });
+        self.history.note(Record::Isolate { serial, page });
         Isolated::new(serial, carried)
     }
 
@@ -191,7 +184,7 @@ impl PlainZone {
     fn is_calm(&self) -> bool
         ensures { result ≡ is_calm self.now }
     {
-        if self.counts.isolated > self.counts.moved + self.counts.back {
+        if self.moves.out() != 0 {
             return false;
         }
         for number in 0..512 * self.blocks {
@@ -211,12 +204,8 @@ impl PlainZone {
         ensures lawful { IsLawful self.new }
     {
         let calm = self.is_calm();
-        self.quiet = calm;
+        self.history.begin_round(calm);
         self.migrate = 0;
         self.free = 512 * self.blocks;
-        self.round = Some(RoundStart {
-            records: self.journal.len() as u32,
-            calm,
-        });
     }
 }

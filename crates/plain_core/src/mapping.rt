@@ -8,7 +8,7 @@ ghost use Rattle.state_core.specs.ZoneState.{frame_count, has_room, is_free, low
 
 use crate::note::Note;
 use crate::plain::PlainZone;
-use crate::searches::{lowest_free, lowest_unused};
+use crate::searches::lowest_free;
 use frame_core::{Address, ClientNo, FrameNo, FrameState, PageNo, block_of};
 use journal_core::Record;
 use table_core::Entry;
@@ -58,11 +58,12 @@ impl PlainZone {
     }
 
     /// The lowest page number that isn't in use: there is one where a frame is free.
-    fn unused_page(&self) -> PageNo
-        requires { IsSome (lowest_free_frame self.now) }
-        ensures { lowest_unused_page self.now ≡ Some result }
+    fn unused_page(&mut self) -> PageNo
+        requires { IsSome (lowest_free_frame self.old) }
+        ensures same { self.new ≡ self.old }
+        ensures lowest { lowest_unused_page self.old ≡ Some result }
     {
-        let Some(page) = lowest_unused(&self.notes, self.unused_from) else {
+        let Some(page) = self.notes.lowest_unused() else {
             unreachable!();
         };
         page
@@ -80,16 +81,13 @@ impl PlainZone {
         let named = address;
         let page = self.unused_page();
         let block = block_of(frame).get() as usize;
-        self.counts.free -= 1;
-        self.counts.pages += 1;
+        self.free_frames -= 1;
         self.free_in_block[block] -= 1;
-        self.unused_from = page.get() + 1;
         self.frames[frame.get() as usize] = FrameState::Holds(page);
         self.tables.set(named, frame);
         self.words.blank(frame);
-        self.notes[page.get() as usize] = Note::fresh(frame, unmovable);
-        self.quiet = false;
-        self.journal.push(Record::Map {
+        self.notes.put(page, Note::fresh(frame, unmovable));
+        self.history.note(Record::Map {
             client,
             address,
             page,

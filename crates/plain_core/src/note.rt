@@ -1,4 +1,4 @@
-ghost use Rattle.std.specs.Prelude.{◌≡◌, None, Some, false};
+ghost use Rattle.std.specs.Prelude.{◌≡◌, None, Some, false, true};
 ghost use Rattle.state_core.specs.declared.placement.Placement.TheVariants.{At};
 
 use frame_core::FrameNo;
@@ -27,6 +27,26 @@ impl Note {
             dirty: false,
             pins: 0,
             maps: 0,
+        }
+    }
+
+    /// Of the page after a store.
+    pub fn stored(self) -> Self
+        ensures { result ≡ record self { dirty = true } }
+    {
+        Note {
+            dirty: true,
+            ..self
+        }
+    }
+
+    /// Of the page at another place.
+    pub fn placed(self, placement: Placement) -> Self
+        ensures { result ≡ record self { placement = Some placement } }
+    {
+        Note {
+            placement: Some(placement),
+            ..self
         }
     }
 

@@ -26,14 +26,10 @@ invariant_of-self c =
       entries = sound.entries;
       words = sound.words;
       notes = sound.notes;
-      serials = sound.serials;
-      counts = sound.counts;
-      quiet = sound.quiet;
+      moves = sound.moves;
+      free = sound.free;
       blocks = sound.blocks;
-      starts = record {
-        frames = λ frame h. lowest_before (is_free (state_of c.self.inside)) (frame_count (state_of c.self.inside)) c.in-Some.frame frame at (omega (arith, h, c.get-self-inside.ensures.value));
-        pages = sound.starts.pages;
-      };
+      from = λ frame h. lowest_before (is_free (state_of c.self.inside)) (frame_count (state_of c.self.inside)) c.in-Some.frame frame at (omega (arith, h, c.get-self-inside.ensures.value));
     }
 
 pub returns-in-Some-clause-lowest : goal.returns-in-Some-clause-lowest

@@ -1,7 +1,6 @@
-use Rattle.std.proofs.Common.{◌≡◌, ◌∙◌, ◌+◌, ◌-◌, ◌/◌, ◌<◌, ◌∷◌, ◌++◌, [], ℕ, List, refl, ap, subst, sym, arith, get_or, length}
-use Rattle.std.specs.Prelude.{Some, slice_set, vec_capacity}
+use Rattle.std.proofs.Common.{◌≡◌, ◌∙◌, ◌+◌, ◌-◌, ◌/◌, ◌<◌, ◌∷◌, ℕ, refl, ap, subst, sym, arith, get_or, length}
+use Rattle.std.specs.Prelude.{Some, slice_set}
 use Rattle.std.specs.Vec.{with_item}
-use Rattle.std.proofs.lemmas.Option.{slice_get-get_or}
 use Rattle.frame_core.specs.declared.state.FrameState.TheVariants.{Source, Target}
 use Rattle.journal_core.specs.declared.record.Record.TheVariants.{Isolate}
 use Rattle.journal_core.specs.Moves.{isolated}
@@ -9,18 +8,20 @@ use Rattle.table_core.specs.declared.entry.Entry.TheVariants.{Present, Migration
 use Rattle.table_core.specs.Tables.{Replaces}
 use Rattle.plain_core.specs.declared.plain.PlainZone.TheInside.{Inside}
 use Rattle.state_core.specs.declared.placement.Placement.TheVariants.{At, Moving}
-use Rattle.plain_core.specs.Fits.{SerialsFit}
+use Rattle.plain_core.specs.Fits.{MovesFit}
+use Rattle.plain_core.specs.History.{told}
+use Rattle.plain_core.specs.Moves.{Moves}
+use Rattle.plain_core.proofs.Serials.{isolated_most, moves_more}
 use Rattle.state_core.specs.Moving.{settled}
 use Rattle.plain_core.specs.Sound.{IsSound}
-use Rattle.plain_core.proofs.Departed.{isolated_most, isolated_frames, isolated_words, isolated_freer, isolated_start, isolated_counts, isolated_serials}
+use Rattle.plain_core.proofs.Departed.{isolated_frames, isolated_words, isolated_freer, isolated_start, isolated_free}
 use Rattle.state_core.proofs.Facts.{not_none}
 use Rattle.plain_core.proofs.Finding.{free_counted}
-use Rattle.state_core.proofs.Quiet.{quiet_kept}
 use Rattle.state_core.proofs.Settled.{can_isolate, isolate_recorded, target_within}
 use Rattle.plain_core.proofs.Settles.{block_at}
 use Rattle.plain_core.proofs.Settling.{Settling, FramesSettled, blocks_lost, settle_sound, settle_view}
 use Rattle.plain_core.proofs.plain.PlainZone.isolate.Goals as goal
-use Rattle.plain_core.proofs.plain.PlainZone.isolate.Goals.{After-push}
+use Rattle.plain_core.proofs.plain.PlainZone.isolate.Goals.{After-note}
 
 pub overflow_sub-self : goal.overflow_sub-self
 overflow_sub-self c =
@@ -32,33 +33,27 @@ overflow_sub-self-2 c =
     let sound : IsSound c.self.inside c.args.self.now = subst (IsSound c.self.inside) c.self.view_is c.self.invariant in
     (free_counted c.self.inside c.args.self.now sound c.args.pair.target c.get-block.result c.requires.pair.to.free (target_within c.args.self.now c.args.pair sound.lawful c.requires.pair) (c.get-block.ensures.value ∙ c.block_of.ensures)).1
 
-pub overflow_add-self : goal.overflow_add-self
-overflow_add-self c =
-    let sound : IsSound c.self.inside c.args.self.now = subst (IsSound c.self.inside) c.self.view_is c.self.invariant in
-    let most = isolated_most c.args.self.now.records in
-    omega (arith, most, sound.counts.isolated, sound.lawful.places)
-
-pub push_reserved-requires : goal.push_reserved-requires
-push_reserved-requires c =
+pub isolate-serial-requires : goal.isolate-serial-requires
+isolate-serial-requires c =
     let sound : IsSound c.self.inside c.args.self.now = subst (IsSound c.self.inside) c.self.view_is c.self.invariant in
     let room = c.requires.room in
-    omega (arith, sound.serials.count, sound.serials.room, isolated_most c.args.self.now.records, c.self.inside.pages.ok.0)
+    omega (arith, sound.moves.count, sound.moves.places, isolated_most c.args.self.now.records)
 
 -- the fields after the call
-abbrev after : After-push → Inside
+abbrev after : After-note → Inside
 after c = record c.self.inside {
-  frames = with_item (with_item c.self.inside.frames c.get.result (Source c.self.inside.counts.isolated)) c.get-2.result (Target c.self.inside.counts.isolated);
+  frames = with_item (with_item c.self.inside.frames c.get.result (Source c.isolate-serial.result)) c.get-2.result (Target c.isolate-serial.result);
   tables = c.to_migration.new.self;
-  notes = with_item c.self.inside.notes c.get-3.result (record c.index_mut-note.result.now { placement = Some (Moving c.self.inside.counts.isolated c.args.pair.source c.args.pair.target) });
-  pages = c.push_reserved.new.self;
-  counts = record c.self.inside.counts { free = c.self.inside.counts.free - 1; isolated = c.self.inside.counts.isolated + 1 };
+  notes = c.put.new.self;
+  moves = c.isolate-serial.new.self;
+  free_frames = c.self.inside.free_frames - 1;
   free_in_block = slice_set c.self.inside.free_in_block c.get-block.result (get_or c.self.inside.free_in_block c.get-block.result 0 - 1);
-  migrate = c.get-4.result + 1;
+  migrate = c.get-3.result + 1;
   free = c.get-self-inside.result;
-  journal = c.push.new.self;
+  history = c.note.new.self;
 }
 
-settling : (c : After-push) → Settling c.self.inside (after c) c.args.self.now c.args.pair.page (At c.args.pair.source) (Moving (isolated c.args.self.now.records) c.args.pair.source c.args.pair.target) (Isolate (isolated c.args.self.now.records) c.args.pair.page) c.index_mut-note.result.now (c.args.pair.source + 1) c.args.pair.target
+settling : (c : After-note) → Settling c.self.inside (after c) c.args.self.now c.args.pair.page (At c.args.pair.source) (Moving (isolated c.args.self.now.records) c.args.pair.source c.args.pair.target) (Isolate (isolated c.args.self.now.records) c.args.pair.page) c.get-note.result (c.args.pair.source + 1) c.args.pair.target
 settling c =
     let z = c.self.inside in
     let v = c.args.self.now in
@@ -67,12 +62,12 @@ settling c =
     let law = sound.lawful in
     let is = c.requires.pair in
     let room = c.requires.room in
-    let serial : z.counts.isolated ≡ isolated v.records = sound.counts.isolated in
+    let serial : c.isolate-serial.result ≡ isolated v.records = c.isolate-serial.ensures.serial ∙ sound.moves.count in
     let target_in = target_within v pair law is in
     let low = is.to.low in
     let block : c.get-block.result ≡ pair.target / 512 = c.get-block.ensures.value ∙ c.block_of.ensures in
     let numbered = law.numbered pair.page (not_none _ (At pair.source) is.from.here) in
-    let note_in : pair.page < length z.notes.items = omega (arith, numbered, sound.notes.count) in
+    let note_in : pair.page < length z.notes = omega (arith, numbered, sound.notes.count) in
     let freer = isolated_freer v pair law is in
     let block_in : c.get-block.result < v.blocks = omega (arith, block, target_in) in
     let before = block_at v z.free_in_block sound.blocks c.get-block.result block_in in
@@ -86,7 +81,7 @@ settling c =
       can = can_isolate v pair law is;
       recorded = isolate_recorded v pair law is c.requires.room;
       spare = omega arith;
-      note_is = slice_get-get_or z.notes.items pair.page c.index_mut-note.result.now note_in ∙ ap Some (ap (λ (i : ℕ). get_or z.notes.items i c.index_mut-note.result.now) (sym c.get-3.ensures.value) ∙ sym c.index_mut-note.ensures.value);
+      note_is = c.get-note.ensures;
       frames =
           subst (λ (n : ℕ). FramesSettled z.frames.items (slice_set (slice_set z.frames.items c.get.result (Source n)) c.get-2.result (Target n)) pair.page (At pair.source) (Moving (isolated v.records) pair.source pair.target)) (sym serial)
           (subst (λ (i : ℕ). FramesSettled z.frames.items (slice_set (slice_set z.frames.items c.get.result (Source (isolated v.records))) i (Target (isolated v.records))) pair.page (At pair.source) (Moving (isolated v.records) pair.source pair.target)) (sym c.get-2.ensures.value)
@@ -94,25 +89,20 @@ settling c =
           (isolated_frames z.frames.items pair.page pair.source pair.target (isolated v.records) (λ e. absurd (omega arith)) (omega (arith, target_in, sound.frames.count)) (omega (arith, target_in, sound.frames.count)))));
       tables = subst (λ (n : ℕ). Replaces z.tables c.to_migration.new.self (Present pair.source) (Migration n)) serial c.to_migration.ensures;
       words = isolated_words z.words v sound.words (isolated v.records) pair.source pair.target (omega arith) target_in;
-      notes = λ i. slice_set z.notes.items (c.get-3.ensures.value i) (record c.index_mut-note.result.now { placement = Some (Moving (serial i) pair.source pair.target) });
-      serials = subst (λ (ps : List ℕ). SerialsFit ps (vec_capacity c.push_reserved.new.self) (settled v (Isolate (isolated v.records) pair.page) pair.page (Moving (isolated v.records) pair.source pair.target))) (sym c.push_reserved.ensures.items)
-          (subst (λ (n : ℕ). SerialsFit (z.pages.items ++ pair.page ∷ []) n (settled v (Isolate (isolated v.records) pair.page) pair.page (Moving (isolated v.records) pair.source pair.target))) (sym c.push_reserved.ensures.capacity)
-          (isolated_serials v pair law is z.pages.items _ sound.serials (omega arith)));
-      counts = isolated_counts v pair law is z.counts sound.counts;
+      notes = c.put.ensures ∙ ap (slice_set z.notes pair.page) (c.placed.ensures ∙ ap (λ (n : ℕ). record c.get-note.result { placement = Some (Moving n pair.source pair.target) }) serial);
+      moves = subst (λ (moves : Moves). MovesFit moves (Isolate (isolated v.records) pair.page ∷ v.records) (v.room - 1)) (sym c.isolate-serial.ensures.pages)
+          (moves_more z.moves v.records v.room sound.moves pair.page (omega arith));
+      free = isolated_free v pair law is z.free_frames sound.free;
       blocks = blocks_lost (settled v (Isolate (isolated v.records) pair.page) pair.page (Moving (isolated v.records) pair.source pair.target)) v pair.target c.get-block.result freer block z.free_in_block (get_or z.free_in_block c.get-block.result 0 - 1) sound.blocks (before ∙ ap Some fewer);
-      free_from = isolated_start v pair law is z.free_from sound.starts.frames;
-      quiet = sound.quiet ∙ sym (quiet_kept v.records (Isolate (isolated v.records) pair.page) v.round refl law.begun);
-      migrate_is = ap (λ (n : ℕ). n + 1) c.get-4.ensures.value;
+      free_from = isolated_start v pair law is z.free_from sound.from;
+      migrate_is = ap (λ (n : ℕ). n + 1) c.get-3.ensures.value;
       free_is = c.get-self-inside.ensures.value;
       fingers = (omega arith, omega arith);
-      records = c.push.ensures.records ∙ ap (λ (n : ℕ). Isolate n pair.page ∷ z.journal.records) serial;
-      room = c.push.ensures.room;
+      history = c.note.ensures ∙ ap (λ (n : ℕ). told z.history (Isolate n pair.page)) serial;
       number_same = refl;
       blocks_same = refl;
       marked_same = refl;
       handed_out_same = refl;
-      unused_same = refl;
-      round_same = refl;
     }
 
 pub invariant_of-self : goal.invariant_of-self
