@@ -1,0 +1,101 @@
+-- Laws of searches and counts below a bound that frame_core lacks.
+use Rattle.std.proofs.Common.{◌≡◌, ℕ, zero, suc, ◌+◌, ◌<◌, ◌≤◌, Bool, true, false, ◌⊎◌, inl, inr, refl, sym, ap, ◌∙◌, arith}
+use Rattle.std.specs.Prelude.{Option, Some, None, nat_eq, ◌||◌, if◌then◌else◌}
+use Rattle.std.specs.Option.{option_or}
+use Rattle.std.proofs.lemmas.Bool.{eq-eqb, ne_eqb}
+use Rattle.std.proofs.lemmas.Bool.Decides.{leb_tells}
+use Rattle.frame_core.specs.Below.{lowest, highest, one_if, count_below, count_from}
+use Rattle.frame_core.proofs.Searches.{count_from_more, count_from_most}
+
+below_suc : (k n : ℕ) → k < suc n → (k < n) ⊎ (k ≡ n)
+below_suc k n h = elim (leb_tells n k)
+    [ inl at ↦ let same : k ≡ n = omega (arith, at.1) in inr same | inr under ↦ inl under.1 ]
+
+taken : {A : Type 0} (b : Bool) (x y : A) → b ≡ true → (if b then x else y) ≡ x
+taken b x y e = ap (λ t. if t then x else y) e
+
+skipped : {A : Type 0} (b : Bool) (x y : A) → b ≡ false → (if b then x else y) ≡ y
+skipped b x y e = ap (λ t. if t then x else y) e
+
+-- the last number passes, or it doesn't and the rest is searched
+by_last : (n k : ℕ) (o : Option ℕ) (b : Bool) → (if b then Some n else o) ≡ Some k → ((b ≡ true) × (n ≡ k)) ⊎ ((b ≡ false) × (o ≡ Some k))
+by_last n k o true e = let same : n ≡ k = cc in inl (refl, same)
+by_last n k o false e = inr (refl, e)
+
+by_none : (n : ℕ) (o : Option ℕ) (b : Bool) → (if b then Some n else o) ≡ None → (b ≡ false) × (o ≡ None)
+by_none n o true e = cc
+by_none n o false e = (refl, e)
+
+or_none : (o : Option ℕ) (b : Bool) (n : ℕ) → b ≡ false → option_or o (if b then Some n else None) ≡ o
+or_none None b n e = skipped b (Some n) None e
+or_none (Some x) b n e = refl
+
+dropped : (b : Bool) (n : ℕ) → b ≡ false → one_if b + n ≡ n
+dropped true n e = cc
+dropped false n e = omega arith
+
+module _ (p : ℕ → Bool) where
+  pub highest_none : (n : ℕ) → ((k : ℕ) → k < n → p k ≡ false) → highest p n ≡ None
+  highest_none zero fails = refl
+  highest_none (suc n) fails = skipped (p n) (Some n) (highest p n) (fails n (omega arith)) ∙ highest_none n (λ k h. fails k (omega arith))
+
+  pub highest_is : (n k : ℕ) → k < n → p k ≡ true → ((j : ℕ) → k < j → j < n → p j ≡ false) → highest p n ≡ Some k
+  highest_is zero k h passes fails = absurd (omega arith)
+  highest_is (suc n) k h passes fails =
+      elim (below_suc k n h) [
+        | inl under ↦ skipped (p n) (Some n) (highest p n) (fails n under (omega arith)) ∙ highest_is n k under passes (λ j l m. fails j l (omega arith))
+        | inr at ↦ taken (p n) (Some n) (highest p n) (ap p (sym at) ∙ passes) ∙ ap Some (sym at)
+      ]
+
+  pub no_highest : (n k : ℕ) → highest p n ≡ None → k < n → p k ≡ false
+  no_highest zero k none h = absurd (omega arith)
+  no_highest (suc n) k none h =
+      let parts = by_none n (highest p n) (p n) none in
+      elim (below_suc k n h) [ inl under ↦ no_highest n k parts.1 under | inr at ↦ ap p at ∙ parts.0 ]
+
+  pub highest_some : (n k : ℕ) → highest p n ≡ Some k → (k < n) × (p k ≡ true)
+  highest_some zero k e = cc
+  highest_some (suc n) k e =
+      elim (by_last n k (highest p n) (p n) e) [
+        | inl here ↦ (let same : n ≡ k = here.1 in (omega arith, ap p (sym same) ∙ here.0))
+        | inr under ↦ (let found = highest_some n k under.1 in (omega (arith, found.0), found.1))
+      ]
+
+  -- above the highest that passes none does
+  pub highest_above : (n k q : ℕ) → highest p n ≡ Some k → k < q → q < n → p q ≡ false
+  highest_above zero k q e h within = absurd (omega arith)
+  highest_above (suc n) k q e h within =
+      elim (by_last n k (highest p n) (p n) e) [
+        | inl here ↦ (let same : n ≡ k = here.1 in absurd (omega arith))
+        | inr under ↦ elim (below_suc q n within) [ inl low ↦ highest_above n k q under.1 h low | inr at ↦ ap p at ∙ under.0 ]
+      ]
+
+  -- numbers that don't pass add nothing
+  pub count_past : (n m : ℕ) → n ≤ m → ((k : ℕ) → n ≤ k → k < m → p k ≡ false) → count_below p m ≡ count_below p n
+  count_past n zero most fails = let same : zero ≡ n = omega arith in ap (count_below p) same
+  count_past n (suc m) most fails = elim (leb_tells n m) [
+    | inl under ↦ dropped (p m) (count_below p m) (fails m under.1 (omega arith)) ∙ count_past n m under.1 (λ k low h. fails k low (omega arith))
+    | inr over ↦ let same : suc m ≡ n = omega (arith, over.1) in ap (count_below p) same
+  ]
+
+  pub lowest_past : (n m : ℕ) → n ≤ m → ((k : ℕ) → n ≤ k → k < m → p k ≡ false) → lowest p m ≡ lowest p n
+  lowest_past n zero most fails = let same : zero ≡ n = omega arith in ap (lowest p) same
+  lowest_past n (suc m) most fails = elim (leb_tells n m) [
+    | inl under ↦ or_none (lowest p m) (p m) m (fails m under.1 (omega arith)) ∙ lowest_past n m under.1 (λ k low h. fails k low (omega arith))
+    | inr over ↦ let same : suc m ≡ n = omega (arith, over.1) in ap (lowest p) same
+  ]
+
+  -- where one number doesn't pass, not all do
+  pub count_from_short : (first n k : ℕ) → first ≤ k → k < first + n → p k ≡ false → count_from p first n < n
+  count_from_short first n k low high fails =
+      let more = count_from_more p (λ q. nat_eq q k || p q) first n k low high fails (ap (λ b. b || p k) (eq-eqb k k refl))
+      (λ q ne. ap (λ b. b || p q) (ne_eqb q k ne)) in
+      omega (arith, more, count_from_most (λ q. nat_eq q k || p q) first n)
+
+one_most : (b : Bool) → one_if b ≤ 1
+one_most true = omega arith
+one_most false = omega arith
+
+pub count_most : (p : ℕ → Bool) (n : ℕ) → count_below p n ≤ n
+count_most p zero = omega arith
+count_most p (suc n) = omega (arith, one_most (p n), count_most p n)

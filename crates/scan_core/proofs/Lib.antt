@@ -1,0 +1,5 @@
+pub mod Bounds
+pub mod Counting
+pub mod Found
+pub mod Pairing
+pub mod Sounding

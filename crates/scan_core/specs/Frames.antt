@@ -1,0 +1,62 @@
+-- The frames of a zone.
+use Rattle.std.specs.Prelude.{ℕ, ◌*◌, ◌/◌, Bool, true, false, List, length, replicate, nat_eq, slice_get, unwrap_or, Option, Some}
+use Rattle.frame_core.specs.Below.{count_below, count_from}
+use Rattle.frame_core.specs.declared.state.FrameState.{FrameState}
+use Rattle.frame_core.specs.declared.state.FrameState.TheVariants.{Free, Holds, Huge}
+
+pub record Frames : Type 0 where
+  -- what each frame is used for
+  pub states : List FrameState
+  -- whether the page that a frame holds may be taken from it
+  pub movable : List Bool
+
+-- a zone of so many pageblocks in which each frame is free
+abbrev pub all_free : ℕ → Frames
+all_free blocks = record { states = replicate (512 * blocks) Free; movable = replicate (512 * blocks) false }
+
+-- whether there is a frame, and it is free
+abbrev pub is_free_state : Option FrameState → Bool
+is_free_state (Some Free) = true
+is_free_state _ = false
+
+-- whether there is a frame, and it holds a page that isn't on its way
+abbrev pub is_holding_state : Option FrameState → Bool
+is_holding_state (Some (Holds page)) = true
+is_holding_state _ = false
+
+-- whether there is a frame, and it is of a block that is handed out
+abbrev pub is_huge_state : Option FrameState → Bool
+is_huge_state (Some Huge) = true
+is_huge_state _ = false
+
+-- whether a frame of the list is free
+abbrev pub free_at : List FrameState → ℕ → Bool
+free_at states frame = is_free_state (slice_get states frame)
+
+-- whether a frame of the list holds a page that isn't on its way
+abbrev pub holds_at : List FrameState → ℕ → Bool
+holds_at states frame = is_holding_state (slice_get states frame)
+
+-- whether a frame of the list is of a block that is handed out
+abbrev pub huge_at : List FrameState → ℕ → Bool
+huge_at states frame = is_huge_state (slice_get states frame)
+
+-- whether a list has true at a place
+abbrev pub true_at : List Bool → ℕ → Bool
+true_at flags place = unwrap_or (slice_get flags place) false
+
+-- how many frames are free
+abbrev pub free_frames : List FrameState → ℕ
+free_frames states = count_below (free_at states) (length states)
+
+-- how many of the 512 frames of a pageblock are free
+abbrev pub free_in_block : List FrameState → ℕ → ℕ
+free_in_block states block = count_from (free_at states) (512 * block) 512
+
+-- whether all of them are
+abbrev pub is_whole : List FrameState → ℕ → Bool
+is_whole states block = nat_eq (free_in_block states block) 512
+
+-- how many pageblocks the frames make
+abbrev pub blocks_of : List FrameState → ℕ
+blocks_of states = length states / 512

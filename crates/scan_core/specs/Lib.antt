@@ -1,0 +1,5 @@
+pub mod BlockCounts
+pub mod Frames
+pub mod Pairs
+pub mod Sound
+pub mod Tally

@@ -1,0 +1,179 @@
+ghost use Rattle.std.specs.Prelude.{◌≡◌, ◌*◌, ◌<◌, ◌≤◌, length, slice_get, slice_set, true, Some, IfOk, IfSome};
+ghost use Rattle.frame_core.specs.Below.{count_below, lowest, some_below};
+ghost use Rattle.scan_core.specs.Frames.{all_free, blocks_of, free_at, free_frames, is_whole};
+ghost use Rattle.scan_core.specs.Pairs.{after_step, is_stuck, next_step, Finds};
+
+use crate::blocks::BlockCounts;
+use crate::fingers::{Fingers, Step};
+use crate::tally::Tally;
+use crate::{lists, pair};
+use frame_core::{FrameNo, FrameState};
+use std::alloc::{AllocError, Global};
+use std::marker::Model;
+
+/// The states of a zone's frames, with what is counted of them.
+#[derive(Drop)]
+pub struct Frames {
+    states: Vec<FrameState>,
+    movable: Vec<bool>,
+    tally: Tally,
+}
+
+impl Model for Frames {
+    ghost use Rattle.scan_core.specs.Frames.{Frames as Seen};
+
+    ghost Value = { Seen };
+
+    ghost use Rattle.scan_core.specs.Sound.{frames_of, IsSound};
+
+    ghost view = { frames_of };
+
+    ghost invariant = { IsSound };
+}
+
+impl Frames {
+    /// The frames of so many pageblocks, each free. No other call takes memory.
+    pub fn open(alloc: Global, blocks: u32) -> Result<Frames, AllocError>
+        requires some { 0 < blocks }
+        requires few { blocks ≤ 8 }
+        ensures open { IfOk result (λ frames. frames ≡ all_free blocks) }
+        ensures frames { IfOk result (λ frames. length frames.states ≡ 512 * blocks) }
+    {
+        let count = 512 * blocks as usize;
+        let states = lists::filled(alloc, FrameState::Free, count)?;
+        let movable = lists::filled(alloc, false, count)?;
+        let tally = Tally {
+            free: 512 * blocks,
+            blocks: BlockCounts::of(&states),
+            lowest: 0,
+        };
+        Ok(Frames {
+            states,
+            movable,
+            tally,
+        })
+    }
+
+    /// How many frames there are.
+    pub fn len(&self) -> u32
+        ensures len { result ≡ length self.now.states }
+        ensures whole { result ≡ 512 * blocks_of self.now.states }
+        ensures some { 0 < result }
+        ensures few { result ≤ 4096 }
+        ensures movable { length self.now.movable ≡ length self.now.states }
+    {
+        self.states.len() as u32
+    }
+
+    /// How many pageblocks they make.
+    pub fn blocks(&self) -> u32
+        ensures blocks { result ≡ blocks_of self.now.states }
+        ensures frames { length self.now.states ≡ 512 * result }
+        ensures some { 0 < result }
+        ensures few { result ≤ 8 }
+    {
+        self.len() / 512
+    }
+
+    /// What each frame is used for.
+    pub fn states(&self) -> &[FrameState]
+        ensures { result.now ≡ self.now.states }
+    {
+        &self.states
+    }
+
+    /// What a frame is used for.
+    pub fn state(&self, frame: FrameNo) -> FrameState
+        requires { frame < length self.now.states }
+        ensures { slice_get self.now.states frame ≡ Some result }
+    {
+        self.states[frame.get() as usize]
+    }
+
+    /// Whether a frame is free.
+    pub fn is_free(&self, frame: FrameNo) -> bool
+        requires { frame < length self.now.states }
+        ensures { result ≡ free_at self.now.states frame }
+    {
+        lists::is_free(&self.states[frame.get() as usize])
+    }
+
+    /// Uses a frame for something else, or frees it.
+    pub fn put(&mut self, frame: FrameNo, state: FrameState)
+        requires { frame < length self.old.states }
+        ensures state { self.new ≡ record self.old { states = slice_set self.old.states frame state } }
+        ensures frames { length self.new.states ≡ length self.old.states }
+    {
+        let index = frame.get() as usize;
+        let was = lists::is_free(&self.states[index]);
+        self.tally.note(frame, was, lists::is_free(&state));
+        self.states[index] = state;
+        self.tally.lowest = lists::first_free(&self.states, self.tally.lowest);
+    }
+
+    /// How many frames are free.
+    pub fn free(&self) -> u32
+        ensures { result ≡ free_frames self.now.states }
+    {
+        self.tally.free
+    }
+
+    /// The lowest frame that is free.
+    pub fn lowest_free(&self) -> Option<FrameNo>
+        ensures lowest { result ≡ lowest (free_at self.now.states) (length self.now.states) }
+        ensures free { IfSome result (λ frame. free_at self.now.states frame ≡ true) }
+        ensures within { IfSome result (λ frame. frame < length self.now.states) }
+    {
+        if self.tally.lowest as usize == self.states.len() {
+            return None;
+        }
+        FrameNo::new(self.tally.lowest)
+    }
+
+    /// How many pageblocks are free as a whole.
+    pub fn whole_blocks(&self) -> u32
+        ensures { result ≡ count_below (is_whole self.now.states) (blocks_of self.now.states) }
+    {
+        self.tally.blocks.whole()
+    }
+
+    /// Whether the page that a frame holds may be taken from it.
+    pub fn movable(&self, frame: FrameNo) -> bool
+        requires { frame < length self.now.states }
+        ensures { slice_get self.now.movable frame ≡ Some result }
+    {
+        self.movable[frame.get() as usize]
+    }
+
+    /// Says whether the page that a frame holds may be taken from it.
+    pub fn set_movable(&mut self, frame: FrameNo, movable: bool)
+        requires { frame < length self.old.states }
+        ensures movable { self.new ≡ record self.old { movable = slice_set self.old.movable frame movable } }
+        ensures frames { length self.new.movable ≡ length self.old.movable }
+    {
+        let index = frame.get() as usize;
+        self.movable[index] = movable;
+    }
+
+    /// The next pair between the fingers, which then stand at its frames. Where there is none they stay.
+    pub fn next_pair(&self, marked: &[bool; 8], fingers: &mut Fingers) -> Step
+        requires low { fingers.old.migrate ≤ fingers.old.free }
+        requires high { fingers.old.free ≤ length self.now.states }
+
+        ensures pair { Finds self.now.states self.now.movable marked.now fingers.old result }
+        ensures step { result ≡ next_step self.now.states self.now.movable marked.now fingers.old }
+
+        ensures fingers { fingers.new ≡ after_step fingers.old result }
+        ensures low { fingers.new.migrate ≤ fingers.new.free }
+        ensures high { fingers.new.free ≤ length self.now.states }
+    {
+        pair::next_pair(&self.states, &self.movable, marked, fingers)
+    }
+
+    /// Whether in an unmarked pageblock some frame is handed out, or holds a page that may not be taken from it.
+    pub fn is_any_stuck(&self, marked: &[bool; 8]) -> bool
+        ensures { result ≡ some_below (is_stuck self.now.states self.now.movable marked.now) (length self.now.states) }
+    {
+        lists::is_any_stuck(&self.states, &self.movable, marked)
+    }
+}

@@ -1,0 +1,19 @@
+//! The frames of a zone, what is counted of them, and the pair of frames that a round takes next.
+//!
+//! Contracts see `Frames` as two lists, the state of each frame and whether the page that it holds may be taken from it.
+//! What is counted of them is the type's own business. The searches and counts stand over plain lists too.
+#![tactic(auto)]
+
+mod blocks;
+mod fingers;
+mod frames;
+mod lists;
+mod pair;
+mod tally;
+#[cfg(test)]
+mod tests;
+
+pub use blocks::{BlockCounts, first_whole, whole_blocks};
+pub use fingers::{Fingers, Step};
+pub use frames::Frames;
+pub use pair::next_pair;
