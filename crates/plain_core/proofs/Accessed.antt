@@ -1,5 +1,5 @@
 -- A load and a store leave a zone sound.
-use Rattle.std.proofs.Common.{◌≡◌, ◌≢◌, ℕ, ◌<◌, Bool, true, false, List, [], ◌∷◌, length, inl, inr, refl, sym, ap, subst, ◌∙◌, get_or, arith}
+use Rattle.std.proofs.Common.{◌≡◌, ◌≢◌, ℕ, ◌<◌, Bool, true, false, List, [], ◌∷◌, length, inl, inr, refl, sym, ap, subst, ◌∙◌, arith}
 use Rattle.std.specs.Prelude.{Option, Some, None, IsSome, is_some, slice_get, slice_set, unwrap_or, nat_eq, ◌&&◌, ◌||◌, if◌then◌else◌}
 use Rattle.std.specs.FinMap as map
 use Rattle.std.specs.Option.{option_and_then}
@@ -9,7 +9,6 @@ use Rattle.std.proofs.lemmas.List.{length-set}
 use Rattle.std.proofs.lemmas.Option.{slice_get_within, get_or_from_slice_get}
 use Rattle.frame_core.proofs.Lists.{slice_get_set_same, slice_get_set_other}
 use Rattle.frame_core.specs.declared.place.Address.{Address}
-use Rattle.frame_core.specs.declared.state.FrameState.{FrameState}
 use Rattle.frame_core.specs.declared.state.FrameState.TheVariants.{Holds}
 use Rattle.journal_core.proofs.Maps.{no_test}
 use Rattle.journal_core.specs.declared.record.Record.TheVariants.{Load, Store}
@@ -63,9 +62,7 @@ loaded_sound z v sound history client address frame word at spare = record {
   words = record { count = sound.words.count; eight = sound.words.eight; each = sound.words.each };
   notes = record { count = sound.notes.count; each = λ page note e used. (let fit = sound.notes.each page note e used in record { dirty = fit.dirty; pins = fit.pins; maps = fit.maps }) };
   moves = moves_kept z.moves v.records v.room sound.moves (Load client address word (value_at v address word)) refl (λ serial. refl) refl refl (omega arith);
-  free = sound.free;
-  blocks = record { each = sound.blocks.each };
-  from = sound.from;
+  movable = record { count = sound.movable.count; each = sound.movable.each };
 }
 
 pub words_set_same : (rows : List (List ℕ)) (frame : ℕ) (row : List ℕ) → frame < length rows → words_of (slice_set rows frame row) frame ≡ row
@@ -184,8 +181,8 @@ pub record Resident (z : Inside) (v : ZoneState) (address : Address) (frame : �
   pub page : ℕ
   pub named : page_at v.records address ≡ Some page
   pub at : map.get v.placement page ≡ Some (At frame)
-  pub held : slice_get z.frames.items frame ≡ Some (Holds page)
-  pub frame_within : frame < length z.frames.items
+  pub held : slice_get z.frames.states frame ≡ Some (Holds page)
+  pub frame_within : frame < length z.frames.states
   pub row_within : frame < length z.words
   pub note_within : page < length z.notes
 
@@ -198,18 +195,11 @@ resident z v sound address frame at =
       page = page.0;
       named = page.1;
       at = page.2;
-      held = held_by z.frames.items v sound.frames page.0 frame page.2;
+      held = held_by z.frames.states v sound.frames page.0 frame page.2;
       frame_within = omega (arith, within, sound.frames.count);
       row_within = omega (arith, within, sound.words.count);
       note_within = omega (arith, numbered, sound.notes.count);
     }
-
--- the page that the state of its frame names
-pub holder_is : (z : Inside) (v : ZoneState) (address : Address) (frame place other : ℕ) (state : FrameState) → (is : Resident z v address frame) → place ≡ frame → state ≡ get_or z.frames.items place state → state ≡ Holds other → is.page ≡ other
-holder_is z v address frame place other state is at found holds =
-    let here : get_or z.frames.items frame state ≡ Holds is.page = get_or_from_slice_get z.frames.items frame (Holds is.page) state is.held in
-    let same : Holds is.page ≡ Holds other = sym here ∙ ap (λ (f : ℕ). get_or z.frames.items f state) (sym at) ∙ sym found ∙ holds in
-    cc
 
 -- what is known when a word is written
 pub record Storing (z : Inside) (v : ZoneState) (client : ℕ) (address : Address) (page frame word value : ℕ) (note : Note) (history : History) : Type 0 where
@@ -249,7 +239,5 @@ store_sound z v client address page frame word value note history known =
       words = stored_words z.words v sound.lawful sound.words client address page frame word value known.named known.at known.small;
       notes = stored_notes z.words v sound.lawful sound.words client address page frame word value known.named known.at known.small z.notes note sound.notes known.note_is;
       moves = moves_kept z.moves v.records v.room sound.moves (Store client address word value) refl (λ serial. refl) refl refl (omega arith);
-      free = sound.free;
-      blocks = record { each = sound.blocks.each };
-      from = sound.from;
+      movable = record { count = sound.movable.count; each = sound.movable.each };
     }

@@ -1,5 +1,5 @@
 -- The page of a pair is on its way: how each table changes.
-use Rattle.std.proofs.Common.{◌≡◌, ◌≢◌, ℕ, ◌-◌, ◌<◌, Bool, true, false, List, length, ◌⊎◌, inl, inr, refl, sym, ap, ◌∙◌, arith}
+use Rattle.std.proofs.Common.{◌≡◌, ◌≢◌, ℕ, ◌<◌, Bool, true, false, List, length, ◌⊎◌, inl, inr, refl, sym, ap, ◌∙◌, arith}
 use Rattle.std.specs.Prelude.{Some, None, slice_get, slice_set, nat_eq, ◌||◌, if◌then◌else◌}
 use Rattle.std.proofs.lemmas.Bool.{eq-eqb}
 use Rattle.std.proofs.lemmas.Bool.Decides.{eqb_tells}
@@ -7,19 +7,11 @@ use Rattle.std.proofs.lemmas.List.{length-set}
 use Rattle.frame_core.proofs.Lists.{slice_get_set_same, slice_get_set_other}
 use Rattle.frame_core.specs.declared.state.FrameState.{FrameState}
 use Rattle.frame_core.specs.declared.state.FrameState.TheVariants.{Source, Target}
-use Rattle.journal_core.specs.declared.record.Record.TheVariants.{Isolate}
-use Rattle.journal_core.specs.Moves.{isolated}
-use Rattle.frame_core.specs.Below.{count_below}
-use Rattle.state_core.specs.declared.round.Pair.{Pair}
 use Rattle.state_core.specs.declared.placement.Placement.TheVariants.{At, Moving}
 use Rattle.plain_core.specs.Fits.{state_by, WordsFit}
-use Rattle.state_core.specs.Lawful.{IsLawful}
-use Rattle.state_core.specs.Moving.{settled}
-use Rattle.state_core.specs.Pairs.{IsPair}
-use Rattle.state_core.specs.ZoneState.{ZoneState, frame_count, is_free}
+use Rattle.state_core.specs.ZoneState.{ZoneState, frame_count}
 use Rattle.state_core.proofs.Placed.{untrue}
-use Rattle.state_core.proofs.Settled.{isolated_others, isolated_target, isolated_fewer, target_within}
-use Rattle.plain_core.proofs.Settling.{FramesSettled, WordsSettled, IsFreer}
+use Rattle.plain_core.proofs.Settling.{FramesSettled, MovableSettled, WordsSettled}
 
 same_state : {A : Type 0} (x y z : A) → Some x ≡ Some y → z ≡ x → z ≡ y
 same_state x y z e f = cc
@@ -80,24 +72,5 @@ isolated_words rows v fit serial source target source_in target_in = record {
   ]);
 }
 
-module _ (v : ZoneState) (pair : Pair) (law : IsLawful v) (is : IsPair v pair.page pair.source pair.target) where
-  abbrev next : ZoneState
-  next = settled v (Isolate (isolated v.records) pair.page) pair.page (Moving (isolated v.records) pair.source pair.target)
-
-  pub isolated_freer : IsFreer next v pair.target
-  isolated_freer = record {
-    blocks = refl;
-    within = target_within v pair law is;
-    used = isolated_target v pair law is;
-    free = is.to.free;
-    others = λ g ne. sym (isolated_others v pair law is g ne);
-  }
-
-  pub isolated_start : (from : ℕ) → ((g : ℕ) → g < from → is_free v g ≡ false) → (g : ℕ) → g < from → is_free next g ≡ false
-  isolated_start from before g h = elim (eqb_tells g pair.target) [
-    | inl same ↦ ap (is_free next) same.1 ∙ isolated_target v pair law is
-    | inr other ↦ isolated_others v pair law is g other.1 ∙ before g h
-  ]
-
-  pub isolated_free : (free : ℕ) → free ≡ count_below (is_free v) (frame_count v) → free - 1 ≡ count_below (is_free next) (frame_count v)
-  isolated_free free fit = omega (arith, fit, isolated_fewer v pair law is)
+pub isolated_movable : (movable : List Bool) (can : Bool) (serial source target : ℕ) → MovableSettled movable movable can (Moving serial source target)
+isolated_movable movable can serial source target = record { count = refl; here = λ g e. cc; kept = λ g gone. refl }

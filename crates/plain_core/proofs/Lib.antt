@@ -8,6 +8,7 @@ pub mod Opened
 pub mod Placing
 pub mod Quiet
 pub mod Rounds
+pub mod Scanning
 pub mod Seen
 pub mod Serials
 pub mod Settles

@@ -6,7 +6,6 @@ use Rattle.std.specs.FinMap as map
 use Rattle.std.specs.Ordering.{nat_cmp}
 use Rattle.std.proofs.lemmas.List.{length-replicate}
 use Rattle.frame_core.proofs.Lists.{slice_get_replicate}
-use Rattle.frame_core.proofs.Searches.{count_from_all}
 use Rattle.frame_core.specs.declared.state.FrameState.{FrameState}
 use Rattle.frame_core.specs.declared.state.FrameState.TheVariants.{Free}
 use Rattle.table_core.specs.Tables.{IsBlank}
@@ -17,33 +16,31 @@ use Rattle.plain_core.specs.Moves.{Moves}
 use Rattle.plain_core.proofs.Copies.{copies, no_placement, all_movable, no_order}
 use Rattle.plain_core.specs.declared.plain.PlainZone.TheInside.{Inside}
 use Rattle.state_core.specs.declared.placement.Placement.{Placement}
+use Rattle.state_core.specs.declared.placement.Placement.TheVariants.{At}
 use Rattle.state_core.specs.Steps.{opened}
 use Rattle.state_core.specs.Refusals.{IsOpenable}
 use Rattle.plain_core.specs.Fits.{state_by, MovesFit}
-use Rattle.plain_core.specs.Sound.{state_of, IsSound, is_marked_of}
+use Rattle.plain_core.specs.Sound.{state_of, IsSound}
+use Rattle.scan_core.specs.Frames.{Frames, all_free, true_at}
 use Rattle.plain_core.specs.HandedOut.{order_of}
 use Rattle.plain_core.specs.Notes.{unused_note, placement_of, is_unmovable_of}
-use Rattle.state_core.specs.ZoneState.{is_free}
 use Rattle.plain_core.specs.Tabulated.{tabulated, gathered}
 use Rattle.plain_core.proofs.Tabulating.{tabulated_none}
 use Rattle.plain_core.proofs.Tabulating.{gathered_none}
-use Rattle.state_core.proofs.Opened.{free_count, unheld, all_free, opened_lawful}
+use Rattle.state_core.proofs.Opened.{unheld, opened_lawful}
 
 -- the fields of a zone that was just opened
 pub record IsFresh (z : Inside) (number blocks places : ℕ) : Type 0 where
   pub openable : IsOpenable blocks places
   pub number_is : z.number ≡ number
   pub blocks_is : z.blocks ≡ blocks
-  pub frames : z.frames.items ≡ replicate (512 * blocks) Free
+  pub frames : z.frames ≡ all_free blocks
   pub tables : IsBlank z.tables
   pub words : z.words ≡ replicate (512 * blocks) blank_words
   pub notes : z.notes ≡ replicate (512 * blocks) unused_note
   pub handed_out : z.handed_out ≡ replicate (512 * blocks) None
   pub marked : z.marked ≡ replicate 8 false
-  pub free_frames : z.free_frames ≡ 512 * blocks
-  pub free_in_block : z.free_in_block ≡ replicate 8 512
-  pub from : z.free_from ≡ 0
-  pub fingers : (z.migrate ≡ 0) × (z.free ≡ 0)
+  pub fingers : z.fingers ≡ record { migrate = 0; free = 0 }
   pub moves : z.moves ≡ record { pages = []; places = places; moved = 0; back = 0 }
   pub history : z.history ≡ record { records = []; room = places; round = None }
 
@@ -51,7 +48,7 @@ pub opened_view : (z : Inside) (number blocks places : ℕ) → IsFresh z number
 opened_view z number blocks places fresh =
     let u : gathered (is_unmovable_of z.notes) (length z.notes) ≡ set.empty =
     gathered_none (is_unmovable_of z.notes) (length z.notes) (λ page. ap (λ (ns : List Note). is_unmovable_of ns page) fresh.notes ∙ all_movable (512 * blocks) page) in
-    let m : gathered (is_marked_of z.marked) 8 ≡ set.empty = ap (λ (bs : List Bool). gathered (is_marked_of bs) 8) fresh.marked in
+    let m : gathered (true_at z.marked) 8 ≡ set.empty = ap (λ (bs : List Bool). gathered (true_at bs) 8) fresh.marked in
     let h : tabulated (order_of z.handed_out) (length z.handed_out) ≡ map.empty =
     tabulated_none (order_of z.handed_out) (length z.handed_out) (λ first. ap (λ (os : List (Option ℕ)). order_of os first) fresh.handed_out ∙ no_order (512 * blocks) first) in
     let p : tabulated (placement_of z.notes) (length z.notes) ≡ map.empty =
@@ -65,8 +62,8 @@ opened_view z number blocks places fresh =
       marked = m i;
       handed_out = h i;
       placement = p i;
-      migrate = fresh.fingers.0 i;
-      free = fresh.fingers.1 i;
+      migrate = (fresh.fingers i).migrate;
+      free = (fresh.fingers i).free;
       round = (fresh.history i).round;
     }
 
@@ -89,10 +86,10 @@ opened_sound z number blocks places fresh = record {
   lawful = opened_lawful number blocks places fresh.openable;
   orders = ap length fresh.handed_out ∙ length-replicate (512 * blocks) None;
   frames = record {
-    count = ap length fresh.frames ∙ length-replicate (512 * blocks) Free;
+    count = ap (λ (fs : Frames). length fs.states) fresh.frames ∙ length-replicate (512 * blocks) Free;
     of_page = λ page frame state e. absurd (state_clash number blocks places page frame state e);
     of_block = λ frame h held. (let bad : false ≡ true = sym (unheld number blocks places frame) ∙ held in cc);
-    of_none = λ frame h free. ap (λ (fs : List FrameState). slice_get fs frame) fresh.frames ∙ slice_get_replicate (512 * blocks) frame Free h;
+    of_none = λ frame h free. ap (λ (fs : Frames). slice_get fs.states frame) fresh.frames ∙ slice_get_replicate (512 * blocks) frame Free h;
   };
   entries = record { each = λ address range. fresh.tables address };
   words = record {
@@ -105,10 +102,8 @@ opened_sound z number blocks places fresh = record {
     each = λ page note e used. absurd (note_clash (512 * blocks) page note (ap (λ (ns : List Note). slice_get ns page) (sym fresh.notes) ∙ e) used);
   };
   moves = subst (λ (moves : Moves). MovesFit moves [] places) (sym fresh.moves) (record { count = refl; each = λ serial. refl; moved = refl; back = refl; places = omega arith });
-  free = fresh.free_frames ∙ sym (free_count number blocks places);
-  blocks = record {
-    each = λ block h. ap (λ (ns : List ℕ). slice_get ns block) fresh.free_in_block ∙ slice_get_replicate 8 block 512 (omega (arith, fresh.openable.1, h))
-        ∙ ap Some (sym (count_from_all (is_free (opened number blocks places)) (512 * block) 512 (λ frame low high. all_free number blocks places frame)));
+  movable = record {
+    count = ap (λ (fs : Frames). length fs.movable) fresh.frames ∙ length-replicate (512 * blocks) false;
+    each = λ page frame e. (let bad : None ≡ Some (At frame) = sym (map.get-empty nat_cmp page) ∙ e in cc);
   };
-  from = λ frame h. absurd (omega (arith, h, fresh.from));
 }

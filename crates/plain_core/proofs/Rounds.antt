@@ -9,7 +9,7 @@ use Rattle.state_core.proofs.Rounds.{begun, lawful_from}
 
 -- the fields when a round has begun
 abbrev pub after_begin : Inside → RoundStart → Inside
-after_begin z start = record z { migrate = 0; free = 512 * z.blocks; history = record z.history { round = Some start } }
+after_begin z start = record z { fingers = record { migrate = 0; free = 512 * z.blocks }; history = record z.history { round = Some start } }
 
 pub begun_sound : (z : Inside) (v : ZoneState) → IsSound z v → (start : RoundStart) → start.records ≡ length v.records →
     IsSound (after_begin z start) (begun v start)
@@ -24,7 +24,5 @@ begun_sound z v sound start here = record {
     each = λ page note at used. (let fit = sound.notes.each page note at used in record { dirty = fit.dirty; pins = fit.pins; maps = fit.maps });
   };
   moves = sound.moves;
-  free = sound.free;
-  blocks = record { each = sound.blocks.each };
-  from = sound.from;
+  movable = record { count = sound.movable.count; each = sound.movable.each };
 }

@@ -1,12 +1,12 @@
 -- What the tables of a sound zone say of its state.
-use Rattle.std.proofs.Common.{◌≡◌, ℕ, zero, suc, ◌+◌, ◌<◌, ◌≤◌, Bool, true, false, not, List, [], ◌∷◌, length, ◌⊎◌, inl, inr, refl, sym, ap, ◌∙◌, get_or, arith}
-use Rattle.std.specs.Prelude.{Option, Some, None, IsSome, IsTrue, is_some, slice_get, nat_eq, map as each, ◌&&◌, ◌||◌, if◌then◌else◌}
+use Rattle.std.proofs.Common.{◌≡◌, ℕ, zero, suc, ◌+◌, ◌<◌, ◌≤◌, Bool, true, false, not, List, [], ◌∷◌, length, ◌⊎◌, inl, inr, refl, sym, ap, ◌∙◌, arith}
+use Rattle.std.specs.Prelude.{Option, Some, None, IsSome, IsTrue, is_some, slice_get, nat_eq, map as each, ◌&&◌, if◌then◌else◌}
 use Rattle.std.specs.FinMap as map
 use Rattle.std.specs.FinSet as set
 use Rattle.std.specs.Option.{option_and_then}
 use Rattle.std.proofs.lemmas.Bool.{eq-eqb, eqb-true}
 use Rattle.std.proofs.lemmas.Bool.Decides.{eqb_tells}
-use Rattle.std.proofs.lemmas.Option.{slice_get_read, slice_get_past, unwrap_or-slice_get}
+use Rattle.std.proofs.lemmas.Option.{slice_get_past}
 use Rattle.frame_core.proofs.Searches.{some_one}
 use Rattle.frame_core.specs.declared.place.Address.{Address}
 use Rattle.frame_core.specs.PageFlags.{page_flags}
@@ -27,14 +27,15 @@ use Rattle.state_core.specs.ZoneState.{words_frame, ZoneState, frame_count, take
 use Rattle.plain_core.specs.Notes.{placement_of, is_unmovable_of, says_unmovable}
 use Rattle.state_core.specs.Lawful.{IsLawful, is_under}
 use Rattle.state_core.specs.Moving.{words_now, flags_of, look_by, look_of}
-use Rattle.state_core.specs.Pairs.{holder, can_move, stays_if_some}
-use Rattle.plain_core.specs.Sound.{state_of, IsSound, is_marked_of}
+use Rattle.state_core.specs.Pairs.{holder, can_move}
+use Rattle.scan_core.specs.Frames.{true_at}
+use Rattle.plain_core.specs.Sound.{state_of, IsSound}
 use Rattle.state_core.proofs.Facts.{frame_within}
 use Rattle.plain_core.proofs.Facts.{held_by}
 use Rattle.plain_core.proofs.Finding.{placements_seen, takes_state}
 use Rattle.state_core.proofs.Placed.{untrue}
 use Rattle.plain_core.proofs.Tabulating.{gathered_in, contains_gathered}
-use Rattle.state_core.proofs.Holding.{stands_at, at_takes, when_not, holder_at, holder_none}
+use Rattle.state_core.proofs.Holding.{stands_at, when_not, holder_none}
 
 abbrev numbers : ℕ → ℕ → List ℕ
 numbers first zero = []
@@ -68,9 +69,9 @@ words_seen rows v fit law page placement at =
 
 -- the marks
 pub mark_seen : (z : Inside) (v : ZoneState) → state_of z ≡ v → (block : ℕ) → block < 8 →
-    get_or z.marked block false ≡ set.contains v.marked block
+    true_at z.marked block ≡ set.contains v.marked block
 mark_seen z v view block h =
-    sym (unwrap_or-slice_get z.marked block false) ∙ sym (gathered_in (is_marked_of z.marked) 8 block h)
+    sym (gathered_in (true_at z.marked) 8 block h)
     ∙ ap (λ (u : ZoneState). set.contains u.marked block) view
 
 -- where a page in use is noted
@@ -181,24 +182,10 @@ none_seen frames v fit frame state at none =
     (let two : Some state ≡ Some (Holds page) = sym at ∙ held_by frames v fit page frame is in
     let same : state ≡ Holds page = cc in none page same))
 
--- the state that a call reads
-pub state_read : (z : Inside) (v : ZoneState) → IsSound z v → (frame place : ℕ) (state : FrameState) →
-    frame < frame_count v → place ≡ frame → state ≡ get_or z.frames.items place state →
-    slice_get z.frames.items frame ≡ Some state
-state_read z v sound frame place state within is at =
-    slice_get_read z.frames.items (frame_count v) frame state (sym sound.frames.count) within
-    (at ∙ ap (λ (k : ℕ). get_or z.frames.items k state) is)
-
 -- what the note of a page says of it
 pub movable_seen : (z : Inside) (v : ZoneState) (page : ℕ) (note : Note) → Noted z v page note →
     (nat_eq note.pins 0 && not note.unmovable) ≡ can_move v page
 movable_seen z v page note noted = λ i. nat_eq (noted.fits.pins i) 0 && not (noted.unmovable i)
-
-pub if_zero : (n : ℕ) (b : Bool) → n ≡ 0 → (nat_eq n 0 && b) ≡ b
-if_zero n b e = ap (λ t. t && b) (eq-eqb n 0 e)
-
-pub if_not_zero : (n : ℕ) (b : Bool) → (n ≡ 0 → ⊥) → (nat_eq n 0 && b) ≡ nat_eq n 0
-if_not_zero n b ne = elim (eqb_tells n 0) [ inl is ↦ absurd (ne is.1) | inr isnt ↦ ap (λ t. t && b) isnt.0 ∙ sym isnt.0 ]
 
 -- the flags that are noted of a page
 pub flags_seen : (z : Inside) (v : ZoneState) (page : ℕ) (note : Note) → Noted z v page note → page_flags note.unmovable note.dirty ≡ flags_of v page
@@ -235,22 +222,6 @@ no_huge_seen frames v fit frame state within at ne =
     when_not (is_held v frame) (λ held.
     (let two : Some state ≡ Some Huge = sym at ∙ fit.of_block frame within held in let same : state ≡ Huge = cc in
     ne same))
-
--- whether a frame is stuck
-pub stuck_block : (marked held stays : Bool) → marked ≡ false → held ≡ true → true ≡ (not marked && (held || stays))
-stuck_block marked held stays m h = sym (λ i. not (m i) && (h i || stays))
-
-pub stuck_page : (v : ZoneState) → IsLawful v → (marked : Bool) (page frame : ℕ) → marked ≡ false →
-    map.get v.placement page ≡ Some (At frame) →
-    not (can_move v page) ≡ (not marked && (is_held v frame || stays_if_some v (holder v frame)))
-stuck_page v law marked page frame m at =
-    let clear = law.clear page frame (at_takes _ frame at) in
-    let holds = holder_at v law page frame at in
-    sym (λ i. not (m i) && (clear i || stays_if_some v (holds i)))
-
-pub stuck_none : (v : ZoneState) (marked : Bool) (frame : ℕ) → marked ≡ false → is_held v frame ≡ false →
-    holder v frame ≡ None → false ≡ (not marked && (is_held v frame || stays_if_some v (holder v frame)))
-stuck_none v marked frame m clear none = sym (λ i. not (m i) && (clear i || stays_if_some v (none i)))
 
 -- a page on its way, by its entry and by its serial
 pub migration_is : (o : Option Placement) (serial : ℕ) → entry_for o ≡ Migration serial →

@@ -1,5 +1,5 @@
 -- How the tables of a zone stand for its state.
-use Rattle.std.specs.Prelude.{◌≡◌, ℕ, ◌+◌, ◌<◌, true, List, length, nat_eq, if◌then◌else◌, slice_get, Option, Some, None, IsSome}
+use Rattle.std.specs.Prelude.{◌≡◌, ℕ, ◌+◌, ◌<◌, Bool, true, List, length, nat_eq, if◌then◌else◌, slice_get, Option, Some, None, IsSome}
 use Rattle.std.specs.FinMap as map
 use Rattle.frame_core.specs.Address.{InRange}
 use Rattle.frame_core.specs.declared.place.Address.{Address}
@@ -16,7 +16,8 @@ use Rattle.plain_core.specs.Moves.{Moves}
 use Rattle.plain_core.specs.declared.note.Note.{Note}
 use Rattle.state_core.specs.declared.placement.Placement.{Placement}
 use Rattle.state_core.specs.declared.placement.Placement.TheVariants.{At, Moving}
-use Rattle.state_core.specs.ZoneState.{ZoneState, frame_count, is_free, is_held, free_in_block, placement_at, words_frame}
+use Rattle.state_core.specs.Pairs.{can_move}
+use Rattle.state_core.specs.ZoneState.{ZoneState, frame_count, is_free, is_held, placement_at, words_frame}
 
 -- the state of a frame that a page with this placement takes up
 abbrev pub state_by : ℕ → Option Placement → ℕ → Option FrameState
@@ -58,9 +59,10 @@ pub record NotesFit (notes : List Note) (v : ZoneState) : Type 0 where
   pub count : length notes ≡ frame_count v
   pub each : (page : ℕ) (note : Note) → slice_get notes page ≡ Some note → IsSome note.placement → NoteFits note v page
 
--- how many frames of each pageblock are free
-pub record BlocksFit (free : List ℕ) (v : ZoneState) : Type 0 where
-  pub each : (block : ℕ) → block < v.blocks → slice_get free block ≡ Some (free_in_block v block)
+-- a frame that holds a page is noted as movable just where the page may be taken from it
+pub record MovableFit (movable : List Bool) (v : ZoneState) : Type 0 where
+  pub count : length movable ≡ frame_count v
+  pub each : (page frame : ℕ) → map.get v.placement page ≡ Some (At frame) → slice_get movable frame ≡ Some (can_move v page)
 
 -- the page of each serial, and how many were moved and put back; there is room for as many serials as for records
 pub record MovesFit (moves : Moves) (records : List Record) (room : ℕ) : Type 0 where

@@ -1,5 +1,4 @@
 pub mod Fits
-pub mod Found
 pub mod HandedOut
 pub mod HandedOutInside
 pub mod History

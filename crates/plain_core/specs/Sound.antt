@@ -1,16 +1,13 @@
 -- What contracts see of the fields of a zone, and what is true of them.
-use Rattle.std.specs.Prelude.{◌≡◌, ℕ, ◌<◌, Bool, false, List, length, slice_get, unwrap_or}
+use Rattle.std.specs.Prelude.{◌≡◌, length}
 use Rattle.plain_core.specs.declared.plain.PlainZone.TheInside.{Inside}
-use Rattle.state_core.specs.ZoneState.{ZoneState, frame_count, is_free}
+use Rattle.state_core.specs.ZoneState.{ZoneState, frame_count}
 use Rattle.state_core.specs.Lawful.{IsLawful}
-use Rattle.frame_core.specs.Below.{count_below}
-use Rattle.plain_core.specs.Fits.{FramesFit, EntriesFit, WordsFit, NotesFit, MovesFit, BlocksFit}
+use Rattle.plain_core.specs.Fits.{FramesFit, EntriesFit, WordsFit, NotesFit, MovesFit, MovableFit}
 use Rattle.plain_core.specs.HandedOut.{order_of}
 use Rattle.plain_core.specs.Notes.{placement_of, is_unmovable_of}
+use Rattle.scan_core.specs.Frames.{true_at}
 use Rattle.plain_core.specs.Tabulated.{tabulated, gathered}
-
-abbrev pub is_marked_of : List Bool → ℕ → Bool
-is_marked_of marked block = unwrap_or (slice_get marked block) false
 
 abbrev pub state_of : Inside → ZoneState
 state_of z = record {
@@ -19,11 +16,11 @@ state_of z = record {
   records = z.history.records;
   room = z.history.room;
   unmovable = gathered (is_unmovable_of z.notes) (length z.notes);
-  marked = gathered (is_marked_of z.marked) 8;
+  marked = gathered (true_at z.marked) 8;
   handed_out = tabulated (order_of z.handed_out) (length z.handed_out);
   placement = tabulated (placement_of z.notes) (length z.notes);
-  migrate = z.migrate;
-  free = z.free;
+  migrate = z.fingers.migrate;
+  free = z.fingers.free;
   round = z.history.round;
 }
 
@@ -31,12 +28,9 @@ state_of z = record {
 pub record IsSound (z : Inside) (v : ZoneState) : Type 0 where
   pub lawful : IsLawful v
   pub orders : length z.handed_out ≡ frame_count v
-  pub frames : FramesFit z.frames.items v
+  pub frames : FramesFit z.frames.states v
+  pub movable : MovableFit z.frames.movable v
   pub entries : EntriesFit z.tables v
   pub words : WordsFit z.words v
   pub notes : NotesFit z.notes v
   pub moves : MovesFit z.moves v.records v.room
-  pub free : z.free_frames ≡ count_below (is_free v) (frame_count v)
-  pub blocks : BlocksFit z.free_in_block v
-  -- where the search for a free frame begins
-  pub from : (frame : ℕ) → frame < z.free_from → is_free v frame ≡ false

@@ -9,7 +9,7 @@ ghost use Rattle.state_core.specs.ZoneState.{has_room, placement_at};
 ghost use Rattle.state_core.specs.declared.placement.Placement.TheVariants.{At};
 
 use crate::plain::PlainZone;
-use frame_core::{Address, ClientNo, FrameNo, FrameState, WordNo};
+use frame_core::{Address, ClientNo, FrameNo, WordNo};
 use journal_core::Record;
 use state_core::ZoneError;
 use table_core::Entry;
@@ -73,7 +73,7 @@ impl PlainZone {
         ensures step { self.new ≡ stored self.old client address word value }
         ensures lawful { IsLawful self.new }
     {
-        let FrameState::Holds(page) = self.frames[frame.get() as usize] else {
+        let Some(page) = self.holder(frame) else {
             unreachable!();
         };
         self.words.store(frame, word, value);

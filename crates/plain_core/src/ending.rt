@@ -10,7 +10,7 @@ ghost use Rattle.state_core.specs.ZoneState.{is_quiet};
 ghost use Rattle.state_core.specs.declared.placement.Placement.TheVariants.{Moving};
 
 use crate::plain::PlainZone;
-use frame_core::{Address, FrameNo, FrameState, PageNo, Serial, block_of};
+use frame_core::{Address, FrameNo, FrameState, PageNo, Serial};
 use journal_core::{Cause, Record};
 use state_core::{Audit, Look, Placement};
 use table_core::Entry;
@@ -85,16 +85,13 @@ impl PlainZone {
             source,
             target,
         } = *way;
-        let block = block_of(source).get() as usize;
-        self.free_frames += 1;
-        self.moves.arrive();
-        self.free_in_block[block] += 1;
-        self.free_from = self.free_from.min(source.get());
-        self.frames[source.get() as usize] = FrameState::Free;
-        self.frames[target.get() as usize] = FrameState::Holds(page);
+        let note = self.notes.get(page);
+        self.frames.put(source, FrameState::Free);
+        self.frames.put(target, FrameState::Holds(page));
+        self.frames.set_movable(target, note.can_move());
         self.words.write_in(target, copy);
         self.tables.to_present(serial, target);
-        let note = self.notes.get(page);
+        self.moves.arrive();
         self.notes.put(page, note.placed(Placement::At(target)));
         self.history.note(Record::Moved { serial });
     }
@@ -113,15 +110,12 @@ impl PlainZone {
             source,
             target,
         } = *way;
-        let block = block_of(target).get() as usize;
-        self.free_frames += 1;
-        self.moves.go_back();
-        self.free_in_block[block] += 1;
-        self.free_from = self.free_from.min(target.get());
-        self.frames[target.get() as usize] = FrameState::Free;
-        self.frames[source.get() as usize] = FrameState::Holds(page);
-        self.tables.to_present(serial, source);
         let note = self.notes.get(page);
+        self.frames.put(target, FrameState::Free);
+        self.frames.put(source, FrameState::Holds(page));
+        self.frames.set_movable(source, note.can_move());
+        self.tables.to_present(serial, source);
+        self.moves.go_back();
         self.notes.put(page, note.placed(Placement::At(source)));
         self.history.note(Record::Back { serial, cause });
     }

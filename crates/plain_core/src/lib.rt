@@ -16,7 +16,6 @@ mod note;
 mod notes;
 mod opening;
 mod plain;
-mod searches;
 
 pub use ending::Way;
 pub use plain::PlainZone;

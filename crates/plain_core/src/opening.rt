@@ -8,7 +8,8 @@ use crate::history::History;
 use crate::moves::Moves;
 use crate::notes::Notes;
 use crate::plain::PlainZone;
-use frame_core::{FrameState, ZoneNo, filled};
+use frame_core::ZoneNo;
+use scan_core::{Fingers, Frames};
 use state_core::ZoneError;
 use std::alloc::Global;
 use table_core::Tables;
@@ -28,7 +29,7 @@ impl PlainZone {
         ensures lawful { IfOk result (λ zone. IsLawful zone) }
     {
         let count = 512 * blocks;
-        let Ok(frames) = filled(alloc, FrameState::Free, count as usize) else {
+        let Ok(frames) = Frames::open(alloc, blocks) else {
             return Err(ZoneError::Memory);
         };
         let Ok(notes) = Notes::open(alloc, count) else {
@@ -59,11 +60,7 @@ impl PlainZone {
             moves,
             handed_out,
             marked: [false; 8],
-            free_frames: count,
-            free_in_block: [512; 8],
-            free_from: 0,
-            migrate: 0,
-            free: 0,
+            fingers: Fingers::new(),
             history,
         })
     }

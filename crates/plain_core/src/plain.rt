@@ -4,7 +4,8 @@ use crate::handed_out::HandedOut;
 use crate::history::History;
 use crate::moves::Moves;
 use crate::notes::Notes;
-use frame_core::{FrameState, ZoneNo};
+use frame_core::ZoneNo;
+use scan_core::{Fingers, Frames};
 use std::marker::Model;
 use table_core::Tables;
 use word_core::Words;
@@ -14,22 +15,14 @@ use word_core::Words;
 pub struct PlainZone {
     pub(crate) number: ZoneNo,
     pub(crate) blocks: u32,
-    /// By frame.
-    pub(crate) frames: Vec<FrameState>,
+    pub(crate) frames: Frames,
     pub(crate) tables: Tables,
     pub(crate) words: Words,
     pub(crate) notes: Notes,
     pub(crate) moves: Moves,
     pub(crate) handed_out: HandedOut,
     pub(crate) marked: [bool; 8],
-    /// How many frames are free.
-    pub(crate) free_frames: u32,
-    /// The free frames of each pageblock.
-    pub(crate) free_in_block: [u32; 8],
-    /// No frame below is free.
-    pub(crate) free_from: u32,
-    pub(crate) migrate: u32,
-    pub(crate) free: u32,
+    pub(crate) fingers: Fingers,
     pub(crate) history: History,
 }
 

@@ -1,13 +1,13 @@
-use Rattle.std.proofs.Common.{◌≡◌, [], ◌∷◌, ◌*◌, refl, subst, sym, false}
+use Rattle.std.proofs.Common.{◌≡◌, [], ◌∷◌, refl, subst, sym, false}
 use Rattle.plain_core.specs.declared.plain.PlainZone.TheInside.{Inside}
 use Rattle.state_core.specs.ZoneState.{ZoneState}
 use Rattle.plain_core.specs.Sound.{IsSound, state_of}
 use Rattle.state_core.specs.Steps.{opened}
 use Rattle.plain_core.proofs.Opened.{IsFresh, opened_view, opened_sound}
 use Rattle.plain_core.proofs.plain.PlainZone.open.Goals as goal
-use Rattle.plain_core.proofs.plain.PlainZone.open.Goals.{In-Ok-open-6}
+use Rattle.plain_core.proofs.plain.PlainZone.open.Goals.{After-new}
 
-abbrev new_zone : In-Ok-open-6 → Inside
+abbrev new_zone : After-new → Inside
 new_zone c = record {
   number = c.args.number;
   blocks = c.args.blocks;
@@ -18,34 +18,27 @@ new_zone c = record {
   moves = c.in-Ok-open-3.moves;
   handed_out = c.in-Ok-open-2.handed_out;
   marked = false ∷ false ∷ false ∷ false ∷ false ∷ false ∷ false ∷ false ∷ [];
-  free_frames = 512 * c.args.blocks;
-  free_in_block = 512 ∷ 512 ∷ 512 ∷ 512 ∷ 512 ∷ 512 ∷ 512 ∷ 512 ∷ [];
-  free_from = 0;
-  migrate = 0;
-  free = 0;
+  fingers = c.new.result;
   history = c.in-Ok-open-6.history;
 }
 
-fresh : (c : In-Ok-open-6) → IsFresh (new_zone c) c.args.number c.args.blocks c.args.places
+fresh : (c : After-new) → IsFresh (new_zone c) c.args.number c.args.blocks c.args.places
 fresh c = record {
   openable = c.requires;
   number_is = refl;
   blocks_is = refl;
-  frames = c.in-Ok.ensures.items;
+  frames = c.in-Ok.ensures.open;
   tables = c.in-Ok-open-4.ensures;
   words = c.in-Ok-open-5.ensures.blank;
   notes = c.in-Ok-open.ensures;
   handed_out = c.in-Ok-open-2.ensures;
   marked = refl;
-  free_frames = refl;
-  free_in_block = refl;
-  from = refl;
-  fingers = (refl, refl);
+  fingers = c.new.ensures;
   moves = c.in-Ok-open-3.ensures;
   history = c.in-Ok-open-6.ensures;
 }
 
-view : (c : In-Ok-open-6) → state_of (new_zone c) ≡ opened c.args.number c.args.blocks c.args.places
+view : (c : After-new) → state_of (new_zone c) ≡ opened c.args.number c.args.blocks c.args.places
 view c = opened_view (new_zone c) _ _ _ (fresh c)
 
 pub invariant_of-result : goal.invariant_of-result

@@ -1,28 +1,30 @@
-use Rattle.std.proofs.Common.{◌≡◌, ◌∙◌, ℕ, ap, subst, sym, arith, get_or, List, true}
-use Rattle.std.specs.Prelude.{Some, slice_set}
+use Rattle.std.proofs.Common.{◌≡◌, ◌∙◌, ℕ, ap, subst, sym, arith, List, true}
+use Rattle.std.specs.Prelude.{Option, Some, slice_set}
 use Rattle.std.specs.FinMap as map
-use Rattle.std.proofs.lemmas.Option.{get_or_from_slice_get}
-use Rattle.frame_core.specs.declared.state.FrameState.TheVariants.{Holds}
 use Rattle.plain_core.specs.declared.note.Note.{Note}
 use Rattle.plain_core.specs.declared.plain.PlainZone.TheInside.{Inside}
 use Rattle.plain_core.specs.Sound.{IsSound, state_of}
 use Rattle.state_core.specs.Steps.{stored}
-use Rattle.plain_core.proofs.Accessed.{Storing, resident, holder_is, store_view, store_sound}
-use Rattle.state_core.proofs.Facts.{spare}
+use Rattle.plain_core.proofs.Accessed.{Storing, resident, store_view, store_sound}
+use Rattle.state_core.proofs.Facts.{spare, frame_within}
+use Rattle.state_core.proofs.Holding.{holder_at}
+use Rattle.state_core.specs.declared.placement.Placement.TheVariants.{At}
 use Rattle.plain_core.proofs.plain.PlainZone.write.Goals as goal
 use Rattle.plain_core.proofs.plain.PlainZone.write.Goals.{After-note}
 
-pub index-requires : goal.index-requires
-index-requires c =
+same_page : (o : Option ℕ) (p q : ℕ) → o ≡ Some p → o ≡ Some q → p ≡ q
+same_page o p q e f = cc
+
+pub holder-requires : goal.holder-requires
+holder-requires c =
     let is = resident c.self.inside c.args.self.now (subst (IsSound c.self.inside) c.self.view_is c.self.invariant) c.args.address c.args.frame c.requires.frame in
-    omega (arith, is.frame_within, c.get.ensures.value, c.self.inside.frames.ok.0)
+    frame_within c.args.self.now (subst (IsSound c.self.inside) c.self.view_is c.self.invariant).lawful is.page (At c.args.frame) is.at
 
 pub unreachable-requires : goal.unreachable-requires
 unreachable-requires c =
-    let is = resident c.self.inside c.args.self.now (subst (IsSound c.self.inside) c.self.view_is c.self.invariant) c.args.address c.args.frame c.requires.frame in
-    c.in_default.not-Holds is.page
-    (c.index.ensures ∙ ap (λ (f : ℕ). get_or c.self.inside.frames.items f c.index.result.now) c.get.ensures.value
-    ∙ get_or_from_slice_get c.self.inside.frames.items c.args.frame (Holds is.page) c.index.result.now is.held)
+    let sound : IsSound c.self.inside c.args.self.now = subst (IsSound c.self.inside) c.self.view_is c.self.invariant in
+    let is = resident c.self.inside c.args.self.now sound c.args.address c.args.frame c.requires.frame in
+    c.in_default.not-Some is.page (c.holder.ensures.holder ∙ holder_at c.args.self.now sound.lawful is.page c.args.frame is.at)
 
 pub store-requires : goal.store-requires
 store-requires c =
@@ -32,14 +34,15 @@ store-requires c =
 pub get-note-requires : goal.get-note-requires
 get-note-requires c =
     let is = resident c.self.inside c.args.self.now (subst (IsSound c.self.inside) c.self.view_is c.self.invariant) c.args.address c.args.frame c.requires.frame in
-    let page = holder_is c.self.inside c.args.self.now c.args.address c.args.frame c.get.result c.in-Holds.page c.index.result.now is c.get.ensures.value c.index.ensures c.in-Holds.is in
+    let sound : IsSound c.self.inside c.args.self.now = subst (IsSound c.self.inside) c.self.view_is c.self.invariant in
+    let page : is.page ≡ c.in-Some.page = same_page _ _ _ (holder_at c.args.self.now sound.lawful is.page c.args.frame is.at) (sym c.holder.ensures.holder ∙ c.in-Some.is) in
     omega (arith, is.note_within, page)
 
-storing : (c : After-note) → Storing c.self.inside c.args.self.now c.args.client c.args.address c.in-Holds.page c.args.frame c.args.word c.args.value c.get-note.result c.note.new.self
+storing : (c : After-note) → Storing c.self.inside c.args.self.now c.args.client c.args.address c.in-Some.page c.args.frame c.args.word c.args.value c.get-note.result c.note.new.self
 storing c =
     let sound : IsSound c.self.inside c.args.self.now = subst (IsSound c.self.inside) c.self.view_is c.self.invariant in
     let is = resident c.self.inside c.args.self.now sound c.args.address c.args.frame c.requires.frame in
-    let page : is.page ≡ c.in-Holds.page = holder_is c.self.inside c.args.self.now c.args.address c.args.frame c.get.result c.in-Holds.page c.index.result.now is c.get.ensures.value c.index.ensures c.in-Holds.is in
+    let page : is.page ≡ c.in-Some.page = same_page _ _ _ (holder_at c.args.self.now sound.lawful is.page c.args.frame is.at) (sym c.holder.ensures.holder ∙ c.in-Some.is) in
     record {
       sound = sound;
       view = c.self.view_is;
@@ -55,20 +58,20 @@ storing c =
 abbrev after : After-note → List (List ℕ) → List Note → Inside
 after c rows notes = record c.self.inside { words = rows; notes = notes; history = c.note.new.self }
 
-notes_are : (c : After-note) → c.put.new.self ≡ slice_set c.self.inside.notes c.in-Holds.page (record c.get-note.result { dirty = true })
-notes_are c = c.put.ensures ∙ ap (slice_set c.self.inside.notes c.in-Holds.page) c.stored.ensures
+notes_are : (c : After-note) → c.put.new.self ≡ slice_set c.self.inside.notes c.in-Some.page (record c.get-note.result { dirty = true })
+notes_are c = c.put.ensures ∙ ap (slice_set c.self.inside.notes c.in-Some.page) c.stored.ensures
 
 view : (c : After-note) → state_of (after c c.store.new.self c.put.new.self) ≡ stored c.args.self.now c.args.client c.args.address c.args.word c.args.value
 view c = ap (λ (notes : List Note). state_of (after c c.store.new.self notes)) (notes_are c)
-    ∙ store_view c.self.inside c.args.self.now c.args.client c.args.address c.in-Holds.page c.args.frame c.args.word c.args.value c.get-note.result c.note.new.self (storing c)
+    ∙ store_view c.self.inside c.args.self.now c.args.client c.args.address c.in-Some.page c.args.frame c.args.word c.args.value c.get-note.result c.note.new.self (storing c)
 
 pub invariant_of-self : goal.invariant_of-self
 invariant_of-self c =
     let next = stored c.args.self.now c.args.client c.args.address c.args.word c.args.value in
-    let ideal = store_sound c.self.inside c.args.self.now c.args.client c.args.address c.in-Holds.page c.args.frame c.args.word c.args.value c.get-note.result c.note.new.self (storing c) in
+    let ideal = store_sound c.self.inside c.args.self.now c.args.client c.args.address c.in-Some.page c.args.frame c.args.word c.args.value c.get-note.result c.note.new.self (storing c) in
     subst (IsSound (after c c.store.new.self c.put.new.self)) (sym (view c))
     (subst (λ (notes : List Note). IsSound (after c c.store.new.self notes) next) (sym (notes_are c))
-    (subst (λ (rows : List (List ℕ)). IsSound (after c rows (slice_set c.self.inside.notes c.in-Holds.page (record c.get-note.result { dirty = true }))) next) (sym c.store.ensures.stored) ideal))
+    (subst (λ (rows : List (List ℕ)). IsSound (after c rows (slice_set c.self.inside.notes c.in-Some.page (record c.get-note.result { dirty = true }))) next) (sym c.store.ensures.stored) ideal))
 
 pub returns-clause-step : goal.returns-clause-step
 returns-clause-step c = view c
