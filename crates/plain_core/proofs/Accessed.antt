@@ -1,21 +1,19 @@
 -- A load and a store leave a zone sound.
-use Rattle.std.proofs.Common.{◌≡◌, ◌≢◌, ℕ, ◌+◌, ◌<◌, Bool, true, false, List, [], ◌∷◌, length, inl, inr, refl, sym, ap, subst, ◌∙◌, get_or, arith}
+use Rattle.std.proofs.Common.{◌≡◌, ◌≢◌, ℕ, ◌<◌, Bool, true, false, List, [], ◌∷◌, length, inl, inr, refl, sym, ap, subst, ◌∙◌, arith}
 use Rattle.std.specs.Prelude.{Option, Some, None, IsSome, is_some, slice_get, slice_set, unwrap_or, nat_eq, ◌&&◌, ◌||◌, if◌then◌else◌}
 use Rattle.std.specs.FinMap as map
 use Rattle.std.specs.Option.{option_and_then}
-use Rattle.std.specs.Vec.{with_item}
 use Rattle.std.proofs.lemmas.Bool.{eq-eqb}
 use Rattle.std.proofs.lemmas.Bool.Decides.{eqb_tells}
 use Rattle.std.proofs.lemmas.List.{length-set}
 use Rattle.std.proofs.lemmas.Option.{slice_get_within, get_or_from_slice_get}
 use Rattle.frame_core.proofs.Lists.{slice_get_set_same, slice_get_set_other}
 use Rattle.frame_core.specs.declared.place.Address.{Address}
-use Rattle.frame_core.specs.declared.state.FrameState.{FrameState}
 use Rattle.frame_core.specs.declared.state.FrameState.TheVariants.{Holds}
 use Rattle.journal_core.proofs.Maps.{no_test}
 use Rattle.journal_core.specs.declared.record.Record.TheVariants.{Load, Store}
 use Rattle.journal_core.specs.History.{page_at, is_page, last, dirty, pins, maps}
-use Rattle.journal_core.specs.Journal.{Journal}
+use Rattle.plain_core.specs.History.{History, told}
 use Rattle.journal_core.specs.Moves.{out}
 use Rattle.table_core.specs.declared.entry.Entry.TheVariants.{Absent, Present, Migration}
 use Rattle.word_core.specs.Words.{words_of, word_of, with_word}
@@ -29,10 +27,12 @@ use Rattle.state_core.specs.Access.{placement_refusal, value_at, loaded, stored}
 use Rattle.plain_core.specs.Fits.{entry_for, WordsFit, NoteFits, NotesFit}
 use Rattle.state_core.specs.ZoneState.{words_frame, ZoneState, placement_at}
 use Rattle.plain_core.specs.Sound.{IsSound, state_of}
-use Rattle.plain_core.specs.Found.{placement_of, is_unmovable_of, says_unmovable}
+use Rattle.plain_core.specs.Notes.{placement_of, is_unmovable_of, says_unmovable}
+use Rattle.state_core.specs.Steps.{value_at, loaded, stored}
 use Rattle.plain_core.specs.Tabulated.{tabulated, gathered}
-use Rattle.state_core.proofs.Quiet.{quiet_kept}
-use Rattle.plain_core.proofs.Tabulating.{tabulated_same, gathered_same}
+use Rattle.plain_core.proofs.Serials.{moves_kept}
+use Rattle.plain_core.proofs.Tabulating.{tabulated_same}
+use Rattle.plain_core.proofs.Tabulating.{gathered_same}
 use Rattle.state_core.proofs.Facts.{taken, skipped, page_named, frame_within, frames_differ, not_none}
 use Rattle.plain_core.proofs.Facts.{noted_view, held_by}
 use Rattle.state_core.proofs.Accessed.{lawful_stored, lawful_loaded}
@@ -53,19 +53,16 @@ migration_refused None serial e = cc
 migration_refused (Some (At frame)) serial e = cc
 migration_refused (Some (Moving s source target)) serial e = refl
 
-pub loaded_sound : (z : Inside) (v : ZoneState) → IsSound z v → (log : Journal) (client : ℕ) (address : Address) (frame word : ℕ) → placement_at v address ≡ Some (At frame) → length (out v.records) < v.room → IsSound (record z { journal = log }) (loaded v client address word)
-loaded_sound z v sound log client address frame word at spare = record {
+pub loaded_sound : (z : Inside) (v : ZoneState) → IsSound z v → (history : History) (client : ℕ) (address : Address) (frame word : ℕ) → placement_at v address ≡ Some (At frame) → length (out v.records) < v.room → IsSound (record z { history = history }) (loaded v client address word)
+loaded_sound z v sound history client address frame word at spare = record {
   lawful = lawful_loaded v sound.lawful spare client address frame word at;
   orders = sound.orders;
   frames = record { count = sound.frames.count; of_page = sound.frames.of_page; of_block = sound.frames.of_block; of_none = sound.frames.of_none };
   entries = record { each = sound.entries.each };
   words = record { count = sound.words.count; eight = sound.words.eight; each = sound.words.each };
   notes = record { count = sound.notes.count; each = λ page note e used. (let fit = sound.notes.each page note e used in record { dirty = fit.dirty; pins = fit.pins; maps = fit.maps }) };
-  counts = (let fit = sound.counts in record { free = fit.free; pages = fit.pages; huge = fit.huge; held = fit.held; isolated = fit.isolated; moved = fit.moved; back = fit.back; out = fit.out });
-  serials = (let fit = sound.serials in record { count = fit.count; each = fit.each; room = (let kept = fit.room in omega arith) });
-  blocks = record { each = sound.blocks.each };
-  quiet = sound.quiet ∙ sym (quiet_kept v.records (Load client address word (value_at v address word)) v.round refl sound.lawful.begun);
-  starts = record { frames = sound.starts.frames; pages = sound.starts.pages };
+  moves = moves_kept z.moves v.records v.room sound.moves (Load client address word (value_at v address word)) refl (λ serial. refl) refl refl (omega arith);
+  movable = record { count = sound.movable.count; each = sound.movable.each };
 }
 
 pub words_set_same : (rows : List (List ℕ)) (frame : ℕ) (row : List ℕ) → frame < length rows → words_of (slice_set rows frame row) frame ≡ row
@@ -184,10 +181,10 @@ pub record Resident (z : Inside) (v : ZoneState) (address : Address) (frame : �
   pub page : ℕ
   pub named : page_at v.records address ≡ Some page
   pub at : map.get v.placement page ≡ Some (At frame)
-  pub held : slice_get z.frames.items frame ≡ Some (Holds page)
-  pub frame_within : frame < length z.frames.items
+  pub held : slice_get z.frames.states frame ≡ Some (Holds page)
+  pub frame_within : frame < length z.frames.states
   pub row_within : frame < length z.words
-  pub note_within : page < length z.notes.items
+  pub note_within : page < length z.notes
 
 pub resident : (z : Inside) (v : ZoneState) → IsSound z v → (address : Address) (frame : ℕ) → placement_at v address ≡ Some (At frame) → Resident z v address frame
 resident z v sound address frame at =
@@ -198,48 +195,40 @@ resident z v sound address frame at =
       page = page.0;
       named = page.1;
       at = page.2;
-      held = held_by z.frames.items v sound.frames page.0 frame page.2;
+      held = held_by z.frames.states v sound.frames page.0 frame page.2;
       frame_within = omega (arith, within, sound.frames.count);
       row_within = omega (arith, within, sound.words.count);
       note_within = omega (arith, numbered, sound.notes.count);
     }
 
--- the page that the state of its frame names
-pub holder_is : (z : Inside) (v : ZoneState) (address : Address) (frame place other : ℕ) (state : FrameState) → (is : Resident z v address frame) → place ≡ frame → state ≡ get_or z.frames.items place state → state ≡ Holds other → is.page ≡ other
-holder_is z v address frame place other state is at found holds =
-    let here : get_or z.frames.items frame state ≡ Holds is.page = get_or_from_slice_get z.frames.items frame (Holds is.page) state is.held in
-    let same : Holds is.page ≡ Holds other = sym here ∙ ap (λ (f : ℕ). get_or z.frames.items f state) (sym at) ∙ sym found ∙ holds in
-    cc
-
 -- what is known when a word is written
-pub record Storing (z : Inside) (v : ZoneState) (client : ℕ) (address : Address) (page frame word value : ℕ) (note : Note) (log : Journal) : Type 0 where
+pub record Storing (z : Inside) (v : ZoneState) (client : ℕ) (address : Address) (page frame word value : ℕ) (note : Note) (history : History) : Type 0 where
   pub sound : IsSound z v
   pub view : state_of z ≡ v
   pub spare : length (out v.records) < v.room
   pub named : page_at v.records address ≡ Some page
   pub at : map.get v.placement page ≡ Some (At frame)
   pub small : word < 8
-  pub note_is : slice_get z.notes.items page ≡ Some note
-  pub records : log.records ≡ Store client address word value ∷ z.journal.records
-  pub room : log.room + 1 ≡ z.journal.room
+  pub note_is : slice_get z.notes page ≡ Some note
+  pub history_is : history ≡ told z.history (Store client address word value)
 
 -- the fields of a zone after a store
-abbrev pub after_store : Inside → ℕ → ℕ → ℕ → ℕ → Note → Journal → Inside
-after_store z page frame word value note log = record z { words = with_word z.words frame word value; notes = with_item z.notes page (record note { dirty = true }); journal = log }
+abbrev pub after_store : Inside → ℕ → ℕ → ℕ → ℕ → Note → History → Inside
+after_store z page frame word value note history = record z { words = with_word z.words frame word value; notes = slice_set z.notes page (record note { dirty = true }); history = history }
 
-pub store_view : (z : Inside) (v : ZoneState) (client : ℕ) (address : Address) (page frame word value : ℕ) (note : Note) (log : Journal) → Storing z v client address page frame word value note log → state_of (after_store z page frame word value note log) ≡ stored v client address word value
-store_view z v client address page frame word value note log known =
-    let kept = kept_notes z.notes.items page note (record note { dirty = true }) known.note_is refl refl in
-    let len = length-set z.notes.items page (record note { dirty = true }) in
-    let p : tabulated (placement_of (slice_set z.notes.items page (record note { dirty = true }))) (length (slice_set z.notes.items page (record note { dirty = true }))) ≡ tabulated (placement_of z.notes.items) (length z.notes.items) =
-    ap (tabulated (placement_of (slice_set z.notes.items page (record note { dirty = true })))) len ∙ tabulated_same _ _ (length z.notes.items) kept.0 in
-    let u : gathered (is_unmovable_of (slice_set z.notes.items page (record note { dirty = true }))) (length (slice_set z.notes.items page (record note { dirty = true }))) ≡ gathered (is_unmovable_of z.notes.items) (length z.notes.items) =
-    ap (gathered (is_unmovable_of (slice_set z.notes.items page (record note { dirty = true })))) len ∙ gathered_same _ _ (length z.notes.items) kept.1 in
-    let here : state_of (after_store z page frame word value note log) ≡ state_of (record z { journal = log }) = λ i. record (state_of (record z { journal = log })) { placement = p i; unmovable = u i } in
-    here ∙ noted_view z v log (Store client address word value) known.view known.records known.room
+pub store_view : (z : Inside) (v : ZoneState) (client : ℕ) (address : Address) (page frame word value : ℕ) (note : Note) (history : History) → Storing z v client address page frame word value note history → state_of (after_store z page frame word value note history) ≡ stored v client address word value
+store_view z v client address page frame word value note history known =
+    let kept = kept_notes z.notes page note (record note { dirty = true }) known.note_is refl refl in
+    let len = length-set z.notes page (record note { dirty = true }) in
+    let p : tabulated (placement_of (slice_set z.notes page (record note { dirty = true }))) (length (slice_set z.notes page (record note { dirty = true }))) ≡ tabulated (placement_of z.notes) (length z.notes) =
+    ap (tabulated (placement_of (slice_set z.notes page (record note { dirty = true })))) len ∙ tabulated_same _ _ (length z.notes) kept.0 in
+    let u : gathered (is_unmovable_of (slice_set z.notes page (record note { dirty = true }))) (length (slice_set z.notes page (record note { dirty = true }))) ≡ gathered (is_unmovable_of z.notes) (length z.notes) =
+    ap (gathered (is_unmovable_of (slice_set z.notes page (record note { dirty = true })))) len ∙ gathered_same _ _ (length z.notes) kept.1 in
+    let here : state_of (after_store z page frame word value note history) ≡ state_of (record z { history = history }) = λ i. record (state_of (record z { history = history })) { placement = p i; unmovable = u i } in
+    here ∙ noted_view z v history (Store client address word value) known.view known.history_is
 
-pub store_sound : (z : Inside) (v : ZoneState) (client : ℕ) (address : Address) (page frame word value : ℕ) (note : Note) (log : Journal) → Storing z v client address page frame word value note log → IsSound (after_store z page frame word value note log) (stored v client address word value)
-store_sound z v client address page frame word value note log known =
+pub store_sound : (z : Inside) (v : ZoneState) (client : ℕ) (address : Address) (page frame word value : ℕ) (note : Note) (history : History) → Storing z v client address page frame word value note history → IsSound (after_store z page frame word value note history) (stored v client address word value)
+store_sound z v client address page frame word value note history known =
     let sound = known.sound in
     let spare = known.spare in
     record {
@@ -248,10 +237,7 @@ store_sound z v client address page frame word value note log known =
       frames = record { count = sound.frames.count; of_page = sound.frames.of_page; of_block = sound.frames.of_block; of_none = sound.frames.of_none };
       entries = record { each = sound.entries.each };
       words = stored_words z.words v sound.lawful sound.words client address page frame word value known.named known.at known.small;
-      notes = stored_notes z.words v sound.lawful sound.words client address page frame word value known.named known.at known.small z.notes.items note sound.notes known.note_is;
-      counts = (let fit = sound.counts in record { free = fit.free; pages = fit.pages; huge = fit.huge; held = fit.held; isolated = fit.isolated; moved = fit.moved; back = fit.back; out = fit.out });
-      serials = (let fit = sound.serials in record { count = fit.count; each = fit.each; room = (let kept = fit.room in omega arith) });
-      blocks = record { each = sound.blocks.each };
-      quiet = sound.quiet ∙ sym (quiet_kept v.records (Store client address word value) v.round refl sound.lawful.begun);
-      starts = record { frames = sound.starts.frames; pages = sound.starts.pages };
+      notes = stored_notes z.words v sound.lawful sound.words client address page frame word value known.named known.at known.small z.notes note sound.notes known.note_is;
+      moves = moves_kept z.moves v.records v.room sound.moves (Store client address word value) refl (λ serial. refl) refl refl (omega arith);
+      movable = record { count = sound.movable.count; each = sound.movable.each };
     }

@@ -1,5 +1,5 @@
 -- The page of a pair is on its way: how each table changes.
-use Rattle.std.proofs.Common.{◌≡◌, ◌≢◌, ℕ, zero, suc, ◌+◌, ◌-◌, ◌<◌, ◌≤◌, Bool, true, false, List, [], ◌∷◌, ◌++◌, length, ◌⊎◌, inl, inr, refl, sym, ap, ◌∙◌, arith}
+use Rattle.std.proofs.Common.{◌≡◌, ◌≢◌, ℕ, ◌<◌, Bool, true, false, List, length, ◌⊎◌, inl, inr, refl, sym, ap, ◌∙◌, arith}
 use Rattle.std.specs.Prelude.{Some, None, slice_get, slice_set, nat_eq, ◌||◌, if◌then◌else◌}
 use Rattle.std.proofs.lemmas.Bool.{eq-eqb}
 use Rattle.std.proofs.lemmas.Bool.Decides.{eqb_tells}
@@ -7,43 +7,11 @@ use Rattle.std.proofs.lemmas.List.{length-set}
 use Rattle.frame_core.proofs.Lists.{slice_get_set_same, slice_get_set_other}
 use Rattle.frame_core.specs.declared.state.FrameState.{FrameState}
 use Rattle.frame_core.specs.declared.state.FrameState.TheVariants.{Source, Target}
-use Rattle.journal_core.specs.declared.record.Record.{Record}
-use Rattle.journal_core.specs.declared.record.Record.TheVariants.{Isolate}
-use Rattle.journal_core.specs.Moves.{isolated, page_of}
-use Rattle.plain_core.specs.declared.counts.Counts.{Counts}
-use Rattle.state_core.specs.declared.round.Pair.{Pair}
 use Rattle.state_core.specs.declared.placement.Placement.TheVariants.{At, Moving}
-use Rattle.plain_core.specs.Fits.{state_by, WordsFit, SerialsFit, CountsFit}
-use Rattle.state_core.specs.Lawful.{IsLawful}
-use Rattle.state_core.specs.Carrying.{settled}
-use Rattle.state_core.specs.Pairs.{IsPair}
-use Rattle.state_core.specs.ZoneState.{ZoneState, frame_count, is_free}
+use Rattle.plain_core.specs.Fits.{state_by, WordsFit}
+use Rattle.state_core.specs.ZoneState.{ZoneState, frame_count}
 use Rattle.state_core.proofs.Placed.{untrue}
-use Rattle.state_core.proofs.Settled.{can_isolate, isolated_others, isolated_target, isolated_fewer, target_within, same_pages}
-use Rattle.plain_core.proofs.Settling.{FramesSettled, WordsSettled, IsFreer}
-
--- one more at the end of a list
-pub pushed_last : (xs : List ℕ) (x i : ℕ) → i ≡ length xs → slice_get (xs ++ x ∷ []) i ≡ Some x
-pushed_last [] x zero e = refl
-pushed_last [] x (suc i) e = absurd (omega arith)
-pushed_last (y ∷ ys) x zero e = absurd (omega arith)
-pushed_last (y ∷ ys) x (suc i) e = pushed_last ys x i (omega arith)
-
-pub pushed_other : (xs : List ℕ) (x i : ℕ) → i ≢ length xs → slice_get (xs ++ x ∷ []) i ≡ slice_get xs i
-pushed_other [] x zero ne = absurd (ne refl)
-pushed_other [] x (suc i) ne = refl
-pushed_other (y ∷ ys) x zero ne = refl
-pushed_other (y ∷ ys) x (suc i) ne = pushed_other ys x i (λ e. ne (ap suc e))
-
-length_pushed : (xs : List ℕ) (x : ℕ) → length (xs ++ x ∷ []) ≡ length xs + 1
-length_pushed [] x = omega arith
-length_pushed (y ∷ ys) x = omega (arith, length_pushed ys x)
-
--- fewer pages were isolated than there are records
-pub isolated_most : (records : List Record) → isolated records ≤ length records
-isolated_most [] = omega arith
-isolated_most (Isolate serial page ∷ older) = omega (arith, isolated_most older)
-isolated_most (_ ∷ older) = omega (arith, isolated_most older)
+use Rattle.plain_core.proofs.Settling.{FramesSettled, MovableSettled, WordsSettled}
 
 same_state : {A : Type 0} (x y z : A) → Some x ≡ Some y → z ≡ x → z ≡ y
 same_state x y z e f = cc
@@ -104,43 +72,5 @@ isolated_words rows v fit serial source target source_in target_in = record {
   ]);
 }
 
-module _ (v : ZoneState) (pair : Pair) (law : IsLawful v) (is : IsPair v pair.page pair.source pair.target) where
-  abbrev next : ZoneState
-  next = settled v (Isolate (isolated v.records) pair.page) pair.page (Moving (isolated v.records) pair.source pair.target)
-
-  pub isolated_freer : IsFreer next v pair.target
-  isolated_freer = record {
-    blocks = refl;
-    within = target_within v pair law is;
-    used = isolated_target v pair law is;
-    free = is.to.free;
-    others = λ g ne. sym (isolated_others v pair law is g ne);
-  }
-
-  pub isolated_start : (from : ℕ) → ((g : ℕ) → g < from → is_free v g ≡ false) → (g : ℕ) → g < from → is_free next g ≡ false
-  isolated_start from before g h = elim (eqb_tells g pair.target) [
-    | inl same ↦ ap (is_free next) same.1 ∙ isolated_target v pair law is
-    | inr other ↦ isolated_others v pair law is g other.1 ∙ before g h
-  ]
-
-  pub isolated_counts : (counts : Counts) → CountsFit counts v → CountsFit (record counts { free = counts.free - 1; isolated = counts.isolated + 1 }) next
-  isolated_counts counts fit = record {
-    free = omega (arith, fit.free, isolated_fewer v pair law is);
-    pages = fit.pages ∙ sym (same_pages v pair.page (At pair.source) (Moving (isolated v.records) pair.source pair.target) (can_isolate v pair law is) (Isolate (isolated v.records) pair.page));
-    huge = fit.huge;
-    held = fit.held;
-    isolated = omega (arith, fit.isolated);
-    moved = fit.moved;
-    back = fit.back;
-    out = omega (arith, fit.out);
-  }
-
-  pub isolated_serials : (pages : List ℕ) (capacity : ℕ) → SerialsFit pages capacity v → 0 < v.room → SerialsFit (pages ++ pair.page ∷ []) capacity next
-  isolated_serials pages capacity fit room = record {
-    count = omega (arith, length_pushed pages pair.page, fit.count);
-    each = λ serial. elim (eqb_tells (isolated v.records) serial) [
-      | inl same ↦ pushed_last pages pair.page serial (sym same.1 ∙ sym fit.count) ∙ sym (ap (λ b. if b then Some pair.page else page_of v.records serial) same.0)
-      | inr other ↦ pushed_other pages pair.page serial (λ e. other.1 (sym fit.count ∙ sym e)) ∙ fit.each serial ∙ sym (ap (λ b. if b then Some pair.page else page_of v.records serial) other.0)
-    ];
-    room = (let enough = fit.room in omega arith);
-  }
+pub isolated_movable : (movable : List Bool) (can : Bool) (serial source target : ℕ) → MovableSettled movable movable can (Moving serial source target)
+isolated_movable movable can serial source target = record { count = refl; here = λ g e. cc; kept = λ g gone. refl }

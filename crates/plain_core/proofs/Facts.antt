@@ -1,11 +1,11 @@
 -- What is known of a zone that is sound.
-use Rattle.std.proofs.Common.{◌≡◌, ◌≢◌, ℕ, ◌+◌, ◌-◌, ◌<◌, List, ◌∷◌, ap, ◌∙◌, arith}
-use Rattle.std.specs.Prelude.{Option, Some, slice_get, ◌||◌, if◌then◌else◌}
+use Rattle.std.proofs.Common.{◌≡◌, ℕ, List, ap, ◌∙◌}
+use Rattle.std.specs.Prelude.{Option, Some, slice_get}
 use Rattle.std.specs.FinMap as map
 use Rattle.frame_core.specs.declared.state.FrameState.{FrameState}
 use Rattle.frame_core.specs.declared.state.FrameState.TheVariants.{Holds}
 use Rattle.journal_core.specs.declared.record.Record.{Record}
-use Rattle.journal_core.specs.Journal.{Journal}
+use Rattle.plain_core.specs.History.{History, told}
 use Rattle.plain_core.specs.declared.plain.PlainZone.TheInside.{Inside}
 use Rattle.state_core.specs.declared.placement.Placement.{Placement}
 use Rattle.state_core.specs.declared.placement.Placement.TheVariants.{At}
@@ -19,8 +19,5 @@ pub held_by : (frames : List FrameState) (v : ZoneState) → FramesFit frames v 
 held_by frames v fit page frame e = fit.of_page page frame (Holds page) (ap (λ (o : Option Placement). state_by page o frame) e ∙ chosen frame _ _)
 
 -- one more record, and nothing else
-pub noted_view : (z : Inside) (v : ZoneState) (log : Journal) (entry : Record) → state_of z ≡ v → log.records ≡ entry ∷ z.journal.records → log.room + 1 ≡ z.journal.room → state_of (record z { journal = log }) ≡ noted v entry
-noted_view z v log entry view records room =
-    let left : log.room ≡ z.journal.room - 1 = omega arith in
-    let here : state_of (record z { journal = log }) ≡ noted (state_of z) entry = λ i. record (state_of z) { records = records i; room = left i } in
-    here ∙ ap (λ (u : ZoneState). noted u entry) view
+pub noted_view : (z : Inside) (v : ZoneState) (history : History) (entry : Record) → state_of z ≡ v → history ≡ told z.history entry → state_of (record z { history = history }) ≡ noted v entry
+noted_view z v history entry view is = ap (λ (h : History). state_of (record z { history = h })) is ∙ ap (λ (u : ZoneState). noted u entry) view

@@ -1,42 +1,33 @@
 -- What the tables of a zone answer.
-use Rattle.std.proofs.Common.{◌≡◌, ℕ, ◌+◌, ◌-◌, ◌*◌, ◌/◌, ◌<◌, ◌≤◌, Bool, true, false, not, List, length, refl, sym, ap, ◌∙◌, get_or, inl, inr, arith}
+use Rattle.std.proofs.Common.{◌≡◌, ℕ, ◌*◌, ◌<◌, ◌≤◌, Bool, true, false, not, List, length, refl, sym, ap, ◌∙◌, get_or, arith}
 use Rattle.std.specs.Prelude.{Option, Some, None, IsSome, IfSome, is_some, is_none, nat_eq, if◌then◌else◌, ◌&&◌, ◌||◌}
 use Rattle.std.specs.Option.{option_and_then}
 use Rattle.std.specs.FinMap.{get}
-use Rattle.std.proofs.lemmas.Option.{slice_get-get_or, slice_get_past, get_or_from_slice_get}
-use Rattle.std.proofs.lemmas.Bool.Decides.{leb_tells}
-use Rattle.frame_core.proofs.Searches.{some_one, lowest_same, count_some}
-use Rattle.frame_core.specs.Below.{lowest}
+use Rattle.std.proofs.lemmas.Option.{slice_get-get_or, slice_get_past}
+use Rattle.frame_core.proofs.Searches.{some_one, lowest_same, count_same, count_from_same}
+use Rattle.frame_core.specs.Below.{lowest, count_below, some_below}
 use Rattle.frame_core.specs.declared.state.FrameState.{FrameState}
-use Rattle.frame_core.specs.declared.state.FrameState.TheVariants.{Free, Holds, Source, Target, Huge}
+use Rattle.frame_core.specs.declared.state.FrameState.TheVariants.{Holds, Source, Target}
 use Rattle.plain_core.specs.declared.note.Note.{Note}
 use Rattle.plain_core.specs.declared.plain.PlainZone.TheInside.{Inside}
 use Rattle.state_core.specs.declared.placement.Placement.{Placement}
 use Rattle.state_core.specs.declared.placement.Placement.TheVariants.{At, Moving}
 use Rattle.plain_core.specs.Fits.{state_by, FramesFit}
-use Rattle.plain_core.specs.Sound.{state_of, IsSound}
-use Rattle.state_core.specs.ZoneState.{ZoneState, frame_count, takes_up, is_used, is_held, is_free, lowest_free_frame, lowest_unused_page}
-use Rattle.plain_core.specs.Found.{free_at, is_free_state, placement_of}
+use Rattle.plain_core.specs.Sound.{state_of}
+use Rattle.state_core.specs.ZoneState.{ZoneState, frame_count, takes_up, covers, is_used, is_held, is_free, lowest_free_frame, lowest_unused_page, is_whole as whole_block}
+use Rattle.scan_core.specs.Frames.{free_at, is_free_state, free_frames, is_whole, blocks_of}
+use Rattle.plain_core.specs.Notes.{placement_of, is_in_use}
+use Rattle.plain_core.specs.HandedOut.{order_of, held_at}
 use Rattle.plain_core.specs.Tabulated.{tabulated}
 use Rattle.plain_core.proofs.Tabulating.{get_tabulated_all}
-use Rattle.state_core.proofs.Finding.{count_from_some}
+
+pub some_when : (o : Option Placement) → is_none o ≡ false → is_some o ≡ true
+some_when None e = cc
+some_when (Some placement) e = refl
 
 pub some_is : (o : Option ℕ) (i : ℕ) → IsSome o → IfSome o (λ z. z ≡ i) → o ≡ Some i
 some_is None i s e = cc
 some_is (Some z) i s e = ap Some e
-
-pub at_free : (frames : List FrameState) (i : ℕ) (d : FrameState) → i < length frames → get_or frames i d ≡ Free → free_at frames i ≡ true
-at_free frames i d h e = ap is_free_state (slice_get-get_or frames i d h ∙ ap Some e)
-
-not_free : (state : FrameState) → (state ≡ Free → ⊥) → is_free_state (Some state) ≡ false
-not_free Free ne = absurd (ne refl)
-not_free (Holds page) ne = refl
-not_free (Source serial) ne = refl
-not_free (Target serial) ne = refl
-not_free Huge ne = refl
-
-pub at_used : (frames : List FrameState) (i : ℕ) (d : FrameState) → i < length frames → (get_or frames i d ≡ Free → ⊥) → free_at frames i ≡ false
-at_used frames i d h ne = ap is_free_state (slice_get-get_or frames i d h) ∙ not_free (get_or frames i d) ne
 
 pub placement_at_note : (notes : List Note) (page : ℕ) (d : Note) → page < length notes → placement_of notes page ≡ (get_or notes page d).placement
 placement_at_note notes page d h = ap (option_and_then (λ (note : Note). note.placement)) (slice_get-get_or notes page d h)
@@ -81,39 +72,45 @@ lowest_free_seen frames v fit =
     lowest_same (free_at frames) (is_free v) (length frames) (λ frame h. free_seen frames v fit frame (omega (arith, h, fit.count)))
     ∙ ap (lowest (is_free v)) fit.count
 
-pub placements_seen : (z : Inside) → get (state_of z).placement ≡ placement_of z.notes.items
-placements_seen z = λ i page. get_placements z.notes.items page i
+pub placements_seen : (z : Inside) → get (state_of z).placement ≡ placement_of z.notes
+placements_seen z = λ i page. get_placements z.notes page i
 
-pub lowest_unused_seen : (z : Inside) (v : ZoneState) → state_of z ≡ v → length z.notes.items ≡ frame_count v → lowest (λ page. is_none (placement_of z.notes.items page)) (length z.notes.items) ≡ lowest_unused_page v
+pub lowest_unused_seen : (z : Inside) (v : ZoneState) → state_of z ≡ v → length z.notes ≡ frame_count v → lowest (λ page. is_none (placement_of z.notes page)) (length z.notes) ≡ lowest_unused_page v
 lowest_unused_seen z v view count =
-    ap (λ (placed : ℕ → Option Placement). lowest (λ page. is_none (placed page)) (length z.notes.items)) (sym (placements_seen z))
-    ∙ ap (λ (u : ZoneState). lowest (λ page. is_none (get u.placement page)) (length z.notes.items)) view
+    ap (λ (placed : ℕ → Option Placement). lowest (λ page. is_none (placed page)) (length z.notes)) (sym (placements_seen z))
+    ∙ ap (λ (u : ZoneState). lowest (λ page. is_none (get u.placement page)) (length z.notes)) view
     ∙ ap (lowest (λ page. is_none (get v.placement page))) count
 
-some_not_none : (o : Option Placement) → is_some o ≡ true → is_none o ≡ false
-some_not_none None e = cc
-some_not_none (Some placement) e = refl
+-- the counts of free frames and of pageblocks that are free as a whole
+pub free_counted : (frames : List FrameState) (v : ZoneState) → FramesFit frames v → free_frames frames ≡ count_below (is_free v) (frame_count v)
+free_counted frames v fit =
+    count_same (free_at frames) (is_free v) (length frames) (λ frame h. free_seen frames v fit frame (omega (arith, h, fit.count)))
+    ∙ ap (count_below (is_free v)) fit.count
 
--- where the searches begin
-pub not_free_before : (z : Inside) (v : ZoneState) → IsSound z v → (frame : ℕ) → frame < z.free_from → free_at z.frames.items frame ≡ false
-not_free_before z v sound frame h = elim (leb_tells (frame_count v) frame) [
-  | inl past ↦ ap is_free_state (slice_get_past z.frames.items frame (omega (arith, past.1, sound.frames.count)))
-  | inr within ↦ free_seen z.frames.items v sound.frames frame within.1 ∙ sound.starts.frames frame h
-]
+pub whole_counted : (frames : List FrameState) (v : ZoneState) → FramesFit frames v → count_below (is_whole frames) (blocks_of frames) ≡ count_below (whole_block v) v.blocks
+whole_counted frames v fit =
+    let blocks : blocks_of frames ≡ v.blocks = omega (arith, fit.count) in
+    count_same (is_whole frames) (whole_block v) (blocks_of frames) (λ block h.
+    ap (λ n. nat_eq n 512) (count_from_same (free_at frames) (is_free v) (512 * block) 512 (λ frame low high. free_seen frames v fit frame (omega (arith, h, blocks, high)))))
+    ∙ ap (count_below (whole_block v)) blocks
 
-pub used_before : (z : Inside) (v : ZoneState) → state_of z ≡ v → IsSound z v → (page : ℕ) → page < z.unused_from → is_none (placement_of z.notes.items page) ≡ false
-used_before z v view sound page h =
-    some_not_none _ (ap (λ (placed : ℕ → Option Placement). is_some (placed page)) (sym (placements_seen z)) ∙ ap (λ (u : ZoneState). is_some (get u.placement page)) view ∙ sound.starts.pages page h)
+-- the counts of pages in use and of blocks that are handed out
+pub in_use_seen : (z : Inside) (v : ZoneState) → state_of z ≡ v → length z.notes ≡ frame_count v → count_below (is_in_use z.notes) (length z.notes) ≡ count_below (λ page. is_some (get v.placement page)) (frame_count v)
+in_use_seen z v view count =
+    ap (λ (placed : ℕ → Option Placement). count_below (λ page. is_some (placed page)) (length z.notes)) (sym (placements_seen z))
+    ∙ ap (λ (u : ZoneState). count_below (λ page. is_some (get u.placement page)) (length z.notes)) view
+    ∙ ap (count_below (λ page. is_some (get v.placement page))) count
 
--- a free frame is counted, and counted in its pageblock
-pub free_counted : (z : Inside) (v : ZoneState) → IsSound z v → (frame block : ℕ) → is_free v frame ≡ true → frame < frame_count v → block ≡ frame / 512 → (1 ≤ z.counts.free) × (1 ≤ get_or z.free_in_block block 0)
-free_counted z v sound frame block free within at =
-    let all = count_some (is_free v) (frame_count v) frame within free in
-    let here = count_from_some (is_free v) (512 * block) 512 frame (omega (arith, at)) (omega (arith, at)) free in
-    let is = get_or_from_slice_get z.free_in_block block _ 0 (sound.blocks.each block (omega (arith, at, within))) in
-    (omega (arith, sound.counts.free, all), omega (arith, is, here))
+order_past : (orders : List (Option ℕ)) (first : ℕ) → length orders ≤ first → order_of orders first ≡ None
+order_past orders first h = ap (option_and_then (λ (order : Option ℕ). order)) (slice_get_past orders first h)
 
--- what the search answers is the lowest free frame of the state
-pub found_lowest : (z : Inside) (v : ZoneState) → IsSound z v → (frames : List FrameState) → frames ≡ z.frames.items → (o : Option ℕ) → o ≡ lowest (free_at frames) (length frames) → o ≡ lowest_free_frame v
-found_lowest z v sound frames same o found =
-    found ∙ ap (λ (fs : List FrameState). lowest (free_at fs) (length fs)) same ∙ lowest_free_seen z.frames.items v sound.frames
+orders_seen : (z : Inside) (v : ZoneState) → state_of z ≡ v → order_of z.handed_out ≡ get v.handed_out
+orders_seen z v view =
+    sym (λ i first. get_tabulated_all (order_of z.handed_out) (length z.handed_out) first (order_past z.handed_out) i)
+    ∙ ap (λ (u : ZoneState). get u.handed_out) view
+
+pub blocks_seen : (z : Inside) (v : ZoneState) → state_of z ≡ v → length z.handed_out ≡ frame_count v → count_below (λ first. is_some (order_of z.handed_out first)) (length z.handed_out) ≡ count_below (λ first. is_some (get v.handed_out first)) (frame_count v)
+blocks_seen z v view count = λ i. count_below (λ first. is_some (orders_seen z v view i first)) (count i)
+
+pub held_seen : (z : Inside) (v : ZoneState) → state_of z ≡ v → length z.handed_out ≡ frame_count v → count_below (held_at z.handed_out) (length z.handed_out) ≡ count_below (is_held v) (frame_count v)
+held_seen z v view count = λ i. count_below (λ frame. some_below (λ first. covers (orders_seen z v view i first) first frame) (count i)) (count i)

@@ -1,11 +1,16 @@
 pub mod Accessed
+pub mod Copies
 pub mod Departed
 pub mod Facts
 pub mod Finding
+pub mod InUse
 pub mod Opened
 pub mod Placing
+pub mod Quiet
 pub mod Rounds
+pub mod Scanning
 pub mod Seen
+pub mod Serials
 pub mod Settles
 pub mod Settling
 pub mod Tabulating

@@ -1,16 +1,14 @@
 -- A fresh page in a free frame: the tables of the zone go on fitting.
-use Rattle.std.proofs.Common.{◌≡◌, ◌≢◌, ℕ, ◌+◌, ◌-◌, ◌*◌, ◌/◌, ◌<◌, ◌≤◌, Bool, true, false, not, List, ◌∷◌, length, ◌⊎◌, inl, inr, refl, sym, ap, subst, ◌∙◌, arith}
+use Rattle.std.proofs.Common.{◌≡◌, ◌≢◌, ℕ, ◌<◌, ◌≤◌, Bool, true, false, not, List, length, ◌⊎◌, inl, inr, refl, sym, ap, subst, ◌∙◌, arith}
 use Rattle.std.specs.Prelude.{Option, Some, None, is_some, slice_get, slice_set, nat_eq, ◌&&◌, ◌||◌, if◌then◌else◌}
 use Rattle.std.specs.Option.{option_and_then}
 use Rattle.std.specs.FinMap as map
 use Rattle.std.specs.FinSet as set
-use Rattle.std.specs.Vec.{with_item}
 use Rattle.std.proofs.lemmas.Bool.{eq-eqb}
 use Rattle.std.proofs.lemmas.Bool.Decides.{eqb_tells}
 use Rattle.std.proofs.lemmas.List.{length-set}
-use Rattle.std.proofs.lemmas.Option.{slice_get_within, slice_get_past}
+use Rattle.std.proofs.lemmas.Option.{slice_get_past}
 use Rattle.frame_core.proofs.Lists.{slice_get_set_same, slice_get_set_other, slice_get_replicate}
-use Rattle.frame_core.proofs.Searches.{count_from_more, count_from_same}
 use Rattle.frame_core.specs.Address.{InRange}
 use Rattle.frame_core.specs.declared.place.Address.{Address}
 use Rattle.frame_core.specs.declared.state.FrameState.{FrameState}
@@ -18,7 +16,7 @@ use Rattle.frame_core.specs.declared.state.FrameState.TheVariants.{Holds, Source
 use Rattle.journal_core.proofs.Maps.{no_test}
 use Rattle.journal_core.specs.declared.record.Record.TheVariants.{Map}
 use Rattle.journal_core.specs.History.{same_address, page_at, last, dirty, pins, maps}
-use Rattle.journal_core.specs.Journal.{Journal}
+use Rattle.plain_core.specs.History.{History, told}
 use Rattle.table_core.specs.declared.entry.Entry.{Entry}
 use Rattle.table_core.specs.declared.entry.Entry.TheVariants.{Present}
 use Rattle.table_core.specs.Tables.{entry_at, ChangesOnly}
@@ -28,18 +26,21 @@ use Rattle.plain_core.specs.declared.note.Note.{Note}
 use Rattle.plain_core.specs.declared.plain.PlainZone.TheInside.{Inside}
 use Rattle.state_core.specs.declared.placement.Placement.{Placement}
 use Rattle.state_core.specs.declared.placement.Placement.TheVariants.{At, Moving}
-use Rattle.plain_core.specs.Fits.{state_by, entry_for, FramesFit, EntriesFit, WordsFit, NoteFits, NotesFit, BlocksFit}
-use Rattle.state_core.specs.ZoneState.{words_frame, ZoneState, takes_up, is_held, is_free, free_in_block, placement_at}
-use Rattle.plain_core.specs.Found.{placement_of, is_unmovable_of, says_unmovable}
+use Rattle.plain_core.specs.Fits.{state_by, entry_for, FramesFit, EntriesFit, WordsFit, NoteFits, NotesFit, MovableFit}
+use Rattle.state_core.specs.ZoneState.{words_frame, ZoneState, takes_up, is_held, is_free, placement_at}
+use Rattle.state_core.specs.Pairs.{can_move}
+use Rattle.state_core.proofs.Entries.{contains_insert_same, contains_insert_other}
+use Rattle.plain_core.specs.Notes.{placement_of, is_unmovable_of, says_unmovable}
 use Rattle.plain_core.specs.Sound.{state_of, IsSound}
 use Rattle.state_core.specs.Mapping.{placed}
 use Rattle.plain_core.specs.Tabulated.{tabulated, gathered}
 use Rattle.plain_core.proofs.Accessed.{words_set_same, words_set_other}
 use Rattle.state_core.proofs.Facts.{chosen, taken, skipped, takes_own}
 use Rattle.plain_core.proofs.Finding.{placement_past, get_placements}
-use Rattle.state_core.proofs.Placed.{CanPlace, untrue, clash, placed_lawful, at_page, at_other, untaken, unheld_frame, free_at_frame, free_away, fewer_free, more_pages, named_here, named_there, maps_one, maps_others, pins_none, pins_others}
-use Rattle.state_core.proofs.Quiet.{quiet_ended}
-use Rattle.plain_core.proofs.Tabulating.{tabulated_insert, gathered_insert, gathered_same}
+use Rattle.state_core.proofs.Placed.{CanPlace, untrue, clash, placed_lawful, at_page, at_other, untaken, unheld_frame, free_at_frame, free_away, named_here, named_there, maps_one, maps_others, pins_none, pins_others}
+use Rattle.plain_core.proofs.Serials.{moves_kept}
+use Rattle.plain_core.proofs.Tabulating.{tabulated_insert}
+use Rattle.plain_core.proofs.Tabulating.{gathered_insert, gathered_same}
 
 -- the note of the fresh page
 abbrev pub fresh_note : Bool → ℕ → Note
@@ -156,121 +157,102 @@ module _ (v : ZoneState) (client : ℕ) (address : Address) (unmovable : Bool) (
         ];
       }
 
-  -- the pageblock of the frame has one free frame more than afterwards
-  pub block_counted : (free : List ℕ) → BlocksFit free v → (block : ℕ) → block ≡ frame / 512 → slice_get free block ≡ Some (free_in_block next block + 1)
-  block_counted free fit block at =
-      let one : free_in_block v block ≡ free_in_block next block + 1 =
-      count_from_more (is_free next) (is_free v) (512 * block) 512 frame (omega (arith, at)) (omega (arith, at)) (free_at_frame v client address unmovable page frame can) can.free
-      (λ g ne. sym (free_away v client address unmovable page frame can g ne)) in
-      fit.each block (omega (arith, at, can.within)) ∙ ap Some one
+  movable_here : can_move next page ≡ not unmovable
+  movable_here =
+      ap (λ n. nat_eq n 0 && not (set.contains next.unmovable page)) (pins_none v client address unmovable page frame can)
+      ∙ by_flag unmovable where
+        never_used : (b : Bool) → set.contains v.unmovable page ≡ b → b ≡ false
+        never_used true e = absurd (clash _ can.unused (can.lawful.unmovable page e))
+        never_used false e = refl
 
-  pub blocks_placed : (free : List ℕ) (block left : ℕ) → BlocksFit free v → block ≡ frame / 512 → slice_get free block ≡ Some (left + 1) → BlocksFit (slice_set free block left) next
-  blocks_placed free block left fit at before = record {
-    each = λ b h. elim (eqb_tells b block) [
+        by_flag : (b : Bool) → not (set.contains (if b then set.insert v.unmovable page else v.unmovable) page) ≡ not b
+        by_flag true = ap not (contains_insert_same v.unmovable page page refl)
+        by_flag false = ap not (never_used (set.contains v.unmovable page) refl)
+
+  movable_there : (q : ℕ) → q ≢ page → can_move next q ≡ can_move v q
+  movable_there q ne =
+      ap (λ n. nat_eq n 0 && not (set.contains next.unmovable q)) (pins_others v client address unmovable page frame can q ne)
+      ∙ ap (λ b. nat_eq (pins v.records q) 0 && not b) (by_flag unmovable) where
+        by_flag : (b : Bool) → set.contains (if b then set.insert v.unmovable page else v.unmovable) q ≡ set.contains v.unmovable q
+        by_flag true = contains_insert_other v.unmovable page q ne
+        by_flag false = refl
+
+  pub movable_placed : (movable : List Bool) → MovableFit movable v → MovableFit (slice_set movable frame (not unmovable)) next
+  movable_placed movable fit = record {
+    count = length-set movable frame (not unmovable) ∙ fit.count;
+    each = λ q g e. elim (eqb_tells q page) [
       | inl same ↦
-          (let counted = block_counted free fit block at in
-          let equal : left + 1 ≡ free_in_block next block + 1 = (let both : Some (left + 1) ≡ Some (free_in_block next block + 1) = sym before ∙ counted in cc) in
-          let now : left ≡ free_in_block next block = omega (arith, equal) in
-          slice_get_set_same free block b left same.1 (slice_get_within free block _ before) ∙ ap Some (now ∙ ap (free_in_block next) (sym same.1)))
+          (let here : g ≡ frame = (let one : Some (At g) ≡ Some (At frame) = sym e ∙ ap (map.get next.placement) same.1 ∙ at_page v client address unmovable page frame can in cc) in
+          slice_get_set_same movable frame g (not unmovable) here (omega (arith, can.within, fit.count)) ∙ ap Some (sym (ap (can_move next) same.1 ∙ movable_here)))
       | inr other ↦
-          (let rest : free_in_block v b ≡ free_in_block next b =
-          count_from_same (is_free v) (is_free next) (512 * b) 512 (λ g low high. sym (free_away v client address unmovable page frame can g (λ is. other.1 (omega (arith, at, is, low, high))))) in
-          slice_get_set_other free block b left other.1 ∙ fit.each b h ∙ ap Some rest)
+          (let old : map.get v.placement q ≡ Some (At g) = sym (at_other v client address unmovable page frame can q other.1) ∙ e in
+          let apart : g ≢ frame = λ is. untrue _ (untaken v client address unmovable page frame can q) (ap (takes_up (map.get v.placement q)) (sym is) ∙ ap (λ (o : Option Placement). takes_up o g) old ∙ eq-eqb g g refl) in
+          slice_get_set_other movable frame g (not unmovable) apart ∙ fit.each q g old ∙ ap Some (sym (movable_there q other.1)))
     ];
   }
 
 -- what is known when a fresh page is placed
-pub record Placing (z : Inside) (v : ZoneState) (client : ℕ) (address : Address) (unmovable : Bool) (page frame block left : ℕ) (tables : List Entry) (log : Journal) : Type 0 where
+pub record Placing (z : Inside) (v : ZoneState) (client : ℕ) (address : Address) (unmovable : Bool) (page frame : ℕ) (tables : List Entry) (history : History) : Type 0 where
   pub sound : IsSound z v
   pub view : state_of z ≡ v
   pub can : CanPlace v address page frame
-  pub before : (q : ℕ) → q < page → is_some (map.get v.placement q) ≡ true
   pub tables_new : ChangesOnly z.tables tables address (Present frame)
-  pub block_is : block ≡ frame / 512
-  pub left_is : slice_get z.free_in_block block ≡ Some (left + 1)
-  pub records : log.records ≡ Map client address page ∷ z.journal.records
-  pub room : log.room + 1 ≡ z.journal.room
+  pub history_is : history ≡ told z.history (Map client address page)
 
 -- the fields of a zone after a fresh page was placed
-abbrev pub after_place : Inside → Bool → ℕ → ℕ → ℕ → ℕ → List Entry → Journal → Inside
-after_place z unmovable page frame block left tables log = record z {
-  frames = with_item z.frames frame (Holds page);
+abbrev pub after_place : Inside → Bool → ℕ → ℕ → List Entry → History → Inside
+after_place z unmovable page frame tables history = record z {
+  frames = record { states = slice_set z.frames.states frame (Holds page); movable = slice_set z.frames.movable frame (not unmovable) };
   tables = tables;
   words = with_words z.words frame blank_words;
-  notes = with_item z.notes page (fresh_note unmovable frame);
-  counts = record z.counts { free = z.counts.free - 1; pages = z.counts.pages + 1 };
-  free_in_block = slice_set z.free_in_block block left;
-  unused_from = page + 1;
-  quiet = false;
-  journal = log;
+  notes = slice_set z.notes page (fresh_note unmovable frame);
+  history = history;
 }
 
 movable_none : (o : Option Note) → option_and_then (λ (note : Note). note.placement) o ≡ None → says_unmovable o ≡ false
 movable_none None e = refl
 movable_none (Some note) e = ap (λ (o : Option Placement). is_some o && note.unmovable) e
 
-module _ (z : Inside) (v : ZoneState) (client : ℕ) (address : Address) (unmovable : Bool) (page frame block left : ℕ) (tables : List Entry) (log : Journal) (known : Placing z v client address unmovable page frame block left tables log) where
+module _ (z : Inside) (v : ZoneState) (client : ℕ) (address : Address) (unmovable : Bool) (page frame : ℕ) (tables : List Entry) (history : History) (known : Placing z v client address unmovable page frame tables history) where
   abbrev notes_new : List Note
-  notes_new = slice_set z.notes.items page (fresh_note unmovable frame)
+  notes_new = slice_set z.notes page (fresh_note unmovable frame)
 
-  pub place_sound : IsSound (after_place z unmovable page frame block left tables log) (placed v client address unmovable page frame)
+  pub place_sound : IsSound (after_place z unmovable page frame tables history) (placed v client address unmovable page frame)
   place_sound =
       let sound = known.sound in
       let can = known.can in
-      let counts = sound.counts in
       record {
         lawful = placed_lawful v client address unmovable page frame can;
         orders = sound.orders;
-        frames = frames_placed v client address unmovable page frame can z.frames.items sound.frames;
+        frames = frames_placed v client address unmovable page frame can z.frames.states sound.frames;
         entries = entries_placed v client address unmovable page frame can z.tables tables sound.entries known.tables_new;
         words = words_placed v client address unmovable page frame can z.words sound.words;
-        notes = notes_placed v client address unmovable page frame can z.notes.items sound.notes;
-        counts = record {
-          free = omega (arith, counts.free, fewer_free v client address unmovable page frame can);
-          pages = omega (arith, counts.pages, more_pages v client address unmovable page frame can);
-          huge = counts.huge;
-          held = counts.held;
-          isolated = counts.isolated;
-          moved = counts.moved;
-          back = counts.back;
-          out = counts.out;
-        };
-        serials = (let fit = sound.serials in let room = can.spare in record { count = fit.count; each = fit.each; room = (let kept = fit.room in omega arith) });
-        blocks = blocks_placed v client address unmovable page frame can z.free_in_block block left sound.blocks known.block_is known.left_is;
-        quiet = sym (quiet_ended v.records (Map client address page) v.round refl sound.lawful.begun);
-        starts = record {
-          frames = λ g h. elim (eqb_tells g frame) [
-            | inl same ↦ ap (is_free (placed v client address unmovable page frame)) same.1 ∙ free_at_frame v client address unmovable page frame can
-            | inr other ↦ free_away v client address unmovable page frame can g other.1 ∙ sound.starts.frames g h
-          ];
-          pages = λ q h. elim (eqb_tells q page) [
-            | inl same ↦ ap (λ (p : ℕ). is_some (map.get (placed v client address unmovable page frame).placement p)) same.1 ∙ ap is_some (at_page v client address unmovable page frame can)
-            | inr other ↦ ap is_some (at_other v client address unmovable page frame can q other.1) ∙ known.before q (omega (arith, h, other.1))
-          ];
-        };
+        notes = notes_placed v client address unmovable page frame can z.notes sound.notes;
+        moves = (let spare = can.spare in moves_kept z.moves v.records v.room sound.moves (Map client address page) refl (λ serial. refl) refl refl (omega arith));
+        movable = movable_placed v client address unmovable page frame can z.frames.movable sound.movable;
       }
 
   -- where the notes had the fresh page: nowhere
-  unused_before : placement_of z.notes.items page ≡ None
-  unused_before = sym (get_placements z.notes.items page) ∙ ap (λ (u : ZoneState). map.get u.placement page) known.view ∙ known.can.unused
+  unused_before : placement_of z.notes page ≡ None
+  unused_before = sym (get_placements z.notes page) ∙ ap (λ (u : ZoneState). map.get u.placement page) known.view ∙ known.can.unused
 
-  note_within : page < length z.notes.items
+  note_within : page < length z.notes
   note_within = omega (arith, known.can.numbered, known.sound.notes.count)
 
-  note_there : (q : ℕ) → q ≢ page → slice_get notes_new q ≡ slice_get z.notes.items q
-  note_there q ne = slice_get_set_other z.notes.items page q (fresh_note unmovable frame) ne
+  note_there : (q : ℕ) → q ≢ page → slice_get notes_new q ≡ slice_get z.notes q
+  note_there q ne = slice_get_set_other z.notes page q (fresh_note unmovable frame) ne
 
   note_here : slice_get notes_new page ≡ Some (fresh_note unmovable frame)
-  note_here = slice_get_set_same z.notes.items page page (fresh_note unmovable frame) refl note_within
+  note_here = slice_get_set_same z.notes page page (fresh_note unmovable frame) refl note_within
 
-  len : length notes_new ≡ length z.notes.items
-  len = length-set z.notes.items page (fresh_note unmovable frame)
+  len : length notes_new ≡ length z.notes
+  len = length-set z.notes page (fresh_note unmovable frame)
 
   placement_new : tabulated (placement_of notes_new) (length notes_new) ≡ map.insert (state_of z).placement page (At frame)
   placement_new =
       ap (tabulated (placement_of notes_new)) len
-      ∙ tabulated_insert (placement_of z.notes.items) (placement_of notes_new) (length z.notes.items) page (At frame)
-      (placement_past z.notes.items) (λ q past. placement_past notes_new q (omega (arith, len, past)))
+      ∙ tabulated_insert (placement_of z.notes) (placement_of notes_new) (length z.notes) page (At frame)
+      (placement_past z.notes) (λ q past. placement_past notes_new q (omega (arith, len, past)))
       (ap (option_and_then (λ (note : Note). note.placement)) note_here) (λ q ne. ap (option_and_then (λ (note : Note). note.placement)) (note_there q ne))
 
   unmovable_past : (notes : List Note) (n : ℕ) → length notes ≤ n → is_unmovable_of notes n ≡ false
@@ -279,21 +261,20 @@ module _ (z : Inside) (v : ZoneState) (client : ℕ) (address : Address) (unmova
   unmovable_new : (b : Bool) → unmovable ≡ b → gathered (is_unmovable_of notes_new) (length notes_new) ≡ (if b then set.insert (state_of z).unmovable page else (state_of z).unmovable)
   unmovable_new true is =
       ap (gathered (is_unmovable_of notes_new)) len
-      ∙ gathered_insert (is_unmovable_of z.notes.items) (is_unmovable_of notes_new) (length z.notes.items) page
-      (unmovable_past z.notes.items) (λ q past. unmovable_past notes_new q (omega (arith, len, past)))
+      ∙ gathered_insert (is_unmovable_of z.notes) (is_unmovable_of notes_new) (length z.notes) page
+      (unmovable_past z.notes) (λ q past. unmovable_past notes_new q (omega (arith, len, past)))
       (ap says_unmovable note_here ∙ is) (λ q ne. ap says_unmovable (note_there q ne))
   unmovable_new false is =
-      ap (gathered (is_unmovable_of notes_new)) len ∙ gathered_same (is_unmovable_of notes_new) (is_unmovable_of z.notes.items) (length z.notes.items) same where
-        same : (q : ℕ) → is_unmovable_of notes_new q ≡ is_unmovable_of z.notes.items q
+      ap (gathered (is_unmovable_of notes_new)) len ∙ gathered_same (is_unmovable_of notes_new) (is_unmovable_of z.notes) (length z.notes) same where
+        same : (q : ℕ) → is_unmovable_of notes_new q ≡ is_unmovable_of z.notes q
         same q = elim (eqb_tells q page) [
-          | inl at ↦ ap (is_unmovable_of notes_new) at.1 ∙ ap says_unmovable note_here ∙ is ∙ sym (ap (is_unmovable_of z.notes.items) at.1 ∙ movable_none (slice_get z.notes.items page) unused_before)
+          | inl at ↦ ap (is_unmovable_of notes_new) at.1 ∙ ap says_unmovable note_here ∙ is ∙ sym (ap (is_unmovable_of z.notes) at.1 ∙ movable_none (slice_get z.notes page) unused_before)
           | inr off ↦ ap says_unmovable (note_there q off.1)
         ]
 
-  pub place_view : state_of (after_place z unmovable page frame block left tables log) ≡ placed v client address unmovable page frame
+  pub place_view : state_of (after_place z unmovable page frame tables history) ≡ placed v client address unmovable page frame
   place_view =
-      let left_room : log.room ≡ z.journal.room - 1 = omega (arith, known.room) in
       let u = unmovable_new unmovable refl in
-      let here : state_of (after_place z unmovable page frame block left tables log) ≡ placed (state_of z) client address unmovable page frame =
-      λ i. record (state_of z) { records = known.records i; room = left_room i; placement = placement_new i; unmovable = u i } in
+      let here : state_of (after_place z unmovable page frame tables history) ≡ placed (state_of z) client address unmovable page frame =
+      λ i. record (state_of z) { records = (known.history_is i).records; room = (known.history_is i).room; round = (known.history_is i).round; placement = placement_new i; unmovable = u i } in
       here ∙ ap (λ (s : ZoneState). placed s client address unmovable page frame) known.view

@@ -1,50 +1,28 @@
 -- Whether a round begins calm, and what a zone is when it has begun.
-use Rattle.std.proofs.Common.{◌≡◌, ◌-◌, ◌*◌, ◌<◌, length, ◌∙◌}
-use Rattle.std.specs.Prelude.{Some, ◌&&◌}
-use Rattle.journal_core.specs.Moves.{out}
+use Rattle.std.proofs.Common.{◌≡◌, ◌*◌, length}
+use Rattle.std.specs.Prelude.{Some}
 use Rattle.plain_core.specs.declared.plain.PlainZone.TheInside.{Inside}
 use Rattle.state_core.specs.declared.round.RoundStart.{RoundStart}
 use Rattle.plain_core.specs.Sound.{IsSound}
 use Rattle.state_core.specs.ZoneState.{ZoneState}
-use Rattle.state_core.proofs.Rounds.{calm, begun, lawful_from, quiet_begun}
+use Rattle.state_core.proofs.Rounds.{begun, lawful_from}
 
--- the fields and the state when a round has begun
+-- the fields when a round has begun
 abbrev pub after_begin : Inside → RoundStart → Inside
-after_begin z start = record z { migrate = 0; free = 512 * z.blocks; round = Some start; quiet = start.calm }
+after_begin z start = record z { fingers = record { migrate = 0; free = 512 * z.blocks }; history = record z.history { round = Some start } }
 
 pub begun_sound : (z : Inside) (v : ZoneState) → IsSound z v → (start : RoundStart) → start.records ≡ length v.records →
     IsSound (after_begin z start) (begun v start)
 begun_sound z v sound start here = record {
   lawful = lawful_from v sound.lawful start here;
   orders = sound.orders;
-  frames = record {
-    count = sound.frames.count;
-    of_page = sound.frames.of_page;
-    of_block =
-        sound.frames.of_block;
-    of_none = sound.frames.of_none;
-  };
+  frames = record { count = sound.frames.count; of_page = sound.frames.of_page; of_block = sound.frames.of_block; of_none = sound.frames.of_none };
   entries = record { each = sound.entries.each };
   words = record { count = sound.words.count; eight = sound.words.eight; each = sound.words.each };
   notes = record {
     count = sound.notes.count;
-    each = λ page note at used.
-        (let fit = sound.notes.each page note at used in record { dirty = fit.dirty; pins = fit.pins; maps = fit.maps });
+    each = λ page note at used. (let fit = sound.notes.each page note at used in record { dirty = fit.dirty; pins = fit.pins; maps = fit.maps });
   };
-  counts = (let fit = sound.counts in
-      record {
-        free = fit.free;
-        pages = fit.pages;
-        huge = fit.huge;
-        held = fit.held;
-        isolated = fit.isolated;
-        moved =
-            fit.moved;
-        back = fit.back;
-        out = fit.out;
-      });
-  serials = (let fit = sound.serials in record { count = fit.count; each = fit.each; room = fit.room });
-  blocks = record { each = sound.blocks.each };
-  quiet = quiet_begun v.records start here;
-  starts = record { frames = sound.starts.frames; pages = sound.starts.pages };
+  moves = sound.moves;
+  movable = record { count = sound.movable.count; each = sound.movable.each };
 }

@@ -1,18 +1,19 @@
 -- What the tables of a sound zone say of its state.
-use Rattle.std.proofs.Common.{◌≡◌, ℕ, zero, suc, ◌+◌, ◌<◌, ◌≤◌, Bool, true, false, not, List, [], ◌∷◌, length, ◌⊎◌, inl, inr, refl, sym, ap, ◌∙◌, get_or, arith}
-use Rattle.std.specs.Prelude.{Option, Some, None, IsSome, IsTrue, is_some, slice_get, nat_eq, nat_lt, map as each, ◌&&◌, ◌||◌, if◌then◌else◌}
+use Rattle.std.proofs.Common.{◌≡◌, ℕ, zero, suc, ◌+◌, ◌<◌, ◌≤◌, Bool, true, false, not, List, [], ◌∷◌, length, ◌⊎◌, inl, inr, refl, sym, ap, ◌∙◌, arith}
+use Rattle.std.specs.Prelude.{Option, Some, None, IsSome, IsTrue, is_some, slice_get, nat_eq, map as each, ◌&&◌, if◌then◌else◌}
 use Rattle.std.specs.FinMap as map
 use Rattle.std.specs.FinSet as set
 use Rattle.std.specs.Option.{option_and_then}
-use Rattle.std.proofs.lemmas.Bool.{eq-eqb, eqb-true, ltb-true}
+use Rattle.std.proofs.lemmas.Bool.{eq-eqb, eqb-true}
 use Rattle.std.proofs.lemmas.Bool.Decides.{eqb_tells}
-use Rattle.std.proofs.lemmas.Option.{slice_get_read, slice_get_past, unwrap_or-slice_get}
+use Rattle.std.proofs.lemmas.Option.{slice_get_past}
 use Rattle.frame_core.proofs.Searches.{some_one}
 use Rattle.frame_core.specs.declared.place.Address.{Address}
+use Rattle.frame_core.specs.PageFlags.{page_flags}
 use Rattle.frame_core.specs.declared.flags.PageFlags.{PageFlags}
 use Rattle.frame_core.specs.declared.state.FrameState.{FrameState}
 use Rattle.frame_core.specs.declared.state.FrameState.TheVariants.{Free, Holds, Source, Target, Huge}
-use Rattle.journal_core.specs.History.{page_at, last, dirty as was_stored, pins, maps}
+use Rattle.journal_core.specs.History.{page_at, last, pins, maps}
 use Rattle.journal_core.specs.Moves.{page_of}
 use Rattle.table_core.specs.declared.entry.Entry.TheVariants.{Migration}
 use Rattle.word_core.specs.Words.{words_of}
@@ -23,18 +24,18 @@ use Rattle.state_core.specs.declared.placement.Placement.{Placement}
 use Rattle.state_core.specs.declared.placement.Placement.TheVariants.{At, Moving}
 use Rattle.plain_core.specs.Fits.{state_by, entry_for, FramesFit, WordsFit, NoteFits}
 use Rattle.state_core.specs.ZoneState.{words_frame, ZoneState, frame_count, takes_up, is_used, is_held, is_free}
-use Rattle.plain_core.specs.Found.{placement_of, is_unmovable_of, says_unmovable}
+use Rattle.plain_core.specs.Notes.{placement_of, is_unmovable_of, says_unmovable}
 use Rattle.state_core.specs.Lawful.{IsLawful, is_under}
-use Rattle.state_core.specs.Carrying.{words_now, flags_of}
-use Rattle.state_core.specs.Looking.{look_by, look_of}
-use Rattle.state_core.specs.Pairs.{holder, can_move, stays_if_some}
-use Rattle.plain_core.specs.Sound.{state_of, IsSound, is_marked_of}
+use Rattle.state_core.specs.Moving.{words_now, flags_of, look_by, look_of}
+use Rattle.state_core.specs.Pairs.{holder, can_move}
+use Rattle.scan_core.specs.Frames.{true_at}
+use Rattle.plain_core.specs.Sound.{state_of, IsSound}
 use Rattle.state_core.proofs.Facts.{frame_within}
 use Rattle.plain_core.proofs.Facts.{held_by}
-use Rattle.plain_core.proofs.Finding.{placements_seen, takes_state, placement_at_note}
+use Rattle.plain_core.proofs.Finding.{placements_seen, takes_state}
 use Rattle.state_core.proofs.Placed.{untrue}
 use Rattle.plain_core.proofs.Tabulating.{gathered_in, contains_gathered}
-use Rattle.state_core.proofs.Holding.{stands_at, at_takes, when_not, holder_at, holder_none}
+use Rattle.state_core.proofs.Holding.{stands_at, when_not, holder_none}
 
 abbrev numbers : ℕ → ℕ → List ℕ
 numbers first zero = []
@@ -68,9 +69,9 @@ words_seen rows v fit law page placement at =
 
 -- the marks
 pub mark_seen : (z : Inside) (v : ZoneState) → state_of z ≡ v → (block : ℕ) → block < 8 →
-    get_or z.marked block false ≡ set.contains v.marked block
+    true_at z.marked block ≡ set.contains v.marked block
 mark_seen z v view block h =
-    sym (unwrap_or-slice_get z.marked block false) ∙ sym (gathered_in (is_marked_of z.marked) 8 block h)
+    sym (gathered_in (true_at z.marked) 8 block h)
     ∙ ap (λ (u : ZoneState). set.contains u.marked block) view
 
 -- where a page in use is noted
@@ -78,7 +79,7 @@ unmovable_past : (notes : List Note) (page : ℕ) → length notes ≤ page → 
 unmovable_past notes page h = ap says_unmovable (slice_get_past notes page h)
 
 pub placement_seen : (z : Inside) (v : ZoneState) → state_of z ≡ v → (page : ℕ) →
-    placement_of z.notes.items page ≡ map.get v.placement page
+    placement_of z.notes page ≡ map.get v.placement page
 placement_seen z v view page =
     ap (λ (placed : ℕ → Option Placement). placed page) (sym (placements_seen z))
     ∙ ap (λ (u : ZoneState). map.get u.placement page) view
@@ -93,7 +94,7 @@ if_placed true b e = refl
 if_placed false b e = cc
 
 pub note_seen : (z : Inside) (v : ZoneState) → state_of z ≡ v → IsSound z v → (page : ℕ) →
-    IsSome (map.get v.placement page) → (note : Note) → slice_get z.notes.items page ≡ Some note → Noted z v page note
+    IsSome (map.get v.placement page) → (note : Note) → slice_get z.notes page ≡ Some note → Noted z v page note
 note_seen z v view sound page used note at =
     let placed : note.placement ≡ map.get v.placement page = sym (ap placement_in at) ∙ placement_seen z v view page in
     let some : is_some note.placement ≡ true = ap is_some placed ∙ used in
@@ -101,7 +102,7 @@ note_seen z v view sound page used note at =
       placement = placed;
       unmovable =
           sym (if_placed (is_some note.placement) note.unmovable some) ∙ sym (ap says_unmovable at)
-          ∙ sym (contains_gathered (is_unmovable_of z.notes.items) (length z.notes.items) page (unmovable_past z.notes.items))
+          ∙ sym (contains_gathered (is_unmovable_of z.notes) (length z.notes) page (unmovable_past z.notes))
           ∙ ap (λ (u : ZoneState). set.contains u.unmovable page) view;
       fits = sound.notes.each page note at some;
     } where
@@ -109,15 +110,9 @@ note_seen z v view sound page used note at =
       placement_in None = None
       placement_in (Some note) = note.placement
 
--- the note that a call reads
-pub note_read : (z : Inside) (v : ZoneState) → state_of z ≡ v → IsSound z v → (page place : ℕ) (note : Note) →
-    IsSome (map.get v.placement page) → place ≡ page → note ≡ get_or z.notes.items place note → Noted z v page note
-note_read z v view sound page place note used is at =
-    let numbered = sound.lawful.numbered page used in
-    let read : slice_get z.notes.items page ≡ Some note =
-    slice_get_read z.notes.items (frame_count v) page note (sym sound.notes.count) numbered
-    (at ∙ ap (λ (k : ℕ). get_or z.notes.items k note) is) in
-    note_seen z v view sound page used note read
+-- a page in use has a note
+pub note_within : (z : Inside) (v : ZoneState) → IsSound z v → (page : ℕ) → IsSome (map.get v.placement page) → page < length z.notes
+note_within z v sound page used = omega (arith, sound.lawful.numbered page used, sound.notes.count)
 
 -- a page puts a frame in no state but its own
 by_two : (page q serial : ℕ) (a b : Bool) →
@@ -187,35 +182,14 @@ none_seen frames v fit frame state at none =
     (let two : Some state ≡ Some (Holds page) = sym at ∙ held_by frames v fit page frame is in
     let same : state ≡ Holds page = cc in none page same))
 
--- the state that a call reads
-pub state_read : (z : Inside) (v : ZoneState) → IsSound z v → (frame place : ℕ) (state : FrameState) →
-    frame < frame_count v → place ≡ frame → state ≡ get_or z.frames.items place state →
-    slice_get z.frames.items frame ≡ Some state
-state_read z v sound frame place state within is at =
-    slice_get_read z.frames.items (frame_count v) frame state (sym sound.frames.count) within
-    (at ∙ ap (λ (k : ℕ). get_or z.frames.items k state) is)
-
 -- what the note of a page says of it
 pub movable_seen : (z : Inside) (v : ZoneState) (page : ℕ) (note : Note) → Noted z v page note →
     (nat_eq note.pins 0 && not note.unmovable) ≡ can_move v page
 movable_seen z v page note noted = λ i. nat_eq (noted.fits.pins i) 0 && not (noted.unmovable i)
 
-pub if_zero : (n : ℕ) (b : Bool) → n ≡ 0 → (nat_eq n 0 && b) ≡ b
-if_zero n b e = ap (λ t. t && b) (eq-eqb n 0 e)
-
-pub if_not_zero : (n : ℕ) (b : Bool) → (n ≡ 0 → ⊥) → (nat_eq n 0 && b) ≡ nat_eq n 0
-if_not_zero n b ne = elim (eqb_tells n 0) [ inl is ↦ absurd (ne is.1) | inr isnt ↦ ap (λ t. t && b) isnt.0 ∙ sym isnt.0 ]
-
 -- the flags that are noted of a page
-pub flags_seen : (z : Inside) (v : ZoneState) (page : ℕ) (note : Note) → Noted z v page note → (unmovable dirty : Bool) →
-    note.unmovable ≡ unmovable → note.dirty ≡ dirty → (flags : PageFlags) →
-    flags.0 ≡ (if unmovable then 1 else 0) + (if dirty then 2 else 0) → flags ≡ flags_of v page
-flags_seen z v page note noted unmovable dirty is_unmovable is_dirty flags bits =
-    let low : unmovable ≡ set.contains v.unmovable page = sym is_unmovable ∙ noted.unmovable in
-    let high : dirty ≡ was_stored v.records page = sym is_dirty ∙ noted.fits.dirty in
-    let both : flags.0 ≡ (if set.contains v.unmovable page then 1 else 0) + (if was_stored v.records page then 2 else 0) =
-    bits ∙ (λ i. (if low i then 1 else 0) + (if high i then 2 else 0)) in
-    λ i. record { 0 = both i }
+pub flags_seen : (z : Inside) (v : ZoneState) (page : ℕ) (note : Note) → Noted z v page note → page_flags note.unmovable note.dirty ≡ flags_of v page
+flags_seen z v page note noted = λ i. page_flags (noted.unmovable i) (noted.fits.dirty i)
 
 -- the block that a frame is of
 by_block : (page serial : ℕ) (a b : Bool) →
@@ -248,22 +222,6 @@ no_huge_seen frames v fit frame state within at ne =
     when_not (is_held v frame) (λ held.
     (let two : Some state ≡ Some Huge = sym at ∙ fit.of_block frame within held in let same : state ≡ Huge = cc in
     ne same))
-
--- whether a frame is stuck
-pub stuck_block : (marked held stays : Bool) → marked ≡ false → held ≡ true → true ≡ (not marked && (held || stays))
-stuck_block marked held stays m h = sym (λ i. not (m i) && (h i || stays))
-
-pub stuck_page : (v : ZoneState) → IsLawful v → (marked : Bool) (page frame : ℕ) → marked ≡ false →
-    map.get v.placement page ≡ Some (At frame) →
-    not (can_move v page) ≡ (not marked && (is_held v frame || stays_if_some v (holder v frame)))
-stuck_page v law marked page frame m at =
-    let clear = law.clear page frame (at_takes _ frame at) in
-    let holds = holder_at v law page frame at in
-    sym (λ i. not (m i) && (clear i || stays_if_some v (holds i)))
-
-pub stuck_none : (v : ZoneState) (marked : Bool) (frame : ℕ) → marked ≡ false → is_held v frame ≡ false →
-    holder v frame ≡ None → false ≡ (not marked && (is_held v frame || stays_if_some v (holder v frame)))
-stuck_none v marked frame m clear none = sym (λ i. not (m i) && (clear i || stays_if_some v (none i)))
 
 -- a page on its way, by its entry and by its serial
 pub migration_is : (o : Option Placement) (serial : ℕ) → entry_for o ≡ Migration serial →
@@ -311,16 +269,6 @@ own_when zone number serial o under source target here at same =
 pub own_under : (a b : Bool) → (a && b) ≡ true → b ≡ true
 own_under true b e = e
 own_under false b e = cc
-
--- the note of a page that a caller names
-pub note_of_page : (z : Inside) (v : ZoneState) → state_of z ≡ v → (notes : List Note) (place page : ℕ) (note : Note) →
-    notes ≡ z.notes.items → place ≡ page → true ≡ nat_lt place (length notes) → note ≡ get_or notes place note →
-    map.get v.placement page ≡ note.placement
-note_of_page z v view notes place page note same is within at =
-    let here : place < length notes = ltb-true _ _ (sym within) in
-    sym (placement_seen z v view page) ∙ ap (λ (ns : List Note). placement_of ns page) (sym same)
-    ∙ ap (placement_of notes) (sym is)
-    ∙ placement_at_note notes place note here ∙ ap (λ (n : Note). n.placement) (sym at)
 
 pub not_own : (zone number serial : ℕ) (o : Option Placement) (some : Bool) → some ≡ false →
     ((source target : ℕ) → o ≡ Some (Moving serial source target) → ⊥) →

@@ -1,31 +1,27 @@
 -- The move of a page ends: how each table changes.
-use Rattle.std.proofs.Common.{◌≡◌, ◌≢◌, ℕ, ◌+◌, ◌*◌, ◌<◌, ◌≤◌, Bool, true, false, List, length, ◌⊎◌, inl, inr, refl, sym, ap, ◌∙◌, get_or, arith}
+use Rattle.std.proofs.Common.{◌≡◌, ◌≢◌, ℕ, ◌<◌, Bool, true, false, List, length, ◌⊎◌, inl, inr, refl, sym, ap, ◌∙◌, arith}
 use Rattle.std.specs.FinMap as map
 use Rattle.std.specs.Prelude.{Some, None, slice_get, slice_set, nat_eq, ◌||◌, if◌then◌else◌}
 use Rattle.std.proofs.lemmas.Bool.{eq-eqb}
 use Rattle.std.proofs.lemmas.Bool.Decides.{eqb_tells}
 use Rattle.std.proofs.lemmas.List.{length-set}
 use Rattle.frame_core.proofs.Lists.{slice_get_set_same, slice_get_set_other}
-use Rattle.frame_core.proofs.Searches.{count_from_most}
-use Rattle.std.proofs.lemmas.Option.{get_or_from_slice_get}
 use Rattle.frame_core.specs.declared.state.FrameState.{FrameState}
 use Rattle.frame_core.specs.declared.state.FrameState.TheVariants.{Free, Holds}
 use Rattle.journal_core.specs.declared.record.Cause.{Cause}
-use Rattle.journal_core.specs.declared.record.Record.{Record}
 use Rattle.journal_core.specs.declared.record.Record.TheVariants.{Moved, Back}
+use Rattle.scan_core.specs.Frames.{Frames}
 use Rattle.word_core.specs.Words.{words_of, with_words}
-use Rattle.plain_core.specs.declared.counts.Counts.{Counts}
+use Rattle.journal_core.specs.Moves.{out}
 use Rattle.state_core.specs.declared.placement.Placement.TheVariants.{At, Moving}
-use Rattle.plain_core.specs.Fits.{state_by, WordsFit, SerialsFit, CountsFit, BlocksFit}
+use Rattle.plain_core.specs.Fits.{state_by, WordsFit}
 use Rattle.state_core.specs.Lawful.{IsLawful}
-use Rattle.state_core.specs.Carrying.{settled}
-use Rattle.state_core.specs.Ending.{IsSettled}
-use Rattle.state_core.specs.ZoneState.{ZoneState, frame_count, is_free}
+use Rattle.state_core.specs.Moving.{settled, IsSettled}
+use Rattle.state_core.specs.ZoneState.{ZoneState, frame_count}
 use Rattle.plain_core.proofs.Accessed.{words_set_same, words_set_other}
-use Rattle.plain_core.proofs.Departed.{isolated_most}
 use Rattle.state_core.proofs.Placed.{untrue}
-use Rattle.state_core.proofs.Settled.{can_move_on, can_go_back, moved_others, moved_source, back_others, back_target, source_used, target_used, source_within, target_in, moved_more, back_more, out_fewer, same_pages, at_page, at_other}
-use Rattle.plain_core.proofs.Settling.{FramesSettled, WordsSettled, IsFreer}
+use Rattle.state_core.proofs.Settled.{can_move_on, can_go_back, moved_source, back_target, target_in, out_fewer, at_page, at_other}
+use Rattle.plain_core.proofs.Settling.{FramesSettled, MovableSettled, WordsSettled}
 
 differs : (g x : ℕ) → nat_eq g x ≡ false → g ≢ x
 differs g x e same = untrue _ e (eq-eqb g x same)
@@ -106,60 +102,16 @@ back_words rows v fit serial source target within = record {
   eight = λ g has. fit.eight g (let at : g ≡ source = equals g source has in omega arith);
 }
 
+pub kept_movable : (movable : List Bool) (can noted : Bool) (kept : ℕ) → kept < length movable → noted ≡ can → MovableSettled movable (slice_set movable kept noted) can (At kept)
+kept_movable movable can noted kept within is = record {
+  count = length-set movable kept noted;
+  here = λ g e. (let at : kept ≡ g = cc in slice_get_set_same movable kept g noted (sym at) within ∙ ap Some is);
+  kept = λ g gone. slice_get_set_other movable kept g noted (differs g kept gone);
+}
+
 module _ (v : ZoneState) (page serial source target : ℕ) (law : IsLawful v) (at : map.get v.placement page ≡ Some (Moving serial source target)) where
-  pub moved_freer : (entry : Record) → IsFreer v (settled v entry page (At target)) source
-  moved_freer entry = record {
-    blocks = refl;
-    within = source_within v page serial source target law at;
-    used = source_used v page serial source target law at;
-    free = moved_source v page serial source target law at entry;
-    others = moved_others v page serial source target law at entry;
-  }
-
-  pub back_freer : (entry : Record) → IsFreer v (settled v entry page (At source)) target
-  back_freer entry = record {
-    blocks = refl;
-    within = target_in v page serial source target law at;
-    used = target_used v page serial source target law at;
-    free = back_target v page serial source target law at entry;
-    others = back_others v page serial source target law at entry;
-  }
-
-  pub moved_start : (entry : Record) (from : ℕ) → ((g : ℕ) → g < from → is_free v g ≡ false) → (g : ℕ) → g < from → g < source → is_free (settled v entry page (At target)) g ≡ false
-  moved_start entry from before g h below = moved_others v page serial source target law at entry g (λ e. absurd (omega arith)) ∙ before g h
-
-  pub back_start : (entry : Record) (from : ℕ) → ((g : ℕ) → g < from → is_free v g ≡ false) → (g : ℕ) → g < from → g < target → is_free (settled v entry page (At source)) g ≡ false
-  back_start entry from before g h below = back_others v page serial source target law at entry g (λ e. absurd (omega arith)) ∙ before g h
-
-  pub moved_counts : (counts : Counts) → CountsFit counts v → CountsFit (record counts { free = counts.free + 1; moved = counts.moved + 1 }) (settled v (Moved serial) page (At target))
-  moved_counts counts fit = record {
-    free = omega (arith, fit.free, moved_more v page serial source target law at (Moved serial));
-    pages = fit.pages ∙ sym (same_pages v page (Moving serial source target) (At target) (can_move_on v page serial source target law at) (Moved serial));
-    huge = fit.huge;
-    held = fit.held;
-    isolated = fit.isolated;
-    moved = omega (arith, fit.moved);
-    back = fit.back;
-    out = omega (arith, fit.out, out_fewer v page serial source target law at);
-  }
-
-  pub back_counts : (cause : Cause) (counts : Counts) → CountsFit counts v → CountsFit (record counts { free = counts.free + 1; back = counts.back + 1 }) (settled v (Back serial cause) page (At source))
-  back_counts cause counts fit = record {
-    free = omega (arith, fit.free, back_more v page serial source target law at (Back serial cause));
-    pages = fit.pages ∙ sym (same_pages v page (Moving serial source target) (At source) (can_go_back v page serial source target law at) (Back serial cause));
-    huge = fit.huge;
-    held = fit.held;
-    isolated = fit.isolated;
-    moved = fit.moved;
-    back = omega (arith, fit.back);
-    out = omega (arith, fit.out, out_fewer v page serial source target law at);
-  }
-
-  pub moved_serials : (pages : List ℕ) (capacity : ℕ) → SerialsFit pages capacity v → 0 < v.room → SerialsFit pages capacity (settled v (Moved serial) page (At target))
-  moved_serials pages capacity fit room = record { count = fit.count; each = fit.each; room = (let enough = fit.room in omega arith) }
-
-  pub back_serials : (cause : Cause) (pages : List ℕ) (capacity : ℕ) → SerialsFit pages capacity v → 0 < v.room → SerialsFit pages capacity (settled v (Back serial cause) page (At source))
-  back_serials cause pages capacity fit room = record { count = fit.count; each = fit.each; room = (let enough = fit.room in omega arith) }
+  pub some_on_the_way : 0 < length (out v.records)
+  some_on_the_way = omega (arith, out_fewer v page serial source target law at)
 
   pub ending_room : 0 < v.room
   ending_room = let left = law.room_left in omega (arith, out_fewer v page serial source target law at)
@@ -185,15 +137,9 @@ module _ (v : ZoneState) (page serial source target : ℕ) (law : IsLawful v) (a
     names = λ address. refl;
   }
 
--- the counts stay small
-pub ended_most : (v : ZoneState) (counts : Counts) → CountsFit counts v → length v.records + v.room ≤ 65536 → (counts.moved < 65537) × (counts.back < 65537)
-ended_most v counts fit places = (omega (arith, fit.out, fit.isolated, isolated_most v.records), omega (arith, fit.out, fit.isolated, isolated_most v.records))
+-- two frames are used for something else, and whether the page may be taken is noted
+pub two_puts : (f a b : Frames) (i j : ℕ) (x y : FrameState) → a ≡ record f { states = slice_set f.states i x } → b ≡ record a { states = slice_set a.states j y } → b ≡ record f { states = slice_set (slice_set f.states i x) j y }
+two_puts f a b i j x y first second = second ∙ ap (λ (fs : Frames). record fs { states = slice_set fs.states j y }) first
 
-pub block_most : (v : ZoneState) (free : List ℕ) → BlocksFit free v → (block : ℕ) → block < v.blocks → get_or free block 0 < 513
-block_most v free fit block h =
-    let most = count_from_most (is_free v) (512 * block) 512 in
-    let is = get_or_from_slice_get free block _ 0 (fit.each block h) in
-    omega (arith, is, most)
-
-pub block_at : (v : ZoneState) (free : List ℕ) → BlocksFit free v → (block : ℕ) → block < v.blocks → slice_get free block ≡ Some (get_or free block 0)
-block_at v free fit block h = fit.each block h ∙ ap Some (sym (get_or_from_slice_get free block _ 0 (fit.each block h)))
+pub then_noted : (f b c : Frames) (k : ℕ) (can : Bool) → b ≡ f → c ≡ record b { movable = slice_set b.movable k can } → c ≡ record f { movable = slice_set f.movable k can }
+then_noted f b c k can before noted = noted ∙ ap (λ (fs : Frames). record fs { movable = slice_set fs.movable k can }) before

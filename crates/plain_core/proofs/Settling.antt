@@ -1,6 +1,6 @@
 -- A page in use is somewhere else: the tables of the zone go on fitting.
-use Rattle.std.proofs.Common.{◌≡◌, ◌≢◌, ℕ, ◌+◌, ◌-◌, ◌*◌, ◌/◌, ◌<◌, ◌≤◌, Bool, true, false, List, ◌∷◌, length, ◌⊎◌, inl, inr, refl, sym, ap, subst, ◌∙◌, arith}
-use Rattle.std.specs.Prelude.{Option, Some, None, IsSome, is_some, slice_get, slice_set, ◌&&◌, vec_capacity}
+use Rattle.std.proofs.Common.{◌≡◌, ◌≢◌, ℕ, ◌-◌, ◌<◌, ◌≤◌, Bool, true, false, not, List, ◌∷◌, length, ◌⊎◌, inl, inr, refl, sym, ap, subst, ◌∙◌, arith}
+use Rattle.std.specs.Prelude.{Option, Some, None, IsSome, is_some, slice_get, slice_set, nat_eq, ◌&&◌}
 use Rattle.std.specs.Option.{option_and_then}
 use Rattle.std.specs.FinMap as map
 use Rattle.std.proofs.lemmas.Bool.{eq-eqb}
@@ -8,7 +8,6 @@ use Rattle.std.proofs.lemmas.Bool.Decides.{eqb_tells}
 use Rattle.std.proofs.lemmas.List.{length-set}
 use Rattle.std.proofs.lemmas.Option.{slice_get_within}
 use Rattle.frame_core.proofs.Lists.{slice_get_set_same, slice_get_set_other}
-use Rattle.frame_core.proofs.Searches.{count_from_more, count_from_same}
 use Rattle.frame_core.specs.Address.{InRange}
 use Rattle.frame_core.specs.declared.place.Address.{Address}
 use Rattle.frame_core.specs.declared.state.FrameState.{FrameState}
@@ -23,19 +22,25 @@ use Rattle.plain_core.specs.declared.note.Note.{Note}
 use Rattle.plain_core.specs.declared.plain.PlainZone.TheInside.{Inside}
 use Rattle.state_core.specs.declared.placement.Placement.{Placement}
 use Rattle.state_core.specs.declared.placement.Placement.TheVariants.{At, Moving}
-use Rattle.plain_core.specs.Fits.{state_by, entry_for, FramesFit, EntriesFit, WordsFit, NoteFits, NotesFit, SerialsFit, CountsFit, BlocksFit}
-use Rattle.state_core.specs.ZoneState.{words_frame, ZoneState, frame_count, takes_up, is_free, is_quiet, free_in_block}
-use Rattle.plain_core.specs.Found.{placement_of, is_unmovable_of, says_unmovable}
+use Rattle.plain_core.specs.Fits.{state_by, entry_for, FramesFit, EntriesFit, WordsFit, NoteFits, NotesFit, MovesFit, MovableFit}
+use Rattle.state_core.specs.ZoneState.{words_frame, ZoneState, frame_count, takes_up, is_free}
+use Rattle.std.specs.FinSet as set
+use Rattle.state_core.specs.Pairs.{can_move}
+use Rattle.plain_core.specs.Notes.{placement_of, is_unmovable_of, says_unmovable}
 use Rattle.state_core.specs.Lawful.{is_under}
-use Rattle.state_core.specs.Carrying.{settled}
-use Rattle.plain_core.specs.Sound.{state_of, order_of, is_marked_of, IsSound}
+use Rattle.state_core.specs.Moving.{settled}
+use Rattle.plain_core.specs.HandedOut.{order_of}
+use Rattle.plain_core.specs.History.{told}
+use Rattle.plain_core.specs.Sound.{state_of, IsSound}
+use Rattle.scan_core.specs.Frames.{true_at}
 use Rattle.plain_core.specs.Tabulated.{tabulated, gathered}
 use Rattle.state_core.proofs.Facts.{takes_own}
 use Rattle.plain_core.proofs.Finding.{placement_past, get_placements}
 use Rattle.state_core.proofs.Placed.{untrue, clash}
 use Rattle.plain_core.proofs.Placing.{state_taken}
-use Rattle.state_core.proofs.Settled.{CanSettle, IsRecorded, at_page, at_other, some_same, not_old, not_new, new_clear, old_clear, free_new, free_kept, lawful_settled}
-use Rattle.plain_core.proofs.Tabulating.{tabulated_insert, gathered_same}
+use Rattle.state_core.proofs.Settled.{CanSettle, IsRecorded, at_page, at_other, not_old, not_new, new_clear, old_clear, free_new, free_kept, lawful_settled}
+use Rattle.plain_core.proofs.Tabulating.{tabulated_insert}
+use Rattle.plain_core.proofs.Tabulating.{gathered_same}
 
 -- how frames change with their page
 pub record FramesSettled (frames settled : List FrameState) (page : ℕ) (old new : Placement) : Type 0 where
@@ -43,6 +48,12 @@ pub record FramesSettled (frames settled : List FrameState) (page : ℕ) (old ne
   pub taken : (frame : ℕ) (state : FrameState) → state_by page (Some new) frame ≡ Some state → slice_get settled frame ≡ Some state
   pub left : (frame : ℕ) → takes_up (Some old) frame ≡ true → takes_up (Some new) frame ≡ false → slice_get settled frame ≡ Some Free
   pub kept : (frame : ℕ) → takes_up (Some old) frame ≡ false → takes_up (Some new) frame ≡ false → slice_get settled frame ≡ slice_get frames frame
+
+-- whether the page may be taken is noted at its frame
+pub record MovableSettled (movable changed : List Bool) (can : Bool) (new : Placement) : Type 0 where
+  pub count : length changed ≡ length movable
+  pub here : (frame : ℕ) → new ≡ At frame → slice_get changed frame ≡ Some can
+  pub kept : (frame : ℕ) → takes_up (Some new) frame ≡ false → slice_get changed frame ≡ slice_get movable frame
 
 -- the words of the page go with it
 pub record WordsSettled (rows settled : List (List ℕ)) (old new : Placement) : Type 0 where
@@ -142,6 +153,22 @@ module _ (v : ZoneState) (page : ℕ) (old new : Placement) (can : CanSettle v p
     ];
   }
 
+  pub movable_settled : (movable changed : List Bool) → MovableFit movable v → MovableSettled movable changed (can_move v page) new → MovableFit changed next
+  movable_settled movable changed fit change = record {
+    count = change.count ∙ fit.count;
+    each = λ q g e. elim (eqb_tells q page) [
+      | inl same ↦
+          (let is : new ≡ At g = (let one : Some new ≡ Some (At g) = sym (at_page v page old new can entry) ∙ ap (map.get next.placement) (sym same.1) ∙ e in cc) in
+          change.here g is ∙ ap (λ (p : ℕ). Some (can_move v p)) (sym same.1) ∙ still q)
+      | inr other ↦
+          (let before : map.get v.placement q ≡ Some (At g) = sym (at_other v page old new can entry q other.1) ∙ e in
+          let takes : takes_up (map.get v.placement q) g ≡ true = ap (λ (o : Option Placement). takes_up o g) before ∙ eq-eqb g g refl in
+          change.kept g (never _ (not_new v page old new can entry q g other.1 takes)) ∙ fit.each q g before ∙ still q)
+    ];
+  } where
+    still : (q : ℕ) → Some (can_move v q) ≡ Some (can_move next q)
+    still q = ap (λ n. Some (nat_eq n 0 && not (set.contains v.unmovable q))) (sym (recorded.still.pins q))
+
   pub notes_settled : (notes : List Note) (note : Note) → NotesFit notes v → slice_get notes page ≡ Some note → IsSome note.placement → NotesFit (slice_set notes page (record note { placement = Some new })) next
   notes_settled notes note fit e used = record {
     count = length-set notes page (record note { placement = Some new }) ∙ fit.count;
@@ -165,47 +192,6 @@ module _ (v : ZoneState) (page : ℕ) (old new : Placement) (can : CanSettle v p
     ];
   }
 
--- one frame of a pageblock is free in the second state and not in the first
-pub record IsFreer (u w : ZoneState) (frame : ℕ) : Type 0 where
-  pub blocks : w.blocks ≡ u.blocks
-  pub within : frame < frame_count u
-  pub used : is_free u frame ≡ false
-  pub free : is_free w frame ≡ true
-  pub others : (g : ℕ) → g ≢ frame → is_free w g ≡ is_free u g
-
-module _ (u w : ZoneState) (frame block : ℕ) (freer : IsFreer u w frame) (at : block ≡ frame / 512) where
-  pub block_freer : free_in_block w block ≡ free_in_block u block + 1
-  block_freer = count_from_more (is_free u) (is_free w) (512 * block) 512 frame (omega (arith, at)) (omega (arith, at)) freer.used freer.free freer.others
-
-  block_same : (b : ℕ) → b ≢ block → free_in_block w b ≡ free_in_block u b
-  block_same b ne = count_from_same (is_free w) (is_free u) (512 * b) 512 (λ g low high. freer.others g (λ is. ne (omega (arith, at, is, low, high))))
-
-  pub block_within : block < u.blocks
-  block_within = let within = freer.within in omega (arith, at)
-
-  pub blocks_lost : (free : List ℕ) (left : ℕ) → BlocksFit free w → slice_get free block ≡ Some (left + 1) → BlocksFit (slice_set free block left) u
-  blocks_lost free left fit before = record {
-    each = λ b h. elim (eqb_tells b block) [
-      | inl same ↦
-          (let counted : slice_get free block ≡ Some (free_in_block w block) = fit.each block (omega (arith, block_within, freer.blocks)) in
-          let equal : left + 1 ≡ free_in_block u block + 1 = (let both : Some (left + 1) ≡ Some (free_in_block u block + 1) = sym before ∙ counted ∙ ap Some block_freer in cc) in
-          let now : left ≡ free_in_block u block = omega (arith, equal) in
-          slice_get_set_same free block b left same.1 (slice_get_within free block _ before) ∙ ap Some (now ∙ ap (free_in_block u) (sym same.1)))
-      | inr other ↦ slice_get_set_other free block b left other.1 ∙ fit.each b (omega (arith, h, freer.blocks)) ∙ ap Some (block_same b other.1)
-    ];
-  }
-
-  pub blocks_gained : (free : List ℕ) (before : ℕ) → BlocksFit free u → slice_get free block ≡ Some before → BlocksFit (slice_set free block (before + 1)) w
-  blocks_gained free before fit e = record {
-    each = λ b h. elim (eqb_tells b block) [
-      | inl same ↦
-          (let equal : before ≡ free_in_block u block = (let both : Some before ≡ Some (free_in_block u block) = sym e ∙ fit.each block block_within in cc) in
-          let now : before + 1 ≡ free_in_block w block = omega (arith, equal, block_freer) in
-          slice_get_set_same free block b (before + 1) same.1 (slice_get_within free block _ e) ∙ ap Some (now ∙ ap (free_in_block w) (sym same.1)))
-      | inr other ↦ slice_get_set_other free block b (before + 1) other.1 ∙ fit.each b (omega (arith, h, freer.blocks)) ∙ ap Some (sym (block_same b other.1))
-    ];
-  }
-
 -- the fields of a zone before and after a page settled elsewhere
 pub record Settling (z changed : Inside) (v : ZoneState) (page : ℕ) (old new : Placement) (entry : Record) (note : Note) (migrate_new free_new : ℕ) : Type 0 where
   pub sound : IsSound z v
@@ -213,29 +199,22 @@ pub record Settling (z changed : Inside) (v : ZoneState) (page : ℕ) (old new :
   pub can : CanSettle v page old new
   pub recorded : IsRecorded v entry page new
   pub spare : 0 < v.room
-  pub note_is : slice_get z.notes.items page ≡ Some note
+  pub note_is : slice_get z.notes page ≡ Some note
   -- what changed
-  pub frames : FramesSettled z.frames.items changed.frames.items page old new
+  pub frames : FramesSettled z.frames.states changed.frames.states page old new
   pub tables : Replaces z.tables changed.tables (entry_for (Some old)) (entry_for (Some new))
   pub words : WordsSettled z.words changed.words old new
-  pub notes : changed.notes.items ≡ slice_set z.notes.items page (record note { placement = Some new })
-  pub serials : SerialsFit changed.pages.items (vec_capacity changed.pages) (settled v entry page new)
-  pub counts : CountsFit changed.counts (settled v entry page new)
-  pub blocks : BlocksFit changed.free_in_block (settled v entry page new)
-  pub free_from : (frame : ℕ) → frame < changed.free_from → is_free (settled v entry page new) frame ≡ false
-  pub quiet : changed.quiet ≡ is_quiet (settled v entry page new)
-  pub migrate_is : changed.migrate ≡ migrate_new
-  pub free_is : changed.free ≡ free_new
+  pub notes : changed.notes ≡ slice_set z.notes page (record note { placement = Some new })
+  pub moves : MovesFit changed.moves (entry ∷ v.records) (v.room - 1)
+  pub movable : MovableSettled z.frames.movable changed.frames.movable (can_move v page) new
+  pub fingers_are : changed.fingers ≡ record { migrate = migrate_new; free = free_new }
   pub fingers : (migrate_new ≤ free_new) × (free_new ≤ frame_count v)
-  pub records : changed.journal.records ≡ entry ∷ z.journal.records
-  pub room : changed.journal.room + 1 ≡ z.journal.room
+  pub history : changed.history ≡ told z.history entry
   -- what stayed
   pub number_same : changed.number ≡ z.number
   pub blocks_same : changed.blocks ≡ z.blocks
   pub marked_same : changed.marked ≡ z.marked
-  pub handed_out_same : changed.handed_out.items ≡ z.handed_out.items
-  pub unused_same : changed.unused_from ≡ z.unused_from
-  pub round_same : changed.round ≡ z.round
+  pub handed_out_same : changed.handed_out ≡ z.handed_out
 
 module _ (z changed : Inside) (v : ZoneState) (page : ℕ) (old new : Placement) (entry : Record) (note : Note) (migrate free : ℕ) (known : Settling z changed v page old new entry note migrate free) where
   abbrev after : ZoneState
@@ -244,8 +223,8 @@ module _ (z changed : Inside) (v : ZoneState) (page : ℕ) (old new : Placement)
   abbrev settled_note : Note
   settled_note = record note { placement = Some new }
 
-  placement_before : placement_of z.notes.items page ≡ Some old
-  placement_before = sym (get_placements z.notes.items page) ∙ ap (λ (u : ZoneState). map.get u.placement page) known.view ∙ known.can.at
+  placement_before : placement_of z.notes page ≡ Some old
+  placement_before = sym (get_placements z.notes page) ∙ ap (λ (u : ZoneState). map.get u.placement page) known.view ∙ known.can.at
 
   note_placed : note.placement ≡ Some old
   note_placed = sym (ap (option_and_then (λ (n : Note). n.placement)) known.note_is) ∙ placement_before
@@ -257,63 +236,56 @@ module _ (z changed : Inside) (v : ZoneState) (page : ℕ) (old new : Placement)
       record {
         lawful = lawful_settled v page old new known.can entry known.recorded migrate free known.fingers;
         orders = ap length known.handed_out_same ∙ sound.orders;
-        frames = (let fit = frames_settled v page old new known.can entry known.recorded z.frames.items changed.frames.items sound.frames known.frames in record { count = fit.count; of_page = fit.of_page; of_block = fit.of_block; of_none = fit.of_none });
+        frames = (let fit = frames_settled v page old new known.can entry known.recorded z.frames.states changed.frames.states sound.frames known.frames in record { count = fit.count; of_page = fit.of_page; of_block = fit.of_block; of_none = fit.of_none });
         entries = (let fit = entries_settled v page old new known.can entry known.recorded z.tables changed.tables sound.entries known.tables in record { each = fit.each });
         words = (let fit = words_settled v page old new known.can entry known.recorded z.words changed.words sound.words known.words in record { count = fit.count; eight = fit.eight; each = fit.each });
         notes = subst (λ (ns : List Note). NotesFit ns after) (sym known.notes)
-            (let fit = notes_settled v page old new known.can entry known.recorded z.notes.items note sound.notes known.note_is (ap is_some note_placed) in record { count = fit.count; each = λ q n e used. (let one = fit.each q n e used in record { dirty = one.dirty; pins = one.pins; maps = one.maps }) });
-        serials = (let fit = known.serials in record { count = fit.count; each = fit.each; room = fit.room });
-        counts = (let fit = known.counts in record { free = fit.free; pages = fit.pages; huge = fit.huge; held = fit.held; isolated = fit.isolated; moved = fit.moved; back = fit.back; out = fit.out });
-        blocks = (let fit = known.blocks in record { each = fit.each });
-        quiet = known.quiet;
-        starts = record {
-          frames = known.free_from;
-          pages = λ q h. some_same v page old new known.can entry q ∙ sound.starts.pages q (omega (arith, h, known.unused_same));
-        };
+            (let fit = notes_settled v page old new known.can entry known.recorded z.notes note sound.notes known.note_is (ap is_some note_placed) in record { count = fit.count; each = λ q n e used. (let one = fit.each q n e used in record { dirty = one.dirty; pins = one.pins; maps = one.maps }) });
+        moves = known.moves;
+        movable = (let fit = movable_settled v page old new known.can entry known.recorded z.frames.movable changed.frames.movable sound.movable known.movable in record { count = fit.count; each = fit.each });
       }
 
-  note_there : (q : ℕ) → q ≢ page → slice_get changed.notes.items q ≡ slice_get z.notes.items q
-  note_there q ne = ap (λ (ns : List Note). slice_get ns q) known.notes ∙ slice_get_set_other z.notes.items page q settled_note ne
+  note_there : (q : ℕ) → q ≢ page → slice_get changed.notes q ≡ slice_get z.notes q
+  note_there q ne = ap (λ (ns : List Note). slice_get ns q) known.notes ∙ slice_get_set_other z.notes page q settled_note ne
 
-  note_here : slice_get changed.notes.items page ≡ Some settled_note
-  note_here = ap (λ (ns : List Note). slice_get ns page) known.notes ∙ slice_get_set_same z.notes.items page page settled_note refl (slice_get_within z.notes.items page note known.note_is)
+  note_here : slice_get changed.notes page ≡ Some settled_note
+  note_here = ap (λ (ns : List Note). slice_get ns page) known.notes ∙ slice_get_set_same z.notes page page settled_note refl (slice_get_within z.notes page note known.note_is)
 
-  len : length changed.notes.items ≡ length z.notes.items
-  len = ap length known.notes ∙ length-set z.notes.items page settled_note
+  len : length changed.notes ≡ length z.notes
+  len = ap length known.notes ∙ length-set z.notes page settled_note
 
-  placement_new : tabulated (placement_of changed.notes.items) (length changed.notes.items) ≡ map.insert (state_of z).placement page new
+  placement_new : tabulated (placement_of changed.notes) (length changed.notes) ≡ map.insert (state_of z).placement page new
   placement_new =
-      ap (tabulated (placement_of changed.notes.items)) len
-      ∙ tabulated_insert (placement_of z.notes.items) (placement_of changed.notes.items) (length z.notes.items) page new
-      (placement_past z.notes.items) (λ q past. placement_past changed.notes.items q (omega (arith, len, past)))
+      ap (tabulated (placement_of changed.notes)) len
+      ∙ tabulated_insert (placement_of z.notes) (placement_of changed.notes) (length z.notes) page new
+      (placement_past z.notes) (λ q past. placement_past changed.notes q (omega (arith, len, past)))
       (ap (option_and_then (λ (n : Note). n.placement)) note_here) (λ q ne. ap (option_and_then (λ (n : Note). n.placement)) (note_there q ne))
 
-  unmovable_same : (q : ℕ) → is_unmovable_of changed.notes.items q ≡ is_unmovable_of z.notes.items q
+  unmovable_same : (q : ℕ) → is_unmovable_of changed.notes q ≡ is_unmovable_of z.notes q
   unmovable_same q = elim (eqb_tells q page) [
     | inl same ↦
-        ap (is_unmovable_of changed.notes.items) same.1 ∙ ap says_unmovable note_here
-        ∙ sym (ap (is_unmovable_of z.notes.items) same.1 ∙ ap says_unmovable known.note_is ∙ ap (λ (o : Option Placement). is_some o && note.unmovable) note_placed)
+        ap (is_unmovable_of changed.notes) same.1 ∙ ap says_unmovable note_here
+        ∙ sym (ap (is_unmovable_of z.notes) same.1 ∙ ap says_unmovable known.note_is ∙ ap (λ (o : Option Placement). is_some o && note.unmovable) note_placed)
     | inr other ↦ ap says_unmovable (note_there q other.1)
   ]
 
-  unmovable_new : gathered (is_unmovable_of changed.notes.items) (length changed.notes.items) ≡ (state_of z).unmovable
-  unmovable_new = ap (gathered (is_unmovable_of changed.notes.items)) len ∙ gathered_same _ _ (length z.notes.items) unmovable_same
+  unmovable_new : gathered (is_unmovable_of changed.notes) (length changed.notes) ≡ (state_of z).unmovable
+  unmovable_new = ap (gathered (is_unmovable_of changed.notes)) len ∙ gathered_same _ _ (length z.notes) unmovable_same
 
   pub settle_view : state_of changed ≡ after
   settle_view =
-      let left : changed.journal.room ≡ z.journal.room - 1 = omega (arith, known.room) in
       let here : state_of changed ≡ record (settled (state_of z) entry page new) { migrate = migrate; free = free } =
       λ i. record {
         number = known.number_same i;
         blocks = known.blocks_same i;
-        records = known.records i;
-        room = left i;
+        records = (known.history i).records;
+        room = (known.history i).room;
         unmovable = unmovable_new i;
-        marked = gathered (is_marked_of (known.marked_same i)) 8;
+        marked = gathered (true_at (known.marked_same i)) 8;
         handed_out = tabulated (order_of (known.handed_out_same i)) (length (known.handed_out_same i));
         placement = placement_new i;
-        migrate = known.migrate_is i;
-        free = known.free_is i;
-        round = known.round_same i;
+        migrate = (known.fingers_are i).migrate;
+        free = (known.fingers_are i).free;
+        round = (known.history i).round;
       } in
       here ∙ ap (λ (u : ZoneState). record (settled u entry page new) { migrate = migrate; free = free }) known.view

@@ -1,22 +1,23 @@
 -- How the tables of a zone stand for its state.
-use Rattle.std.specs.Prelude.{◌≡◌, ℕ, ◌+◌, ◌<◌, ◌≤◌, true, false, List, length, nat_eq, if◌then◌else◌, slice_get, Option, Some, None, IsSome, is_some}
+use Rattle.std.specs.Prelude.{◌≡◌, ℕ, ◌+◌, ◌<◌, Bool, true, List, length, nat_eq, if◌then◌else◌, slice_get, Option, Some, None, IsSome}
 use Rattle.std.specs.FinMap as map
 use Rattle.frame_core.specs.Address.{InRange}
-use Rattle.frame_core.specs.Below.{count_below}
 use Rattle.frame_core.specs.declared.place.Address.{Address}
 use Rattle.frame_core.specs.declared.state.FrameState.{FrameState}
 use Rattle.frame_core.specs.declared.state.FrameState.TheVariants.{Free, Holds, Source, Target, Huge}
+use Rattle.journal_core.specs.declared.record.Record.{Record}
 use Rattle.journal_core.specs.History.{last, dirty, pins, maps}
-use Rattle.journal_core.specs.Moves.{out, page_of, isolated, moved, put_back}
+use Rattle.journal_core.specs.Moves.{page_of, isolated, moved, put_back}
 use Rattle.table_core.specs.declared.entry.Entry.{Entry}
 use Rattle.table_core.specs.declared.entry.Entry.TheVariants.{Absent, Present, Migration}
 use Rattle.table_core.specs.Tables.{entry_at}
 use Rattle.word_core.specs.Words.{words_of}
-use Rattle.plain_core.specs.declared.counts.Counts.{Counts}
+use Rattle.plain_core.specs.Moves.{Moves}
 use Rattle.plain_core.specs.declared.note.Note.{Note}
 use Rattle.state_core.specs.declared.placement.Placement.{Placement}
 use Rattle.state_core.specs.declared.placement.Placement.TheVariants.{At, Moving}
-use Rattle.state_core.specs.ZoneState.{ZoneState, frame_count, is_free, is_held, free_in_block, placement_at, words_frame}
+use Rattle.state_core.specs.Pairs.{can_move}
+use Rattle.state_core.specs.ZoneState.{ZoneState, frame_count, is_free, is_held, placement_at, words_frame}
 
 -- the state of a frame that a page with this placement takes up
 abbrev pub state_by : ℕ → Option Placement → ℕ → Option FrameState
@@ -58,28 +59,15 @@ pub record NotesFit (notes : List Note) (v : ZoneState) : Type 0 where
   pub count : length notes ≡ frame_count v
   pub each : (page : ℕ) (note : Note) → slice_get notes page ≡ Some note → IsSome note.placement → NoteFits note v page
 
--- the counts are those of the state
-pub record CountsFit (counts : Counts) (v : ZoneState) : Type 0 where
-  pub free : counts.free ≡ count_below (is_free v) (frame_count v)
-  pub pages : counts.pages ≡ count_below (λ page. is_some (map.get v.placement page)) (frame_count v)
-  pub huge : counts.huge ≡ count_below (λ first. is_some (map.get v.handed_out first)) (frame_count v)
-  pub held : counts.held ≡ count_below (is_held v) (frame_count v)
-  pub isolated : counts.isolated ≡ isolated v.records
-  pub moved : counts.moved ≡ moved v.records
-  pub back : counts.back ≡ put_back v.records
-  -- each page that was isolated is out, or was moved or put back
-  pub out : length (out v.records) + counts.moved + counts.back ≡ counts.isolated
+-- a frame that holds a page is noted as movable just where the page may be taken from it
+pub record MovableFit (movable : List Bool) (v : ZoneState) : Type 0 where
+  pub count : length movable ≡ frame_count v
+  pub each : (page frame : ℕ) → map.get v.placement page ≡ Some (At frame) → slice_get movable frame ≡ Some (can_move v page)
 
-pub record BlocksFit (free : List ℕ) (v : ZoneState) : Type 0 where
-  pub each : (block : ℕ) → block < v.blocks → slice_get free block ≡ Some (free_in_block v block)
-
--- where the searches for a frame and for a page number begin
-pub record StartsFit (free_from unused_from : ℕ) (v : ZoneState) : Type 0 where
-  pub frames : (frame : ℕ) → frame < free_from → is_free v frame ≡ false
-  pub pages : (page : ℕ) → page < unused_from → is_some (map.get v.placement page) ≡ true
-
--- the page of each serial, in a list that has room for as many serials as there are places in the journal
-pub record SerialsFit (pages : List ℕ) (capacity : ℕ) (v : ZoneState) : Type 0 where
-  pub count : length pages ≡ isolated v.records
-  pub each : (serial : ℕ) → slice_get pages serial ≡ page_of v.records serial
-  pub room : length v.records + v.room ≤ capacity
+-- the page of each serial, and how many were moved and put back; there is room for as many serials as for records
+pub record MovesFit (moves : Moves) (records : List Record) (room : ℕ) : Type 0 where
+  pub count : length moves.pages ≡ isolated records
+  pub each : (serial : ℕ) → slice_get moves.pages serial ≡ page_of records serial
+  pub moved : moves.moved ≡ moved records
+  pub back : moves.back ≡ put_back records
+  pub places : moves.places ≡ length records + room

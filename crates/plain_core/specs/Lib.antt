@@ -1,4 +1,11 @@
 pub mod Fits
-pub mod Found
+pub mod HandedOut
+pub mod HandedOutInside
+pub mod History
+pub mod HistoryInside
+pub mod Moves
+pub mod MovesInside
+pub mod Notes
+pub mod NotesInside
 pub mod Sound
 pub mod Tabulated

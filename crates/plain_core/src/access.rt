@@ -9,7 +9,7 @@ ghost use Rattle.state_core.specs.ZoneState.{has_room, placement_at};
 ghost use Rattle.state_core.specs.declared.placement.Placement.TheVariants.{At};
 
 use crate::plain::PlainZone;
-use frame_core::{Address, ClientNo, FrameNo, FrameState, WordNo};
+use frame_core::{Address, ClientNo, FrameNo, WordNo};
 use journal_core::Record;
 use state_core::ZoneError;
 use table_core::Entry;
@@ -19,16 +19,14 @@ impl PlainZone {
     pub fn has_room(&self) -> bool
         ensures { result ≡ has_room self.now }
     {
-        let out = self.counts.isolated - self.counts.moved - self.counts.back;
-        out < self.journal.room()
+        self.moves.out() < self.history.room()
     }
 
     /// Whether it has room for an isolation, and for its end.
     pub fn has_room_for_two(&self) -> bool
         ensures { result ≡ nat_lt (length (out self.now.records) + 1) self.now.room }
     {
-        let out = self.counts.isolated - self.counts.moved - self.counts.back;
-        out + 1 < self.journal.room()
+        self.moves.out() + 1 < self.history.room()
     }
 
     /// The frame of the page that an address names, where the page isn't on its way.
@@ -52,7 +50,7 @@ impl PlainZone {
         ensures lawful { IsLawful self.new }
     {
         let value = self.words.load(frame, word);
-        self.journal.push(Record::Load {
+        self.history.note(Record::Load {
             client,
             address,
             word,
@@ -75,13 +73,13 @@ impl PlainZone {
         ensures step { self.new ≡ stored self.old client address word value }
         ensures lawful { IsLawful self.new }
     {
-        let FrameState::Holds(page) = self.frames[frame.get() as usize] else {
+        let Some(page) = self.holder(frame) else {
             unreachable!();
         };
         self.words.store(frame, word, value);
-        let note = &mut self.notes[page.get() as usize];
-        note.dirty = true;
-        self.journal.push(Record::Store {
+        let note = self.notes.get(page);
+        self.notes.put(page, note.stored());
+        self.history.note(Record::Store {
             client,
             address,
             word,

@@ -11,9 +11,8 @@ ghost use Rattle.state_core.specs.Looking.{look_of};
 ghost use Rattle.state_core.specs.ZoneState.{is_quiet};
 ghost use Rattle.state_core.specs.declared.placement.Placement.TheVariants.{Moving};
 
-use crate::counts::Counts;
 use crate::plain::PlainZone;
-use frame_core::{Address, FrameNo, FrameState, PageNo, Serial, block_of};
+use frame_core::{Address, FrameNo, FrameState, PageNo, Serial};
 use journal_core::{Cause, Record};
 use state_core::{Audit, Look, Placement};
 use table_core::Entry;
@@ -38,12 +37,11 @@ impl PlainZone {
         if page.zone() != self.number {
             return None;
         }
-        let note = self.notes.get(page.number().get() as usize)?;
         let Placement::Moving {
             serial: under,
             source,
             target,
-        } = note.placement?
+        } = self.notes.placement(page.number())?
         else {
             return None;
         };
@@ -71,8 +69,7 @@ impl PlainZone {
         requires { IsSome (map.get self.now.placement page) }
         ensures { result ≡ not (nat_eq (pins self.now.records page) 0) }
     {
-        let note = self.notes[page.get() as usize];
-        note.pins != 0
+        self.notes.get(page).pins != 0
     }
 
     /// Ends a move: the page stands in its target, with the words of its copy.
@@ -90,18 +87,15 @@ impl PlainZone {
             source,
             target,
         } = *way;
-        let block = block_of(source).get() as usize;
-        self.counts.free += 1;
-        self.counts.moved += 1;
-        self.free_in_block[block] += 1;
-        self.free_from = self.free_from.min(source.get());
-        self.frames[source.get() as usize] = FrameState::Free;
-        self.frames[target.get() as usize] = FrameState::Holds(page);
+        let note = self.notes.get(page);
+        self.frames.put(source, FrameState::Free);
+        self.frames.put(target, FrameState::Holds(page));
+        self.frames.set_movable(target, note.can_move());
         self.words.write_in(target, copy);
         self.tables.to_present(serial, target);
-        let note = &mut self.notes[page.get() as usize];
-        note.placement = Some(Placement::At(target));
-        self.journal.push(Record::Moved { serial });
+        self.moves.arrive();
+        self.notes.put(page, note.placed(Placement::At(target)));
+        self.history.note(Record::Moved { serial });
     }
 
     /// Ends a move: the page stands in its source again.
@@ -118,18 +112,14 @@ impl PlainZone {
             source,
             target,
         } = *way;
-        let block = block_of(target).get() as usize;
-        self.counts.free += 1;
-        self.counts.back += 1;
-        self.free_in_block[block] += 1;
-        self.free_from = self.free_from.min(target.get());
-        self.frames[target.get() as usize] = FrameState::Free;
-        self.frames[source.get() as usize] = FrameState::Holds(page);
+        let note = self.notes.get(page);
+        self.frames.put(target, FrameState::Free);
+        self.frames.put(source, FrameState::Holds(page));
+        self.frames.set_movable(source, note.can_move());
         self.tables.to_present(serial, source);
-        let note = &mut self.notes[page.get() as usize];
-        note.placement = Some(Placement::At(source));
-        self.quiet = false;
-        self.journal.push(Record::Back { serial, cause });
+        self.moves.go_back();
+        self.notes.put(page, note.placed(Placement::At(source)));
+        self.history.note(Record::Back { serial, cause });
     }
 
     /// What is known of the page that an address names.
@@ -160,7 +150,7 @@ impl PlainZone {
     fn page_under(&self, serial: Serial) -> Option<PageNo>
         ensures { result ≡ page_of self.now.records serial }
     {
-        self.pages.get(serial as usize).copied()
+        self.moves.page(serial)
     }
 
     /// How many pins a page in use has, and how many addresses name it.
@@ -169,7 +159,7 @@ impl PlainZone {
         ensures pins { result.0 ≡ pins self.now.records page }
         ensures maps { result.1 ≡ maps self.now.records page }
     {
-        let note = self.notes[page.get() as usize];
+        let note = self.notes.get(page);
         (note.pins, note.maps)
     }
 
@@ -177,7 +167,7 @@ impl PlainZone {
     pub fn quiet(&self) -> bool
         ensures { result ≡ is_quiet self.now }
     {
-        self.quiet
+        self.history.quiet()
     }
 
     /// The counts of pages, where none is on its way.
@@ -188,19 +178,9 @@ impl PlainZone {
         ensures back { IfSome result (λ audit. audit.back ≡ put_back self.now.records) }
         ensures sum { IfSome result (λ audit. audit.moved + audit.back ≡ audit.isolated) }
     {
-        let Counts {
-            isolated,
-            moved,
-            back,
-            ..
-        } = self.counts;
-        if isolated > moved + back {
+        if self.moves.out() != 0 {
             return None;
         }
-        Some(Audit {
-            isolated,
-            moved,
-            back,
-        })
+        Some(self.moves.counts())
     }
 }

@@ -1,10 +1,9 @@
 //! The counts of a zone, and its journal.
 
-ghost use Rattle.std.specs.Prelude.{◌≡◌, ◌+◌, ◌*◌, ◌≤◌};
-ghost use Rattle.frame_core.specs.Below.{count_below};
+ghost use Rattle.std.specs.Prelude.{◌≡◌, ◌+◌};
 ghost use Rattle.state_core.specs.Lawful.{IsLawful};
-ghost use Rattle.state_core.specs.Looking.{info_of};
-ghost use Rattle.state_core.specs.ZoneState.{is_whole, frame_count};
+ghost use Rattle.state_core.specs.Steps.{info_of};
+ghost use Rattle.state_core.specs.ZoneState.{frame_count};
 
 use crate::plain::PlainZone;
 use frame_core::ZoneNo;
@@ -12,30 +11,18 @@ use journal_core::Journal;
 use state_core::Info;
 
 impl PlainZone {
-    /// How many pageblocks are free as a whole.
-    fn whole_blocks(&self) -> u32
-        ensures { result ≡ count_below (is_whole self.now) self.now.blocks }
-    {
-        let mut whole = 0;
-        for block in 0..self.blocks {
-            if self.free_in_block[block as usize] == 512 {
-                whole += 1;
-            }
-        }
-        whole
-    }
-
+    /// The counts.
     pub fn info(&self) -> Info
         ensures counts { result ≡ info_of self.now }
         ensures sum { result.free + result.pages + result.moving + result.held ≡ frame_count self.now }
     {
         Info {
-            free: self.counts.free,
-            pages: self.counts.pages,
-            moving: self.counts.isolated - self.counts.moved - self.counts.back,
-            huge: self.counts.huge,
-            whole: self.whole_blocks(),
-            held: self.counts.held,
+            free: self.frames.free(),
+            pages: self.notes.in_use(),
+            moving: self.moves.out(),
+            huge: self.handed_out.blocks(),
+            whole: self.frames.whole_blocks(),
+            held: self.handed_out.frames(),
         }
     }
 
@@ -56,6 +43,6 @@ impl PlainZone {
         ensures room { result.now.room ≡ self.now.room }
         ensures lawful { IsLawful self.now }
     {
-        &self.journal
+        self.history.journal()
     }
 }

@@ -5,15 +5,17 @@
 #![tactic(auto)]
 
 mod access;
-mod counts;
 mod ending;
+mod handed_out;
+mod history;
 mod information;
 mod isolating;
 mod mapping;
+mod moves;
 mod note;
+mod notes;
 mod opening;
 mod plain;
-mod searches;
 
 pub use ending::Way;
 pub use plain::PlainZone;

@@ -8,8 +8,7 @@ ghost use Rattle.state_core.specs.ZoneState.{frame_count, has_room, is_free, low
 
 use crate::note::Note;
 use crate::plain::PlainZone;
-use crate::searches::{lowest_free, lowest_unused};
-use frame_core::{Address, ClientNo, FrameNo, FrameState, PageNo, block_of};
+use frame_core::{Address, ClientNo, FrameNo, FrameState, PageNo};
 use journal_core::Record;
 use table_core::Entry;
 
@@ -36,33 +35,25 @@ impl PlainZone {
         requires { frame < frame_count self.now }
         ensures { result ≡ is_free self.now frame }
     {
-        match self.frames[frame.get() as usize] {
-            FrameState::Free => true,
-            _ => false,
-        }
+        self.frames.is_free(frame)
     }
 
-    /// The lowest frame that is free. The next search begins there.
-    pub fn find_free(&mut self) -> Option<FrameNo>
-        ensures same { self.new ≡ self.old }
-        ensures lawful { IsLawful self.new }
-        ensures lowest { result ≡ lowest_free_frame self.old }
-        ensures free { IfSome result (λ frame. IsTrue (is_free self.old frame)) }
-        ensures within { IfSome result (λ frame. frame < frame_count self.old) }
+    /// The lowest frame that is free.
+    pub fn find_free(&self) -> Option<FrameNo>
+        ensures lowest { result ≡ lowest_free_frame self.now }
+        ensures free { IfSome result (λ frame. IsTrue (is_free self.now frame)) }
+        ensures within { IfSome result (λ frame. frame < frame_count self.now) }
     {
-        let found = lowest_free(&self.frames, self.free_from);
-        if let Some(frame) = found {
-            self.free_from = frame.get();
-        }
-        found
+        self.frames.lowest_free()
     }
 
     /// The lowest page number that isn't in use: there is one where a frame is free.
-    fn unused_page(&self) -> PageNo
-        requires { IsSome (lowest_free_frame self.now) }
-        ensures { lowest_unused_page self.now ≡ Some result }
+    fn unused_page(&mut self) -> PageNo
+        requires { IsSome (lowest_free_frame self.old) }
+        ensures same { self.new ≡ self.old }
+        ensures lowest { lowest_unused_page self.old ≡ Some result }
     {
-        let Some(page) = lowest_unused(&self.notes, self.unused_from) else {
+        let Some(page) = self.notes.lowest_unused() else {
             unreachable!();
         };
         page
@@ -79,17 +70,12 @@ impl PlainZone {
     {
         let named = address;
         let page = self.unused_page();
-        let block = block_of(frame).get() as usize;
-        self.counts.free -= 1;
-        self.counts.pages += 1;
-        self.free_in_block[block] -= 1;
-        self.unused_from = page.get() + 1;
-        self.frames[frame.get() as usize] = FrameState::Holds(page);
+        self.frames.put(frame, FrameState::Holds(page));
+        self.frames.set_movable(frame, !unmovable);
         self.tables.set(named, frame);
         self.words.blank(frame);
-        self.notes[page.get() as usize] = Note::fresh(frame, unmovable);
-        self.quiet = false;
-        self.journal.push(Record::Map {
+        self.notes.put(page, Note::fresh(frame, unmovable));
+        self.history.note(Record::Map {
             client,
             address,
             page,

@@ -1,4 +1,4 @@
-ghost use Rattle.std.specs.Prelude.{◌≡◌, None, Some, false};
+ghost use Rattle.std.specs.Prelude.{◌≡◌, None, Some, false, true, nat_eq, not, ◌&&◌};
 ghost use Rattle.state_core.specs.declared.placement.Placement.TheVariants.{At};
 
 use frame_core::FrameNo;
@@ -27,6 +27,33 @@ impl Note {
             dirty: false,
             pins: 0,
             maps: 0,
+        }
+    }
+
+    /// Whether the page may be taken from its frame: it has no pin, and wasn't mapped as unmovable.
+    pub fn can_move(&self) -> bool
+        ensures { result ≡ (nat_eq self.now.pins 0 && not self.now.unmovable) }
+    {
+        self.pins == 0 && !self.unmovable
+    }
+
+    /// Of the page after a store.
+    pub fn stored(self) -> Self
+        ensures { result ≡ record self { dirty = true } }
+    {
+        Note {
+            dirty: true,
+            ..self
+        }
+    }
+
+    /// Of the page at another place.
+    pub fn placed(self, placement: Placement) -> Self
+        ensures { result ≡ record self { placement = Some placement } }
+    {
+        Note {
+            placement: Some(placement),
+            ..self
         }
     }
 

@@ -1,10 +1,11 @@
 ghost use Rattle.std.specs.Prelude.{◌≡◌};
 
-use crate::counts::Counts;
-use crate::note::Note;
-use frame_core::{FrameState, Order, PageNo, ZoneNo};
-use journal_core::Journal;
-use state_core::RoundStart;
+use crate::handed_out::HandedOut;
+use crate::history::History;
+use crate::moves::Moves;
+use crate::notes::Notes;
+use frame_core::ZoneNo;
+use scan_core::{Fingers, Frames};
 use std::marker::Model;
 use table_core::Tables;
 use word_core::Words;
@@ -14,30 +15,15 @@ use word_core::Words;
 pub struct PlainZone {
     pub(crate) number: ZoneNo,
     pub(crate) blocks: u32,
-    /// By frame.
-    pub(crate) frames: Vec<FrameState>,
+    pub(crate) frames: Frames,
     pub(crate) tables: Tables,
     pub(crate) words: Words,
-    /// By page number.
-    pub(crate) notes: Vec<Note>,
-    /// By serial, of each page that was isolated.
-    pub(crate) pages: Vec<PageNo>,
-    /// The order of each block that is handed out, by its first frame.
-    pub(crate) handed_out: Vec<Option<Order>>,
+    pub(crate) notes: Notes,
+    pub(crate) moves: Moves,
+    pub(crate) handed_out: HandedOut,
     pub(crate) marked: [bool; 8],
-    pub(crate) counts: Counts,
-    /// The free frames of each pageblock.
-    pub(crate) free_in_block: [u32; 8],
-    /// No frame below is free.
-    pub(crate) free_from: u32,
-    /// Each page number below is in use.
-    pub(crate) unused_from: u32,
-    pub(crate) migrate: u32,
-    pub(crate) free: u32,
-    pub(crate) round: Option<RoundStart>,
-    /// Whether the latest round is quiet so far.
-    pub(crate) quiet: bool,
-    pub(crate) journal: Journal,
+    pub(crate) fingers: Fingers,
+    pub(crate) history: History,
 }
 
 impl Model for PlainZone {

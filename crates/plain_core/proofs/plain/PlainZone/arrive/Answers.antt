@@ -1,9 +1,13 @@
-use Rattle.std.proofs.Common.{◌≡◌, ◌∙◌, ◌+◌, ◌/◌, ◌<◌, ℕ, List, refl, ap, subst, sym, arith, get_or, length}
-use Rattle.std.specs.Prelude.{Some, slice_set}
-use Rattle.std.specs.Vec.{with_item}
-use Rattle.std.proofs.lemmas.Option.{slice_get-get_or}
+use Rattle.std.proofs.Common.{◌≡◌, ◌∙◌, ◌-◌, ◌∷◌, ℕ, List, refl, ap, subst, sym, arith}
+use Rattle.std.specs.Prelude.{slice_set}
 use Rattle.frame_core.specs.declared.state.FrameState.TheVariants.{Free, Holds}
 use Rattle.journal_core.specs.declared.record.Record.TheVariants.{Moved}
+use Rattle.scan_core.specs.Frames.{Frames}
+use Rattle.state_core.specs.Pairs.{can_move}
+use Rattle.plain_core.proofs.Seen.{words_seen, note_seen, movable_seen}
+use Rattle.plain_core.specs.Fits.{MovesFit}
+use Rattle.plain_core.specs.Moves.{Moves}
+use Rattle.plain_core.proofs.Serials.{some_out, moves_arrived}
 use Rattle.plain_core.specs.declared.plain.PlainZone.TheInside.{Inside}
 use Rattle.state_core.specs.declared.placement.Placement.TheVariants.{At, Moving}
 use Rattle.state_core.specs.Carrying.{settled}
@@ -11,39 +15,35 @@ use Rattle.state_core.specs.Ending.{IsSettled, target_of, moved_to_target}
 use Rattle.plain_core.specs.Sound.{IsSound, state_of}
 use Rattle.state_core.specs.ZoneState.{ZoneState}
 use Rattle.state_core.proofs.Facts.{not_none}
-use Rattle.state_core.proofs.Quiet.{quiet_kept}
-use Rattle.plain_core.proofs.Seen.{words_seen}
 use Rattle.state_core.proofs.Settled.{can_move_on, moved_recorded, frames_apart, source_within, target_in}
-use Rattle.plain_core.proofs.Settles.{moved_frames, moved_words, moved_freer, moved_start, moved_counts, moved_serials, moved_settled, ending_room, ended_most, block_most, block_at}
-use Rattle.plain_core.proofs.Settling.{Settling, FramesSettled, WordsSettled, blocks_gained, settle_sound, settle_view}
+use Rattle.plain_core.proofs.Settles.{moved_frames, moved_words, kept_movable, two_puts, then_noted, moved_settled, some_on_the_way, ending_room}
+use Rattle.plain_core.proofs.Settling.{Settling, FramesSettled, MovableSettled, WordsSettled, settle_sound, settle_view}
 use Rattle.plain_core.proofs.plain.PlainZone.arrive.Goals as goal
-use Rattle.plain_core.proofs.plain.PlainZone.arrive.Goals.{After-block_of, After-get-block, After-get-2, After-get-3, After-get-4, After-push}
+use Rattle.plain_core.proofs.plain.PlainZone.arrive.Goals.{After-note}
 
-pub overflow_add-self-2 : goal.overflow_add-self-2
-overflow_add-self-2 c =
+pub arrive-requires : goal.arrive-requires
+arrive-requires c =
     let sound : IsSound c.self.inside c.args.self.now = subst (IsSound c.self.inside) c.self.view_is c.self.invariant in
-    let most = ended_most c.args.self.now c.self.inside.counts sound.counts sound.lawful.places in
-    omega (arith, most.0)
+    some_out c.self.inside.moves c.args.self.now.records c.args.self.now.room sound.moves sound.lawful.well_ended
+    (some_on_the_way c.args.self.now c.args.way.now.page c.args.way.now.serial c.args.way.now.source c.args.way.now.target sound.lawful c.requires.placed)
 
-pub overflow_add-self-3 : goal.overflow_add-self-3
-overflow_add-self-3 c =
-    let sound : IsSound c.self.inside c.args.self.now = subst (IsSound c.self.inside) c.self.view_is c.self.invariant in
-    let within = source_within c.args.self.now c.args.way.now.page c.args.way.now.serial c.args.way.now.source c.args.way.now.target sound.lawful c.requires.placed in
-    let at : c.get-block.result ≡ c.args.way.now.source / 512 = c.get-block.ensures.value ∙ c.block_of.ensures in
-    let most = block_most c.args.self.now c.self.inside.free_in_block sound.blocks c.get-block.result (omega (arith, at, within)) in
-    omega (arith, most)
-
-pub index_mut-requires : goal.index_mut-requires
-index_mut-requires c =
+pub put-requires : goal.put-requires
+put-requires c =
     let sound : IsSound c.self.inside c.args.self.now = subst (IsSound c.self.inside) c.self.view_is c.self.invariant in
     let within = source_within c.args.self.now c.args.way.now.page c.args.way.now.serial c.args.way.now.source c.args.way.now.target sound.lawful c.requires.placed in
-    omega (arith, within, c.get-2.ensures.value, sound.frames.count, c.self.inside.frames.ok.0)
+    omega (arith, within, sound.frames.count)
 
-pub index_mut-requires-2 : goal.index_mut-requires-2
-index_mut-requires-2 c =
+pub put-requires-2 : goal.put-requires-2
+put-requires-2 c =
     let sound : IsSound c.self.inside c.args.self.now = subst (IsSound c.self.inside) c.self.view_is c.self.invariant in
     let within = target_in c.args.self.now c.args.way.now.page c.args.way.now.serial c.args.way.now.source c.args.way.now.target sound.lawful c.requires.placed in
-    omega (arith, within, c.get-3.ensures.value, sound.frames.count, c.self.inside.frames.ok.0)
+    omega (arith, within, sound.frames.count, c.put.ensures.frames)
+
+pub set_movable-requires : goal.set_movable-requires
+set_movable-requires c =
+    let sound : IsSound c.self.inside c.args.self.now = subst (IsSound c.self.inside) c.self.view_is c.self.invariant in
+    let within = target_in c.args.self.now c.args.way.now.page c.args.way.now.serial c.args.way.now.source c.args.way.now.target sound.lawful c.requires.placed in
+    omega (arith, within, sound.frames.count, c.put.ensures.frames, c.put-2.ensures.frames)
 
 pub write_in-requires : goal.write_in-requires
 write_in-requires c =
@@ -51,26 +51,27 @@ write_in-requires c =
     let within = target_in c.args.self.now c.args.way.now.page c.args.way.now.serial c.args.way.now.source c.args.way.now.target sound.lawful c.requires.placed in
     omega (arith, within, sound.words.count)
 
-pub push-requires : goal.push-requires
-push-requires c =
+pub note-requires : goal.note-requires
+note-requires c =
     let sound : IsSound c.self.inside c.args.self.now = subst (IsSound c.self.inside) c.self.view_is c.self.invariant in
     let room = ending_room c.args.self.now c.args.way.now.page c.args.way.now.serial c.args.way.now.source c.args.way.now.target sound.lawful c.requires.placed in
     omega (arith, room, ap (λ (v : ZoneState). v.room) c.self.view_is)
 
 -- the fields after the call
-abbrev after : After-push → Inside
+abbrev after : After-note → Inside
 after c = record c.self.inside {
-  frames = with_item (with_item c.self.inside.frames c.get-2.result Free) c.get-3.result (Holds c.args.way.now.page);
+  frames = c.set_movable.new.self;
   tables = c.to_present.new.self;
   words = c.write_in.new.self;
-  notes = with_item c.self.inside.notes c.get-4.result (record c.index_mut-note.result.now { placement = Some (At c.args.way.now.target) });
-  counts = record c.self.inside.counts { free = c.self.inside.counts.free + 1; moved = c.self.inside.counts.moved + 1 };
-  free_in_block = slice_set c.self.inside.free_in_block c.get-block.result (get_or c.self.inside.free_in_block c.get-block.result 0 + 1);
-  free_from = c.min-self-inside.result;
-  journal = c.push.new.self;
+  notes = c.put-3.new.self;
+  moves = c.arrive.new.self;
+  history = c.note.new.self;
 }
 
-settling : (c : After-push) → Settling c.self.inside (after c) c.args.self.now c.args.way.now.page (Moving c.args.way.now.serial c.args.way.now.source c.args.way.now.target) (At c.args.way.now.target) (Moved c.args.way.now.serial) c.index_mut-note.result.now c.args.self.now.migrate c.args.self.now.free
+frames_are : (c : After-note) → c.set_movable.new.self ≡ record { states = slice_set (slice_set c.self.inside.frames.states c.args.way.now.source Free) c.args.way.now.target (Holds c.args.way.now.page); movable = slice_set c.self.inside.frames.movable c.args.way.now.target c.can_move.result }
+frames_are c = then_noted _ c.put-2.new.self c.set_movable.new.self _ _ (two_puts c.self.inside.frames c.put.new.self c.put-2.new.self _ _ _ _ c.put.ensures.state c.put-2.ensures.state) c.set_movable.ensures.movable
+
+settling : (c : After-note) → Settling c.self.inside (after c) c.args.self.now c.args.way.now.page (Moving c.args.way.now.serial c.args.way.now.source c.args.way.now.target) (At c.args.way.now.target) (Moved c.args.way.now.serial) c.get-note.result c.args.self.now.migrate c.args.self.now.free
 settling c =
     let z = c.self.inside in
     let v = c.args.self.now in
@@ -80,48 +81,34 @@ settling c =
     let at = c.requires.placed in
     let source_in = source_within v way.page way.serial way.source way.target law at in
     let target_here = target_in v way.page way.serial way.source way.target law at in
-    let block : c.get-block.result ≡ way.source / 512 = c.get-block.ensures.value ∙ c.block_of.ensures in
-    let numbered = law.numbered way.page (not_none _ (Moving way.serial way.source way.target) at) in
-    let note_in : way.page < length z.notes.items = omega (arith, numbered, sound.notes.count) in
-    let freer = moved_freer v way.page way.serial way.source way.target law at (Moved way.serial) in
     record {
       sound = sound;
       view = c.self.view_is;
       can = can_move_on v way.page way.serial way.source way.target law at;
       recorded = moved_recorded v way.page way.serial way.source way.target law at c.requires.unpinned;
       spare = ending_room v way.page way.serial way.source way.target law at;
-      note_is = slice_get-get_or z.notes.items way.page c.index_mut-note.result.now note_in ∙ ap Some (ap (λ (i : ℕ). get_or z.notes.items i c.index_mut-note.result.now) (sym c.get-4.ensures.value) ∙ sym c.index_mut-note.ensures.value);
-      frames =
-          subst (λ (i : ℕ). FramesSettled z.frames.items (slice_set (slice_set z.frames.items c.get-2.result Free) i (Holds way.page)) way.page (Moving way.serial way.source way.target) (At way.target)) (sym c.get-3.ensures.value)
-          (subst (λ (i : ℕ). FramesSettled z.frames.items (slice_set (slice_set z.frames.items i Free) way.target (Holds way.page)) way.page (Moving way.serial way.source way.target) (At way.target)) (sym c.get-2.ensures.value)
-          (moved_frames z.frames.items way.page way.serial way.source way.target (frames_apart v way.page way.serial way.source way.target law at) (omega (arith, source_in, sound.frames.count)) (omega (arith, target_here, sound.frames.count))));
+      note_is = c.get-note.ensures;
+      frames = subst (λ (fs : Frames). FramesSettled z.frames.states fs.states way.page (Moving way.serial way.source way.target) (At way.target)) (sym (frames_are c))
+          (moved_frames z.frames.states way.page way.serial way.source way.target (frames_apart v way.page way.serial way.source way.target law at) (omega (arith, source_in, sound.frames.count)) (omega (arith, target_here, sound.frames.count)));
+      movable = subst (λ (fs : Frames). MovableSettled z.frames.movable fs.movable (can_move v way.page) (At way.target)) (sym (frames_are c))
+          (kept_movable z.frames.movable (can_move v way.page) c.can_move.result way.target (omega (arith, target_here, sound.movable.count))
+          (c.can_move.ensures ∙ movable_seen z v way.page c.get-note.result (note_seen z v c.self.view_is sound way.page (not_none _ (Moving way.serial way.source way.target) at) c.get-note.result c.get-note.ensures)));
       tables = c.to_present.ensures;
       words = subst (λ (rows : List (List ℕ)). WordsSettled z.words rows (Moving way.serial way.source way.target) (At way.target)) (sym c.write_in.ensures.written)
           (moved_words z.words c.args.copy.now.words way.serial way.source way.target (omega (arith, target_here, sound.words.count)) (c.requires.words ∙ sym (words_seen z.words v sound.words law way.page (Moving way.serial way.source way.target) at)) c.write_in.ensures.eight);
-      notes = ap (λ (i : ℕ). slice_set z.notes.items i (record c.index_mut-note.result.now { placement = Some (At way.target) })) c.get-4.ensures.value;
-      serials = moved_serials v way.page way.serial way.source way.target law at z.pages.items _ sound.serials (ending_room v way.page way.serial way.source way.target law at);
-      counts = moved_counts v way.page way.serial way.source way.target law at z.counts sound.counts;
-      blocks = blocks_gained v (settled v (Moved way.serial) way.page (At way.target)) way.source c.get-block.result freer block z.free_in_block (get_or z.free_in_block c.get-block.result 0) sound.blocks
-          (block_at v z.free_in_block sound.blocks c.get-block.result (omega (arith, block, source_in)));
-      free_from = λ frame h.
-          let low : frame < c.min-self-inside.result = h in
-          moved_start v way.page way.serial way.source way.target law at (Moved way.serial) z.free_from sound.starts.frames frame
-          (omega (arith, low, c.min-self-inside.ensures)) (omega (arith, low, c.min-self-inside.ensures, c.get.ensures.value));
-      quiet = sound.quiet ∙ sym (quiet_kept v.records (Moved way.serial) v.round refl law.begun);
-      migrate_is = ap (λ (u : ZoneState). u.migrate) c.self.view_is;
-      free_is = ap (λ (u : ZoneState). u.free) c.self.view_is;
+      notes = c.put-3.ensures ∙ ap (slice_set z.notes way.page) c.placed.ensures;
+      moves = subst (λ (moves : Moves). MovesFit moves (Moved way.serial ∷ v.records) (v.room - 1)) (sym c.arrive.ensures)
+          (moves_arrived z.moves v.records v.room sound.moves way.serial (ending_room v way.page way.serial way.source way.target law at));
+      fingers_are = ap (λ (u : ZoneState). record { migrate = u.migrate; free = u.free }) c.self.view_is;
       fingers = law.fingers;
-      records = c.push.ensures.records;
-      room = c.push.ensures.room;
+      history = c.note.ensures;
       number_same = refl;
       blocks_same = refl;
       marked_same = refl;
       handed_out_same = refl;
-      unused_same = refl;
-      round_same = refl;
     }
 
-view : (c : After-push) → state_of (after c) ≡ moved_to_target c.args.self.now c.args.way.now.serial c.args.way.now.page
+view : (c : After-note) → state_of (after c) ≡ moved_to_target c.args.self.now c.args.way.now.serial c.args.way.now.page
 view c =
     settle_view c.self.inside (after c) c.args.self.now c.args.way.now.page _ _ _ _ _ _ (settling c)
     ∙ ap (λ (frame : ℕ). settled c.args.self.now (Moved c.args.way.now.serial) c.args.way.now.page (At frame)) (sym (ap target_of c.requires.placed))

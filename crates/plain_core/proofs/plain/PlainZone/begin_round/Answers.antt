@@ -1,7 +1,15 @@
-use Rattle.plain_core.specs.Sound.{state_of}
+use Rattle.std.proofs.Common.{◌*◌, subst, sym, length, refl}
+use Rattle.scan_core.specs.declared.fingers.Fingers.{Fingers}
+use Rattle.plain_core.specs.declared.plain.PlainZone.TheInside.{Inside}
+use Rattle.plain_core.specs.History.{History}
+use Rattle.plain_core.specs.Sound.{IsSound, state_of}
 use Rattle.plain_core.proofs.Rounds.{begun_sound}
 use Rattle.plain_core.proofs.plain.PlainZone.begin_round.Goals as goal
 
 pub invariant_of-self : goal.invariant_of-self
-invariant_of-self c = begun_sound c.self.inside (state_of c.self.inside) c.self.invariant
-    (record { records = c.len.result; calm = c.is_calm-calm.result }) c.len.ensures
+invariant_of-self c =
+    let z = c.self.inside in
+    let S : Inside → Type 0 = λ u. IsSound u (state_of u) in
+    subst (λ (fingers : Fingers). S (record z { fingers = fingers; history = c.begin_round.new.self })) (sym c.at_ends-self-inside.ensures)
+    (subst (λ (history : History). S (record z { fingers = record { migrate = 0; free = 512 * z.blocks }; history = history })) (sym c.begin_round.ensures)
+    (begun_sound z (state_of z) c.self.invariant (record { records = length z.history.records; calm = c.is_calm-calm.result }) refl))

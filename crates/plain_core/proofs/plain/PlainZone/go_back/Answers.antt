@@ -1,9 +1,13 @@
-use Rattle.std.proofs.Common.{◌≡◌, ◌∙◌, ◌+◌, ◌/◌, ◌<◌, ℕ, refl, ap, subst, sym, arith, get_or, length, false}
-use Rattle.std.specs.Prelude.{Some, slice_set}
-use Rattle.std.specs.Vec.{with_item}
-use Rattle.std.proofs.lemmas.Option.{slice_get-get_or}
+use Rattle.std.proofs.Common.{◌≡◌, ◌∙◌, ◌-◌, ◌∷◌, ℕ, refl, ap, subst, sym, arith}
+use Rattle.std.specs.Prelude.{slice_set}
 use Rattle.frame_core.specs.declared.state.FrameState.TheVariants.{Free, Holds}
 use Rattle.journal_core.specs.declared.record.Record.TheVariants.{Back}
+use Rattle.scan_core.specs.Frames.{Frames}
+use Rattle.state_core.specs.Pairs.{can_move}
+use Rattle.plain_core.proofs.Seen.{note_seen, movable_seen}
+use Rattle.plain_core.specs.Fits.{MovesFit}
+use Rattle.plain_core.specs.Moves.{Moves}
+use Rattle.plain_core.proofs.Serials.{some_out, moves_back}
 use Rattle.plain_core.specs.declared.plain.PlainZone.TheInside.{Inside}
 use Rattle.state_core.specs.declared.placement.Placement.TheVariants.{At, Moving}
 use Rattle.state_core.specs.Carrying.{settled}
@@ -11,59 +15,56 @@ use Rattle.state_core.specs.Ending.{IsSettled, source_of, put_back_to_source}
 use Rattle.plain_core.specs.Sound.{IsSound, state_of}
 use Rattle.state_core.specs.ZoneState.{ZoneState}
 use Rattle.state_core.proofs.Facts.{not_none}
-use Rattle.state_core.proofs.Quiet.{quiet_ended}
 use Rattle.state_core.proofs.Settled.{can_go_back, back_recorded, frames_apart, source_within, target_in}
-use Rattle.plain_core.proofs.Settles.{back_frames, back_words, back_freer, back_start, back_counts, back_serials, back_settled, ending_room, ended_most, block_most, block_at}
-use Rattle.plain_core.proofs.Settling.{Settling, FramesSettled, blocks_gained, settle_sound, settle_view}
+use Rattle.plain_core.proofs.Settles.{back_frames, back_words, kept_movable, two_puts, then_noted, back_settled, some_on_the_way, ending_room}
+use Rattle.plain_core.proofs.Settling.{Settling, FramesSettled, MovableSettled, settle_sound, settle_view}
 use Rattle.plain_core.proofs.plain.PlainZone.go_back.Goals as goal
-use Rattle.plain_core.proofs.plain.PlainZone.go_back.Goals.{After-block_of, After-get-block, After-get-2, After-get-3, After-get-4, After-push}
+use Rattle.plain_core.proofs.plain.PlainZone.go_back.Goals.{After-note}
 
-pub overflow_add-self-2 : goal.overflow_add-self-2
-overflow_add-self-2 c =
+pub go_back-requires : goal.go_back-requires
+go_back-requires c =
     let sound : IsSound c.self.inside c.args.self.now = subst (IsSound c.self.inside) c.self.view_is c.self.invariant in
-    let most = ended_most c.args.self.now c.self.inside.counts sound.counts sound.lawful.places in
-    omega (arith, most.1)
+    some_out c.self.inside.moves c.args.self.now.records c.args.self.now.room sound.moves sound.lawful.well_ended
+    (some_on_the_way c.args.self.now c.args.way.now.page c.args.way.now.serial c.args.way.now.source c.args.way.now.target sound.lawful c.requires.placed)
 
-pub overflow_add-self-3 : goal.overflow_add-self-3
-overflow_add-self-3 c =
-    let sound : IsSound c.self.inside c.args.self.now = subst (IsSound c.self.inside) c.self.view_is c.self.invariant in
-    let within = target_in c.args.self.now c.args.way.now.page c.args.way.now.serial c.args.way.now.source c.args.way.now.target sound.lawful c.requires.placed in
-    let at : c.get-block.result ≡ c.args.way.now.target / 512 = c.get-block.ensures.value ∙ c.block_of.ensures in
-    let most = block_most c.args.self.now c.self.inside.free_in_block sound.blocks c.get-block.result (omega (arith, at, within)) in
-    omega (arith, most)
-
-pub index_mut-requires : goal.index_mut-requires
-index_mut-requires c =
+pub put-requires : goal.put-requires
+put-requires c =
     let sound : IsSound c.self.inside c.args.self.now = subst (IsSound c.self.inside) c.self.view_is c.self.invariant in
     let within = target_in c.args.self.now c.args.way.now.page c.args.way.now.serial c.args.way.now.source c.args.way.now.target sound.lawful c.requires.placed in
-    omega (arith, within, c.get-2.ensures.value, sound.frames.count, c.self.inside.frames.ok.0)
+    omega (arith, within, sound.frames.count)
 
-pub index_mut-requires-2 : goal.index_mut-requires-2
-index_mut-requires-2 c =
+pub put-requires-2 : goal.put-requires-2
+put-requires-2 c =
     let sound : IsSound c.self.inside c.args.self.now = subst (IsSound c.self.inside) c.self.view_is c.self.invariant in
     let within = source_within c.args.self.now c.args.way.now.page c.args.way.now.serial c.args.way.now.source c.args.way.now.target sound.lawful c.requires.placed in
-    omega (arith, within, c.get-3.ensures.value, sound.frames.count, c.self.inside.frames.ok.0)
+    omega (arith, within, sound.frames.count, c.put.ensures.frames)
 
-pub push-requires : goal.push-requires
-push-requires c =
+pub set_movable-requires : goal.set_movable-requires
+set_movable-requires c =
+    let sound : IsSound c.self.inside c.args.self.now = subst (IsSound c.self.inside) c.self.view_is c.self.invariant in
+    let within = source_within c.args.self.now c.args.way.now.page c.args.way.now.serial c.args.way.now.source c.args.way.now.target sound.lawful c.requires.placed in
+    omega (arith, within, sound.frames.count, c.put.ensures.frames, c.put-2.ensures.frames)
+
+pub note-requires : goal.note-requires
+note-requires c =
     let sound : IsSound c.self.inside c.args.self.now = subst (IsSound c.self.inside) c.self.view_is c.self.invariant in
     let room = ending_room c.args.self.now c.args.way.now.page c.args.way.now.serial c.args.way.now.source c.args.way.now.target sound.lawful c.requires.placed in
     omega (arith, room, ap (λ (v : ZoneState). v.room) c.self.view_is)
 
 -- the fields after the call
-abbrev after : After-push → Inside
+abbrev after : After-note → Inside
 after c = record c.self.inside {
-  frames = with_item (with_item c.self.inside.frames c.get-2.result Free) c.get-3.result (Holds c.args.way.now.page);
+  frames = c.set_movable.new.self;
   tables = c.to_present.new.self;
-  notes = with_item c.self.inside.notes c.get-4.result (record c.index_mut-note.result.now { placement = Some (At c.args.way.now.source) });
-  counts = record c.self.inside.counts { free = c.self.inside.counts.free + 1; back = c.self.inside.counts.back + 1 };
-  free_in_block = slice_set c.self.inside.free_in_block c.get-block.result (get_or c.self.inside.free_in_block c.get-block.result 0 + 1);
-  free_from = c.min-self-inside.result;
-  quiet = false;
-  journal = c.push.new.self;
+  notes = c.put-3.new.self;
+  moves = c.go_back.new.self;
+  history = c.note.new.self;
 }
 
-settling : (c : After-push) → Settling c.self.inside (after c) c.args.self.now c.args.way.now.page (Moving c.args.way.now.serial c.args.way.now.source c.args.way.now.target) (At c.args.way.now.source) (Back c.args.way.now.serial c.args.cause) c.index_mut-note.result.now c.args.self.now.migrate c.args.self.now.free
+frames_are : (c : After-note) → c.set_movable.new.self ≡ record { states = slice_set (slice_set c.self.inside.frames.states c.args.way.now.target Free) c.args.way.now.source (Holds c.args.way.now.page); movable = slice_set c.self.inside.frames.movable c.args.way.now.source c.can_move.result }
+frames_are c = then_noted _ c.put-2.new.self c.set_movable.new.self _ _ (two_puts c.self.inside.frames c.put.new.self c.put-2.new.self _ _ _ _ c.put.ensures.state c.put-2.ensures.state) c.set_movable.ensures.movable
+
+settling : (c : After-note) → Settling c.self.inside (after c) c.args.self.now c.args.way.now.page (Moving c.args.way.now.serial c.args.way.now.source c.args.way.now.target) (At c.args.way.now.source) (Back c.args.way.now.serial c.args.cause) c.get-note.result c.args.self.now.migrate c.args.self.now.free
 settling c =
     let z = c.self.inside in
     let v = c.args.self.now in
@@ -73,47 +74,33 @@ settling c =
     let at = c.requires.placed in
     let source_in = source_within v way.page way.serial way.source way.target law at in
     let target_here = target_in v way.page way.serial way.source way.target law at in
-    let block : c.get-block.result ≡ way.target / 512 = c.get-block.ensures.value ∙ c.block_of.ensures in
-    let numbered = law.numbered way.page (not_none _ (Moving way.serial way.source way.target) at) in
-    let note_in : way.page < length z.notes.items = omega (arith, numbered, sound.notes.count) in
-    let freer = back_freer v way.page way.serial way.source way.target law at (Back way.serial c.args.cause) in
     record {
       sound = sound;
       view = c.self.view_is;
       can = can_go_back v way.page way.serial way.source way.target law at;
       recorded = back_recorded v way.page way.serial way.source way.target law at c.args.cause c.requires.cause;
       spare = ending_room v way.page way.serial way.source way.target law at;
-      note_is = slice_get-get_or z.notes.items way.page c.index_mut-note.result.now note_in ∙ ap Some (ap (λ (i : ℕ). get_or z.notes.items i c.index_mut-note.result.now) (sym c.get-4.ensures.value) ∙ sym c.index_mut-note.ensures.value);
-      frames =
-          subst (λ (i : ℕ). FramesSettled z.frames.items (slice_set (slice_set z.frames.items c.get-2.result Free) i (Holds way.page)) way.page (Moving way.serial way.source way.target) (At way.source)) (sym c.get-3.ensures.value)
-          (subst (λ (i : ℕ). FramesSettled z.frames.items (slice_set (slice_set z.frames.items i Free) way.source (Holds way.page)) way.page (Moving way.serial way.source way.target) (At way.source)) (sym c.get-2.ensures.value)
-          (back_frames z.frames.items way.page way.serial way.source way.target (frames_apart v way.page way.serial way.source way.target law at) (omega (arith, source_in, sound.frames.count)) (omega (arith, target_here, sound.frames.count))));
+      note_is = c.get-note.ensures;
+      frames = subst (λ (fs : Frames). FramesSettled z.frames.states fs.states way.page (Moving way.serial way.source way.target) (At way.source)) (sym (frames_are c))
+          (back_frames z.frames.states way.page way.serial way.source way.target (frames_apart v way.page way.serial way.source way.target law at) (omega (arith, source_in, sound.frames.count)) (omega (arith, target_here, sound.frames.count)));
+      movable = subst (λ (fs : Frames). MovableSettled z.frames.movable fs.movable (can_move v way.page) (At way.source)) (sym (frames_are c))
+          (kept_movable z.frames.movable (can_move v way.page) c.can_move.result way.source (omega (arith, source_in, sound.movable.count))
+          (c.can_move.ensures ∙ movable_seen z v way.page c.get-note.result (note_seen z v c.self.view_is sound way.page (not_none _ (Moving way.serial way.source way.target) at) c.get-note.result c.get-note.ensures)));
       tables = c.to_present.ensures;
       words = back_words z.words v sound.words way.serial way.source way.target source_in;
-      notes = ap (λ (i : ℕ). slice_set z.notes.items i (record c.index_mut-note.result.now { placement = Some (At way.source) })) c.get-4.ensures.value;
-      serials = back_serials v way.page way.serial way.source way.target law at c.args.cause z.pages.items _ sound.serials (ending_room v way.page way.serial way.source way.target law at);
-      counts = back_counts v way.page way.serial way.source way.target law at c.args.cause z.counts sound.counts;
-      blocks = blocks_gained v (settled v (Back way.serial c.args.cause) way.page (At way.source)) way.target c.get-block.result freer block z.free_in_block (get_or z.free_in_block c.get-block.result 0) sound.blocks
-          (block_at v z.free_in_block sound.blocks c.get-block.result (omega (arith, block, target_here)));
-      free_from = λ frame h.
-          let low : frame < c.min-self-inside.result = h in
-          back_start v way.page way.serial way.source way.target law at (Back way.serial c.args.cause) z.free_from sound.starts.frames frame
-          (omega (arith, low, c.min-self-inside.ensures)) (omega (arith, low, c.min-self-inside.ensures, c.get.ensures.value));
-      quiet = sym (quiet_ended v.records (Back way.serial c.args.cause) v.round refl law.begun);
-      migrate_is = ap (λ (u : ZoneState). u.migrate) c.self.view_is;
-      free_is = ap (λ (u : ZoneState). u.free) c.self.view_is;
+      notes = c.put-3.ensures ∙ ap (slice_set z.notes way.page) c.placed.ensures;
+      moves = subst (λ (moves : Moves). MovesFit moves (Back way.serial c.args.cause ∷ v.records) (v.room - 1)) (sym c.go_back.ensures)
+          (moves_back z.moves v.records v.room sound.moves way.serial c.args.cause (ending_room v way.page way.serial way.source way.target law at));
+      fingers_are = ap (λ (u : ZoneState). record { migrate = u.migrate; free = u.free }) c.self.view_is;
       fingers = law.fingers;
-      records = c.push.ensures.records;
-      room = c.push.ensures.room;
+      history = c.note.ensures;
       number_same = refl;
       blocks_same = refl;
       marked_same = refl;
       handed_out_same = refl;
-      unused_same = refl;
-      round_same = refl;
     }
 
-view : (c : After-push) → state_of (after c) ≡ put_back_to_source c.args.self.now c.args.way.now.serial c.args.way.now.page c.args.cause
+view : (c : After-note) → state_of (after c) ≡ put_back_to_source c.args.self.now c.args.way.now.serial c.args.way.now.page c.args.cause
 view c =
     settle_view c.self.inside (after c) c.args.self.now c.args.way.now.page _ _ _ _ _ _ (settling c)
     ∙ ap (λ (frame : ℕ). settled c.args.self.now (Back c.args.way.now.serial c.args.cause) c.args.way.now.page (At frame)) (sym (ap source_of c.requires.placed))

@@ -1,25 +1,31 @@
-use Rattle.std.proofs.Common.{◌≡◌, ◌∙◌, ◌*◌, ◌<◌, ◌≤◌, true, length, ap, subst, sym, arith}
-use Rattle.journal_core.specs.Moves.{out}
+use Rattle.std.proofs.Common.{◌∙◌, inl, inr, not, length, ap, subst, sym}
+use Rattle.std.specs.Prelude.{nat_eq, ◌&&◌}
+use Rattle.std.proofs.lemmas.Bool.Decides.{eqb_tells}
+use Rattle.frame_core.specs.Below.{some_below}
+use Rattle.journal_core.specs.Moves.{out as out_now}
 use Rattle.state_core.specs.Pairs.{is_stuck}
+use Rattle.state_core.specs.ZoneState.{frame_count}
 use Rattle.plain_core.specs.Sound.{IsSound}
-use Rattle.state_core.specs.ZoneState.{ZoneState}
-use Rattle.state_core.proofs.Rounds.{not_calm, calm}
+use Rattle.plain_core.proofs.Scanning.{any_stuck_seen}
+use Rattle.plain_core.proofs.Seen.{mark_seen}
+use Rattle.plain_core.proofs.Serials.{out_is}
 use Rattle.plain_core.proofs.plain.PlainZone.is_calm.Goals as goal
 
-pub returns-then-is_stuck : goal.returns-then-is_stuck
-returns-then-is_stuck c =
-    let v : ZoneState = c.args.self.now in
-    let within : c.loop-number.number < 512 * v.blocks = subst
-    (λ (u : ZoneState). c.loop-number.number < 512 * u.blocks) c.self.view_is c.loop-number-test.true in
-    let stuck : is_stuck v c.loop-number.number ≡ true = ap (is_stuck v) (sym c.in-Some.ensures.value)
-    ∙ sym c.if-is_stuck.ensures in
-    not_calm v c.loop-number.number within stuck
+pub returns-then-out-eq0 : goal.returns-then-out-eq0
+returns-then-out-eq0 c =
+    let sound : IsSound c.self.inside c.args.self.now = subst (IsSound c.self.inside) c.self.view_is c.self.invariant in
+    let out = out_is c.self.inside.moves c.args.self.now.records c.args.self.now.room sound.moves sound.lawful.well_ended c.out.result c.out.ensures in
+    let stuck = c.is_any_stuck.ensures ∙ any_stuck_seen c.args.self.now sound.lawful c.self.inside.frames.states c.self.inside.frames.movable c.self.inside.marked sound.frames sound.movable (mark_seen c.self.inside c.args.self.now c.self.view_is) in
+    elim (eqb_tells (length (out_now c.args.self.now.records)) 0) [
+      | inl none ↦ ap not stuck ∙ sym (ap (λ b. b && not (some_below (is_stuck c.args.self.now) (frame_count c.args.self.now))) none.0)
+      | inr some ↦ absurd (some.1 (sym out ∙ c.if-out-eq0.true))
+    ]
 
-pub returns : goal.returns
-returns c =
-    let v : ZoneState = c.args.self.now in
-    let sound : IsSound c.self.inside v = subst (IsSound c.self.inside) c.self.view_is c.self.invariant in
-    let end : 512 * v.blocks ≤ c.loop-number.number = subst (λ (u : ZoneState). 512 * u.blocks ≤ c.loop-number.number)
-    c.self.view_is c.loop-number-test.false in
-    let none : length (out v.records) ≡ 0 = omega (arith, sound.counts.out, c.if-self.false) in
-    calm v none (λ frame h. c.loop-number.invariant frame (omega arith))
+pub returns-else-out-eq0 : goal.returns-else-out-eq0
+returns-else-out-eq0 c =
+    let sound : IsSound c.self.inside c.args.self.now = subst (IsSound c.self.inside) c.self.view_is c.self.invariant in
+    let out = out_is c.self.inside.moves c.args.self.now.records c.args.self.now.room sound.moves sound.lawful.well_ended c.out.result c.out.ensures in
+    elim (eqb_tells (length (out_now c.args.self.now.records)) 0) [
+      | inl none ↦ absurd (c.if-out-eq0.false (out ∙ none.1))
+      | inr some ↦ ap (λ n. nat_eq n 0) out ∙ some.0 ∙ sym (ap (λ b. b && not (some_below (is_stuck c.args.self.now) (frame_count c.args.self.now))) some.0)
+    ]

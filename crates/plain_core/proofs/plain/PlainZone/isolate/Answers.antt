@@ -1,7 +1,5 @@
-use Rattle.std.proofs.Common.{◌≡◌, ◌∙◌, ◌+◌, ◌-◌, ◌/◌, ◌<◌, ◌∷◌, ◌++◌, [], ℕ, List, refl, ap, subst, sym, arith, get_or, length}
-use Rattle.std.specs.Prelude.{Some, slice_set, vec_capacity}
-use Rattle.std.specs.Vec.{with_item}
-use Rattle.std.proofs.lemmas.Option.{slice_get-get_or}
+use Rattle.std.proofs.Common.{◌≡◌, ◌∙◌, ◌+◌, ◌-◌, ◌∷◌, ℕ, refl, ap, subst, sym, arith}
+use Rattle.std.specs.Prelude.{Some, slice_set}
 use Rattle.frame_core.specs.declared.state.FrameState.TheVariants.{Source, Target}
 use Rattle.journal_core.specs.declared.record.Record.TheVariants.{Isolate}
 use Rattle.journal_core.specs.Moves.{isolated}
@@ -9,56 +7,51 @@ use Rattle.table_core.specs.declared.entry.Entry.TheVariants.{Present, Migration
 use Rattle.table_core.specs.Tables.{Replaces}
 use Rattle.plain_core.specs.declared.plain.PlainZone.TheInside.{Inside}
 use Rattle.state_core.specs.declared.placement.Placement.TheVariants.{At, Moving}
-use Rattle.plain_core.specs.Fits.{SerialsFit}
-use Rattle.state_core.specs.Carrying.{settled}
+use Rattle.scan_core.specs.Frames.{Frames}
+use Rattle.plain_core.proofs.Settles.{two_puts}
+use Rattle.state_core.specs.Pairs.{can_move}
+use Rattle.plain_core.specs.Fits.{MovesFit}
+use Rattle.plain_core.specs.History.{told}
+use Rattle.plain_core.specs.Moves.{Moves}
+use Rattle.plain_core.proofs.Serials.{isolated_most, moves_more}
 use Rattle.plain_core.specs.Sound.{IsSound}
-use Rattle.plain_core.proofs.Departed.{isolated_most, isolated_frames, isolated_words, isolated_freer, isolated_start, isolated_counts, isolated_serials}
-use Rattle.state_core.proofs.Facts.{not_none}
-use Rattle.plain_core.proofs.Finding.{free_counted}
-use Rattle.state_core.proofs.Quiet.{quiet_kept}
+use Rattle.plain_core.proofs.Departed.{isolated_frames, isolated_words, isolated_movable}
 use Rattle.state_core.proofs.Settled.{can_isolate, isolate_recorded, target_within}
-use Rattle.plain_core.proofs.Settles.{block_at}
-use Rattle.plain_core.proofs.Settling.{Settling, FramesSettled, blocks_lost, settle_sound, settle_view}
+use Rattle.plain_core.proofs.Settling.{Settling, FramesSettled, MovableSettled, settle_sound, settle_view}
 use Rattle.plain_core.proofs.plain.PlainZone.isolate.Goals as goal
-use Rattle.plain_core.proofs.plain.PlainZone.isolate.Goals.{After-push}
+use Rattle.plain_core.proofs.plain.PlainZone.isolate.Goals.{After-note}
 
-pub overflow_sub-self : goal.overflow_sub-self
-overflow_sub-self c =
+pub put-requires : goal.put-requires
+put-requires c =
     let sound : IsSound c.self.inside c.args.self.now = subst (IsSound c.self.inside) c.self.view_is c.self.invariant in
-    (free_counted c.self.inside c.args.self.now sound c.args.pair.target c.get-block.result c.requires.pair.to.free (target_within c.args.self.now c.args.pair sound.lawful c.requires.pair) (c.get-block.ensures.value ∙ c.block_of.ensures)).0
+    let within = target_within c.args.self.now c.args.pair sound.lawful c.requires.pair in
+    let low = c.requires.pair.to.low in
+    omega (arith, within, low, sound.frames.count)
 
-pub overflow_sub-self-2 : goal.overflow_sub-self-2
-overflow_sub-self-2 c =
+pub put-requires-2 : goal.put-requires-2
+put-requires-2 c =
     let sound : IsSound c.self.inside c.args.self.now = subst (IsSound c.self.inside) c.self.view_is c.self.invariant in
-    (free_counted c.self.inside c.args.self.now sound c.args.pair.target c.get-block.result c.requires.pair.to.free (target_within c.args.self.now c.args.pair sound.lawful c.requires.pair) (c.get-block.ensures.value ∙ c.block_of.ensures)).1
+    let within = target_within c.args.self.now c.args.pair sound.lawful c.requires.pair in
+    omega (arith, within, sound.frames.count, c.put.ensures.frames)
 
-pub overflow_add-self : goal.overflow_add-self
-overflow_add-self c =
-    let sound : IsSound c.self.inside c.args.self.now = subst (IsSound c.self.inside) c.self.view_is c.self.invariant in
-    let most = isolated_most c.args.self.now.records in
-    omega (arith, most, sound.counts.isolated, sound.lawful.places)
-
-pub push_reserved-requires : goal.push_reserved-requires
-push_reserved-requires c =
+pub isolate-serial-requires : goal.isolate-serial-requires
+isolate-serial-requires c =
     let sound : IsSound c.self.inside c.args.self.now = subst (IsSound c.self.inside) c.self.view_is c.self.invariant in
     let room = c.requires.room in
-    omega (arith, sound.serials.count, sound.serials.room, isolated_most c.args.self.now.records, c.self.inside.pages.ok.0)
+    omega (arith, sound.moves.count, sound.moves.places, isolated_most c.args.self.now.records)
 
 -- the fields after the call
-abbrev after : After-push → Inside
+abbrev after : After-note → Inside
 after c = record c.self.inside {
-  frames = with_item (with_item c.self.inside.frames c.get.result (Source c.self.inside.counts.isolated)) c.get-2.result (Target c.self.inside.counts.isolated);
+  frames = c.put-2.new.self;
   tables = c.to_migration.new.self;
-  notes = with_item c.self.inside.notes c.get-3.result (record c.index_mut-note.result.now { placement = Some (Moving c.self.inside.counts.isolated c.args.pair.source c.args.pair.target) });
-  pages = c.push_reserved.new.self;
-  counts = record c.self.inside.counts { free = c.self.inside.counts.free - 1; isolated = c.self.inside.counts.isolated + 1 };
-  free_in_block = slice_set c.self.inside.free_in_block c.get-block.result (get_or c.self.inside.free_in_block c.get-block.result 0 - 1);
-  migrate = c.get-4.result + 1;
-  free = c.get-self-inside.result;
-  journal = c.push.new.self;
+  notes = c.put-3.new.self;
+  moves = c.isolate-serial.new.self;
+  fingers = record { migrate = c.get.result + 1; free = c.get-2.result };
+  history = c.note.new.self;
 }
 
-settling : (c : After-push) → Settling c.self.inside (after c) c.args.self.now c.args.pair.page (At c.args.pair.source) (Moving (isolated c.args.self.now.records) c.args.pair.source c.args.pair.target) (Isolate (isolated c.args.self.now.records) c.args.pair.page) c.index_mut-note.result.now (c.args.pair.source + 1) c.args.pair.target
+settling : (c : After-note) → Settling c.self.inside (after c) c.args.self.now c.args.pair.page (At c.args.pair.source) (Moving (isolated c.args.self.now.records) c.args.pair.source c.args.pair.target) (Isolate (isolated c.args.self.now.records) c.args.pair.page) c.get-note.result (c.args.pair.source + 1) c.args.pair.target
 settling c =
     let z = c.self.inside in
     let v = c.args.self.now in
@@ -67,18 +60,11 @@ settling c =
     let law = sound.lawful in
     let is = c.requires.pair in
     let room = c.requires.room in
-    let serial : z.counts.isolated ≡ isolated v.records = sound.counts.isolated in
+    let serial : c.isolate-serial.result ≡ isolated v.records = c.isolate-serial.ensures.serial ∙ sound.moves.count in
     let target_in = target_within v pair law is in
     let low = is.to.low in
-    let block : c.get-block.result ≡ pair.target / 512 = c.get-block.ensures.value ∙ c.block_of.ensures in
-    let numbered = law.numbered pair.page (not_none _ (At pair.source) is.from.here) in
-    let note_in : pair.page < length z.notes.items = omega (arith, numbered, sound.notes.count) in
-    let freer = isolated_freer v pair law is in
-    let block_in : c.get-block.result < v.blocks = omega (arith, block, target_in) in
-    let before = block_at v z.free_in_block sound.blocks c.get-block.result block_in in
-    let counted = (free_counted z v sound pair.target c.get-block.result is.to.free target_in block).1 in
-    let fewer : get_or z.free_in_block c.get-block.result 0 ≡ get_or z.free_in_block c.get-block.result 0 - 1 + 1 = omega arith in
     let high = is.to.high in
+    let frames_are = two_puts z.frames c.put.new.self c.put-2.new.self pair.source pair.target (Source c.isolate-serial.result) (Target c.isolate-serial.result) c.put.ensures.state c.put-2.ensures.state in
     let fingers = law.fingers.1 in
     record {
       sound = sound;
@@ -86,33 +72,24 @@ settling c =
       can = can_isolate v pair law is;
       recorded = isolate_recorded v pair law is c.requires.room;
       spare = omega arith;
-      note_is = slice_get-get_or z.notes.items pair.page c.index_mut-note.result.now note_in ∙ ap Some (ap (λ (i : ℕ). get_or z.notes.items i c.index_mut-note.result.now) (sym c.get-3.ensures.value) ∙ sym c.index_mut-note.ensures.value);
-      frames =
-          subst (λ (n : ℕ). FramesSettled z.frames.items (slice_set (slice_set z.frames.items c.get.result (Source n)) c.get-2.result (Target n)) pair.page (At pair.source) (Moving (isolated v.records) pair.source pair.target)) (sym serial)
-          (subst (λ (i : ℕ). FramesSettled z.frames.items (slice_set (slice_set z.frames.items c.get.result (Source (isolated v.records))) i (Target (isolated v.records))) pair.page (At pair.source) (Moving (isolated v.records) pair.source pair.target)) (sym c.get-2.ensures.value)
-          (subst (λ (i : ℕ). FramesSettled z.frames.items (slice_set (slice_set z.frames.items i (Source (isolated v.records))) pair.target (Target (isolated v.records))) pair.page (At pair.source) (Moving (isolated v.records) pair.source pair.target)) (sym c.get.ensures.value)
-          (isolated_frames z.frames.items pair.page pair.source pair.target (isolated v.records) (λ e. absurd (omega arith)) (omega (arith, target_in, sound.frames.count)) (omega (arith, target_in, sound.frames.count)))));
+      note_is = c.get-note.ensures;
+      frames = subst (λ (fs : Frames). FramesSettled z.frames.states fs.states pair.page (At pair.source) (Moving (isolated v.records) pair.source pair.target)) (sym frames_are)
+          (subst (λ (n : ℕ). FramesSettled z.frames.states (slice_set (slice_set z.frames.states pair.source (Source n)) pair.target (Target n)) pair.page (At pair.source) (Moving (isolated v.records) pair.source pair.target)) (sym serial)
+          (isolated_frames z.frames.states pair.page pair.source pair.target (isolated v.records) (λ e. absurd (omega arith)) (omega (arith, target_in, sound.frames.count)) (omega (arith, target_in, sound.frames.count))));
+      movable = subst (λ (fs : Frames). MovableSettled z.frames.movable fs.movable (can_move v pair.page) (Moving (isolated v.records) pair.source pair.target)) (sym frames_are)
+          (isolated_movable z.frames.movable (can_move v pair.page) (isolated v.records) pair.source pair.target);
       tables = subst (λ (n : ℕ). Replaces z.tables c.to_migration.new.self (Present pair.source) (Migration n)) serial c.to_migration.ensures;
       words = isolated_words z.words v sound.words (isolated v.records) pair.source pair.target (omega arith) target_in;
-      notes = λ i. slice_set z.notes.items (c.get-3.ensures.value i) (record c.index_mut-note.result.now { placement = Some (Moving (serial i) pair.source pair.target) });
-      serials = subst (λ (ps : List ℕ). SerialsFit ps (vec_capacity c.push_reserved.new.self) (settled v (Isolate (isolated v.records) pair.page) pair.page (Moving (isolated v.records) pair.source pair.target))) (sym c.push_reserved.ensures.items)
-          (subst (λ (n : ℕ). SerialsFit (z.pages.items ++ pair.page ∷ []) n (settled v (Isolate (isolated v.records) pair.page) pair.page (Moving (isolated v.records) pair.source pair.target))) (sym c.push_reserved.ensures.capacity)
-          (isolated_serials v pair law is z.pages.items _ sound.serials (omega arith)));
-      counts = isolated_counts v pair law is z.counts sound.counts;
-      blocks = blocks_lost (settled v (Isolate (isolated v.records) pair.page) pair.page (Moving (isolated v.records) pair.source pair.target)) v pair.target c.get-block.result freer block z.free_in_block (get_or z.free_in_block c.get-block.result 0 - 1) sound.blocks (before ∙ ap Some fewer);
-      free_from = isolated_start v pair law is z.free_from sound.starts.frames;
-      quiet = sound.quiet ∙ sym (quiet_kept v.records (Isolate (isolated v.records) pair.page) v.round refl law.begun);
-      migrate_is = ap (λ (n : ℕ). n + 1) c.get-4.ensures.value;
-      free_is = c.get-self-inside.ensures.value;
+      notes = c.put-3.ensures ∙ ap (slice_set z.notes pair.page) (c.placed.ensures ∙ ap (λ (n : ℕ). record c.get-note.result { placement = Some (Moving n pair.source pair.target) }) serial);
+      moves = subst (λ (moves : Moves). MovesFit moves (Isolate (isolated v.records) pair.page ∷ v.records) (v.room - 1)) (sym c.isolate-serial.ensures.pages)
+          (moves_more z.moves v.records v.room sound.moves pair.page (omega arith));
+      fingers_are = λ i. record { migrate = c.get.ensures.value i + 1; free = c.get-2.ensures.value i };
       fingers = (omega arith, omega arith);
-      records = c.push.ensures.records ∙ ap (λ (n : ℕ). Isolate n pair.page ∷ z.journal.records) serial;
-      room = c.push.ensures.room;
+      history = c.note.ensures ∙ ap (λ (n : ℕ). told z.history (Isolate n pair.page)) serial;
       number_same = refl;
       blocks_same = refl;
       marked_same = refl;
       handed_out_same = refl;
-      unused_same = refl;
-      round_same = refl;
     }
 
 pub invariant_of-self : goal.invariant_of-self

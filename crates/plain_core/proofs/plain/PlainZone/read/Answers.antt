@@ -1,13 +1,14 @@
-use Rattle.std.proofs.Common.{◌≡◌, ◌∙◌, ◌∷◌, ℕ, ap, subst, sym, arith}
+use Rattle.std.proofs.Common.{◌≡◌, ◌∙◌, ℕ, ap, subst, sym, arith}
 use Rattle.journal_core.specs.declared.record.Record.TheVariants.{Load}
 use Rattle.state_core.specs.declared.placement.Placement.TheVariants.{At}
+use Rattle.plain_core.specs.History.{told}
 use Rattle.plain_core.specs.Sound.{IsSound, state_of}
 use Rattle.state_core.specs.Access.{value_at, loaded}
 use Rattle.plain_core.proofs.Accessed.{loaded_sound, word_read}
 use Rattle.state_core.proofs.Facts.{page_named, frame_within, spare}
 use Rattle.plain_core.proofs.Facts.{noted_view}
 use Rattle.plain_core.proofs.plain.PlainZone.read.Goals as goal
-use Rattle.plain_core.proofs.plain.PlainZone.read.Goals.{After-push}
+use Rattle.plain_core.proofs.plain.PlainZone.read.Goals.{After-note}
 
 pub load-value-requires : goal.load-value-requires
 load-value-requires c =
@@ -16,21 +17,21 @@ load-value-requires c =
     let within = frame_within c.args.self.now sound.lawful page.0 (At c.args.frame) page.2 in
     omega (arith, within, sound.words.count)
 
-value_is : (c : After-push) → c.load-value.result ≡ value_at c.args.self.now c.args.address c.args.word
+value_is : (c : After-note) → c.load-value.result ≡ value_at c.args.self.now c.args.address c.args.word
 value_is c =
     c.load-value.ensures.value
     ∙ word_read c.self.inside c.args.self.now (subst (IsSound c.self.inside) c.self.view_is c.self.invariant) c.args.address c.args.frame c.args.word c.requires.frame c.load-value.ensures.in_range
 
-view : (c : After-push) → state_of (record c.self.inside { journal = c.push.new.self }) ≡ loaded c.args.self.now c.args.client c.args.address c.args.word
-view c =
-    noted_view c.self.inside c.args.self.now c.push.new.self _ c.self.view_is
-    (c.push.ensures.records ∙ ap (λ (value : ℕ). Load c.args.client c.args.address c.args.word value ∷ c.self.inside.journal.records) (value_is c))
-    c.push.ensures.room
+told_is : (c : After-note) → c.note.new.self ≡ told c.self.inside.history (Load c.args.client c.args.address c.args.word (value_at c.args.self.now c.args.address c.args.word))
+told_is c = c.note.ensures ∙ ap (λ (value : ℕ). told c.self.inside.history (Load c.args.client c.args.address c.args.word value)) (value_is c)
+
+view : (c : After-note) → state_of (record c.self.inside { history = c.note.new.self }) ≡ loaded c.args.self.now c.args.client c.args.address c.args.word
+view c = noted_view c.self.inside c.args.self.now c.note.new.self _ c.self.view_is (told_is c)
 
 pub invariant_of-self : goal.invariant_of-self
 invariant_of-self c =
-    subst (IsSound (record c.self.inside { journal = c.push.new.self })) (sym (view c))
-    (loaded_sound c.self.inside c.args.self.now (subst (IsSound c.self.inside) c.self.view_is c.self.invariant) c.push.new.self c.args.client c.args.address c.args.frame c.args.word c.requires.frame (spare c.args.self.now c.requires.room))
+    subst (IsSound (record c.self.inside { history = c.note.new.self })) (sym (view c))
+    (loaded_sound c.self.inside c.args.self.now (subst (IsSound c.self.inside) c.self.view_is c.self.invariant) c.note.new.self c.args.client c.args.address c.args.frame c.args.word c.requires.frame (spare c.args.self.now c.requires.room))
 
 pub returns-clause-value : goal.returns-clause-value
 returns-clause-value c = value_is c

@@ -3,8 +3,9 @@ use Rattle.std.specs.Prelude.{Option, Some, None, is_some}
 use Rattle.std.specs.FinMap as map
 use Rattle.state_core.specs.declared.placement.Placement.{Placement}
 use Rattle.state_core.specs.declared.placement.Placement.TheVariants.{Moving}
+use Rattle.plain_core.specs.Notes.{placement_of}
 use Rattle.state_core.specs.ZoneState.{ZoneState}
-use Rattle.plain_core.proofs.Seen.{note_of_page, not_own, own_when, other_serial, same_number}
+use Rattle.plain_core.proofs.Seen.{placement_seen, not_own, own_when, other_serial, same_number}
 use Rattle.plain_core.proofs.plain.PlainZone.way_of.Goals as goal
 
 nowhere : (o : Option Placement) (serial source target : ℕ) → o ≡ None → o ≡ Some (Moving serial source target) → ⊥
@@ -16,20 +17,18 @@ resting o placement serial source target e ne f = let same : placement ≡ Movin
 
 pub returns-in_err-under-clause-own : goal.returns-in_err-under-clause-own
 returns-in_err-under-clause-own c =
-    let noted = note_of_page c.self.inside c.args.self.now c.self.view_is c.deref.result.now c.get.result
-    c.args.page.now.number c.in_ok-note.note.now c.deref.ensures.value
-    (c.get.ensures.value ∙ c.number.ensures) c.in_ok-note.ensures.lookup.0 c.in_ok-note.ensures.lookup.1 in
+    let noted : map.get c.args.self.now.placement c.args.page.now.number ≡ c.placement.result =
+    sym (c.placement.ensures ∙ ap (placement_of c.self.inside.notes) c.number.ensures ∙ placement_seen c.self.inside c.args.self.now c.self.view_is c.args.page.now.number) in
     not_own c.args.page.now.zone c.args.self.now.number c.args.serial
-    (map.get c.args.self.now.placement c.args.page.now.number) (is_some c.from_residual-in_err-under.result)
-    (ap is_some c.from_residual-in_err-under.ensures)
+    (map.get c.args.self.now.placement c.args.page.now.number) (is_some c.from_residual.result)
+    (ap is_some c.from_residual.ensures)
     (λ source target e. nowhere (map.get c.args.self.now.placement c.args.page.now.number) c.args.serial source target
     (noted ∙ c.in_err-under.was) e)
 
 pub returns-in_default-clause-own : goal.returns-in_default-clause-own
 returns-in_default-clause-own c =
-    let noted = note_of_page c.self.inside c.args.self.now c.self.view_is c.deref.result.now c.get.result
-    c.args.page.now.number c.in_ok-note.note.now c.deref.ensures.value
-    (c.get.ensures.value ∙ c.number.ensures) c.in_ok-note.ensures.lookup.0 c.in_ok-note.ensures.lookup.1 in
+    let noted : map.get c.args.self.now.placement c.args.page.now.number ≡ c.placement.result =
+    sym (c.placement.ensures ∙ ap (placement_of c.self.inside.notes) c.number.ensures ∙ placement_seen c.self.inside c.args.self.now c.self.view_is c.args.page.now.number) in
     not_own c.args.page.now.zone c.args.self.now.number c.args.serial
     (map.get c.args.self.now.placement c.args.page.now.number) false refl
     (λ source target e. resting (map.get c.args.self.now.placement c.args.page.now.number) c.in_ok-under.field-0
@@ -37,9 +36,8 @@ returns-in_default-clause-own c =
 
 pub returns-then-under-serial-clause-own : goal.returns-then-under-serial-clause-own
 returns-then-under-serial-clause-own c =
-    let noted = note_of_page c.self.inside c.args.self.now c.self.view_is c.deref.result.now c.get.result
-    c.args.page.now.number c.in_ok-note.note.now c.deref.ensures.value
-    (c.get.ensures.value ∙ c.number.ensures) c.in_ok-note.ensures.lookup.0 c.in_ok-note.ensures.lookup.1 in
+    let noted : map.get c.args.self.now.placement c.args.page.now.number ≡ c.placement.result =
+    sym (c.placement.ensures ∙ ap (placement_of c.self.inside.notes) c.number.ensures ∙ placement_seen c.self.inside c.args.self.now c.self.view_is c.args.page.now.number) in
     not_own c.args.page.now.zone c.args.self.now.number c.args.serial
     (map.get c.args.self.now.placement c.args.page.now.number) false refl
     (other_serial (map.get c.args.self.now.placement c.args.page.now.number) c.in-Moving.under c.args.serial
@@ -47,9 +45,8 @@ returns-then-under-serial-clause-own c =
 
 pub returns-clause-own : goal.returns-clause-own
 returns-clause-own c =
-    let noted = note_of_page c.self.inside c.args.self.now c.self.view_is c.deref.result.now c.get.result
-    c.args.page.now.number c.in_ok-note.note.now c.deref.ensures.value
-    (c.get.ensures.value ∙ c.number.ensures) c.in_ok-note.ensures.lookup.0 c.in_ok-note.ensures.lookup.1 in
+    let noted : map.get c.args.self.now.placement c.args.page.now.number ≡ c.placement.result =
+    sym (c.placement.ensures ∙ ap (placement_of c.self.inside.notes) c.number.ensures ∙ placement_seen c.self.inside c.args.self.now c.self.view_is c.args.page.now.number) in
     let here : c.args.page.now.zone ≡ c.args.self.now.number = sym c.zone.ensures
     ∙ same_number c.zone.result c.self.inside.number c.if-ne.ensures ∙ ap (λ (v : ZoneState). v.number) c.self.view_is in (
       λ some. own_when c.args.page.now.zone c.args.self.now.number c.args.serial
@@ -61,8 +58,7 @@ returns-clause-own c =
 
 pub returns-clause-placed : goal.returns-clause-placed
 returns-clause-placed c =
-    let noted = note_of_page c.self.inside c.args.self.now c.self.view_is c.deref.result.now c.get.result
-    c.args.page.now.number c.in_ok-note.note.now c.deref.ensures.value
-    (c.get.ensures.value ∙ c.number.ensures) c.in_ok-note.ensures.lookup.0 c.in_ok-note.ensures.lookup.1 in
+    let noted : map.get c.args.self.now.placement c.args.page.now.number ≡ c.placement.result =
+    sym (c.placement.ensures ∙ ap (placement_of c.self.inside.notes) c.number.ensures ∙ placement_seen c.self.inside c.args.self.now c.self.view_is c.args.page.now.number) in
     ap (map.get c.args.self.now.placement) c.number-2.ensures ∙ noted ∙ c.in_ok-under.was ∙ ap Some c.in-Moving.is
     ∙ ap (λ (n : ℕ). Some (Moving n c.in-Moving.source c.in-Moving.target)) c.if-under-serial.false

@@ -1,0 +1,89 @@
+-- The notes of pages: how many are in use when one changes.
+use Rattle.std.proofs.Common.{◌≡◌, ◌≢◌, ℕ, zero, suc, ◌+◌, ◌-◌, ◌<◌, ◌≤◌, Bool, true, false, List, length, inl, inr, refl, sym, ap, ◌∙◌, get_or, arith}
+use Rattle.std.specs.Prelude.{is_some, slice_set}
+use Rattle.std.specs.Option.{option_and_then}
+use Rattle.std.specs.Vec.{with_item}
+use Rattle.std.proofs.lemmas.Bool.Decides.{eqb_tells}
+use Rattle.std.proofs.lemmas.List.{length-set}
+use Rattle.std.proofs.lemmas.Option.{slice_get-get_or}
+use Rattle.frame_core.proofs.Lists.{slice_get_set_same, slice_get_set_other}
+use Rattle.frame_core.proofs.Searches.{count_more, count_same}
+use Rattle.frame_core.specs.Below.{count_below, one_if}
+use Rattle.plain_core.specs.declared.note.Note.{Note}
+use Rattle.plain_core.specs.declared.notes.Notes.TheInside.{Inside}
+use Rattle.plain_core.specs.Notes.{placement_of, is_in_use}
+use Rattle.plain_core.specs.NotesInside.{IsCounted}
+
+one_most : (b : Bool) → one_if b ≤ 1
+one_most true = omega arith
+one_most false = omega arith
+
+pub in_use_most : (notes : List Note) (n : ℕ) → count_below (is_in_use notes) n ≤ n
+in_use_most notes zero = omega arith
+in_use_most notes (suc n) = omega (arith, one_most (is_in_use notes n), in_use_most notes n)
+
+module _ (notes : List Note) (page : ℕ) (note : Note) (within : page < length notes) where
+  pub placement_here : (q : ℕ) → q ≡ page → placement_of (slice_set notes page note) q ≡ note.placement
+  placement_here q same = ap (option_and_then (λ (n : Note). n.placement)) (slice_get_set_same notes page q note same within)
+
+  pub placement_there : (q : ℕ) → q ≢ page → placement_of (slice_set notes page note) q ≡ placement_of notes q
+  placement_there q other = ap (option_and_then (λ (n : Note). n.placement)) (slice_get_set_other notes page q note other)
+
+  -- how many are in use: one more, one fewer, or as many
+  pub gained : is_in_use notes page ≡ false → is_some note.placement ≡ true → count_below (is_in_use (slice_set notes page note)) (length (slice_set notes page note)) ≡ count_below (is_in_use notes) (length notes) + 1
+  gained was is =
+      ap (count_below (is_in_use (slice_set notes page note))) (length-set notes page note)
+      ∙ count_more (is_in_use notes) (is_in_use (slice_set notes page note)) (length notes) page within was (ap is_some (placement_here page refl) ∙ is) (λ q ne. ap is_some (placement_there q ne))
+
+  pub lost : is_in_use notes page ≡ true → is_some note.placement ≡ false → count_below (is_in_use notes) (length notes) ≡ count_below (is_in_use (slice_set notes page note)) (length (slice_set notes page note)) + 1
+  lost was is =
+      count_more (is_in_use (slice_set notes page note)) (is_in_use notes) (length notes) page within (ap is_some (placement_here page refl) ∙ is) was (λ q ne. sym (ap is_some (placement_there q ne)))
+      ∙ ap (λ (n : ℕ). count_below (is_in_use (slice_set notes page note)) n + 1) (sym (length-set notes page note))
+
+  in_use_kept : is_in_use notes page ≡ is_some note.placement → (q : ℕ) → is_in_use (slice_set notes page note) q ≡ is_in_use notes q
+  in_use_kept same q = elim (eqb_tells q page) [
+    | inl here ↦ ap is_some (placement_here q here.1) ∙ sym same ∙ ap (is_in_use notes) (sym here.1)
+    | inr other ↦ ap is_some (placement_there q other.1)
+  ]
+
+  pub kept : is_in_use notes page ≡ is_some note.placement → count_below (is_in_use (slice_set notes page note)) (length (slice_set notes page note)) ≡ count_below (is_in_use notes) (length notes)
+  kept same =
+      ap (count_below (is_in_use (slice_set notes page note))) (length-set notes page note)
+      ∙ count_same (is_in_use (slice_set notes page note)) (is_in_use notes) (length notes) (λ q h. in_use_kept same q)
+
+-- whether the number was in use, as a call reads it
+pub was_in_use : (notes v : List Note) (place page : ℕ) (note : Note) (was : Bool) → notes ≡ v → page < length v → place ≡ page → note ≡ get_or notes place note → was ≡ is_some note.placement → (place < length notes) × (is_in_use notes place ≡ was)
+was_in_use notes v place page note was same page_in at read is =
+    let within : place < length notes = omega (arith, page_in, at, ap length same) in (
+      within,
+      ap (λ o. is_some (option_and_then (λ (n : Note). n.placement) o)) (slice_get-get_or notes place note within)
+          ∙ ap (λ (n : Note). is_some n.placement) (sym read) ∙ sym is,
+    )
+
+module _ (z : Inside) (counted : IsCounted z) (page : ℕ) (note : Note) (within : page < length z.notes.items) where
+  pub gained_counted : is_in_use z.notes.items page ≡ false → is_some note.placement ≡ true → IsCounted (record z { notes = with_item z.notes page note; in_use = z.in_use + 1 })
+  gained_counted was is = record {
+    few = omega (arith, counted.few, length-set z.notes.items page note);
+    room = counted.room ∙ sym (length-set z.notes.items page note);
+    in_use = omega (arith, counted.in_use, gained z.notes.items page note within was is);
+    from = λ q h. elim (eqb_tells q page) [
+      | inl here ↦ ap is_some (placement_here z.notes.items page note within q here.1) ∙ is
+      | inr other ↦ ap is_some (placement_there z.notes.items page note within q other.1) ∙ counted.from q h
+    ];
+  }
+
+  pub lost_counted : is_in_use z.notes.items page ≡ true → is_some note.placement ≡ false → (from : ℕ) → from ≤ z.unused_from → from ≤ page → IsCounted (record z { notes = with_item z.notes page note; in_use = z.in_use - 1; unused_from = from })
+  lost_counted was is from low here = record {
+    few = omega (arith, counted.few, length-set z.notes.items page note);
+    room = counted.room ∙ sym (length-set z.notes.items page note);
+    in_use = omega (arith, counted.in_use, lost z.notes.items page note within was is);
+    from = λ q h. let other : q ≢ page = omega (arith, h, here) in ap is_some (placement_there z.notes.items page note within q other) ∙ counted.from q (omega (arith, h, low));
+  }
+
+  pub kept_counted : is_in_use z.notes.items page ≡ is_some note.placement → IsCounted (record z { notes = with_item z.notes page note })
+  kept_counted same = record {
+    few = omega (arith, counted.few, length-set z.notes.items page note);
+    room = counted.room ∙ sym (length-set z.notes.items page note);
+    in_use = counted.in_use ∙ sym (kept z.notes.items page note within same);
+    from = λ q h. in_use_kept z.notes.items page note within same q ∙ counted.from q h;
+  }

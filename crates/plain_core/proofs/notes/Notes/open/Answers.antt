@@ -1,0 +1,19 @@
+use Rattle.std.proofs.Common.{◌∙◌, replicate, length, List, ap, sym, arith}
+use Rattle.std.specs.Prelude.{is_some}
+use Rattle.frame_core.proofs.Searches.{count_none}
+use Rattle.std.proofs.lemmas.List.{length-replicate}
+use Rattle.plain_core.specs.declared.note.Note.{Note}
+use Rattle.plain_core.specs.Notes.{is_in_use, unused_note}
+use Rattle.plain_core.proofs.Copies.{no_placement}
+use Rattle.plain_core.proofs.notes.Notes.open.Goals as goal
+
+pub invariant_of-result : goal.invariant_of-result
+invariant_of-result c =
+    let items = c.in_ok-notes.ensures.items ∙ ap (replicate c.args.count) c.unused.ensures in
+    let count = ap length items ∙ length-replicate c.args.count unused_note in
+    record {
+      few = omega (arith, count, c.requires);
+      room = c.in_ok-notes.ensures.capacity ∙ sym count;
+      in_use = sym (count_none (is_in_use c.in_ok-notes.notes.items) _ (λ page h. ap (λ (notes : List Note). is_in_use notes page) items ∙ ap is_some (no_placement c.args.count page)));
+      from = λ page h. absurd (omega (arith, h));
+    }

@@ -1,8 +1,0 @@
-use Rattle.std.proofs.Common.{◌∙◌, ap}
-use Rattle.std.specs.FinSet as set
-use Rattle.plain_core.proofs.Seen.{mark_seen}
-use Rattle.plain_core.proofs.plain.PlainZone.is_marked.Goals as goal
-
-pub returns : goal.returns
-returns c = mark_seen c.self.inside c.args.self.now c.self.view_is c.get.result c.get.ensures.range
-    ∙ ap (set.contains c.args.self.now.marked) (c.get.ensures.value ∙ c.block_of.ensures)

@@ -1,0 +1,15 @@
+-- The records of a zone, and how its latest round began.
+use Rattle.std.specs.Prelude.{ℕ, ◌-◌, List, ◌∷◌, Option}
+use Rattle.journal_core.specs.declared.record.Record.{Record}
+use Rattle.state_core.specs.declared.round.RoundStart.{RoundStart}
+
+pub record History : Type 0 where
+  -- the newest first
+  pub records : List Record
+  -- the places that are left
+  pub room : ℕ
+  pub round : Option RoundStart
+
+-- one more record
+abbrev pub told : History → Record → History
+told h entry = record h { records = entry ∷ h.records; room = h.room - 1 }

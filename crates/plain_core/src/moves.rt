@@ -1,0 +1,105 @@
+//! The pages that were isolated, and how many of them are out.
+
+ghost use Rattle.std.specs.Prelude.{◌≡◌, ◌+◌, ◌<◌, ◌++◌, [], ◌∷◌, length, slice_get, IfOk};
+
+use frame_core::{PageNo, Serial};
+use state_core::Audit;
+use std::alloc::{AllocError, Global};
+use std::marker::Model;
+
+/// The pages that were isolated, by serial, and how many were moved and put back.
+#[derive(Drop)]
+pub struct Moves {
+    pages: Vec<PageNo>,
+    places: u32,
+    moved: u32,
+    back: u32,
+}
+
+impl Model for Moves {
+    ghost use Rattle.plain_core.specs.Moves.{Moves as Seen};
+
+    ghost Value = { Seen };
+
+    ghost view = { λ z. record { pages = z.pages.items; places = z.places; moved = z.moved; back = z.back } };
+
+    ghost use Rattle.plain_core.specs.MovesInside.{IsKept};
+
+    ghost invariant = { IsKept };
+}
+
+impl Moves {
+    /// Room for so many isolations. No other call takes memory.
+    pub fn open(alloc: Global, places: u32) -> Result<Self, AllocError>
+        ensures { IfOk result (λ moves. moves ≡ record { pages = []; places = places; moved = 0; back = 0 }) }
+    {
+        let pages = Vec::with_capacity(alloc, places as usize)?;
+        Ok(Moves {
+            pages,
+            places,
+            moved: 0,
+            back: 0,
+        })
+    }
+
+    /// How many pages were isolated.
+    fn isolated(&self) -> u32
+        ensures { result ≡ length self.now.pages }
+    {
+        self.pages.len() as u32
+    }
+
+    /// How many pages are on their way.
+    pub fn out(&self) -> u32
+        ensures { result + self.now.moved + self.now.back ≡ length self.now.pages }
+    {
+        self.isolated() - self.moved - self.back
+    }
+
+    /// The page that was isolated under a serial.
+    pub fn page(&self, serial: Serial) -> Option<PageNo>
+        ensures { result ≡ slice_get self.now.pages serial }
+    {
+        self.pages.get(serial as usize).copied()
+    }
+
+    /// A page begins its way under the next serial.
+    pub fn isolate(&mut self, page: PageNo) -> Serial
+        requires { length self.old.pages < self.old.places }
+        ensures serial { result ≡ length self.old.pages }
+        ensures pages { self.new ≡ record self.old { pages = self.old.pages ++ page ∷ [] } }
+    {
+        let serial = self.isolated();
+        self.pages.push_reserved(page);
+        serial
+    }
+
+    /// One of the pages that are out was moved.
+    pub fn arrive(&mut self)
+        requires { self.old.moved + self.old.back < length self.old.pages }
+        ensures { self.new ≡ record self.old { moved = self.old.moved + 1 } }
+    {
+        self.moved += 1;
+    }
+
+    /// One of the pages that are out was put back.
+    pub fn go_back(&mut self)
+        requires { self.old.moved + self.old.back < length self.old.pages }
+        ensures { self.new ≡ record self.old { back = self.old.back + 1 } }
+    {
+        self.back += 1;
+    }
+
+    /// The counts.
+    pub fn counts(&self) -> Audit
+        ensures isolated { result.isolated ≡ length self.now.pages }
+        ensures moved { result.moved ≡ self.now.moved }
+        ensures back { result.back ≡ self.now.back }
+    {
+        Audit {
+            isolated: self.isolated(),
+            moved: self.moved,
+            back: self.back,
+        }
+    }
+}
