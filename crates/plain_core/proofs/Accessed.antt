@@ -28,11 +28,9 @@ use Rattle.plain_core.specs.Fits.{entry_for, WordsFit, NoteFits, NotesFit}
 use Rattle.state_core.specs.ZoneState.{words_frame, ZoneState, placement_at}
 use Rattle.plain_core.specs.Sound.{IsSound, state_of}
 use Rattle.plain_core.specs.Notes.{placement_of, is_unmovable_of, says_unmovable}
-use Rattle.state_core.specs.Steps.{value_at, loaded, stored}
 use Rattle.plain_core.specs.Tabulated.{tabulated, gathered}
 use Rattle.plain_core.proofs.Serials.{moves_kept}
-use Rattle.plain_core.proofs.Tabulating.{tabulated_same}
-use Rattle.plain_core.proofs.Tabulating.{gathered_same}
+use Rattle.plain_core.proofs.Tabulating.{tabulated_same, gathered_same}
 use Rattle.state_core.proofs.Facts.{taken, skipped, page_named, frame_within, frames_differ, not_none}
 use Rattle.plain_core.proofs.Facts.{noted_view, held_by}
 use Rattle.state_core.proofs.Accessed.{lawful_stored, lawful_loaded}

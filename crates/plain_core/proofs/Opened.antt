@@ -17,16 +17,14 @@ use Rattle.plain_core.proofs.Copies.{copies, no_placement, all_movable, no_order
 use Rattle.plain_core.specs.declared.plain.PlainZone.TheInside.{Inside}
 use Rattle.state_core.specs.declared.placement.Placement.{Placement}
 use Rattle.state_core.specs.declared.placement.Placement.TheVariants.{At}
-use Rattle.state_core.specs.Steps.{opened}
-use Rattle.state_core.specs.Refusals.{IsOpenable}
+use Rattle.state_core.specs.Opening.{opened, IsOpenable}
 use Rattle.plain_core.specs.Fits.{state_by, MovesFit}
 use Rattle.plain_core.specs.Sound.{state_of, IsSound}
 use Rattle.scan_core.specs.Frames.{Frames, all_free, true_at}
 use Rattle.plain_core.specs.HandedOut.{order_of}
 use Rattle.plain_core.specs.Notes.{unused_note, placement_of, is_unmovable_of}
 use Rattle.plain_core.specs.Tabulated.{tabulated, gathered}
-use Rattle.plain_core.proofs.Tabulating.{tabulated_none}
-use Rattle.plain_core.proofs.Tabulating.{gathered_none}
+use Rattle.plain_core.proofs.Tabulating.{tabulated_none, gathered_none}
 use Rattle.state_core.proofs.Opened.{unheld, opened_lawful}
 
 -- the fields of a zone that was just opened

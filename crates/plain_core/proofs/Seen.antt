@@ -26,7 +26,8 @@ use Rattle.plain_core.specs.Fits.{state_by, entry_for, FramesFit, WordsFit, Note
 use Rattle.state_core.specs.ZoneState.{words_frame, ZoneState, frame_count, takes_up, is_used, is_held, is_free}
 use Rattle.plain_core.specs.Notes.{placement_of, is_unmovable_of, says_unmovable}
 use Rattle.state_core.specs.Lawful.{IsLawful, is_under}
-use Rattle.state_core.specs.Moving.{words_now, flags_of, look_by, look_of}
+use Rattle.state_core.specs.Carrying.{words_now, flags_of}
+use Rattle.state_core.specs.Looking.{look_by, look_of}
 use Rattle.state_core.specs.Pairs.{holder, can_move}
 use Rattle.scan_core.specs.Frames.{true_at}
 use Rattle.plain_core.specs.Sound.{state_of, IsSound}

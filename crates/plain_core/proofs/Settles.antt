@@ -16,7 +16,8 @@ use Rattle.journal_core.specs.Moves.{out}
 use Rattle.state_core.specs.declared.placement.Placement.TheVariants.{At, Moving}
 use Rattle.plain_core.specs.Fits.{state_by, WordsFit}
 use Rattle.state_core.specs.Lawful.{IsLawful}
-use Rattle.state_core.specs.Moving.{settled, IsSettled}
+use Rattle.state_core.specs.Carrying.{settled}
+use Rattle.state_core.specs.Ending.{IsSettled}
 use Rattle.state_core.specs.ZoneState.{ZoneState, frame_count}
 use Rattle.plain_core.proofs.Accessed.{words_set_same, words_set_other}
 use Rattle.state_core.proofs.Placed.{untrue}

@@ -28,7 +28,7 @@ use Rattle.std.specs.FinSet as set
 use Rattle.state_core.specs.Pairs.{can_move}
 use Rattle.plain_core.specs.Notes.{placement_of, is_unmovable_of, says_unmovable}
 use Rattle.state_core.specs.Lawful.{is_under}
-use Rattle.state_core.specs.Moving.{settled}
+use Rattle.state_core.specs.Carrying.{settled}
 use Rattle.plain_core.specs.HandedOut.{order_of}
 use Rattle.plain_core.specs.History.{told}
 use Rattle.plain_core.specs.Sound.{state_of, IsSound}
@@ -39,8 +39,7 @@ use Rattle.plain_core.proofs.Finding.{placement_past, get_placements}
 use Rattle.state_core.proofs.Placed.{untrue, clash}
 use Rattle.plain_core.proofs.Placing.{state_taken}
 use Rattle.state_core.proofs.Settled.{CanSettle, IsRecorded, at_page, at_other, not_old, not_new, new_clear, old_clear, free_new, free_kept, lawful_settled}
-use Rattle.plain_core.proofs.Tabulating.{tabulated_insert}
-use Rattle.plain_core.proofs.Tabulating.{gathered_same}
+use Rattle.plain_core.proofs.Tabulating.{tabulated_insert, gathered_same}
 
 -- how frames change with their page
 pub record FramesSettled (frames settled : List FrameState) (page : ℕ) (old new : Placement) : Type 0 where

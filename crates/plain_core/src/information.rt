@@ -2,7 +2,7 @@
 
 ghost use Rattle.std.specs.Prelude.{◌≡◌, ◌+◌};
 ghost use Rattle.state_core.specs.Lawful.{IsLawful};
-ghost use Rattle.state_core.specs.Steps.{info_of};
+ghost use Rattle.state_core.specs.Looking.{info_of};
 ghost use Rattle.state_core.specs.ZoneState.{frame_count};
 
 use crate::plain::PlainZone;

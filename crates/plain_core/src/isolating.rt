@@ -4,7 +4,9 @@ ghost use Rattle.std.specs.Prelude.{◌≡◌, ◌+◌, ◌<◌, ℕ, length, Is
 ghost use Rattle.std.specs.FinMap as map;
 ghost use Rattle.journal_core.specs.Moves.{isolated, out};
 ghost use Rattle.state_core.specs.Lawful.{IsLawful};
-ghost use Rattle.state_core.specs.Moving.{round_begun, flags_of, page_now, isolated_next};
+ghost use Rattle.state_core.specs.Rounds.{round_begun};
+ghost use Rattle.state_core.specs.Carrying.{flags_of, page_now};
+ghost use Rattle.state_core.specs.Isolating.{isolated_next};
 ghost use Rattle.state_core.specs.Pairs.{IsPair, is_calm, holder, next_pair};
 ghost use Rattle.state_core.specs.ZoneState.{frame_count};
 ghost use Rattle.state_core.specs.declared.placement.Placement.TheVariants.{At};

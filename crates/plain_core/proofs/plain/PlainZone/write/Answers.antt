@@ -4,7 +4,7 @@ use Rattle.std.specs.FinMap as map
 use Rattle.plain_core.specs.declared.note.Note.{Note}
 use Rattle.plain_core.specs.declared.plain.PlainZone.TheInside.{Inside}
 use Rattle.plain_core.specs.Sound.{IsSound, state_of}
-use Rattle.state_core.specs.Steps.{stored}
+use Rattle.state_core.specs.Access.{stored}
 use Rattle.plain_core.proofs.Accessed.{Storing, resident, store_view, store_sound}
 use Rattle.state_core.proofs.Facts.{spare, frame_within}
 use Rattle.state_core.proofs.Holding.{holder_at}
