@@ -27,12 +27,6 @@ length_pushed : (xs : List ℕ) (x : ℕ) → length (xs ++ x ∷ []) ≡ length
 length_pushed [] x = omega arith
 length_pushed (y ∷ ys) x = omega (arith, length_pushed ys x)
 
--- fewer pages were isolated than there are records
-pub isolated_most : (records : List Record) → isolated records ≤ length records
-isolated_most [] = omega arith
-isolated_most (Isolate serial page ∷ older) = omega (arith, isolated_most older)
-isolated_most (_ ∷ older) = omega (arith, isolated_most older)
-
 module _ (moves : Moves) (records : List Record) (room : ℕ) (fit : MovesFit moves records room) where
   -- a record that tells of no move
   pub moves_kept : (entry : Record) → isolated (entry ∷ records) ≡ isolated records → ((serial : ℕ) → page_of (entry ∷ records) serial ≡ page_of records serial) → moved (entry ∷ records) ≡ moved records → put_back (entry ∷ records) ≡ put_back records → 0 < room → MovesFit moves (entry ∷ records) (room - 1)

@@ -1,11 +1,13 @@
--- What is known of a zone that is sound.
-use Rattle.std.proofs.Common.{◌≡◌, ◌≢◌, ℕ, ◌<◌, true, false, length, refl, ap, ◌∙◌, Option, Some, None, IsSome, is_some, nat_eq, ◌||◌, if◌then◌else◌, eq-eqb, ltb-true}
+-- What is known of a lawful zone.
+use Rattle.std.proofs.Common.{◌≡◌, ◌≢◌, ℕ, ◌+◌, ◌<◌, ◌≤◌, true, false, List, [], ◌∷◌, length, arith, refl, ap, ◌∙◌, Option, Some, None, IsSome, is_some, nat_eq, ◌||◌, if◌then◌else◌, eq-eqb, ltb-true}
 use Rattle.std.specs.FinMap as map
 pub use Rattle.std.proofs.lemmas.Bool.{cond-true as taken, cond-false as skipped}
 use Rattle.std.proofs.lemmas.Option.{option_and_then_some}
 use Rattle.frame_core.specs.declared.place.Address.{Address}
 use Rattle.journal_core.specs.History.{page_at}
-use Rattle.journal_core.specs.Moves.{out}
+use Rattle.journal_core.specs.declared.record.Record.{Record}
+use Rattle.journal_core.specs.declared.record.Record.TheVariants.{Isolate}
+use Rattle.journal_core.specs.Moves.{out, isolated}
 use Rattle.state_core.specs.declared.placement.Placement.{Placement}
 use Rattle.state_core.specs.declared.placement.Placement.TheVariants.{At, Moving}
 use Rattle.state_core.specs.Lawful.{IsLawful}
@@ -47,3 +49,9 @@ frames_differ v law p q a b at_p at_q ne same =
     ne (law.apart q p (words_frame b)
     (ap (λ (o : Option Placement). takes_up o (words_frame b)) at_q ∙ takes_own b)
     (ap (λ (o : Option Placement). takes_up o (words_frame b)) at_p ∙ ap (takes_up (Some a)) same ∙ takes_own a))
+
+-- fewer pages were isolated than there are records
+pub isolated_most : (records : List Record) → isolated records ≤ length records
+isolated_most [] = omega arith
+isolated_most (Isolate serial page ∷ older) = omega (arith, isolated_most older)
+isolated_most (_ ∷ older) = omega (arith, isolated_most older)

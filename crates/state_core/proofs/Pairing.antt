@@ -116,10 +116,14 @@ pair_found v law pair e = by_source (next_source v) refl e where
   by_source None from e = cc
   by_source (Some source) from e = by_parts source (holder v source) (next_target v source) from refl refl e
 
+-- where the search finds none there is none
+pub no_pair : (v : ZoneState) → IsLawful v → next_pair v ≡ None → (page source target : ℕ) → IsPair v page source target → ⊥
+no_pair v law none page source target pair = none-some _ (sym none ∙ pair_is v law page source target pair)
+
 -- a search that finds none
 pub none_found : (v : ZoneState) → IsLawful v → (o : Option Pair) → o ≡ None → next_pair v ≡ None →
     IfNone o ((page source target : ℕ) → IsPair v page source target → ⊥)
-none_found v law None e none = λ page source target pair. none-some _ (sym none ∙ pair_is v law page source target pair)
+none_found v law None e none = no_pair v law none
 none_found v law (Some pair) e none = cc
 
 no_target : (source : ℕ) (o : Option ℕ) → pair_from source o None ≡ None

@@ -13,7 +13,8 @@ use Rattle.state_core.specs.Pairs.{can_move}
 use Rattle.plain_core.specs.Fits.{MovesFit}
 use Rattle.plain_core.specs.History.{told}
 use Rattle.plain_core.specs.Moves.{Moves}
-use Rattle.plain_core.proofs.Serials.{isolated_most, moves_more}
+use Rattle.state_core.proofs.Facts.{isolated_most}
+use Rattle.plain_core.proofs.Serials.{moves_more}
 use Rattle.plain_core.specs.Sound.{IsSound}
 use Rattle.plain_core.proofs.Departed.{isolated_frames, isolated_words, isolated_movable}
 use Rattle.state_core.proofs.Settled.{can_isolate, isolate_recorded, target_within}

@@ -7,7 +7,7 @@ use Rattle.state_core.specs.declared.placement.Placement.TheVariants.{Moving}
 use Rattle.state_core.specs.Pairs.{IsPair}
 use Rattle.state_core.specs.ZoneState.{ZoneState}
 use Rattle.state_core.proofs.Entries.{get_insert_same, get_insert_other}
-use Rattle.plain_core.proofs.Departed.{isolated_most}
+use Rattle.state_core.proofs.Facts.{isolated_most}
 use Rattle.zone_core.proofs.zone.Zone.isolate_next.Goals as goal
 
 pub returns-clause-followed : goal.returns-clause-followed
