@@ -5,6 +5,7 @@ pub mod Facts
 pub mod Finding
 pub mod InUse
 pub mod Opened
+pub mod Placement
 pub mod Placing
 pub mod Quiet
 pub mod Rounds

@@ -1,6 +1,6 @@
 -- A fresh page in a free frame: the tables of the zone go on fitting.
-use Rattle.std.proofs.Common.{◌≡◌, ◌≢◌, ℕ, ◌<◌, ◌≤◌, Bool, true, false, not, List, length, ◌⊎◌, inl, inr, refl, sym, ap, subst, ◌∙◌, arith}
-use Rattle.std.specs.Prelude.{Option, Some, None, is_some, slice_get, slice_set, nat_eq, ◌&&◌, ◌||◌, if◌then◌else◌}
+use Rattle.std.proofs.Common.{◌≡◌, ◌≢◌, ℕ, ◌<◌, ◌≤◌, Bool, true, false, not, List, length, ◌⊎◌, inl, inr, refl, sym, ap, ◌∙◌, arith}
+use Rattle.std.specs.Prelude.{Option, Some, None, is_some, slice_get, slice_set, nat_eq, ◌&&◌, if◌then◌else◌}
 use Rattle.std.specs.Option.{option_and_then}
 use Rattle.std.specs.FinMap as map
 use Rattle.std.specs.FinSet as set
@@ -12,10 +12,10 @@ use Rattle.frame_core.proofs.Lists.{slice_get_set_same, slice_get_set_other, sli
 use Rattle.frame_core.specs.Address.{InRange}
 use Rattle.frame_core.specs.declared.place.Address.{Address}
 use Rattle.frame_core.specs.declared.state.FrameState.{FrameState}
-use Rattle.frame_core.specs.declared.state.FrameState.TheVariants.{Holds, Source, Target}
+use Rattle.frame_core.specs.declared.state.FrameState.TheVariants.{Holds}
 use Rattle.journal_core.proofs.Maps.{no_test}
 use Rattle.journal_core.specs.declared.record.Record.TheVariants.{Map}
-use Rattle.journal_core.specs.History.{same_address, page_at, last, dirty, pins, maps}
+use Rattle.journal_core.specs.History.{same_address, page_at, last, dirty, pins}
 use Rattle.plain_core.specs.History.{History, told}
 use Rattle.table_core.specs.declared.entry.Entry.{Entry}
 use Rattle.table_core.specs.declared.entry.Entry.TheVariants.{Present}
@@ -25,9 +25,9 @@ use Rattle.word_core.specs.Words.{words_of, with_words}
 use Rattle.plain_core.specs.declared.note.Note.{Note}
 use Rattle.plain_core.specs.declared.plain.PlainZone.TheInside.{Inside}
 use Rattle.state_core.specs.declared.placement.Placement.{Placement}
-use Rattle.state_core.specs.declared.placement.Placement.TheVariants.{At, Moving}
-use Rattle.plain_core.specs.Fits.{state_by, entry_for, FramesFit, EntriesFit, WordsFit, NoteFits, NotesFit, MovableFit}
-use Rattle.state_core.specs.ZoneState.{words_frame, ZoneState, takes_up, is_held, is_free, placement_at}
+use Rattle.state_core.specs.declared.placement.Placement.TheVariants.{At}
+use Rattle.plain_core.specs.Fits.{entry_for, FramesFit, EntriesFit, WordsFit, NotesFit, MovableFit}
+use Rattle.state_core.specs.ZoneState.{words_frame, ZoneState, placement_at}
 use Rattle.state_core.specs.Pairs.{can_move}
 use Rattle.state_core.proofs.Entries.{contains_insert_same, contains_insert_other}
 use Rattle.plain_core.specs.Notes.{placement_of, is_unmovable_of, says_unmovable}
@@ -35,10 +35,11 @@ use Rattle.plain_core.specs.Sound.{state_of, IsSound}
 use Rattle.state_core.specs.Steps.{placed}
 use Rattle.plain_core.specs.Tabulated.{tabulated, gathered}
 use Rattle.plain_core.proofs.Accessed.{words_set_same, words_set_other}
-use Rattle.state_core.proofs.Facts.{chosen, taken, skipped, takes_own}
+use Rattle.state_core.proofs.Facts.{chosen, taken, skipped}
 use Rattle.plain_core.proofs.Finding.{placement_past, get_placements}
-use Rattle.state_core.proofs.Placed.{CanPlace, untrue, clash, placed_lawful, at_page, at_other, untaken, unheld_frame, free_at_frame, free_away, named_here, named_there, maps_one, maps_others, pins_none, pins_others}
+use Rattle.state_core.proofs.Placed.{CanPlace, untrue, clash, placed_lawful, at_page, at_other, named_here, named_there, maps_one, maps_others, pins_none, pins_others}
 use Rattle.plain_core.proofs.Serials.{moves_kept}
+use Rattle.plain_core.proofs.Placement.{GetsPlace, LeavesOthers, frames_fit, movable_fit, words_fit, notes_fit}
 use Rattle.plain_core.proofs.Tabulating.{tabulated_insert}
 use Rattle.plain_core.proofs.Tabulating.{gathered_insert, gathered_same}
 
@@ -46,46 +47,42 @@ use Rattle.plain_core.proofs.Tabulating.{gathered_insert, gathered_same}
 abbrev pub fresh_note : Bool → ℕ → Note
 fresh_note unmovable frame = record { placement = Some (At frame); unmovable = unmovable; dirty = false; pins = 0; maps = 1 }
 
-tested : {A : Type 0} (b : Bool) (x y : A) → (if b then Some x else None) ≡ Some y → b ≡ true
-tested true x y e = refl
-tested false x y e = cc
-
-either : {A : Type 0} (a b : Bool) (x y z : A) → (if a then Some x else if b then Some y else None) ≡ Some z → (a || b) ≡ true
-either true b x y z e = refl
-either false b x y z e = tested b y z e
-
--- a frame that a page puts in a state is one that it takes up
-pub state_taken : (page : ℕ) (o : Option Placement) (frame : ℕ) (state : FrameState) → state_by page o frame ≡ Some state → takes_up o frame ≡ true
-state_taken page None frame state e = cc
-state_taken page (Some (At f)) frame state e = tested (nat_eq frame f) (Holds page) state e
-state_taken page (Some (Moving serial source target)) frame state e = either (nat_eq frame source) (nat_eq frame target) (Source serial) (Target serial) state e
-
 module _ (v : ZoneState) (client : ℕ) (address : Address) (unmovable : Bool) (page frame : ℕ) (can : CanPlace v address page frame) where
   abbrev next : ZoneState
   next = placed v client address unmovable page frame
 
-  pub frames_placed : (frames : List FrameState) → FramesFit frames v → FramesFit (slice_set frames frame (Holds page)) next
-  frames_placed frames fit = record {
-    count = length-set frames frame (Holds page) ∙ fit.count;
-    of_page = λ q g state e. elim (eqb_tells q page) [
-      | inl same ↦
-          (let at : state_by page (Some (At frame)) g ≡ Some state = ap (λ (o : Option Placement). state_by page o g) (sym (at_page v client address unmovable page frame can)) ∙ ap (λ (p : ℕ). state_by p (map.get next.placement p) g) (sym same.1) ∙ e in
-          elim (eqb_tells g frame) [
-            | inl here ↦ slice_get_set_same frames frame g (Holds page) here.1 (omega (arith, can.within, fit.count)) ∙ sym (taken (nat_eq g frame) (Some (Holds page)) None here.0) ∙ at
-            | inr away ↦ (let bad : None ≡ Some state = sym (skipped (nat_eq g frame) (Some (Holds page)) None away.0) ∙ at in cc)
-          ])
-      | inr other ↦
-          (let old : state_by q (map.get v.placement q) g ≡ Some state = ap (λ (o : Option Placement). state_by q o g) (sym (at_other v client address unmovable page frame can q other.1)) ∙ e in
-          let apart : g ≢ frame = λ is. untrue _ (untaken v client address unmovable page frame can q) (ap (takes_up (map.get v.placement q)) (sym is) ∙ state_taken q _ g state old) in
-          slice_get_set_other frames frame g (Holds page) apart ∙ fit.of_page q g state old)
-    ];
-    of_block = λ g h held.
-        let apart : g ≢ frame = λ is. untrue _ (unheld_frame v client address unmovable page frame can) (ap (is_held v) (sym is) ∙ held) in
-        slice_get_set_other frames frame g (Holds page) apart ∙ fit.of_block g h held;
-    of_none = λ g h free.
-        let apart : g ≢ frame = λ is. untrue _ (free_at_frame v client address unmovable page frame can) (ap (is_free next) (sym is) ∙ free) in
-        slice_get_set_other frames frame g (Holds page) apart ∙ fit.of_none g h (sym (free_away v client address unmovable page frame can g apart) ∙ free);
+  pub gets : GetsPlace v next page None (Some (At frame))
+  gets = record {
+    before = can.lawful;
+    after = placed_lawful v client address unmovable page frame can;
+    at = can.unused;
+    now = at_page v client address unmovable page frame can;
+    others = at_other v client address unmovable page frame can;
+    blocks = refl;
+    handed_out = refl;
   }
+
+  pub leaves : LeavesOthers v next page
+  leaves = record {
+    last = λ q w ne. skipped (nat_eq page q) 0 (last v.records q w) (no_test page q (λ x. ne (sym x)));
+    dirty = λ q ne. ap (λ b. not b && dirty v.records q) (no_test page q (λ x. ne (sym x)));
+    pins = pins_others v client address unmovable page frame can;
+    maps = maps_others v client address unmovable page frame can;
+  }
+
+  away : (g : ℕ) → nat_eq g frame ≡ false → g ≢ frame
+  away g e is = untrue _ e (eq-eqb g frame is)
+
+  pub frames_placed : (frames : List FrameState) → FramesFit frames v → FramesFit (slice_set frames frame (Holds page)) next
+  frames_placed frames fit = frames_fit v next page None (Some (At frame)) gets frames (slice_set frames frame (Holds page)) fit (record {
+    count = length-set frames frame (Holds page);
+    taken = λ g state e. elim (eqb_tells g frame) [
+      | inl here ↦ slice_get_set_same frames frame g (Holds page) here.1 (omega (arith, can.within, fit.count)) ∙ sym (taken (nat_eq g frame) (Some (Holds page)) None here.0) ∙ e
+      | inr off ↦ (let bad : None ≡ Some state = sym (skipped (nat_eq g frame) (Some (Holds page)) None off.0) ∙ e in cc)
+    ];
+    left = λ g had gone. cc;
+    kept = λ g off gone. slice_get_set_other frames frame g (Holds page) (away g gone);
+  })
 
   -- where the page of another address is
   placement_there : (b : Address) → same_address b address ≡ false → placement_at next b ≡ placement_at v b
@@ -113,49 +110,26 @@ module _ (v : ZoneState) (client : ℕ) (address : Address) (unmovable : Bool) (
   words_placed rows fit =
       let within : frame < length rows = omega (arith, can.within, fit.count) in
       let blank : words_of (with_words rows frame blank_words) frame ≡ blank_words = words_set_same rows frame blank_words within in
-      record {
-        count = length-set rows frame blank_words ∙ fit.count;
-        eight = λ g h. elim (eqb_tells g frame) [
+      words_fit v next page None (Some (At frame)) gets rows (with_words rows frame blank_words) fit (record {
+        count = length-set rows frame blank_words;
+        mine = λ placement w e small.
+            (let here : placement ≡ At frame = cc in
+            ap (λ (p : Placement). slice_get (words_of (with_words rows frame blank_words) (words_frame p)) w) here
+            ∙ ap (λ (ws : List ℕ). slice_get ws w) blank ∙ slice_get_replicate 8 w 0 small ∙ ap Some (sym (chosen page 0 (last v.records page w))));
+        kept = λ g gone. words_set_other rows frame g blank_words (away g gone);
+        eight = λ g has. elim (eqb_tells g frame) [
           | inl here ↦ ap (λ (f : ℕ). length (words_of (with_words rows frame blank_words) f)) here.1 ∙ ap length blank
-          | inr away ↦ ap length (words_set_other rows frame g blank_words away.1) ∙ fit.eight g h
+          | inr off ↦ absurd (untrue _ off.0 has)
         ];
-        each = λ q placement w e small. elim (eqb_tells q page) [
-          | inl same ↦
-              (let here : placement ≡ At frame = (let one : Some placement ≡ Some (At frame) = sym e ∙ ap (map.get next.placement) same.1 ∙ at_page v client address unmovable page frame can in cc) in
-              ap (λ (p : Placement). slice_get (words_of (with_words rows frame blank_words) (words_frame p)) w) here
-              ∙ ap (λ (ws : List ℕ). slice_get ws w) blank ∙ slice_get_replicate 8 w 0 small
-              ∙ ap Some (sym (ap (λ (p : ℕ). last next.records p w) same.1 ∙ chosen page 0 (last v.records page w))))
-          | inr other ↦
-              (let old : map.get v.placement q ≡ Some placement = sym (at_other v client address unmovable page frame can q other.1) ∙ e in
-              let apart : words_frame placement ≢ frame = λ is. untrue _ (untaken v client address unmovable page frame can q) (ap (λ (f : ℕ). takes_up (map.get v.placement q) f) (sym is) ∙ ap (λ (o : Option Placement). takes_up o (words_frame placement)) old ∙ takes_own placement) in
-              ap (λ (ws : List ℕ). slice_get ws w) (words_set_other rows frame (words_frame placement) blank_words apart) ∙ fit.each q placement w old small
-              ∙ ap Some (sym (skipped (nat_eq page q) 0 (last v.records q w) (no_test page q (λ x. other.1 (sym x))))))
-        ];
-      }
+      }) leaves
 
   pub notes_placed : (notes : List Note) → NotesFit notes v → NotesFit (slice_set notes page (fresh_note unmovable frame)) next
   notes_placed notes fit =
-      let within : page < length notes = omega (arith, can.numbered, fit.count) in
-      record {
-        count = length-set notes page (fresh_note unmovable frame) ∙ fit.count;
-        each = λ q note e used. elim (eqb_tells q page) [
-          | inl same ↦
-              (let here : fresh_note unmovable frame ≡ note = (let one : Some (fresh_note unmovable frame) ≡ Some note = sym (slice_get_set_same notes page q (fresh_note unmovable frame) same.1 within) ∙ e in cc) in
-              let N : Note → Type 0 = λ n. NoteFits n next q in
-              subst N here (record {
-                dirty = sym (ap (λ (p : ℕ). dirty next.records p) same.1 ∙ ap (λ b. not b && dirty v.records page) (eq-eqb page page refl));
-                pins = sym (ap (pins next.records) same.1 ∙ pins_none v client address unmovable page frame can);
-                maps = sym (ap (maps next.records) same.1 ∙ maps_one v client address unmovable page frame can);
-              }))
-          | inr other ↦
-              (let before = fit.each q note (sym (slice_get_set_other notes page q (fresh_note unmovable frame) other.1) ∙ e) used in
-              record {
-                dirty = before.dirty ∙ sym (ap (λ b. not b && dirty v.records q) (no_test page q (λ x. other.1 (sym x))));
-                pins = before.pins ∙ sym (pins_others v client address unmovable page frame can q other.1);
-                maps = before.maps ∙ sym (maps_others v client address unmovable page frame can q other.1);
-              })
-        ];
-      }
+      notes_fit v next page None (Some (At frame)) gets notes (fresh_note unmovable frame) (omega (arith, can.numbered, fit.count)) fit (record {
+        dirty = sym (ap (λ b. not b && dirty v.records page) (eq-eqb page page refl));
+        pins = sym (pins_none v client address unmovable page frame can);
+        maps = sym (maps_one v client address unmovable page frame can);
+      }) leaves
 
   movable_here : can_move next page ≡ not unmovable
   movable_here =
@@ -178,18 +152,11 @@ module _ (v : ZoneState) (client : ℕ) (address : Address) (unmovable : Bool) (
         by_flag false = refl
 
   pub movable_placed : (movable : List Bool) → MovableFit movable v → MovableFit (slice_set movable frame (not unmovable)) next
-  movable_placed movable fit = record {
-    count = length-set movable frame (not unmovable) ∙ fit.count;
-    each = λ q g e. elim (eqb_tells q page) [
-      | inl same ↦
-          (let here : g ≡ frame = (let one : Some (At g) ≡ Some (At frame) = sym e ∙ ap (map.get next.placement) same.1 ∙ at_page v client address unmovable page frame can in cc) in
-          slice_get_set_same movable frame g (not unmovable) here (omega (arith, can.within, fit.count)) ∙ ap Some (sym (ap (can_move next) same.1 ∙ movable_here)))
-      | inr other ↦
-          (let old : map.get v.placement q ≡ Some (At g) = sym (at_other v client address unmovable page frame can q other.1) ∙ e in
-          let apart : g ≢ frame = λ is. untrue _ (untaken v client address unmovable page frame can q) (ap (takes_up (map.get v.placement q)) (sym is) ∙ ap (λ (o : Option Placement). takes_up o g) old ∙ eq-eqb g g refl) in
-          slice_get_set_other movable frame g (not unmovable) apart ∙ fit.each q g old ∙ ap Some (sym (movable_there q other.1)))
-    ];
-  }
+  movable_placed movable fit = movable_fit v next page None (Some (At frame)) gets movable (slice_set movable frame (not unmovable)) (not unmovable) fit (record {
+    count = length-set movable frame (not unmovable);
+    here = λ g e. (let at : frame ≡ g = cc in slice_get_set_same movable frame g (not unmovable) (sym at) (omega (arith, can.within, fit.count)));
+    kept = λ g gone. slice_get_set_other movable frame g (not unmovable) (away g gone);
+  }) (sym movable_here) movable_there
 
 -- what is known when a fresh page is placed
 pub record Placing (z : Inside) (v : ZoneState) (client : ℕ) (address : Address) (unmovable : Bool) (page frame : ℕ) (tables : List Entry) (history : History) : Type 0 where

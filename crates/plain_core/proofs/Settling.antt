@@ -1,6 +1,6 @@
 -- A page in use is somewhere else: the tables of the zone go on fitting.
-use Rattle.std.proofs.Common.{◌≡◌, ◌≢◌, ℕ, ◌-◌, ◌<◌, ◌≤◌, Bool, true, false, not, List, ◌∷◌, length, ◌⊎◌, inl, inr, refl, sym, ap, subst, ◌∙◌, arith}
-use Rattle.std.specs.Prelude.{Option, Some, None, IsSome, is_some, slice_get, slice_set, nat_eq, ◌&&◌}
+use Rattle.std.proofs.Common.{◌≡◌, ◌≢◌, ℕ, ◌-◌, ◌<◌, ◌≤◌, Bool, true, false, not, List, ◌∷◌, length, inl, inr, refl, sym, ap, subst, ◌∙◌, arith}
+use Rattle.std.specs.Prelude.{Option, Some, None, is_some, slice_get, slice_set, nat_eq, ◌&&◌}
 use Rattle.std.specs.Option.{option_and_then}
 use Rattle.std.specs.FinMap as map
 use Rattle.std.proofs.lemmas.Bool.{eq-eqb}
@@ -11,9 +11,8 @@ use Rattle.frame_core.proofs.Lists.{slice_get_set_same, slice_get_set_other}
 use Rattle.frame_core.specs.Address.{InRange}
 use Rattle.frame_core.specs.declared.place.Address.{Address}
 use Rattle.frame_core.specs.declared.state.FrameState.{FrameState}
-use Rattle.frame_core.specs.declared.state.FrameState.TheVariants.{Free}
 use Rattle.journal_core.specs.declared.record.Record.{Record}
-use Rattle.journal_core.specs.History.{page_at, dirty, pins, maps}
+use Rattle.journal_core.specs.History.{page_at}
 use Rattle.table_core.specs.declared.entry.Entry.{Entry}
 use Rattle.table_core.specs.declared.entry.Entry.TheVariants.{Absent}
 use Rattle.table_core.specs.Tables.{entry_at, Replaces}
@@ -22,8 +21,8 @@ use Rattle.plain_core.specs.declared.note.Note.{Note}
 use Rattle.plain_core.specs.declared.plain.PlainZone.TheInside.{Inside}
 use Rattle.state_core.specs.declared.placement.Placement.{Placement}
 use Rattle.state_core.specs.declared.placement.Placement.TheVariants.{At, Moving}
-use Rattle.plain_core.specs.Fits.{state_by, entry_for, FramesFit, EntriesFit, WordsFit, NoteFits, NotesFit, MovesFit, MovableFit}
-use Rattle.state_core.specs.ZoneState.{words_frame, ZoneState, frame_count, takes_up, is_free}
+use Rattle.plain_core.specs.Fits.{entry_for, EntriesFit, NoteFits, NotesFit, MovesFit}
+use Rattle.state_core.specs.ZoneState.{words_frame, ZoneState, frame_count, takes_up}
 use Rattle.std.specs.FinSet as set
 use Rattle.state_core.specs.Pairs.{can_move}
 use Rattle.plain_core.specs.Notes.{placement_of, is_unmovable_of, says_unmovable}
@@ -34,26 +33,19 @@ use Rattle.plain_core.specs.History.{told}
 use Rattle.plain_core.specs.Sound.{state_of, IsSound}
 use Rattle.scan_core.specs.Frames.{true_at}
 use Rattle.plain_core.specs.Tabulated.{tabulated, gathered}
-use Rattle.state_core.proofs.Facts.{takes_own}
 use Rattle.plain_core.proofs.Finding.{placement_past, get_placements}
-use Rattle.state_core.proofs.Placed.{untrue, clash}
-use Rattle.plain_core.proofs.Placing.{state_taken}
-use Rattle.state_core.proofs.Settled.{CanSettle, IsRecorded, at_page, at_other, not_old, not_new, new_clear, old_clear, free_new, free_kept, lawful_settled}
+use Rattle.state_core.proofs.Placed.{clash}
+use Rattle.plain_core.proofs.Placement.{GetsPlace, LeavesOthers, FramesPlaced, MovablePlaced, WordsPlaced, frames_fit, movable_fit, words_fit, notes_fit}
+use Rattle.state_core.proofs.Settled.{CanSettle, IsRecorded, at_page, at_other, not_old, lawful_settled}
 use Rattle.plain_core.proofs.Tabulating.{tabulated_insert}
 use Rattle.plain_core.proofs.Tabulating.{gathered_same}
 
--- how frames change with their page
-pub record FramesSettled (frames settled : List FrameState) (page : ℕ) (old new : Placement) : Type 0 where
-  pub count : length settled ≡ length frames
-  pub taken : (frame : ℕ) (state : FrameState) → state_by page (Some new) frame ≡ Some state → slice_get settled frame ≡ Some state
-  pub left : (frame : ℕ) → takes_up (Some old) frame ≡ true → takes_up (Some new) frame ≡ false → slice_get settled frame ≡ Some Free
-  pub kept : (frame : ℕ) → takes_up (Some old) frame ≡ false → takes_up (Some new) frame ≡ false → slice_get settled frame ≡ slice_get frames frame
+-- how frames change with their page, and what is noted of whether it may be taken
+abbrev pub FramesSettled : List FrameState → List FrameState → ℕ → Placement → Placement → Type 0
+FramesSettled frames changed page old new = FramesPlaced frames changed page (Some old) (Some new)
 
--- whether the page may be taken is noted at its frame
-pub record MovableSettled (movable changed : List Bool) (can : Bool) (new : Placement) : Type 0 where
-  pub count : length changed ≡ length movable
-  pub here : (frame : ℕ) → new ≡ At frame → slice_get changed frame ≡ Some can
-  pub kept : (frame : ℕ) → takes_up (Some new) frame ≡ false → slice_get changed frame ≡ slice_get movable frame
+abbrev pub MovableSettled : List Bool → List Bool → Bool → Placement → Type 0
+MovableSettled movable changed can new = MovablePlaced movable changed can (Some new)
 
 -- the words of the page go with it
 pub record WordsSettled (rows settled : List (List ℕ)) (old new : Placement) : Type 0 where
@@ -62,38 +54,9 @@ pub record WordsSettled (rows settled : List (List ℕ)) (old new : Placement) :
   pub kept : (frame : ℕ) → takes_up (Some new) frame ≡ false → words_of settled frame ≡ words_of rows frame
   pub eight : (frame : ℕ) → takes_up (Some new) frame ≡ true → length (words_of settled frame) ≡ 8
 
-decide : (b : Bool) → (b ≡ true) ⊎ (b ≡ false)
-decide true = inl refl
-decide false = inr refl
-
-never : (b : Bool) → (b ≡ true → ⊥) → b ≡ false
-never true clash = absurd (clash refl)
-never false clash = refl
-
 module _ (v : ZoneState) (page : ℕ) (old new : Placement) (can : CanSettle v page old new) (entry : Record) (recorded : IsRecorded v entry page new) where
   abbrev next : ZoneState
   next = settled v entry page new
-
-  pub frames_settled : (frames changed : List FrameState) → FramesFit frames v → FramesSettled frames changed page old new → FramesFit changed next
-  frames_settled frames changed fit change = record {
-    count = change.count ∙ fit.count;
-    of_page = λ q g state e. elim (eqb_tells q page) [
-      | inl same ↦
-          change.taken g state
-          (ap (λ (o : Option Placement). state_by page o g) (sym (at_page v page old new can entry)) ∙ ap (λ (p : ℕ). state_by p (map.get next.placement p) g) (sym same.1) ∙ e)
-      | inr other ↦
-          (let before : state_by q (map.get v.placement q) g ≡ Some state = ap (λ (o : Option Placement). state_by q o g) (sym (at_other v page old new can entry q other.1)) ∙ e in
-          let takes : takes_up (map.get v.placement q) g ≡ true = state_taken q _ g state before in
-          change.kept g (never _ (not_old v page old new can entry q g other.1 takes)) (never _ (not_new v page old new can entry q g other.1 takes)) ∙ fit.of_page q g state before)
-    ];
-    of_block = λ g h held.
-        change.kept g (never _ (λ e. untrue _ (old_clear v page old new can entry g e) held)) (never _ (λ e. untrue _ (new_clear v page old new can entry g e) held)) ∙ fit.of_block g h held;
-    of_none = λ g h free. by_new g h free (decide (takes_up (Some new) g)) (decide (takes_up (Some old) g));
-  } where
-    by_new : (g : ℕ) → g < frame_count v → is_free next g ≡ true → (takes_up (Some new) g ≡ true) ⊎ (takes_up (Some new) g ≡ false) → (takes_up (Some old) g ≡ true) ⊎ (takes_up (Some old) g ≡ false) → slice_get changed g ≡ Some Free
-    by_new g h free (inl has) had = absurd (untrue _ (free_new v page old new can entry g has) free)
-    by_new g h free (inr gone) (inl had) = change.left g had gone
-    by_new g h free (inr gone) (inr never_had) = change.kept g never_had gone ∙ fit.of_none g h (sym (free_kept v page old new can entry g never_had gone) ∙ free)
 
   some_entry : (p : Placement) → Absent ≢ entry_for (Some p)
   some_entry (At frame) e = cc
@@ -136,62 +99,6 @@ module _ (v : ZoneState) (page : ℕ) (old new : Placement) (can : CanSettle v p
       | inr other ↦ by_placement a range q e other.1 (map.get v.placement q) refl ∙ sym (ap (λ (o : Option ℕ). entry_for (option_and_then (map.get next.placement) o)) e)
     ]
 
-  pub words_settled : (rows changed : List (List ℕ)) → WordsFit rows v → WordsSettled rows changed old new → WordsFit changed next
-  words_settled rows changed fit change = record {
-    count = change.count ∙ fit.count;
-    eight = λ g h. elim (decide (takes_up (Some new) g)) [ inl has ↦ change.eight g has | inr hasnt ↦ ap length (change.kept g hasnt) ∙ fit.eight g h ];
-    each = λ q placement w e small. elim (eqb_tells q page) [
-      | inl same ↦
-          (let is : placement ≡ new = (let one : Some placement ≡ Some new = sym e ∙ ap (map.get next.placement) same.1 ∙ at_page v page old new can entry in cc) in
-          ap (λ (p : Placement). slice_get (words_of changed (words_frame p)) w) is ∙ ap (λ (ws : List ℕ). slice_get ws w) change.carried
-          ∙ fit.each q old w (ap (map.get v.placement) same.1 ∙ can.at) small ∙ ap Some (sym (recorded.still.last q w)))
-      | inr other ↦
-          (let before : map.get v.placement q ≡ Some placement = sym (at_other v page old new can entry q other.1) ∙ e in
-          let takes : takes_up (map.get v.placement q) (words_frame placement) ≡ true = ap (λ (o : Option Placement). takes_up o (words_frame placement)) before ∙ takes_own placement in
-          ap (λ (ws : List ℕ). slice_get ws w) (change.kept (words_frame placement) (never _ (not_new v page old new can entry q (words_frame placement) other.1 takes)))
-          ∙ fit.each q placement w before small ∙ ap Some (sym (recorded.still.last q w)))
-    ];
-  }
-
-  pub movable_settled : (movable changed : List Bool) → MovableFit movable v → MovableSettled movable changed (can_move v page) new → MovableFit changed next
-  movable_settled movable changed fit change = record {
-    count = change.count ∙ fit.count;
-    each = λ q g e. elim (eqb_tells q page) [
-      | inl same ↦
-          (let is : new ≡ At g = (let one : Some new ≡ Some (At g) = sym (at_page v page old new can entry) ∙ ap (map.get next.placement) (sym same.1) ∙ e in cc) in
-          change.here g is ∙ ap (λ (p : ℕ). Some (can_move v p)) (sym same.1) ∙ still q)
-      | inr other ↦
-          (let before : map.get v.placement q ≡ Some (At g) = sym (at_other v page old new can entry q other.1) ∙ e in
-          let takes : takes_up (map.get v.placement q) g ≡ true = ap (λ (o : Option Placement). takes_up o g) before ∙ eq-eqb g g refl in
-          change.kept g (never _ (not_new v page old new can entry q g other.1 takes)) ∙ fit.each q g before ∙ still q)
-    ];
-  } where
-    still : (q : ℕ) → Some (can_move v q) ≡ Some (can_move next q)
-    still q = ap (λ n. Some (nat_eq n 0 && not (set.contains v.unmovable q))) (sym (recorded.still.pins q))
-
-  pub notes_settled : (notes : List Note) (note : Note) → NotesFit notes v → slice_get notes page ≡ Some note → IsSome note.placement → NotesFit (slice_set notes page (record note { placement = Some new })) next
-  notes_settled notes note fit e used = record {
-    count = length-set notes page (record note { placement = Some new }) ∙ fit.count;
-    each = λ q seen is used_now. elim (eqb_tells q page) [
-      | inl same ↦
-          (let here : record note { placement = Some new } ≡ seen = (let one : Some (record note { placement = Some new }) ≡ Some seen = sym (slice_get_set_same notes page q (record note { placement = Some new }) same.1 (slice_get_within notes page note e)) ∙ is in cc) in
-          let N : Note → Type 0 = λ n. NoteFits n next q in
-          let before = fit.each page note e used in
-          subst N here (record {
-            dirty = before.dirty ∙ ap (dirty v.records) (sym same.1) ∙ sym (recorded.still.dirty q);
-            pins = before.pins ∙ ap (pins v.records) (sym same.1) ∙ sym (recorded.still.pins q);
-            maps = before.maps ∙ ap (maps v.records) (sym same.1) ∙ sym (recorded.still.maps q);
-          }))
-      | inr other ↦
-          (let before = fit.each q seen (sym (slice_get_set_other notes page q (record note { placement = Some new }) other.1) ∙ is) used_now in
-          record {
-            dirty = before.dirty ∙ sym (recorded.still.dirty q);
-            pins = before.pins ∙ sym (recorded.still.pins q);
-            maps = before.maps ∙ sym (recorded.still.maps q);
-          })
-    ];
-  }
-
 -- the fields of a zone before and after a page settled elsewhere
 pub record Settling (z changed : Inside) (v : ZoneState) (page : ℕ) (old new : Placement) (entry : Record) (note : Note) (migrate_new free_new : ℕ) : Type 0 where
   pub sound : IsSound z v
@@ -229,20 +136,56 @@ module _ (z changed : Inside) (v : ZoneState) (page : ℕ) (old new : Placement)
   note_placed : note.placement ≡ Some old
   note_placed = sym (ap (option_and_then (λ (n : Note). n.placement)) known.note_is) ∙ placement_before
 
+  gets : GetsPlace v after page (Some old) (Some new)
+  gets = record {
+    before = known.can.lawful;
+    after = lawful_settled v page old new known.can entry known.recorded migrate free known.fingers;
+    at = known.can.at;
+    now = at_page v page old new known.can entry;
+    others = at_other v page old new known.can entry;
+    blocks = refl;
+    handed_out = refl;
+  }
+
+  leaves : LeavesOthers v after page
+  leaves =
+      let still = known.recorded.still in
+      record { last = λ q w ne. still.last q w; dirty = λ q ne. still.dirty q; pins = λ q ne. still.pins q; maps = λ q ne. still.maps q }
+
+  words_changed : WordsPlaced z.words changed.words after page (Some new)
+  words_changed = record {
+    count = known.words.count;
+    mine = λ placement w e small.
+        (let is : placement ≡ new = cc in
+        ap (λ (p : Placement). slice_get (words_of changed.words (words_frame p)) w) is ∙ ap (λ (ws : List ℕ). slice_get ws w) known.words.carried
+        ∙ known.sound.words.each page old w known.can.at small ∙ ap Some (sym (known.recorded.still.last page w)));
+    kept = known.words.kept;
+    eight = known.words.eight;
+  }
+
+  can_still : (q : ℕ) → can_move after q ≡ can_move v q
+  can_still q = ap (λ n. nat_eq n 0 && not (set.contains v.unmovable q)) (known.recorded.still.pins q)
+
+  note_fits : NoteFits settled_note after page
+  note_fits =
+      let was = known.sound.notes.each page note known.note_is (ap is_some note_placed) in
+      let still = known.recorded.still in
+      record { dirty = was.dirty ∙ sym (still.dirty page); pins = was.pins ∙ sym (still.pins page); maps = was.maps ∙ sym (still.maps page) }
+
   pub settle_sound : IsSound changed after
   settle_sound =
       let sound = known.sound in
-      let spare = known.spare in
+      let entries = entries_settled v page old new known.can entry known.recorded z.tables changed.tables sound.entries known.tables in
       record {
-        lawful = lawful_settled v page old new known.can entry known.recorded migrate free known.fingers;
+        lawful = gets.after;
         orders = ap length known.handed_out_same ∙ sound.orders;
-        frames = (let fit = frames_settled v page old new known.can entry known.recorded z.frames.states changed.frames.states sound.frames known.frames in record { count = fit.count; of_page = fit.of_page; of_block = fit.of_block; of_none = fit.of_none });
-        entries = (let fit = entries_settled v page old new known.can entry known.recorded z.tables changed.tables sound.entries known.tables in record { each = fit.each });
-        words = (let fit = words_settled v page old new known.can entry known.recorded z.words changed.words sound.words known.words in record { count = fit.count; eight = fit.eight; each = fit.each });
+        frames = frames_fit v after page (Some old) (Some new) gets z.frames.states changed.frames.states sound.frames known.frames;
+        movable = movable_fit v after page (Some old) (Some new) gets z.frames.movable changed.frames.movable (can_move v page) sound.movable known.movable (sym (can_still page)) (λ q ne. can_still q);
+        entries = record { each = entries.each };
+        words = words_fit v after page (Some old) (Some new) gets z.words changed.words sound.words words_changed leaves;
         notes = subst (λ (ns : List Note). NotesFit ns after) (sym known.notes)
-            (let fit = notes_settled v page old new known.can entry known.recorded z.notes note sound.notes known.note_is (ap is_some note_placed) in record { count = fit.count; each = λ q n e used. (let one = fit.each q n e used in record { dirty = one.dirty; pins = one.pins; maps = one.maps }) });
+            (notes_fit v after page (Some old) (Some new) gets z.notes settled_note (slice_get_within z.notes page note known.note_is) sound.notes note_fits leaves);
         moves = known.moves;
-        movable = (let fit = movable_settled v page old new known.can entry known.recorded z.frames.movable changed.frames.movable sound.movable known.movable in record { count = fit.count; each = fit.each });
       }
 
   note_there : (q : ℕ) → q ≢ page → slice_get changed.notes q ≡ slice_get z.notes q
