@@ -4,6 +4,7 @@ pub mod Departed
 pub mod Facts
 pub mod Finding
 pub mod InUse
+pub mod NotedPages
 pub mod Opened
 pub mod Placement
 pub mod Placing

@@ -1,5 +1,5 @@
 -- A fresh page in a free frame: the tables of the zone go on fitting.
-use Rattle.std.proofs.Common.{◌≡◌, ◌≢◌, ℕ, ◌<◌, ◌≤◌, Bool, true, false, not, List, length, ◌⊎◌, inl, inr, refl, sym, ap, ◌∙◌, arith}
+use Rattle.std.proofs.Common.{◌≡◌, ◌≢◌, ℕ, ◌<◌, Bool, true, false, not, List, length, ◌⊎◌, inl, inr, refl, sym, ap, ◌∙◌, arith}
 use Rattle.std.specs.Prelude.{Option, Some, None, is_some, slice_get, slice_set, nat_eq, ◌&&◌, if◌then◌else◌}
 use Rattle.std.specs.Option.{option_and_then}
 use Rattle.std.specs.FinMap as map
@@ -7,7 +7,6 @@ use Rattle.std.specs.FinSet as set
 use Rattle.std.proofs.lemmas.Bool.{eq-eqb}
 use Rattle.std.proofs.lemmas.Bool.Decides.{eqb_tells}
 use Rattle.std.proofs.lemmas.List.{length-set}
-use Rattle.std.proofs.lemmas.Option.{slice_get_past}
 use Rattle.frame_core.proofs.Lists.{slice_get_set_same, slice_get_set_other, slice_get_replicate}
 use Rattle.frame_core.specs.Address.{InRange}
 use Rattle.frame_core.specs.declared.place.Address.{Address}
@@ -33,15 +32,14 @@ use Rattle.state_core.proofs.Entries.{contains_insert_same, contains_insert_othe
 use Rattle.plain_core.specs.Notes.{placement_of, is_unmovable_of, says_unmovable}
 use Rattle.plain_core.specs.Sound.{state_of, IsSound}
 use Rattle.state_core.specs.Steps.{placed}
-use Rattle.plain_core.specs.Tabulated.{tabulated, gathered}
+use Rattle.plain_core.specs.Tabulated.{gathered}
 use Rattle.plain_core.proofs.Accessed.{words_set_same, words_set_other}
 use Rattle.state_core.proofs.Facts.{chosen, taken, skipped}
-use Rattle.plain_core.proofs.Finding.{placement_past, get_placements}
+use Rattle.plain_core.proofs.Finding.{get_placements}
 use Rattle.state_core.proofs.Placed.{CanPlace, untrue, clash, placed_lawful, at_page, at_other, named_here, named_there, maps_one, maps_others, pins_none, pins_others}
 use Rattle.plain_core.proofs.Serials.{moves_kept}
+use Rattle.plain_core.proofs.NotedPages.{placements_set, unmovable_set, unmovable_kept}
 use Rattle.plain_core.proofs.Placement.{GetsPlace, LeavesOthers, frames_fit, movable_fit, words_fit, notes_fit}
-use Rattle.plain_core.proofs.Tabulating.{tabulated_insert}
-use Rattle.plain_core.proofs.Tabulating.{gathered_insert, gathered_same}
 
 -- the note of the fresh page
 abbrev pub fresh_note : Bool → ℕ → Note
@@ -206,42 +204,14 @@ module _ (z : Inside) (v : ZoneState) (client : ℕ) (address : Address) (unmova
   note_within : page < length z.notes
   note_within = omega (arith, known.can.numbered, known.sound.notes.count)
 
-  note_there : (q : ℕ) → q ≢ page → slice_get notes_new q ≡ slice_get z.notes q
-  note_there q ne = slice_get_set_other z.notes page q (fresh_note unmovable frame) ne
-
-  note_here : slice_get notes_new page ≡ Some (fresh_note unmovable frame)
-  note_here = slice_get_set_same z.notes page page (fresh_note unmovable frame) refl note_within
-
-  len : length notes_new ≡ length z.notes
-  len = length-set z.notes page (fresh_note unmovable frame)
-
-  placement_new : tabulated (placement_of notes_new) (length notes_new) ≡ map.insert (state_of z).placement page (At frame)
-  placement_new =
-      ap (tabulated (placement_of notes_new)) len
-      ∙ tabulated_insert (placement_of z.notes) (placement_of notes_new) (length z.notes) page (At frame)
-      (placement_past z.notes) (λ q past. placement_past notes_new q (omega (arith, len, past)))
-      (ap (option_and_then (λ (note : Note). note.placement)) note_here) (λ q ne. ap (option_and_then (λ (note : Note). note.placement)) (note_there q ne))
-
-  unmovable_past : (notes : List Note) (n : ℕ) → length notes ≤ n → is_unmovable_of notes n ≡ false
-  unmovable_past notes n past = ap says_unmovable (slice_get_past notes n past)
-
   unmovable_new : (b : Bool) → unmovable ≡ b → gathered (is_unmovable_of notes_new) (length notes_new) ≡ (if b then set.insert (state_of z).unmovable page else (state_of z).unmovable)
-  unmovable_new true is =
-      ap (gathered (is_unmovable_of notes_new)) len
-      ∙ gathered_insert (is_unmovable_of z.notes) (is_unmovable_of notes_new) (length z.notes) page
-      (unmovable_past z.notes) (λ q past. unmovable_past notes_new q (omega (arith, len, past)))
-      (ap says_unmovable note_here ∙ is) (λ q ne. ap says_unmovable (note_there q ne))
-  unmovable_new false is =
-      ap (gathered (is_unmovable_of notes_new)) len ∙ gathered_same (is_unmovable_of notes_new) (is_unmovable_of z.notes) (length z.notes) same where
-        same : (q : ℕ) → is_unmovable_of notes_new q ≡ is_unmovable_of z.notes q
-        same q = elim (eqb_tells q page) [
-          | inl at ↦ ap (is_unmovable_of notes_new) at.1 ∙ ap says_unmovable note_here ∙ is ∙ sym (ap (is_unmovable_of z.notes) at.1 ∙ movable_none (slice_get z.notes page) unused_before)
-          | inr off ↦ ap says_unmovable (note_there q off.1)
-        ]
+  unmovable_new true is = unmovable_set z.notes page (fresh_note unmovable frame) note_within is
+  unmovable_new false is = unmovable_kept z.notes page (fresh_note unmovable frame) note_within (is ∙ sym (movable_none (slice_get z.notes page) unused_before))
 
   pub place_view : state_of (after_place z unmovable page frame tables history) ≡ placed v client address unmovable page frame
   place_view =
       let u = unmovable_new unmovable refl in
+      let placed_there = placements_set z.notes page (fresh_note unmovable frame) note_within (At frame) refl in
       let here : state_of (after_place z unmovable page frame tables history) ≡ placed (state_of z) client address unmovable page frame =
-      λ i. record (state_of z) { records = (known.history_is i).records; room = (known.history_is i).room; round = (known.history_is i).round; placement = placement_new i; unmovable = u i } in
+      λ i. record (state_of z) { records = (known.history_is i).records; room = (known.history_is i).room; round = (known.history_is i).round; placement = placed_there i; unmovable = u i } in
       here ∙ ap (λ (s : ZoneState). placed s client address unmovable page frame) known.view

@@ -1,13 +1,11 @@
 -- A page in use is somewhere else: the tables of the zone go on fitting.
-use Rattle.std.proofs.Common.{◌≡◌, ◌≢◌, ℕ, ◌-◌, ◌<◌, ◌≤◌, Bool, true, false, not, List, ◌∷◌, length, inl, inr, refl, sym, ap, subst, ◌∙◌, arith}
+use Rattle.std.proofs.Common.{◌≡◌, ◌≢◌, ℕ, ◌-◌, ◌<◌, ◌≤◌, Bool, true, false, not, List, ◌∷◌, length, inl, inr, refl, sym, ap, subst, ◌∙◌}
 use Rattle.std.specs.Prelude.{Option, Some, None, is_some, slice_get, slice_set, nat_eq, ◌&&◌}
 use Rattle.std.specs.Option.{option_and_then}
 use Rattle.std.specs.FinMap as map
 use Rattle.std.proofs.lemmas.Bool.{eq-eqb}
 use Rattle.std.proofs.lemmas.Bool.Decides.{eqb_tells}
-use Rattle.std.proofs.lemmas.List.{length-set}
 use Rattle.std.proofs.lemmas.Option.{slice_get_within}
-use Rattle.frame_core.proofs.Lists.{slice_get_set_same, slice_get_set_other}
 use Rattle.frame_core.specs.Address.{InRange}
 use Rattle.frame_core.specs.declared.place.Address.{Address}
 use Rattle.frame_core.specs.declared.state.FrameState.{FrameState}
@@ -33,12 +31,11 @@ use Rattle.plain_core.specs.History.{told}
 use Rattle.plain_core.specs.Sound.{state_of, IsSound}
 use Rattle.scan_core.specs.Frames.{true_at}
 use Rattle.plain_core.specs.Tabulated.{tabulated, gathered}
-use Rattle.plain_core.proofs.Finding.{placement_past, get_placements}
+use Rattle.plain_core.proofs.Finding.{get_placements}
 use Rattle.state_core.proofs.Placed.{clash}
+use Rattle.plain_core.proofs.NotedPages.{placements_set, unmovable_kept}
 use Rattle.plain_core.proofs.Placement.{GetsPlace, LeavesOthers, FramesPlaced, MovablePlaced, WordsPlaced, frames_fit, movable_fit, words_fit, notes_fit}
 use Rattle.state_core.proofs.Settled.{CanSettle, IsRecorded, at_page, at_other, not_old, lawful_settled}
-use Rattle.plain_core.proofs.Tabulating.{tabulated_insert}
-use Rattle.plain_core.proofs.Tabulating.{gathered_same}
 
 -- how frames change with their page, and what is noted of whether it may be taken
 abbrev pub FramesSettled : List FrameState → List FrameState → ℕ → Placement → Placement → Type 0
@@ -188,32 +185,16 @@ module _ (z changed : Inside) (v : ZoneState) (page : ℕ) (old new : Placement)
         moves = known.moves;
       }
 
-  note_there : (q : ℕ) → q ≢ page → slice_get changed.notes q ≡ slice_get z.notes q
-  note_there q ne = ap (λ (ns : List Note). slice_get ns q) known.notes ∙ slice_get_set_other z.notes page q settled_note ne
-
-  note_here : slice_get changed.notes page ≡ Some settled_note
-  note_here = ap (λ (ns : List Note). slice_get ns page) known.notes ∙ slice_get_set_same z.notes page page settled_note refl (slice_get_within z.notes page note known.note_is)
-
-  len : length changed.notes ≡ length z.notes
-  len = ap length known.notes ∙ length-set z.notes page settled_note
+  note_within : page < length z.notes
+  note_within = slice_get_within z.notes page note known.note_is
 
   placement_new : tabulated (placement_of changed.notes) (length changed.notes) ≡ map.insert (state_of z).placement page new
-  placement_new =
-      ap (tabulated (placement_of changed.notes)) len
-      ∙ tabulated_insert (placement_of z.notes) (placement_of changed.notes) (length z.notes) page new
-      (placement_past z.notes) (λ q past. placement_past changed.notes q (omega (arith, len, past)))
-      (ap (option_and_then (λ (n : Note). n.placement)) note_here) (λ q ne. ap (option_and_then (λ (n : Note). n.placement)) (note_there q ne))
-
-  unmovable_same : (q : ℕ) → is_unmovable_of changed.notes q ≡ is_unmovable_of z.notes q
-  unmovable_same q = elim (eqb_tells q page) [
-    | inl same ↦
-        ap (is_unmovable_of changed.notes) same.1 ∙ ap says_unmovable note_here
-        ∙ sym (ap (is_unmovable_of z.notes) same.1 ∙ ap says_unmovable known.note_is ∙ ap (λ (o : Option Placement). is_some o && note.unmovable) note_placed)
-    | inr other ↦ ap says_unmovable (note_there q other.1)
-  ]
+  placement_new = ap (λ (ns : List Note). tabulated (placement_of ns) (length ns)) known.notes ∙ placements_set z.notes page settled_note note_within new refl
 
   unmovable_new : gathered (is_unmovable_of changed.notes) (length changed.notes) ≡ (state_of z).unmovable
-  unmovable_new = ap (gathered (is_unmovable_of changed.notes)) len ∙ gathered_same _ _ (length z.notes) unmovable_same
+  unmovable_new =
+      ap (λ (ns : List Note). gathered (is_unmovable_of ns) (length ns)) known.notes
+      ∙ unmovable_kept z.notes page settled_note note_within (sym (ap says_unmovable known.note_is ∙ ap (λ (o : Option Placement). is_some o && note.unmovable) note_placed))
 
   pub settle_view : state_of changed ≡ after
   settle_view =
