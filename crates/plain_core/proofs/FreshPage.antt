@@ -33,11 +33,11 @@ use Rattle.plain_core.specs.Notes.{placement_of, is_unmovable_of, says_unmovable
 use Rattle.plain_core.specs.Sound.{state_of, IsSound}
 use Rattle.state_core.specs.Steps.{placed}
 use Rattle.plain_core.specs.Tabulated.{gathered}
-use Rattle.plain_core.proofs.Accessed.{words_set_same, words_set_other}
+use Rattle.plain_core.proofs.LoadsAndStores.{words_set_same, words_set_other}
 use Rattle.state_core.proofs.Facts.{chosen, taken, skipped}
-use Rattle.plain_core.proofs.Finding.{get_placements}
+use Rattle.plain_core.proofs.SearchesAndCounts.{get_placements}
 use Rattle.state_core.proofs.Placed.{CanPlace, untrue, clash, placed_lawful, at_page, at_other, named_here, named_there, maps_one, maps_others, pins_none, pins_others}
-use Rattle.plain_core.proofs.Serials.{moves_kept}
+use Rattle.plain_core.proofs.OutAndEnded.{moves_kept}
 use Rattle.plain_core.proofs.NotedPages.{placements_set, unmovable_set, unmovable_kept}
 use Rattle.plain_core.proofs.Placement.{GetsPlace, LeavesOthers, frames_fit, movable_fit, words_fit, notes_fit}
 

@@ -31,7 +31,7 @@ use Rattle.plain_core.specs.History.{told}
 use Rattle.plain_core.specs.Sound.{state_of, IsSound}
 use Rattle.scan_core.specs.Frames.{true_at}
 use Rattle.plain_core.specs.Tabulated.{tabulated, gathered}
-use Rattle.plain_core.proofs.Finding.{get_placements}
+use Rattle.plain_core.proofs.SearchesAndCounts.{get_placements}
 use Rattle.state_core.proofs.Placed.{clash}
 use Rattle.plain_core.proofs.NotedPages.{placements_set, unmovable_kept}
 use Rattle.plain_core.proofs.Placement.{GetsPlace, LeavesOthers, FramesPlaced, MovablePlaced, WordsPlaced, frames_fit, movable_fit, words_fit, notes_fit}

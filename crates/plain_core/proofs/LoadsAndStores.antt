@@ -29,7 +29,7 @@ use Rattle.state_core.specs.ZoneState.{words_frame, ZoneState, placement_at}
 use Rattle.plain_core.specs.Sound.{IsSound, state_of}
 use Rattle.plain_core.specs.Notes.{says_unmovable}
 use Rattle.state_core.specs.Steps.{value_at, loaded, stored}
-use Rattle.plain_core.proofs.Serials.{moves_kept}
+use Rattle.plain_core.proofs.OutAndEnded.{moves_kept}
 use Rattle.plain_core.proofs.NotedPages.{placements_kept, unmovable_kept}
 use Rattle.state_core.proofs.Facts.{taken, skipped, page_named, frame_within, frames_differ, not_none}
 use Rattle.plain_core.proofs.Facts.{noted_view, held_by}
