@@ -21,8 +21,8 @@ use Rattle.state_core.specs.ZoneState.{ZoneState, frame_count, is_held}
 use Rattle.plain_core.specs.declared.plain.PlainZone.TheInside.{Inside}
 use Rattle.plain_core.specs.Sound.{state_of}
 use Rattle.plain_core.specs.Fits.{FramesFit, MovableFit}
-use Rattle.plain_core.proofs.Finding.{free_seen}
-use Rattle.plain_core.proofs.Seen.{holds_seen, none_seen, huge_seen, no_huge_seen}
+use Rattle.plain_core.proofs.SearchesAndCounts.{free_seen}
+use Rattle.plain_core.proofs.Tables.{holds_seen, none_seen, huge_seen, no_huge_seen}
 
 highest_same : (p r : ℕ → Bool) (n : ℕ) → ((k : ℕ) → k < n → p k ≡ r k) → highest p n ≡ highest r n
 highest_same p r zero same = refl

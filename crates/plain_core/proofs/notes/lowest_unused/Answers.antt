@@ -2,7 +2,7 @@ use Rattle.std.proofs.Common.{◌≡◌, sym, ap, ◌∙◌, below_more, length,
 use Rattle.std.specs.Prelude.{is_none}
 use Rattle.plain_core.specs.Notes.{placement_of}
 use Rattle.frame_core.proofs.Searches.{lowest_is, lowest_none}
-use Rattle.plain_core.proofs.Finding.{some_is, placement_at_note}
+use Rattle.plain_core.proofs.SearchesAndCounts.{some_is, placement_at_note}
 use Rattle.plain_core.proofs.notes.lowest_unused.Goals as goal
 
 pub returns-then-is_none : goal.returns-then-is_none

@@ -4,7 +4,7 @@ use Rattle.frame_core.proofs.Searches.{lowest_before}
 use Rattle.frame_core.specs.Below.{lowest}
 use Rattle.plain_core.specs.declared.note.Note.{Note}
 use Rattle.plain_core.specs.Notes.{placement_of}
-use Rattle.plain_core.proofs.Finding.{some_when}
+use Rattle.plain_core.proofs.SearchesAndCounts.{some_when}
 use Rattle.plain_core.proofs.notes.Notes.lowest_unused.Goals as goal
 
 pub invariant_of-self : goal.invariant_of-self

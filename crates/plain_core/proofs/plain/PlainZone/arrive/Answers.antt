@@ -4,10 +4,10 @@ use Rattle.frame_core.specs.declared.state.FrameState.TheVariants.{Free, Holds}
 use Rattle.journal_core.specs.declared.record.Record.TheVariants.{Moved}
 use Rattle.scan_core.specs.Frames.{Frames}
 use Rattle.state_core.specs.Pairs.{can_move}
-use Rattle.plain_core.proofs.Seen.{words_seen, note_seen, movable_seen}
+use Rattle.plain_core.proofs.Tables.{words_seen, note_seen, movable_seen}
 use Rattle.plain_core.specs.Fits.{MovesFit}
 use Rattle.plain_core.specs.Moves.{Moves}
-use Rattle.plain_core.proofs.Serials.{some_out, moves_arrived}
+use Rattle.plain_core.proofs.OutAndEnded.{some_out, moves_arrived}
 use Rattle.plain_core.specs.declared.plain.PlainZone.TheInside.{Inside}
 use Rattle.state_core.specs.declared.placement.Placement.TheVariants.{At, Moving}
 use Rattle.state_core.specs.Carrying.{settled}
@@ -16,8 +16,8 @@ use Rattle.plain_core.specs.Sound.{IsSound, state_of}
 use Rattle.state_core.specs.ZoneState.{ZoneState}
 use Rattle.state_core.proofs.Facts.{not_none}
 use Rattle.state_core.proofs.Settled.{can_move_on, moved_recorded, frames_apart, source_within, target_in}
-use Rattle.plain_core.proofs.Settles.{moved_frames, moved_words, kept_movable, two_puts, then_noted, moved_settled, some_on_the_way, ending_room}
-use Rattle.plain_core.proofs.Settling.{Settling, FramesSettled, MovableSettled, WordsSettled, settle_sound, settle_view}
+use Rattle.plain_core.proofs.MoveEnds.{moved_frames, moved_words, kept_movable, two_puts, then_noted, moved_settled, some_on_the_way, ending_room}
+use Rattle.plain_core.proofs.Relocation.{Settling, FramesSettled, MovableSettled, WordsSettled, settle_sound, settle_view}
 use Rattle.plain_core.proofs.plain.PlainZone.arrive.Goals as goal
 use Rattle.plain_core.proofs.plain.PlainZone.arrive.Goals.{After-note}
 

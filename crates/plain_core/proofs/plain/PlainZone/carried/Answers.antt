@@ -5,7 +5,7 @@ use Rattle.state_core.specs.declared.placement.Placement.TheVariants.{At}
 use Rattle.plain_core.specs.Sound.{IsSound}
 use Rattle.state_core.specs.ZoneState.{ZoneState}
 use Rattle.state_core.proofs.Facts.{frame_within}
-use Rattle.plain_core.proofs.Seen.{words_seen}
+use Rattle.plain_core.proofs.Tables.{words_seen}
 use Rattle.plain_core.proofs.plain.PlainZone.carried.Goals as goal
 
 pub read_out-requires : goal.read_out-requires

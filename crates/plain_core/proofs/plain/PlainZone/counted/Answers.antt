@@ -1,6 +1,6 @@
 use Rattle.std.proofs.Common.{◌∙◌, refl, subst, sym}
 use Rattle.plain_core.specs.Sound.{IsSound}
-use Rattle.plain_core.proofs.Serials.{out_is}
+use Rattle.plain_core.proofs.OutAndEnded.{out_is}
 use Rattle.plain_core.proofs.plain.PlainZone.counted.Goals as goal
 
 pub returns-then-out-ne0-clause-some : goal.returns-then-out-ne0-clause-some

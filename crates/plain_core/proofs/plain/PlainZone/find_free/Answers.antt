@@ -3,7 +3,7 @@ use Rattle.std.specs.Prelude.{Option, Some, None, IfSome, IsTrue}
 use Rattle.frame_core.proofs.Searches.{lowest_some}
 use Rattle.state_core.specs.ZoneState.{ZoneState, is_free, frame_count, lowest_free_frame}
 use Rattle.plain_core.specs.Sound.{IsSound}
-use Rattle.plain_core.proofs.Finding.{lowest_free_seen}
+use Rattle.plain_core.proofs.SearchesAndCounts.{lowest_free_seen}
 use Rattle.plain_core.proofs.plain.PlainZone.find_free.Goals as goal
 
 free_if : (v : ZoneState) (o : Option ℕ) → o ≡ lowest_free_frame v → IfSome o (λ frame. IsTrue (is_free v frame))

@@ -4,10 +4,10 @@ use Rattle.frame_core.specs.declared.state.FrameState.TheVariants.{Free, Holds}
 use Rattle.journal_core.specs.declared.record.Record.TheVariants.{Back}
 use Rattle.scan_core.specs.Frames.{Frames}
 use Rattle.state_core.specs.Pairs.{can_move}
-use Rattle.plain_core.proofs.Seen.{note_seen, movable_seen}
+use Rattle.plain_core.proofs.Tables.{note_seen, movable_seen}
 use Rattle.plain_core.specs.Fits.{MovesFit}
 use Rattle.plain_core.specs.Moves.{Moves}
-use Rattle.plain_core.proofs.Serials.{some_out, moves_back}
+use Rattle.plain_core.proofs.OutAndEnded.{some_out, moves_back}
 use Rattle.plain_core.specs.declared.plain.PlainZone.TheInside.{Inside}
 use Rattle.state_core.specs.declared.placement.Placement.TheVariants.{At, Moving}
 use Rattle.state_core.specs.Carrying.{settled}
@@ -16,8 +16,8 @@ use Rattle.plain_core.specs.Sound.{IsSound, state_of}
 use Rattle.state_core.specs.ZoneState.{ZoneState}
 use Rattle.state_core.proofs.Facts.{not_none}
 use Rattle.state_core.proofs.Settled.{can_go_back, back_recorded, frames_apart, source_within, target_in}
-use Rattle.plain_core.proofs.Settles.{back_frames, back_words, kept_movable, two_puts, then_noted, back_settled, some_on_the_way, ending_room}
-use Rattle.plain_core.proofs.Settling.{Settling, FramesSettled, MovableSettled, settle_sound, settle_view}
+use Rattle.plain_core.proofs.MoveEnds.{back_frames, back_words, kept_movable, two_puts, then_noted, back_settled, some_on_the_way, ending_room}
+use Rattle.plain_core.proofs.Relocation.{Settling, FramesSettled, MovableSettled, settle_sound, settle_view}
 use Rattle.plain_core.proofs.plain.PlainZone.go_back.Goals as goal
 use Rattle.plain_core.proofs.plain.PlainZone.go_back.Goals.{After-note}
 

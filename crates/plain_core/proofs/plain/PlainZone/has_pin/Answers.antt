@@ -1,7 +1,7 @@
 use Rattle.std.proofs.Common.{ℕ, ap, subst, not}
 use Rattle.std.specs.Prelude.{nat_eq}
 use Rattle.plain_core.specs.Sound.{IsSound}
-use Rattle.plain_core.proofs.Seen.{note_seen, note_within}
+use Rattle.plain_core.proofs.Tables.{note_seen, note_within}
 use Rattle.plain_core.proofs.plain.PlainZone.has_pin.Goals as goal
 
 pub get-requires : goal.get-requires

@@ -2,7 +2,7 @@ use Rattle.std.proofs.Common.{◌∙◌, ap, subst}
 use Rattle.std.specs.Prelude.{nat_lt}
 use Rattle.state_core.specs.ZoneState.{ZoneState}
 use Rattle.plain_core.specs.Sound.{IsSound}
-use Rattle.plain_core.proofs.Serials.{out_is}
+use Rattle.plain_core.proofs.OutAndEnded.{out_is}
 use Rattle.plain_core.proofs.plain.PlainZone.has_room.Goals as goal
 
 pub returns : goal.returns

@@ -4,7 +4,7 @@ use Rattle.state_core.specs.Carrying.{words_now}
 use Rattle.plain_core.specs.Sound.{IsSound}
 use Rattle.word_core.specs.Words.{words_of}
 use Rattle.state_core.proofs.Facts.{frame_within}
-use Rattle.plain_core.proofs.Seen.{words_seen}
+use Rattle.plain_core.proofs.Tables.{words_seen}
 use Rattle.plain_core.proofs.plain.PlainZone.has_words.Goals as goal
 
 pub same-requires : goal.same-requires

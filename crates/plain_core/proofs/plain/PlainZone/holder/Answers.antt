@@ -1,6 +1,6 @@
 use Rattle.std.proofs.Common.{subst, sym, arith}
 use Rattle.plain_core.specs.Sound.{IsSound}
-use Rattle.plain_core.proofs.Seen.{holds_seen, none_seen}
+use Rattle.plain_core.proofs.Tables.{holds_seen, none_seen}
 use Rattle.state_core.proofs.Holding.{holder_at}
 use Rattle.plain_core.proofs.plain.PlainZone.holder.Goals as goal
 

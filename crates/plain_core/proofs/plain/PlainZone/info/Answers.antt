@@ -1,8 +1,8 @@
 use Rattle.std.proofs.Common.{◌≡◌, ◌∙◌, ◌+◌, subst}
 use Rattle.state_core.specs.Looking.{info_of}
 use Rattle.plain_core.specs.Sound.{IsSound}
-use Rattle.plain_core.proofs.Finding.{free_counted, whole_counted, in_use_seen, blocks_seen, held_seen}
-use Rattle.plain_core.proofs.Serials.{out_is}
+use Rattle.plain_core.proofs.SearchesAndCounts.{free_counted, whole_counted, in_use_seen, blocks_seen, held_seen}
+use Rattle.plain_core.proofs.OutAndEnded.{out_is}
 use Rattle.plain_core.proofs.plain.PlainZone.info.Goals as goal
 use Rattle.plain_core.proofs.plain.PlainZone.info.Goals.{After-frames}
 

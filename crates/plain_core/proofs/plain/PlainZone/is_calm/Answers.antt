@@ -7,8 +7,8 @@ use Rattle.state_core.specs.Pairs.{is_stuck}
 use Rattle.state_core.specs.ZoneState.{frame_count}
 use Rattle.plain_core.specs.Sound.{IsSound}
 use Rattle.plain_core.proofs.Scanning.{any_stuck_seen}
-use Rattle.plain_core.proofs.Seen.{mark_seen}
-use Rattle.plain_core.proofs.Serials.{out_is}
+use Rattle.plain_core.proofs.Tables.{mark_seen}
+use Rattle.plain_core.proofs.OutAndEnded.{out_is}
 use Rattle.plain_core.proofs.plain.PlainZone.is_calm.Goals as goal
 
 pub returns-then-out-eq0 : goal.returns-then-out-eq0

@@ -1,6 +1,6 @@
 use Rattle.std.proofs.Common.{◌∙◌, subst, arith}
 use Rattle.plain_core.specs.Sound.{IsSound}
-use Rattle.plain_core.proofs.Finding.{free_seen}
+use Rattle.plain_core.proofs.SearchesAndCounts.{free_seen}
 use Rattle.plain_core.proofs.plain.PlainZone.is_free.Goals as goal
 
 pub is_free-requires : goal.is_free-requires

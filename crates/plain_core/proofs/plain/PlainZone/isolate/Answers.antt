@@ -8,17 +8,17 @@ use Rattle.table_core.specs.Tables.{Replaces}
 use Rattle.plain_core.specs.declared.plain.PlainZone.TheInside.{Inside}
 use Rattle.state_core.specs.declared.placement.Placement.TheVariants.{At, Moving}
 use Rattle.scan_core.specs.Frames.{Frames}
-use Rattle.plain_core.proofs.Settles.{two_puts}
+use Rattle.plain_core.proofs.MoveEnds.{two_puts}
 use Rattle.state_core.specs.Pairs.{can_move}
 use Rattle.plain_core.specs.Fits.{MovesFit}
 use Rattle.plain_core.specs.History.{told}
 use Rattle.plain_core.specs.Moves.{Moves}
 use Rattle.state_core.proofs.Facts.{isolated_most}
-use Rattle.plain_core.proofs.Serials.{moves_more}
+use Rattle.plain_core.proofs.OutAndEnded.{moves_more}
 use Rattle.plain_core.specs.Sound.{IsSound}
-use Rattle.plain_core.proofs.Departed.{isolated_frames, isolated_words, isolated_movable}
+use Rattle.plain_core.proofs.Isolation.{isolated_frames, isolated_words, isolated_movable}
 use Rattle.state_core.proofs.Settled.{can_isolate, isolate_recorded, target_within}
-use Rattle.plain_core.proofs.Settling.{Settling, FramesSettled, MovableSettled, settle_sound, settle_view}
+use Rattle.plain_core.proofs.Relocation.{Settling, FramesSettled, MovableSettled, settle_sound, settle_view}
 use Rattle.plain_core.proofs.plain.PlainZone.isolate.Goals as goal
 use Rattle.plain_core.proofs.plain.PlainZone.isolate.Goals.{After-note}
 

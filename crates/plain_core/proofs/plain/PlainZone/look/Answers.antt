@@ -6,10 +6,10 @@ use Rattle.state_core.specs.declared.placement.Placement.TheVariants.{At, Moving
 use Rattle.state_core.specs.Pairs.{holder}
 use Rattle.plain_core.specs.Sound.{IsSound}
 use Rattle.state_core.specs.ZoneState.{placement_at}
-use Rattle.plain_core.proofs.Accessed.{present_is}
+use Rattle.plain_core.proofs.LoadsAndStores.{present_is}
 use Rattle.state_core.proofs.Facts.{page_named, frame_within, not_none}
 use Rattle.state_core.proofs.Holding.{holder_at}
-use Rattle.plain_core.proofs.Seen.{migration_is, moving_page, look_resident, look_moving}
+use Rattle.plain_core.proofs.Tables.{migration_is, moving_page, look_resident, look_moving}
 use Rattle.plain_core.proofs.plain.PlainZone.look.Goals as goal
 
 two_pages : (o : Option ℕ) (p q : ℕ) → o ≡ Some p → o ≡ Some q → p ≡ q

@@ -3,7 +3,7 @@ use Rattle.scan_core.specs.Pairs.{next_step}
 use Rattle.state_core.proofs.Pairing.{pair_found, pair_of, source_within, none_found, no_pair, no_page_pair}
 use Rattle.plain_core.specs.Sound.{IsSound}
 use Rattle.plain_core.proofs.Scanning.{pair_seen, met_seen, fingers_seen}
-use Rattle.plain_core.proofs.Seen.{mark_seen}
+use Rattle.plain_core.proofs.Tables.{mark_seen}
 use Rattle.plain_core.proofs.plain.PlainZone.next_pair.Goals as goal
 
 pub returns-in_default-clause-pair : goal.returns-in_default-clause-pair

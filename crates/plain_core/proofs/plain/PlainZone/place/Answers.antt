@@ -8,8 +8,8 @@ use Rattle.state_core.specs.Mapping.{placed}
 use Rattle.state_core.proofs.Facts.{spare}
 use Rattle.state_core.proofs.Finding.{some_lowest, unused_is}
 use Rattle.state_core.proofs.Placed.{CanPlace}
-use Rattle.plain_core.proofs.Placing.{Placing, fresh_note, after_place, place_view, place_sound}
-use Rattle.plain_core.proofs.Settles.{then_noted}
+use Rattle.plain_core.proofs.FreshPage.{Placing, fresh_note, after_place, place_view, place_sound}
+use Rattle.plain_core.proofs.MoveEnds.{then_noted}
 use Rattle.scan_core.specs.Frames.{Frames}
 use Rattle.plain_core.proofs.plain.PlainZone.place.Goals as goal
 use Rattle.plain_core.proofs.plain.PlainZone.place.Goals.{After-note}

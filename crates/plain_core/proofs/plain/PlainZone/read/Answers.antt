@@ -4,7 +4,7 @@ use Rattle.state_core.specs.declared.placement.Placement.TheVariants.{At}
 use Rattle.plain_core.specs.History.{told}
 use Rattle.plain_core.specs.Sound.{IsSound, state_of}
 use Rattle.state_core.specs.Access.{value_at, loaded}
-use Rattle.plain_core.proofs.Accessed.{loaded_sound, word_read}
+use Rattle.plain_core.proofs.LoadsAndStores.{loaded_sound, word_read}
 use Rattle.state_core.proofs.Facts.{page_named, frame_within, spare}
 use Rattle.plain_core.proofs.Facts.{noted_view}
 use Rattle.plain_core.proofs.plain.PlainZone.read.Goals as goal

@@ -1,6 +1,6 @@
 use Rattle.std.proofs.Common.{◌∙◌, subst, sym}
 use Rattle.plain_core.specs.Sound.{IsSound}
-use Rattle.plain_core.proofs.Finding.{lowest_unused_seen}
+use Rattle.plain_core.proofs.SearchesAndCounts.{lowest_unused_seen}
 use Rattle.state_core.proofs.Finding.{unused_left}
 use Rattle.plain_core.proofs.plain.PlainZone.unused_page.Goals as goal
 

@@ -1,6 +1,6 @@
 use Rattle.std.proofs.Common.{subst}
 use Rattle.plain_core.specs.Sound.{IsSound}
-use Rattle.plain_core.proofs.Seen.{note_seen, note_within}
+use Rattle.plain_core.proofs.Tables.{note_seen, note_within}
 use Rattle.plain_core.proofs.plain.PlainZone.uses_of.Goals as goal
 
 pub get-note-requires : goal.get-note-requires

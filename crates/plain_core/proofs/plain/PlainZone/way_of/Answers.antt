@@ -5,7 +5,7 @@ use Rattle.state_core.specs.declared.placement.Placement.{Placement}
 use Rattle.state_core.specs.declared.placement.Placement.TheVariants.{Moving}
 use Rattle.plain_core.specs.Notes.{placement_of}
 use Rattle.state_core.specs.ZoneState.{ZoneState}
-use Rattle.plain_core.proofs.Seen.{placement_seen, not_own, own_when, other_serial, same_number}
+use Rattle.plain_core.proofs.Tables.{placement_seen, not_own, own_when, other_serial, same_number}
 use Rattle.plain_core.proofs.plain.PlainZone.way_of.Goals as goal
 
 nowhere : (o : Option Placement) (serial source target : ℕ) → o ≡ None → o ≡ Some (Moving serial source target) → ⊥

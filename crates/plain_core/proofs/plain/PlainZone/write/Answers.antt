@@ -5,7 +5,7 @@ use Rattle.plain_core.specs.declared.note.Note.{Note}
 use Rattle.plain_core.specs.declared.plain.PlainZone.TheInside.{Inside}
 use Rattle.plain_core.specs.Sound.{IsSound, state_of}
 use Rattle.state_core.specs.Access.{stored}
-use Rattle.plain_core.proofs.Accessed.{Storing, resident, store_view, store_sound}
+use Rattle.plain_core.proofs.LoadsAndStores.{Storing, resident, store_view, store_sound}
 use Rattle.state_core.proofs.Facts.{spare, frame_within}
 use Rattle.state_core.proofs.Holding.{holder_at}
 use Rattle.state_core.specs.declared.placement.Placement.TheVariants.{At}

@@ -11,10 +11,7 @@ use Rattle.state_core.specs.declared.placement.Placement.TheVariants.{At, Moving
 use Rattle.plain_core.specs.Fits.{state_by, WordsFit}
 use Rattle.state_core.specs.ZoneState.{ZoneState, frame_count}
 use Rattle.state_core.proofs.Placed.{untrue}
-use Rattle.plain_core.proofs.Settling.{FramesSettled, MovableSettled, WordsSettled}
-
-same_state : {A : Type 0} (x y z : A) → Some x ≡ Some y → z ≡ x → z ≡ y
-same_state x y z e f = cc
+use Rattle.plain_core.proofs.Relocation.{FramesSettled, MovableSettled, WordsSettled}
 
 module _ (frames : List FrameState) (page source target serial : ℕ) (apart : source ≢ target) (source_in : source < length frames) (target_in : target < length frames) where
   abbrev changed : List FrameState

@@ -27,10 +27,9 @@ use Rattle.state_core.specs.Access.{placement_refusal, value_at, loaded, stored}
 use Rattle.plain_core.specs.Fits.{entry_for, WordsFit, NoteFits, NotesFit}
 use Rattle.state_core.specs.ZoneState.{words_frame, ZoneState, placement_at}
 use Rattle.plain_core.specs.Sound.{IsSound, state_of}
-use Rattle.plain_core.specs.Notes.{placement_of, is_unmovable_of, says_unmovable}
-use Rattle.plain_core.specs.Tabulated.{tabulated, gathered}
-use Rattle.plain_core.proofs.Serials.{moves_kept}
-use Rattle.plain_core.proofs.Tabulating.{tabulated_same, gathered_same}
+use Rattle.plain_core.specs.Notes.{says_unmovable}
+use Rattle.plain_core.proofs.OutAndEnded.{moves_kept}
+use Rattle.plain_core.proofs.NotedPages.{placements_kept, unmovable_kept}
 use Rattle.state_core.proofs.Facts.{taken, skipped, page_named, frame_within, frames_differ, not_none}
 use Rattle.plain_core.proofs.Facts.{noted_view, held_by}
 use Rattle.state_core.proofs.Accessed.{lawful_stored, lawful_loaded}
@@ -154,19 +153,6 @@ module _ (rows : List (List ℕ)) (v : ZoneState) (law : IsLawful v) (fit : Word
     ];
   }
 
--- a note that goes on saying where its page is, and whether it is unmovable, changes nothing that contracts see
-pub kept_notes : (notes : List Note) (page : ℕ) (old new : Note) → slice_get notes page ≡ Some old → new.placement ≡ old.placement → new.unmovable ≡ old.unmovable → ((q : ℕ) → placement_of (slice_set notes page new) q ≡ placement_of notes q) × ((q : ℕ) → is_unmovable_of (slice_set notes page new) q ≡ is_unmovable_of notes q)
-kept_notes notes page old new e placement unmovable = (
-  λ q. elim (eqb_tells q page) [
-    | inl same ↦ ap (option_and_then (λ (note : Note). note.placement)) (slice_get_set_same notes page q new same.1 (slice_get_within notes page old e)) ∙ placement ∙ sym (ap (λ (r : ℕ). placement_of notes r) same.1 ∙ ap (option_and_then (λ (note : Note). note.placement)) e)
-    | inr other ↦ ap (option_and_then (λ (note : Note). note.placement)) (slice_get_set_other notes page q new other.1)
-  ],
-  λ q. elim (eqb_tells q page) [
-    | inl same ↦ ap says_unmovable (slice_get_set_same notes page q new same.1 (slice_get_within notes page old e)) ∙ (λ i. is_some (placement i) && unmovable i) ∙ sym (ap (λ (r : ℕ). is_unmovable_of notes r) same.1 ∙ ap says_unmovable e)
-    | inr other ↦ ap says_unmovable (slice_get_set_other notes page q new other.1)
-  ],
-)
-
 -- what a load reads is the last value stored
 pub word_read : (z : Inside) (v : ZoneState) → IsSound z v → (address : Address) (frame word : ℕ) → placement_at v address ≡ Some (At frame) → word < 8 → word_of z.words frame word ≡ value_at v address word
 word_read z v sound address frame word at small =
@@ -216,12 +202,10 @@ after_store z page frame word value note history = record z { words = with_word 
 
 pub store_view : (z : Inside) (v : ZoneState) (client : ℕ) (address : Address) (page frame word value : ℕ) (note : Note) (history : History) → Storing z v client address page frame word value note history → state_of (after_store z page frame word value note history) ≡ stored v client address word value
 store_view z v client address page frame word value note history known =
-    let kept = kept_notes z.notes page note (record note { dirty = true }) known.note_is refl refl in
-    let len = length-set z.notes page (record note { dirty = true }) in
-    let p : tabulated (placement_of (slice_set z.notes page (record note { dirty = true }))) (length (slice_set z.notes page (record note { dirty = true }))) ≡ tabulated (placement_of z.notes) (length z.notes) =
-    ap (tabulated (placement_of (slice_set z.notes page (record note { dirty = true })))) len ∙ tabulated_same _ _ (length z.notes) kept.0 in
-    let u : gathered (is_unmovable_of (slice_set z.notes page (record note { dirty = true }))) (length (slice_set z.notes page (record note { dirty = true }))) ≡ gathered (is_unmovable_of z.notes) (length z.notes) =
-    ap (gathered (is_unmovable_of (slice_set z.notes page (record note { dirty = true })))) len ∙ gathered_same _ _ (length z.notes) kept.1 in
+    let dirty_note : Note = record note { dirty = true } in
+    let within = slice_get_within z.notes page note known.note_is in
+    let p = placements_kept z.notes page dirty_note within (sym (ap (option_and_then (λ (n : Note). n.placement)) known.note_is)) in
+    let u = unmovable_kept z.notes page dirty_note within (sym (ap says_unmovable known.note_is)) in
     let here : state_of (after_store z page frame word value note history) ≡ state_of (record z { history = history }) = λ i. record (state_of (record z { history = history })) { placement = p i; unmovable = u i } in
     here ∙ noted_view z v history (Store client address word value) known.view known.history_is
 

@@ -33,7 +33,7 @@ use Rattle.scan_core.specs.Frames.{true_at}
 use Rattle.plain_core.specs.Sound.{state_of, IsSound}
 use Rattle.state_core.proofs.Facts.{frame_within}
 use Rattle.plain_core.proofs.Facts.{held_by}
-use Rattle.plain_core.proofs.Finding.{placements_seen, takes_state}
+use Rattle.plain_core.proofs.SearchesAndCounts.{placements_seen, takes_state}
 use Rattle.state_core.proofs.Placed.{untrue}
 use Rattle.plain_core.proofs.Tabulating.{gathered_in, contains_gathered}
 use Rattle.state_core.proofs.Holding.{stands_at, when_not, holder_none}

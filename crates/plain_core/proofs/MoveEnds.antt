@@ -19,10 +19,10 @@ use Rattle.state_core.specs.Lawful.{IsLawful}
 use Rattle.state_core.specs.Carrying.{settled}
 use Rattle.state_core.specs.Ending.{IsSettled}
 use Rattle.state_core.specs.ZoneState.{ZoneState, frame_count}
-use Rattle.plain_core.proofs.Accessed.{words_set_same, words_set_other}
+use Rattle.plain_core.proofs.LoadsAndStores.{words_set_same, words_set_other}
 use Rattle.state_core.proofs.Placed.{untrue}
 use Rattle.state_core.proofs.Settled.{can_move_on, can_go_back, moved_source, back_target, target_in, out_fewer, at_page, at_other}
-use Rattle.plain_core.proofs.Settling.{FramesSettled, MovableSettled, WordsSettled}
+use Rattle.plain_core.proofs.Relocation.{FramesSettled, MovableSettled, WordsSettled}
 
 differs : (g x : ℕ) → nat_eq g x ≡ false → g ≢ x
 differs g x e same = untrue _ e (eq-eqb g x same)

@@ -1,0 +1,217 @@
+-- A fresh page in a free frame: the tables of the zone go on fitting.
+use Rattle.std.proofs.Common.{◌≡◌, ◌≢◌, ℕ, ◌<◌, Bool, true, false, not, List, length, ◌⊎◌, inl, inr, refl, sym, ap, ◌∙◌, arith}
+use Rattle.std.specs.Prelude.{Option, Some, None, is_some, slice_get, slice_set, nat_eq, ◌&&◌, if◌then◌else◌}
+use Rattle.std.specs.Option.{option_and_then}
+use Rattle.std.specs.FinMap as map
+use Rattle.std.specs.FinSet as set
+use Rattle.std.proofs.lemmas.Bool.{eq-eqb}
+use Rattle.std.proofs.lemmas.Bool.Decides.{eqb_tells}
+use Rattle.std.proofs.lemmas.List.{length-set}
+use Rattle.frame_core.proofs.Lists.{slice_get_set_same, slice_get_set_other, slice_get_replicate}
+use Rattle.frame_core.specs.Address.{InRange}
+use Rattle.frame_core.specs.declared.place.Address.{Address}
+use Rattle.frame_core.specs.declared.state.FrameState.{FrameState}
+use Rattle.frame_core.specs.declared.state.FrameState.TheVariants.{Holds}
+use Rattle.journal_core.proofs.Maps.{no_test}
+use Rattle.journal_core.specs.declared.record.Record.TheVariants.{Map}
+use Rattle.journal_core.specs.History.{same_address, page_at, last, dirty, pins}
+use Rattle.plain_core.specs.History.{History, told}
+use Rattle.table_core.specs.declared.entry.Entry.{Entry}
+use Rattle.table_core.specs.declared.entry.Entry.TheVariants.{Present}
+use Rattle.table_core.specs.Tables.{entry_at, ChangesOnly}
+use Rattle.word_core.specs.Page.{blank_words}
+use Rattle.word_core.specs.Words.{words_of, with_words}
+use Rattle.plain_core.specs.declared.note.Note.{Note}
+use Rattle.plain_core.specs.declared.plain.PlainZone.TheInside.{Inside}
+use Rattle.state_core.specs.declared.placement.Placement.{Placement}
+use Rattle.state_core.specs.declared.placement.Placement.TheVariants.{At}
+use Rattle.plain_core.specs.Fits.{entry_for, FramesFit, EntriesFit, WordsFit, NotesFit, MovableFit}
+use Rattle.state_core.specs.ZoneState.{words_frame, ZoneState, placement_at}
+use Rattle.state_core.specs.Pairs.{can_move}
+use Rattle.state_core.proofs.Entries.{contains_insert_same, contains_insert_other}
+use Rattle.plain_core.specs.Notes.{placement_of, is_unmovable_of, says_unmovable}
+use Rattle.plain_core.specs.Sound.{state_of, IsSound}
+use Rattle.state_core.specs.Mapping.{placed}
+use Rattle.plain_core.specs.Tabulated.{gathered}
+use Rattle.plain_core.proofs.LoadsAndStores.{words_set_same, words_set_other}
+use Rattle.state_core.proofs.Facts.{chosen, taken, skipped}
+use Rattle.plain_core.proofs.SearchesAndCounts.{get_placements}
+use Rattle.state_core.proofs.Placed.{CanPlace, untrue, clash, placed_lawful, at_page, at_other, named_here, named_there, maps_one, maps_others, pins_none, pins_others}
+use Rattle.plain_core.proofs.OutAndEnded.{moves_kept}
+use Rattle.plain_core.proofs.NotedPages.{placements_set, unmovable_set, unmovable_kept}
+use Rattle.plain_core.proofs.Placement.{GetsPlace, LeavesOthers, frames_fit, movable_fit, words_fit, notes_fit}
+
+-- the note of the fresh page
+abbrev pub fresh_note : Bool → ℕ → Note
+fresh_note unmovable frame = record { placement = Some (At frame); unmovable = unmovable; dirty = false; pins = 0; maps = 1 }
+
+module _ (v : ZoneState) (client : ℕ) (address : Address) (unmovable : Bool) (page frame : ℕ) (can : CanPlace v address page frame) where
+  abbrev next : ZoneState
+  next = placed v client address unmovable page frame
+
+  pub gets : GetsPlace v next page None (Some (At frame))
+  gets = record {
+    before = can.lawful;
+    after = placed_lawful v client address unmovable page frame can;
+    at = can.unused;
+    now = at_page v client address unmovable page frame can;
+    others = at_other v client address unmovable page frame can;
+    blocks = refl;
+    handed_out = refl;
+  }
+
+  pub leaves : LeavesOthers v next page
+  leaves = record {
+    last = λ q w ne. skipped (nat_eq page q) 0 (last v.records q w) (no_test page q (λ x. ne (sym x)));
+    dirty = λ q ne. ap (λ b. not b && dirty v.records q) (no_test page q (λ x. ne (sym x)));
+    pins = pins_others v client address unmovable page frame can;
+    maps = maps_others v client address unmovable page frame can;
+  }
+
+  away : (g : ℕ) → nat_eq g frame ≡ false → g ≢ frame
+  away g e is = untrue _ e (eq-eqb g frame is)
+
+  pub frames_placed : (frames : List FrameState) → FramesFit frames v → FramesFit (slice_set frames frame (Holds page)) next
+  frames_placed frames fit = frames_fit v next page None (Some (At frame)) gets frames (slice_set frames frame (Holds page)) fit (record {
+    count = length-set frames frame (Holds page);
+    taken = λ g state e. elim (eqb_tells g frame) [
+      | inl here ↦ slice_get_set_same frames frame g (Holds page) here.1 (omega (arith, can.within, fit.count)) ∙ sym (taken (nat_eq g frame) (Some (Holds page)) None here.0) ∙ e
+      | inr off ↦ (let bad : None ≡ Some state = sym (skipped (nat_eq g frame) (Some (Holds page)) None off.0) ∙ e in cc)
+    ];
+    left = λ g had gone. cc;
+    kept = λ g off gone. slice_get_set_other frames frame g (Holds page) (away g gone);
+  })
+
+  -- where the page of another address is
+  placement_there : (b : Address) → same_address b address ≡ false → placement_at next b ≡ placement_at v b
+  placement_there b e = ap (option_and_then (map.get next.placement)) (named_there v client address unmovable page frame can b e) ∙ by_name (page_at v.records b) refl where
+    by_name : (o : Option ℕ) → page_at v.records b ≡ o → option_and_then (map.get next.placement) (page_at v.records b) ≡ option_and_then (map.get v.placement) (page_at v.records b)
+    by_name None is = ap (option_and_then (map.get next.placement)) is ∙ sym (ap (option_and_then (map.get v.placement)) is)
+    by_name (Some q) is =
+        let ne : q ≢ page = λ same. clash _ can.unused (ap (λ (p : ℕ). is_some (map.get v.placement p)) (sym same) ∙ can.lawful.named b q is) in
+        ap (option_and_then (map.get next.placement)) is ∙ at_other v client address unmovable page frame can q ne ∙ sym (ap (option_and_then (map.get v.placement)) is)
+
+  placement_here : (b : Address) → same_address b address ≡ true → placement_at next b ≡ Some (At frame)
+  placement_here b e = ap (option_and_then (map.get next.placement)) (named_here v client address unmovable page frame can b e) ∙ at_page v client address unmovable page frame can
+
+  pub entries_placed : (old new : List Entry) → EntriesFit old v → ChangesOnly old new address (Present frame) → EntriesFit new next
+  entries_placed old new fit changes = record { each = λ b range. by_place b range (eqb_tells b.space address.space) (eqb_tells b.vpage address.vpage) } where
+    by_place : (b : Address) → InRange b → ((nat_eq b.space address.space ≡ true) × (b.space ≡ address.space)) ⊎ ((nat_eq b.space address.space ≡ false) × (b.space ≢ address.space)) → ((nat_eq b.vpage address.vpage ≡ true) × (b.vpage ≡ address.vpage)) ⊎ ((nat_eq b.vpage address.vpage ≡ false) × (b.vpage ≢ address.vpage)) → entry_at new b ≡ entry_for (placement_at next b)
+    by_place b range (inl space) (inl vpage) =
+        changes.changed b space.1 vpage.1 ∙ sym (ap entry_for (placement_here b (λ i. space.0 i && vpage.0 i)))
+    by_place b range (inr space) other =
+        changes.other_spaces b range.vpage space.1 ∙ fit.each b range ∙ sym (ap entry_for (placement_there b (ap (λ t. t && nat_eq b.vpage address.vpage) space.0)))
+    by_place b range (inl space) (inr vpage) =
+        changes.other_pages b range.vpage vpage.1 ∙ fit.each b range ∙ sym (ap entry_for (placement_there b (λ i. space.0 i && vpage.0 i)))
+
+  pub words_placed : (rows : List (List ℕ)) → WordsFit rows v → WordsFit (with_words rows frame blank_words) next
+  words_placed rows fit =
+      let within : frame < length rows = omega (arith, can.within, fit.count) in
+      let blank : words_of (with_words rows frame blank_words) frame ≡ blank_words = words_set_same rows frame blank_words within in
+      words_fit v next page None (Some (At frame)) gets rows (with_words rows frame blank_words) fit (record {
+        count = length-set rows frame blank_words;
+        mine = λ placement w e small.
+            (let here : placement ≡ At frame = cc in
+            ap (λ (p : Placement). slice_get (words_of (with_words rows frame blank_words) (words_frame p)) w) here
+            ∙ ap (λ (ws : List ℕ). slice_get ws w) blank ∙ slice_get_replicate 8 w 0 small ∙ ap Some (sym (chosen page 0 (last v.records page w))));
+        kept = λ g gone. words_set_other rows frame g blank_words (away g gone);
+        eight = λ g has. elim (eqb_tells g frame) [
+          | inl here ↦ ap (λ (f : ℕ). length (words_of (with_words rows frame blank_words) f)) here.1 ∙ ap length blank
+          | inr off ↦ absurd (untrue _ off.0 has)
+        ];
+      }) leaves
+
+  pub notes_placed : (notes : List Note) → NotesFit notes v → NotesFit (slice_set notes page (fresh_note unmovable frame)) next
+  notes_placed notes fit =
+      notes_fit v next page None (Some (At frame)) gets notes (fresh_note unmovable frame) (omega (arith, can.numbered, fit.count)) fit (record {
+        dirty = sym (ap (λ b. not b && dirty v.records page) (eq-eqb page page refl));
+        pins = sym (pins_none v client address unmovable page frame can);
+        maps = sym (maps_one v client address unmovable page frame can);
+      }) leaves
+
+  movable_here : can_move next page ≡ not unmovable
+  movable_here =
+      ap (λ n. nat_eq n 0 && not (set.contains next.unmovable page)) (pins_none v client address unmovable page frame can)
+      ∙ by_flag unmovable where
+        never_used : (b : Bool) → set.contains v.unmovable page ≡ b → b ≡ false
+        never_used true e = absurd (clash _ can.unused (can.lawful.unmovable page e))
+        never_used false e = refl
+
+        by_flag : (b : Bool) → not (set.contains (if b then set.insert v.unmovable page else v.unmovable) page) ≡ not b
+        by_flag true = ap not (contains_insert_same v.unmovable page page refl)
+        by_flag false = ap not (never_used (set.contains v.unmovable page) refl)
+
+  movable_there : (q : ℕ) → q ≢ page → can_move next q ≡ can_move v q
+  movable_there q ne =
+      ap (λ n. nat_eq n 0 && not (set.contains next.unmovable q)) (pins_others v client address unmovable page frame can q ne)
+      ∙ ap (λ b. nat_eq (pins v.records q) 0 && not b) (by_flag unmovable) where
+        by_flag : (b : Bool) → set.contains (if b then set.insert v.unmovable page else v.unmovable) q ≡ set.contains v.unmovable q
+        by_flag true = contains_insert_other v.unmovable page q ne
+        by_flag false = refl
+
+  pub movable_placed : (movable : List Bool) → MovableFit movable v → MovableFit (slice_set movable frame (not unmovable)) next
+  movable_placed movable fit = movable_fit v next page None (Some (At frame)) gets movable (slice_set movable frame (not unmovable)) (not unmovable) fit (record {
+    count = length-set movable frame (not unmovable);
+    here = λ g e. (let at : frame ≡ g = cc in slice_get_set_same movable frame g (not unmovable) (sym at) (omega (arith, can.within, fit.count)));
+    kept = λ g gone. slice_get_set_other movable frame g (not unmovable) (away g gone);
+  }) (sym movable_here) movable_there
+
+-- what is known when a fresh page is placed
+pub record Placing (z : Inside) (v : ZoneState) (client : ℕ) (address : Address) (unmovable : Bool) (page frame : ℕ) (tables : List Entry) (history : History) : Type 0 where
+  pub sound : IsSound z v
+  pub view : state_of z ≡ v
+  pub can : CanPlace v address page frame
+  pub tables_new : ChangesOnly z.tables tables address (Present frame)
+  pub history_is : history ≡ told z.history (Map client address page)
+
+-- the fields of a zone after a fresh page was placed
+abbrev pub after_place : Inside → Bool → ℕ → ℕ → List Entry → History → Inside
+after_place z unmovable page frame tables history = record z {
+  frames = record { states = slice_set z.frames.states frame (Holds page); movable = slice_set z.frames.movable frame (not unmovable) };
+  tables = tables;
+  words = with_words z.words frame blank_words;
+  notes = slice_set z.notes page (fresh_note unmovable frame);
+  history = history;
+}
+
+movable_none : (o : Option Note) → option_and_then (λ (note : Note). note.placement) o ≡ None → says_unmovable o ≡ false
+movable_none None e = refl
+movable_none (Some note) e = ap (λ (o : Option Placement). is_some o && note.unmovable) e
+
+module _ (z : Inside) (v : ZoneState) (client : ℕ) (address : Address) (unmovable : Bool) (page frame : ℕ) (tables : List Entry) (history : History) (known : Placing z v client address unmovable page frame tables history) where
+  abbrev notes_new : List Note
+  notes_new = slice_set z.notes page (fresh_note unmovable frame)
+
+  pub place_sound : IsSound (after_place z unmovable page frame tables history) (placed v client address unmovable page frame)
+  place_sound =
+      let sound = known.sound in
+      let can = known.can in
+      record {
+        lawful = placed_lawful v client address unmovable page frame can;
+        orders = sound.orders;
+        frames = frames_placed v client address unmovable page frame can z.frames.states sound.frames;
+        entries = entries_placed v client address unmovable page frame can z.tables tables sound.entries known.tables_new;
+        words = words_placed v client address unmovable page frame can z.words sound.words;
+        notes = notes_placed v client address unmovable page frame can z.notes sound.notes;
+        moves = (let spare = can.spare in moves_kept z.moves v.records v.room sound.moves (Map client address page) refl (λ serial. refl) refl refl (omega arith));
+        movable = movable_placed v client address unmovable page frame can z.frames.movable sound.movable;
+      }
+
+  -- where the notes had the fresh page: nowhere
+  unused_before : placement_of z.notes page ≡ None
+  unused_before = sym (get_placements z.notes page) ∙ ap (λ (u : ZoneState). map.get u.placement page) known.view ∙ known.can.unused
+
+  note_within : page < length z.notes
+  note_within = omega (arith, known.can.numbered, known.sound.notes.count)
+
+  unmovable_new : (b : Bool) → unmovable ≡ b → gathered (is_unmovable_of notes_new) (length notes_new) ≡ (if b then set.insert (state_of z).unmovable page else (state_of z).unmovable)
+  unmovable_new true is = unmovable_set z.notes page (fresh_note unmovable frame) note_within is
+  unmovable_new false is = unmovable_kept z.notes page (fresh_note unmovable frame) note_within (is ∙ sym (movable_none (slice_get z.notes page) unused_before))
+
+  pub place_view : state_of (after_place z unmovable page frame tables history) ≡ placed v client address unmovable page frame
+  place_view =
+      let u = unmovable_new unmovable refl in
+      let placed_there = placements_set z.notes page (fresh_note unmovable frame) note_within (At frame) refl in
+      let here : state_of (after_place z unmovable page frame tables history) ≡ placed (state_of z) client address unmovable page frame =
+      λ i. record (state_of z) { records = (known.history_is i).records; room = (known.history_is i).room; round = (known.history_is i).round; placement = placed_there i; unmovable = u i } in
+      here ∙ ap (λ (s : ZoneState). placed s client address unmovable page frame) known.view
