@@ -55,6 +55,7 @@ pub record NoteFits (note : Note) (v : ZoneState) (page : ℕ) : Type 0 where
   pub pins : note.pins ≡ pins v.records page
   pub maps : note.maps ≡ maps v.records page
 
+-- those of each page in use are, and each number of the zone has a note
 pub record NotesFit (notes : List Note) (v : ZoneState) : Type 0 where
   pub count : length notes ≡ frame_count v
   pub each : (page : ℕ) (note : Note) → slice_get notes page ≡ Some note → IsSome note.placement → NoteFits note v page

@@ -3,6 +3,7 @@ use Rattle.std.specs.Prelude.{ℕ, ◌-◌, List, ◌∷◌, Option}
 use Rattle.journal_core.specs.declared.record.Record.{Record}
 use Rattle.state_core.specs.declared.round.RoundStart.{RoundStart}
 
+-- the journal as contracts see it, and the round
 pub record History : Type 0 where
   -- the newest first
   pub records : List Record

@@ -9,6 +9,7 @@ use Rattle.plain_core.specs.Notes.{placement_of, is_unmovable_of}
 use Rattle.scan_core.specs.Frames.{true_at}
 use Rattle.plain_core.specs.Tabulated.{tabulated, gathered}
 
+-- the state that contracts see
 abbrev pub state_of : Inside → ZoneState
 state_of z = record {
   number = z.number;

@@ -1,6 +1,7 @@
-use Rattle.std.proofs.Common.{◌∙◌, subst, sym, ap}
+use Rattle.std.proofs.Common.{◌∙◌, refl, subst, sym, ap}
+use Rattle.std.specs.Prelude.{None}
 use Rattle.scan_core.specs.Pairs.{next_step}
-use Rattle.state_core.proofs.Pairing.{pair_found, pair_of, source_within, none_found, no_pair, no_page_pair}
+use Rattle.state_core.proofs.Pairing.{pair_found, pair_of, source_within, none_found, no_page_pair}
 use Rattle.plain_core.specs.Sound.{IsSound}
 use Rattle.plain_core.proofs.Scanning.{pair_seen, met_seen, fingers_seen}
 use Rattle.plain_core.proofs.Tables.{mark_seen}
@@ -15,7 +16,7 @@ returns-in_default-clause-pair c =
 pub returns-in_default-clause-none : goal.returns-in_default-clause-none
 returns-in_default-clause-none c =
     let sound : IsSound c.self.inside c.args.self.now = subst (IsSound c.self.inside) c.self.view_is c.self.invariant in
-    no_pair c.args.self.now sound.lawful
+    none_found c.args.self.now sound.lawful None refl
     (met_seen c.args.self.now sound.lawful c.self.inside.frames.states c.self.inside.frames.movable c.self.inside.marked sound.frames sound.movable (mark_seen c.self.inside c.args.self.now c.self.view_is) (sym c.in_default.is ∙ c.next_pair.ensures.step ∙ ap (next_step c.self.inside.frames.states c.self.inside.frames.movable c.self.inside.marked) (fingers_seen c.self.inside c.args.self.now c.self.view_is)))
 
 pub holder-requires : goal.holder-requires
