@@ -1,5 +1,5 @@
 -- What is known of a lawful zone.
-use Rattle.std.proofs.Common.{◌≡◌, ◌≢◌, ℕ, ◌+◌, ◌<◌, ◌≤◌, true, false, List, [], ◌∷◌, length, arith, refl, ap, ◌∙◌, Option, Some, None, IsSome, is_some, nat_eq, ◌||◌, if◌then◌else◌, eq-eqb, ltb-true}
+use Rattle.std.proofs.Common.{◌≡◌, ◌≢◌, ℕ, ◌<◌, ◌≤◌, true, false, List, [], ◌∷◌, length, arith, refl, ap, ◌∙◌, Option, Some, None, IsSome, is_some, nat_eq, ◌||◌, if◌then◌else◌, eq-eqb, ltb-true}
 use Rattle.std.specs.FinMap as map
 pub use Rattle.std.proofs.lemmas.Bool.{cond-true as taken, cond-false as skipped}
 use Rattle.std.proofs.lemmas.Option.{option_and_then_some}

@@ -1,5 +1,5 @@
 -- A load and a store: when they are refused, what a load answers, and what they leave.
-use Rattle.std.specs.Prelude.{ℕ, ◌<◌, ◌≤◌, not, if◌then◌else◌, Option, Some, None, ◌==◌, [], unwrap_or}
+use Rattle.std.specs.Prelude.{ℕ, not, if◌then◌else◌, Option, Some, None, unwrap_or}
 use Rattle.frame_core.specs.declared.place.Address.{Address}
 use Rattle.journal_core.specs.History.{page_at, last}
 use Rattle.state_core.specs.declared.placement.Placement.{Placement}

@@ -1,5 +1,5 @@
 -- A page as it is carried, and where a page is that moves.
-use Rattle.std.specs.Prelude.{◌≡◌, ◌≢◌, ℕ, ◌+◌, ◌<◌, ◌&&◌, List, ◌∷◌, [], map as each, if◌then◌else◌, ⊤}
+use Rattle.std.specs.Prelude.{ℕ, List, ◌∷◌, [], map as each}
 use Rattle.std.specs.FinMap as map
 use Rattle.std.specs.FinSet as set
 use Rattle.frame_core.specs.declared.flags.PageFlags.{PageFlags}

@@ -1,5 +1,5 @@
 -- The calls that end the move of a page: which pages they take, how the move ends, and what they leave.
-use Rattle.std.specs.Prelude.{◌≡◌, ◌≢◌, ℕ, ◌+◌, ◌<◌, Bool, true, ◌&&◌, ◌∷◌, [], nat_eq, if◌then◌else◌, Option, Some, ⊤}
+use Rattle.std.specs.Prelude.{◌≡◌, ◌≢◌, ℕ, ◌<◌, Bool, true, ◌&&◌, nat_eq, if◌then◌else◌, Option, Some, ⊤}
 use Rattle.std.specs.FinMap as map
 use Rattle.frame_core.specs.declared.place.Address.{Address}
 use Rattle.journal_core.specs.declared.record.Cause.{Cause}

@@ -1,5 +1,5 @@
 -- What a zone tells of itself: of the page that an address names, and its counts.
-use Rattle.std.specs.Prelude.{ℕ, ◌==◌, length, if◌then◌else◌, [], None, is_some, ◌≡◌, ◌≢◌, ◌+◌, ◌<◌, ◌&&◌, ◌∷◌, Option, Some, ⊤}
+use Rattle.std.specs.Prelude.{ℕ, length, None, is_some, Option, Some}
 use Rattle.std.specs.FinMap as map
 use Rattle.frame_core.specs.Below.{count_below}
 use Rattle.frame_core.specs.declared.place.Address.{Address}

@@ -1,5 +1,5 @@
 -- The calls that bind an address to a fresh page: when they are refused, and what they leave.
-use Rattle.std.specs.Prelude.{ℕ, ◌<◌, ◌≤◌, not, nat_lt, if◌then◌else◌, Option, Some, None, is_none, is_some, ◌==◌, Bool, [], unwrap_or}
+use Rattle.std.specs.Prelude.{ℕ, not, nat_lt, if◌then◌else◌, Option, Some, None, is_none, is_some, Bool, unwrap_or}
 use Rattle.frame_core.specs.declared.place.Address.{Address}
 use Rattle.journal_core.specs.History.{page_at}
 use Rattle.state_core.specs.declared.placement.Placement.TheVariants.{At}

@@ -1,5 +1,5 @@
 -- The call that opens a zone.
-use Rattle.std.specs.Prelude.{ℕ, ◌<◌, ◌≤◌, if◌then◌else◌, None, ◌==◌, []}
+use Rattle.std.specs.Prelude.{ℕ, ◌<◌, ◌≤◌, None, []}
 use Rattle.state_core.specs.ZoneState.{ZoneState}
 use Rattle.std.specs.FinMap as map
 use Rattle.std.specs.FinSet as set

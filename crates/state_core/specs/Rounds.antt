@@ -1,5 +1,5 @@
 -- The call that begins a round.
-use Rattle.std.specs.Prelude.{◌≡◌, ◌≢◌, ◌+◌, ◌<◌, ◌&&◌, ◌∷◌, [], length, if◌then◌else◌, Some, ⊤}
+use Rattle.std.specs.Prelude.{length, Some}
 use Rattle.state_core.specs.Pairs.{is_calm}
 use Rattle.state_core.specs.ZoneState.{ZoneState, frame_count}
 
