@@ -7,7 +7,7 @@ use crate::blocks::BlockCounts;
 use crate::fingers::{Fingers, Step};
 use crate::tally::Tally;
 use crate::{lists, pair};
-use frame_core::{FrameNo, FrameState};
+use frame_core::{FrameNo, FrameState, filled};
 use std::alloc::{AllocError, Global};
 use std::marker::Model;
 
@@ -40,8 +40,8 @@ impl Frames {
         ensures frames { IfOk result (λ frames. length frames.states ≡ 512 * blocks) }
     {
         let count = 512 * blocks as usize;
-        let states = lists::filled(alloc, FrameState::Free, count)?;
-        let movable = lists::filled(alloc, false, count)?;
+        let states = filled(alloc, FrameState::Free, count)?;
+        let movable = filled(alloc, false, count)?;
         let tally = Tally {
             free: 512 * blocks,
             blocks: BlockCounts::of(&states),

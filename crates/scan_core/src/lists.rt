@@ -6,19 +6,6 @@ ghost use Rattle.scan_core.specs.Frames.{is_free_state, free_at, free_in_block};
 ghost use Rattle.scan_core.specs.Pairs.{is_marked, is_stuck};
 
 use frame_core::FrameState;
-use std::alloc::{AllocError, Global};
-
-/// A list of copies, in just the room that it needs.
-pub fn filled<T: Copy>(alloc: Global, value: T, count: usize) -> Result<Vec<T>, AllocError>
-    ensures items { IfOk result (λ list. list.items ≡ replicate count value) }
-    ensures room { IfOk result (λ list. vec_capacity list ≡ count) }
-{
-    let mut list = Vec::with_capacity(alloc, count)?;
-    while list.len() < count {
-        list.push_reserved(value);
-    }
-    Ok(list)
-}
 
 /// Whether a frame in this state is free.
 pub fn is_free(state: &FrameState) -> bool

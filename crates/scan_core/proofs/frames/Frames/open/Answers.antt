@@ -6,5 +6,5 @@ use Rattle.scan_core.proofs.frames.Frames.open.Goals as goal
 
 pub invariant_of-result : goal.invariant_of-result
 invariant_of-result c =
-    sound_free _ c.args.blocks c.requires.some c.requires.few c.in_ok-states.ensures.items c.in_ok-movable.ensures.items c.in_ok-states.ensures.room c.in_ok-movable.ensures.room refl
+    sound_free _ c.args.blocks c.requires.some c.requires.few c.in_ok-states.ensures.items c.in_ok-movable.ensures.items c.in_ok-states.ensures.capacity c.in_ok-movable.ensures.capacity refl
     (subst (λ (list : List FrameState). CountsFree c.of.result list) c.deref.ensures.value c.of.ensures) refl
