@@ -1,8 +1,8 @@
 //! A zone: its frames, the pages in them, the addresses that name these, and its journal.
 //!
-//! Contracts see a zone as one record, `specs/ZoneState.antt`: the state of a machine without frame tables, words or
-//! counters. Each call's clauses say when it is refused (`specs/Refusals.antt`) and which step the machine makes
-//! (`specs/Steps.antt`).
+//! Contracts see a zone as one record, the `ZoneState` of `state_core`: the state of a machine without frame tables, words or
+//! counters. Each call's clauses say when it is refused and which step the machine makes, by the definitions of that crate.
+//! A world is seen as the record of `specs/World.antt`, and its seats as those of `specs/Seats.antt`.
 #![tactic(auto)]
 
 mod ending;
