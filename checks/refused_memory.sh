@@ -100,6 +100,7 @@ every_command() {
     again 'zone 0 8' 2
     echo 'info 1'
     echo 'info 4'
+    handing_out
     each 'map 0 0 %.0f' 0 2046
     echo 'map 0 0 2047 unmovable'
     each 'mapat 0 1 %.0f 4095' 0 1
@@ -107,6 +108,7 @@ every_command() {
     echo 'mapat 0 1 2 4094 unmovable'
     echo 'store 0 0 0 3 7'
     echo 'load 0 7 0 0'
+    sharing
     again 'scan 0' 2047
     echo 'store 0 0 0 3 8'
     each 'look 0 0 %.0f' 2045 2048
@@ -124,6 +126,22 @@ every_command() {
     again 'load 0 0 0 3' 60000
     echo 'scan 0'
     echo 'info 0'
+}
+
+# All pageblocks are handed out, and taken back.
+handing_out() {
+    again 'huge 0' 9
+    each 'give 0 %.0f' 0 8
+    echo 'give 0 0'
+}
+
+# A page has all the addresses and pins that one may have, and then as before one address and no pin.
+sharing() {
+    each 'share 0 0 0 3 %.0f' 0 3
+    again 'pin 0 3 0' 256
+    each 'unmap 0 3 %.0f' 0 2
+    echo 'unmap 0 0 0'
+    again 'unpin 0 0 0' 256
 }
 
 # Each hand moves a page.

@@ -1,6 +1,6 @@
 -- What the words of a command line mean: clap's own account of a parse, at the options of this program.
 use Rattle.std.specs.Prelude.{◌≡◌, ℕ, Bool, List, map, Some, pos, codes, option_map, unwrap_or}
-use Rattle.std.specs.List.{list_any}
+use Rattle.std.specs.List.{list_all, list_any}
 use Rattle.std.specs.String.{string_bytes}
 use Rattle.std.specs.Vec.Iter.{into_iter_items}
 use Rattle.std.specs.declared.string.String.{String}
@@ -35,6 +35,10 @@ refusal_of words = fault_of options_line words
 -- whether they ask for help
 abbrev pub asks_help : List Text → Bool
 asks_help words = list_any is_help (refusal_of words)
+
+-- whether they ask for nothing else, if for anything
+abbrev pub asks_only_help : List Text → Bool
+asks_only_help words = list_all is_help (refusal_of words)
 
 -- the number that a text of decimal digits stands for
 abbrev pub decimal : Text → ℕ

@@ -1,9 +1,37 @@
--- How a run stops before its script is read to the end.
-use Rattle.std.specs.Prelude.{ℕ, List, Option}
+-- How a run stops before its script is read to the end, and what the faults' writer is told of it.
+use Rattle.std.specs.Prelude.{◌≡◌, ◌⊎◌, ℕ, Bool, IsTrue, List, ◌++◌, codes, decimal, take, Option, IfSome}
+use Rattle.std.specs.Io.KnownBytes.{Appends, Keeps}
+use Rattle.script_core.specs.declared.error.Fault.TheVariants.{Read, Write, Memory}
 use Rattle.script_core.specs.declared.error.RunError.{RunError}
 use Rattle.script_core.specs.Ends.{EndsIn}
+use Rattle.script_core.specs.ErrorNumber.{fault_number}
+use Rattle.script_core.specs.Streams.{CannotReadOn}
 
--- it stops by some fault, and what that fault says of the input and of what is written holds
-pub record Stops (places : ℕ) (input : List ℕ) (left left_new old new : Option (List ℕ)) : Type 0 where
+-- the line that tells of an error
+abbrev pub fault_line : RunError → List ℕ
+fault_line e = codes "compactd: fault " ++ decimal (fault_number e.fault) ++ codes " at line " ++ decimal e.line ++ codes "\n"
+
+-- a writer failed or took no byte within this line
+pub record FailsIn (line : List ℕ) (old new : Option (List ℕ)) (stuck : Bool) : Type 0 where
+  pub failed : IsTrue stuck
+  pub taken : ℕ
+  pub written : Appends old new (take taken line)
+
+-- just the line of the error was written, unless the writer failed
+abbrev pub Tells : RunError → (old new : Option (List ℕ)) → Bool → Type 0
+Tells e old new stuck = Appends old new (fault_line e) ⊎ FailsIn (fault_line e) old new stuck
+
+-- there was no memory to read the words: fault 48 at line 0, and no reply
+pub record LacksMemory (status : ℕ) (old new told told_new : Option (List ℕ)) (stuck : Bool) : Type 0 where
+  pub ends : status ≡ 1
+  pub quiet : Keeps old new
+  pub tells : Tells (record { fault = Memory; line = 0 }) told told_new stuck
+
+-- the run stopped by an error, which has its cause, says what was read and written, and is told
+pub record Stops (places : ℕ) (left left_new old new : Option (List ℕ)) (reads reads_new : ℕ) (failed stuck : Bool)
+    (told told_new : Option (List ℕ)) (told_stuck : Bool) : Type 0 where
   pub error : RunError
-  pub ends : EndsIn error.fault places input error left left_new old new
+  pub ends : IfSome left (λ input. EndsIn error.fault places input error left left_new old new)
+  pub unread : error.fault ≡ Read → CannotReadOn failed reads reads_new left
+  pub unwritten : error.fault ≡ Write → IsTrue stuck
+  pub tells : Tells error told told_new told_stuck

@@ -3,10 +3,12 @@
 
 mod options;
 mod program;
+mod report;
 #[cfg(test)]
 mod tests;
 
 use program::program;
+use script_core::{Sink, Source};
 use std::process::ExitCode;
 use std::{env, io};
 
@@ -14,8 +16,8 @@ fn main(rt: HostRuntime) -> ExitCode {
     ExitCode::from(program(
         rt.alloc(),
         env::args(&rt),
-        &mut rt.reader(),
-        &mut io::writer(&rt),
-        &mut rt.stderr(),
+        &mut Source::new(rt.reader()),
+        &mut Sink::new(io::writer(&rt)),
+        &mut Sink::new(rt.stderr()),
     ))
 }

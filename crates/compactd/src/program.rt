@@ -1,19 +1,20 @@
-ghost use Rattle.std.specs.Prelude.{◌≡◌, ◌≢◌, ◌≤◌, ◌<◌, ◌⊎◌, [], false, map, IfOk, IfErr, IfSome};
+ghost use Rattle.std.specs.Prelude.{◌≡◌, ◌≢◌, ◌≤◌, ◌⊎◌, [], false, true, None, IfOk, IfErr, IfSome};
 ghost use Rattle.std.specs.Io.KnownBytes.{Appends, Keeps};
 ghost use Rattle.clap.specs.Words.{kind_of};
-ghost use Rattle.compactd.specs.CommandLine.{texts_of, refusal_of, journal_of, asks_help};
+ghost use Rattle.compactd.specs.CommandLine.{texts_of, refusal_of, journal_of, asks_help, asks_only_help};
 ghost use Rattle.compactd.specs.Status.{status_of, is_help};
-ghost use Rattle.compactd.specs.Stops.{Stops};
+ghost use Rattle.compactd.specs.Stops.{LacksMemory, Stops};
 ghost use Rattle.script_core.specs.Script.{fault_of, output_of};
 
 use crate::options::given_options;
+use crate::report::report;
 use clap::Error;
 use clap::error::ErrorKind;
-use script_core::{Fault, Options, RunError, run};
+use script_core::{Fault, Input, Options, Output, RunError, run};
 use std::alloc::Global;
 use std::env::Args;
 use std::io;
-use std::io::{Read, Write};
+use std::io::Write;
 
 /// The exit statuses.
 const DONE: u8 = 0;
@@ -25,7 +26,7 @@ const REFUSED: u8 = 2;
 /// Runs the script that the reader gives, as the words of the command line say. The result is the exit status: 0 where the
 /// whole script was read, 1 for a fault of the run and 2 where the words were refused. What the clauses say of bytes holds
 /// for a reader and a writer that tell theirs.
-pub fn program<R: Read, W: Write, F: Write>(
+pub fn program<R: Input, W: Output, F: Output>(
     alloc: Global,
     words: io::Result<Args>,
     reader: &mut R,
@@ -34,12 +35,17 @@ pub fn program<R: Read, W: Write, F: Write>(
 ) -> u8
     ensures status { result ≤ 2 }
     // Words that aren't all text.
-    ensures unread { IfErr words (λ error. (0 < result) × Keeps (W.contents writer.old) (W.contents writer.new)) }
-    // Words that clap refuses give no 0, nothing else gives 2, and no reply is written.
-    ensures refused { IfOk words (λ args. refusal_of (texts_of args) ≢ [] → asks_help (texts_of args) ≡ false → 0 < result) }
-    ensures refused_only { IfOk words (λ args. result ≡ 2 → refusal_of (texts_of args) ≢ []) }
-    ensures quiet { IfOk words (λ args. refusal_of (texts_of args) ≢ [] → asks_help (texts_of args) ≡ false
-        → Keeps (W.contents writer.old) (W.contents writer.new)) }
+    ensures unread { IfErr words (λ error. (result ≡ 2) ⊎ LacksMemory result (W.contents writer.old) (W.contents writer.new)
+        (F.contents faults.old) (F.contents faults.new) (F.stuck faults.new)) }
+    // Words that clap refuses give 2, nothing else does, and its help gives 0.
+    ensures refused { IfOk words (λ args. refusal_of (texts_of args) ≢ [] → asks_help (texts_of args) ≡ false
+        → (result ≡ 2) ⊎ LacksMemory result (W.contents writer.old) (W.contents writer.new)
+        (F.contents faults.old) (F.contents faults.new) (F.stuck faults.new)) }
+    ensures refused_only { IfOk words (λ args. result ≡ 2 → asks_only_help (texts_of args) ≡ false) }
+    ensures help { IfOk words (λ args. refusal_of (texts_of args) ≢ [] → asks_only_help (texts_of args) ≡ true
+        → (result ≡ 0) ⊎ LacksMemory result (W.contents writer.old) (W.contents writer.new)
+        (F.contents faults.old) (F.contents faults.new) (F.stuck faults.new)) }
+    ensures quiet { result ≡ 2 → Keeps (W.contents writer.old) (W.contents writer.new) }
     // The script has no fault, and was answered.
     ensures whole { IfOk words (λ args. refusal_of (texts_of args) ≡ [] → result ≡ 0
         → IfSome (R.remaining reader.old) (λ input. fault_of input ≡ None)) }
@@ -47,9 +53,11 @@ pub fn program<R: Read, W: Write, F: Write>(
         → IfSome (R.remaining reader.old) (λ input. Appends (W.contents writer.old) (W.contents writer.new)
         (output_of (journal_of (texts_of args)) input))) }
     // There was no memory to read the words, or the run stopped.
-    ensures fault { IfOk words (λ args. refusal_of (texts_of args) ≡ [] → result ≡ 1 → IfSome (R.remaining reader.old) (λ input.
-        Keeps (W.contents writer.old) (W.contents writer.new) ⊎ Stops (journal_of (texts_of args)) input
-        (R.remaining reader.old) (R.remaining reader.new) (W.contents writer.old) (W.contents writer.new))) }
+    ensures fault { IfOk words (λ args. result ≡ 1 → LacksMemory result (W.contents writer.old) (W.contents writer.new)
+        (F.contents faults.old) (F.contents faults.new) (F.stuck faults.new) ⊎ Stops (journal_of (texts_of args))
+        (R.remaining reader.old) (R.remaining reader.new) (W.contents writer.old) (W.contents writer.new)
+        (R.reads reader.old) (R.reads reader.new) (R.failed reader.new) (W.stuck writer.new)
+        (F.contents faults.old) (F.contents faults.new) (F.stuck faults.new)) }
 {
     match given_options(alloc, words) {
         Ok(options) => play(alloc, reader, writer, faults, options),
@@ -58,7 +66,7 @@ pub fn program<R: Read, W: Write, F: Write>(
 }
 
 /// Runs the script with these options.
-fn play<R: Read, W: Write, F: Write>(
+fn play<R: Input, W: Output, F: Output>(
     alloc: Global,
     reader: &mut R,
     writer: &mut W,
@@ -69,43 +77,45 @@ fn play<R: Read, W: Write, F: Write>(
     ensures whole { result ≡ 0 → IfSome (R.remaining reader.old) (λ input. fault_of input ≡ None) }
     ensures replies { result ≡ 0 → IfSome (R.remaining reader.old) (λ input.
         Appends (W.contents writer.old) (W.contents writer.new) (output_of options.journal input)) }
-    ensures fault { result ≡ 1 → IfSome (R.remaining reader.old) (λ input. Stops options.journal input
-        (R.remaining reader.old) (R.remaining reader.new) (W.contents writer.old) (W.contents writer.new)) }
+    ensures fault { result ≡ 1 → Stops options.journal
+        (R.remaining reader.old) (R.remaining reader.new) (W.contents writer.old) (W.contents writer.new)
+        (R.reads reader.old) (R.reads reader.new) (R.failed reader.new) (W.stuck writer.new)
+        (F.contents faults.old) (F.contents faults.new) (F.stuck faults.new) }
 {
     match run(alloc, reader, writer, options) {
         Ok(_) => DONE,
-        Err(error) => report(faults, error),
+        Err(error) => {
+            report(faults, error);
+            FAULT
+        }
     }
 }
 
 /// Writes what clap answers in place of options, and gives the status that goes with it.
-fn answer<W: Write, F: Write>(error: &Error, writer: &mut W, faults: &mut F) -> u8
+fn answer<W: Output, F: Output>(error: &Error, writer: &mut W, faults: &mut F) -> u8
     ensures status { result ≡ status_of (kind_of error.now) }
     ensures quiet { is_help (kind_of error.now) ≡ false → Keeps (W.contents writer.old) (W.contents writer.new) }
+    ensures memory { kind_of error.now ≡ ErrorKind.OutOfMemory → LacksMemory result (W.contents writer.old) (W.contents writer.new)
+        (F.contents faults.old) (F.contents faults.new) (F.stuck faults.new) }
 {
     match error.kind() {
         ErrorKind::DisplayHelp | ErrorKind::DisplayVersion => {
             let _ = writer.write_fmt(error);
             DONE
         }
-        ErrorKind::OutOfMemory => report(
-            faults,
-            RunError {
-                fault: Fault::Memory,
-                line: 0,
-            },
-        ),
+        ErrorKind::OutOfMemory => {
+            report(
+                faults,
+                RunError {
+                    fault: Fault::Memory,
+                    line: 0,
+                },
+            );
+            FAULT
+        }
         _ => {
             let _ = faults.write_fmt(error);
             REFUSED
         }
     }
-}
-
-/// Writes the line of a fault, and gives the status that goes with it. That a write fails changes nothing.
-fn report<F: Write>(faults: &mut F, error: RunError) -> u8
-    ensures { result ≡ 1 }
-{
-    let _ = writeln!(faults, "compactd: {error}");
-    FAULT
 }

@@ -2,9 +2,10 @@ mod fakes;
 
 use crate::program::program;
 use fakes::{Full, Limited, Pieces};
+use script_core::{Sink, Source, Text};
 use std::alloc::{AllocError, Global};
 use std::env::Args;
-use std::io::{Read, Write};
+use std::io::Read;
 use std::test::Fail;
 
 /// A run of the program: its arguments and its script, and what comes of them.
@@ -36,7 +37,7 @@ const CUT_LINE: Case = Case {
     status: 1,
 };
 
-const CASES: [Case; 11] = [
+const CASES: [Case; 19] = [
     Case {
         name: "nothing",
         arguments: &[],
@@ -96,6 +97,70 @@ const CASES: [Case; 11] = [
         status: 0,
     },
     Case {
+        name: "a page has four addresses at most",
+        arguments: &[],
+        script: "zone 0 1\nmap 0 0 0\nshare 0 0 0 1 9\nstore 0 1 9 2 5\nload 0 0 0 2\nshare 0 0 0 2 0\nshare 0 0 0 3 0\nshare 0 0 0 4 0\n",
+        replies: "ok\nok\nok\nok\nvalue=5\nok\nok\nrefused 7\n",
+        faults: "",
+        status: 0,
+    },
+    Case {
+        name: "a page is pinned in mid-move",
+        arguments: &[],
+        script: "zone 0 1\nmap 0 0 0\nstore 0 0 0 1 8\nscan 0\nload 0 0 0 1\nlook 0 0 0\ntake 0 1\npin 0 0 0\ncopy 0 1\nfinish 0 1\nload 0 0 0 1\nlook 0 0 0\n",
+        replies: "ok\nok\nok\nserial=0\nrefused 4\nmoving serial=0 pins=0 maps=1\nserial=0\nok\nok\nback serial=0 cause=1\nvalue=8\nframe=0 dirty=1 unmovable=0 pins=1 maps=1\n",
+        faults: "",
+        status: 0,
+    },
+    Case {
+        name: "a page with a pin keeps its last address",
+        arguments: &[],
+        script: "zone 0 1\nmap 0 0 0\npin 0 0 0\nunmap 0 0 0\nunpin 0 0 0\nunpin 0 0 0\ngive 0 0\ninfo 0\n",
+        replies: "ok\nok\nok\nrefused 10\nok\nrefused 9\nrefused 12\nfree=511 pages=1 moving=0 huge=0 whole=0\n",
+        faults: "",
+        status: 0,
+    },
+    Case {
+        name: "a page number is used again",
+        arguments: &[],
+        script: "zone 0 1\nmap 0 0 0\nstore 0 0 0 0 9\nunmap 0 0 0\nload 0 0 0 0\nmap 0 0 5\nload 0 0 5 0\n",
+        replies: "ok\nok\nok\nok\nrefused 3\nok\nvalue=0\n",
+        faults: "",
+        status: 0,
+    },
+    Case {
+        name: "each address of a page moves with it",
+        arguments: &[],
+        script: "zone 0 1\nmap 0 0 0\nshare 0 0 0 0 1\nshare 0 0 0 0 2\nshare 0 0 0 7 4095\nscan 0\nshare 0 0 0 0 3\nload 0 7 4095 0\nunmap 0 0 1\ntake 0 1\ncopy 0 1\nfinish 0 1\nunmap 0 0 1\nlook 0 7 4095\n",
+        replies: "ok\nok\nok\nok\nok\nserial=0\nrefused 4\nrefused 4\nrefused 4\nserial=0\nok\nmoved serial=0\nok\nframe=511 dirty=0 unmovable=0 pins=0 maps=3\n",
+        faults: "",
+        status: 0,
+    },
+    Case {
+        name: "frames that aren't in the zone",
+        arguments: &[],
+        script: "zone 0 1\nmapat 0 0 0 512\nmapat 0 0 0 4096\n",
+        replies: "ok\nrefused 1\nrefused 1\n",
+        faults: "",
+        status: 0,
+    },
+    Case {
+        name: "a pageblock is handed out and taken back",
+        arguments: &[],
+        script: "zone 0 2\nmapat 0 0 0 600\nhuge 0\nhuge 0\ngive 0 1\ngive 0 0\ngive 0 0\ninfo 0\n",
+        replies: "ok\nok\nblock=0\nrefused 11\nrefused 12\nok\nrefused 12\nfree=1023 pages=1 moving=0 huge=0 whole=1\n",
+        faults: "",
+        status: 0,
+    },
+    Case {
+        name: "a move makes a pageblock whole",
+        arguments: &[],
+        script: "zone 0 2\nmap 0 0 0\nscan 0\nhuge 0\ntake 0 1\ncopy 0 1\nfinish 0 1\nhuge 0\n",
+        replies: "ok\nok\nserial=0\nrefused 11\nserial=0\nok\nmoved serial=0\nblock=0\n",
+        faults: "",
+        status: 0,
+    },
+    Case {
         name: "the options, each at its most",
         arguments: &["--copiers", "4", "--capacity=64", "--journal", "65536"],
         script: "zone 0 1\n",
@@ -129,23 +194,23 @@ fn words(alloc: Global, arguments: &[&str]) -> Result<Args, AllocError> {
     Ok(words.into_iter())
 }
 
-fn played<R: Read>(
+fn played<R: Read + Drop>(
     alloc: Global,
     arguments: &[&str],
-    reader: &mut R,
+    reader: R,
 ) -> Result<Outcome, AllocError> {
-    let mut replies = Vec::with_capacity(alloc, 4096)?;
-    let mut faults = Vec::with_capacity(alloc, 4096)?;
+    let mut replies = Sink::new(Vec::with_capacity(alloc, 4096)?);
+    let mut faults = Sink::new(Vec::with_capacity(alloc, 4096)?);
     let status = program(
         alloc,
         Ok(words(alloc, arguments)?),
-        reader,
+        &mut Source::new(reader),
         &mut replies,
         &mut faults,
     );
     Ok(Outcome {
-        replies,
-        faults,
+        replies: replies.into_inner(),
+        faults: faults.into_inner(),
         status,
     })
 }
@@ -153,7 +218,7 @@ fn played<R: Read>(
 #[test]
 fn answers_each_script(rt: HostRuntime) -> Result<(), Fail> {
     for case in CASES.iter() {
-        let found = played(rt.alloc(), case.arguments, &mut case.script.as_bytes())?;
+        let found = played(rt.alloc(), case.arguments, case.script.as_bytes())?;
         assert_eq!(rt;
             found.replies.as_slice(),
             case.replies.as_bytes(),
@@ -175,12 +240,12 @@ fn answers_each_script(rt: HostRuntime) -> Result<(), Fail> {
 fn reads_a_few_bytes_at_a_time(rt: HostRuntime) -> Result<(), Fail> {
     for case in [FIRST_PAGE, CUT_LINE].iter() {
         for size in [1, 2, 7] {
-            let mut reader = Pieces {
+            let reader = Pieces {
                 rest: case.script.as_bytes(),
                 size,
-                calls: u32::MAX,
+                calls: usize::MAX,
             };
-            let found = played(rt.alloc(), case.arguments, &mut reader)?;
+            let found = played(rt.alloc(), case.arguments, reader)?;
             assert_eq!(rt;
                 found.replies.as_slice(),
                 case.replies.as_bytes(),
@@ -226,12 +291,12 @@ fn refuses_lines_of_more_than_200_bytes(rt: HostRuntime) -> Result<(), Fail> {
             script.push(' ')?;
         }
         script.push('\n')?;
-        let mut reader = Pieces {
+        let reader = Pieces {
             rest: script.as_bytes(),
             size,
-            calls: u32::MAX,
+            calls: usize::MAX,
         };
-        let found = played(rt.alloc(), &[], &mut reader)?;
+        let found = played(rt.alloc(), &[], reader)?;
         assert_eq!(rt;
             found.replies.as_slice(),
             replies.as_bytes(),
@@ -252,32 +317,68 @@ fn line_of_byte(text: &[u8], at: usize) -> usize {
     1 + text.iter().take(at).filter(|byte| **byte == b'\n').count()
 }
 
+/// The lines of a text before this one.
+fn lines_before(text: &str, line: usize) -> &[u8] {
+    let bytes = text.as_bytes();
+    let mut left = line.saturating_sub(1);
+    for (at, byte) in bytes.iter().enumerate() {
+        if left == 0 {
+            return &bytes[..at];
+        }
+        if *byte == b'\n' {
+            left -= 1;
+        }
+    }
+    bytes
+}
+
 #[test]
 fn ends_where_a_read_fails(rt: HostRuntime) -> Result<(), Fail> {
     let script = FIRST_PAGE.script.as_bytes();
-    for calls in 0..35 {
-        let mut reader = Pieces {
+    for calls in 0..=script.len() {
+        let reader = Pieces {
             rest: script,
-            size: 2,
+            size: 1,
             calls,
         };
-        let found = played(rt.alloc(), &[], &mut reader)?;
-        let line = line_of_byte(script, 2 * calls as usize);
+        let found = played(rt.alloc(), &[], reader)?;
+        let line = line_of_byte(script, calls);
         let faults = format!(in rt.alloc(); "compactd: fault 46 at line {line}\n")?;
-        assert!(rt;
-            FIRST_PAGE
-                .replies
-                .as_bytes()
-                .starts_with(found.replies.as_slice()),
-            "{calls} calls"
-        );
         assert_eq!(rt;
-            line_of_byte(found.replies.as_slice(), found.replies.len()),
-            line,
+            found.replies.as_slice(),
+            lines_before(FIRST_PAGE.replies, line),
             "{calls} calls"
         );
         assert_eq!(rt; found.faults.as_slice(), faults.as_bytes(), "{calls} calls");
         assert_eq!(rt; found.status, 1, "{calls} calls");
+    }
+    Ok(())
+}
+
+#[test]
+fn ends_where_a_script_is_cut(rt: HostRuntime) -> Result<(), Fail> {
+    for case in CASES.iter() {
+        if case.name != "two pages in two hands" {
+            continue;
+        }
+        let script = case.script.as_bytes();
+        for size in 0..script.len() {
+            let found = played(rt.alloc(), &[], &script[..size])?;
+            let line = line_of_byte(script, size);
+            let is_whole = size == 0 || script[size - 1] == b'\n';
+            let faults = format!(in rt.alloc(); "compactd: fault 41 at line {line}\n")?;
+            assert_eq!(rt;
+                found.replies.as_slice(),
+                lines_before(case.replies, line),
+                "{size} bytes"
+            );
+            if is_whole {
+                assert!(rt; found.faults.is_empty(), "{size} bytes");
+            } else {
+                assert_eq!(rt; found.faults.as_slice(), faults.as_bytes(), "{size} bytes");
+            }
+            assert_eq!(rt; found.status, u8::from(!is_whole), "{size} bytes");
+        }
     }
     Ok(())
 }
@@ -288,28 +389,32 @@ fn ends_where_a_write_fails(rt: HostRuntime) -> Result<(), Fail> {
     for full in [Full::Fails, Full::TakesNothing] {
         for room in 0..replies.len() {
             for size in [1, 3, 4096] {
-                let mut writer = Limited {
+                let mut writer = Sink::new(Limited {
                     bytes: Vec::with_capacity(rt.alloc(), 4096)?,
                     room,
                     size,
                     full,
-                };
-                let mut faults = Vec::new(rt.alloc());
+                });
+                let mut faults = Sink::new(Vec::new(rt.alloc()));
                 let status = program(
                     rt.alloc(),
                     Ok(words(rt.alloc(), &[])?),
-                    &mut FIRST_PAGE.script.as_bytes(),
+                    &mut Text::new(FIRST_PAGE.script.as_bytes()),
                     &mut writer,
                     &mut faults,
                 );
                 let line = line_of_byte(replies, room);
                 let text = format!(in rt.alloc(); "compactd: fault 47 at line {line}\n")?;
                 assert_eq!(rt;
-                    writer.bytes.as_slice(),
+                    writer.into_inner().bytes.as_slice(),
                     &replies[..room],
                     "room for {room} bytes"
                 );
-                assert_eq!(rt; faults.as_slice(), text.as_bytes(), "room for {room} bytes");
+                assert_eq!(rt;
+                    faults.into_inner().as_slice(),
+                    text.as_bytes(),
+                    "room for {room} bytes"
+                );
                 assert_eq!(rt; status, 1, "room for {room} bytes");
             }
         }
@@ -333,7 +438,7 @@ fn keeps_its_status_where_a_fault_is_not_written(rt: HostRuntime) -> Result<(), 
         let found = program(
             rt.alloc(),
             Ok(words(rt.alloc(), arguments)?),
-            &mut script.as_bytes(),
+            &mut Text::new(script.as_bytes()),
             &mut writer,
             &mut faults,
         );
@@ -342,13 +447,13 @@ fn keeps_its_status_where_a_fault_is_not_written(rt: HostRuntime) -> Result<(), 
     Ok(())
 }
 
-fn no_room(alloc: Global) -> Limited {
-    Limited {
+fn no_room(alloc: Global) -> Sink<Limited> {
+    Sink::new(Limited {
         bytes: Vec::new(alloc),
         room: 0,
         size: 1,
         full: Full::Fails,
-    }
+    })
 }
 
 #[test]
@@ -363,7 +468,7 @@ fn refuses_arguments(rt: HostRuntime) -> Result<(), Fail> {
         &["script"][..],
         &["--other"][..],
     ] {
-        let found = played(rt.alloc(), arguments, &mut FIRST_PAGE.script.as_bytes())?;
+        let found = played(rt.alloc(), arguments, FIRST_PAGE.script.as_bytes())?;
         assert!(rt; found.replies.is_empty(), "{arguments:?}");
         assert!(rt; found.faults.starts_with(b"error: "), "{arguments:?}");
         assert_eq!(rt; found.status, 2, "{arguments:?}");
@@ -373,7 +478,7 @@ fn refuses_arguments(rt: HostRuntime) -> Result<(), Fail> {
 
 #[test]
 fn shows_help(rt: HostRuntime) -> Result<(), Fail> {
-    let found = played(rt.alloc(), &["--help"], &mut FIRST_PAGE.script.as_bytes())?;
+    let found = played(rt.alloc(), &["--help"], FIRST_PAGE.script.as_bytes())?;
     let text = std::str::from_utf8(found.replies.as_slice())?;
     assert!(rt; text.contains("Usage: compactd [OPTIONS]"));
     assert!(rt; text.contains("--copiers <N>"));
@@ -385,7 +490,7 @@ fn shows_help(rt: HostRuntime) -> Result<(), Fail> {
 /// Passes also where any one request for memory is refused, which `rt try --test --fail-alloc` does.
 #[test]
 fn says_where_memory_is_short(rt: HostRuntime) -> Result<(), Fail> {
-    let Ok(found) = played(rt.alloc(), &[], &mut FIRST_PAGE.script.as_bytes()) else {
+    let Ok(found) = played(rt.alloc(), &[], FIRST_PAGE.script.as_bytes()) else {
         return Ok(());
     };
     if found.status == 1 {

@@ -1,8 +1,9 @@
 -- Laws of searches and counts below a bound.
-use Rattle.std.proofs.Common.{◌≡◌, ◌≢◌, ℕ, zero, suc, ◌+◌, ◌-◌, ◌<◌, ◌≤◌, Bool, true, false, cond, ◌⊎◌, inl, inr, refl, sym, ap, ◌∙◌, add-one, arith}
+use Rattle.std.proofs.Common.{◌≡◌, ◌≢◌, ℕ, zero, suc, ◌+◌, ◌-◌, ◌<◌, ◌≤◌, Bool, true, false, cond, ◌||◌, ◌⊎◌, inl, inr, refl, sym, ap, ◌∙◌, add-one, arith}
 use Rattle.std.specs.Prelude.{Option, Some, None, if◌then◌else◌}
 use Rattle.std.specs.Option.{option_or}
-use Rattle.std.proofs.lemmas.Bool.{or_parts, or_from, or_left, or_right, or_cases, cond-false}
+use Rattle.std.proofs.Math.Bool.{or_assoc, or_comm}
+use Rattle.std.proofs.lemmas.Bool.{cases_Bool, or_parts, or_from, or_left, or_right, or_cases, cond-false}
 use Rattle.std.proofs.lemmas.Bool.Decides.{leb_tells}
 use Rattle.frame_core.specs.Below.{lowest, one_if, count_below, sum_below, some_below, count_from, count_pairs}
 
@@ -43,6 +44,10 @@ before_next : (p : ℕ → Bool) (n k q : ℕ) (o : Option ℕ) (b : Bool) → o
 before_next p n k q (Some j) b e h here below = here e
 before_next p n k q None true e h here below = let same : n ≡ k = cc in below refl (omega arith)
 before_next p n k q None false e h here below = cc
+
+one_most : (b : Bool) → one_if b ≤ 1
+one_most true = omega arith
+one_most false = omega arith
 
 module _ (p : ℕ → Bool) where
   pub lowest_none : (n : ℕ) → ((k : ℕ) → k < n → p k ≡ false) → lowest p n ≡ None
@@ -119,6 +124,20 @@ module _ (p : ℕ → Bool) where
   none_some zero fails = refl
   none_some (suc n) fails = or_from _ _ (fails n (omega arith)) (none_some n (λ k h. fails k (omega arith)))
 
+  pub count_most : (n : ℕ) → count_below p n ≤ n
+  count_most zero = omega arith
+  count_most (suc n) = omega (arith, one_most (p n), count_most n)
+
+  -- where the count is the bound each number passes
+  pub count_full : (n k : ℕ) → count_below p n ≡ n → k < n → p k ≡ true
+  count_full zero k full h = absurd (omega arith)
+  count_full (suc n) k full h =
+      let rest = count_most n in
+      elim (cases_Bool (p n)) [
+        | inl passes ↦ (let one : one_if (p n) ≡ 1 = ap one_if passes in elim (below_suc k n h) [ inl under ↦ count_full n k (omega arith) under | inr at ↦ ap p at ∙ passes ])
+        | inr fails ↦ (let none : one_if (p n) ≡ 0 = ap one_if fails in absurd (omega arith))
+      ]
+
   pub count_none : (n : ℕ) → ((k : ℕ) → k < n → p k ≡ false) → count_below p n ≡ 0
   count_none zero fails = refl
   count_none (suc n) fails = let none : one_if (p n) ≡ 0 = ap one_if (fails n (omega arith)) in omega (arith, count_none n (λ k h. fails k (omega arith)))
@@ -127,6 +146,10 @@ module _ (p r : ℕ → Bool) where
   pub lowest_same : (n : ℕ) → ((k : ℕ) → k < n → p k ≡ r k) → lowest p n ≡ lowest r n
   lowest_same zero same = refl
   lowest_same (suc n) same = λ i. option_or (lowest_same n (λ k h. same k (omega arith)) i) (cond (same n (omega arith) i) (Some n) None)
+
+  pub some_same : (n : ℕ) → ((k : ℕ) → k < n → p k ≡ r k) → some_below r n ≡ some_below p n
+  some_same zero same = refl
+  some_same (suc n) same = λ i. sym (same n (omega arith)) i || some_same n (λ k h. same k (omega arith)) i
 
   pub count_same : (n : ℕ) → ((k : ℕ) → k < n → p k ≡ r k) → count_below p n ≡ count_below r n
   count_same zero same = refl
@@ -142,6 +165,43 @@ module _ (p r : ℕ → Bool) where
             let none : one_if (p n) ≡ 0 = ap one_if (ap p (sym at) ∙ fails) in
             let rest : count_below p n ≡ count_below r n = count_same n (λ q l. let ne : q ≢ k = omega arith in sym (others q ne)) in
             omega arith
+      ]
+
+  -- a run of numbers, of which none passed, passes as well
+  abbrev pub IsRun : ℕ → ℕ → ℕ → Type 0
+  IsRun n first m = ((k : ℕ) → first ≤ k → k < first + m → p k ≡ false) × ((k : ℕ) → first ≤ k → k < first + m → r k ≡ true) × ((k : ℕ) → k < n → (k < first) ⊎ (first + m ≤ k) → r k ≡ p k)
+
+  run_below : (n first m : ℕ) → IsRun (suc n) first m → IsRun n first m
+  run_below n first m run = (run.0, run.1, λ k h away. run.2 k (omega arith) away)
+
+  run_to : (n first m : ℕ) → first + suc m ≡ suc n → IsRun (suc n) first (suc m) → IsRun n first m
+  run_to n first m at run = (λ k low high. run.0 k low (omega arith), λ k low high. run.1 k low (omega arith), λ k h away. elim away [ inl under ↦ run.2 k (omega arith) (inl under) | inr above ↦ absurd (omega arith) ])
+
+  pub count_run : (n first m : ℕ) → first + m ≤ n → IsRun n first m → count_below r n ≡ count_below p n + m
+  count_run zero first m h run = omega arith
+  count_run (suc n) first m h run = elim (leb_tells (first + m) n) [
+    | inl under ↦
+        (let same : one_if (r n) ≡ one_if (p n) = ap one_if (run.2 n (omega arith) (inr under.1)) in
+        omega (arith, count_run n first m under.1 (run_below n first m run)))
+    | inr at ↦ by_length m (omega (arith, at.1)) run (λ k. count_run n first k)
+  ] where
+    by_length : (m : ℕ) → first + m ≡ suc n → IsRun (suc n) first m → ((k : ℕ) → first + k ≤ n → IsRun n first k → count_below r n ≡ count_below p n + k) → count_below r (suc n) ≡ count_below p (suc n) + m
+    by_length zero at run rest = omega (arith, count_same (suc n) (λ k l. sym (run.2 k l (inl (omega arith)))))
+    by_length (suc m) at run rest =
+        let one : one_if (r n) ≡ 1 = ap one_if (run.1 n (omega arith) (omega arith)) in
+        let none : one_if (p n) ≡ 0 = ap one_if (run.0 n (omega arith) (omega arith)) in
+        omega (arith, rest m (omega arith) (run_to n first m at run))
+
+  -- the same but that one number more may pass
+  pub some_more : (n k : ℕ) → k < n → p k ≡ false → ((q : ℕ) → q ≢ k → r q ≡ p q) → some_below r n ≡ (some_below p n || r k)
+  some_more zero k h fails others = absurd (omega arith)
+  some_more (suc n) k h fails others =
+      elim (below_suc k n h) [
+        | inl under ↦ (let ne : n ≢ k = omega arith in (λ i. others n ne i || some_more n k under fails others i) ∙ sym (or_assoc (p n) (some_below p n) (r k)))
+        | inr at ↦
+            (let same : some_below r n ≡ some_below p n = some_same n (λ q l. let ne : q ≢ k = omega arith in sym (others q ne)) in
+            let none : p n ≡ false = ap p (sym at) ∙ fails in
+            (λ i. r (sym at i) || same i) ∙ or_comm (r k) (some_below p n) ∙ sym (λ i. (none i || some_below p n) || r k))
       ]
 
 module _ (f g : ℕ → ℕ) where
@@ -161,21 +221,27 @@ module _ (f g : ℕ → ℕ) where
             omega arith
       ]
 
+sum_some : (f : ℕ → ℕ) (n k : ℕ) → k < n → 0 < f k → 0 < sum_below f n
+sum_some f zero k h some = absurd (omega arith)
+sum_some f (suc n) k h some =
+    elim (below_suc k n h) [
+      | inl under ↦ omega (arith, sum_some f n k under some)
+      | inr at ↦ let here : f k ≡ f n = ap f at in omega arith
+    ]
+
 pub sum_none : (f : ℕ → ℕ) (n : ℕ) → ((k : ℕ) → k < n → f k ≡ 0) → sum_below f n ≡ 0
 sum_none f zero none = refl
 sum_none f (suc n) none = omega (arith, none n (omega arith), sum_none f n (λ k h. none k (omega arith)))
 
-one_most : (b : Bool) → one_if b ≤ 1
-one_most true = omega arith
-one_most false = omega arith
-
-count_most : (p : ℕ → Bool) (n : ℕ) → count_below p n ≤ n
-count_most p zero = omega arith
-count_most p (suc n) = omega (arith, one_most (p n), count_most p n)
-
 pub count_from_most : (p : ℕ → Bool) (first n : ℕ) → count_from p first n ≤ n
 unfolding count_from
 count_from_most p first n = count_most (λ k. p (first + k)) n
+
+pub count_from_full : (p : ℕ → Bool) (first n k : ℕ) → count_from p first n ≡ n → first ≤ k → k < first + n → p k ≡ true
+unfolding count_from
+count_from_full p first n k full low high =
+    let at : first + (k - first) ≡ k = omega arith in
+    ap p (sym at) ∙ count_full (λ i. p (first + i)) n (k - first) full (omega arith)
 
 pub count_from_all : (p : ℕ → Bool) (first n : ℕ) → ((k : ℕ) → first ≤ k → k < first + n → p k ≡ true) → count_from p first n ≡ n
 unfolding count_from
@@ -197,6 +263,10 @@ module _ (p r : ℕ → ℕ → Bool) where
   unfolding count_pairs
   pairs_same m n same = sum_same _ _ m (λ i h. count_same (p i) (r i) n (λ j l. same i j))
 
+  pub pairs_same_below : (m n : ℕ) → ((i j : ℕ) → i < m → j < n → p i j ≡ r i j) → count_pairs p m n ≡ count_pairs r m n
+  unfolding count_pairs
+  pairs_same_below m n same = sum_same _ _ m (λ i h. count_same (p i) (r i) n (λ j l. same i j h l))
+
   -- one more pair that passes
   pub pairs_more : (m n i j : ℕ) → i < m → j < n → p i j ≡ false → r i j ≡ true → ((k l : ℕ) → (k ≢ i) ⊎ (l ≢ j) → r k l ≡ p k l) → count_pairs r m n ≡ count_pairs p m n + 1
   unfolding count_pairs
@@ -208,3 +278,7 @@ module _ (p r : ℕ → ℕ → Bool) where
 pub pairs_none : (p : ℕ → ℕ → Bool) (m n : ℕ) → ((i j : ℕ) → p i j ≡ false) → count_pairs p m n ≡ 0
 unfolding count_pairs
 pairs_none p m n fails = sum_none _ m (λ i h. count_none (p i) n (λ j l. fails i j))
+
+pub pairs_some : (p : ℕ → ℕ → Bool) (m n i j : ℕ) → i < m → j < n → p i j ≡ true → 0 < count_pairs p m n
+unfolding count_pairs
+pairs_some p m n i j h l passes = sum_some (λ k. count_below (p k) n) m i h (count_some (p i) n j l passes)

@@ -1,3 +1,4 @@
 pub mod Address
 pub mod Below
+pub mod Order
 pub mod PageFlags

@@ -33,6 +33,13 @@ impl Order {
         }
     }
 
+    /// The order of a pageblock.
+    pub fn of_pageblock() -> Self
+        ensures { result ≡ 9 }
+    {
+        Order { number: 9 }
+    }
+
     pub fn get(self) -> u32
         ensures value { result ≡ self }
         ensures low { 3 ≤ result }
@@ -43,7 +50,9 @@ impl Order {
 
     /// How many frames a block of this order has.
     pub fn frames(self) -> u32
-        ensures { result ≡ 2 ^ self }
+        ensures value { result ≡ 2 ^ self }
+        ensures low { 3 ≤ self }
+        ensures high { self ≤ 9 }
     {
         match self.number {
             3 => 8,

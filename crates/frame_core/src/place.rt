@@ -126,7 +126,7 @@ impl BlockNo {
 const SPACES: u32 = 8;
 
 /// An address space's number in its zone, 0 to 7.
-#[derive(Clone, Copy, Debug, PartialEq, Eq, PartialOrd, Ord, Hash)]
+#[derive(Clone, Copy, Debug, Default, PartialEq, Eq, PartialOrd, Ord, Hash)]
 pub struct SpaceNo {
     space: u8,
 }
@@ -167,7 +167,7 @@ impl SpaceNo {
 const VPAGES: u32 = 4096;
 
 /// A virtual page's number in its space, 0 to 4095.
-#[derive(Clone, Copy, Debug, PartialEq, Eq, PartialOrd, Ord, Hash)]
+#[derive(Clone, Copy, Debug, Default, PartialEq, Eq, PartialOrd, Ord, Hash)]
 pub struct VPage {
     vpage: u16,
 }
@@ -206,7 +206,7 @@ impl VPage {
 }
 
 /// A virtual page of a space: what a client names a page by.
-#[derive(Clone, Copy, Debug, PartialEq, Eq, PartialOrd, Ord, Hash)]
+#[derive(Clone, Copy, Debug, Default, PartialEq, Eq, PartialOrd, Ord, Hash)]
 pub struct Address {
     pub space: SpaceNo,
     pub vpage: VPage,

@@ -18,7 +18,7 @@ use Rattle.journal_core.specs.History.{same_address, page_at, last, dirty, pins}
 use Rattle.plain_core.specs.History.{History, told}
 use Rattle.table_core.specs.declared.entry.Entry.{Entry}
 use Rattle.table_core.specs.declared.entry.Entry.TheVariants.{Present}
-use Rattle.table_core.specs.Tables.{entry_at, ChangesOnly}
+use Rattle.table_core.specs.Tables.{Tables, entry_at, ChangesOnly}
 use Rattle.word_core.specs.Page.{blank_words}
 use Rattle.word_core.specs.Words.{words_of, with_words}
 use Rattle.plain_core.specs.declared.note.Note.{Note}
@@ -37,6 +37,7 @@ use Rattle.plain_core.proofs.LoadsAndStores.{words_set_same, words_set_other}
 use Rattle.state_core.proofs.Facts.{chosen, taken, skipped}
 use Rattle.plain_core.proofs.SearchesAndCounts.{get_placements}
 use Rattle.state_core.proofs.Placed.{CanPlace, untrue, clash, placed_lawful, at_page, at_other, named_here, named_there, maps_one, maps_others, pins_none, pins_others}
+use Rattle.plain_core.proofs.Entries.{entries_changed}
 use Rattle.plain_core.proofs.OutAndEnded.{moves_kept}
 use Rattle.plain_core.proofs.NotedPages.{placements_set, unmovable_set, unmovable_kept}
 use Rattle.plain_core.proofs.Placement.{GetsPlace, LeavesOthers, frames_fit, movable_fit, words_fit, notes_fit}
@@ -88,21 +89,14 @@ module _ (v : ZoneState) (client : ℕ) (address : Address) (unmovable : Bool) (
     by_name : (o : Option ℕ) → page_at v.records b ≡ o → option_and_then (map.get next.placement) (page_at v.records b) ≡ option_and_then (map.get v.placement) (page_at v.records b)
     by_name None is = ap (option_and_then (map.get next.placement)) is ∙ sym (ap (option_and_then (map.get v.placement)) is)
     by_name (Some q) is =
-        let ne : q ≢ page = λ same. clash _ can.unused (ap (λ (p : ℕ). is_some (map.get v.placement p)) (sym same) ∙ can.lawful.named b q is) in
+        let ne : q ≢ page = λ same. clash _ can.unused (ap (λ (p : ℕ). is_some (map.get v.placement p)) (sym same) ∙ (can.lawful.named b q is).1) in
         ap (option_and_then (map.get next.placement)) is ∙ at_other v client address unmovable page frame can q ne ∙ sym (ap (option_and_then (map.get v.placement)) is)
 
   placement_here : (b : Address) → same_address b address ≡ true → placement_at next b ≡ Some (At frame)
   placement_here b e = ap (option_and_then (map.get next.placement)) (named_here v client address unmovable page frame can b e) ∙ at_page v client address unmovable page frame can
 
   pub entries_placed : (old new : List Entry) → EntriesFit old v → ChangesOnly old new address (Present frame) → EntriesFit new next
-  entries_placed old new fit changes = record { each = λ b range. by_place b range (eqb_tells b.space address.space) (eqb_tells b.vpage address.vpage) } where
-    by_place : (b : Address) → InRange b → ((nat_eq b.space address.space ≡ true) × (b.space ≡ address.space)) ⊎ ((nat_eq b.space address.space ≡ false) × (b.space ≢ address.space)) → ((nat_eq b.vpage address.vpage ≡ true) × (b.vpage ≡ address.vpage)) ⊎ ((nat_eq b.vpage address.vpage ≡ false) × (b.vpage ≢ address.vpage)) → entry_at new b ≡ entry_for (placement_at next b)
-    by_place b range (inl space) (inl vpage) =
-        changes.changed b space.1 vpage.1 ∙ sym (ap entry_for (placement_here b (λ i. space.0 i && vpage.0 i)))
-    by_place b range (inr space) other =
-        changes.other_spaces b range.vpage space.1 ∙ fit.each b range ∙ sym (ap entry_for (placement_there b (ap (λ t. t && nat_eq b.vpage address.vpage) space.0)))
-    by_place b range (inl space) (inr vpage) =
-        changes.other_pages b range.vpage vpage.1 ∙ fit.each b range ∙ sym (ap entry_for (placement_there b (λ i. space.0 i && vpage.0 i)))
+  entries_placed old new fit changes = entries_changed v next old new address (Present frame) fit changes (λ b e. sym (ap entry_for (placement_here b e))) placement_there
 
   pub words_placed : (rows : List (List ℕ)) → WordsFit rows v → WordsFit (with_words rows frame blank_words) next
   words_placed rows fit =
@@ -123,7 +117,7 @@ module _ (v : ZoneState) (client : ℕ) (address : Address) (unmovable : Bool) (
 
   pub notes_placed : (notes : List Note) → NotesFit notes v → NotesFit (slice_set notes page (fresh_note unmovable frame)) next
   notes_placed notes fit =
-      notes_fit v next page None (Some (At frame)) gets notes (fresh_note unmovable frame) (omega (arith, can.numbered, fit.count)) fit (record {
+      notes_fit v next page None (Some (At frame)) gets notes (fresh_note unmovable frame) (omega (arith, can.numbered, fit.count)) fit (λ used. record {
         dirty = sym (ap (λ b. not b && dirty v.records page) (eq-eqb page page refl));
         pins = sym (pins_none v client address unmovable page frame can);
         maps = sym (maps_one v client address unmovable page frame can);
@@ -157,15 +151,16 @@ module _ (v : ZoneState) (client : ℕ) (address : Address) (unmovable : Bool) (
   }) (sym movable_here) movable_there
 
 -- what is known when a fresh page is placed
-pub record Placing (z : Inside) (v : ZoneState) (client : ℕ) (address : Address) (unmovable : Bool) (page frame : ℕ) (tables : List Entry) (history : History) : Type 0 where
+pub record Placing (z : Inside) (v : ZoneState) (client : ℕ) (address : Address) (unmovable : Bool) (page frame : ℕ) (tables : Tables) (history : History) : Type 0 where
   pub sound : IsSound z v
   pub view : state_of z ≡ v
   pub can : CanPlace v address page frame
-  pub tables_new : ChangesOnly z.tables tables address (Present frame)
+  pub tables_new : ChangesOnly z.tables.entries tables.entries address (Present frame)
+  pub frames_same : tables.frames ≡ z.tables.frames
   pub history_is : history ≡ told z.history (Map client address page)
 
 -- the fields of a zone after a fresh page was placed
-abbrev pub after_place : Inside → Bool → ℕ → ℕ → List Entry → History → Inside
+abbrev pub after_place : Inside → Bool → ℕ → ℕ → Tables → History → Inside
 after_place z unmovable page frame tables history = record z {
   frames = record { states = slice_set z.frames.states frame (Holds page); movable = slice_set z.frames.movable frame (not unmovable) };
   tables = tables;
@@ -178,7 +173,7 @@ movable_none : (o : Option Note) → option_and_then (λ (note : Note). note.pla
 movable_none None e = refl
 movable_none (Some note) e = ap (λ (o : Option Placement). is_some o && note.unmovable) e
 
-module _ (z : Inside) (v : ZoneState) (client : ℕ) (address : Address) (unmovable : Bool) (page frame : ℕ) (tables : List Entry) (history : History) (known : Placing z v client address unmovable page frame tables history) where
+module _ (z : Inside) (v : ZoneState) (client : ℕ) (address : Address) (unmovable : Bool) (page frame : ℕ) (tables : Tables) (history : History) (known : Placing z v client address unmovable page frame tables history) where
   abbrev notes_new : List Note
   notes_new = slice_set z.notes page (fresh_note unmovable frame)
 
@@ -189,8 +184,9 @@ module _ (z : Inside) (v : ZoneState) (client : ℕ) (address : Address) (unmova
       record {
         lawful = placed_lawful v client address unmovable page frame can;
         orders = sound.orders;
+        tables = known.frames_same ∙ sound.tables;
         frames = frames_placed v client address unmovable page frame can z.frames.states sound.frames;
-        entries = entries_placed v client address unmovable page frame can z.tables tables sound.entries known.tables_new;
+        entries = entries_placed v client address unmovable page frame can z.tables.entries tables.entries sound.entries known.tables_new;
         words = words_placed v client address unmovable page frame can z.words sound.words;
         notes = notes_placed v client address unmovable page frame can z.notes sound.notes;
         moves = (let spare = can.spare in moves_kept z.moves v.records v.room sound.moves (Map client address page) refl (λ serial. refl) refl refl (omega arith));

@@ -1,8 +1,11 @@
--- The notes of pages: how many are in use when one changes.
-use Rattle.std.proofs.Common.{◌≡◌, ◌≢◌, ℕ, zero, suc, ◌+◌, ◌-◌, ◌<◌, ◌≤◌, Bool, true, false, List, length, inl, inr, refl, sym, ap, ◌∙◌, get_or, arith}
-use Rattle.std.specs.Prelude.{is_some, slice_set}
+-- The notes of pages: which numbers are in use, and how many, when one changes.
+use Rattle.std.proofs.Common.{◌≡◌, ◌≢◌, ℕ, zero, suc, ◌+◌, ◌-◌, ◌<◌, ◌≤◌, Bool, true, false, not, List, length, inl, inr, refl, sym, ap, ◌∙◌, get_or, arith}
+use Rattle.std.specs.Prelude.{is_some, is_none, nat_eq, nat_lt, slice_set, ◌&&◌, if◌then◌else◌}
+use Rattle.std.specs.FinSet as set
+use Rattle.std.specs.Ordering.{nat_cmp}
 use Rattle.std.specs.Option.{option_and_then}
 use Rattle.std.specs.Vec.{with_item}
+use Rattle.std.proofs.lemmas.Bool.{lt-ltb}
 use Rattle.std.proofs.lemmas.Bool.Decides.{eqb_tells}
 use Rattle.std.proofs.lemmas.List.{length-set}
 use Rattle.std.proofs.lemmas.Option.{slice_get-get_or}
@@ -61,29 +64,37 @@ was_in_use notes v place page note was same page_in at read is =
     )
 
 module _ (z : Inside) (counted : IsCounted z) (page : ℕ) (note : Note) (within : page < length z.notes.items) where
-  pub gained_counted : is_in_use z.notes.items page ≡ false → is_some note.placement ≡ true → IsCounted (record z { notes = with_item z.notes page note; in_use = z.in_use + 1 })
-  gained_counted was is = record {
-    few = omega (arith, counted.few, length-set z.notes.items page note);
-    room = counted.room ∙ sym (length-set z.notes.items page note);
-    in_use = omega (arith, counted.in_use, gained z.notes.items page note within was is);
-    from = λ q h. elim (eqb_tells q page) [
-      | inl here ↦ ap is_some (placement_here z.notes.items page note within q here.1) ∙ is
-      | inr other ↦ ap is_some (placement_there z.notes.items page note within q other.1) ∙ counted.from q h
-    ];
-  }
+  -- the numbers that aren't in use, once a number is put among them or taken out
+  unused_then : (unused : set.FinSet nat_cmp) (number : ℕ) (is : Bool) → number ≡ page → is ≡ is_some note.placement → ((q : ℕ) → set.contains unused q ≡ (if nat_eq q number then not is else set.contains z.unused q))
+      → (q : ℕ) → set.contains unused q ≡ (nat_lt q (length (slice_set z.notes.items page note)) && is_none (placement_of (slice_set z.notes.items page note) q))
+  unused_then unused number is at used put q = put q ∙ ap (λ k. if nat_eq q k then not is else set.contains z.unused q) at ∙ elim (eqb_tells q page) [
+    | inl here ↦ (ap (λ b. if b then not is else set.contains z.unused q) here.0 ∙ ap not used ∙ sym (ap is_none (placement_here z.notes.items page note within q here.1))
+        ∙ sym (ap (λ b. b && is_none (placement_of (slice_set z.notes.items page note) q)) (lt-ltb q (length (slice_set z.notes.items page note)) (omega (arith, here.1, within, length-set z.notes.items page note)))))
+    | inr away ↦ (ap (λ b. if b then not is else set.contains z.unused q) away.0 ∙ counted.unused q
+        ∙ (λ i. nat_lt q (sym (length-set z.notes.items page note) i) && is_none (sym (placement_there z.notes.items page note within q away.1) i)))
+  ]
 
-  pub lost_counted : is_in_use z.notes.items page ≡ true → is_some note.placement ≡ false → (from : ℕ) → from ≤ z.unused_from → from ≤ page → IsCounted (record z { notes = with_item z.notes page note; in_use = z.in_use - 1; unused_from = from })
-  lost_counted was is from low here = record {
-    few = omega (arith, counted.few, length-set z.notes.items page note);
-    room = counted.room ∙ sym (length-set z.notes.items page note);
-    in_use = omega (arith, counted.in_use, lost z.notes.items page note within was is);
-    from = λ q h. let other : q ≢ page = omega (arith, h, here) in ap is_some (placement_there z.notes.items page note within q other) ∙ counted.from q (omega (arith, h, low));
-  }
+  module _ (unused : set.FinSet nat_cmp) (number : ℕ) (is : Bool) (at : number ≡ page) (used : is ≡ is_some note.placement) (put : (q : ℕ) → set.contains unused q ≡ (if nat_eq q number then not is else set.contains z.unused q)) where
+    pub gained_counted : is_in_use z.notes.items page ≡ false → is ≡ true → IsCounted (record z { notes = with_item z.notes page note; in_use = z.in_use + 1; unused = unused })
+    gained_counted was so = record {
+      few = omega (arith, counted.few, length-set z.notes.items page note);
+      room = counted.room ∙ sym (length-set z.notes.items page note);
+      in_use = omega (arith, counted.in_use, gained z.notes.items page note within was (sym used ∙ so));
+      unused = unused_then unused number is at used put;
+    }
 
-  pub kept_counted : is_in_use z.notes.items page ≡ is_some note.placement → IsCounted (record z { notes = with_item z.notes page note })
-  kept_counted same = record {
-    few = omega (arith, counted.few, length-set z.notes.items page note);
-    room = counted.room ∙ sym (length-set z.notes.items page note);
-    in_use = counted.in_use ∙ sym (kept z.notes.items page note within same);
-    from = λ q h. in_use_kept z.notes.items page note within same q ∙ counted.from q h;
-  }
+    pub lost_counted : is_in_use z.notes.items page ≡ true → is ≡ false → IsCounted (record z { notes = with_item z.notes page note; in_use = z.in_use - 1; unused = unused })
+    lost_counted was so = record {
+      few = omega (arith, counted.few, length-set z.notes.items page note);
+      room = counted.room ∙ sym (length-set z.notes.items page note);
+      in_use = omega (arith, counted.in_use, lost z.notes.items page note within was (sym used ∙ so));
+      unused = unused_then unused number is at used put;
+    }
+
+    pub kept_counted : is_in_use z.notes.items page ≡ is → IsCounted (record z { notes = with_item z.notes page note; unused = unused })
+    kept_counted same = record {
+      few = omega (arith, counted.few, length-set z.notes.items page note);
+      room = counted.room ∙ sym (length-set z.notes.items page note);
+      in_use = counted.in_use ∙ sym (kept z.notes.items page note within (same ∙ used));
+      unused = unused_then unused number is at used put;
+    }

@@ -45,15 +45,16 @@ present_is None frame e = cc
 present_is (Some (At f)) frame e = cc
 present_is (Some (Moving serial source target)) frame e = cc
 
-pub migration_refused : (o : Option Placement) (serial : ℕ) → entry_for o ≡ Migration serial → Some IsMoving ≡ placement_refusal o
-migration_refused None serial e = cc
-migration_refused (Some (At frame)) serial e = cc
-migration_refused (Some (Moving s source target)) serial e = refl
+pub migration_refused : (o : Option Placement) (serial source : ℕ) → entry_for o ≡ Migration serial source → Some IsMoving ≡ placement_refusal o
+migration_refused None serial source e = cc
+migration_refused (Some (At frame)) serial source e = cc
+migration_refused (Some (Moving s from target)) serial source e = refl
 
 pub loaded_sound : (z : Inside) (v : ZoneState) → IsSound z v → (history : History) (client : ℕ) (address : Address) (frame word : ℕ) → placement_at v address ≡ Some (At frame) → length (out v.records) < v.room → IsSound (record z { history = history }) (loaded v client address word)
 loaded_sound z v sound history client address frame word at spare = record {
   lawful = lawful_loaded v sound.lawful spare client address frame word at;
   orders = sound.orders;
+  tables = sound.tables;
   frames = record { count = sound.frames.count; of_page = sound.frames.of_page; of_block = sound.frames.of_block; of_none = sound.frames.of_none };
   entries = record { each = sound.entries.each };
   words = record { count = sound.words.count; eight = sound.words.eight; each = sound.words.each };
@@ -216,6 +217,7 @@ store_sound z v client address page frame word value note history known =
     record {
       lawful = lawful_stored v sound.lawful known.spare client address word value;
       orders = sound.orders;
+      tables = sound.tables;
       frames = record { count = sound.frames.count; of_page = sound.frames.of_page; of_block = sound.frames.of_block; of_none = sound.frames.of_none };
       entries = record { each = sound.entries.each };
       words = stored_words z.words v sound.lawful sound.words client address page frame word value known.named known.at known.small;

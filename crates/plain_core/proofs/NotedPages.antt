@@ -1,6 +1,6 @@
 -- What contracts see of the notes of pages, when one note changes.
 use Rattle.std.proofs.Common.{◌≡◌, ◌≢◌, ℕ, ◌<◌, ◌≤◌, true, false, List, length, inl, inr, refl, sym, ap, ◌∙◌, arith}
-use Rattle.std.specs.Prelude.{Some, slice_set}
+use Rattle.std.specs.Prelude.{Some, None, slice_set}
 use Rattle.std.specs.FinMap as map
 use Rattle.std.specs.FinSet as set
 use Rattle.std.proofs.lemmas.Bool.Decides.{eqb_tells}
@@ -13,7 +13,7 @@ use Rattle.plain_core.specs.Notes.{placement_of, is_unmovable_of, says_unmovable
 use Rattle.plain_core.specs.Tabulated.{tabulated, gathered}
 use Rattle.plain_core.proofs.SearchesAndCounts.{placement_past}
 use Rattle.plain_core.proofs.InUse.{placement_here, placement_there}
-use Rattle.plain_core.proofs.Tabulating.{tabulated_insert, tabulated_same, gathered_insert, gathered_same}
+use Rattle.plain_core.proofs.Tabulating.{tabulated_insert, tabulated_remove, tabulated_same, gathered_insert, gathered_remove, gathered_same}
 
 module _ (notes : List Note) (page : ℕ) (note : Note) (within : page < length notes) where
   abbrev changed : List Note
@@ -39,6 +39,14 @@ module _ (notes : List Note) (page : ℕ) (note : Note) (within : page < length 
       (placement_past notes) (λ q past. placement_past changed q (omega (arith, len, past)))
       (placement_here notes page note within page refl ∙ is) (placement_there notes page note within)
 
+  -- the page is nowhere now
+  pub placements_removed : note.placement ≡ None → tabulated (placement_of changed) (length changed) ≡ map.remove (tabulated (placement_of notes) (length notes)) page
+  placements_removed is =
+      ap (tabulated (placement_of changed)) len
+      ∙ tabulated_remove (placement_of notes) (placement_of changed) (length notes) page
+      (placement_past notes) (λ q past. placement_past changed q (omega (arith, len, past)))
+      (placement_here notes page note within page refl ∙ is) (placement_there notes page note within)
+
   -- the page is where it was
   pub placements_kept : note.placement ≡ placement_of notes page → tabulated (placement_of changed) (length changed) ≡ tabulated (placement_of notes) (length notes)
   placements_kept is =
@@ -53,6 +61,14 @@ module _ (notes : List Note) (page : ℕ) (note : Note) (within : page < length 
   unmovable_set is =
       ap (gathered (is_unmovable_of changed)) len
       ∙ gathered_insert (is_unmovable_of notes) (is_unmovable_of changed) (length notes) page
+      (unmovable_past notes) (λ q past. unmovable_past changed q (omega (arith, len, past)))
+      (unmovable_here page refl ∙ is) unmovable_there
+
+  -- the page isn't one that can't be moved
+  pub unmovable_removed : says_unmovable (Some note) ≡ false → gathered (is_unmovable_of changed) (length changed) ≡ set.remove (gathered (is_unmovable_of notes) (length notes)) page
+  unmovable_removed is =
+      ap (gathered (is_unmovable_of changed)) len
+      ∙ gathered_remove (is_unmovable_of notes) (is_unmovable_of changed) (length notes) page
       (unmovable_past notes) (λ q past. unmovable_past changed q (omega (arith, len, past)))
       (unmovable_here page refl ∙ is) unmovable_there
 

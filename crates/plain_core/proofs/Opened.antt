@@ -33,7 +33,8 @@ pub record IsFresh (z : Inside) (number blocks places : ℕ) : Type 0 where
   pub number_is : z.number ≡ number
   pub blocks_is : z.blocks ≡ blocks
   pub frames : z.frames ≡ all_free blocks
-  pub tables : IsBlank z.tables
+  pub tables : IsBlank z.tables.entries
+  pub tables_frames : z.tables.frames ≡ 512 * blocks
   pub words : z.words ≡ replicate (512 * blocks) blank_words
   pub notes : z.notes ≡ replicate (512 * blocks) unused_note
   pub handed_out : z.handed_out ≡ replicate (512 * blocks) None
@@ -83,6 +84,7 @@ pub opened_sound : (z : Inside) (number blocks places : ℕ) → IsFresh z numbe
 opened_sound z number blocks places fresh = record {
   lawful = opened_lawful number blocks places fresh.openable;
   orders = ap length fresh.handed_out ∙ length-replicate (512 * blocks) None;
+  tables = fresh.tables_frames;
   frames = record {
     count = ap (λ (fs : Frames). length fs.states) fresh.frames ∙ length-replicate (512 * blocks) Free;
     of_page = λ page frame state e. absurd (state_clash number blocks places page frame state e);

@@ -1,6 +1,6 @@
 -- A page gets another place, its first, or none: the tables of the zone go on fitting.
 use Rattle.std.proofs.Common.{◌≡◌, ◌≢◌, ℕ, ◌*◌, ◌<◌, Bool, true, false, not, List, length, ◌⊎◌, inl, inr, refl, sym, ap, subst, ◌∙◌, arith}
-use Rattle.std.specs.Prelude.{Option, Some, None, IsSome, slice_get, slice_set, nat_eq, ◌&&◌, ◌||◌, if◌then◌else◌}
+use Rattle.std.specs.Prelude.{Option, Some, None, IsSome, is_some, slice_get, slice_set, nat_eq, ◌&&◌, ◌||◌, if◌then◌else◌}
 use Rattle.std.specs.FinMap as map
 use Rattle.std.proofs.lemmas.Bool.{eq-eqb}
 use Rattle.std.proofs.lemmas.Bool.Decides.{eqb_tells}
@@ -20,6 +20,7 @@ use Rattle.state_core.specs.Lawful.{IsLawful}
 use Rattle.state_core.specs.Pairs.{can_move}
 use Rattle.state_core.specs.ZoneState.{ZoneState, words_frame, frame_count, takes_up, covers, is_held, is_free}
 use Rattle.plain_core.specs.declared.note.Note.{Note}
+use Rattle.plain_core.specs.Notes.{movable_at}
 use Rattle.plain_core.specs.Fits.{state_by, FramesFit, MovableFit, WordsFit, NoteFits, NotesFit}
 
 -- the states before and after
@@ -166,13 +167,13 @@ module _ (v w : ZoneState) (page : ℕ) (old new : Option Placement) (gets : Get
     ];
   }
 
-  pub notes_fit : (notes : List Note) (note : Note) → page < length notes → NotesFit notes v → NoteFits note w page → LeavesOthers v w page → NotesFit (slice_set notes page note) w
+  pub notes_fit : (notes : List Note) (note : Note) → page < length notes → NotesFit notes v → (IsSome note.placement → NoteFits note w page) → LeavesOthers v w page → NotesFit (slice_set notes page note) w
   notes_fit notes note within fit own leaves = record {
     count = length-set notes page note ∙ fit.count ∙ sym frames_same;
     each = λ q seen is used. elim (eqb_tells q page) [
       | inl same ↦
           (let here : note ≡ seen = (let one : Some note ≡ Some seen = sym (slice_get_set_same notes page q note same.1 within) ∙ is in cc) in
-          subst (λ (n : Note). NoteFits n w q) here (subst (NoteFits note w) (sym same.1) own))
+          subst (λ (n : Note). NoteFits n w q) here (subst (NoteFits note w) (sym same.1) (own (ap (λ (n : Note). is_some n.placement) here ∙ used))))
       | inr other ↦
           (let was = fit.each q seen (sym (slice_get_set_other notes page q note other.1) ∙ is) used in
           record {
@@ -182,3 +183,18 @@ module _ (v w : ZoneState) (page : ℕ) (old new : Option Placement) (gets : Get
           })
     ];
   }
+
+-- whether a page may be taken is said at the frame that it stands in
+said : (movable : List Bool) (o : Option Placement) (can : Bool) → ((frame : ℕ) → o ≡ Some (At frame) → frame < length movable) → MovablePlaced movable (movable_at movable o can) can o
+said movable None can within = record { count = refl; here = λ g e. cc; kept = λ g gone. refl }
+said movable (Some (At frame)) can within = record {
+  count = length-set movable frame can;
+  here = λ g e. (let at : frame ≡ g = cc in slice_get_set_same movable frame g can (sym at) (within frame refl));
+  kept = λ g gone. slice_get_set_other movable frame g can (λ is. untrue _ gone (eq-eqb g frame is));
+}
+said movable (Some (Moving serial source target)) can within = record { count = refl; here = λ g e. cc; kept = λ g gone. refl }
+
+pub movable_said : (v w : ZoneState) (page : ℕ) (o : Option Placement) → GetsPlace v w page o o → (movable : List Bool) (can : Bool) → MovableFit movable v → can ≡ can_move w page → ((q : ℕ) → q ≢ page → can_move w q ≡ can_move v q) → MovableFit (movable_at movable o can) w
+movable_said v w page o gets movable can fit =
+    movable_fit v w page o o gets movable (movable_at movable o can) can fit
+    (said movable o can (λ frame e. omega (arith, fit.count, gets.before.within page frame (ap (λ (x : Option Placement). takes_up x frame) (gets.at ∙ e) ∙ eq-eqb frame frame refl))))

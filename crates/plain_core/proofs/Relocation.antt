@@ -26,6 +26,7 @@ use Rattle.state_core.specs.Pairs.{can_move}
 use Rattle.plain_core.specs.Notes.{placement_of, is_unmovable_of, says_unmovable}
 use Rattle.state_core.specs.Lawful.{is_under}
 use Rattle.state_core.specs.Carrying.{settled}
+use Rattle.state_core.specs.Swept.{SweptIfQuiet}
 use Rattle.plain_core.specs.HandedOut.{order_of}
 use Rattle.plain_core.specs.History.{told}
 use Rattle.plain_core.specs.Sound.{state_of, IsSound}
@@ -80,7 +81,7 @@ module _ (v : ZoneState) (page : ℕ) (old new : Placement) (can : CanSettle v p
   pub entries_settled : (entries changed : List Entry) → EntriesFit entries v → Replaces entries changed (entry_for (Some old)) (entry_for (Some new)) → EntriesFit changed next
   entries_settled entries changed fit change = record { each = λ a range. by_name a range (page_at v.records a) refl ∙ sym (ap (λ (o : Option ℕ). entry_for (option_and_then (map.get next.placement) o)) (recorded.still.names a)) } where
     by_placement : (a : Address) → InRange a → (q : ℕ) → page_at v.records a ≡ Some q → q ≢ page → (p : Option Placement) → map.get v.placement q ≡ p → entry_at changed a ≡ entry_for (map.get next.placement q)
-    by_placement a range q e ne None at = absurd (clash _ at (can.lawful.named a q e))
+    by_placement a range q e ne None at = absurd (clash _ at (can.lawful.named a q e).1)
     by_placement a range q e ne (Some p) at =
         let before : entry_at entries a ≡ entry_for (Some p) = entry_of entries fit a range (Some q) e ∙ ap entry_for at in
         change.elsewhere a (λ is. other_entry q p ne at old refl (sym before ∙ is)) ∙ before ∙ sym (ap entry_for (at_other v page old new can entry q ne ∙ at))
@@ -106,15 +107,17 @@ pub record Settling (z changed : Inside) (v : ZoneState) (page : ℕ) (old new :
   pub note_is : slice_get z.notes page ≡ Some note
   -- what changed
   pub frames : FramesSettled z.frames.states changed.frames.states page old new
-  pub tables : Replaces z.tables changed.tables (entry_for (Some old)) (entry_for (Some new))
+  pub tables : Replaces z.tables.entries changed.tables.entries (entry_for (Some old)) (entry_for (Some new))
   pub words : WordsSettled z.words changed.words old new
   pub notes : changed.notes ≡ slice_set z.notes page (record note { placement = Some new })
   pub moves : MovesFit changed.moves (entry ∷ v.records) (v.room - 1)
   pub movable : MovableSettled z.frames.movable changed.frames.movable (can_move v page) new
   pub fingers_are : changed.fingers ≡ record { migrate = migrate_new; free = free_new }
   pub fingers : (migrate_new ≤ free_new) × (free_new ≤ frame_count v)
+  pub swept : SweptIfQuiet (record (settled v entry page new) { migrate = migrate_new; free = free_new })
   pub history : changed.history ≡ told z.history entry
   -- what stayed
+  pub frames_same : changed.tables.frames ≡ z.tables.frames
   pub number_same : changed.number ≡ z.number
   pub blocks_same : changed.blocks ≡ z.blocks
   pub marked_same : changed.marked ≡ z.marked
@@ -136,7 +139,7 @@ module _ (z changed : Inside) (v : ZoneState) (page : ℕ) (old new : Placement)
   gets : GetsPlace v after page (Some old) (Some new)
   gets = record {
     before = known.can.lawful;
-    after = lawful_settled v page old new known.can entry known.recorded migrate free known.fingers;
+    after = lawful_settled v page old new known.can entry known.recorded migrate free known.fingers known.swept;
     at = known.can.at;
     now = at_page v page old new known.can entry;
     others = at_other v page old new known.can entry;
@@ -172,16 +175,17 @@ module _ (z changed : Inside) (v : ZoneState) (page : ℕ) (old new : Placement)
   pub settle_sound : IsSound changed after
   settle_sound =
       let sound = known.sound in
-      let entries = entries_settled v page old new known.can entry known.recorded z.tables changed.tables sound.entries known.tables in
+      let entries = entries_settled v page old new known.can entry known.recorded z.tables.entries changed.tables.entries sound.entries known.tables in
       record {
         lawful = gets.after;
         orders = ap length known.handed_out_same ∙ sound.orders;
+        tables = known.frames_same ∙ sound.tables;
         frames = frames_fit v after page (Some old) (Some new) gets z.frames.states changed.frames.states sound.frames known.frames;
         movable = movable_fit v after page (Some old) (Some new) gets z.frames.movable changed.frames.movable (can_move v page) sound.movable known.movable (sym (can_still page)) (λ q ne. can_still q);
         entries = record { each = entries.each };
         words = words_fit v after page (Some old) (Some new) gets z.words changed.words sound.words words_changed leaves;
         notes = subst (λ (ns : List Note). NotesFit ns after) (sym known.notes)
-            (notes_fit v after page (Some old) (Some new) gets z.notes settled_note (slice_get_within z.notes page note known.note_is) sound.notes note_fits leaves);
+            (notes_fit v after page (Some old) (Some new) gets z.notes settled_note (slice_get_within z.notes page note known.note_is) sound.notes (λ used. note_fits) leaves);
         moves = known.moves;
       }
 

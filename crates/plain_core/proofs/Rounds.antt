@@ -4,6 +4,7 @@ use Rattle.std.specs.Prelude.{Some}
 use Rattle.plain_core.specs.declared.plain.PlainZone.TheInside.{Inside}
 use Rattle.state_core.specs.declared.round.RoundStart.{RoundStart}
 use Rattle.plain_core.specs.Sound.{IsSound}
+use Rattle.state_core.specs.Pairs.{is_calm}
 use Rattle.state_core.specs.ZoneState.{ZoneState}
 use Rattle.state_core.proofs.Rounds.{begun, lawful_from}
 
@@ -11,11 +12,12 @@ use Rattle.state_core.proofs.Rounds.{begun, lawful_from}
 abbrev pub after_begin : Inside → RoundStart → Inside
 after_begin z start = record z { fingers = record { migrate = 0; free = 512 * z.blocks }; history = record z.history { round = Some start } }
 
-pub begun_sound : (z : Inside) (v : ZoneState) → IsSound z v → (start : RoundStart) → start.records ≡ length v.records →
+pub begun_sound : (z : Inside) (v : ZoneState) → IsSound z v → (start : RoundStart) → start.records ≡ length v.records → start.calm ≡ is_calm v →
     IsSound (after_begin z start) (begun v start)
-begun_sound z v sound start here = record {
-  lawful = lawful_from v sound.lawful start here;
+begun_sound z v sound start here as_calm = record {
+  lawful = lawful_from v sound.lawful start here as_calm;
   orders = sound.orders;
+  tables = sound.tables;
   frames = record { count = sound.frames.count; of_page = sound.frames.of_page; of_block = sound.frames.of_block; of_none = sound.frames.of_none };
   entries = record { each = sound.entries.each };
   words = record { count = sound.words.count; eight = sound.words.eight; each = sound.words.each };

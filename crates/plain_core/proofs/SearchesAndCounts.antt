@@ -101,10 +101,10 @@ in_use_seen z v view count =
     ∙ ap (λ (u : ZoneState). count_below (λ page. is_some (get u.placement page)) (length z.notes)) view
     ∙ ap (count_below (λ page. is_some (get v.placement page))) count
 
-order_past : (orders : List (Option ℕ)) (first : ℕ) → length orders ≤ first → order_of orders first ≡ None
+pub order_past : (orders : List (Option ℕ)) (first : ℕ) → length orders ≤ first → order_of orders first ≡ None
 order_past orders first h = ap (option_and_then (λ (order : Option ℕ). order)) (slice_get_past orders first h)
 
-orders_seen : (z : Inside) (v : ZoneState) → state_of z ≡ v → order_of z.handed_out ≡ get v.handed_out
+pub orders_seen : (z : Inside) (v : ZoneState) → state_of z ≡ v → order_of z.handed_out ≡ get v.handed_out
 orders_seen z v view =
     sym (λ i first. get_tabulated_all (order_of z.handed_out) (length z.handed_out) first (order_past z.handed_out) i)
     ∙ ap (λ (u : ZoneState). get u.handed_out) view

@@ -225,12 +225,14 @@ no_huge_seen frames v fit frame state within at ne =
     ne same))
 
 -- a page on its way, by its entry and by its serial
-pub migration_is : (o : Option Placement) (serial : ℕ) → entry_for o ≡ Migration serial →
-    (source target : ℕ) × (o ≡ Some (Moving serial source target))
-migration_is None serial e = cc
-migration_is (Some (At frame)) serial e = cc
-migration_is (Some (Moving s source target)) serial e = let same : s ≡ serial = cc in
-    (source, target, ap (λ (n : ℕ). Some (Moving n source target)) same)
+pub migration_is : (o : Option Placement) (serial source : ℕ) → entry_for o ≡ Migration serial source →
+    (target : ℕ) × (o ≡ Some (Moving serial source target))
+migration_is None serial source e = cc
+migration_is (Some (At frame)) serial source e = cc
+migration_is (Some (Moving s from target)) serial source e =
+    let same : s ≡ serial = cc in
+    let left : from ≡ source = cc in
+    (target, λ i. Some (Moving (same i) (left i) target))
 
 pub moving_page : (v : ZoneState) → IsLawful v → (page serial source target : ℕ) →
     map.get v.placement page ≡ Some (Moving serial source target) → page_of v.records serial ≡ Some page

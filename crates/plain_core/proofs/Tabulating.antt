@@ -3,11 +3,11 @@ use Rattle.std.proofs.Common.{◌≡◌, ◌≢◌, ℕ, zero, suc, ◌<◌, ◌
 use Rattle.std.specs.Prelude.{Option, Some, None, if◌then◌else◌}
 use Rattle.std.specs.Ordering.{nat_cmp}
 use Rattle.std.specs.Cmp.{nat_cmp_total}
-use Rattle.std.specs.FinMap.{FinMap, empty, get, insert, get-empty, same_map, nat_cmp-IsAntisymmetric}
+use Rattle.std.specs.FinMap.{FinMap, empty, get, insert, remove, get-empty, same_map, nat_cmp-IsAntisymmetric}
 use Rattle.std.specs.FinSet as set
 use Rattle.std.proofs.lemmas.Bool.Decides.{eqb_tells, leb_tells}
 use Rattle.plain_core.specs.Tabulated.{with_some, tabulated, gathered}
-use Rattle.state_core.proofs.Entries.{get_insert_same, get_insert_other, contains_insert_same, contains_insert_other}
+use Rattle.state_core.proofs.Entries.{get_insert_same, get_insert_other, get_remove_same, get_remove_other, contains_insert_same, contains_insert_other, contains_remove_same, contains_remove_other}
 
 module _ {X : Type 0} where
   put_same : (m : FinMap nat_cmp X) (k : ℕ) (o : Option X) → get m k ≡ None → get (with_some m k o) k ≡ o
@@ -45,6 +45,15 @@ module _ {X : Type 0} where
       elim (eqb_tells q k) [
         | inl is ↦ get_tabulated_all g n q no_g ∙ ap g is.1 ∙ at ∙ sym (get_insert_same (tabulated f n) k q x is.1)
         | inr isnt ↦ get_tabulated_all g n q no_g ∙ others q isnt.1 ∙ sym (get_tabulated_all f n q no_f) ∙ sym (get_insert_other (tabulated f n) k q x isnt.1)
+      ])
+
+  -- one entry less
+  pub tabulated_remove : (f g : ℕ → Option X) (n k : ℕ) → ((q : ℕ) → n ≤ q → f q ≡ None) → ((q : ℕ) → n ≤ q → g q ≡ None) → g k ≡ None → ((q : ℕ) → q ≢ k → g q ≡ f q) → tabulated g n ≡ remove (tabulated f n) k
+  tabulated_remove f g n k no_f no_g at others =
+      same_map nat_cmp_total nat_cmp-IsAntisymmetric _ _ (λ q.
+      elim (eqb_tells q k) [
+        | inl is ↦ get_tabulated_all g n q no_g ∙ ap g is.1 ∙ at ∙ sym (get_remove_same (tabulated f n) k q is.1)
+        | inr isnt ↦ get_tabulated_all g n q no_g ∙ others q isnt.1 ∙ sym (get_tabulated_all f n q no_f) ∙ sym (get_remove_other (tabulated f n) k q isnt.1)
       ])
 
   pub tabulated_same : (f g : ℕ → Option X) (n : ℕ) → ((q : ℕ) → f q ≡ g q) → tabulated f n ≡ tabulated g n
@@ -96,4 +105,13 @@ gathered_insert p r n k past_p past_r at others =
     elim (eqb_tells q k) [
       | inl is ↦ contains_gathered r n q past_r ∙ ap r is.1 ∙ at ∙ sym (contains_insert_same (gathered p n) k q is.1)
       | inr isnt ↦ contains_gathered r n q past_r ∙ others q isnt.1 ∙ sym (contains_gathered p n q past_p) ∙ sym (contains_insert_other (gathered p n) k q isnt.1)
+    ])
+
+-- one number less
+pub gathered_remove : (p r : ℕ → Bool) (n k : ℕ) → ((q : ℕ) → n ≤ q → p q ≡ false) → ((q : ℕ) → n ≤ q → r q ≡ false) → r k ≡ false → ((q : ℕ) → q ≢ k → r q ≡ p q) → gathered r n ≡ set.remove (gathered p n) k
+gathered_remove p r n k past_p past_r at others =
+    set.same_set nat_cmp_total nat_cmp-IsAntisymmetric _ _ (λ q.
+    elim (eqb_tells q k) [
+      | inl is ↦ contains_gathered r n q past_r ∙ ap r is.1 ∙ at ∙ sym (contains_remove_same (gathered p n) k q is.1)
+      | inr isnt ↦ contains_gathered r n q past_r ∙ others q isnt.1 ∙ sym (contains_gathered p n q past_p) ∙ sym (contains_remove_other (gathered p n) k q isnt.1)
     ])

@@ -30,7 +30,7 @@ state_by page (Some (Moving serial source target)) frame =
 abbrev pub entry_for : Option Placement → Entry
 entry_for None = Absent
 entry_for (Some (At frame)) = Present frame
-entry_for (Some (Moving serial source target)) = Migration serial
+entry_for (Some (Moving serial source target)) = Migration serial source
 
 -- each frame is in the state that its page or block puts it in, and else free
 pub record FramesFit (frames : List FrameState) (v : ZoneState) : Type 0 where

@@ -1,8 +1,9 @@
 -- What a zone notes of its pages.
-use Rattle.std.specs.Prelude.{ℕ, Bool, false, ◌&&◌, List, slice_get, Option, Some, None, is_some}
+use Rattle.std.specs.Prelude.{ℕ, Bool, false, not, nat_eq, ◌&&◌, List, slice_get, slice_set, Option, Some, None, is_some}
 use Rattle.std.specs.Option.{option_and_then}
 use Rattle.plain_core.specs.declared.note.Note.{Note}
 use Rattle.state_core.specs.declared.placement.Placement.{Placement}
+use Rattle.state_core.specs.declared.placement.Placement.TheVariants.{At}
 
 -- the note of a number that isn't in use
 abbrev pub unused_note : Note
@@ -23,3 +24,15 @@ says_unmovable (Some note) = is_some note.placement && note.unmovable
 
 abbrev pub is_unmovable_of : List Note → ℕ → Bool
 is_unmovable_of notes page = says_unmovable (slice_get notes page)
+
+-- whether a page with this note may be taken from its frame: it has no pin, and wasn't mapped as unmovable
+abbrev pub can_move_by : Note → Bool
+can_move_by note = nat_eq note.pins 0 && not note.unmovable
+
+-- what is said at each frame, with what the note of a page says at the frame that it stands in
+abbrev pub movable_at : List Bool → Option Placement → Bool → List Bool
+movable_at movable (Some (At frame)) can = slice_set movable frame can
+movable_at movable _ can = movable
+
+abbrev pub movable_by : List Bool → Note → List Bool
+movable_by movable note = movable_at movable note.placement (can_move_by note)

@@ -31,7 +31,8 @@ pub record IsSound (z : Inside) (v : ZoneState) : Type 0 where
   pub orders : length z.handed_out ≡ frame_count v
   pub frames : FramesFit z.frames.states v
   pub movable : MovableFit z.frames.movable v
-  pub entries : EntriesFit z.tables v
+  pub tables : z.tables.frames ≡ frame_count v
+  pub entries : EntriesFit z.tables.entries v
   pub words : WordsFit z.words v
   pub notes : NotesFit z.notes v
   pub moves : MovesFit z.moves v.records v.room

@@ -1,6 +1,7 @@
 //! Reading and writing the words of pages.
 
-ghost use Rattle.std.specs.Prelude.{◌≡◌, ◌+◌, length, nat_lt, Some, IsTrue, IfOk};
+ghost use Rattle.std.specs.Prelude.{◌≡◌, ◌+◌, length, nat_lt, Some, IsSome, IsTrue, IfOk};
+ghost use Rattle.journal_core.specs.History.{page_at};
 ghost use Rattle.journal_core.specs.Moves.{out};
 ghost use Rattle.state_core.specs.Lawful.{IsLawful};
 ghost use Rattle.state_core.specs.Access.{placement_refusal, value_at, loaded, stored};
@@ -33,11 +34,12 @@ impl PlainZone {
     pub fn frame_of(&self, address: &Address) -> Result<FrameNo, ZoneError>
         ensures refused { result_err result ≡ placement_refusal (placement_at self.now address.now) }
         ensures frame { IfOk result (λ frame. placement_at self.now address.now ≡ Some (At frame)) }
+        ensures named { IfOk result (λ frame. IsSome (page_at self.now.records address.now)) }
     {
         match self.tables.entry(*address) {
             Entry::Absent => Err(ZoneError::Unmapped),
             Entry::Present(frame) => Ok(frame),
-            Entry::Migration(_) => Err(ZoneError::Moving),
+            Entry::Migration { .. } => Err(ZoneError::Moving),
         }
     }
 

@@ -1,21 +1,19 @@
-//! How the move of a page ends, and what is known of a page.
+//! How the move of a page ends.
 
 ghost use Rattle.std.specs.Prelude.{◌≡◌, ◌<◌, ◌+◌, ◌↔◌, length, nat_lt, nat_eq, not, true, IsTrue, IsSome, IfSome, Some, IfOk};
 ghost use Rattle.std.specs.FinMap as map;
-ghost use Rattle.journal_core.specs.History.{pins, maps};
-ghost use Rattle.journal_core.specs.Moves.{out, page_of, isolated, moved, put_back};
+ghost use Rattle.journal_core.specs.History.{pins};
+ghost use Rattle.journal_core.specs.Moves.{out, isolated, moved, put_back};
 ghost use Rattle.state_core.specs.Lawful.{IsLawful};
 ghost use Rattle.state_core.specs.Ending.{HasCause, IsSettled, is_own, moved_to_target, put_back_to_source};
 ghost use Rattle.state_core.specs.Carrying.{words_now};
-ghost use Rattle.state_core.specs.Looking.{look_of};
 ghost use Rattle.state_core.specs.ZoneState.{is_quiet};
 ghost use Rattle.state_core.specs.declared.placement.Placement.TheVariants.{Moving};
 
 use crate::plain::PlainZone;
-use frame_core::{Address, FrameNo, FrameState, PageNo, Serial};
+use frame_core::{FrameNo, FrameState, PageNo, Serial};
 use journal_core::{Cause, Record};
-use state_core::{Audit, Look, Placement};
-use table_core::Entry;
+use state_core::{Audit, Placement};
 use word_core::Page;
 
 /// A page on its way, with its frames.
@@ -92,7 +90,7 @@ impl PlainZone {
         self.frames.put(target, FrameState::Holds(page));
         self.frames.set_movable(target, note.can_move());
         self.words.write_in(target, copy);
-        self.tables.to_present(serial, target);
+        self.tables.to_present(serial, source, target);
         self.moves.arrive();
         self.notes.put(page, note.placed(Placement::At(target)));
         self.history.note(Record::Moved { serial });
@@ -116,51 +114,10 @@ impl PlainZone {
         self.frames.put(target, FrameState::Free);
         self.frames.put(source, FrameState::Holds(page));
         self.frames.set_movable(source, note.can_move());
-        self.tables.to_present(serial, source);
+        self.tables.to_present(serial, source, source);
         self.moves.go_back();
         self.notes.put(page, note.placed(Placement::At(source)));
         self.history.note(Record::Back { serial, cause });
-    }
-
-    /// What is known of the page that an address names.
-    pub fn look(&self, address: &Address) -> Option<Look>
-        ensures { result ≡ look_of self.now address.now }
-    {
-        match self.tables.entry(*address) {
-            Entry::Absent => None,
-            Entry::Present(frame) => {
-                let page = self.holder(frame)?;
-                let (pins, maps) = self.uses_of(page);
-                Some(Look::At {
-                    frame,
-                    flags: self.flags_of(page),
-                    pins,
-                    maps,
-                })
-            }
-            Entry::Migration(serial) => {
-                let page = self.page_under(serial)?;
-                let (pins, maps) = self.uses_of(page);
-                Some(Look::Moving { serial, pins, maps })
-            }
-        }
-    }
-
-    /// The page that is on its way under a serial, or was.
-    fn page_under(&self, serial: Serial) -> Option<PageNo>
-        ensures { result ≡ page_of self.now.records serial }
-    {
-        self.moves.page(serial)
-    }
-
-    /// How many pins a page in use has, and how many addresses name it.
-    fn uses_of(&self, page: PageNo) -> (u8, u8)
-        requires { IsSome (map.get self.now.placement page) }
-        ensures pins { result.0 ≡ pins self.now.records page }
-        ensures maps { result.1 ≡ maps self.now.records page }
-    {
-        let note = self.notes.get(page);
-        (note.pins, note.maps)
     }
 
     /// Whether the latest round is quiet so far.

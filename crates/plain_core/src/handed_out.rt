@@ -1,10 +1,11 @@
 //! The blocks that are handed out.
 
-ghost use Rattle.std.specs.Prelude.{◌≡◌, length, replicate, is_some, None, IfOk};
+ghost use Rattle.std.specs.Prelude.{◌≡◌, ℕ, ◌+◌, ◌^◌, ◌≤◌, false, length, replicate, slice_set, is_some, Some, None, IsTrue, IfOk};
 ghost use Rattle.frame_core.specs.Below.{count_below};
 ghost use Rattle.plain_core.specs.HandedOut.{order_of, held_at};
+ghost use Rattle.state_core.specs.ZoneState.{covers};
 
-use frame_core::{Order, filled};
+use frame_core::{FrameNo, Order, filled};
 use std::alloc::{AllocError, Global};
 use std::marker::Model;
 
@@ -31,6 +32,7 @@ impl Model for HandedOut {
 impl HandedOut {
     /// No block of so many frames is handed out. No other call takes memory.
     pub fn open(alloc: Global, frames: u32) -> Result<Self, AllocError>
+        requires { frames ≤ 4096 }
         ensures { IfOk result (λ orders. orders ≡ replicate frames None) }
     {
         let orders = filled(alloc, None, frames as usize)?;
@@ -53,5 +55,37 @@ impl HandedOut {
         ensures { result ≡ count_below (held_at self.now) (length self.now) }
     {
         self.frames
+    }
+
+    /// The order of the block that is handed out at a first frame.
+    pub fn order(&self, first: FrameNo) -> Option<Order>
+        ensures { result ≡ order_of self.now first }
+    {
+        *self.orders.get(first.get() as usize)?
+    }
+
+    /// A block is handed out.
+    pub fn take(&mut self, first: FrameNo, order: Order)
+        requires within { first + 2 ^ order ≤ length self.old }
+        requires clear { (frame : ℕ) → IsTrue (covers (Some order) first frame) → held_at self.old frame ≡ false }
+        ensures set { self.new ≡ slice_set self.old first (Some order) }
+        ensures low { 3 ≤ order }
+        ensures high { order ≤ 9 }
+    {
+        self.orders[first.get() as usize] = Some(order);
+        self.blocks += 1;
+        self.frames += order.frames();
+    }
+
+    /// A block is taken back.
+    pub fn give(&mut self, first: FrameNo, order: Order)
+        requires here { order_of self.old first ≡ Some order }
+        requires within { first + 2 ^ order ≤ length self.old }
+        requires alone { (frame : ℕ) → IsTrue (covers (Some order) first frame) → held_at (slice_set self.old first None) frame ≡ false }
+        ensures { self.new ≡ slice_set self.old first None }
+    {
+        self.orders[first.get() as usize] = None;
+        self.blocks -= 1;
+        self.frames -= order.frames();
     }
 }

@@ -8,15 +8,22 @@
 mod access;
 mod ending;
 mod handed_out;
+mod handing_out;
 mod history;
 mod information;
 mod isolating;
+mod looking;
 mod mapping;
+mod marking;
 mod moves;
 mod note;
 mod notes;
 mod opening;
+mod pinning;
 mod plain;
+mod sharing;
+mod unmapping;
 
 pub use ending::Way;
+pub use looking::Uses;
 pub use plain::PlainZone;

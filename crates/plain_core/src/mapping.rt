@@ -48,10 +48,9 @@ impl PlainZone {
     }
 
     /// The lowest page number that isn't in use: there is one where a frame is free.
-    fn unused_page(&mut self) -> PageNo
-        requires { IsSome (lowest_free_frame self.old) }
-        ensures same { self.new ≡ self.old }
-        ensures lowest { lowest_unused_page self.old ≡ Some result }
+    fn unused_page(&self) -> PageNo
+        requires { IsSome (lowest_free_frame self.now) }
+        ensures { lowest_unused_page self.now ≡ Some result }
     {
         let Some(page) = self.notes.lowest_unused() else {
             unreachable!();

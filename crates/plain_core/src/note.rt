@@ -1,4 +1,4 @@
-ghost use Rattle.std.specs.Prelude.{◌≡◌, None, Some, false, true, nat_eq, not, ◌&&◌};
+ghost use Rattle.std.specs.Prelude.{◌≡◌, ◌+◌, ◌-◌, ◌<◌, None, Some, false, true, nat_eq, not, ◌&&◌};
 ghost use Rattle.state_core.specs.declared.placement.Placement.TheVariants.{At};
 
 use frame_core::FrameNo;
@@ -43,6 +43,50 @@ impl Note {
     {
         Note {
             dirty: true,
+            ..self
+        }
+    }
+
+    /// Of the page with a pin more.
+    pub fn with_pin(self) -> Self
+        requires { self.pins < 255 }
+        ensures { result ≡ record self { pins = self.pins + 1 } }
+    {
+        Note {
+            pins: self.pins + 1,
+            ..self
+        }
+    }
+
+    /// Of the page with a pin less.
+    pub fn without_pin(self) -> Self
+        requires { 0 < self.pins }
+        ensures { result ≡ record self { pins = self.pins - 1 } }
+    {
+        Note {
+            pins: self.pins - 1,
+            ..self
+        }
+    }
+
+    /// Of the page with an address more.
+    pub fn with_address(self) -> Self
+        requires { self.maps < 255 }
+        ensures { result ≡ record self { maps = self.maps + 1 } }
+    {
+        Note {
+            maps: self.maps + 1,
+            ..self
+        }
+    }
+
+    /// Of the page with an address less.
+    pub fn without_address(self) -> Self
+        requires { 0 < self.maps }
+        ensures { result ≡ record self { maps = self.maps - 1 } }
+    {
+        Note {
+            maps: self.maps - 1,
             ..self
         }
     }

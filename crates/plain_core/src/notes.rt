@@ -1,11 +1,13 @@
 //! What a zone notes of its pages.
 
-ghost use Rattle.std.specs.Prelude.{◌≡◌, ℕ, ◌<◌, ◌≤◌, false, length, replicate, slice_get, slice_set, is_none, Some, IfOk};
+ghost use Rattle.std.specs.Prelude.{◌≡◌, ℕ, ◌<◌, ◌≤◌, nat_lt, length, replicate, slice_get, slice_set, is_none, Some, IfOk};
+ghost use Rattle.std.specs.FinSet as set;
 ghost use Rattle.frame_core.specs.Below.{count_below, lowest};
 ghost use Rattle.plain_core.specs.Notes.{placement_of, is_in_use, unused_note};
 
 use crate::note::Note;
 use frame_core::{PageNo, filled};
+use scan_core::NumberSet;
 use state_core::Placement;
 use std::alloc::{AllocError, Global};
 use std::marker::Model;
@@ -16,8 +18,8 @@ pub struct Notes {
     notes: Vec<Note>,
     /// How many of them are of pages in use.
     in_use: u32,
-    /// Each number below is in use.
-    unused_from: u32,
+    /// The numbers that aren't in use.
+    unused: NumberSet,
 }
 
 impl Model for Notes {
@@ -43,7 +45,7 @@ impl Notes {
         Ok(Notes {
             notes,
             in_use: 0,
-            unused_from: 0,
+            unused: numbers_below(count),
         })
     }
 
@@ -78,39 +80,32 @@ impl Notes {
         let was = self.notes[index].placement.is_some();
         let is = note.placement.is_some();
         self.notes[index] = note;
+        self.unused.put(page.get(), !is);
         if was {
             if !is {
                 self.in_use -= 1;
-                self.unused_from = self.unused_from.min(page.get());
             }
         } else if is {
             self.in_use += 1;
         }
     }
 
-    /// The lowest page number that isn't in use. The next search begins there.
-    pub fn lowest_unused(&mut self) -> Option<PageNo>
-        ensures same { self.new ≡ self.old }
-        ensures lowest { result ≡ lowest (λ page. is_none (placement_of self.old page)) (length self.old) }
+    /// The lowest page number that isn't in use.
+    pub fn lowest_unused(&self) -> Option<PageNo>
+        ensures { result ≡ lowest (λ page. is_none (placement_of self.now page)) (length self.now) }
     {
-        let found = lowest_unused(&self.notes, self.unused_from);
-        if let Some(page) = found {
-            self.unused_from = page.get();
-        }
-        found
+        PageNo::new(self.unused.lowest()?)
     }
 }
 
-/// The lowest page number that isn't in use, where each below a first one is.
-fn lowest_unused(notes: &[Note], from: u32) -> Option<PageNo>
-    requires few { length notes.now ≤ 4096 }
-    requires below { (page : ℕ) → page < from → is_none (placement_of notes.now page) ≡ false }
-    ensures { result ≡ lowest (λ page. is_none (placement_of notes.now page)) (length notes.now) }
+/// The numbers below a count.
+fn numbers_below(count: u32) -> NumberSet
+    requires { count ≤ 4096 }
+    ensures { (number : ℕ) → set.contains result number ≡ nat_lt number count }
 {
-    for i in from as usize..notes.len() {
-        if notes[i].placement.is_none() {
-            return PageNo::new(i as u32);
-        }
+    let mut numbers = NumberSet::new();
+    for number in 0..count {
+        numbers.insert(number);
     }
-    None
+    numbers
 }

@@ -40,7 +40,7 @@ impl PlainZone {
         let Ok(moves) = Moves::open(alloc, places) else {
             return Err(ZoneError::Memory);
         };
-        let Ok(tables) = Tables::open(alloc) else {
+        let Ok(tables) = Tables::open(alloc, blocks) else {
             return Err(ZoneError::Memory);
         };
         let Ok(words) = Words::open(alloc, count) else {

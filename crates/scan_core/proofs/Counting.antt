@@ -8,7 +8,7 @@ use Rattle.frame_core.specs.Below.{lowest, count_below}
 use Rattle.frame_core.specs.declared.state.FrameState.{FrameState}
 use Rattle.frame_core.proofs.Lists.{slice_get_set_same, slice_get_set_other}
 use Rattle.frame_core.proofs.Searches.{count_more, count_same, count_from_more, count_from_same, lowest_same}
-use Rattle.scan_core.specs.BlockCounts.{CountsFree, Follows, is_full}
+use Rattle.scan_core.specs.BlockCounts.{CountsFree, is_full}
 use Rattle.scan_core.specs.Frames.{is_free_state, free_at, free_frames, free_in_block, is_whole, blocks_of}
 use Rattle.scan_core.proofs.Bounds.{count_past, lowest_past, count_from_short}
 
@@ -32,7 +32,7 @@ pub full_as_whole : (counts : List ℕ) (states : List FrameState) → CountsFre
 full_as_whole counts states right block h = ap (λ n. nat_eq n 512) (get_or_from_slice_get counts block _ 0 (right.each block h))
 
 -- a pageblock that the frames don't fill isn't free as a whole
-not_whole_past : (states : List FrameState) (block : ℕ) → blocks_of states ≤ block → is_whole states block ≡ false
+pub not_whole_past : (states : List FrameState) (block : ℕ) → blocks_of states ≤ block → is_whole states block ≡ false
 not_whole_past states block past =
     let short = count_from_short (free_at states) (512 * block) 512 (512 * block + 511) (omega arith) (omega arith) (not_free_past states (512 * block + 511) (omega arith)) in
     ne_eqb (free_in_block states block) 512 (λ all. absurd (omega (arith, short, all)))
@@ -100,33 +100,6 @@ module _ (states : List FrameState) (frame : ℕ) (state : FrameState) (within :
   pub none_more_here : (block : ℕ) → free_at states frame ≡ is_free_state (Some state) → free_in_block (slice_set states frame state) block ≡ free_in_block states block
   none_more_here block same =
       count_from_same (free_at (slice_set states frame state)) (free_at states) (512 * block) 512 (λ k low high. free_as_before same k)
-
--- counts stay right where the number of one pageblock goes with its frames
-counts_follow : (old : List ℕ) (block n : ℕ) (states new_states : List FrameState) → CountsFree old states → block < 8 → n ≡ free_in_block new_states block → ((other : ℕ) → other ≢ block → free_in_block new_states other ≡ free_in_block states other) → CountsFree (slice_set old block n) new_states
-counts_follow old block n states new_states right few is others = record {
-  each = λ b h. elim (eqb_tells b block) [
-    | inl at ↦ (slice_get_set_same old block b n at.1 (within_list old block _ (right.each block few)) ∙ ap Some (is ∙ ap (free_in_block new_states) (sym at.1)))
-    | inr away ↦ (slice_get_set_other old block b n away.1 ∙ right.each b h ∙ ap Some (sym (others b away.1)))
-  ];
-}
-
-pub follows_freed : (old : List ℕ) (frame block n : ℕ) → block < 8 → block ≡ frame / 512 → n ≡ get_or old block 0 + 1 → Follows old (slice_set old block n) frame false true
-follows_freed old frame block n few at next = record {
-  right = λ states state right within was is.
-      let had = get_or_from_slice_get old block _ 0 (right.each block few) in
-      counts_follow old block n states (slice_set states frame state) right few
-      (omega (arith, next, had, one_more_here states frame state within block at was is))
-      (λ other ne. same_elsewhere states frame state within other (λ e. ne (e ∙ sym at)));
-}
-
-pub follows_used : (old : List ℕ) (frame block n : ℕ) → block < 8 → block ≡ frame / 512 → n ≡ get_or old block 0 - 1 → Follows old (slice_set old block n) frame true false
-follows_used old frame block n few at next = record {
-  right = λ states state right within was is.
-      let had = get_or_from_slice_get old block _ 0 (right.each block few) in
-      counts_follow old block n states (slice_set states frame state) right few
-      (omega (arith, next, had, one_less_here states frame state within block at was is))
-      (λ other ne. same_elsewhere states frame state within other (λ e. ne (e ∙ sym at)));
-}
 
 -- a frame's state that was read says whether it is free
 pub free_as_read : (states : List FrameState) (frame index : ℕ) (state : FrameState) (free : Bool) → frame < length states → index ≡ frame → state ≡ get_or states index state → free ≡ is_free_state (Some state) → free_at states frame ≡ free

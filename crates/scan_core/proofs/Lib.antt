@@ -1,5 +1,13 @@
 pub mod Bounds
 pub mod Counting
 pub mod Found
+pub mod FrameSets
+pub mod Masking
+pub mod Numbering
+pub mod Orders
 pub mod Pairing
+pub mod RunCounts
+pub mod Seeing
 pub mod Sounding
+pub mod Spanning
+pub mod Steps

@@ -1,114 +1,130 @@
--- The counts of the frames, when one frame is used for something else.
-use Rattle.std.proofs.Common.{◌≡◌, ℕ, ◌*◌, ◌/◌, ◌<◌, ◌≤◌, Bool, true, false, List, length, min, inl, inr, refl, sym, ap, ◌∙◌, replicate, subst, Vec, vec_capacity, arith}
-use Rattle.std.specs.Prelude.{Some, slice_set}
-use Rattle.std.proofs.lemmas.Bool.Decides.{eqb_tells}
-use Rattle.std.proofs.lemmas.List.{length-set, length-replicate}
-use Rattle.std.proofs.lemmas.Option.{get_or_from_slice_get}
-use Rattle.std.specs.declared.alloc.Global.{Global}
+-- What is read off the fields of the frames.
+use Rattle.std.proofs.Common.{◌≡◌, ◌≢◌, ℕ, zero, suc, ◌+◌, ◌-◌, ◌*◌, ◌/◌, ◌^◌, ◌<◌, ◌≤◌, Bool, true, false, not, List, length, inl, inr, refl, sym, ap, ◌∙◌, subst, eq-eqb, arith}
+use Rattle.std.specs.Prelude.{Option, Some, None, IfSome, nat_eq, nat_le, nat_lt, slice_get, ◌&&◌, ◌||◌}
+use Rattle.std.specs.FinSet as set
+use Rattle.std.specs.Ordering.{nat_cmp}
+use Rattle.std.proofs.lemmas.Bool.{lt-leb, le-leb}
+use Rattle.std.proofs.lemmas.Bool.Decides.{leb_tells}
+use Rattle.std.proofs.lemmas.Nat.{pow_pos}
+use Rattle.std.proofs.lemmas.Option.{slice_get_past}
+use Rattle.frame_core.specs.Below.{count_below, lowest, some_below}
+use Rattle.frame_core.specs.Order.{is_aligned}
 use Rattle.frame_core.specs.declared.state.FrameState.{FrameState}
-use Rattle.frame_core.specs.declared.state.FrameState.TheVariants.{Free}
-use Rattle.frame_core.proofs.Lists.{slice_get_replicate}
-use Rattle.frame_core.proofs.Searches.{count_all, count_from_most}
-use Rattle.scan_core.specs.BlockCounts.{CountsFree}
-use Rattle.scan_core.specs.Frames.{is_free_state, free_at}
-use Rattle.scan_core.specs.Tally.{Tallies, CanNote, noted}
-use Rattle.scan_core.specs.declared.tally.Tally.{Tally}
+use Rattle.frame_core.specs.declared.state.FrameState.TheVariants.{Free, Huge}
+use Rattle.frame_core.proofs.Searches.{count_same, lowest_same, some_at, some_one}
+use Rattle.scan_core.specs.FrameSet.{all_of_block, is_run_of}
+use Rattle.scan_core.specs.Frames.{Frames, blocks_of, free_at, free_frames, huge_at, holds_at, true_at, is_stuck_state, is_free_state, is_huge_state, is_whole}
+use Rattle.scan_core.specs.NumberSet.{all_from, capacity, in_run}
+use Rattle.scan_core.specs.Pairs.{is_marked, is_stuck}
+use Rattle.scan_core.specs.Runs.{first_run, has_block, is_run, with_run}
+use Rattle.scan_core.specs.Seen.{seen}
 use Rattle.scan_core.specs.Sound.{IsSound}
 use Rattle.scan_core.specs.declared.frames.Frames.TheInside.{Inside}
-use Rattle.scan_core.proofs.Bounds.{count_most}
-use Rattle.scan_core.proofs.Counting.{free_there, free_elsewhere, one_more, one_less, none_more, one_more_here, one_less_here, none_more_here, follows_freed, follows_used}
+use Rattle.scan_core.proofs.Bounds.{count_past, lowest_past}
+use Rattle.scan_core.proofs.Counting.{not_free_past, not_whole_past}
+use Rattle.scan_core.proofs.FrameSets.{all_pass}
+use Rattle.scan_core.proofs.Masking.{clash}
+use Rattle.scan_core.proofs.Numbering.{capacity_is}
+use Rattle.scan_core.proofs.Seeing.{length_seen, seen_get, seen_state}
+use Rattle.scan_core.proofs.Spanning.{same_by, both, is_in_run}
 
-pub can_note : (tally : Tally) (states : List FrameState) (frame : ℕ) (state : FrameState) (was is : Bool) → frame < length states → length states ≤ 4096 → Tallies tally states → free_at states frame ≡ was → is_free_state (Some state) ≡ is → CanNote tally frame was is
-can_note tally states frame state true false within few right was is =
-    let all = one_less states frame state within was is in
-    let here = one_less_here states frame state within (frame / 512) refl was is in
-    let had = get_or_from_slice_get tally.blocks (frame / 512) _ 0 (right.blocks.each (frame / 512) (omega arith)) in
-    (omega (arith, all, right.free), omega (arith, here, had))
-can_note tally states frame state false true within few right was is =
-    let all = one_more states frame state within was is in
-    let here = one_more_here states frame state within (frame / 512) refl was is in
-    let most = count_most (free_at (slice_set states frame state)) (length (slice_set states frame state)) in
-    let most_here = count_from_most (free_at (slice_set states frame state)) (512 * (frame / 512)) 512 in
-    let had = get_or_from_slice_get tally.blocks (frame / 512) _ 0 (right.blocks.each (frame / 512) (omega arith)) in
-    (omega (arith, all, right.free, most, length-set states frame state), omega (arith, here, had, most_here))
-can_note tally states frame state true true within few right was is = tt
-can_note tally states frame state false false within few right was is = tt
+and_within : (a b c : Bool) → (c ≡ true → b ≡ true) → (a && c) ≡ ((a && b) && c)
+and_within true true true gives = refl
+and_within true false true gives = let e = gives refl in cc
+and_within true true false gives = refl
+and_within true false false gives = refl
+and_within false b c gives = refl
 
--- a frame that isn't free then, or above the lowest that may be free, leaves none free below it
-still_before : (states : List FrameState) (frame : ℕ) (state : FrameState) (lowest : ℕ) → frame < length states → ((k : ℕ) → k < lowest → free_at states k ≡ false) → (frame < lowest → is_free_state (Some state) ≡ false) → (k : ℕ) → k < lowest → free_at (slice_set states frame state) k ≡ false
-still_before states frame state lowest within before used k h = elim (eqb_tells k frame) [
-  | inl at ↦ (let same : k ≡ frame = at.1 in ap (free_at (slice_set states frame state)) same ∙ free_there states frame state within ∙ used (omega arith))
-  | inr away ↦ free_elsewhere states frame state within k away.1 ∙ before k h
+-- a free frame stands within the list
+pub free_within : (states : List FrameState) (frame : ℕ) → free_at states frame ≡ true → frame < length states
+free_within states frame free = elim (leb_tells (length states) frame) [
+  | inl past ↦ absurd (clash (free_at states frame) free (not_free_past states frame past.1))
+  | inr under ↦ under.1
 ]
 
-clash : (b : Bool) → b ≡ true → b ≡ false → ⊥
-clash true e f = cc
-clash false e f = cc
+module _ (states : List FrameState) (order : ℕ) where
+  run_ends_within : (first : ℕ) → all_from (free_at states) first (2 ^ order) ≡ true → nat_le (first + 2 ^ order) (length states) ≡ true
+  run_ends_within first all =
+      let some : 0 < 2 ^ order = pow_pos order in
+      let last = free_within states (first + 2 ^ order - 1) (all_pass (free_at states) first (2 ^ order) all (first + 2 ^ order - 1) (is_in_run first (2 ^ order) (first + 2 ^ order - 1) (omega arith) (omega arith))) in
+      le-leb (first + 2 ^ order) (length states) (omega arith)
 
-pub tallies_noted : (tally : Tally) (states : List FrameState) (frame : ℕ) (state : FrameState) (was is : Bool) → frame < length states → length states ≤ 4096 → Tallies tally states → free_at states frame ≡ was → is_free_state (Some state) ≡ is → Tallies (noted tally frame was is) (slice_set states frame state)
-tallies_noted tally states frame state true false within few right was is = record {
-  free = omega (arith, one_less states frame state within was is, right.free);
-  blocks = (follows_used tally.blocks frame (frame / 512) _ (omega arith) refl refl).right states state right.blocks within was is;
-  last = omega (arith, right.last, length-set states frame state);
-  before = still_before states frame state tally.lowest within right.before (λ _. is);
-}
-tallies_noted tally states frame state false true within few right was is = record {
-  free = omega (arith, one_more states frame state within was is, right.free);
-  blocks = (follows_freed tally.blocks frame (frame / 512) _ (omega arith) refl refl).right states state right.blocks within was is;
-  last = omega (arith, right.last, length-set states frame state);
-  before = still_before states frame state (min tally.lowest frame) within (λ k h. right.before k (omega arith)) (λ h. absurd (omega arith));
-}
-tallies_noted tally states frame state true true within few right was is = record {
-  free = right.free ∙ sym (none_more states frame state within (was ∙ sym is));
-  blocks = record { each = λ block h. right.blocks.each block h ∙ ap Some (sym (none_more_here states frame state within block (was ∙ sym is))) };
-  last = omega (arith, right.last, length-set states frame state);
-  before = still_before states frame state tally.lowest within right.before (λ h. absurd (clash _ was (right.before frame h)));
-}
-tallies_noted tally states frame state false false within few right was is = record {
-  free = right.free ∙ sym (none_more states frame state within (was ∙ sym is));
-  blocks = record { each = λ block h. right.blocks.each block h ∙ ap Some (sym (none_more_here states frame state within block (was ∙ sym is))) };
-  last = omega (arith, right.last, length-set states frame state);
-  before = still_before states frame state tally.lowest within right.before (λ _. is);
-}
+  pub run_of_is_run : (first : ℕ) → is_run_of (free_at states) order first ≡ is_run states order first
+  run_of_is_run first = and_within (is_aligned order first) (nat_le (first + 2 ^ order) (length states)) (all_from (free_at states) first (2 ^ order)) (run_ends_within first)
 
--- what is counted goes with the list
-pub tallies_put : (tally new : Tally) (states new_states : List FrameState) (frame index : ℕ) (state : FrameState) (was is : Bool) → frame < length states → length states ≤ 4096 → Tallies tally states → free_at states frame ≡ was → is ≡ is_free_state (Some state) → new ≡ noted tally frame was is → index ≡ frame → new_states ≡ slice_set states index state → Tallies new new_states
-tallies_put tally new states new_states frame index state was is within few right had has counted at written =
-    let then = tallies_noted tally states frame state was is within few right had (sym has) in
-    let list : slice_set states frame state ≡ new_states = ap (λ k. slice_set states k state) (sym at) ∙ sym written in
-    subst (λ (t : Tally). Tallies t new_states) (sym counted) (subst (Tallies (noted tally frame was is)) list then)
+  no_run_past : (first : ℕ) → length states ≤ first → is_run states order first ≡ false
+  no_run_past first past =
+      let some : 0 < 2 ^ order = pow_pos order in
+      same_by (is_run states order first) false
+      (λ e. let parts = both (has_block states order first) (all_from (free_at states) first (2 ^ order)) e in
+      let inner = both (is_aligned order first) (nat_le (first + 2 ^ order) (length states)) parts.0 in
+      absurd (clash (nat_le (first + 2 ^ order) (length states)) inner.1 (lt-leb (first + 2 ^ order) (length states) (omega arith))))
+      (λ e. cc)
 
--- the fields after one frame is used for something else
-pub sound_put : (z : Inside) (tally : Tally) (states : Vec FrameState Global) (first : ℕ) → IsSound z → length states.items ≡ length z.states.items → vec_capacity states ≡ vec_capacity z.states → Tallies tally states.items → first ≤ length states.items → ((frame : ℕ) → frame < first → free_at states.items frame ≡ false) → (first < length states.items → free_at states.items first ≡ true) → IsSound (record z { states = states; tally = record tally { lowest = first } })
-sound_put z tally states first sound same room right last before free = record {
-  whole = omega (arith, same, sound.whole);
-  some = omega (arith, same, sound.some);
-  few = omega (arith, same, sound.few);
-  movable = sound.movable ∙ sym same;
-  room = room ∙ sound.room ∙ sym same;
-  movable_room = sound.movable_room ∙ sym same;
-  tally = record { free = right.free; blocks = right.blocks; last = last; before = before };
-  lowest = free;
-}
+  pub first_run_is : length states ≤ 4096 → lowest (is_run_of (free_at states) order) capacity ≡ first_run states order
+  first_run_is few =
+      lowest_same (is_run_of (free_at states) order) (is_run states order) capacity (λ k h. run_of_is_run k)
+      ∙ lowest_past (is_run states order) (length states) capacity (omega (arith, capacity_is)) (λ k low h. no_run_past k low)
 
--- the fields of frames that are all free
-pub sound_free : (z : Inside) (blocks : ℕ) → 0 < blocks → blocks ≤ 8 → z.states.items ≡ replicate (512 * blocks) Free → z.movable.items ≡ replicate (512 * blocks) false → vec_capacity z.states ≡ 512 * blocks → vec_capacity z.movable ≡ 512 * blocks → z.tally.free ≡ 512 * blocks → CountsFree z.tally.blocks z.states.items → z.tally.lowest ≡ 0 → IsSound z
-sound_free z blocks some few states movable room movable_room free counts lowest =
-    let count : length z.states.items ≡ 512 * blocks = ap length states ∙ length-replicate (512 * blocks) Free in
-    let movable_count : length z.movable.items ≡ 512 * blocks = ap length movable ∙ length-replicate (512 * blocks) false in
-    let each = λ (k : ℕ) (h : k < length z.states.items). ap (λ (list : List FrameState). free_at list k) states ∙ ap is_free_state (slice_get_replicate (512 * blocks) k Free (omega arith)) in
-    record {
-      whole = omega arith;
-      some = omega arith;
-      few = omega arith;
-      movable = omega arith;
-      room = omega arith;
-      movable_room = omega arith;
-      tally = record {
-        free = free ∙ sym count ∙ sym (count_all (free_at z.states.items) (length z.states.items) each);
-        blocks = counts;
-        last = omega arith;
-        before = λ k h. absurd (omega (arith, h, lowest));
-      };
-      lowest = λ h. each z.tally.lowest h;
-    }
+pub if_some_within : (states : List FrameState) (o : Option ℕ) → IfSome o (λ frame. free_at states frame ≡ true) → IfSome o (λ frame. frame < length states)
+if_some_within states None free = free
+if_some_within states (Some frame) free = free_within states frame free
+
+module _ (z : Inside) (sound : IsSound z) where
+  abbrev states_of : List FrameState
+  states_of = seen z.held z.kept.items
+
+  pub kept_length : length (seen z.held z.kept.items) ≡ length z.kept.items
+  kept_length = length_seen (set.contains z.held) 0 z.kept.items
+
+  pub at_most : length (seen z.held z.kept.items) ≤ 4096
+  at_most = omega (arith, kept_length, sound.whole, sound.few)
+
+  pub free_is : set.contains z.free ≡ free_at (seen z.held z.kept.items)
+  free_is = λ i n. sound.free n i
+
+  pub free_counted : count_below (set.contains z.free) capacity ≡ free_frames (seen z.held z.kept.items)
+  free_counted =
+      ap (λ (p : ℕ → Bool). count_below p capacity) free_is
+      ∙ count_past (free_at (seen z.held z.kept.items)) (length (seen z.held z.kept.items)) capacity (omega (arith, at_most, capacity_is)) (λ k low h. not_free_past (seen z.held z.kept.items) k low)
+
+  pub lowest_counted : lowest (set.contains z.free) capacity ≡ lowest (free_at (seen z.held z.kept.items)) (length (seen z.held z.kept.items))
+  lowest_counted =
+      ap (λ (p : ℕ → Bool). lowest p capacity) free_is
+      ∙ lowest_past (free_at (seen z.held z.kept.items)) (length (seen z.held z.kept.items)) capacity (omega (arith, at_most, capacity_is)) (λ k low h. not_free_past (seen z.held z.kept.items) k low)
+
+  whole_upto : (n : ℕ) → blocks_of (seen z.held z.kept.items) ≤ n → count_below (all_of_block (set.contains z.free)) n ≡ count_below (is_whole (seen z.held z.kept.items)) (blocks_of (seen z.held z.kept.items))
+  whole_upto n most =
+      ap (λ (p : ℕ → Bool). count_below (all_of_block p) n) free_is
+      ∙ count_past (is_whole (seen z.held z.kept.items)) (blocks_of (seen z.held z.kept.items)) n most (λ block low h. not_whole_past (seen z.held z.kept.items) block low)
+
+  pub whole_by_set : count_below (all_of_block (set.contains z.free)) 8 ≡ count_below (is_whole (seen z.held z.kept.items)) (blocks_of (seen z.held z.kept.items))
+  whole_by_set = whole_upto 8 (omega (arith, at_most))
+
+  pub first_run_by_set : (order : ℕ) → lowest (is_run_of (set.contains z.free) order) capacity ≡ first_run (seen z.held z.kept.items) order
+  first_run_by_set order = ap (λ (p : ℕ → Bool). lowest (is_run_of p order) capacity) free_is ∙ first_run_is (seen z.held z.kept.items) order at_most
+
+  stuck_past : (marked : List Bool) (k : ℕ) → length (seen z.held z.kept.items) ≤ k → is_stuck (seen z.held z.kept.items) z.movable.items marked k ≡ false
+  stuck_past marked k past =
+      let none = slice_get_past (seen z.held z.kept.items) k past in
+      ap (λ o. not (is_marked marked k) && is_stuck_state o (true_at z.movable.items k)) none ∙ and_none (not (is_marked marked k))
+    where
+      and_none : (a : Bool) → (a && false) ≡ false
+      and_none true = refl
+      and_none false = refl
+
+  pub stuck_by_set : (marked : List Bool) → some_below (λ frame. not (is_marked marked frame) && set.contains z.stuck frame) capacity ≡ some_below (is_stuck (seen z.held z.kept.items) z.movable.items marked) (length (seen z.held z.kept.items))
+  stuck_by_set marked =
+      same_by _ _
+      (λ e. let found = some_one (λ frame. not (is_marked marked frame) && set.contains z.stuck frame) capacity e in
+      let stuck : is_stuck (seen z.held z.kept.items) z.movable.items marked found.0 ≡ true = sym (ap (λ b. not (is_marked marked found.0) && b) (sound.stuck found.0)) ∙ found.2 in
+      some_at (is_stuck (seen z.held z.kept.items) z.movable.items marked) (length (seen z.held z.kept.items)) found.0 (stuck_within marked found.0 stuck) stuck)
+      (λ e. let found = some_one (is_stuck (seen z.held z.kept.items) z.movable.items marked) (length (seen z.held z.kept.items)) e in
+      some_at (λ frame. not (is_marked marked frame) && set.contains z.stuck frame) capacity found.0 (omega (arith, found.1, at_most, capacity_is))
+      (ap (λ b. not (is_marked marked found.0) && b) (sound.stuck found.0) ∙ found.2))
+    where
+      stuck_within : (marked : List Bool) (k : ℕ) → is_stuck (seen z.held z.kept.items) z.movable.items marked k ≡ true → k < length (seen z.held z.kept.items)
+      stuck_within marked k is = elim (leb_tells (length (seen z.held z.kept.items)) k) [
+        | inl past ↦ absurd (clash _ is (stuck_past marked k past.1))
+        | inr under ↦ under.1
+      ]

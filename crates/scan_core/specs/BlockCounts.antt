@@ -7,10 +7,6 @@ use Rattle.scan_core.specs.Frames.{is_free_state, free_at, free_in_block}
 pub record CountsFree (counts : List ℕ) (states : List FrameState) : Type 0 where
   pub each : (block : ℕ) → block < 8 → slice_get counts block ≡ Some (free_in_block states block)
 
--- where one frame was free or not, and now is or isn't, right counts are right again
-pub record Follows (old new : List ℕ) (frame : ℕ) (was is : Bool) : Type 0 where
-  pub right : (states : List FrameState) (state : FrameState) → CountsFree old states → frame < length states → free_at states frame ≡ was → is_free_state (Some state) ≡ is → CountsFree new (slice_set states frame state)
-
 -- whether all frames of a pageblock are free
 abbrev pub is_full : List ℕ → ℕ → Bool
 is_full counts block = nat_eq (slice_index counts block) 512

@@ -1,5 +1,5 @@
 -- The frames of a zone.
-use Rattle.std.specs.Prelude.{ℕ, ◌*◌, ◌/◌, Bool, true, false, List, length, replicate, nat_eq, slice_get, unwrap_or, Option, Some}
+use Rattle.std.specs.Prelude.{ℕ, ◌*◌, ◌/◌, Bool, true, false, not, ◌&&◌, ◌||◌, List, length, replicate, nat_eq, slice_get, unwrap_or, Option, Some}
 use Rattle.frame_core.specs.Below.{count_below, count_from}
 use Rattle.frame_core.specs.declared.state.FrameState.{FrameState}
 use Rattle.frame_core.specs.declared.state.FrameState.TheVariants.{Free, Holds, Huge}
@@ -28,6 +28,10 @@ is_holding_state _ = false
 abbrev pub is_huge_state : Option FrameState → Bool
 is_huge_state (Some Huge) = true
 is_huge_state _ = false
+
+-- whether there is a frame, and it is handed out, or holds a page that isn't movable
+abbrev pub is_stuck_state : Option FrameState → Bool → Bool
+is_stuck_state state movable = is_huge_state state || (is_holding_state state && not movable)
 
 -- whether a frame of the list is free
 abbrev pub free_at : List FrameState → ℕ → Bool

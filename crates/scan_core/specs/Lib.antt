@@ -1,5 +1,12 @@
+pub mod Bits
+pub mod BitsInside
 pub mod BlockCounts
+pub mod FrameSet
+pub mod FrameSetInside
 pub mod Frames
+pub mod NumberSet
 pub mod Pairs
+pub mod Runs
+pub mod Seen
 pub mod Sound
-pub mod Tally
+pub mod Spans

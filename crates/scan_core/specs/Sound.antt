@@ -1,19 +1,23 @@
 -- What contracts see of the fields of the frames, and what is true of them.
-use Rattle.std.specs.Prelude.{◌≡◌, ◌<◌, ◌≤◌, ◌*◌, length, true, vec_capacity}
-use Rattle.scan_core.specs.Frames.{Frames, blocks_of, free_at}
-use Rattle.scan_core.specs.Tally.{Tallies}
+use Rattle.std.specs.Prelude.{◌≡◌, ℕ, ◌/◌, ◌<◌, ◌≤◌, ◌*◌, length, true, false, slice_get, vec_capacity, Some}
+use Rattle.std.specs.FinSet as set
+use Rattle.frame_core.specs.declared.state.FrameState.TheVariants.{Free}
+use Rattle.scan_core.specs.Frames.{Frames, blocks_of, free_at, huge_at, is_stuck_state, true_at}
+use Rattle.scan_core.specs.Seen.{seen}
 use Rattle.scan_core.specs.declared.frames.Frames.TheInside.{Inside}
 
 abbrev pub frames_of : Inside → Frames
-frames_of z = record { states = z.states.items; movable = z.movable.items }
+frames_of z = record { states = seen z.held z.kept.items; movable = z.movable.items }
 
--- one to eight whole pageblocks, in lists that never grow, with right counts
+-- one to eight whole pageblocks, in lists that never grow, and the right sets
 pub record IsSound (z : Inside) : Type 0 where
-  pub whole : length z.states.items ≡ 512 * blocks_of z.states.items
-  pub some : 0 < blocks_of z.states.items
-  pub few : blocks_of z.states.items ≤ 8
-  pub movable : length z.movable.items ≡ length z.states.items
-  pub room : vec_capacity z.states ≡ length z.states.items
-  pub movable_room : vec_capacity z.movable ≡ length z.states.items
-  pub tally : Tallies z.tally z.states.items
-  pub lowest : z.tally.lowest < length z.states.items → free_at z.states.items z.tally.lowest ≡ true
+  pub whole : length z.kept.items ≡ 512 * blocks_of z.kept.items
+  pub some : 0 < blocks_of z.kept.items
+  pub few : blocks_of z.kept.items ≤ 8
+  pub movable : length z.movable.items ≡ length z.kept.items
+  pub room : vec_capacity z.kept ≡ length z.kept.items
+  pub movable_room : vec_capacity z.movable ≡ length z.kept.items
+  pub never_huge : (frame : ℕ) → huge_at z.kept.items frame ≡ false
+  pub held : (frame : ℕ) → set.contains z.held frame ≡ true → slice_get z.kept.items frame ≡ Some Free
+  pub free : (frame : ℕ) → set.contains z.free frame ≡ free_at (seen z.held z.kept.items) frame
+  pub stuck : (frame : ℕ) → set.contains z.stuck frame ≡ is_stuck_state (slice_get (seen z.held z.kept.items) frame) (true_at z.movable.items frame)

@@ -1,12 +1,12 @@
 //! The free frames of each pageblock.
 
-ghost use Rattle.std.specs.Prelude.{◌≡◌, ◌+◌, ◌-◌, ◌/◌, ◌<◌, ◌≤◌, length, slice_index, slice_set, true, false, Some, IfSome};
-ghost use Rattle.frame_core.specs.Below.{count_below, lowest};
-ghost use Rattle.scan_core.specs.Frames.{blocks_of, is_whole};
-ghost use Rattle.scan_core.specs.BlockCounts.{CountsFree, Follows, is_full};
+ghost use Rattle.std.specs.Prelude.{◌≡◌, ℕ, ◌+◌, ◌-◌, ◌<◌, ◌≤◌, ◌&&◌, not, length, nat_lt, slice_get, slice_index, slice_set, Some};
+ghost use Rattle.frame_core.specs.Below.{count_below, lowest, some_below};
+ghost use Rattle.scan_core.specs.Frames.{blocks_of, is_whole, true_at};
+ghost use Rattle.scan_core.specs.BlockCounts.{CountsFree, is_full};
 
 use crate::lists::count_free;
-use frame_core::{BlockNo, FrameNo, FrameState, block_of};
+use frame_core::{BlockNo, FrameState};
 use std::marker::Model;
 
 /// How many frames of each pageblock are free.
@@ -26,6 +26,14 @@ impl Model for BlockCounts {
 }
 
 impl BlockCounts {
+    /// No frame is counted.
+    pub fn new() -> Self
+        ensures len { length result ≡ 8 }
+        ensures none { (block : ℕ) → block < 8 → slice_get result block ≡ Some 0 }
+    {
+        BlockCounts { free: [0; 8] }
+    }
+
     /// The counts of a list of frame states.
     pub fn of(frames: &[FrameState]) -> Self
         ensures { CountsFree result frames.now }
@@ -44,22 +52,32 @@ impl BlockCounts {
         self.free[block.get() as usize]
     }
 
-    /// Counts a frame that wasn't free and is.
-    pub fn freed(&mut self, frame: FrameNo)
-        requires { slice_index self.old (frame / 512) < 512 }
-        ensures number { self.new ≡ slice_set self.old (frame / 512) (slice_index self.old (frame / 512) + 1) }
-        ensures counts { Follows self.old self.new frame false true }
+    /// Counts so many frames more in a pageblock.
+    pub fn more(&mut self, block: BlockNo, frames: u32)
+        requires { slice_index self.old block + frames ≤ 512 }
+        ensures { self.new ≡ slice_set self.old block (slice_index self.old block + frames) }
     {
-        self.free[block_of(frame).get() as usize] += 1;
+        self.free[block.get() as usize] += frames;
     }
 
-    /// Counts a frame that was free and isn't.
-    pub fn used(&mut self, frame: FrameNo)
-        requires { 0 < slice_index self.old (frame / 512) }
-        ensures number { self.new ≡ slice_set self.old (frame / 512) (slice_index self.old (frame / 512) - 1) }
-        ensures counts { Follows self.old self.new frame true false }
+    /// Counts so many frames fewer in a pageblock.
+    pub fn fewer(&mut self, block: BlockNo, frames: u32)
+        requires { frames ≤ slice_index self.old block }
+        ensures { self.new ≡ slice_set self.old block (slice_index self.old block - frames) }
     {
-        self.free[block_of(frame).get() as usize] -= 1;
+        self.free[block.get() as usize] -= frames;
+    }
+
+    /// Whether a pageblock that isn't marked has any.
+    pub fn is_any_unmarked(&self, marked: &[bool; 8]) -> bool
+        ensures { result ≡ some_below (λ block. not (true_at marked.now block) && nat_lt 0 (slice_index self.now block)) 8 }
+    {
+        for block in 0..8 {
+            if is_unmarked(&self.free, marked, block) {
+                return true;
+            }
+        }
+        false
     }
 
     /// How many pageblocks are free as a whole.
@@ -86,6 +104,14 @@ impl BlockCounts {
         }
         None
     }
+}
+
+/// Whether a pageblock has frames and isn't marked.
+fn is_unmarked(frames: &[u32; 8], marked: &[bool; 8], block: usize) -> bool
+    requires { block < 8 }
+    ensures { result ≡ (not (true_at marked.now block) && nat_lt 0 (slice_index frames.now block)) }
+{
+    !marked[block] && frames[block] > 0
 }
 
 /// How many pageblocks are free as a whole: what the counts of the list say.

@@ -1,22 +1,29 @@
-ghost use Rattle.std.specs.Prelude.{◌≡◌, ◌*◌, ◌<◌, ◌≤◌, length, slice_get, slice_set, true, Some, IfOk, IfSome};
+ghost use Rattle.std.specs.Prelude.{◌≡◌, ◌*◌, ◌^◌, ◌<◌, ◌≤◌, length, slice_get, slice_set, true, Some, IfOk, IfSome};
+ghost use Rattle.frame_core.specs.declared.state.FrameState.TheVariants.{Free, Huge};
 ghost use Rattle.frame_core.specs.Below.{count_below, lowest, some_below};
-ghost use Rattle.scan_core.specs.Frames.{all_free, blocks_of, free_at, free_frames, is_whole};
+ghost use Rattle.scan_core.specs.Frames.{all_free, blocks_of, free_at, free_frames, huge_at, is_whole};
+ghost use Rattle.scan_core.specs.NumberSet.{all_from};
 ghost use Rattle.scan_core.specs.Pairs.{after_step, is_stuck, next_step, Finds};
+ghost use Rattle.scan_core.specs.Runs.{first_run, has_block, is_run, with_run};
 
-use crate::blocks::BlockCounts;
 use crate::fingers::{Fingers, Step};
-use crate::tally::Tally;
+use crate::frame_set::FrameSet;
+use crate::numbers::NumberSet;
 use crate::{lists, pair};
-use frame_core::{FrameNo, FrameState, filled};
+use frame_core::{FrameNo, FrameState, Order, filled};
 use std::alloc::{AllocError, Global};
 use std::marker::Model;
 
 /// The states of a zone's frames, with what is counted of them.
 #[derive(Drop)]
 pub struct Frames {
-    states: Vec<FrameState>,
+    /// A frame of a block that is handed out is kept as free: it is one of `held`.
+    kept: Vec<FrameState>,
     movable: Vec<bool>,
-    tally: Tally,
+    held: NumberSet,
+    free: FrameSet,
+    /// Frames that are handed out, and frames with a page that may not be taken from them.
+    stuck: FrameSet,
 }
 
 impl Model for Frames {
@@ -40,17 +47,15 @@ impl Frames {
         ensures frames { IfOk result (λ frames. length frames.states ≡ 512 * blocks) }
     {
         let count = 512 * blocks as usize;
-        let states = filled(alloc, FrameState::Free, count)?;
+        let kept = filled(alloc, FrameState::Free, count)?;
         let movable = filled(alloc, false, count)?;
-        let tally = Tally {
-            free: 512 * blocks,
-            blocks: BlockCounts::of(&states),
-            lowest: 0,
-        };
+        let free = FrameSet::of(&kept);
         Ok(Frames {
-            states,
+            kept,
             movable,
-            tally,
+            held: NumberSet::new(),
+            free,
+            stuck: FrameSet::new(),
         })
     }
 
@@ -62,7 +67,7 @@ impl Frames {
         ensures few { result ≤ 4096 }
         ensures movable { length self.now.movable ≡ length self.now.states }
     {
-        self.states.len() as u32
+        self.kept.len() as u32
     }
 
     /// How many pageblocks they make.
@@ -75,19 +80,15 @@ impl Frames {
         self.len() / 512
     }
 
-    /// What each frame is used for.
-    pub fn states(&self) -> &[FrameState]
-        ensures { result.now ≡ self.now.states }
-    {
-        &self.states
-    }
-
     /// What a frame is used for.
     pub fn state(&self, frame: FrameNo) -> FrameState
         requires { frame < length self.now.states }
         ensures { slice_get self.now.states frame ≡ Some result }
     {
-        self.states[frame.get() as usize]
+        if self.held.contains(frame.get()) {
+            return FrameState::Huge;
+        }
+        self.kept[frame.get() as usize]
     }
 
     /// Whether a frame is free.
@@ -95,7 +96,7 @@ impl Frames {
         requires { frame < length self.now.states }
         ensures { result ≡ free_at self.now.states frame }
     {
-        lists::is_free(&self.states[frame.get() as usize])
+        self.free.contains(frame)
     }
 
     /// Uses a frame for something else, or frees it.
@@ -105,17 +106,18 @@ impl Frames {
         ensures frames { length self.new.states ≡ length self.old.states }
     {
         let index = frame.get() as usize;
-        let was = lists::is_free(&self.states[index]);
-        self.tally.note(frame, was, lists::is_free(&state));
-        self.states[index] = state;
-        self.tally.lowest = lists::first_free(&self.states, self.tally.lowest);
+        self.free.put(frame, lists::is_free(&state));
+        self.stuck
+            .put(frame, lists::is_stuck(&state, self.movable[index]));
+        self.held.put(frame.get(), lists::is_huge(&state));
+        self.kept[index] = lists::kept(state);
     }
 
     /// How many frames are free.
     pub fn free(&self) -> u32
         ensures { result ≡ free_frames self.now.states }
     {
-        self.tally.free
+        self.free.count()
     }
 
     /// The lowest frame that is free.
@@ -124,17 +126,14 @@ impl Frames {
         ensures free { IfSome result (λ frame. free_at self.now.states frame ≡ true) }
         ensures within { IfSome result (λ frame. frame < length self.now.states) }
     {
-        if self.tally.lowest as usize == self.states.len() {
-            return None;
-        }
-        FrameNo::new(self.tally.lowest)
+        self.free.lowest()
     }
 
     /// How many pageblocks are free as a whole.
     pub fn whole_blocks(&self) -> u32
         ensures { result ≡ count_below (is_whole self.now.states) (blocks_of self.now.states) }
     {
-        self.tally.blocks.whole()
+        self.free.whole_blocks()
     }
 
     /// Whether the page that a frame holds may be taken from it.
@@ -151,8 +150,38 @@ impl Frames {
         ensures movable { self.new ≡ record self.old { movable = slice_set self.old.movable frame movable } }
         ensures frames { length self.new.movable ≡ length self.old.movable }
     {
-        let index = frame.get() as usize;
-        self.movable[index] = movable;
+        let state = self.state(frame);
+        self.stuck.put(frame, lists::is_stuck(&state, movable));
+        self.movable[frame.get() as usize] = movable;
+    }
+
+    /// The first frame of the lowest free block of an order.
+    pub fn first_run(&self, order: Order) -> Option<FrameNo>
+        ensures lowest { result ≡ first_run self.now.states order }
+        ensures run { IfSome result (λ first. is_run self.now.states order first ≡ true) }
+    {
+        self.free.first_run(order)
+    }
+
+    /// Hands the frames of a free block out.
+    pub fn hold(&mut self, first: FrameNo, order: Order)
+        requires { is_run self.old.states order first ≡ true }
+        ensures { self.new ≡ record self.old { states = with_run self.old.states first (2 ^ order) Huge } }
+    {
+        self.free.remove_run(first, order);
+        self.stuck.insert_run(first, order);
+        self.held.insert_run(first.get(), order);
+    }
+
+    /// Takes the frames of a block back.
+    pub fn release(&mut self, first: FrameNo, order: Order)
+        requires block { has_block self.old.states order first ≡ true }
+        requires huge { all_from (huge_at self.old.states) first (2 ^ order) ≡ true }
+        ensures { self.new ≡ record self.old { states = with_run self.old.states first (2 ^ order) Free } }
+    {
+        self.held.remove_run(first.get(), order);
+        self.stuck.remove_run(first, order);
+        self.free.insert_run(first, order);
     }
 
     /// The next pair between the fingers, which then stand at its frames. Where there is none they stay.
@@ -167,13 +196,13 @@ impl Frames {
         ensures low { fingers.new.migrate ≤ fingers.new.free }
         ensures high { fingers.new.free ≤ length self.now.states }
     {
-        pair::next_pair(&self.states, &self.movable, marked, fingers)
+        pair::next_seen(&self.kept, &self.held, &self.movable, marked, fingers)
     }
 
     /// Whether in an unmarked pageblock some frame is handed out, or holds a page that may not be taken from it.
     pub fn is_any_stuck(&self, marked: &[bool; 8]) -> bool
         ensures { result ≡ some_below (is_stuck self.now.states self.now.movable marked.now) (length self.now.states) }
     {
-        lists::is_any_stuck(&self.states, &self.movable, marked)
+        self.stuck.is_any_unmarked(marked)
     }
 }

@@ -4,16 +4,20 @@
 //! What is counted of them is the type's own business. The searches and counts stand over plain lists too.
 #![tactic(auto)]
 
+mod bits;
 mod blocks;
 mod fingers;
+mod frame_set;
 mod frames;
 mod lists;
+mod numbers;
 mod pair;
-mod tally;
 #[cfg(test)]
 mod tests;
 
 pub use blocks::{BlockCounts, first_whole, whole_blocks};
 pub use fingers::{Fingers, Step};
+pub use frame_set::first_run;
 pub use frames::Frames;
+pub use numbers::NumberSet;
 pub use pair::next_pair;

@@ -1,9 +1,9 @@
 //! Questions about lists of frame states.
 
-ghost use Rattle.std.specs.Prelude.{◌≡◌, ℕ, ◌*◌, ◌+◌, ◌/◌, ◌^◌, ◌<◌, ◌≤◌, length, replicate, vec_capacity, false, true, Some, IfOk};
-ghost use Rattle.frame_core.specs.Below.{some_below};
-ghost use Rattle.scan_core.specs.Frames.{is_free_state, free_at, free_in_block};
-ghost use Rattle.scan_core.specs.Pairs.{is_marked, is_stuck};
+ghost use Rattle.std.specs.Prelude.{◌≡◌, ◌/◌, ◌<◌, length, Some};
+ghost use Rattle.scan_core.specs.Frames.{is_free_state, is_huge_state, is_stuck_state, free_in_block};
+ghost use Rattle.scan_core.specs.Pairs.{is_marked};
+ghost use Rattle.scan_core.specs.Seen.{kept_state};
 
 use frame_core::FrameState;
 
@@ -34,23 +34,6 @@ pub fn count_free(frames: &[FrameState], block: usize) -> u32
     count
 }
 
-/// The lowest frame that is free, where none below a first one is, or else the number of frames.
-pub fn first_free(frames: &[FrameState], from: u32) -> u32
-    requires few { length frames.now ≤ 4096 }
-    requires from { from ≤ length frames.now }
-    requires before { (frame : ℕ) → frame < from → free_at frames.now frame ≡ false }
-    ensures last { result ≤ length frames.now }
-    ensures before { (frame : ℕ) → frame < result → free_at frames.now frame ≡ false }
-    ensures free { result < length frames.now → free_at frames.now result ≡ true }
-{
-    for i in from as usize..frames.len() {
-        if is_free(&frames[i]) {
-            return i as u32;
-        }
-    }
-    frames.len() as u32
-}
-
 /// Whether a frame stands in a marked pageblock.
 pub fn is_marked(marked: &[bool], frame: usize) -> bool
     requires { frame / 512 < length marked.now }
@@ -59,32 +42,33 @@ pub fn is_marked(marked: &[bool], frame: usize) -> bool
     marked[frame / 512]
 }
 
-/// Whether a frame of an unmarked pageblock is handed out, or holds a page that may not be taken from it.
-pub fn is_any_stuck(frames: &[FrameState], movable: &[bool], marked: &[bool]) -> bool
-    requires few { length frames.now ≤ 512 * length marked.now }
-    requires same { length movable.now ≡ length frames.now }
-    ensures { result ≡ some_below (is_stuck frames.now movable.now marked.now) (length frames.now) }
+/// Whether a frame in this state is of a block that is handed out.
+pub fn is_huge(state: &FrameState) -> bool
+    ensures { result ≡ is_huge_state (Some state.now) }
 {
-    for i in 0..frames.len() {
-        if is_stuck(frames, movable, marked, i) {
-            return true;
-        }
+    match state {
+        FrameState::Huge => true,
+        _ => false,
     }
-    false
 }
 
-fn is_stuck(frames: &[FrameState], movable: &[bool], marked: &[bool], frame: usize) -> bool
-    requires frame { frame < length frames.now }
-    requires few { length frames.now ≤ 512 * length marked.now }
-    requires same { length movable.now ≡ length frames.now }
-    ensures { result ≡ is_stuck frames.now movable.now marked.now frame }
+/// Whether a frame in this state keeps its pageblock from being freed: it is handed out, or holds a page that isn't movable.
+pub fn is_stuck(state: &FrameState, movable: bool) -> bool
+    ensures { result ≡ is_stuck_state (Some state.now) movable }
 {
-    if is_marked(marked, frame) {
-        return false;
-    }
-    match frames[frame] {
+    match state {
         FrameState::Huge => true,
-        FrameState::Holds(_) => !movable[frame],
+        FrameState::Holds(_) => !movable,
         _ => false,
+    }
+}
+
+/// What is kept of a frame's state.
+pub fn kept(state: FrameState) -> FrameState
+    ensures { result ≡ kept_state state }
+{
+    match state {
+        FrameState::Huge => FrameState::Free,
+        other => other,
     }
 }

@@ -1,7 +1,9 @@
 ghost use Rattle.std.specs.Prelude.{◌≡◌, ◌<◌, ◌≤◌, ◌*◌, length};
 
-use crate::{BlockCounts, Fingers, Frames, Step, first_whole, next_pair, whole_blocks};
-use frame_core::{BlockNo, FrameNo, FrameState, PageNo, block_of};
+use crate::{
+    BlockCounts, Fingers, Frames, NumberSet, Step, first_run, first_whole, next_pair, whole_blocks,
+};
+use frame_core::{BlockNo, FrameNo, FrameState, Order, PageNo, block_of};
 use std::process::Abort;
 use std::test::Fail;
 
@@ -22,7 +24,6 @@ fn frames_know_what_is_free(rt: HostRuntime) -> Result<(), Fail> {
     assert_eq!(rt; frames.lowest_free(), FrameNo::new(3));
     assert!(rt; !frames.is_free(frame(&rt, 2)));
     assert_eq!(rt; frames.state(frame(&rt, 2)), holding(&rt, 7));
-    assert_eq!(rt; frames.states().len(), 1024);
     frames.put(frame(&rt, 0), FrameState::Free);
     assert_eq!(rt; frames.lowest_free(), FrameNo::new(0));
     Ok(())
@@ -89,18 +90,78 @@ fn blocks_are_counted(rt: HostRuntime) {
     assert_eq!(rt; whole_blocks(&frames), 1);
     assert_eq!(rt; first_whole(&frames), BlockNo::new(1));
     let mut counts = BlockCounts::of(&frames);
-    let freed = frame(&rt, 6);
-    if counts.get(block_of(freed)) < 512 {
-        counts.freed(freed);
+    let block = block_of(frame(&rt, 6));
+    if counts.get(block) < 512 {
+        counts.more(block, 1);
     }
     assert_eq!(rt; counts.whole(), 2);
     assert_eq!(rt; counts.first(), BlockNo::new(0));
-    let used = frame(&rt, 512);
-    if counts.get(block_of(used)) > 0 {
-        counts.used(used);
+    let block = block_of(frame(&rt, 512));
+    if counts.get(block) >= 8 {
+        counts.fewer(block, 8);
     }
     assert_eq!(rt; counts.whole(), 1);
     assert_eq!(rt; counts.first(), BlockNo::new(0));
+}
+
+#[test]
+fn sets_have_what_walks_find(rt: HostRuntime) {
+    let mut set = NumberSet::new();
+    let mut members = [false; 4096];
+    let mut seed = 12345_u32;
+    for turn in 0..400 {
+        seed = seed.wrapping_mul(1664525).wrapping_add(1013904223);
+        let number = seed / 4 % 4096;
+        let member = turn % 3 != 2;
+        set.put(number, member);
+        members[number as usize] = member;
+        assert_eq!(rt; set.contains(number), member);
+        assert_eq!(rt; set.lowest(), lowest_true(&members));
+    }
+    for number in 0..4096_u32 {
+        assert_eq!(rt; set.contains(number), members[number as usize]);
+        set.remove(number);
+    }
+    assert_eq!(rt; set.lowest(), None);
+    set.insert(4095);
+    assert_eq!(rt; set.lowest(), Some(4095));
+}
+
+#[test]
+fn blocks_of_each_order_are_held(rt: HostRuntime) -> Result<(), Fail> {
+    let mut frames = Frames::open(rt.alloc(), 2)?;
+    frames.put(frame(&rt, 0), holding(&rt, 7));
+    for number in 3..10_u32 {
+        let order = Order::new(number).expect(&rt, "an order");
+        let found = frames.first_run(order);
+        assert_eq!(rt; found, FrameNo::new(order.frames()));
+        if let Some(first) = found {
+            let free = frames.free();
+            frames.hold(first, order);
+            assert_eq!(rt; Some(frames.free()), free.checked_sub(order.frames()));
+            assert!(rt; frames.first_run(order) != found);
+        }
+    }
+    Ok(())
+}
+
+#[test]
+fn a_list_has_its_run(rt: HostRuntime) {
+    let mut frames = [FrameState::Free; 24];
+    frames[3] = FrameState::Huge;
+    let order = Order::new(3).expect(&rt, "an order");
+    assert_eq!(rt; first_run(&frames, order), FrameNo::new(8));
+    let order = Order::new(4).expect(&rt, "an order");
+    assert_eq!(rt; first_run(&frames, order), None);
+}
+
+fn lowest_true(members: &[bool; 4096]) -> Option<u32> {
+    for number in 0..4096_u32 {
+        if members[number as usize] {
+            return Some(number);
+        }
+    }
+    None
 }
 
 fn frame<R: Abort>(rt: &R, number: u32) -> FrameNo

@@ -12,7 +12,7 @@ use Rattle.script_core.specs.Ends.{IsOpening, StopsIn}
 use Rattle.script_core.specs.Outbox.{Owes}
 use Rattle.text_core.specs.Reply.{newlines}
 use Rattle.script_core.specs.Script.{Numbered, answers_from, answers_of, commands_from, commands_of, cut_fault, fault_from, fault_of}
-use Rattle.script_core.specs.Player.{Player, EndsBy, Finishes, HasStopped, StopsBy, HasEnded, HasRead, HasFault}
+use Rattle.script_core.specs.Player.{Player, EndsBy, Finishes, StopsBy, HasRead, HasFault}
 use Rattle.script_core.proofs.Lines.{length-answers_from, parts-end}
 use Rattle.script_core.proofs.Reading.{whole_is}
 
@@ -78,7 +78,7 @@ fault_stops places s past rest input e first now split h =
       owes = subst O (sym (ap commands_of split ∙ h.commands rest)) h.owes;
     }
 
-ends_stop : (f : Fault) (places : ℕ) (s : Player) (past rest input : List ℕ) (e : RunError) (left left_new first now : Option (List ℕ)) → input ≡ past ++ rest → EndsBy f places s past e first now → StopsBy f places s input e left left_new first now
+pub ends_stop : (f : Fault) (places : ℕ) (s : Player) (past rest input : List ℕ) (e : RunError) (left left_new first now : Option (List ℕ)) → input ≡ past ++ rest → EndsBy f places s past e first now → StopsBy f places s input e left left_new first now
 ends_stop Syntax places s past rest input e left left_new first now split h = fault_stops places s past rest input e first now split h
 ends_stop LongLine places s past rest input e left left_new first now split h = fault_stops places s past rest input e first now split h
 ends_stop Read places s past rest input e left left_new first now split h = absurd h
@@ -89,30 +89,14 @@ ends_stop Memory places s past rest input e left left_new first now split h = re
   owes = h.owes;
 }
 
--- a piece in which the reading ended
-pub piece_stops : (places : ℕ) (s : Player) (past piece input : List ℕ) (e : RunError) (left mid left_new first now : Option (List ℕ)) → left ≡ Some input → Consumes left mid past → Consumes mid left_new piece → HasEnded places s (past ++ piece) e first now → HasStopped places s input e left left_new first now
-piece_stops places s past piece input e left mid left_new first now known took more h =
-    let rest = consumed left left_new input (past ++ piece) known (Consumes-trans left mid left_new past piece took more) in
-    ends_stop e.fault places s (past ++ piece) rest.0 input e left left_new first now rest.2 h
-
 -- an input that was read to its end
 pub end_finishes : (places : ℕ) (s : Player) (past input : List ℕ) (left mid left_new first now : Option (List ℕ)) → left ≡ Some input → Consumes left mid past → Consumes mid left_new [] → IsAtEnd left_new → HasRead places s past first now → HasRead places s input first now
 end_finishes places s past input left mid left_new first now known took none end h =
     let R : List ℕ → Type 0 = λ p. HasRead places s p first now in
     subst R (sym (append-nil past) ∙ consumed_all left left_new input (past ++ []) known (Consumes-trans left mid left_new past [] took none) end) h
 
--- a line that is cut at the end
-pub cut_stops : (places : ℕ) (s : Player) (input : List ℕ) (e : RunError) (left left_new first now : Option (List ℕ)) → e.fault ≡ Syntax → Finishes places s input (Some e) first now → HasStopped places s input e left left_new first now
-cut_stops places s input e left left_new first now is h = let S : Fault → Type 0 = λ f. StopsBy f places s input e left left_new first now in subst S (sym is) h
-
 pub took_none : (left left_new : Option (List ℕ)) (n : ℕ) (buffer : List ℕ) → n ≡ 0 → Consumes left left_new (take n buffer) → Consumes left left_new []
 took_none left left_new n buffer e took = let P : ℕ → Type 0 = λ k. Consumes left left_new (take k buffer) in subst P e took
 
 pub totals_are : (lines lines' replies replies' : ℕ) → lines ≡ lines' → replies ≡ replies' → ◌≡◌ {A = Totals} (record { lines = lines; replies = replies }) (record { lines = lines'; replies = replies' })
 totals_are lines lines' replies replies' l r = ap (λ (n : ℕ). record { lines = n; replies = replies }) l ∙ ap (λ (n : ℕ). record { lines = lines'; replies = n }) r
-
--- a read that failed
-pub reading_breaks : (places : ℕ) (s : Player) (past input : List ℕ) (e : RunError) (left left_new first now : Option (List ℕ)) → e ≡ record { fault = Read; line = s.line } → Consumes left left_new past → HasRead places s past first now → HasStopped places s input e left left_new first now
-reading_breaks places s past input e left left_new first now is took h =
-    let S : RunError → Type 0 = λ e. HasStopped places s input e left left_new first now in
-    subst S (sym is) (record { past = past; read = took; has_read = h; at = refl })

@@ -4,3 +4,4 @@ pub mod Script
 pub mod Ends
 pub mod Outbox
 pub mod Player
+pub mod Streams

@@ -1,8 +1,8 @@
 -- The machine of a script: it has no zone yet, or one in a world.
-use Rattle.std.specs.Prelude.{ℕ, Bool, true, false, nat_eq, if◌then◌else◌, Option, Some, None}
+use Rattle.std.specs.Prelude.{ℕ, ◌*◌, ◌/◌, Bool, true, false, nat_eq, if◌then◌else◌, Option, Some, None}
 use Rattle.frame_core.specs.declared.place.Address.{Address}
 use Rattle.state_core.specs.declared.error.ZoneError.{ZoneError}
-use Rattle.state_core.specs.declared.error.ZoneError.TheVariants.{NoFrame}
+use Rattle.state_core.specs.declared.error.ZoneError.TheVariants.{NoFrame, NoBlock}
 use Rattle.zone_core.specs.declared.hand.Finished.{Finished}
 use Rattle.zone_core.specs.declared.hand.Scanned.{Scanned}
 use Rattle.zone_core.specs.declared.hand.Scanned.TheVariants as scan
@@ -13,10 +13,14 @@ use Rattle.state_core.specs.ErrorNumber.{number_of}
 use Rattle.state_core.specs.Looking.{look_of, info_of}
 use Rattle.state_core.specs.Mapping.{map_refusal, map_at_refusal, mapped}
 use Rattle.state_core.specs.Access.{access_refusal, stored, loaded, value_at}
+use Rattle.state_core.specs.Sharing.{share_refusal, shared}
+use Rattle.state_core.specs.Unmapping.{unmap_refusal, unmapped}
+use Rattle.state_core.specs.Pinning.{pin_refusal, unpin_refusal, pinned, unpinned}
+use Rattle.state_core.specs.HandingOut.{take_order_refusal, give_order_refusal, lowest_run, block_taken, block_given}
 use Rattle.state_core.specs.ZoneState.{ZoneState, lowest_free_frame}
 use Rattle.zone_core.specs.World.{WorldState, world_opened, with_zone, scan_refusal, scan_stopped, scan_answer, scanned, take_step, copy_step, finish_step, shut_step}
 use Rattle.text_core.specs.declared.command.Call.{Call}
-use Rattle.text_core.specs.declared.command.Call.TheVariants.{Map, MapAt, Store, Load, Info, Scan, Take, Copy, Finish, Shut, Look}
+use Rattle.text_core.specs.declared.command.Call.TheVariants.{Map, MapAt, Store, Load, Info, Scan, Take, Copy, Finish, Shut, Look, Share, Unmap, Pin, Unpin, Huge, Give}
 use Rattle.text_core.specs.declared.command.Command.{Command}
 use Rattle.text_core.specs.declared.command.Command.TheVariants.{Open, On, OutOfRange}
 use Rattle.text_core.specs.declared.reply.Reply.{Reply}
@@ -74,6 +78,11 @@ abbrev pub looked : WorldState → Option Known → Step
 looked world None = refused 3 (Some world)
 looked world (Some known) = says (reply.Looked known) world
 
+-- the pageblock that begins at this frame is handed out, if there is one
+abbrev pub handed_out : WorldState → Option ℕ → Step
+handed_out w None = refused (number_of NoBlock) (Some w)
+handed_out w (Some first) = says (reply.Block (first / 512)) (with_zone w (block_taken w.zone first 9))
+
 -- a call on the zone that is open, by client number 0
 abbrev pub call_step : WorldState → Call → Step
 call_step w (Map a unmovable) = unless (map_refusal w.zone a) w (fresh_page w a unmovable (lowest_free_frame w.zone))
@@ -88,6 +97,12 @@ call_step w (Copy hand) = copied w (copy_step w hand)
 call_step w (Finish hand) = by_hand (λ (f : Finished). ending f.serial f.ended) w (finish_step w hand)
 call_step w Shut = by_hand (λ count. reply.Shut count) w (shut_step w)
 call_step w (Look a) = looked w (look_of w.zone a)
+call_step w (Share a alias) = unless (share_refusal w.zone a alias) w (done w (shared w.zone 0 a alias))
+call_step w (Unmap a) = unless (unmap_refusal w.zone a) w (done w (unmapped w.zone 0 a))
+call_step w (Pin a) = unless (pin_refusal w.zone a) w (done w (pinned w.zone 0 a))
+call_step w (Unpin a) = unless (unpin_refusal w.zone a) w (done w (unpinned w.zone 0 a))
+call_step w Huge = unless (take_order_refusal w.zone 9) w (handed_out w (lowest_run w.zone 9))
+call_step w (Give block) = unless (give_order_refusal w.zone (512 * block) 9) w (done w (block_given w.zone (512 * block) 9))
 
 -- a zone with so many pageblocks and places in its journal is opened, where none is yet
 abbrev pub open_step : ℕ → ℕ → ℕ → Option WorldState → Step

@@ -18,9 +18,9 @@ pub record IsMarked (bytes lines : List ℕ) : Type 0 where
   pub counted : newlines bytes ≡ length lines
   pub within : (n : ℕ) → n < length bytes → newlines (take n bytes) < length lines
 
--- there is room for one more reply
-abbrev pub HasRoom : Outbox → List ℕ → Type 0
-HasRoom box text = (length box.bytes + length text ≤ 4096) × (length box.lines < 512)
+-- there is room for one more reply, of at most 160 bytes
+abbrev pub HasRoom : Outbox → Type 0
+HasRoom box = length box.bytes + 160 ≤ 4096
 
 -- these answers wait
 pub record Holds (box : Outbox) (answers : List Answer) : Type 0 where

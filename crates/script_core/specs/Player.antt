@@ -1,11 +1,11 @@
 -- What contracts see of a script that is being read.
-use Rattle.std.specs.Prelude.{◌≡◌, ℕ, ◌+◌, ◌≤◌, List, [], ◌++◌, length, Option, Some, None}
+use Rattle.std.specs.Prelude.{◌≡◌, ◌≢◌, ℕ, ◌+◌, ◌≤◌, List, [], ◌++◌, length, Option, Some, None}
 use Rattle.std.specs.Io.KnownBytes.{Consumes}
 use Rattle.zone_core.specs.World.{WorldState}
 use Rattle.script_core.specs.declared.error.Fault.{Fault}
 use Rattle.script_core.specs.declared.error.Fault.TheVariants.{Syntax, LongLine, Read, Write, Memory}
 use Rattle.script_core.specs.declared.error.RunError.{RunError}
-use Rattle.script_core.specs.Ends.{IsOpening, StopsIn}
+use Rattle.script_core.specs.Ends.{EndsIn, IsOpening, StopsIn}
 use Rattle.script_core.specs.Outbox.{Outbox, Owes, empty}
 use Rattle.text_core.specs.Reply.{newlines}
 use Rattle.script_core.specs.Script.{Numbered, answers_from, answers_of, commands_from, commands_of, fault_from, fault_of, parts_of, world_behind}
@@ -89,6 +89,7 @@ StopsBy Read places s input e left left_new first now = BreaksOff places s left 
 StopsBy Write places s input e left left_new first now = StopsIn (answers_of places input) first now e.line
 StopsBy Memory places s input e left left_new first now = FindsNoMemory places s input e.line first now
 
--- the reading of this input ended in this error
-abbrev pub HasStopped : ℕ → Player → List ℕ → RunError → (left left_new first now : Option (List ℕ)) → Type 0
-HasStopped places s input e left left_new first now = StopsBy e.fault places s input e left left_new first now
+-- whatever follows these bytes, the run ended in this error, which is none of a read, and the replies were written
+pub record HasClosed (places : ℕ) (past : List ℕ) (e : RunError) (first now : Option (List ℕ)) : Type 0 where
+  pub heard : e.fault ≢ Read
+  pub ends : (rest : List ℕ) (left left_new : Option (List ℕ)) → EndsIn e.fault places (past ++ rest) e left left_new first now

@@ -5,15 +5,25 @@
 #![tactic(auto)]
 
 mod error;
+mod input;
 mod machine;
 mod options;
 mod outbox;
+mod output;
 mod player;
 mod script;
+mod sink;
+mod source;
 #[cfg(test)]
 mod tests;
+mod text;
 
 pub use error::{Fault, RunError};
+pub use input::Input;
 pub use options::Options;
-pub use script::{Totals, run};
+pub use output::{Output, write_out};
+pub use script::{Totals, run, run_text};
+pub use sink::Sink;
+pub use source::Source;
+pub use text::Text;
 pub use text_core::{BlockCount, Call, Command, Reply, ScriptError, read_line, reply_text};

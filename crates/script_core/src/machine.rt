@@ -144,6 +144,22 @@ fn answer<I: Ledger, N: Ledger, M: Ledger, B: Ledger>(
             .zone()
             .look(address)
             .map_or_else(by_zone, Reply::Looked),
+        Call::Share { address, alias } => world
+            .share(client, address, alias)
+            .map_or_else(by_zone, |()| Reply::Done),
+        Call::Unmap(address) => world
+            .unmap(client, address)
+            .map_or_else(by_zone, |()| Reply::Done),
+        Call::Pin(address) => world
+            .pin(client, address)
+            .map_or_else(by_zone, |()| Reply::Done),
+        Call::Unpin(address) => world
+            .unpin(client, address)
+            .map_or_else(by_zone, |()| Reply::Done),
+        Call::Huge => world.take_huge().map_or_else(by_zone, Reply::Block),
+        Call::Give(block) => world
+            .give_huge(block)
+            .map_or_else(by_zone, |()| Reply::Done),
     }
 }
 

@@ -1,20 +1,20 @@
-ghost use Rattle.std.specs.Prelude.{◌≡◌, ℕ, ◌<◌, ◌++◌, [], ◌∷◌, List, Option, length, take, IfErr, IsTrue, OnOk, ◌↔◌};
+ghost use Rattle.std.specs.Prelude.{◌≡◌, ℕ, ◌++◌, [], ◌∷◌, List, Option, IfErr, IsTrue, OnErr, OnOk, ◌↔◌};
 ghost use Rattle.std.specs.Io.KnownBytes.{Appends};
 ghost use Rattle.script_core.specs.Ends.{StopsIn};
 ghost use Rattle.script_core.specs.Outbox.{HasRoom, Owes, empty};
 ghost use Rattle.script_core.specs.Script.{Answer, texts};
-ghost use Rattle.text_core.specs.Reply.{IsOneLine, newlines};
+ghost use Rattle.text_core.specs.Reply.{IsOneLine, newlines, text_of};
 
+use crate::output::{Output, write_out};
 use arrayvec::ArrayVec;
-use std::io::Write;
 use std::marker::Model;
-use text_core::{Reply, reply_text};
+use text_core::{Reply, push_reply};
 
 /// Replies that wait to be written together, with the line that each of them answers.
 #[derive(Drop)]
 pub(crate) struct Outbox {
     bytes: ArrayVec<u8, 4096>,
-    lines: ArrayVec<u64, 512>,
+    lines: ArrayVec<u64, 4096>,
 }
 
 impl Model for Outbox {
@@ -38,7 +38,7 @@ impl Outbox {
     }
 
     /// Puts the reply to a line behind the others, which are written where there is no room.
-    pub(crate) fn post<W: Write>(
+    pub(crate) fn post<W: Output>(
         &mut self,
         writer: &mut W,
         line: u64,
@@ -50,38 +50,40 @@ impl Outbox {
         // The line whose reply wasn't taken whole.
         ensures err { IfErr result (λ at. (answers : List Answer) (first : Option (List ℕ)) →
             Owes self.old answers first (W.contents writer.old) → StopsIn answers first (W.contents writer.new) at) }
+        ensures stuck { OnErr result (IsTrue (W.stuck writer.new)) }
     {
-        let text = reply_text(&reply);
-        if !self.has_room(&text) {
+        if !self.has_room() {
             self.flush(writer)?;
         }
-        self.push(line, &text);
+        self.push(line, &reply);
         Ok(())
     }
 
-    fn has_room(&self, text: &[u8]) -> bool
-        ensures { IsTrue result ↔ HasRoom self.now text.now }
+    /// Whether the longest reply fits.
+    fn has_room(&self) -> bool
+        ensures { IsTrue result ↔ HasRoom self.now }
     {
-        text.len() <= self.bytes.remaining_capacity() && !self.lines.is_full()
+        160 <= self.bytes.remaining_capacity()
     }
 
-    fn push(&mut self, line: u64, text: &[u8])
-        requires one_line { IsOneLine text.now }
-        requires room { HasRoom self.old text.now }
-        ensures { self.new ≡ record { bytes = self.old.bytes ++ text.now; lines = self.old.lines ++ line ∷ [] } }
+    fn push(&mut self, line: u64, reply: &Reply)
+        requires { HasRoom self.old }
+        ensures waits { self.new ≡ record { bytes = self.old.bytes ++ text_of reply.now; lines = self.old.lines ++ line ∷ [] } }
+        ensures line { IsOneLine (text_of reply.now) }
     {
-        let _ = self.bytes.try_extend_from_slice(text);
+        push_reply(&mut self.bytes, reply);
         self.lines.push(line);
     }
 
     /// Writes all that waits.
-    pub(crate) fn flush<W: Write>(&mut self, writer: &mut W) -> Result<(), u64>
+    pub(crate) fn flush<W: Output>(&mut self, writer: &mut W) -> Result<(), u64>
         ensures empty { OnOk result (self.new ≡ empty) }
         ensures ok { OnOk result ((answers : List Answer) (first : Option (List ℕ)) →
             Owes self.old answers first (W.contents writer.old) → Appends first (W.contents writer.new) (texts answers)) }
         // The line whose reply wasn't taken whole.
         ensures err { IfErr result (λ at. (answers : List Answer) (first : Option (List ℕ)) →
             Owes self.old answers first (W.contents writer.old) → StopsIn answers first (W.contents writer.new) at) }
+        ensures stuck { OnErr result (IsTrue (W.stuck writer.new)) }
     {
         if let Err(taken) = write_out(writer, &self.bytes) {
             let whole = newlines_in(&self.bytes[..taken]);
@@ -91,22 +93,6 @@ impl Outbox {
         self.lines.clear();
         Ok(())
     }
-}
-
-/// Writes bytes. Where the writer fails or takes none, the error is how many it took.
-fn write_out<W: Write>(writer: &mut W, bytes: &[u8]) -> Result<(), usize>
-    ensures ok { OnOk result (Appends (W.contents writer.old) (W.contents writer.new) bytes.now) }
-    ensures less { IfErr result (λ taken. taken < length bytes.now) }
-    ensures err { IfErr result (λ taken. Appends (W.contents writer.old) (W.contents writer.new) (take taken bytes.now)) }
-{
-    let mut taken = 0;
-    while taken < bytes.len() {
-        match writer.write(&bytes[taken..]) {
-            Ok(0) | Err(_) => return Err(taken),
-            Ok(count) => taken += count,
-        }
-    }
-    Ok(())
 }
 
 fn newlines_in(bytes: &[u8]) -> usize

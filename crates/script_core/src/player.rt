@@ -1,20 +1,22 @@
-ghost use Rattle.std.specs.Prelude.{◌≡◌, ℕ, ◌+◌, ◌^◌, ◌<◌, ◌≤◌, [], ◌∷◌, ◌++◌, List, Option, length, position, nat_eq, Some, None, Ok, IfNone, IfSome, IfErr, IfOk, OnOk};
+ghost use Rattle.std.specs.Prelude.{◌≡◌, ℕ, ◌+◌, ◌^◌, ◌<◌, ◌≤◌, [], ◌∷◌, ◌++◌, List, Option, length, position, nat_eq, false, Some, None, Ok, IfNone, IfSome, IfErr, IfOk, IsTrue, OnErr, OnOk};
 ghost use Rattle.zone_core.specs.Books.{AreFor};
 ghost use Rattle.text_core.specs.Line.{line_of};
 ghost use Rattle.text_core.specs.Reply.{newlines};
 ghost use Rattle.std.specs.Io.KnownBytes.{Appends};
 ghost use Rattle.script_core.specs.Ends.{EndsIn, StopsIn};
-ghost use Rattle.script_core.specs.Outbox.{Owes};
+ghost use Rattle.script_core.specs.Outbox.{Owes, empty};
 ghost use Rattle.script_core.specs.Script.{Answer, fault_of, output_of, texts, totals_of};
-ghost use Rattle.script_core.specs.Player.{Finishes, HasEnded, HasRead, HasStopped, begun};
+ghost use Rattle.script_core.specs.Player.{Finishes, HasClosed, HasEnded, HasRead, begun};
+ghost use Rattle.script_core.specs.Streams.{CannotReadOn};
 
 use crate::error::{Fault, RunError};
+use crate::input::Input;
 use crate::machine::Machine;
 use crate::outbox::Outbox;
+use crate::output::Output;
 use crate::script::Totals;
 use arrayvec::ArrayVec;
 use std::alloc::Global;
-use std::io::{Read, Write};
 use std::marker::Model;
 use std::mem;
 use std::sync::ledger::Ledger;
@@ -67,7 +69,7 @@ impl<I: Ledger, N: Ledger, M: Ledger, B: Ledger> Player<I, N, M, B> {
     }
 
     /// Answers a whole line.
-    fn take_line<W: Write>(&mut self, writer: &mut W, text: &[u8]) -> Result<(), RunError>
+    fn take_line<W: Output>(&mut self, writer: &mut W, text: &[u8]) -> Result<(), RunError>
         requires begins { self.old.held ≡ [] }
         requires room { self.old.line + 1 < 2 ^ 64 }
         ensures ok { OnOk result ((places : ℕ) (past : List ℕ) (first : Option (List ℕ))
@@ -76,6 +78,7 @@ impl<I: Ledger, N: Ledger, M: Ledger, B: Ledger> Player<I, N, M, B> {
         ensures err { IfErr result (λ error. (places : ℕ) (past : List ℕ) (first : Option (List ℕ))
             → newlines text.now ≡ 0 → HasRead places self.old past first (W.contents writer.old)
             → HasEnded places self.new (past ++ (text.now ++ 10 ∷ [])) error first (W.contents writer.new)) }
+        ensures stuck { IfErr result (λ error. error.fault ≡ Fault.Write → IsTrue (W.stuck writer.new)) }
         ensures line { OnOk result (self.new.line ≡ self.old.line + 1) }
         ensures held { OnOk result (self.new.held ≡ []) }
     {
@@ -94,7 +97,7 @@ impl<I: Ledger, N: Ledger, M: Ledger, B: Ledger> Player<I, N, M, B> {
     }
 
     /// Answers the command of a whole line.
-    fn answer<W: Write>(&mut self, writer: &mut W, command: Command) -> Result<(), RunError>
+    fn answer<W: Output>(&mut self, writer: &mut W, command: Command) -> Result<(), RunError>
         requires begins { self.old.held ≡ [] }
         requires room { self.old.line + 1 < 2 ^ 64 }
         ensures ok { OnOk result ((places : ℕ) (text past : List ℕ) (first : Option (List ℕ))
@@ -103,6 +106,7 @@ impl<I: Ledger, N: Ledger, M: Ledger, B: Ledger> Player<I, N, M, B> {
         ensures err { IfErr result (λ error. (places : ℕ) (text past : List ℕ) (first : Option (List ℕ))
             → line_of text ≡ Ok (Some command) → newlines text ≡ 0 → HasRead places self.old past first (W.contents writer.old)
             → HasEnded places self.new (past ++ (text ++ 10 ∷ [])) error first (W.contents writer.new)) }
+        ensures stuck { IfErr result (λ error. error.fault ≡ Fault.Write → IsTrue (W.stuck writer.new)) }
         ensures line { OnOk result (self.new.line ≡ self.old.line + 1) }
         ensures held { OnOk result (self.new.held ≡ []) }
     {
@@ -125,7 +129,7 @@ impl<I: Ledger, N: Ledger, M: Ledger, B: Ledger> Player<I, N, M, B> {
     }
 
     /// Takes the end of a line.
-    fn end_line<W: Write>(&mut self, writer: &mut W, text: &[u8]) -> Result<(), RunError>
+    fn end_line<W: Output>(&mut self, writer: &mut W, text: &[u8]) -> Result<(), RunError>
         requires unbroken { newlines text.now ≡ 0 }
         requires room { self.old.line + 1 < 2 ^ 64 }
         ensures ok { OnOk result ((places : ℕ) (past : List ℕ) (first : Option (List ℕ))
@@ -134,6 +138,7 @@ impl<I: Ledger, N: Ledger, M: Ledger, B: Ledger> Player<I, N, M, B> {
         ensures err { IfErr result (λ error. (places : ℕ) (past : List ℕ) (first : Option (List ℕ))
             → HasRead places self.old past first (W.contents writer.old)
             → HasEnded places self.new (past ++ (text.now ++ 10 ∷ [])) error first (W.contents writer.new)) }
+        ensures stuck { IfErr result (λ error. error.fault ≡ Fault.Write → IsTrue (W.stuck writer.new)) }
         ensures line { OnOk result (self.new.line ≡ self.old.line + 1) }
     {
         if self.held.is_empty() {
@@ -157,6 +162,7 @@ impl<I: Ledger, N: Ledger, M: Ledger, B: Ledger> Player<I, N, M, B> {
             → HasRead places self.old past first now → HasRead places self.new (past ++ text.now) first now) }
         ensures err { IfErr result (λ error. (places : ℕ) (past : List ℕ) (first now : Option (List ℕ))
             → HasRead places self.old past first now → HasEnded places self.new (past ++ text.now) error first now) }
+        ensures fault { IfErr result (λ error. error.fault ≡ Fault.LongLine) }
         ensures line { self.new.line ≡ self.old.line }
     {
         if self.held.remaining_capacity() < text.len() {
@@ -170,7 +176,7 @@ impl<I: Ledger, N: Ledger, M: Ledger, B: Ledger> Player<I, N, M, B> {
     }
 
     /// Takes bytes of a script.
-    fn take_piece<W: Write>(&mut self, writer: &mut W, piece: &[u8]) -> Result<(), RunError>
+    fn take_piece<W: Output>(&mut self, writer: &mut W, piece: &[u8]) -> Result<(), RunError>
         requires { self.old.line + length piece.now < 2 ^ 64 }
         ensures ok { OnOk result ((places : ℕ) (past : List ℕ) (first : Option (List ℕ))
             → HasRead places self.old past first (W.contents writer.old)
@@ -178,6 +184,7 @@ impl<I: Ledger, N: Ledger, M: Ledger, B: Ledger> Player<I, N, M, B> {
         ensures err { IfErr result (λ error. (places : ℕ) (past : List ℕ) (first : Option (List ℕ))
             → HasRead places self.old past first (W.contents writer.old)
             → HasEnded places self.new (past ++ piece.now) error first (W.contents writer.new)) }
+        ensures stuck { IfErr result (λ error. error.fault ≡ Fault.Write → IsTrue (W.stuck writer.new)) }
         ensures line { OnOk result (self.new.line ≤ self.old.line + length piece.now) }
     {
         let mut rest = piece;
@@ -188,8 +195,31 @@ impl<I: Ledger, N: Ledger, M: Ledger, B: Ledger> Player<I, N, M, B> {
         self.hold(rest)
     }
 
-    /// Takes a whole input, and writes the replies.
-    pub(crate) fn run<R: Read, W: Write>(
+    /// Takes bytes of a script, and writes the replies.
+    fn play<W: Output>(&mut self, writer: &mut W, piece: &[u8]) -> Result<(), RunError>
+        requires { self.old.line + length piece.now < 2 ^ 64 }
+        ensures ok { OnOk result ((places : ℕ) (past : List ℕ) (first : Option (List ℕ))
+            → HasRead places self.old past first (W.contents writer.old)
+            → HasRead places self.new (past ++ piece.now) first (W.contents writer.new)) }
+        ensures err { IfErr result (λ error. (places : ℕ) (past : List ℕ) (first : Option (List ℕ))
+            → HasRead places self.old past first (W.contents writer.old)
+            → HasClosed places (past ++ piece.now) error first (W.contents writer.new)) }
+        ensures stuck { IfErr result (λ error. error.fault ≡ Fault.Write → IsTrue (W.stuck writer.new)) }
+        ensures line { OnOk result (self.new.line ≤ self.old.line + length piece.now) }
+        ensures empty { OnOk result (self.new.box ≡ empty) }
+    {
+        match self.take_piece(writer, piece) {
+            Ok(()) => self.flush(writer),
+            Err(error) if error.is_of_writer() => Err(error),
+            Err(error) => {
+                self.flush(writer)?;
+                Err(error)
+            }
+        }
+    }
+
+    /// Takes a whole input. Before it reads on, the replies to what was read are written.
+    pub(crate) fn run<R: Input, W: Output>(
         &mut self,
         reader: &mut R,
         writer: &mut W,
@@ -203,40 +233,16 @@ impl<I: Ledger, N: Ledger, M: Ledger, B: Ledger> Player<I, N, M, B> {
         ensures err { IfErr result (λ error. IfSome (R.remaining reader.old) (λ input.
             EndsIn error.fault self.old.places input error (R.remaining reader.old) (R.remaining reader.new)
             (W.contents writer.old) (W.contents writer.new))) }
-    {
-        match self.read_all(reader, writer) {
-            Ok(totals) => {
-                self.flush(writer)?;
-                Ok(totals)
-            }
-            Err(error) if error.is_of_writer() => Err(error),
-            Err(error) => {
-                self.flush(writer)?;
-                Err(error)
-            }
-        }
-    }
-
-    /// Takes a whole input.
-    fn read_all<R: Read, W: Write>(
-        &mut self,
-        reader: &mut R,
-        writer: &mut W,
-    ) -> Result<Totals, RunError>
-        requires { self.old.line ≡ 1 }
-        ensures ok { IfOk result (λ totals. (places : ℕ) (first : Option (List ℕ))
-            → HasRead places self.old [] first (W.contents writer.old) → IfSome (R.remaining reader.old) (λ input.
-            Finishes places self.new input None first (W.contents writer.new) × (totals ≡ totals_of places input))) }
-        ensures err { IfErr result (λ error. (places : ℕ) (first : Option (List ℕ))
-            → HasRead places self.old [] first (W.contents writer.old) → IfSome (R.remaining reader.old) (λ input.
-            HasStopped places self.new input error (R.remaining reader.old) (R.remaining reader.new)
-            first (W.contents writer.new))) }
+        ensures heard { OnOk result (R.failed reader.new ≡ false) }
+        ensures unread { IfErr result (λ error. error.fault ≡ Fault.Read → CannotReadOn (R.failed reader.new)
+            (R.reads reader.old) (R.reads reader.new) (R.remaining reader.old)) }
+        ensures stuck { IfErr result (λ error. error.fault ≡ Fault.Write → IsTrue (W.stuck writer.new)) }
     {
         let mut buffer = [0; 4096];
         for _ in 0..10_000_000_u32 {
-            match reader.read(&mut buffer) {
+            match reader.read_noted(&mut buffer) {
                 Ok(0) => return self.end(),
-                Ok(count) => self.take_piece(writer, &buffer[..count])?,
+                Ok(count) => self.play(writer, &buffer[..count])?,
                 Err(_) => return Err(self.read_error()),
             }
         }
@@ -276,13 +282,15 @@ impl<I: Ledger, N: Ledger, M: Ledger, B: Ledger> Player<I, N, M, B> {
     }
 
     /// Writes the replies that wait.
-    fn flush<W: Write>(&mut self, writer: &mut W) -> Result<(), RunError>
+    fn flush<W: Output>(&mut self, writer: &mut W) -> Result<(), RunError>
+        ensures empty { OnOk result (self.new ≡ record self.old { box = empty }) }
         ensures ok { OnOk result ((answers : List Answer) (first : Option (List ℕ))
             → Owes self.old.box answers first (W.contents writer.old) → Appends first (W.contents writer.new) (texts answers)) }
         ensures err { IfErr result (λ error. (answers : List Answer) (first : Option (List ℕ))
             → Owes self.old.box answers first (W.contents writer.old)
             → StopsIn answers first (W.contents writer.new) error.line) }
         ensures write { IfErr result (λ error. error.fault ≡ Fault.Write) }
+        ensures stuck { OnErr result (IsTrue (W.stuck writer.new)) }
     {
         self.outbox.flush(writer).map_err(|line| RunError {
             fault: Fault::Write,

@@ -1,15 +1,18 @@
-ghost use Rattle.std.specs.Prelude.{◌≡◌, IfErr, IfOk, IfSome, IsTrue, OnOk, OnSome, None, Some};
+ghost use Rattle.std.specs.Prelude.{◌≡◌, ◌≢◌, ◌<◌, IfErr, IfOk, IfSome, IsTrue, OnOk, OnSome, None, Some, false, length};
 ghost use Rattle.std.specs.Io.KnownBytes.{Appends};
 ghost use Rattle.zone_core.specs.Books.{AreFor};
 ghost use Rattle.script_core.specs.declared.error.Fault.{Fault};
 ghost use Rattle.script_core.specs.Ends.{EndsIn, FailsBehind, LacksMemory, StopsIn, is_of_script, is_over};
+ghost use Rattle.script_core.specs.Streams.{CannotReadOn};
 ghost use Rattle.script_core.specs.Script.{answers_of, fault_of, output_of, totals_of};
 
 use crate::error::RunError;
+use crate::input::Input;
 use crate::options::Options;
+use crate::output::Output;
 use crate::player::Player;
+use crate::text::Text;
 use std::alloc::Global;
-use std::io::{Read, Write};
 use std::marker::Brand;
 use std::sync::ledger::Ledger;
 use zone_core::Blanks;
@@ -25,7 +28,7 @@ pub struct Totals {
 
 /// Runs a script: reads its lines, answers its commands and writes the replies, up to its end or to the first fault. The
 /// clauses speak of a reader and a writer that tell their bytes, in whatever pieces they give and take them.
-pub fn run<R: Read, W: Write>(
+pub fn run<R: Input, W: Output>(
     alloc: Global,
     reader: &mut R,
     writer: &mut W,
@@ -42,6 +45,12 @@ pub fn run<R: Read, W: Write>(
     ensures output { IsTrue (is_over result) → IfSome (R.remaining reader.old) (λ input.
         Appends (W.contents writer.old) (W.contents writer.new) (output_of options.journal input)) }
 
+    // A read failed, or ten million saw no end; a write failed, or took no byte.
+    ensures heard { OnOk result (R.failed reader.new ≡ false) }
+    ensures unread { IfErr result (λ error. error.fault ≡ Fault.Read → CannotReadOn (R.failed reader.new)
+        (R.reads reader.old) (R.reads reader.new) (R.remaining reader.old)) }
+    ensures stuck { IfErr result (λ error. error.fault ≡ Fault.Write → IsTrue (W.stuck writer.new)) }
+
     // Whatever else ends the run, the replies before it are written, but where it is that they can't be.
     ensures read { IfErr result (λ error. error.fault ≡ Fault.Read → OnSome (R.remaining reader.old)
         (FailsBehind options.journal (R.remaining reader.old) (R.remaining reader.new)
@@ -54,8 +63,31 @@ pub fn run<R: Read, W: Write>(
     run_with::<Brand, Brand, Brand, Brand, R, W>(alloc, reader, writer, options, Blanks::new())
 }
 
+/// Runs a script that lies in memory. No read of it fails.
+pub fn run_text<W: Output>(
+    alloc: Global,
+    script: &[u8],
+    writer: &mut W,
+    options: Options,
+) -> Result<Totals, RunError>
+    ensures ok { OnOk result (fault_of script.now ≡ None) }
+    ensures totals { IfOk result (λ totals. totals ≡ totals_of options.journal script.now) }
+    ensures fault { IfErr result (λ error. IsTrue (is_of_script error.fault) → fault_of script.now ≡ Some error) }
+    ensures output { IsTrue (is_over result) → Appends (W.contents writer.old) (W.contents writer.new)
+        (output_of options.journal script.now) }
+    // It is read in at most ten million pieces.
+    ensures read { length script.now < 10000000 → IfErr result (λ error. error.fault ≢ Fault.Read) }
+    ensures write { IfErr result (λ error. error.fault ≡ Fault.Write → StopsIn (answers_of options.journal script.now)
+        (W.contents writer.old) (W.contents writer.new) error.line) }
+    ensures stuck { IfErr result (λ error. error.fault ≡ Fault.Write → IsTrue (W.stuck writer.new)) }
+    ensures memory { IfErr result (λ error. error.fault ≡ Fault.Memory → LacksMemory options.journal script.now
+        (W.contents writer.old) (W.contents writer.new) error.line) }
+{
+    run(alloc, &mut Text::new(script), writer, options)
+}
+
 /// Runs a script. Its zone, if it opens one, is named by the ledgers.
-fn run_with<I: Ledger, N: Ledger, M: Ledger, B: Ledger, R: Read, W: Write>(
+fn run_with<I: Ledger, N: Ledger, M: Ledger, B: Ledger, R: Input, W: Output>(
     alloc: Global,
     reader: &mut R,
     writer: &mut W,
@@ -71,6 +103,10 @@ fn run_with<I: Ledger, N: Ledger, M: Ledger, B: Ledger, R: Read, W: Write>(
     ensures err { IfErr result (λ error. IfSome (R.remaining reader.old) (λ input.
         EndsIn error.fault options.journal input error (R.remaining reader.old) (R.remaining reader.new)
         (W.contents writer.old) (W.contents writer.new))) }
+    ensures heard { OnOk result (R.failed reader.new ≡ false) }
+    ensures unread { IfErr result (λ error. error.fault ≡ Fault.Read → CannotReadOn (R.failed reader.new)
+        (R.reads reader.old) (R.reads reader.new) (R.remaining reader.old)) }
+    ensures stuck { IfErr result (λ error. error.fault ≡ Fault.Write → IsTrue (W.stuck writer.new)) }
 {
     let mut player = Player::<I, N, M, B>::new(alloc, options.journal, blanks);
     player.run(reader, writer)

@@ -1,4 +1,4 @@
-use crate::{Fault, Options, RunError, Totals, run};
+use crate::{Fault, Options, RunError, Sink, Source, Totals, run, run_text};
 use std::io;
 use std::io::{ErrorKind, Read, Write};
 use std::test::Fail;
@@ -11,10 +11,9 @@ const OPTIONS: Options = Options {
 
 /// What a script writes, and how it ends.
 fn played(rt: &HostRuntime, script: &[u8]) -> Result<(Vec<u8>, Result<Totals, RunError>), Fail> {
-    let mut reader = script;
-    let mut written = Vec::new(rt.alloc());
-    let ended = run(rt.alloc(), &mut reader, &mut written, OPTIONS);
-    Ok((written, ended))
+    let mut sink = Sink::new(Vec::new(rt.alloc()));
+    let ended = run_text(rt.alloc(), script, &mut sink, OPTIONS);
+    Ok((sink.into_inner(), ended))
 }
 
 #[test]
@@ -124,13 +123,9 @@ impl Read for Broken<'_> {
 
 #[test]
 fn stops_where_a_read_fails(rt: HostRuntime) -> Result<(), Fail> {
-    let mut written = Vec::new(rt.alloc());
-    let ended = run(
-        rt.alloc(),
-        &mut Broken(b"zone 0 1\n#\ninfo"),
-        &mut written,
-        OPTIONS,
-    );
+    let mut source = Source::new(Broken(b"zone 0 1\n#\ninfo"));
+    let mut sink = Sink::new(Vec::new(rt.alloc()));
+    let ended = run(rt.alloc(), &mut source, &mut sink, OPTIONS);
     assert_eq!(rt;
         ended,
         Err(RunError {
@@ -138,7 +133,7 @@ fn stops_where_a_read_fails(rt: HostRuntime) -> Result<(), Fail> {
             line: 3
         })
     );
-    assert_eq!(rt; written.as_slice(), b"ok\n".as_slice());
+    assert_eq!(rt; sink.into_inner().as_slice(), b"ok\n".as_slice());
     Ok(())
 }
 
@@ -169,8 +164,9 @@ fn names_the_line_of_a_reply_that_is_not_taken(rt: HostRuntime) {
     let rows = [(0, 1), (2, 1), (3, 3), (5, 3), (6, 4)];
     for (room, line) in rows {
         for fails in [false, true] {
-            let mut script: &[u8] = b"zone 0 1\n#\nmap 0 0 0\nload 0 0 0 0\n";
-            let ended = run(rt.alloc(), &mut script, &mut Full { room, fails }, OPTIONS);
+            let script: &[u8] = b"zone 0 1\n#\nmap 0 0 0\nload 0 0 0 0\n";
+            let mut sink = Sink::new(Full { room, fails });
+            let ended = run_text(rt.alloc(), script, &mut sink, OPTIONS);
             assert_eq!(rt;
                 ended,
                 Err(RunError {

@@ -1,5 +1,5 @@
 -- A load and a store leave a zone sound.
-use Rattle.std.proofs.Common.{◌≡◌, ℕ, ◌<◌, length, refl, sym, subst, arith, Option, Some, IsSomeAnd}
+use Rattle.std.proofs.Common.{◌≡◌, ℕ, ◌<◌, length, refl, sym, subst, Option, Some, IsSomeAnd}
 use Rattle.std.specs.Prelude.{unwrap_or}
 use Rattle.frame_core.specs.declared.place.Address.{Address}
 use Rattle.journal_core.specs.declared.record.Record.TheVariants.{Load, Store}
@@ -9,8 +9,10 @@ use Rattle.state_core.specs.declared.placement.Placement.TheVariants.{At}
 use Rattle.state_core.specs.Lawful.{IsLawful}
 use Rattle.state_core.specs.Access.{value_at, loaded, stored}
 use Rattle.state_core.specs.ZoneState.{ZoneState, placement_at}
-use Rattle.state_core.proofs.Quiet.{begun_more}
+use Rattle.state_core.proofs.Quiet.{quiet_before}
 use Rattle.state_core.proofs.Facts.{page_named}
+use Rattle.state_core.proofs.Noted.{lawful_noted}
+use Rattle.state_core.proofs.Sweeping.{swept_loaded, swept_stored}
 
 -- a record of a load or a store leaves the state lawful
 module _ (v : ZoneState) (law : IsLawful v) (spare : length (out v.records) < v.room) (client : ℕ) (address : Address) where
@@ -18,51 +20,27 @@ module _ (v : ZoneState) (law : IsLawful v) (spare : length (out v.records) < v.
   lawful_loaded frame word at =
       let page = page_named v address (At frame) at in
       let T : Option ℕ → Type 0 = λ o. IsSomeAnd o (λ p. last v.records (unwrap_or o 0) word ≡ last v.records p word) in
-      record {
-        size = law.size;
-        places = (let before = law.places in omega arith);
+      lawful_noted v law (Load client address word (value_at v address word)) spare (record {
         truthful = (subst T (sym page.1) refl, law.truthful);
         well_ended = law.well_ended;
-        room_left = omega arith;
         named = law.named;
         in_use = law.in_use;
-        numbered = law.numbered;
-        under_way = law.under_way;
-        upward = law.upward;
-        apart = law.apart;
-        within = law.within;
-        clear = law.clear;
-        blocks = law.blocks;
-        disjoint = law.disjoint;
-        given = law.given;
-        marks = law.marks;
-        unmovable = law.unmovable;
-        fingers = law.fingers;
-        begun = λ start e. begun_more v.records (Load client address word (value_at v address word)) v.round law.begun start e;
-        sum = law.sum;
-      }
+        out = refl;
+        ways = λ p serial. (λ way. way, λ way. way);
+        given = λ first. refl;
+        marks = λ block. refl;
+        swept = λ quiet. swept_loaded v client address word (law.swept (quiet_before v (Load client address word (value_at v address word)) law refl quiet));
+      })
 
   pub lawful_stored : (word value : ℕ) → IsLawful (stored v client address word value)
-  lawful_stored word value = record {
-    size = law.size;
-    places = (let before = law.places in omega arith);
+  lawful_stored word value = lawful_noted v law (Store client address word value) spare (record {
     truthful = law.truthful;
     well_ended = law.well_ended;
-    room_left = omega arith;
     named = law.named;
     in_use = law.in_use;
-    numbered = law.numbered;
-    under_way = law.under_way;
-    upward = law.upward;
-    apart = law.apart;
-    within = law.within;
-    clear = law.clear;
-    blocks = law.blocks;
-    disjoint = law.disjoint;
-    given = law.given;
-    marks = law.marks;
-    unmovable = law.unmovable;
-    fingers = law.fingers;
-    begun = λ start e. begun_more v.records (Store client address word value) v.round law.begun start e;
-    sum = law.sum;
-  }
+    out = refl;
+    ways = λ p serial. (λ way. way, λ way. way);
+    given = λ first. refl;
+    marks = λ block. refl;
+    swept = λ quiet. swept_stored v client address word value (law.swept (quiet_before v (Store client address word value) law refl quiet));
+  })

@@ -1,13 +1,14 @@
 -- What a call of the zone does not change of the pages on their way.
 use Rattle.std.proofs.Common.{◌≡◌, ◌≢◌, ℕ, Bool, true, false, [], ◌∷◌, refl, sym, ap, ◌∙◌, Option, Some, None, map as each, nat_eq, ◌&&◌, if◌then◌else◌}
+use Rattle.std.specs.Prelude.{unwrap_or}
 use Rattle.std.specs.FinMap as map
 use Rattle.std.proofs.lemmas.Bool.{and_parts, and_from, both_ways, eq-eqb, eqb-true, ne_eqb}
 use Rattle.frame_core.specs.declared.place.Address.{Address}
 use Rattle.journal_core.specs.declared.record.Cause.{Cause}
 use Rattle.journal_core.specs.declared.record.Cause.TheVariants.{Pinned}
 use Rattle.journal_core.specs.declared.record.Record.{Record}
-use Rattle.journal_core.specs.declared.record.Record.TheVariants.{Moved, Back}
-use Rattle.journal_core.specs.History.{is_page, names, last, pins}
+use Rattle.journal_core.specs.declared.record.Record.TheVariants.{Unmap, Moved, Back}
+use Rattle.journal_core.specs.History.{page_at, is_page, names, last, pins}
 use Rattle.journal_core.specs.Moves.{isolated, page_of}
 use Rattle.word_core.specs.Page.{OnItsWay}
 use Rattle.state_core.specs.declared.round.Pair.{Pair}
@@ -19,10 +20,15 @@ use Rattle.state_core.specs.Carrying.{page_now, settled}
 use Rattle.state_core.specs.Rounds.{round_begun}
 use Rattle.state_core.specs.Isolating.{isolated_next}
 use Rattle.state_core.specs.Mapping.{placed}
+use Rattle.state_core.specs.HandingOut.{block_taken, block_given}
+use Rattle.state_core.specs.Marking.{block_marked, block_unmarked}
 use Rattle.state_core.specs.Access.{loaded, stored}
-use Rattle.state_core.specs.ZoneState.{ZoneState, placement_at}
+use Rattle.state_core.specs.Sharing.{shared}
+use Rattle.state_core.specs.Unmapping.{is_last, without_page, unmapped}
+use Rattle.state_core.specs.Pinning.{pinned, unpinned}
+use Rattle.state_core.specs.ZoneState.{ZoneState, placement_at, noted}
 use Rattle.state_core.proofs.Facts.{skipped, page_named}
-use Rattle.state_core.proofs.Entries.{get_insert_same, get_insert_other}
+use Rattle.state_core.proofs.Entries.{get_insert_same, get_insert_other, get_remove_other}
 
 -- a page is on its way under one serial
 one_serial : (o : Option Placement) (s t : ℕ) → is_under o s ≡ true → is_under o t ≡ true → s ≡ t
@@ -51,6 +57,19 @@ own_begun z p own = record { own = own.own; same = own.same }
 pub own_loaded : (z : ZoneState) (client : ℕ) (address : Address) (word : ℕ) (p : OnItsWay) → IsOwnCopy z p → IsOwnCopy (loaded z client address word) p
 own_loaded z client address word p own = record { own = own.own; same = own.same }
 
+-- a block that is handed out or taken back, and a mark, leave each page where it is
+pub own_block_taken : (z : ZoneState) (first order : ℕ) (p : OnItsWay) → IsOwnCopy z p → IsOwnCopy (block_taken z first order) p
+own_block_taken z first order p own = record { own = own.own; same = own.same }
+
+pub own_block_given : (z : ZoneState) (first order : ℕ) (p : OnItsWay) → IsOwnCopy z p → IsOwnCopy (block_given z first order) p
+own_block_given z first order p own = record { own = own.own; same = own.same }
+
+pub own_marked : (z : ZoneState) (block : ℕ) (p : OnItsWay) → IsOwnCopy z p → IsOwnCopy (block_marked z block) p
+own_marked z block p own = record { own = own.own; same = own.same }
+
+pub own_unmarked : (z : ZoneState) (block : ℕ) (p : OnItsWay) → IsOwnCopy z p → IsOwnCopy (block_unmarked z block) p
+own_unmarked z block p own = record { own = own.own; same = own.same }
+
 -- a page that is nowhere or stands in a frame is none that is on its way
 apart_from : (z : ZoneState) (page : ℕ) (o : Option Placement) (p : OnItsWay) → map.get z.placement page ≡ o → is_under o p.serial ≡ false → is_own z p ≡ true → p.page.number ≢ page
 apart_from z page o p at off own same = both_ways _ (ap (λ x. is_under x p.serial) (ap (map.get z.placement) same ∙ at) ∙ off) (own_under z p own)
@@ -58,6 +77,27 @@ apart_from z page o p at off own same = both_ways _ (ap (λ x. is_under x p.seri
 -- two serials are of two pages
 serials_apart : (z : ZoneState) (p q : OnItsWay) → is_own z p ≡ true → is_own z q ≡ true → q.serial ≢ p.serial → p.page.number ≢ q.page.number
 serials_apart z p q own_p own_q ne same = ne (one_serial _ q.serial p.serial (own_under z q own_q) (ap (λ n. is_under (map.get z.placement n) p.serial) (sym same) ∙ own_under z p own_p))
+
+pub own_shared : (z : ZoneState) (client : ℕ) (address alias : Address) (p : OnItsWay) → IsOwnCopy z p → IsOwnCopy (shared z client address alias) p
+own_shared z client address alias p own = record { own = own.own; same = own.same }
+
+pub own_pinned : (z : ZoneState) (client : ℕ) (address : Address) (p : OnItsWay) → IsOwnCopy z p → IsOwnCopy (pinned z client address) p
+own_pinned z client address p own = record { own = own.own; same = own.same }
+
+pub own_unpinned : (z : ZoneState) (client : ℕ) (address : Address) (p : OnItsWay) → IsOwnCopy z p → IsOwnCopy (unpinned z client address) p
+own_unpinned z client address p own = record { own = own.own; same = own.same }
+
+pub own_unmapped : (z : ZoneState) (client : ℕ) (address : Address) (frame : ℕ) → placement_at z address ≡ Some (At frame) → (p : OnItsWay) → IsOwnCopy z p → IsOwnCopy (unmapped z client address) p
+own_unmapped z client address frame at p own = by_last (is_last z address) where
+  page : (q : ℕ) × (page_at z.records address ≡ Some q) × (map.get z.placement q ≡ Some (At frame))
+  page = page_named z address (At frame) at
+
+  named : unwrap_or (page_at z.records address) 0 ≡ page.0
+  named = ap (λ (o : Option ℕ). unwrap_or o 0) page.1
+
+  by_last : (b : Bool) → IsOwnCopy (if b then without_page (noted z (Unmap client address)) (unwrap_or (page_at z.records address) 0) else noted z (Unmap client address)) p
+  by_last true = own_kept z _ p refl (get_remove_other z.placement _ p.page.number (λ same. apart_from z page.0 _ p page.2 refl own.own (same ∙ named))) (λ w. refl) own
+  by_last false = record { own = own.own; same = own.same }
 
 pub own_stored : (z : ZoneState) (client : ℕ) (address : Address) (word value frame : ℕ) → placement_at z address ≡ Some (At frame) → (p : OnItsWay) → IsOwnCopy z p → IsOwnCopy (stored z client address word value) p
 own_stored z client address word value frame at p own =

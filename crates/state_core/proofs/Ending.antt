@@ -18,10 +18,10 @@ use Rattle.state_core.specs.declared.placement.Placement.{Placement}
 use Rattle.state_core.specs.declared.placement.Placement.TheVariants.{At, Moving}
 use Rattle.state_core.specs.Lawful.{IsLawful, is_under}
 use Rattle.state_core.specs.Carrying.{settled}
-use Rattle.state_core.specs.Ending.{moved_to_target, put_back_to_source, source_of, target_of, HasCause}
+use Rattle.state_core.specs.Ending.{HasCause}
 use Rattle.state_core.specs.ZoneState.{ZoneState, frame_count, takes_up, is_free}
 use Rattle.state_core.proofs.Facts.{not_none}
-use Rattle.state_core.proofs.Moving.{CanSettle, IsRecorded, moved_still, back_still, lawful_settled}
+use Rattle.state_core.proofs.Moving.{CanSettle, IsRecorded, moved_still, back_still}
 use Rattle.state_core.proofs.Places.{IsOutWith, free_old, free_left, free_same, free_count, ways_of}
 
 module _ (v : ZoneState) (page serial source target : ℕ) (law : IsLawful v) (at : map.get v.placement page ≡ Some (Moving serial source target)) where
@@ -139,13 +139,3 @@ module _ (v : ZoneState) (page serial source target : ℕ) (law : IsLawful v) (a
         other_ways = other_ways;
         ways = omega (arith, out_fewer, ap ways_of at);
       }
-
-pub lawful_moved : (v : ZoneState) (serial page source target : ℕ) → IsLawful v → map.get v.placement page ≡ Some (Moving serial source target) → pins v.records page ≡ 0 → IsLawful (moved_to_target v serial page)
-lawful_moved v serial page source target law at none =
-    subst (λ (frame : ℕ). IsLawful (settled v (Moved serial) page (At frame))) (sym (ap target_of at))
-    (lawful_settled (can_move_on v page serial source target law at) (Moved serial) (moved_recorded v page serial source target law at none) v.migrate v.free law.fingers)
-
-pub lawful_put_back : (v : ZoneState) (serial page source target : ℕ) (cause : Cause) → IsLawful v → map.get v.placement page ≡ Some (Moving serial source target) → HasCause cause (pins v.records page) → IsLawful (put_back_to_source v serial page cause)
-lawful_put_back v serial page source target cause law at has =
-    subst (λ (frame : ℕ). IsLawful (settled v (Back serial cause) page (At frame))) (sym (ap source_of at))
-    (lawful_settled (can_go_back v page serial source target law at) (Back serial cause) (back_recorded v page serial source target law at cause has) v.migrate v.free law.fingers)

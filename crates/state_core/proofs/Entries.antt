@@ -1,5 +1,5 @@
--- One more entry in a map, one fewer, and one more number in a set.
-use Rattle.std.proofs.Common.{◌≡◌, ◌≢◌, ℕ, true, arith, Some, None}
+-- One more entry in a map, one fewer, and one more number in a set, one fewer.
+use Rattle.std.proofs.Common.{◌≡◌, ◌≢◌, ℕ, true, false, arith, Some, None}
 use Rattle.std.specs.Ordering.{nat_cmp}
 use Rattle.std.specs.Cmp.{nat_cmp_total, unsigned_tied}
 use Rattle.std.specs.FinMap.{FinMap, get, insert, remove, get-insert, get-remove}
@@ -24,3 +24,9 @@ contains_insert_same s k q e = grind (arith, nat_tests, unsigned_tied q k, set.c
 
 pub contains_insert_other : (s : set.FinSet nat_cmp) (k q : ℕ) → q ≢ k → set.contains (set.insert s k) q ≡ set.contains s q
 contains_insert_other s k q ne = grind (arith, nat_tests, unsigned_tied q k, set.contains-insert nat_cmp_total s k q)
+
+pub contains_remove_same : (s : set.FinSet nat_cmp) (k q : ℕ) → q ≡ k → set.contains (set.remove s k) q ≡ false
+contains_remove_same s k q e = grind (arith, nat_tests, unsigned_tied q k, set.contains-remove nat_cmp_total s k q)
+
+pub contains_remove_other : (s : set.FinSet nat_cmp) (k q : ℕ) → q ≢ k → set.contains (set.remove s k) q ≡ set.contains s q
+contains_remove_other s k q ne = grind (arith, nat_tests, unsigned_tied q k, set.contains-remove nat_cmp_total s k q)

@@ -1,7 +1,8 @@
 -- What is known of a lawful zone.
-use Rattle.std.proofs.Common.{◌≡◌, ◌≢◌, ℕ, ◌<◌, ◌≤◌, true, false, List, [], ◌∷◌, length, arith, refl, ap, ◌∙◌, Option, Some, None, IsSome, is_some, nat_eq, ◌||◌, if◌then◌else◌, eq-eqb, ltb-true}
+use Rattle.std.proofs.Common.{◌≡◌, ◌≢◌, ℕ, ◌<◌, ◌≤◌, true, false, List, [], ◌∷◌, length, arith, refl, sym, ap, ◌∙◌, Option, Some, None, IsSome, is_some, nat_eq, ◌||◌, if◌then◌else◌, eq-eqb, ltb-true}
 use Rattle.std.specs.FinMap as map
 pub use Rattle.std.proofs.lemmas.Bool.{cond-true as taken, cond-false as skipped}
+use Rattle.std.specs.Option.{option_and_then}
 use Rattle.std.proofs.lemmas.Option.{option_and_then_some}
 use Rattle.frame_core.specs.declared.place.Address.{Address}
 use Rattle.journal_core.specs.History.{page_at}
@@ -34,6 +35,10 @@ spare v room = ltb-true _ _ room
 -- an address that names a page in a frame
 pub page_named : (v : ZoneState) (address : Address) (placement : Placement) → placement_at v address ≡ Some placement → (page : ℕ) × (page_at v.records address ≡ Some page) × (map.get v.placement page ≡ Some placement)
 page_named v address placement e = option_and_then_some (map.get v.placement) (page_at v.records address) placement e (λ page is at. (page, is, at))
+
+-- the page of an address stands where the address leads
+pub page_stands : (v : ZoneState) (address : Address) (placement : Placement) (page : ℕ) → page_at v.records address ≡ Some page → placement_at v address ≡ Some placement → map.get v.placement page ≡ Some placement
+page_stands v address placement page named at = sym (ap (option_and_then (map.get v.placement)) named) ∙ at
 
 -- a page takes up the frame that has its words
 pub takes_own : (placement : Placement) → takes_up (Some placement) (words_frame placement) ≡ true

@@ -14,6 +14,10 @@ by_last : (n k : ℕ) (o : Option ℕ) (b : Bool) → (if b then Some n else o) 
 by_last n k o true e = inl (refl, same_Some n k e)
 by_last n k o false e = inr (refl, e)
 
+by_none : (n : ℕ) (o : Option ℕ) (b : Bool) → (if b then Some n else o) ≡ None → (b ≡ false) × (o ≡ None)
+by_none n o true e = cc
+by_none n o false e = (refl, e)
+
 module _ (p : ℕ → Bool) where
   pub highest_none : (n : ℕ) → ((k : ℕ) → k < n → p k ≡ false) → highest p n ≡ None
   highest_none zero fails = refl
@@ -28,6 +32,12 @@ module _ (p : ℕ → Bool) where
             ∙ highest_is n k under passes (λ j l m. fails j l (omega arith))
         | inr at ↦ taken (p n) (Some n) (highest p n) (ap p (sym at) ∙ passes) ∙ ap Some (sym at)
       ]
+
+  pub no_highest : (n k : ℕ) → highest p n ≡ None → k < n → p k ≡ false
+  no_highest zero k none h = absurd (omega arith)
+  no_highest (suc n) k none h =
+      let parts = by_none n (highest p n) (p n) none in
+      elim (below_suc k n h) [ inl under ↦ no_highest n k parts.1 under | inr at ↦ ap p at ∙ parts.0 ]
 
   pub highest_some : (n k : ℕ) → highest p n ≡ Some k → (k < n) × (p k ≡ true)
   highest_some zero k e = cc

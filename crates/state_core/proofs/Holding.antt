@@ -1,11 +1,14 @@
 -- What the tables of a sound zone say of its state.
-use Rattle.std.proofs.Common.{◌≡◌, ℕ, true, refl, sym, ap, ◌∙◌, arith, Option, Some, None, eq-eqb, eqb-true}
+use Rattle.std.proofs.Common.{◌≡◌, ℕ, true, length, refl, sym, ap, ◌∙◌, arith, Option, Some, None, eq-eqb, eqb-true}
 use Rattle.std.specs.FinMap as map
+use Rattle.std.proofs.lemmas.Bool.{both_ways}
 pub use Rattle.std.proofs.lemmas.Bool.{false_from_ne_true as when_not}
 use Rattle.frame_core.proofs.Searches.{lowest_is, lowest_none, lowest_some}
+use Rattle.journal_core.proofs.OnTheWay.{out_empty}
+use Rattle.journal_core.specs.Moves.{out}
 use Rattle.state_core.specs.declared.placement.Placement.{Placement}
 use Rattle.state_core.specs.declared.placement.Placement.TheVariants.{At, Moving}
-use Rattle.state_core.specs.Lawful.{IsLawful}
+use Rattle.state_core.specs.Lawful.{IsLawful, is_under}
 use Rattle.state_core.specs.Pairs.{stands_in, holder}
 use Rattle.state_core.specs.ZoneState.{ZoneState, frame_count, takes_up}
 use Rattle.state_core.proofs.Facts.{not_none}
@@ -36,3 +39,9 @@ pub holder_none : (v : ZoneState) (frame : ℕ) → ((page : ℕ) → map.get v.
     holder v frame ≡ None
 holder_none v frame none = lowest_none (λ q. stands_in (map.get v.placement q) frame) (frame_count v)
     (λ q h. when_not _ (λ stands. none q (stands_at _ frame stands)))
+
+-- where no page is out, none is on its way
+pub at_rest : (v : ZoneState) → IsLawful v → length (out v.records) ≡ 0 → (page serial source target : ℕ) → map.get v.placement page ≡ Some (Moving serial source target) → ⊥
+at_rest v law none page serial source target at =
+    let known = (law.under_way page serial).0 (ap (λ (o : Option Placement). is_under o serial) at ∙ eq-eqb serial serial refl) in
+    both_ways _ (out_empty v.records none serial) known.0

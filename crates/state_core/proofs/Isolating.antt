@@ -14,11 +14,10 @@ use Rattle.state_core.specs.declared.placement.Placement.{Placement}
 use Rattle.state_core.specs.declared.placement.Placement.TheVariants.{At, Moving}
 use Rattle.state_core.specs.Lawful.{IsLawful, is_under}
 use Rattle.state_core.specs.Carrying.{settled}
-use Rattle.state_core.specs.Isolating.{isolated_next}
 use Rattle.state_core.specs.Pairs.{IsPair}
 use Rattle.state_core.specs.ZoneState.{ZoneState, frame_count, is_free}
 use Rattle.state_core.proofs.Facts.{not_none}
-use Rattle.state_core.proofs.Moving.{CanSettle, IsRecorded, isolate_still, lawful_settled}
+use Rattle.state_core.proofs.Moving.{CanSettle, IsRecorded, isolate_still}
 use Rattle.state_core.proofs.Places.{IsOutWith, free_new, free_same, free_count, ways_of}
 
 module _ (v : ZoneState) (pair : Pair) (law : IsLawful v) (is : IsPair v pair.page pair.source pair.target) where
@@ -93,8 +92,3 @@ module _ (v : ZoneState) (pair : Pair) (law : IsLawful v) (is : IsPair v pair.pa
     );
     ways = omega (arith, ap ways_of is.from.here);
   }
-
-pub lawful_isolated : (v : ZoneState) (pair : Pair) → IsLawful v → IsPair v pair.page pair.source pair.target → length (out v.records) + 1 < v.room → IsLawful (isolated_next v pair)
-lawful_isolated v pair law is room =
-    lawful_settled (can_isolate v pair law is) (Isolate (isolated v.records) pair.page) (isolate_recorded v pair law is room) (pair.source + 1) pair.target
-    (let low = is.to.low in let high = is.to.high in let fingers = law.fingers.1 in (omega arith, omega arith))

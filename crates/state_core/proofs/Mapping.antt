@@ -1,13 +1,13 @@
 -- A fresh page gets its first place: a free frame.
-use Rattle.std.proofs.Common.{◌≡◌, ◌≢◌, ℕ, ◌+◌, ◌<◌, Bool, true, false, length, inl, inr, refl, sym, ap, ◌∙◌, arith, if◌then◌else◌, Option, Some, None, IsSome, is_some, nat_eq}
+use Rattle.std.proofs.Common.{◌≡◌, ◌≢◌, ℕ, ◌+◌, ◌<◌, Bool, true, false, length, inl, inr, refl, sym, ap, subst, ◌∙◌, arith, if◌then◌else◌, Option, Some, None, IsSome, is_some, nat_eq}
 use Rattle.std.specs.FinMap as map
 use Rattle.std.specs.FinSet as set
-use Rattle.std.proofs.lemmas.Bool.{and_from, and_parts, both_ways, cases_Bool, cond-true, cond-false, eq-eqb, eqb-true, ne_eqb}
+use Rattle.std.proofs.lemmas.Bool.{and_from, both_ways, cases_Bool, cond-true, cond-false, eq-eqb, eqb-true, ne_eqb}
 use Rattle.std.proofs.lemmas.Option.{same_Some}
 use Rattle.frame_core.specs.Address.{InRange}
-use Rattle.frame_core.specs.Below.{count_below}
+use Rattle.frame_core.specs.Below.{one_if, count_below}
 use Rattle.frame_core.specs.declared.place.Address.{Address}
-use Rattle.journal_core.proofs.Maps.{maps_same, maps_more, maps_none}
+use Rattle.journal_core.proofs.Maps.{one_address, maps_changed, maps_none}
 use Rattle.journal_core.specs.declared.record.Record.TheVariants.{Map}
 use Rattle.journal_core.specs.History.{same_address, page_at, is_page, names, maps, pins}
 use Rattle.journal_core.specs.Moves.{out}
@@ -16,6 +16,7 @@ use Rattle.state_core.specs.Lawful.{IsLawful, is_under}
 use Rattle.state_core.specs.Mapping.{placed}
 use Rattle.state_core.specs.ZoneState.{ZoneState, frame_count, takes_up, is_held, is_free}
 use Rattle.state_core.proofs.Entries.{contains_insert_other}
+use Rattle.state_core.proofs.Quiet.{swept_ended}
 use Rattle.state_core.proofs.Places as places
 use Rattle.state_core.proofs.Places.{CanChangePlace, IsTold, put, page_count, lawful_told}
 
@@ -32,12 +33,6 @@ pub record CanPlace (v : ZoneState) (address : Address) (page frame : ℕ) : Typ
 
 pub clash : {A : Type 0} (o : Option A) → o ≡ None → IsSome o → ⊥
 clash o e used = both_ways _ (ap is_some e) used
-
--- addresses that are the same are one
-pub one_address : (a b : Address) → same_address a b ≡ true → a ≡ b
-one_address a b e =
-    let parts = and_parts (nat_eq a.space b.space) (nat_eq a.vpage b.vpage) e in
-    λ i. record { space = eqb-true a.space b.space parts.0 i; vpage = eqb-true a.vpage b.vpage parts.1 i }
 
 module _ (v : ZoneState) (client : ℕ) (address : Address) (unmovable : Bool) (page frame : ℕ) (can : CanPlace v address page frame) where
   abbrev next : ZoneState
@@ -94,22 +89,22 @@ module _ (v : ZoneState) (client : ℕ) (address : Address) (unmovable : Bool) (
   unnamed b = by_name (page_at v.records b) refl where
     by_name : (o : Option ℕ) → page_at v.records b ≡ o → is_page (page_at v.records b) page ≡ false
     by_name None e = ap (λ (p : Option ℕ). is_page p page) e
-    by_name (Some q) e = ap (λ (p : Option ℕ). is_page p page) e ∙ ne_eqb q page (used_apart q (can.lawful.named b q e))
+    by_name (Some q) e = ap (λ (p : Option ℕ). is_page p page) e ∙ ne_eqb q page (used_apart q (can.lawful.named b q e).1)
+
+  -- the address names the fresh page, and none before
+  maps_changed_by : (q : ℕ) → maps next.records q ≡ maps v.records q + one_if (nat_eq page q)
+  maps_changed_by q = omega (
+    arith,
+    maps_changed v.records next.records address can.range named_there q,
+    ap (λ (o : Option ℕ). one_if (is_page o q)) can.vacant,
+    ap (λ (o : Option ℕ). one_if (is_page o q)) (named_here address (and_from _ _ (eq-eqb address.space address.space refl) (eq-eqb address.vpage address.vpage refl))),
+  )
 
   pub maps_one : maps next.records page ≡ 1
-  maps_one =
-      let more = maps_more v.records next.records page address can.range.space can.range.vpage (unnamed address)
-      (ap (λ (o : Option ℕ). is_page o page) (named_here address (and_from _ _ (eq-eqb address.space address.space refl) (eq-eqb address.vpage address.vpage refl))) ∙ eq-eqb page page refl)
-      (λ b apart. ap (λ (o : Option ℕ). is_page o page) (named_there b apart)) in
-      omega (arith, more, maps_none v.records page unnamed)
+  maps_one = omega (arith, maps_changed_by page, maps_none v.records page unnamed, ap one_if (eq-eqb page page refl))
 
   pub maps_others : (q : ℕ) → q ≢ page → maps next.records q ≡ maps v.records q
-  maps_others q ne = maps_same v.records next.records q (λ b. elim (cases_Bool (same_address b address)) [
-    | inl here ↦
-        ap (λ (o : Option ℕ). is_page o q) (named_here b here) ∙ ne_eqb page q (λ e. ne (sym e))
-        ∙ sym (ap (λ (o : Option ℕ). is_page o q) (ap (page_at v.records) (one_address b address here) ∙ can.vacant))
-    | inr there ↦ ap (λ (o : Option ℕ). is_page o q) (named_there b there)
-  ])
+  maps_others q ne = omega (arith, maps_changed_by q, ap one_if (ne_eqb page q (λ e. ne (sym e))))
 
   pub pins_none : pins next.records page ≡ 0
   pins_none = cond-true (nat_eq page page) 0 (pins v.records page) (eq-eqb page page refl)
@@ -141,8 +136,8 @@ module _ (v : ZoneState) (client : ℕ) (address : Address) (unmovable : Bool) (
         spare = omega arith;
         room_left = omega arith;
         named = λ b q is. elim (cases_Bool (same_address b address)) [
-          | inl here ↦ page_used q (same_Some q page (sym is ∙ named_here b here))
-          | inr there ↦ still_used q (law.named b q (sym (named_there b there) ∙ is))
+          | inl here ↦ (subst InRange (sym (one_address b address here)) can.range, page_used q (same_Some q page (sym is ∙ named_here b here)))
+          | inr there ↦ (let before = law.named b q (sym (named_there b there) ∙ is) in (before.0, still_used q before.1))
         ];
         in_use = λ q used. elim (places.where_is can_map q) [
           | inl here ↦
@@ -164,4 +159,4 @@ module _ (v : ZoneState) (client : ℕ) (address : Address) (unmovable : Bool) (
       }
 
   pub placed_lawful : IsLawful next
-  placed_lawful = lawful_told can_map (Map client address page) _ map_told v.migrate v.free can.lawful.fingers
+  placed_lawful = lawful_told can_map (Map client address page) _ map_told v.migrate v.free can.lawful.fingers (swept_ended v next (Map client address page) can.lawful refl refl refl)

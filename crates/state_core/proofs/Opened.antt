@@ -68,5 +68,6 @@ module _ (number blocks places : ℕ) where
     unmovable = λ page e. absurd (both_ways _ (set.contains-empty nat_cmp page) e);
     fingers = (omega arith, omega arith);
     begun = λ start e. cc;
+    swept = λ quiet. cc;
     sum = omega (arith, free_count, page_count, held_count);
   }

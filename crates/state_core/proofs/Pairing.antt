@@ -6,7 +6,7 @@ use Rattle.std.proofs.lemmas.Option.{same_Some, none-some}
 use Rattle.frame_core.proofs.Searches.{lowest_is, lowest_some, lowest_before}
 use Rattle.state_core.specs.declared.round.Pair.{Pair}
 use Rattle.state_core.specs.Lawful.{IsLawful}
-use Rattle.state_core.specs.Pairs.{IsSource, IsTarget, IsPair, is_marked, can_move, can_move_if_some, holder, holds_movable, takes_movable, next_source, next_target, pair_from, pair_at, next_pair}
+use Rattle.state_core.specs.Pairs.{IsSource, IsTarget, IsPair, HaveMet, is_marked, can_move, can_move_if_some, holder, holds_movable, takes_movable, next_source, next_target, pair_from, pair_at, next_pair}
 use Rattle.state_core.specs.ZoneState.{ZoneState, frame_count, is_free}
 use Rattle.state_core.proofs.Highest.{highest_is, highest_some, highest_above}
 use Rattle.state_core.proofs.Holding.{holder_at, holder_found}
@@ -25,13 +25,13 @@ abbrev pub is_to : ZoneState → ℕ → ℕ → Bool
 is_to v source frame = nat_lt source frame && takes_movable v frame
 
 module _ (v : ZoneState) (law : IsLawful v) where
-  source_passes : (page frame : ℕ) → IsSource v page frame → is_from v frame ≡ true
+  pub source_passes : (page frame : ℕ) → IsSource v page frame → is_from v frame ≡ true
   source_passes page frame is =
       let holds = holder_at v law page frame is.here in
       let low = le-leb v.migrate frame is.low in
       (λ i. low i && (not (is.unmarked i) && can_move_if_some v (holds i))) ∙ is.movable
 
-  passes_source : (frame : ℕ) → frame < v.free → is_from v frame ≡ true →
+  pub passes_source : (frame : ℕ) → frame < v.free → is_from v frame ≡ true →
       (page : ℕ) × (holder v frame ≡ Some page) × IsSource v page frame
   passes_source frame high e =
       let parts = and_parts (nat_le v.migrate frame) (holds_movable v frame) e in
@@ -48,7 +48,7 @@ module _ (v : ZoneState) (law : IsLawful v) where
         },
       )
 
-  target_passes : (source frame : ℕ) → IsTarget v source frame → is_to v source frame ≡ true
+  pub target_passes : (source frame : ℕ) → IsTarget v source frame → is_to v source frame ≡ true
   target_passes source frame is =
       let low = lt-ltb source frame is.low in
       (λ i. low i && (not (is.unmarked i) && is_free v frame)) ∙ is.free
@@ -83,7 +83,7 @@ module _ (v : ZoneState) (law : IsLawful v) where
       ∙ ap (pair_from source (Some page)) to
 
   -- what is found is a pair
-  found_pair : (page source target : ℕ) → next_source v ≡ Some source → holder v source ≡ Some page →
+  pub found_pair : (page source target : ℕ) → next_source v ≡ Some source → holder v source ≡ Some page →
       next_target v source ≡ Some target → IsPair v page source target
   found_pair page source target from holds to =
       let low = lowest_some (is_from v) v.free source from in
@@ -117,12 +117,12 @@ pair_found v law pair e = by_source (next_source v) refl e where
   by_source (Some source) from e = by_parts source (holder v source) (next_target v source) from refl refl e
 
 -- where the search finds none there is none
-pub no_pair : (v : ZoneState) → IsLawful v → next_pair v ≡ None → (page source target : ℕ) → IsPair v page source target → ⊥
+pub no_pair : (v : ZoneState) → IsLawful v → next_pair v ≡ None → HaveMet v
 no_pair v law none page source target pair = none-some _ (sym none ∙ pair_is v law page source target pair)
 
 -- a search that finds none
 pub none_found : (v : ZoneState) → IsLawful v → (o : Option Pair) → o ≡ None → next_pair v ≡ None →
-    IfNone o ((page source target : ℕ) → IsPair v page source target → ⊥)
+    IfNone o (HaveMet v)
 none_found v law None e none = no_pair v law none
 none_found v law (Some pair) e none = cc
 

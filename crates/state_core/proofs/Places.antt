@@ -7,6 +7,7 @@ use Rattle.std.proofs.Math.Bool.{or-false}
 use Rattle.std.proofs.lemmas.Bool.{and_parts, both_ways, cases_Bool, eq-eqb, false_from_ne_true, ne_eqb, not-true, or_right}
 use Rattle.std.proofs.lemmas.Bool.Decides.{eqb_tells, leb_tells}
 use Rattle.frame_core.proofs.Searches.{some_at, some_none, none_some, count_more, count_none, count_same}
+use Rattle.frame_core.specs.Address.{InRange}
 use Rattle.frame_core.specs.Below.{one_if, some_below, count_below}
 use Rattle.frame_core.specs.declared.place.Address.{Address}
 use Rattle.journal_core.specs.declared.record.Record.{Record}
@@ -17,6 +18,7 @@ use Rattle.journal_core.specs.Truth.{IsTruthful}
 use Rattle.state_core.specs.declared.placement.Placement.{Placement}
 use Rattle.state_core.specs.declared.placement.Placement.TheVariants.{At, Moving}
 use Rattle.state_core.specs.Lawful.{IsLawful, is_under}
+use Rattle.state_core.specs.Swept.{SweptIfQuiet}
 use Rattle.state_core.specs.ZoneState.{ZoneState, frame_count, takes_up, is_used, is_held, is_free, noted}
 use Rattle.state_core.proofs.Entries.{get_insert_same, get_insert_other, get_remove_same, get_remove_other}
 use Rattle.state_core.proofs.Facts.{not_none}
@@ -80,7 +82,7 @@ untaken v law frame free page = by_use (map.get v.placement page) refl where
   by_use (Some place) e = some_none (λ p. takes_up (map.get v.placement p) frame) (frame_count v) (not-true _ (and_parts _ (not (is_held v frame)) free).0) page (law.numbered page (not_none _ place e))
 
 -- counts of tests that add up to the same at each number
-counts_add_up : (a b c d : ℕ → Bool) (n : ℕ) → ((k : ℕ) → k < n → one_if (a k) + one_if (b k) ≡ one_if (c k) + one_if (d k)) → count_below a n + count_below b n ≡ count_below c n + count_below d n
+pub counts_add_up : (a b c d : ℕ → Bool) (n : ℕ) → ((k : ℕ) → k < n → one_if (a k) + one_if (b k) ≡ one_if (c k) + one_if (d k)) → count_below a n + count_below b n ≡ count_below c n + count_below d n
 counts_add_up a b c d zero each = refl
 counts_add_up a b c d (suc n) each = omega (arith, each n (omega arith), counts_add_up a b c d n (λ k h. each k (omega arith)))
 
@@ -226,7 +228,7 @@ pub record IsTold (v : ZoneState) (page : ℕ) (new : Option Placement) (entry :
   pub well_ended : IsWellEnded (entry ∷ v.records)
   pub spare : 0 < v.room
   pub room_left : length (out (entry ∷ v.records)) ≤ v.room - 1
-  pub named : (address : Address) (q : ℕ) → page_at (entry ∷ v.records) address ≡ Some q → IsSome (map.get (put v.placement page new) q)
+  pub named : (address : Address) (q : ℕ) → page_at (entry ∷ v.records) address ≡ Some q → InRange address × IsSome (map.get (put v.placement page new) q)
   pub in_use : (q : ℕ) → IsSome (map.get (put v.placement page new) q) → (0 < maps (entry ∷ v.records) q) × (maps (entry ∷ v.records) q ≤ 4) × (pins (entry ∷ v.records) q ≤ 255)
   -- this page is on its way under just the serial that it is out with, and the others go on so
   pub own_way : (serial : ℕ) → IsTrue (is_under new serial) ↔ IsOutWith (entry ∷ v.records) page serial
@@ -252,8 +254,8 @@ module _ {v : ZoneState} {page : ℕ} {old new : Option Placement} (can : CanCha
     | inr there ↦ ap (λ o. is_under o serial) there.1 ∙ (can.lawful.under_way q serial).1 ((told.other_ways q serial there.0).1 way)
   ]
 
-  pub lawful_told : (migrate free : ℕ) → (migrate ≤ free) × (free ≤ frame_count v) → IsLawful (record (noted (with_place v page new) entry) { unmovable = unmovable; migrate = migrate; free = free })
-  lawful_told migrate free fingers =
+  pub lawful_told : (migrate free : ℕ) → (migrate ≤ free) × (free ≤ frame_count v) → SweptIfQuiet (record (noted (with_place v page new) entry) { unmovable = unmovable; migrate = migrate; free = free }) → IsLawful (record (noted (with_place v page new) entry) { unmovable = unmovable; migrate = migrate; free = free })
+  lawful_told migrate free fingers swept =
       let law = can.lawful in
       let geometry = lawful_places can in
       record {
@@ -277,5 +279,6 @@ module _ {v : ZoneState} {page : ℕ} {old new : Option Placement} (can : CanCha
         unmovable = told.stay;
         fingers = fingers;
         begun = λ start e. begun_more v.records entry v.round law.begun start e;
+        swept = swept;
         sum = omega (arith, law.sum, free_count can, page_count can, told.ways, ap ways_of can.at);
       }

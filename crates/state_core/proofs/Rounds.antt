@@ -1,17 +1,17 @@
 -- Whether a round begins calm, and what a zone is when it has begun.
-use Rattle.std.proofs.Common.{◌≡◌, ℕ, ◌-◌, ◌<◌, true, false, not, List, length, take, refl, sym, ap, ◌∙◌, arith, Some, nat_eq, ◌&&◌}
+use Rattle.std.proofs.Common.{◌≡◌, ℕ, ◌<◌, true, false, not, length, refl, sym, ap, ◌∙◌, arith, nat_eq, ◌&&◌}
 use Rattle.state_core.specs.Rounds.{round_begun}
-use Rattle.std.specs.List.{list_all}
-use Rattle.std.proofs.Math.Bool.{and-true}
 use Rattle.std.proofs.lemmas.Bool.{and_right, eq-eqb}
 use Rattle.std.proofs.lemmas.Option.{same_Some}
 use Rattle.frame_core.proofs.Searches.{some_at, none_some}
-use Rattle.journal_core.specs.declared.record.Record.{Record}
 use Rattle.journal_core.specs.Moves.{out}
 use Rattle.state_core.specs.declared.round.RoundStart.{RoundStart}
 use Rattle.state_core.specs.Lawful.{IsLawful}
 use Rattle.state_core.specs.Pairs.{is_stuck, is_calm}
-use Rattle.state_core.specs.ZoneState.{ZoneState, frame_count, keeps_quiet, is_quiet_since}
+use Rattle.state_core.specs.ZoneState.{ZoneState, frame_count}
+use Rattle.state_core.proofs.Quiet.{quiet_begun}
+pub use Rattle.state_core.proofs.Sweeping.{begun}
+use Rattle.state_core.proofs.Sweeping.{swept_begun}
 
 -- one stuck frame is enough
 pub not_calm : (v : ZoneState) (frame : ℕ) → frame < frame_count v → is_stuck v frame ≡ true → false ≡ is_calm v
@@ -21,12 +21,8 @@ pub calm : (v : ZoneState) → length (out v.records) ≡ 0 →
     ((frame : ℕ) → frame < frame_count v → is_stuck v frame ≡ false) → true ≡ is_calm v
 calm v none free = sym (λ i. eq-eqb (length (out v.records)) 0 none i && not (none_some (is_stuck v) (frame_count v) free i))
 
-abbrev pub begun : ZoneState → RoundStart → ZoneState
-begun v start = record v { migrate = 0; free = frame_count v; round = Some start }
-
-pub lawful_from : (v : ZoneState) → IsLawful v → (start : RoundStart) → start.records ≡ length v.records →
-    IsLawful (begun v start)
-lawful_from v law start here = record {
+pub lawful_from : (v : ZoneState) → IsLawful v → (start : RoundStart) → start.records ≡ length v.records → start.calm ≡ is_calm v → IsLawful (begun v start)
+lawful_from v law start here as_calm = record {
   size = law.size;
   places = law.places;
   truthful = law.truthful;
@@ -48,15 +44,9 @@ lawful_from v law start here = record {
   fingers = (omega arith, omega arith);
   begun = λ other e. (let same : start.records ≡ other.records =
       ap (λ (s : RoundStart). s.records) (same_Some start other e) in omega arith);
+  swept = λ quiet. swept_begun v law (sym as_calm ∙ quiet_begun v.records start here ∙ quiet) start;
   sum = law.sum;
 }
 
 pub lawful_begun : (v : ZoneState) → IsLawful v → IsLawful (round_begun v)
-lawful_begun v law = lawful_from v law (record { records = length v.records; calm = is_calm v }) refl
-
--- no call was made since
-pub quiet_begun : (records : List Record) (start : RoundStart) → start.records ≡ length records →
-    start.calm ≡ is_quiet_since records (Some start)
-quiet_begun records start here =
-    let none : length records - start.records ≡ 0 = omega arith in
-    sym (ap (λ (n : ℕ). start.calm && list_all keeps_quiet (take n records)) none ∙ and-true start.calm)
+lawful_begun v law = lawful_from v law (record { records = length v.records; calm = is_calm v }) refl refl

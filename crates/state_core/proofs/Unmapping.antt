@@ -1,19 +1,95 @@
--- A page that stands in a frame is nowhere: the frame is free again, and the page isn't in use.
-use Rattle.std.proofs.Common.{◌≡◌, ◌≢◌, ℕ, ◌+◌, true, refl, arith, Some, None, is_some, eq-eqb, ne_eqb}
+-- An address names no page any more. A page that loses its last one is nowhere: its frame is free again, and it isn't in use.
+use Rattle.std.proofs.Common.{◌≡◌, ◌≢◌, ℕ, ◌+◌, ◌<◌, true, false, length, inl, inr, refl, sym, ap, subst, ◌∙◌, arith, nat_eq, Option, Some, None, IsSome, is_some}
+use Rattle.std.specs.Prelude.{unwrap_or}
 use Rattle.std.specs.FinMap as map
-use Rattle.frame_core.specs.Below.{count_below}
+use Rattle.std.specs.FinSet as set
+use Rattle.std.proofs.lemmas.Bool.{and_from, both_ways, cases_Bool, cond-true, cond-false, eq-eqb, ne_eqb}
+use Rattle.std.proofs.lemmas.Bool.Decides.{eqb_tells}
+use Rattle.frame_core.specs.Below.{one_if, count_below}
+use Rattle.frame_core.specs.declared.place.Address.{Address}
+use Rattle.journal_core.proofs.Maps.{maps_changed, maps_some}
+use Rattle.journal_core.specs.declared.record.Record.TheVariants.{Unmap}
+use Rattle.journal_core.specs.History.{same_address, page_at, is_page, maps}
+use Rattle.journal_core.specs.Moves.{out}
 use Rattle.state_core.specs.declared.placement.Placement.TheVariants.{At}
-use Rattle.state_core.specs.Lawful.{IsLawful}
-use Rattle.state_core.specs.ZoneState.{ZoneState, frame_count, is_free}
+use Rattle.state_core.specs.Lawful.{IsLawful, is_under}
+use Rattle.state_core.specs.Unmapping.{is_last, without_page, unmapped}
+use Rattle.state_core.specs.ZoneState.{ZoneState, frame_count, is_free, noted}
+use Rattle.state_core.proofs.Entries.{contains_remove_same, contains_remove_other}
 use Rattle.state_core.proofs.Facts.{not_none}
-use Rattle.state_core.proofs.Places.{CanChangePlace, HasLawfulPlaces, with_place, lawful_places, free_left, free_kept, free_count, page_count}
+use Rattle.state_core.proofs.Noted.{lawful_noted}
+use Rattle.state_core.proofs.Quiet.{swept_ended}
+use Rattle.state_core.proofs.Places.{CanChangePlace, HasLawfulPlaces, IsTold, with_place, where_is, ways_of, lawful_places, free_left, free_kept, free_count, page_count, lawful_told}
 
-module _ (v : ZoneState) (page frame : ℕ) (law : IsLawful v) (at : map.get v.placement page ≡ Some (At frame)) where
+-- what it takes to unmap an address
+pub record CanUnmap (v : ZoneState) (address : Address) (page frame : ℕ) : Type 0 where
+  pub lawful : IsLawful v
+  pub spare : length (out v.records) < v.room
+  pub named : page_at v.records address ≡ Some page
+  pub at : map.get v.placement page ≡ Some (At frame)
+
+module _ (v : ZoneState) (client : ℕ) (address : Address) (page frame : ℕ) (can : CanUnmap v address page frame) where
+  -- the addresses afterwards
+  abbrev after : ZoneState
+  after = noted v (Unmap client address)
+
+  pub named_here : (a : Address) → same_address a address ≡ true → page_at after.records a ≡ None
+  named_here a e = cond-true (same_address a address) None (page_at v.records a) e
+
+  pub named_there : (a : Address) → same_address a address ≡ false → page_at after.records a ≡ page_at v.records a
+  named_there a e = cond-false (same_address a address) None (page_at v.records a) e
+
+  maps_then : (q : ℕ) → maps after.records q + one_if (nat_eq page q) ≡ maps v.records q
+  maps_then q = omega (
+    arith,
+    maps_changed v.records after.records address (can.lawful.named address page can.named).0 named_there q,
+    ap (λ (o : Option ℕ). one_if (is_page o q)) can.named,
+    ap (λ (o : Option ℕ). one_if (is_page o q)) (named_here address (and_from _ _ (eq-eqb address.space address.space refl) (eq-eqb address.vpage address.vpage refl))),
+  )
+
+  pub maps_one_less : maps after.records page + 1 ≡ maps v.records page
+  maps_one_less = omega (arith, maps_then page, ap one_if (eq-eqb page page refl))
+
+  pub maps_others : (q : ℕ) → q ≢ page → maps after.records q ≡ maps v.records q
+  maps_others q ne = omega (arith, maps_then q, ap one_if (ne_eqb page q (λ e. ne (sym e))))
+
+  -- who still names a page named it before
+  named_before : (a : Address) (q : ℕ) → page_at after.records a ≡ Some q → page_at v.records a ≡ Some q
+  named_before a q is = elim (cases_Bool (same_address a address)) [
+    | inl here ↦ (let gone : None ≡ Some q = sym (named_here a here) ∙ is in cc)
+    | inr there ↦ sym (named_there a there) ∙ is
+  ]
+
+  -- another address names the page
+  pub lawful_still : maps v.records page ≢ 1 → IsLawful after
+  lawful_still more =
+      let law = can.lawful in
+      lawful_noted v law (Unmap client address) can.spare (record {
+        truthful = law.truthful;
+        well_ended = law.well_ended;
+        named = λ a q is. law.named a q (named_before a q is);
+        in_use = λ q used.
+            let before = law.in_use q used in
+            elim (eqb_tells q page) [
+              | inl same ↦
+                  (let fewer : maps after.records q + 1 ≡ maps v.records q = ap (λ (p : ℕ). maps after.records p + 1) same.1 ∙ maps_one_less ∙ ap (maps v.records) (sym same.1) in
+                  let two : maps v.records q ≢ 1 = λ e. more (ap (maps v.records) (sym same.1) ∙ e) in
+                  (omega (arith, before.0), omega (arith, before.1), before.2))
+              | inr other ↦ (let same = maps_others q other.1 in (omega (arith, before.0), omega (arith, before.1), before.2))
+            ];
+        out = refl;
+        ways = λ p serial. (λ way. way, λ way. way);
+        given = λ first. refl;
+        marks = λ block. refl;
+        swept = swept_ended v after (Unmap client address) law refl refl refl;
+      })
+
+  -- where the pages are when this one is nowhere
   abbrev next : ZoneState
   next = with_place v page None
 
   pub can_unmap : CanChangePlace v page (Some (At frame)) None
-  can_unmap = record { lawful = law; at = at; numbered = law.numbered page (not_none _ (At frame) at); takes = λ g e. cc; upward = λ serial source target e. cc }
+  can_unmap = record { lawful = can.lawful; at = can.at; numbered = can.lawful.numbered page (not_none _ (At frame) can.at); takes = λ g e. cc; upward = λ serial source target e. cc }
 
   pub unmapped_places : HasLawfulPlaces next
   unmapped_places = lawful_places can_unmap
@@ -30,3 +106,64 @@ module _ (v : ZoneState) (page frame : ℕ) (law : IsLawful v) (at : map.get v.p
 
   pub fewer_pages : count_below (λ q. is_some (map.get v.placement q)) (frame_count v) ≡ count_below (λ q. is_some (map.get next.placement q)) (frame_count v) + 1
   fewer_pages = omega (arith, page_count can_unmap)
+
+  still_used : (q : ℕ) → q ≢ page → IsSome (map.get v.placement q) → IsSome (map.get next.placement q)
+  still_used q ne used = elim (where_is can_unmap q) [ inl here ↦ absurd (ne here.0) | inr there ↦ ap is_some there.1 ∙ used ]
+
+  was_used : (q : ℕ) → IsSome (map.get next.placement q) → (q ≢ page) × IsSome (map.get v.placement q)
+  was_used q used = elim (where_is can_unmap q) [
+    | inl here ↦ absurd (both_ways _ (ap is_some here.2) used)
+    | inr there ↦ (there.0, ap is_some (sym there.1) ∙ used)
+  ]
+
+  -- no other address names the page
+  pub none_left : maps v.records page ≡ 1 → (a : Address) (q : ℕ) → page_at after.records a ≡ Some q → q ≢ page
+  none_left one a q is same =
+      let range = (can.lawful.named a q (named_before a q is)).0 in
+      let some = maps_some after.records page a range (ap (λ (o : Option ℕ). is_page o page) is ∙ eq-eqb q page same) in
+      absurd (omega (arith, maps_one_less))
+
+  unmap_told : maps v.records page ≡ 1 → IsTold v page None (Unmap client address) (set.remove v.unmovable page)
+  unmap_told one =
+      let law = can.lawful in
+      let room = can.spare in
+      record {
+        truthful = law.truthful;
+        well_ended = law.well_ended;
+        spare = omega arith;
+        room_left = omega arith;
+        named = λ a q is. (let before = law.named a q (named_before a q is) in (before.0, still_used q (none_left one a q is) before.1));
+        in_use = λ q used.
+            let was = was_used q used in
+            let before = law.in_use q was.1 in
+            let same = maps_others q was.0 in
+            (omega (arith, before.0), omega (arith, before.1), before.2);
+        own_way = λ serial. (λ under. cc, λ way. absurd (both_ways _ (ap (λ o. is_under o serial) can.at) ((law.under_way page serial).1 way)));
+        other_ways = λ q serial ne. (λ way. way, λ way. way);
+        ways = ap (λ o. length (out v.records) + ways_of o) can.at;
+        given = λ first. refl;
+        marks = λ block. refl;
+        stay = λ q e. elim (eqb_tells q page) [
+          | inl same ↦ absurd (both_ways _ (contains_remove_same v.unmovable page q same.1) e)
+          | inr other ↦ still_used q other.1 (law.unmovable q (sym (contains_remove_other v.unmovable page q other.1) ∙ e))
+        ];
+      }
+
+  pub lawful_gone : maps v.records page ≡ 1 → IsLawful (without_page after page)
+  lawful_gone one = lawful_told can_unmap (Unmap client address) _ (unmap_told one) v.migrate v.free can.lawful.fingers (swept_ended v (without_page after page) (Unmap client address) can.lawful refl refl refl)
+
+  -- the page of the address is this one
+  pub is_last_by : is_last v address ≡ nat_eq (maps v.records page) 1
+  is_last_by = ap (λ (o : Option ℕ). nat_eq (maps v.records (unwrap_or o 0)) 1) can.named
+
+  pub unmapped_last : maps v.records page ≡ 1 → unmapped v client address ≡ without_page after page
+  unmapped_last one = cond-true (is_last v address) _ after (is_last_by ∙ eq-eqb (maps v.records page) 1 one) ∙ ap (λ (o : Option ℕ). without_page after (unwrap_or o 0)) can.named
+
+  pub unmapped_still : maps v.records page ≢ 1 → unmapped v client address ≡ after
+  unmapped_still more = cond-false (is_last v address) _ after (is_last_by ∙ ne_eqb (maps v.records page) 1 more)
+
+  pub lawful_unmapped : IsLawful (unmapped v client address)
+  lawful_unmapped = elim (eqb_tells (maps v.records page) 1) [
+    | inl last ↦ subst IsLawful (sym (unmapped_last last.1)) (lawful_gone last.1)
+    | inr more ↦ subst IsLawful (sym (unmapped_still more.1)) (lawful_still more.1)
+  ]

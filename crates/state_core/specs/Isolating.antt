@@ -11,7 +11,7 @@ use Rattle.state_core.specs.declared.moves.Next.{Next}
 use Rattle.state_core.specs.declared.moves.Next.TheVariants as next
 use Rattle.state_core.specs.declared.round.Pair.{Pair}
 use Rattle.state_core.specs.declared.placement.Placement.TheVariants.{Moving}
-use Rattle.state_core.specs.Pairs.{IsPair}
+use Rattle.state_core.specs.Pairs.{IsPair, HaveMet}
 use Rattle.state_core.specs.ZoneState.{ZoneState}
 use Rattle.state_core.specs.Carrying.{page_now, settled}
 
@@ -44,5 +44,5 @@ pub record IsIsolated (old new : ZoneState) (page serial : ℕ) : Type 0 where
 
 -- the answer in the words of pairs: the page of the pair is on its way now, or there is no pair
 abbrev pub Scans : ZoneState → ZoneState → Next → Type 0
-Scans old new next.Met = (page source target : ℕ) → IsPair old page source target → ⊥
+Scans old new next.Met = HaveMet old
 Scans old new (next.Page p) = IsIsolated old new p.page.number p.serial

@@ -3,6 +3,7 @@ use Rattle.std.specs.Prelude.{◌≡◌, ℕ, ◌+◌, ◌*◌, ◌^◌, ◌<◌
 use Rattle.std.specs.FinMap as map
 use Rattle.std.specs.FinSet as set
 use Rattle.frame_core.specs.Below.{count_below}
+use Rattle.frame_core.specs.Address.{InRange}
 use Rattle.frame_core.specs.declared.place.Address.{Address}
 use Rattle.journal_core.specs.Blocks.{given_out, is_marked_by}
 use Rattle.journal_core.specs.History.{page_at, maps, pins}
@@ -11,6 +12,7 @@ use Rattle.journal_core.specs.Truth.{IsTruthful}
 use Rattle.state_core.specs.declared.placement.Placement.{Placement}
 use Rattle.state_core.specs.declared.placement.Placement.TheVariants.{At, Moving}
 use Rattle.state_core.specs.declared.round.RoundStart.{RoundStart}
+use Rattle.state_core.specs.Swept.{SweptIfQuiet}
 use Rattle.state_core.specs.ZoneState.{ZoneState, frame_count, takes_up, covers, is_free, is_held}
 
 -- whether a page that is placed so is on its way under a serial
@@ -35,8 +37,8 @@ pub record IsLawful (z : ZoneState) : Type 0 where
   pub well_ended : IsWellEnded z.records
   -- the journal has a place to end each page that is out
   pub room_left : length (out z.records) ≤ z.room
-  -- an address names pages in use alone, and each of them has 1 to 4 addresses and at most 255 pins
-  pub named : (address : Address) (page : ℕ) → page_at z.records address ≡ Some page → IsSome (map.get z.placement page)
+  -- only an address that there is names a page, and only one in use; each of them has 1 to 4 addresses and at most 255 pins
+  pub named : (address : Address) (page : ℕ) → page_at z.records address ≡ Some page → InRange address × IsSome (map.get z.placement page)
   pub in_use : (page : ℕ) → IsSome (map.get z.placement page) → (0 < maps z.records page) × (maps z.records page ≤ 4) × (pins z.records page ≤ 255)
   pub numbered : (page : ℕ) → IsSome (map.get z.placement page) → page < frame_count z
   -- a page is on its way under just the serial that it is out with
@@ -57,5 +59,7 @@ pub record IsLawful (z : ZoneState) : Type 0 where
   -- the fingers stand in the zone, in order, and the latest round began with records that are still there
   pub fingers : (z.migrate ≤ z.free) × (z.free ≤ frame_count z)
   pub begun : (start : RoundStart) → z.round ≡ Some start → start.records ≤ length z.records
+  -- while the latest round is quiet, its scanners left nothing behind
+  pub swept : SweptIfQuiet z
   -- each frame is free, of a page, or of a block that is handed out; a page on its way has two
   pub sum : count_below (is_free z) (frame_count z) + count_below (λ page. is_some (map.get z.placement page)) (frame_count z) + length (out z.records) + count_below (is_held z) (frame_count z) ≡ frame_count z

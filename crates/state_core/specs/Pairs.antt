@@ -40,6 +40,10 @@ pub record IsPair (z : ZoneState) (page source target : ℕ) : Type 0 where
   pub to : IsTarget z source target
   pub highest : (frame : ℕ) → IsTarget z source frame → frame ≤ target
 
+-- the scanners met: no pair is left
+abbrev pub HaveMet : ZoneState → Type 0
+HaveMet z = (page source target : ℕ) → IsPair z page source target → ⊥
+
 -- whether a page that is placed so stands in a frame
 abbrev pub stands_in : Option Placement → ℕ → Bool
 stands_in None frame = false

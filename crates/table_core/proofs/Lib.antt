@@ -1,1 +1,6 @@
 mod Blank
+mod Counting
+pub mod Listing
+mod Passing
+pub mod Rising
+mod Walking

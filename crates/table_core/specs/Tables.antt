@@ -1,8 +1,14 @@
 -- What contracts see of a zone's tables: the list of their entries.
-use Rattle.std.specs.Prelude.{◌≡◌, ◌≢◌, ℕ, ◌+◌, ◌*◌, ◌<◌, List, slice_get, unwrap_or}
+use Rattle.std.specs.Prelude.{◌≡◌, ◌≢◌, ℕ, ◌+◌, ◌*◌, ◌<◌, Bool, false, List, nat_eq, slice_get, unwrap_or}
+use Rattle.frame_core.specs.Below.{count_pairs}
 use Rattle.frame_core.specs.declared.place.Address.{Address}
 use Rattle.table_core.specs.declared.entry.Entry.{Entry}
-use Rattle.table_core.specs.declared.entry.Entry.TheVariants.{Absent}
+use Rattle.table_core.specs.declared.entry.Entry.TheVariants.{Absent, Present, Migration}
+
+-- the entries of a zone of so many frames
+pub record Tables : Type 0 where
+  pub entries : List Entry
+  pub frames : ℕ
 
 -- the place of an address in the list: the spaces one after the other
 abbrev pub place_of : Address → ℕ
@@ -11,6 +17,16 @@ place_of address = 4096 * address.space + address.vpage
 -- what an address names
 abbrev pub entry_at : List Entry → Address → Entry
 entry_at entries address = unwrap_or (slice_get entries (place_of address)) Absent
+
+-- whether an address with this entry is listed under a frame: that of its page, or the one that its page left
+abbrev pub is_listed : Entry → ℕ → Bool
+is_listed Absent frame = false
+is_listed (Present f) frame = nat_eq f frame
+is_listed (Migration serial source) frame = nat_eq source frame
+
+-- how many addresses of 8 spaces with 4096 virtual pages each are
+abbrev pub count_listed : List Entry → ℕ → ℕ
+count_listed entries frame = count_pairs (λ space vpage. is_listed (entry_at entries (record { space = space; vpage = vpage })) frame) 8 4096
 
 -- no address names anything
 abbrev pub IsBlank : List Entry → Type 0

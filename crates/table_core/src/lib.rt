@@ -1,12 +1,14 @@
-//! What each address of a zone names: nothing, a frame, or a page that is on its way.
+//! What each address of a zone names: nothing, a frame, or a page that is on its way; and which addresses name a frame.
 //!
 //! Contracts see the tables as the list of their entries, and read it by `entry_at`.
 #![tactic(auto)]
 
 mod entry;
+mod names;
 mod tables;
 #[cfg(test)]
 mod tests;
+mod walks;
 
 pub use entry::Entry;
 pub use tables::Tables;

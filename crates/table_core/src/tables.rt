@@ -1,103 +1,174 @@
-ghost use Rattle.std.specs.Prelude.{◌≡◌, ◌≢◌, ℕ, ◌<◌, length, IfOk};
+ghost use Rattle.std.specs.Prelude.{◌≡◌, ◌≢◌, ◌↔◌, ℕ, ◌*◌, ◌<◌, ◌≤◌, true, false, length, IfOk, IsTrue};
 ghost use Rattle.frame_core.specs.Address.{InRange};
-ghost use Rattle.table_core.specs.Tables.{place_of, entry_at, IsBlank, ChangesOnly, Replaces};
+ghost use Rattle.frame_core.specs.declared.place.Address.{Address as Named};
+ghost use Rattle.table_core.specs.Names.{IsIn, IsRising, AreJust};
+ghost use Rattle.table_core.specs.Tables.{entry_at, is_listed, count_listed, IsBlank, ChangesOnly, Replaces};
 
 use crate::entry::Entry;
+use crate::names::{Names, index_of, none_named};
+use arrayvec::ArrayVec;
 use frame_core::{Address, FrameNo, Serial, filled};
 use std::alloc::{AllocError, Global};
 use std::marker::Model;
 
 /// 8 spaces with 4096 virtual pages each.
-const ENTRIES: usize = 32768;
+pub(crate) const ENTRIES: usize = 32768;
 
-/// The entry of each address of a zone.
+/// The entry of each address of a zone, and for each frame the addresses that are listed under it.
 #[derive(Drop)]
 pub struct Tables {
-    entries: Vec<Entry>,
+    pub(crate) entries: Vec<Entry>,
+    lists: Vec<Names>,
 }
 
 impl Model for Tables {
-    ghost use Rattle.std.specs.Prelude.{◌≡◌, List, length, vec_capacity};
-    ghost use Rattle.table_core.specs.declared.entry.Entry.{Entry as Named};
+    ghost use Rattle.std.specs.Prelude.{◌≡◌, length, vec_capacity};
+    ghost use Rattle.table_core.specs.Listed.{AreListed};
+    ghost use Rattle.table_core.specs.Tables.{Tables as Kept};
 
-    ghost Value = { List Named };
+    ghost Value = { Kept };
 
-    ghost view = { λ t. t.entries.items };
+    ghost view = { λ t. record { entries = t.entries.items; frames = length t.lists.items } };
 
-    ghost invariant = { λ t. (length t.entries.items ≡ 32768) × (vec_capacity t.entries ≡ 32768) };
+    ghost invariant = { λ t. AreListed t.entries.items t.lists.items
+        × (vec_capacity t.entries ≡ 32768)
+        × (vec_capacity t.lists ≡ length t.lists.items) };
 }
 
 impl Tables {
-    /// Tables in which each address is absent. No other call takes memory.
-    pub fn open(alloc: Global) -> Result<Tables, AllocError>
-        ensures { IfOk result (λ tables. IsBlank tables) }
+    /// Tables of so many pageblocks, in which each address is absent. No other call takes memory.
+    pub fn open(alloc: Global, blocks: u32) -> Result<Tables, AllocError>
+        requires { blocks ≤ 8 }
+        ensures blank { IfOk result (λ tables. IsBlank tables.entries) }
+        ensures frames { IfOk result (λ tables. tables.frames ≡ 512 * blocks) }
     {
         let entries = filled(alloc, Entry::Absent, ENTRIES)?;
-        Ok(Tables { entries })
+        let lists = none_named(alloc, 512 * blocks as usize)?;
+        Ok(Tables { entries, lists })
     }
 
     pub fn entry(&self, address: Address) -> Entry
-        ensures value { result ≡ entry_at self.now address }
+        ensures value { result ≡ entry_at self.now.entries address }
         ensures range { InRange address }
     {
-        let index = index_of(&address);
-        self.entries[index]
+        let place = index_of(&address);
+        self.entries[place]
+    }
+
+    /// Whether a further address may name a frame.
+    pub fn has_room(&self, frame: FrameNo) -> bool
+        requires { frame < self.now.frames }
+        ensures { IsTrue result ↔ (count_listed self.now.entries frame < 4) }
+    {
+        self.lists[frame.get() as usize].as_slice().len() < 4
     }
 
     /// Lets an absent address name the page in a frame.
     pub fn set(&mut self, address: Address, frame: FrameNo)
-        requires { entry_at self.old address ≡ Entry.Absent }
-        ensures set { ChangesOnly self.old self.new address (Entry.Present frame) }
+        requires absent { entry_at self.old.entries address ≡ Entry.Absent }
+        requires within { frame < self.old.frames }
+        requires room { count_listed self.old.entries frame < 4 }
+        ensures set { ChangesOnly self.old.entries self.new.entries address (Entry.Present frame) }
         ensures range { InRange address }
+        ensures frames { self.new.frames ≡ self.old.frames }
     {
         self.entries[index_of(&address)] = Entry::Present(frame);
+        self.lists[frame.get() as usize].insert(address);
     }
 
     /// Lets an address that names a frame name nothing.
     pub fn clear(&mut self, address: Address)
-        requires { (frame : ℕ) × (entry_at self.old address ≡ Entry.Present frame) }
-        ensures cleared { ChangesOnly self.old self.new address Entry.Absent }
+        requires { (frame : ℕ) × (entry_at self.old.entries address ≡ Entry.Present frame) }
+        ensures cleared { ChangesOnly self.old.entries self.new.entries address Entry.Absent }
         ensures range { InRange address }
+        ensures frames { self.new.frames ≡ self.old.frames }
     {
-        self.entries[index_of(&address)] = Entry::Absent;
+        let index = index_of(&address);
+        if let Entry::Present(frame) = self.entries[index] {
+            self.entries[index] = Entry::Absent;
+            self.lists[frame.get() as usize].remove(&address);
+        }
     }
 
     /// Sends the page in a frame on its way: each address that named the frame names the migration now.
     pub fn to_migration(&mut self, frame: FrameNo, serial: Serial)
-        ensures { Replaces self.old self.new (Entry.Present frame) (Entry.Migration serial) }
+        requires within { frame < self.old.frames }
+        requires fresh { (a : Named) (source : ℕ) → InRange a → entry_at self.old.entries a ≢ Entry.Migration serial source }
+        ensures replaced { Replaces self.old.entries self.new.entries (Entry.Present frame) (Entry.Migration serial frame) }
+        ensures frames { self.new.frames ≡ self.old.frames }
     {
         let present = Entry::Present(frame);
-        let migration = Entry::Migration(serial);
-        replace(&mut self.entries, &present, &migration);
+        let migration = Entry::Migration {
+            serial,
+            source: frame,
+        };
+        let names = self.lists[frame.get() as usize].as_slice();
+        replace(&mut self.entries, names, &present, &migration);
     }
 
     /// Ends a migration: each address that named it names the frame now.
-    pub fn to_present(&mut self, serial: Serial, frame: FrameNo)
-        ensures { Replaces self.old self.new (Entry.Migration serial) (Entry.Present frame) }
+    pub fn to_present(&mut self, serial: Serial, source: FrameNo, frame: FrameNo)
+        requires source_within { source < self.old.frames }
+        requires within { frame < self.old.frames }
+        requires left { (a : Named) → InRange a → is_listed (entry_at self.old.entries a) source ≡ true → entry_at self.old.entries a ≡ Entry.Migration serial source }
+        requires unnamed { frame ≢ source → (a : Named) → InRange a → is_listed (entry_at self.old.entries a) frame ≡ false }
+        ensures replaced { Replaces self.old.entries self.new.entries (Entry.Migration serial source) (Entry.Present frame) }
+        ensures frames { self.new.frames ≡ self.old.frames }
     {
-        let migration = Entry::Migration(serial);
+        let migration = Entry::Migration { serial, source };
         let present = Entry::Present(frame);
-        replace(&mut self.entries, &migration, &present);
+        let names = self.lists[source.get() as usize].as_slice();
+        replace(&mut self.entries, names, &migration, &present);
+        self.lists.swap(source.get() as usize, frame.get() as usize);
+    }
+
+    /// The addresses that name the page in a frame.
+    pub fn mappings(&self, frame: FrameNo) -> ArrayVec<Address, 4>
+        requires { frame < self.now.frames }
+        ensures { AreJust result.items (λ a. entry_at self.now.entries a ≡ Entry.Present frame) }
+    {
+        let names = self.lists[frame.get() as usize].as_slice();
+        those_with(&self.entries, names, &Entry::Present(frame))
+    }
+
+    /// The addresses that name a page on its way, by its serial and the frame that it left.
+    pub fn mappings_moving(&self, serial: Serial, source: FrameNo) -> ArrayVec<Address, 4>
+        requires { source < self.now.frames }
+        ensures { AreJust result.items (λ a. entry_at self.now.entries a ≡ Entry.Migration serial source) }
+    {
+        let names = self.lists[source.get() as usize].as_slice();
+        those_with(&self.entries, names, &Entry::Migration { serial, source })
     }
 }
 
-/// Puts an entry in the place of each one that is equal to another.
-fn replace(entries: &mut [Entry], from: &Entry, to: &Entry)
-    requires named { from.now ≢ Entry.Absent }
-    ensures replaces { Replaces entries.old entries.new from.now to.now }
-    ensures count { length entries.new ≡ length entries.old }
+/// Puts an entry in the place of another one, at each of some addresses that has it.
+fn replace(entries: &mut [Entry], names: &[Address], from: &Entry, to: &Entry)
+    requires { length entries.old ≡ 32768 }
+    ensures named { (a : Named) → IsIn names.now a → entry_at entries.old a ≡ from.now → entry_at entries.new a ≡ to.now }
+    ensures other { (a : Named) → entry_at entries.old a ≢ from.now → entry_at entries.new a ≡ entry_at entries.old a }
+    ensures count { length entries.new ≡ 32768 }
 {
-    for i in 0..entries.len() {
-        if entries[i] == *from {
-            entries[i] = *to;
+    for name in names {
+        let index = index_of(name);
+        if entries[index] == *from {
+            entries[index] = *to;
         }
     }
 }
 
-fn index_of(address: &Address) -> usize
-    ensures place { result ≡ place_of address.now }
-    ensures range { result < 32768 }
-    ensures in_range { InRange address.now }
+/// Those of four addresses at most that have this entry.
+fn those_with(entries: &[Entry], names: &[Address], entry: &Entry) -> ArrayVec<Address, 4>
+    requires count { length entries.now ≡ 32768 }
+    requires few { length names.now ≤ 4 }
+    requires rising { IsRising names.now }
+    ensures rising { IsRising result.items }
+    ensures each { (a : Named) → IsIn result.items a ↔ (IsIn names.now a × (entry_at entries.now a ≡ entry.now)) }
 {
-    4096 * address.space.get() as usize + address.vpage.get() as usize
+    let mut found = ArrayVec::new();
+    for name in names {
+        if entries[index_of(name)] == *entry {
+            found.push(*name);
+        }
+    }
+    found
 }

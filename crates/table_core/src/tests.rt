@@ -1,4 +1,4 @@
-ghost use Rattle.std.specs.Prelude.{◌≡◌};
+ghost use Rattle.std.specs.Prelude.{◌≡◌, ◌<◌};
 
 use crate::{Entry, Tables};
 use frame_core::{Address, FrameNo, SpaceNo, VPage};
@@ -6,52 +6,66 @@ use std::process::Abort;
 use std::test::Fail;
 
 #[test]
-fn keeps_each_address_apart(rt: HostRuntime) -> Result<(), Fail> {
-    let mut tables = Tables::open(rt.alloc())?;
+fn lists_the_names_of_a_frame_in_rising_order(rt: HostRuntime) -> Result<(), Fail> {
+    let mut tables = Tables::open(rt.alloc(), 2)?;
     let frame = FrameNo::new(9).expect(&rt, "a frame");
-    assert_eq!(rt; tables.entry(address(&rt, 7, 4095)), Entry::Absent);
-    tables.set(address(&rt, 7, 4095), frame);
+    let last = FrameNo::new(1023).expect(&rt, "a frame");
+    bind(&rt, &mut tables, address(&rt, 7, 4095), frame);
+    bind(&rt, &mut tables, address(&rt, 0, 4095), frame);
+    bind(&rt, &mut tables, address(&rt, 3, 5), last);
+    bind(&rt, &mut tables, address(&rt, 3, 6), frame);
+    bind(&rt, &mut tables, address(&rt, 3, 4), frame);
+    assert!(rt; !tables.has_room(frame));
     assert_eq!(rt; tables.entry(address(&rt, 7, 4095)), Entry::Present(frame));
     assert_eq!(rt; tables.entry(address(&rt, 7, 4094)), Entry::Absent);
-    assert_eq!(rt; tables.entry(address(&rt, 6, 4095)), Entry::Absent);
+    let names = [
+        address(&rt, 0, 4095),
+        address(&rt, 3, 4),
+        address(&rt, 3, 6),
+        address(&rt, 7, 4095),
+    ];
+    assert!(rt; &*tables.mappings(frame) == names.as_slice());
+    assert!(rt; &*tables.walk_mappings(frame) == names.as_slice());
+    assert!(rt; &*tables.mappings(last) == [address(&rt, 3, 5)].as_slice());
+    free(&rt, &mut tables, address(&rt, 3, 4));
+    let left = [
+        address(&rt, 0, 4095),
+        address(&rt, 3, 6),
+        address(&rt, 7, 4095),
+    ];
+    assert_eq!(rt; tables.entry(address(&rt, 3, 4)), Entry::Absent);
+    assert!(rt; &*tables.mappings(frame) == left.as_slice());
+    assert!(rt; &*tables.walk_mappings(frame) == left.as_slice());
     Ok(())
 }
 
-#[test]
-fn moves_each_name_of_a_page(rt: HostRuntime) -> Result<(), Fail> {
-    let mut tables = Tables::open(rt.alloc())?;
-    let from = FrameNo::new(9).expect(&rt, "a frame");
-    let other = FrameNo::new(10).expect(&rt, "a frame");
-    let to = FrameNo::new(700).expect(&rt, "a frame");
-    tables.set(address(&rt, 0, 0), from);
-    tables.set(address(&rt, 7, 4095), from);
-    tables.set(address(&rt, 3, 5), other);
-    tables.to_migration(from, 6);
-    assert_eq!(rt; tables.entry(address(&rt, 0, 0)), Entry::Migration(6));
-    assert_eq!(rt; tables.entry(address(&rt, 7, 4095)), Entry::Migration(6));
-    assert_eq!(rt; tables.entry(address(&rt, 3, 5)), Entry::Present(other));
-    tables.to_present(6, to);
-    assert_eq!(rt; tables.entry(address(&rt, 0, 0)), Entry::Present(to));
-    assert_eq!(rt; tables.entry(address(&rt, 7, 4095)), Entry::Present(to));
-    assert_eq!(rt; tables.entry(address(&rt, 3, 5)), Entry::Present(other));
-    assert_eq!(rt; tables.entry(address(&rt, 0, 1)), Entry::Absent);
-    Ok(())
-}
-
-#[test]
-fn clears_one_address(rt: HostRuntime) -> Result<(), Fail> {
-    let mut tables = Tables::open(rt.alloc())?;
-    let frame = FrameNo::new(9).expect(&rt, "a frame");
-    tables.set(address(&rt, 2, 8), frame);
-    tables.clear(address(&rt, 2, 8));
-    assert_eq!(rt; tables.entry(address(&rt, 2, 8)), Entry::Absent);
-    Ok(())
-}
-
-fn address<R: Abort>(rt: &R, space: u32, vpage: u32) -> Address
-    ensures space { result.space ≡ space }
-    ensures vpage { result.vpage ≡ vpage }
+/// Lets an address name a frame that has room for it.
+fn bind<R: Abort>(rt: &R, tables: &mut Tables, address: Address, frame: FrameNo)
+    requires { frame < tables.old.frames }
+    ensures { tables.new.frames ≡ tables.old.frames }
 {
+    let named = address;
+    if !tables.has_room(frame) {
+        panic!(rt; "a frame has four names");
+    }
+    let Entry::Absent = tables.entry(address) else {
+        panic!(rt; "an address names something");
+    };
+    tables.set(named, frame);
+}
+
+/// Lets an address that names a frame name nothing.
+fn free<R: Abort>(rt: &R, tables: &mut Tables, address: Address)
+    ensures { tables.new.frames ≡ tables.old.frames }
+{
+    let named = address;
+    let Entry::Present(_) = tables.entry(address) else {
+        panic!(rt; "an address names no frame");
+    };
+    tables.clear(named);
+}
+
+fn address<R: Abort>(rt: &R, space: u32, vpage: u32) -> Address {
     let space = SpaceNo::new(space).expect(rt, "a space");
     let vpage = VPage::new(vpage).expect(rt, "a virtual page");
     Address { space, vpage }

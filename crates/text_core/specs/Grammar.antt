@@ -2,7 +2,7 @@
 use Rattle.std.specs.Prelude.{ℕ, Bool, true, false, ◌&&◌, List, [], ◌∷◌, nat_lt, nat_le, Option, Some, None, option_map, if◌then◌else◌}
 use Rattle.frame_core.specs.declared.place.Address.{Address}
 use Rattle.text_core.specs.declared.token.Token.{Token}
-use Rattle.text_core.specs.declared.token.Token.TheVariants.{Number, Zone, Map, MapAt, Store, Load, Info, Unmovable, Scan, Take, Copy, Finish, Shut, Look}
+use Rattle.text_core.specs.declared.token.Token.TheVariants.{Number, Zone, Map, MapAt, Store, Load, Info, Unmovable, Scan, Take, Copy, Finish, Shut, Look, Share, Unmap, Pin, Unpin, Huge, Give}
 use Rattle.text_core.specs.declared.command.Call.{Call}
 use Rattle.text_core.specs.declared.command.Call.TheVariants as call
 use Rattle.text_core.specs.declared.command.Command.{Command}
@@ -32,6 +32,10 @@ word_of n = below 8 n
 abbrev pub blocks_of : ℕ → Option ℕ
 blocks_of n = up_to 8 n
 
+-- the number of a pageblock
+abbrev pub pageblock_of : ℕ → Option ℕ
+pageblock_of n = below 8 n
+
 -- the number of a hand
 abbrev pub hand_of : ℕ → Option ℕ
 hand_of n = up_to 4 n
@@ -59,6 +63,11 @@ store_call _ _ value = None
 abbrev pub load_call : Option Address → Option ℕ → Option Call
 load_call (Some a) (Some w) = Some (call.Load a w)
 load_call _ _ = None
+
+-- a share, if both addresses are there
+abbrev pub share_call : Option Address → Option Address → Option Call
+share_call (Some a) (Some alias) = Some (call.Share a alias)
+share_call _ _ = None
 
 -- the opening of a zone, or else an argument is out of its range
 abbrev pub opening : Option ℕ → Option ℕ → Command
@@ -88,6 +97,13 @@ row_of Copy z (Number k ∷ []) = Some (call_on z (option_map call.Copy (hand_of
 row_of Finish z (Number k ∷ []) = Some (call_on z (option_map call.Finish (hand_of k)))
 row_of Shut z [] = Some (call_on z (Some call.Shut))
 row_of Look z (Number s ∷ Number v ∷ []) = Some (call_on z (option_map call.Look (address_of s v)))
+row_of Share z (Number s ∷ Number v ∷ Number s2 ∷ Number v2 ∷ []) =
+    Some (call_on z (share_call (address_of s v) (address_of s2 v2)))
+row_of Unmap z (Number s ∷ Number v ∷ []) = Some (call_on z (option_map call.Unmap (address_of s v)))
+row_of Pin z (Number s ∷ Number v ∷ []) = Some (call_on z (option_map call.Pin (address_of s v)))
+row_of Unpin z (Number s ∷ Number v ∷ []) = Some (call_on z (option_map call.Unpin (address_of s v)))
+row_of Huge z [] = Some (call_on z (Some call.Huge))
+row_of Give z (Number b ∷ []) = Some (call_on z (option_map call.Give (pageblock_of b)))
 row_of _ z _ = None
 
 -- the command that tokens are, if they are one

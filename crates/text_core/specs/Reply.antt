@@ -48,6 +48,7 @@ text_of (reply.Moved n) = codes "moved serial=" ++ decimal n ++ codes "\n"
 text_of (reply.PutBack n) = codes "back serial=" ++ decimal n ++ codes " cause=1\n"
 text_of (reply.Shut n) = codes "back=" ++ decimal n ++ codes "\n"
 text_of (reply.Looked l) = look_text l ++ codes "\n"
+text_of (reply.Block b) = codes "block=" ++ decimal b ++ codes "\n"
 text_of (reply.Refused k) = codes "refused " ++ decimal k ++ codes "\n"
 
 -- one newline, and it stands at the end

@@ -4,7 +4,7 @@ use Rattle.std.specs.List.{slice_split}
 use Rattle.std.specs.Str.{all_ascii_digits}
 use Rattle.std.specs.Str.Parse.{digits_value}
 use Rattle.text_core.specs.declared.token.Token.{Token}
-use Rattle.text_core.specs.declared.token.Token.TheVariants.{Number, Zone, Map, MapAt, Store, Load, Info, Unmovable, Scan, Take, Copy, Finish, Shut, Look, Other}
+use Rattle.text_core.specs.declared.token.Token.TheVariants.{Number, Zone, Map, MapAt, Store, Load, Info, Unmovable, Scan, Take, Copy, Finish, Shut, Look, Share, Unmap, Pin, Unpin, Huge, Give, Other}
 
 -- a lexeme is what stands between spaces, and not empty
 abbrev pub lexemes : List ℕ → List (List ℕ)
@@ -19,14 +19,9 @@ is_number bytes =
 abbrev pub number_of : List ℕ → Option ℕ
 number_of bytes = if is_number bytes then Some (digits_value 10 bytes) else None
 
--- a number, or else nothing of the language
-abbrev pub number_or_other : Option ℕ → Token
-number_or_other None = Other
-number_or_other (Some n) = Number n
-
--- what a lexeme means
-abbrev pub token_of : List ℕ → Token
-token_of lexeme =
+-- a keyword, or else nothing of the language
+abbrev pub keyword_of : List ℕ → Token
+keyword_of lexeme =
     if bytes_eq lexeme (codes "zone") then Zone
     else if bytes_eq lexeme (codes "map") then Map
     else if bytes_eq lexeme (codes "mapat") then MapAt
@@ -40,4 +35,19 @@ token_of lexeme =
     else if bytes_eq lexeme (codes "finish") then Finish
     else if bytes_eq lexeme (codes "shut") then Shut
     else if bytes_eq lexeme (codes "look") then Look
-    else number_or_other (number_of lexeme)
+    else if bytes_eq lexeme (codes "share") then Share
+    else if bytes_eq lexeme (codes "unmap") then Unmap
+    else if bytes_eq lexeme (codes "pin") then Pin
+    else if bytes_eq lexeme (codes "unpin") then Unpin
+    else if bytes_eq lexeme (codes "huge") then Huge
+    else if bytes_eq lexeme (codes "give") then Give
+    else Other
+
+-- a number, or else a keyword or nothing of the language
+abbrev pub number_or_keyword : Option ℕ → List ℕ → Token
+number_or_keyword None lexeme = keyword_of lexeme
+number_or_keyword (Some n) lexeme = Number n
+
+-- what a lexeme means
+abbrev pub token_of : List ℕ → Token
+token_of lexeme = number_or_keyword (number_of lexeme) lexeme

@@ -1,5 +1,5 @@
 use crate::blocks::BlockCount;
-use frame_core::{Address, FrameNo, HandNo, WordNo, ZoneNo};
+use frame_core::{Address, BlockNo, FrameNo, HandNo, WordNo, ZoneNo};
 
 /// A command.
 #[derive(Clone, Copy, Debug, PartialEq, Eq)]
@@ -40,4 +40,13 @@ pub enum Call {
     Finish(HandNo),
     Shut,
     Look(Address),
+    Share {
+        address: Address,
+        alias: Address,
+    },
+    Unmap(Address),
+    Pin(Address),
+    Unpin(Address),
+    Huge,
+    Give(BlockNo),
 }

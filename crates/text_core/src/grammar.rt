@@ -1,12 +1,12 @@
 //! The rows of the language, as `specs/Grammar.antt` has them. That an argument is in its range is tested here, by its type.
 
 ghost use Rattle.std.specs.Prelude.{◌≡◌};
-ghost use Rattle.text_core.specs.Grammar.{address_of, blocks_of, command_of, frame_of, hand_of, load_call, map_at_call, map_call, call_on, opening, row_of, store_call, word_of, zone_of};
+ghost use Rattle.text_core.specs.Grammar.{address_of, blocks_of, command_of, frame_of, hand_of, load_call, map_at_call, map_call, call_on, opening, pageblock_of, row_of, share_call, store_call, word_of, zone_of};
 
 use crate::blocks::BlockCount;
 use crate::command::{Call, Command};
 use crate::token::Token;
-use frame_core::{Address, FrameNo, HandNo, SpaceNo, VPage, WordNo, ZoneNo};
+use frame_core::{Address, BlockNo, FrameNo, HandNo, SpaceNo, VPage, WordNo, ZoneNo};
 
 /// The command that these tokens are, if they are one.
 pub(crate) fn command(tokens: &[Token]) -> Option<Command>
@@ -27,8 +27,8 @@ fn row(keyword: Token, zone: Option<ZoneNo>, arguments: &[Token]) -> Option<Comm
     ensures { result ≡ row_of keyword zone arguments.now }
 {
     use Token::{
-        Copy, Finish, Info, Load, Look, Map, MapAt, Number, Scan, Shut, Store, Take, Unmovable,
-        Zone,
+        Copy, Finish, Give, Huge, Info, Load, Look, Map, MapAt, Number, Pin, Scan, Share, Shut,
+        Store, Take, Unmap, Unmovable, Unpin, Zone,
     };
     match (keyword, arguments) {
         (Zone, &[Number(b)]) => Some(open(zone, blocks(b))),
@@ -53,6 +53,14 @@ fn row(keyword: Token, zone: Option<ZoneNo>, arguments: &[Token]) -> Option<Comm
         (Finish, &[Number(k)]) => Some(on(zone, hand(k).map(Call::Finish))),
         (Shut, []) => Some(on(zone, Some(Call::Shut))),
         (Look, &[Number(s), Number(v)]) => Some(on(zone, address(s, v).map(Call::Look))),
+        (Share, &[Number(s), Number(v), Number(s2), Number(v2)]) => {
+            Some(on(zone, share(address(s, v), address(s2, v2))))
+        }
+        (Unmap, &[Number(s), Number(v)]) => Some(on(zone, address(s, v).map(Call::Unmap))),
+        (Pin, &[Number(s), Number(v)]) => Some(on(zone, address(s, v).map(Call::Pin))),
+        (Unpin, &[Number(s), Number(v)]) => Some(on(zone, address(s, v).map(Call::Unpin))),
+        (Huge, []) => Some(on(zone, Some(Call::Huge))),
+        (Give, &[Number(b)]) => Some(on(zone, pageblock(b).map(Call::Give))),
         _ => None,
     }
 }
@@ -115,6 +123,15 @@ fn load(address: Option<Address>, word: Option<WordNo>) -> Option<Call>
     })
 }
 
+fn share(address: Option<Address>, alias: Option<Address>) -> Option<Call>
+    ensures { result ≡ share_call address alias }
+{
+    Some(Call::Share {
+        address: address?,
+        alias: alias?,
+    })
+}
+
 fn zone(number: u64) -> Option<ZoneNo>
     ensures { result ≡ zone_of number }
 {
@@ -137,6 +154,12 @@ fn blocks(number: u64) -> Option<BlockCount>
     ensures { result ≡ blocks_of number }
 {
     BlockCount::new(u32::try_from(number).ok()?)
+}
+
+fn pageblock(number: u64) -> Option<BlockNo>
+    ensures { result ≡ pageblock_of number }
+{
+    BlockNo::new(u32::try_from(number).ok()?)
 }
 
 fn hand(number: u64) -> Option<HandNo>

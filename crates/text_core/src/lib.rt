@@ -18,4 +18,4 @@ pub use blocks::BlockCount;
 pub use command::{Call, Command};
 pub use error::ScriptError;
 pub use line::read_line;
-pub use reply::{Reply, reply_text};
+pub use reply::{Reply, push_reply, reply_text};

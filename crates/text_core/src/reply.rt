@@ -1,10 +1,10 @@
-ghost use Rattle.std.specs.Prelude.{◌≡◌, ◌+◌, ◌≤◌, [], ◌++◌, length, decimal};
+ghost use Rattle.std.specs.Prelude.{◌≡◌, ◌+◌, ◌≤◌, ◌++◌, length, decimal};
 ghost use Rattle.arrayvec.specs.ArrayVec.{array_vec_len};
 ghost use Rattle.text_core.specs.Reply.{IsOneLine, look_text, newlines, text_of, uses_text};
 
 use arrayvec::ArrayVec;
 use bitflags::Flags;
-use frame_core::{PageFlags, Serial};
+use frame_core::{BlockNo, PageFlags, Serial};
 use itoa::Buffer;
 use state_core::{Info, Look};
 
@@ -26,6 +26,8 @@ pub enum Reply {
     /// How many pages were put back since no hand copied them.
     Shut(u32),
     Looked(Look),
+    /// The pageblock that was handed out.
+    Block(BlockNo),
     /// The number of a refusal.
     Refused(u16),
 }
@@ -36,37 +38,47 @@ pub fn reply_text(reply: &Reply) -> ArrayVec<u8, 160>
     ensures line { IsOneLine result.items }
 {
     let mut text = ArrayVec::new();
-    match reply {
-        Reply::Done => push(&mut text, b"ok"),
-        Reply::Value(value) => push_field(&mut text, b"value=", *value),
-        Reply::Info(info) => {
-            push_field(&mut text, b"free=", u64::from(info.free));
-            push_field(&mut text, b" pages=", u64::from(info.pages));
-            push_field(&mut text, b" moving=", u64::from(info.moving));
-            push_field(&mut text, b" huge=", u64::from(info.huge));
-            push_field(&mut text, b" whole=", u64::from(info.whole));
-        }
-        Reply::Serial(serial) => push_field(&mut text, b"serial=", u64::from(*serial)),
-        Reply::Met => push(&mut text, b"met"),
-        Reply::Moved(serial) => push_field(&mut text, b"moved serial=", u64::from(*serial)),
-        Reply::PutBack(serial) => {
-            push_field(&mut text, b"back serial=", u64::from(*serial));
-            push(&mut text, b" cause=1");
-        }
-        Reply::Shut(count) => push_field(&mut text, b"back=", u64::from(*count)),
-        Reply::Looked(look) => push_look(&mut text, look),
-        Reply::Refused(number) => push_field(&mut text, b"refused ", u64::from(*number)),
-    }
-    push(&mut text, b"\n");
+    push_reply(&mut text, reply);
     text
 }
 
+/// Appends the line of a reply.
+pub fn push_reply<const N: usize>(text: &mut ArrayVec<u8, N>, reply: &Reply)
+    requires { array_vec_len text.old + 160 ≤ N }
+    ensures text { text.new.items ≡ text.old.items ++ text_of reply.now }
+    ensures line { IsOneLine (text_of reply.now) }
+{
+    match reply {
+        Reply::Done => push(text, b"ok"),
+        Reply::Value(value) => push_field(text, b"value=", *value),
+        Reply::Info(info) => {
+            push_field(text, b"free=", u64::from(info.free));
+            push_field(text, b" pages=", u64::from(info.pages));
+            push_field(text, b" moving=", u64::from(info.moving));
+            push_field(text, b" huge=", u64::from(info.huge));
+            push_field(text, b" whole=", u64::from(info.whole));
+        }
+        Reply::Serial(serial) => push_field(text, b"serial=", u64::from(*serial)),
+        Reply::Met => push(text, b"met"),
+        Reply::Moved(serial) => push_field(text, b"moved serial=", u64::from(*serial)),
+        Reply::PutBack(serial) => {
+            push_field(text, b"back serial=", u64::from(*serial));
+            push(text, b" cause=1");
+        }
+        Reply::Shut(count) => push_field(text, b"back=", u64::from(*count)),
+        Reply::Looked(look) => push_look(text, look),
+        Reply::Block(block) => push_field(text, b"block=", u64::from(block.get())),
+        Reply::Refused(number) => push_field(text, b"refused ", u64::from(*number)),
+    }
+    push(text, b"\n");
+}
+
 /// Appends what is known of a page.
-fn push_look(text: &mut ArrayVec<u8, 160>, look: &Look)
-    requires { text.old.items ≡ [] }
-    ensures text { text.new.items ≡ look_text look.now }
-    ensures lines { newlines text.new.items ≡ 0 }
-    ensures len { array_vec_len text.new ≤ 136 }
+fn push_look<const N: usize>(text: &mut ArrayVec<u8, N>, look: &Look)
+    requires { array_vec_len text.old + 136 ≤ N }
+    ensures text { text.new.items ≡ text.old.items ++ look_text look.now }
+    ensures lines { newlines text.new.items ≡ newlines text.old.items }
+    ensures len { array_vec_len text.new ≤ array_vec_len text.old + 136 }
 {
     match look {
         Look::At {
@@ -96,8 +108,8 @@ fn push_look(text: &mut ArrayVec<u8, 160>, look: &Look)
 }
 
 /// Appends how many pins a page has, and how many addresses name it.
-fn push_uses(text: &mut ArrayVec<u8, 160>, pins: u8, maps: u8)
-    requires { array_vec_len text.old + 52 ≤ 160 }
+fn push_uses<const N: usize>(text: &mut ArrayVec<u8, N>, pins: u8, maps: u8)
+    requires { array_vec_len text.old + 52 ≤ N }
     ensures text { text.new.items ≡ text.old.items ++ uses_text pins maps }
     ensures lines { newlines text.new.items ≡ newlines text.old.items }
     ensures len { array_vec_len text.new ≤ array_vec_len text.old + 52 }
@@ -107,20 +119,36 @@ fn push_uses(text: &mut ArrayVec<u8, 160>, pins: u8, maps: u8)
 }
 
 /// Appends a name and a number.
-fn push_field(text: &mut ArrayVec<u8, 160>, name: &[u8], number: u64)
-    requires { array_vec_len text.old + length name.now + 20 ≤ 160 }
+#[inline(always)]
+fn push_field<const N: usize>(text: &mut ArrayVec<u8, N>, name: &[u8], number: u64)
+    requires { array_vec_len text.old + length name.now + 20 ≤ N }
     ensures text { text.new.items ≡ text.old.items ++ name.now ++ decimal number }
     ensures lines { newlines text.new.items ≡ newlines text.old.items + newlines name.now }
     ensures len { array_vec_len text.new ≤ array_vec_len text.old + length name.now + 20 }
 {
     push(text, name);
+    push_number(text, number);
+}
+
+/// Appends a number.
+fn push_number<const N: usize>(text: &mut ArrayVec<u8, N>, number: u64)
+    requires { array_vec_len text.old + 20 ≤ N }
+    ensures text { text.new.items ≡ text.old.items ++ decimal number }
+    ensures lines { newlines text.new.items ≡ newlines text.old.items }
+    ensures len { array_vec_len text.new ≤ array_vec_len text.old + 20 }
+{
+    if number < 10 {
+        text.push(b'0' + number as u8);
+        return;
+    }
     let mut digits = Buffer::new();
     push(text, digits.format(number).as_bytes());
 }
 
 /// Appends bytes.
-fn push(text: &mut ArrayVec<u8, 160>, bytes: &[u8])
-    requires { array_vec_len text.old + length bytes.now ≤ 160 }
+#[inline(always)]
+fn push<const N: usize>(text: &mut ArrayVec<u8, N>, bytes: &[u8])
+    requires { array_vec_len text.old + length bytes.now ≤ N }
     ensures text { text.new.items ≡ text.old.items ++ bytes.now }
     ensures len { array_vec_len text.new ≡ array_vec_len text.old + length bytes.now }
 {

@@ -1,5 +1,5 @@
 use crate::{BlockCount, Call, Command, Reply, ScriptError, read_line, reply_text};
-use frame_core::{Address, FrameNo, HandNo, PageFlags, SpaceNo, VPage, WordNo, ZoneNo};
+use frame_core::{Address, BlockNo, FrameNo, HandNo, PageFlags, SpaceNo, VPage, WordNo, ZoneNo};
 use state_core::{Info, Look};
 
 /// Page 2 of space 1.
@@ -16,7 +16,12 @@ fn reads_calls(rt: HostRuntime) {
     let frame = FrameNo::new(9).unwrap();
     let word = WordNo::new(7).unwrap();
     let hand = HandNo::new(4).unwrap();
-    let rows: [(&str, &[u8], Call); 14] = [
+    let block = BlockNo::new(7).unwrap();
+    let alias = Address {
+        space: SpaceNo::new(7).unwrap(),
+        vpage: VPage::new(4095).unwrap(),
+    };
+    let rows: [(&str, &[u8], Call); 20] = [
         (
             "a map",
             b"map 3 1 2",
@@ -76,6 +81,19 @@ fn reads_calls(rt: HostRuntime) {
         ("a shut", b"shut 3", Call::Shut),
         ("a look", b"look 3 1 2", Call::Look(address())),
         (
+            "a share",
+            b"share 3 1 2 7 4095",
+            Call::Share {
+                address: address(),
+                alias,
+            },
+        ),
+        ("an unmap", b"unmap 3 1 2", Call::Unmap(address())),
+        ("a pin", b"pin 3 1 2", Call::Pin(address())),
+        ("an unpin", b"unpin 3 1 2", Call::Unpin(address())),
+        ("a huge page", b"huge 3", Call::Huge),
+        ("one given back", b"give 3 7", Call::Give(block)),
+        (
             "a load",
             b"load 3 1 2 7",
             Call::Load {
@@ -134,7 +152,7 @@ fn reads_lines(rt: HostRuntime) {
 
 #[test]
 fn tests_each_range(rt: HostRuntime) {
-    let lines: [&[u8]; 17] = [
+    let lines: [&[u8]; 24] = [
         b"zone 4 1",
         b"zone 0 0",
         b"zone 0 9",
@@ -152,6 +170,13 @@ fn tests_each_range(rt: HostRuntime) {
         b"finish 4 1",
         b"shut 4",
         b"look 0 8 0",
+        b"share 0 0 0 8 0",
+        b"share 0 0 4096 0 0",
+        b"unmap 0 0 4096",
+        b"pin 4 0 0",
+        b"unpin 0 8 0",
+        b"huge 4",
+        b"give 0 8",
     ];
     for line in lines {
         assert_eq!(rt; read_line(line), Ok(Some(Command::OutOfRange)));
@@ -186,7 +211,7 @@ fn prints_replies(rt: HostRuntime) {
         pins: 1,
         maps: 2,
     };
-    let rows: [(Reply, &[u8]); 11] = [
+    let rows: [(Reply, &[u8]); 12] = [
         (Reply::Done, b"ok\n"),
         (
             Reply::Value(18446744073709551615),
@@ -209,6 +234,7 @@ fn prints_replies(rt: HostRuntime) {
             Reply::Looked(moving),
             b"moving serial=4294967295 pins=1 maps=2\n",
         ),
+        (Reply::Block(BlockNo::new(7).unwrap()), b"block=7\n"),
         (Reply::Refused(44), b"refused 44\n"),
     ];
     for (reply, expected) in rows {

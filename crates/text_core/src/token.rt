@@ -1,6 +1,6 @@
-ghost use Rattle.std.specs.Prelude.{◌≡◌, ◌<◌, ◌≤◌, nat_eq, false, codes, IfSome, length, position, [], ◌∷◌, MatchOption};
+ghost use Rattle.std.specs.Prelude.{◌≡◌, ◌<◌, ◌≤◌, bytes_eq, nat_eq, false, codes, IfSome, length, position, [], ◌∷◌, MatchOption};
 ghost use Rattle.std.specs.List.{starts_with};
-ghost use Rattle.text_core.specs.Token.{number_of, token_of, lexemes};
+ghost use Rattle.text_core.specs.Token.{keyword_of, lexemes, number_of, token_of};
 
 /// What a lexeme means: a number, a keyword, or nothing of the language.
 #[derive(Clone, Copy, Debug, Default, PartialEq, Eq)]
@@ -19,6 +19,12 @@ pub(crate) enum Token {
     Finish,
     Shut,
     Look,
+    Share,
+    Unmap,
+    Pin,
+    Unpin,
+    Huge,
+    Give,
     /// Anything else.
     #[default]
     Other,
@@ -29,36 +35,66 @@ impl Token {
     pub(crate) fn from_bytes(bytes: &[u8]) -> Token
         ensures { result ≡ token_of bytes.now }
     {
-        if bytes == b"zone".as_slice() {
-            Token::Zone
-        } else if bytes == b"map".as_slice() {
-            Token::Map
-        } else if bytes == b"mapat".as_slice() {
-            Token::MapAt
-        } else if bytes == b"store".as_slice() {
-            Token::Store
-        } else if bytes == b"load".as_slice() {
-            Token::Load
-        } else if bytes == b"info".as_slice() {
-            Token::Info
-        } else if bytes == b"unmovable".as_slice() {
-            Token::Unmovable
-        } else if bytes == b"scan".as_slice() {
-            Token::Scan
-        } else if bytes == b"take".as_slice() {
-            Token::Take
-        } else if bytes == b"copy".as_slice() {
-            Token::Copy
-        } else if bytes == b"finish".as_slice() {
-            Token::Finish
-        } else if bytes == b"shut".as_slice() {
-            Token::Shut
-        } else if bytes == b"look".as_slice() {
-            Token::Look
-        } else {
-            number(bytes).map_or(Token::Other, Token::Number)
+        match number(bytes) {
+            Some(number) => Token::Number(number),
+            None => keyword(bytes),
         }
     }
+}
+
+/// The keyword that bytes are, if they are one.
+fn keyword(bytes: &[u8]) -> Token
+    ensures { result ≡ keyword_of bytes.now }
+{
+    if is_word(bytes, b"zone") {
+        Token::Zone
+    } else if is_word(bytes, b"map") {
+        Token::Map
+    } else if is_word(bytes, b"mapat") {
+        Token::MapAt
+    } else if is_word(bytes, b"store") {
+        Token::Store
+    } else if is_word(bytes, b"load") {
+        Token::Load
+    } else if is_word(bytes, b"info") {
+        Token::Info
+    } else if is_word(bytes, b"unmovable") {
+        Token::Unmovable
+    } else if is_word(bytes, b"scan") {
+        Token::Scan
+    } else if is_word(bytes, b"take") {
+        Token::Take
+    } else if is_word(bytes, b"copy") {
+        Token::Copy
+    } else if is_word(bytes, b"finish") {
+        Token::Finish
+    } else if is_word(bytes, b"shut") {
+        Token::Shut
+    } else if is_word(bytes, b"look") {
+        Token::Look
+    } else if is_word(bytes, b"share") {
+        Token::Share
+    } else if is_word(bytes, b"unmap") {
+        Token::Unmap
+    } else if is_word(bytes, b"pin") {
+        Token::Pin
+    } else if is_word(bytes, b"unpin") {
+        Token::Unpin
+    } else if is_word(bytes, b"huge") {
+        Token::Huge
+    } else if is_word(bytes, b"give") {
+        Token::Give
+    } else {
+        Token::Other
+    }
+}
+
+/// Whether bytes are a word. The first byte tells most words apart.
+#[inline(always)]
+fn is_word(bytes: &[u8], word: &[u8]) -> bool
+    ensures { result ≡ bytes_eq bytes.now word.now }
+{
+    bytes.first() == word.first() && bytes == word
 }
 
 /// The number of 1 to 20 digits that fits 64 bits.

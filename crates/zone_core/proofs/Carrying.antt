@@ -3,6 +3,7 @@ use Rattle.std.proofs.Common.{◌≡◌, ◌≢◌, ℕ, zero, suc, ◌*◌, ◌
 use Rattle.std.specs.Prelude.{Option, Some, None, IsSome, Result, Ok, Err, IfOk, OnOk, OnErr, map as each, replicate, slice_get, slice_set, unwrap_or, nat_eq, nat_lt, is_some, if◌then◌else◌}
 use Rattle.std.specs.FinMap as map
 use Rattle.std.specs.List.{list_any}
+use Rattle.std.specs.Option.{option_or}
 use Rattle.std.proofs.lemmas.Bool.{eq-eqb, ltb-true, or_left, or_right}
 use Rattle.std.proofs.lemmas.Bool.Decides.{eqb_tells}
 use Rattle.std.proofs.lemmas.List.{length-set, map-set, length-map}
@@ -10,6 +11,7 @@ use Rattle.std.proofs.lemmas.Option.{slice_get_within}
 use Rattle.frame_core.proofs.Lists.{slice_get_set_same, slice_get_set_other}
 use Rattle.frame_core.specs.declared.place.Address.{Address}
 use Rattle.journal_core.specs.History.{page_at}
+use Rattle.journal_core.specs.declared.record.Record.TheVariants.{Unmap}
 use Rattle.journal_core.specs.Moves.{isolated, out}
 use Rattle.word_core.specs.Page.{OnItsWay}
 use Rattle.state_core.specs.declared.error.ZoneError.{ZoneError}
@@ -34,11 +36,16 @@ use Rattle.state_core.specs.Access.{placement_refusal, access_refusal}
 use Rattle.state_core.specs.Mapping.{map_at_refusal}
 use Rattle.state_core.specs.Mapping.{mapped, placed}
 use Rattle.state_core.specs.Access.{loaded, stored}
+use Rattle.state_core.specs.Sharing.{shared}
+use Rattle.state_core.specs.Unmapping.{is_last, unmap_refusal, unmapped, without_page}
+use Rattle.state_core.specs.Pinning.{pinned, unpinned}
+use Rattle.state_core.specs.HandingOut.{block_taken, block_given}
+use Rattle.state_core.specs.Marking.{block_marked, block_unmarked}
 use Rattle.zone_core.specs.World.{WorldState, IsOrderly, isolated_by}
-use Rattle.state_core.specs.ZoneState.{ZoneState, frame_count, has_room, is_free, placement_at, lowest_free_frame, lowest_unused_page}
+use Rattle.state_core.specs.ZoneState.{ZoneState, frame_count, has_room, is_free, placement_at, lowest_free_frame, lowest_unused_page, noted}
 use Rattle.state_core.proofs.Accessed.{lawful_loaded, lawful_stored}
 use Rattle.state_core.proofs.Finding.{some_lowest, unused_left, unused_is}
-use Rattle.state_core.proofs.Carried.{own_begun, own_loaded, own_stored, own_placed, own_isolated, own_fresh}
+use Rattle.state_core.proofs.Carried.{own_begun, own_loaded, own_stored, own_placed, own_isolated, own_fresh, own_shared, own_unmapped, own_pinned, own_unpinned, own_block_taken, own_block_given, own_marked, own_unmarked}
 use Rattle.state_core.proofs.Facts.{spare, not_none}
 use Rattle.zone_core.proofs.Orderly.{orderly_with_zone, orderly_round_opened, orderly_noted, orderly_isolated}
 
@@ -230,12 +237,66 @@ at_then None e = cc
 at_then (Some (At frame)) e = (frame, refl)
 at_then (Some (Moving serial source target)) e = cc
 
+option_or_none : {A : Type 0} (o other : Option A) → option_or o other ≡ None → o ≡ None
+option_or_none None other e = refl
+option_or_none (Some x) other e = cc
+
 place_then : (a b c d : Bool) → (if not a then Some Range else if not b then Some JournalFull else if c then Some Occupied else if not d then Some NoFrame else None) ≡ None → (a ≡ true) × (d ≡ true)
 place_then false b c d e = cc
 place_then true false c d e = cc
 place_then true true true d e = cc
 place_then true true false false e = cc
 place_then true true false true e = (refl, refl)
+
+-- what a call leaves of the pages on their way and of the fingers
+pub record LeavesMoves (zone after : ZoneState) : Type 0 where
+  pub same_out : out after.records ≡ out zone.records
+  pub migrate : after.migrate ≡ zone.migrate
+  pub free : after.free ≡ zone.free
+  pub blocks : after.blocks ≡ zone.blocks
+  pub own : (p : OnItsWay) → IsOwnCopy zone p → IsOwnCopy after p
+
+pub leaves_shared : (z : ZoneState) (client : ℕ) (address alias : Address) → LeavesMoves z (shared z client address alias)
+leaves_shared z client address alias = record { same_out = refl; migrate = refl; free = refl; blocks = refl; own = own_shared z client address alias }
+
+pub leaves_pinned : (z : ZoneState) (client : ℕ) (address : Address) → LeavesMoves z (pinned z client address)
+leaves_pinned z client address = record { same_out = refl; migrate = refl; free = refl; blocks = refl; own = own_pinned z client address }
+
+pub leaves_unpinned : (z : ZoneState) (client : ℕ) (address : Address) → LeavesMoves z (unpinned z client address)
+leaves_unpinned z client address = record { same_out = refl; migrate = refl; free = refl; blocks = refl; own = own_unpinned z client address }
+
+pub leaves_taken : (z : ZoneState) (first order : ℕ) → LeavesMoves z (block_taken z first order)
+leaves_taken z first order = record { same_out = refl; migrate = refl; free = refl; blocks = refl; own = own_block_taken z first order }
+
+pub leaves_given : (z : ZoneState) (first order : ℕ) → LeavesMoves z (block_given z first order)
+leaves_given z first order = record { same_out = refl; migrate = refl; free = refl; blocks = refl; own = own_block_given z first order }
+
+pub leaves_marked : (z : ZoneState) (block : ℕ) → LeavesMoves z (block_marked z block)
+leaves_marked z block = record { same_out = refl; migrate = refl; free = refl; blocks = refl; own = own_marked z block }
+
+pub leaves_unmarked : (z : ZoneState) (block : ℕ) → LeavesMoves z (block_unmarked z block)
+leaves_unmarked z block = record { same_out = refl; migrate = refl; free = refl; blocks = refl; own = own_unmarked z block }
+
+leaves_unmapped : (z : ZoneState) (client : ℕ) (address : Address) (frame : ℕ) → placement_at z address ≡ Some (At frame) → LeavesMoves z (unmapped z client address)
+leaves_unmapped z client address frame at = record {
+  same_out = by_last (λ after. out after.records ≡ out z.records) refl refl;
+  migrate = by_last (λ after. after.migrate ≡ z.migrate) refl refl;
+  free = by_last (λ after. after.free ≡ z.free) refl refl;
+  blocks = by_last (λ after. after.blocks ≡ z.blocks) refl refl;
+  own = own_unmapped z client address frame at;
+} where
+  next : ZoneState
+  next = noted z (Unmap client address)
+
+  ended : ZoneState
+  ended = without_page next (unwrap_or (page_at z.records address) 0)
+
+  by : (b : Bool) (P : ZoneState → Type 0) → P next → P ended → P (if b then ended else next)
+  by true P kept gone = gone
+  by false P kept gone = kept
+
+  by_last : (P : ZoneState → Type 0) → P next → P ended → P (unmapped z client address)
+  by_last P kept gone = by (is_last z address) P kept gone
 
 module _ (zone next : ZoneState) (scan : ScanSeat) (ends : EndSeat) (is_open : Bool) (list : List OnItsWay) (held : List Held) (capacity : ℕ) (was : IsCarried zone scan ends is_open list held capacity) where
   -- a refused call changes nothing
@@ -285,3 +346,22 @@ module _ (zone next : ZoneState) (scan : ScanSeat) (ends : EndSeat) (is_open : B
   carried_mapped_at client address unmovable frame (Ok done) law refused err ok =
       let free = place_then (nat_lt frame (frame_count zone)) (has_room zone) (is_some (page_at zone.records address)) (is_free zone frame) (sym refused) in
       carried_placed client address unmovable frame (some_lowest zone frame free.1 (ltb-true frame (frame_count zone) free.0)) law ok
+
+  leaves : (after : ZoneState) → next ≡ after → IsLawful next → LeavesMoves zone after → IsCarried next scan ends is_open list held capacity
+  leaves after is law l = changed after is (subst IsLawful is law) l.same_out l.migrate l.free l.blocks l.own
+
+  -- a call without an answer, and one with an answer
+  pub carried_done : {T : Type 0} (result : Result T ZoneError) (after : ZoneState) → IsLawful next → OnErr result (next ≡ zone) → OnOk result (next ≡ after) → LeavesMoves zone after → IsCarried next scan ends is_open list held capacity
+  carried_done (Err error) after law err ok l = unchanged err
+  carried_done (Ok done) after law err ok l = leaves after ok law l
+
+  pub carried_told : {T : Type 0} (result : Result T ZoneError) (after : T → ZoneState) → IsLawful next → OnErr result (next ≡ zone) → IfOk result (λ told. next ≡ after told) → ((told : T) → LeavesMoves zone (after told)) → IsCarried next scan ends is_open list held capacity
+  carried_told (Err error) after law err ok l = unchanged err
+  carried_told (Ok told) after law err ok l = leaves (after told) ok law (l told)
+
+  pub carried_unmapped : {T : Type 0} (client : ℕ) (address : Address) (result : Result T ZoneError) → IsLawful next → result_err result ≡ unmap_refusal zone address → OnErr result (next ≡ zone) → OnOk result (next ≡ unmapped zone client address) → IsCarried next scan ends is_open list held capacity
+  carried_unmapped client address (Err error) law refused err ok = unchanged err
+  carried_unmapped client address (Ok done) law refused err ok =
+      let room = room_then (has_room zone) _ (sym refused) in
+      let at = at_then (placement_at zone address) (option_or_none _ _ room.1) in
+      leaves (unmapped zone client address) ok law (leaves_unmapped zone client address at.0 at.1)

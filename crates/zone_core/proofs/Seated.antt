@@ -1,6 +1,6 @@
 -- What public calls say of pages, books and seats.
 use Rattle.std.proofs.Common.{◌≡◌, ℕ, ◌+◌, Bool, true, false, ◌≤◌, [], length, refl, sym, ap, subst, ◌∙◌, arith}
-use Rattle.std.specs.Prelude.{Option, Some, None, IsSome, IfSome, Result, IsOk, IfOk, ◌↔◌, ◌&&◌, nat_eq}
+use Rattle.std.specs.Prelude.{Option, Some, None, IsSome, IfSome, Result, Ok, Err, IsOk, IfOk, OnOk, ◌↔◌, ◌&&◌, nat_eq}
 use Rattle.std.specs.FinMap as map
 use Rattle.std.proofs.lemmas.Bool.{eq-eqb, both_ways}
 use Rattle.std.proofs.lemmas.List.{nil_from_length}
@@ -17,9 +17,12 @@ use Rattle.zone_core.specs.Books.{AreBooks}
 use Rattle.state_core.specs.Lawful.{IsLawful, is_under}
 use Rattle.state_core.specs.Carrying.{settled}
 use Rattle.state_core.specs.Ending.{is_own, IsSettled, IsEnded}
+use Rattle.state_core.specs.Packed.{IsPacked}
+use Rattle.state_core.specs.Pairs.{HaveMet}
 use Rattle.zone_core.specs.Seats.{IsAudited, ScanSeat, EndSeat}
-use Rattle.state_core.specs.ZoneState.{ZoneState}
+use Rattle.state_core.specs.ZoneState.{ZoneState, is_quiet}
 use Rattle.state_core.proofs.Entries.{get_insert_same}
+use Rattle.state_core.proofs.Packing.{packed_quiet}
 
 neither : (a b : Bool) → b ≡ false → (a && b) ≡ false
 neither true b e = e
@@ -58,6 +61,11 @@ pub ok_if_some : (P : Audit → Type 0) (o : Option Audit) (error : ZoneError) �
 ok_if_some P None error h = tt
 ok_if_some P (Some a) error h = h
 
+-- an audit finds a quiet zone packed where the scanners met
+pub ok_packed : (z : ZoneState) (scan : ScanSeat) (ends : EndSeat) (r : Result Audit ZoneError) → IsLawful z → IfOk r (λ audit. IsAudited z scan ends audit) → OnOk r (is_quiet z ≡ true → HaveMet z → IsPacked z)
+ok_packed z scan ends (Ok audit) law audited = λ quiet. packed_quiet z law quiet (ap length audited.none_out)
+ok_packed z scan ends (Err error) law audited = tt
+
 -- a whole seat passes an audit just where its counts make up that of the scan seat
 pub passes_exactly : (z : ZoneState) (scan : ScanSeat) (ends : EndSeat) (i m b : ℕ) (o : Option Audit) (r : Result Audit ZoneError) (error : ZoneError) → IsLawful z → AreBooks i m b z → scan.count ≡ i → ends.moved ≡ m → ends.back ≡ b → IsSome o ↔ (length (out z.records) ≡ 0) → r ≡ ok_or o error → IsOk r ↔ (ends.moved + ends.back ≡ scan.count)
 passes_exactly z scan ends i m b o r error law books s t u none is =
@@ -68,6 +76,10 @@ passes_exactly z scan ends i m b o r error law books s t u none is =
       by_audit : (p : Option Audit) → IsSome p ↔ (length (out z.records) ≡ 0) → IsOk (ok_or p error) ↔ (ends.moved + ends.back ≡ scan.count)
       by_audit None some = (λ bad. cc, λ sum. (let bad = some.1 (omega (arith, balanced, sum)) in cc))
       by_audit (Some a) some = (λ ok. (let gone = some.0 refl in omega (arith, balanced)), λ sum. refl)
+
+-- a whole seat counts no more than was isolated
+pub counts_most : (z : ZoneState) (scan : ScanSeat) (ends : EndSeat) (i m b : ℕ) → IsLawful z → AreBooks i m b z → scan.count ≡ i → ends.moved ≡ m → ends.back ≡ b → ends.moved + ends.back ≤ scan.count
+counts_most z scan ends i m b law books s t u = omega (arith, is_balanced z.records law.well_ended, s, t, u, books.isolated, books.moved, books.back)
 
 -- a seat that isn't whole has less than its 64 parts
 pub part_missing : (ends told : EndSeat) → told ≡ ends → nat_eq told.parts 64 ≡ false → told.parts ≤ 64 → 64 ≤ ends.parts → ⊥

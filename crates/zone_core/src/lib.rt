@@ -5,13 +5,13 @@
 //! A world is seen as the record of `specs/World.antt`, and its seats as those of `specs/Seats.antt`.
 #![tactic(auto)]
 
+mod blocks;
 mod ending;
 mod hand;
 mod hands;
 mod rest;
 mod seats;
-#[cfg(test)]
-mod tests;
+mod sharing;
 mod world;
 mod zone;
 

@@ -15,6 +15,8 @@ ghost use Rattle.frame_core.specs.PageFlags.{is_unmovable};
 ghost use Rattle.zone_core.specs.World.{WorldState, IsOrderly, waits, world_opened, world_closed, with_zone, round_opened, scan_stopped, scanned_by, isolated_by, scan_refusal, scan_answer, scanned, take_step, copy_step, finish_step, shut_step};
 ghost use Rattle.state_core.specs.ZoneState.{lowest_free_frame};
 
+mod calls;
+
 use crate::ending::{finish_in, put_all_back_in};
 use crate::hand::{Finished, Scanned};
 use crate::hands::{Hands, Held};

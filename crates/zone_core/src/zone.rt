@@ -1,20 +1,24 @@
-ghost use Rattle.std.specs.Prelude.{◌≡◌, ◌+◌, ◌==◌, ◌≤◌, ◌↔◌, ℕ, true, false, Some, None, is_some, if◌then◌else◌, IsOk, IfOk, IfErr, OnOk, OnErr};
+ghost use Rattle.std.specs.Prelude.{◌≡◌, ◌+◌, ◌/◌, ◌^◌, ◌==◌, ◌≤◌, ◌↔◌, ◌&&◌, ℕ, true, false, length, Option, Some, None, is_some, if◌then◌else◌, IsOk, IfOk, IfErr, OnOk, OnErr};
 ghost use Rattle.std.specs.Int.RustNames.{bit_and};
 ghost use Rattle.zone_core.specs.Books.{AreFor};
+ghost use Rattle.state_core.specs.Clear.{BlocksAreApart, BlocksAreClear};
 ghost use Rattle.state_core.specs.Lawful.{IsLawful};
-ghost use Rattle.journal_core.specs.Moves.{isolated};
+ghost use Rattle.journal_core.specs.Moves.{isolated, out};
+ghost use Rattle.journal_core.specs.declared.record.Record.{Record};
 ghost use Rattle.state_core.specs.Rounds.{round_begun};
 ghost use Rattle.state_core.specs.Isolating.{isolate_refusal, next_answer, next_state, Scans};
 ghost use Rattle.state_core.specs.Ending.{is_own, IsOwnCopy, Ends, ended_as, committed, put_back_to_source};
 ghost use Rattle.state_core.specs.Looking.{look_of, info_of};
 ghost use Rattle.zone_core.specs.Seats.{IsFollowed, seat_begun, seat_full, seat_noted, seat_ended, audit_refusal, IsAudited, fresh_scan_seat, fresh_end_seat};
-ghost use Rattle.state_core.specs.Pairs.{next_pair};
+ghost use Rattle.state_core.specs.Packed.{IsPacked, IsPlacement, unmarked_free, marked_whole, free_runs, left_whole, left_runs, places_now};
+ghost use Rattle.state_core.specs.Pairs.{HaveMet, is_calm, next_pair};
+ghost use Rattle.state_core.specs.Swept.{IsSwept};
 ghost use Rattle.state_core.specs.Opening.{IsOpenable, opened};
 ghost use Rattle.std.specs.Result.{result_err};
 ghost use Rattle.state_core.specs.Mapping.{map_refusal, map_at_refusal, mapped};
 ghost use Rattle.state_core.specs.Access.{access_refusal, value_at, loaded, stored};
 ghost use Rattle.frame_core.specs.PageFlags.{is_unmovable};
-ghost use Rattle.state_core.specs.ZoneState.{frame_count, lowest_free_frame, is_quiet};
+ghost use Rattle.state_core.specs.ZoneState.{frame_count, lowest_free_frame, noted, keeps_quiet, is_quiet};
 
 use crate::seats::{Answered, Blanks, EndSeat, ScanSeat};
 use bitflags::Flags;
@@ -31,7 +35,7 @@ use word_core::{Copied, Isolated};
 /// put back. After `open` no call takes memory.
 #[derive(Drop)]
 pub struct Zone<I: Ledger, M: Ledger, B: Ledger> {
-    plain: PlainZone,
+    pub(crate) plain: PlainZone,
     isolated: Book<I>,
     moved: Book<M>,
     back: Book<B>,
@@ -181,6 +185,8 @@ impl<I: Ledger, M: Ledger, B: Ledger> Zone<I, M, B> {
         ensures err { OnErr result (self.new ≡ self.old) }
         ensures value { IfOk result (λ value. value ≡ value_at self.old address word) }
         ensures ok { OnOk result (self.new ≡ loaded self.old client address word) }
+        // It brings no pair back.
+        ensures met { OnOk result (HaveMet self.old → HaveMet self.new) }
         ensures lawful { IsLawful self.new }
     {
         if !self.plain.has_room() {
@@ -201,6 +207,7 @@ impl<I: Ledger, M: Ledger, B: Ledger> Zone<I, M, B> {
         ensures refused { result_err result ≡ access_refusal self.old address }
         ensures err { OnErr result (self.new ≡ self.old) }
         ensures ok { OnOk result (self.new ≡ stored self.old client address word value) }
+        ensures met { OnOk result (HaveMet self.old → HaveMet self.new) }
         ensures lawful { IsLawful self.new }
     {
         if !self.plain.has_room() {
@@ -216,6 +223,7 @@ impl<I: Ledger, M: Ledger, B: Ledger> Zone<I, M, B> {
     pub fn begin_round<N: Ledger>(&mut self, seat: &mut ScanSeat<I, N>)
         ensures zone { self.new ≡ round_begun self.old }
         ensures seat { seat.new ≡ seat_begun seat.old }
+        ensures quiet { is_quiet self.new ≡ is_calm self.old }
         ensures lawful { IsLawful self.new }
     {
         self.plain.begin_round();
@@ -231,6 +239,8 @@ impl<I: Ledger, M: Ledger, B: Ledger> Zone<I, M, B> {
         ensures ok { OnOk result (self.new ≡ next_state self.old (next_pair self.old)) }
         // The page is the one of the pair, and where there is none the answer is `Met`.
         ensures pair { IfOk result (λ next. Scans self.old self.new next) }
+        // Where the scanners of a quiet round meet and no page is out, the zone is packed.
+        ensures packed { result ≡ Ok Next.Met → is_quiet self.new ≡ true → length (out self.new.records) ≡ 0 → IsPacked self.new }
         ensures serial { seat.old.count ≡ isolated self.old.records }
         // A journal has places for fewer serials than there are numbers.
         ensures followed { IfOk result IsFollowed }
@@ -266,6 +276,9 @@ impl<I: Ledger, M: Ledger, B: Ledger> Zone<I, M, B> {
         ensures ok { OnOk result (self.new ≡ committed self.old copied.serial copied.page.number) }
         // Moved, the page stands in its target and its source is free; put back, it is the other way round.
         ensures settled { IfOk result (λ ended. Ends self.old self.new copied ended) }
+        // In a quiet round each commit moves its page, and none brings a pair back.
+        ensures moves { IfOk result (λ ended. is_quiet self.old ≡ true → ended ≡ Ended.Moved) }
+        ensures met { OnOk result (is_quiet self.old ≡ true → HaveMet self.old → HaveMet self.new) }
         ensures once { OnOk result (is_own self.new copied ≡ false) }
         ensures seat { IfOk result (λ ended. seat.new ≡ seat_ended seat.old ended) }
         ensures lawful { IsLawful self.new }
@@ -321,7 +334,12 @@ impl<I: Ledger, M: Ledger, B: Ledger> Zone<I, M, B> {
     /// Whether the latest round is quiet so far: when it began no page was out and no unmarked pageblock had a page that was
     /// pinned or unmovable or a frame that was handed out, and since then pages were loaded, stored, isolated and moved alone.
     pub fn quiet(&self) -> bool
-        ensures { result ≡ is_quiet self.now }
+        ensures value { result ≡ is_quiet self.now }
+        // Four records leave it quiet, and each other ends that.
+        ensures next { (entry : Record) → is_quiet (noted self.now entry) ≡ (result && keeps_quiet entry) }
+        // While it is quiet no frame of an unmarked pageblock holds a page below the migrate finger, and none is free from the
+        // free finger on.
+        ensures swept { result ≡ true → IsSwept self.now }
     {
         self.plain.quiet()
     }
@@ -338,8 +356,10 @@ impl<I: Ledger, M: Ledger, B: Ledger> Zone<I, M, B> {
         ensures whole { OnOk result (ends.new.parts ≡ 64) }
         // No zone is needed to tell whether a whole seat passes: its counts make up that of the scan seat.
         ensures exact { 64 ≤ ends.old.parts → (IsOk result ↔ (ends.old.moved + ends.old.back ≡ scan.old.count)) }
+        ensures most { 64 ≤ ends.old.parts → ends.old.moved + ends.old.back ≤ scan.old.count }
         ensures same { self.new ≡ self.old }
         ensures seats { (scan.new ≡ scan.old) × (ends.new ≡ ends.old) }
+        ensures packed { OnOk result (is_quiet self.new ≡ true → HaveMet self.new → IsPacked self.new) }
         ensures lawful { IsLawful self.new }
     {
         scan.tell(&mut self.isolated);
@@ -370,6 +390,15 @@ impl<I: Ledger, M: Ledger, B: Ledger> Zone<I, M, B> {
         ensures counts { result ≡ info_of self.now }
         // Each frame is free, of a page, or of a block that is handed out, and a page on its way has two.
         ensures sum { result.free + result.pages + result.moving + result.held ≡ frame_count self.now }
+        // A packed zone has as many whole pageblocks, and free aligned runs of an order, as its free frames make.
+        ensures whole { IsPacked self.now → result.whole ≡ unmarked_free self.now / 512 + marked_whole self.now }
+        ensures runs { IsPacked self.now → (order : ℕ) → order ≤ 9 → free_runs self.now (2 ^ order) ≡ unmarked_free self.now / 2 ^ order }
+        // However its pages are placed, none of them on its way, it has no more of either.
+        ensures most_whole { IsPacked self.now → result.moving ≡ 0 → (place : ℕ → Option ℕ) → IsPlacement self.now place
+            → left_whole self.now place ≤ result.whole }
+        ensures most_runs { IsPacked self.now → result.moving ≡ 0 → (place : ℕ → Option ℕ) → IsPlacement self.now place
+            → (order : ℕ) → order ≤ 9 → left_runs self.now place (2 ^ order) ≤ free_runs self.now (2 ^ order) }
+        ensures placement { result.moving ≡ 0 → IsPlacement self.now (places_now self.now) }
     {
         self.plain.info()
     }
@@ -379,6 +408,9 @@ impl<I: Ledger, M: Ledger, B: Ledger> Zone<I, M, B> {
         ensures records { result.now.records ≡ self.now.records }
         ensures room { result.now.room ≡ self.now.room }
         ensures lawful { IsLawful self.now }
+        // No page or address has a frame of a block that is handed out, and no two blocks have one together.
+        ensures clear { BlocksAreClear self.now }
+        ensures apart { BlocksAreApart self.now }
     {
         self.plain.journal()
     }

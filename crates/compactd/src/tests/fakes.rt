@@ -8,7 +8,7 @@ use std::io::{Read, Write};
 pub struct Pieces<'a> {
     pub rest: &'a [u8],
     pub size: usize,
-    pub calls: u32,
+    pub calls: usize,
 }
 
 impl Read for Pieces<'_> {

@@ -2,6 +2,7 @@ use Rattle.std.proofs.Common.{ℕ, ◌∙◌, ◌-◌, ◌<◌, ◌≤◌, inl, 
 use Rattle.std.specs.Prelude.{◌&&◌}
 use Rattle.std.proofs.lemmas.Bool.{lt-ltb, le-ltb}
 use Rattle.std.proofs.lemmas.Bool.Decides.{leb_tells}
+use Rattle.scan_core.specs.Seen.{seen}
 use Rattle.scan_core.specs.Pairs.{is_target}
 use Rattle.scan_core.proofs.Bounds.{highest_is, highest_none}
 use Rattle.scan_core.proofs.Found.{some_is}
@@ -22,5 +23,5 @@ returns c =
     sym (highest_none _ _ (λ (k : ℕ) (h : k < c.args.fingers.free). elim (leb_tells c.loop-number.number k) [
       | inl over ↦ c.loop-number.invariant.above k over.1 h
       | inr less ↦ (let low : k ≤ c.args.source = omega (arith, less.1, c.get.ensures.value, c.loop-number-test.false) in
-          ap (λ b. b && is_target c.args.frames.now c.args.marked.now k) (le-ltb c.args.source k low))
+          ap (λ b. b && is_target (seen c.args.held.now c.args.kept.now) c.args.marked.now k) (le-ltb c.args.source k low))
     ]))

@@ -1,11 +1,9 @@
-use Rattle.std.proofs.Common.{◌≡◌, ◌≢◌, ℕ, ◌<◌, ◌≤◌}
-use Rattle.std.specs.Prelude.{Some, slice_get}
+use Rattle.std.proofs.Common.{◌≡◌, length}
+use Rattle.table_core.proofs.Passing.{Passed}
 use Rattle.table_core.proofs.tables.replace.Given as goal
 
--- the walk made the second of each first one that it passed, and changed no other entry
-abbrev pub invariant-loop-i : goal.invariant-loop-i
-invariant-loop-i l = record {
-  there : (k : ℕ) → k < l.i → slice_get l.fn.entries k ≡ Some l.from → slice_get l.entries k ≡ Some l.to;
-  elsewhere : (k : ℕ) → slice_get l.fn.entries k ≢ Some l.from → slice_get l.entries k ≡ slice_get l.fn.entries k;
-  ahead : (k : ℕ) → l.i ≤ k → slice_get l.entries k ≡ slice_get l.fn.entries k;
+abbrev pub invariant-loop-name : goal.invariant-loop-name
+invariant-loop-name l = record {
+  count : length l.entries ≡ 32768;
+  passed : Passed l.fn.entries l.entries l.names l.from l.to l.name-index;
 }

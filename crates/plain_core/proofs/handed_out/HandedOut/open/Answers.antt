@@ -1,4 +1,4 @@
-use Rattle.std.proofs.Common.{◌≡◌, ℕ, List, length, ◌∙◌, ap, sym}
+use Rattle.std.proofs.Common.{◌≡◌, ℕ, List, length, ◌∙◌, ap, sym, arith}
 use Rattle.std.specs.Prelude.{Option, None, is_some}
 use Rattle.std.proofs.lemmas.List.{length-replicate}
 use Rattle.frame_core.proofs.Searches.{count_none, none_some}
@@ -12,8 +12,10 @@ invariant_of-result c =
     let orders = c.in_ok-orders.orders.items in
     let items = c.in_ok-orders.ensures.items in
     let none : (first : ℕ) → order_of orders first ≡ None = λ first. ap (λ (os : List (Option ℕ)). order_of os first) items ∙ no_order c.args.frames first in
+    let count : length orders ≡ c.args.frames = ap length items ∙ length-replicate c.args.frames None in
     record {
-      room = c.in_ok-orders.ensures.capacity ∙ sym (ap length items ∙ length-replicate c.args.frames None);
+      few = omega (arith, count, c.requires);
+      room = c.in_ok-orders.ensures.capacity ∙ sym count;
       blocks = sym (count_none (λ first. is_some (order_of orders first)) (length orders) (λ first h. ap is_some (none first)));
       frames = sym (count_none (held_at orders) (length orders) (λ frame h. none_some (λ first. covers (order_of orders first) first frame) (length orders) (λ first below. ap (λ (o : Option ℕ). covers o first frame) (none first))));
     }

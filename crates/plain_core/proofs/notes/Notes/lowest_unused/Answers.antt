@@ -1,20 +1,25 @@
-use Rattle.std.proofs.Common.{◌≡◌, ◌∙◌, sym, ap, length, List, arith}
-use Rattle.std.specs.Prelude.{Some, is_none}
-use Rattle.frame_core.proofs.Searches.{lowest_before}
+use Rattle.std.proofs.Common.{◌≡◌, ◌∙◌, ℕ, sym, ap, length, List}
+use Rattle.std.specs.Prelude.{Option, is_none}
+use Rattle.std.specs.FinSet as set
 use Rattle.frame_core.specs.Below.{lowest}
+use Rattle.scan_core.specs.NumberSet.{capacity}
 use Rattle.plain_core.specs.declared.note.Note.{Note}
+use Rattle.plain_core.specs.declared.notes.Notes.TheInside.{Inside}
 use Rattle.plain_core.specs.Notes.{placement_of}
-use Rattle.plain_core.proofs.SearchesAndCounts.{some_when}
+use Rattle.plain_core.specs.NotesInside.{IsCounted}
+use Rattle.plain_core.proofs.SearchesAndCounts.{some_is}
+use Rattle.plain_core.proofs.Unused.{lowest_within}
 use Rattle.plain_core.proofs.notes.Notes.lowest_unused.Goals as goal
 
-pub invariant_of-self : goal.invariant_of-self
-invariant_of-self c =
-    let found : lowest (λ page. is_none (placement_of c.self.inside.notes.items page)) (length c.self.inside.notes.items) ≡ Some c.in-Some.page =
-    ap (λ (notes : List Note). lowest (λ page. is_none (placement_of notes page)) (length notes)) (sym c.deref.ensures.value) ∙ sym c.lowest_unused-found.ensures ∙ c.in-Some.is in
-    record {
-      few = c.self.invariant.few;
-      room = c.self.invariant.room;
-      in_use = c.self.invariant.in_use;
-      from = λ page h. some_when (placement_of c.self.inside.notes.items page)
-          (lowest_before (λ q. is_none (placement_of c.self.inside.notes.items q)) (length c.self.inside.notes.items) c.in-Some.page page found (omega (arith, h, c.get-self-inside.ensures.value)));
-    }
+found : (z : Inside) (v : List Note) (result : Option ℕ) → IsCounted z → z.notes.items ≡ v → result ≡ lowest (set.contains z.unused) capacity → result ≡ lowest (λ page. is_none (placement_of v page)) (length v)
+found z v result counted view lowest_is =
+    lowest_is ∙ lowest_within (λ page. is_none (placement_of z.notes.items page)) (set.contains z.unused) (length z.notes.items) counted.few counted.unused
+    ∙ ap (λ (notes : List Note). lowest (λ page. is_none (placement_of notes page)) (length notes)) view
+
+pub returns-in_err-lowest : goal.returns-in_err-lowest
+returns-in_err-lowest c = c.from_residual.ensures ∙ sym c.in_err-lowest.was ∙ found c.self.inside c.args.self.now c.lowest.result c.self.invariant c.self.view_is c.lowest.ensures.lowest
+
+pub returns : goal.returns
+returns c =
+    some_is c.new.result c.in_ok-lowest.field-0 (c.new.ensures.valid.1 c.in_ok-lowest.ensures.within) c.new.ensures.value
+    ∙ sym c.in_ok-lowest.was ∙ found c.self.inside c.args.self.now c.lowest.result c.self.invariant c.self.view_is c.lowest.ensures.lowest

@@ -1,10 +1,11 @@
 use Rattle.std.proofs.Common.{◌∙◌, replicate, length, List, ap, sym, arith}
-use Rattle.std.specs.Prelude.{is_some}
+use Rattle.std.specs.Prelude.{is_some, is_none, nat_lt, ◌&&◌}
 use Rattle.frame_core.proofs.Searches.{count_none}
 use Rattle.std.proofs.lemmas.List.{length-replicate}
 use Rattle.plain_core.specs.declared.note.Note.{Note}
-use Rattle.plain_core.specs.Notes.{is_in_use, unused_note}
+use Rattle.plain_core.specs.Notes.{placement_of, is_in_use, unused_note}
 use Rattle.plain_core.proofs.Copies.{no_placement}
+use Rattle.scan_core.proofs.Masking.{and_true}
 use Rattle.plain_core.proofs.notes.Notes.open.Goals as goal
 
 pub invariant_of-result : goal.invariant_of-result
@@ -15,5 +16,6 @@ invariant_of-result c =
       few = omega (arith, count, c.requires);
       room = c.in_ok-notes.ensures.capacity ∙ sym count;
       in_use = sym (count_none (is_in_use c.in_ok-notes.notes.items) _ (λ page h. ap (λ (notes : List Note). is_in_use notes page) items ∙ ap is_some (no_placement c.args.count page)));
-      from = λ page h. absurd (omega (arith, h));
+      unused = λ page. c.numbers_below.ensures page ∙ sym (and_true (nat_lt page c.args.count))
+          ∙ (λ i. nat_lt page (sym count i) && sym (ap is_none (ap (λ (notes : List Note). placement_of notes page) items ∙ no_placement c.args.count page)) i);
     }

@@ -5,6 +5,7 @@ use Rattle.journal_core.specs.declared.record.Record.TheVariants.{Moved}
 use Rattle.scan_core.specs.Frames.{Frames}
 use Rattle.state_core.specs.Pairs.{can_move}
 use Rattle.plain_core.proofs.Tables.{words_seen, note_seen, movable_seen}
+use Rattle.plain_core.proofs.ListedAddresses.{all_left, target_unnamed}
 use Rattle.plain_core.specs.Fits.{MovesFit}
 use Rattle.plain_core.specs.Moves.{Moves}
 use Rattle.plain_core.proofs.OutAndEnded.{some_out, moves_arrived}
@@ -15,7 +16,7 @@ use Rattle.state_core.specs.Ending.{IsSettled, target_of, moved_to_target}
 use Rattle.plain_core.specs.Sound.{IsSound, state_of}
 use Rattle.state_core.specs.ZoneState.{ZoneState}
 use Rattle.state_core.proofs.Facts.{not_none}
-use Rattle.state_core.proofs.Settled.{can_move_on, moved_recorded, frames_apart, source_within, target_in}
+use Rattle.state_core.proofs.Settled.{can_move_on, moved_recorded, frames_apart, source_within, target_in, swept_if_moved}
 use Rattle.plain_core.proofs.MoveEnds.{moved_frames, moved_words, kept_movable, two_puts, then_noted, moved_settled, some_on_the_way, ending_room}
 use Rattle.plain_core.proofs.Relocation.{Settling, FramesSettled, MovableSettled, WordsSettled, settle_sound, settle_view}
 use Rattle.plain_core.proofs.plain.PlainZone.arrive.Goals as goal
@@ -93,7 +94,7 @@ settling c =
       movable = subst (λ (fs : Frames). MovableSettled z.frames.movable fs.movable (can_move v way.page) (At way.target)) (sym (frames_are c))
           (kept_movable z.frames.movable (can_move v way.page) c.can_move.result way.target (omega (arith, target_here, sound.movable.count))
           (c.can_move.ensures ∙ movable_seen z v way.page c.get-note.result (note_seen z v c.self.view_is sound way.page (not_none _ (Moving way.serial way.source way.target) at) c.get-note.result c.get-note.ensures)));
-      tables = c.to_present.ensures;
+      tables = c.to_present.ensures.replaced;
       words = subst (λ (rows : List (List ℕ)). WordsSettled z.words rows (Moving way.serial way.source way.target) (At way.target)) (sym c.write_in.ensures.written)
           (moved_words z.words c.args.copy.now.words way.serial way.source way.target (omega (arith, target_here, sound.words.count)) (c.requires.words ∙ sym (words_seen z.words v sound.words law way.page (Moving way.serial way.source way.target) at)) c.write_in.ensures.eight);
       notes = c.put-3.ensures ∙ ap (slice_set z.notes way.page) c.placed.ensures;
@@ -101,7 +102,9 @@ settling c =
           (moves_arrived z.moves v.records v.room sound.moves way.serial (ending_room v way.page way.serial way.source way.target law at));
       fingers_are = ap (λ (u : ZoneState). record { migrate = u.migrate; free = u.free }) c.self.view_is;
       fingers = law.fingers;
+      swept = swept_if_moved v way.page way.serial way.source way.target law at;
       history = c.note.ensures;
+      frames_same = c.to_present.ensures.frames;
       number_same = refl;
       blocks_same = refl;
       marked_same = refl;
@@ -131,3 +134,25 @@ returns-clause-settled c =
 
 pub returns-clause-lawful : goal.returns-clause-lawful
 returns-clause-lawful c = (invariant_of-self c).lawful
+
+pub to_present-requires-clause-source_within : goal.to_present-requires-clause-source_within
+to_present-requires-clause-source_within c =
+    let sound : IsSound c.self.inside c.args.self.now = subst (IsSound c.self.inside) c.self.view_is c.self.invariant in
+    let within = source_within c.args.self.now c.args.way.now.page c.args.way.now.serial c.args.way.now.source c.args.way.now.target sound.lawful c.requires.placed in
+    omega (arith, within, sound.tables)
+
+pub to_present-requires-clause-within : goal.to_present-requires-clause-within
+to_present-requires-clause-within c =
+    let sound : IsSound c.self.inside c.args.self.now = subst (IsSound c.self.inside) c.self.view_is c.self.invariant in
+    let within = target_in c.args.self.now c.args.way.now.page c.args.way.now.serial c.args.way.now.source c.args.way.now.target sound.lawful c.requires.placed in
+    omega (arith, within, sound.tables)
+
+pub to_present-requires-clause-left : goal.to_present-requires-clause-left
+to_present-requires-clause-left c =
+    let sound : IsSound c.self.inside c.args.self.now = subst (IsSound c.self.inside) c.self.view_is c.self.invariant in
+    all_left c.self.inside.tables.entries c.args.self.now sound.entries sound.lawful c.args.way.now.page c.args.way.now.serial c.args.way.now.source c.args.way.now.target c.requires.placed
+
+pub to_present-requires-clause-unnamed : goal.to_present-requires-clause-unnamed
+to_present-requires-clause-unnamed c =
+    let sound : IsSound c.self.inside c.args.self.now = subst (IsSound c.self.inside) c.self.view_is c.self.invariant in
+    target_unnamed c.self.inside.tables.entries c.args.self.now sound.entries sound.lawful c.args.way.now.page c.args.way.now.serial c.args.way.now.source c.args.way.now.target c.requires.placed

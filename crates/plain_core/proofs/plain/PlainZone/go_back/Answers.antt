@@ -5,6 +5,7 @@ use Rattle.journal_core.specs.declared.record.Record.TheVariants.{Back}
 use Rattle.scan_core.specs.Frames.{Frames}
 use Rattle.state_core.specs.Pairs.{can_move}
 use Rattle.plain_core.proofs.Tables.{note_seen, movable_seen}
+use Rattle.plain_core.proofs.ListedAddresses.{all_left}
 use Rattle.plain_core.specs.Fits.{MovesFit}
 use Rattle.plain_core.specs.Moves.{Moves}
 use Rattle.plain_core.proofs.OutAndEnded.{some_out, moves_back}
@@ -15,7 +16,7 @@ use Rattle.state_core.specs.Ending.{IsSettled, source_of, put_back_to_source}
 use Rattle.plain_core.specs.Sound.{IsSound, state_of}
 use Rattle.state_core.specs.ZoneState.{ZoneState}
 use Rattle.state_core.proofs.Facts.{not_none}
-use Rattle.state_core.proofs.Settled.{can_go_back, back_recorded, frames_apart, source_within, target_in}
+use Rattle.state_core.proofs.Settled.{can_go_back, back_recorded, frames_apart, source_within, target_in, swept_if_put_back}
 use Rattle.plain_core.proofs.MoveEnds.{back_frames, back_words, kept_movable, two_puts, then_noted, back_settled, some_on_the_way, ending_room}
 use Rattle.plain_core.proofs.Relocation.{Settling, FramesSettled, MovableSettled, settle_sound, settle_view}
 use Rattle.plain_core.proofs.plain.PlainZone.go_back.Goals as goal
@@ -86,14 +87,16 @@ settling c =
       movable = subst (λ (fs : Frames). MovableSettled z.frames.movable fs.movable (can_move v way.page) (At way.source)) (sym (frames_are c))
           (kept_movable z.frames.movable (can_move v way.page) c.can_move.result way.source (omega (arith, source_in, sound.movable.count))
           (c.can_move.ensures ∙ movable_seen z v way.page c.get-note.result (note_seen z v c.self.view_is sound way.page (not_none _ (Moving way.serial way.source way.target) at) c.get-note.result c.get-note.ensures)));
-      tables = c.to_present.ensures;
+      tables = c.to_present.ensures.replaced;
       words = back_words z.words v sound.words way.serial way.source way.target source_in;
       notes = c.put-3.ensures ∙ ap (slice_set z.notes way.page) c.placed.ensures;
       moves = subst (λ (moves : Moves). MovesFit moves (Back way.serial c.args.cause ∷ v.records) (v.room - 1)) (sym c.go_back.ensures)
           (moves_back z.moves v.records v.room sound.moves way.serial c.args.cause (ending_room v way.page way.serial way.source way.target law at));
       fingers_are = ap (λ (u : ZoneState). record { migrate = u.migrate; free = u.free }) c.self.view_is;
       fingers = law.fingers;
+      swept = swept_if_put_back v way.page way.serial way.source way.target law at c.args.cause;
       history = c.note.ensures;
+      frames_same = c.to_present.ensures.frames;
       number_same = refl;
       blocks_same = refl;
       marked_same = refl;
@@ -123,3 +126,20 @@ returns-clause-settled c =
 
 pub returns-clause-lawful : goal.returns-clause-lawful
 returns-clause-lawful c = (invariant_of-self c).lawful
+
+pub to_present-requires-clause-source_within : goal.to_present-requires-clause-source_within
+to_present-requires-clause-source_within c =
+    let sound : IsSound c.self.inside c.args.self.now = subst (IsSound c.self.inside) c.self.view_is c.self.invariant in
+    let within = source_within c.args.self.now c.args.way.now.page c.args.way.now.serial c.args.way.now.source c.args.way.now.target sound.lawful c.requires.placed in
+    omega (arith, within, sound.tables)
+
+pub to_present-requires-clause-within : goal.to_present-requires-clause-within
+to_present-requires-clause-within c =
+    let sound : IsSound c.self.inside c.args.self.now = subst (IsSound c.self.inside) c.self.view_is c.self.invariant in
+    let within = source_within c.args.self.now c.args.way.now.page c.args.way.now.serial c.args.way.now.source c.args.way.now.target sound.lawful c.requires.placed in
+    omega (arith, within, sound.tables)
+
+pub to_present-requires-clause-left : goal.to_present-requires-clause-left
+to_present-requires-clause-left c =
+    let sound : IsSound c.self.inside c.args.self.now = subst (IsSound c.self.inside) c.self.view_is c.self.invariant in
+    all_left c.self.inside.tables.entries c.args.self.now sound.entries sound.lawful c.args.way.now.page c.args.way.now.serial c.args.way.now.source c.args.way.now.target c.requires.placed

@@ -10,6 +10,7 @@ use Rattle.state_core.specs.declared.placement.Placement.TheVariants.{At, Moving
 use Rattle.scan_core.specs.Frames.{Frames}
 use Rattle.plain_core.proofs.MoveEnds.{two_puts}
 use Rattle.state_core.specs.Pairs.{can_move}
+use Rattle.plain_core.proofs.ListedAddresses.{fresh_serial}
 use Rattle.plain_core.specs.Fits.{MovesFit}
 use Rattle.plain_core.specs.History.{told}
 use Rattle.plain_core.specs.Moves.{Moves}
@@ -17,7 +18,7 @@ use Rattle.state_core.proofs.Facts.{isolated_most}
 use Rattle.plain_core.proofs.OutAndEnded.{moves_more}
 use Rattle.plain_core.specs.Sound.{IsSound}
 use Rattle.plain_core.proofs.Isolation.{isolated_frames, isolated_words, isolated_movable}
-use Rattle.state_core.proofs.Settled.{can_isolate, isolate_recorded, target_within}
+use Rattle.state_core.proofs.Settled.{can_isolate, isolate_recorded, target_within, swept_if_isolated}
 use Rattle.plain_core.proofs.Relocation.{Settling, FramesSettled, MovableSettled, settle_sound, settle_view}
 use Rattle.plain_core.proofs.plain.PlainZone.isolate.Goals as goal
 use Rattle.plain_core.proofs.plain.PlainZone.isolate.Goals.{After-note}
@@ -79,14 +80,16 @@ settling c =
           (isolated_frames z.frames.states pair.page pair.source pair.target (isolated v.records) (λ e. absurd (omega arith)) (omega (arith, target_in, sound.frames.count)) (omega (arith, target_in, sound.frames.count))));
       movable = subst (λ (fs : Frames). MovableSettled z.frames.movable fs.movable (can_move v pair.page) (Moving (isolated v.records) pair.source pair.target)) (sym frames_are)
           (isolated_movable z.frames.movable (can_move v pair.page) (isolated v.records) pair.source pair.target);
-      tables = subst (λ (n : ℕ). Replaces z.tables c.to_migration.new.self (Present pair.source) (Migration n)) serial c.to_migration.ensures;
+      tables = subst (λ (n : ℕ). Replaces z.tables.entries c.to_migration.new.self.entries (Present pair.source) (Migration n pair.source)) serial c.to_migration.ensures.replaced;
       words = isolated_words z.words v sound.words (isolated v.records) pair.source pair.target (omega arith) target_in;
       notes = c.put-3.ensures ∙ ap (slice_set z.notes pair.page) (c.placed.ensures ∙ ap (λ (n : ℕ). record c.get-note.result { placement = Some (Moving n pair.source pair.target) }) serial);
       moves = subst (λ (moves : Moves). MovesFit moves (Isolate (isolated v.records) pair.page ∷ v.records) (v.room - 1)) (sym c.isolate-serial.ensures.pages)
           (moves_more z.moves v.records v.room sound.moves pair.page (omega arith));
       fingers_are = λ i. record { migrate = c.get.ensures.value i + 1; free = c.get-2.ensures.value i };
       fingers = (omega arith, omega arith);
+      swept = swept_if_isolated v pair law is;
       history = c.note.ensures ∙ ap (λ (n : ℕ). told z.history (Isolate n pair.page)) serial;
+      frames_same = c.to_migration.ensures.frames;
       number_same = refl;
       blocks_same = refl;
       marked_same = refl;
@@ -103,3 +106,16 @@ returns-clause-step c = settle_view c.self.inside (after c.before) c.args.self.n
 
 pub returns-clause-lawful : goal.returns-clause-lawful
 returns-clause-lawful c = (invariant_of-self c).lawful
+
+pub to_migration-requires-clause-within : goal.to_migration-requires-clause-within
+to_migration-requires-clause-within c =
+    let sound : IsSound c.self.inside c.args.self.now = subst (IsSound c.self.inside) c.self.view_is c.self.invariant in
+    let within = target_within c.args.self.now c.args.pair sound.lawful c.requires.pair in
+    let low = c.requires.pair.to.low in
+    omega (arith, within, low, sound.tables)
+
+pub to_migration-requires-clause-fresh : goal.to_migration-requires-clause-fresh
+to_migration-requires-clause-fresh c =
+    let sound : IsSound c.self.inside c.args.self.now = subst (IsSound c.self.inside) c.self.view_is c.self.invariant in
+    let serial : c.isolate-serial.result ≡ isolated c.args.self.now.records = c.isolate-serial.ensures.serial ∙ sound.moves.count in
+    λ a source range e. fresh_serial c.self.inside.tables.entries c.args.self.now sound.entries sound.lawful a source range (e ∙ ap (λ (n : ℕ). Migration n source) serial)

@@ -9,6 +9,7 @@ use Rattle.state_core.proofs.Facts.{spare}
 use Rattle.state_core.proofs.Finding.{some_lowest, unused_is}
 use Rattle.state_core.proofs.Placed.{CanPlace}
 use Rattle.plain_core.proofs.FreshPage.{Placing, fresh_note, after_place, place_view, place_sound}
+use Rattle.plain_core.proofs.ListedAddresses.{count_none, not_used}
 use Rattle.plain_core.proofs.MoveEnds.{then_noted}
 use Rattle.scan_core.specs.Frames.{Frames}
 use Rattle.plain_core.proofs.plain.PlainZone.place.Goals as goal
@@ -19,8 +20,8 @@ unused_page-page-requires c = some_lowest c.args.self.now c.args.frame c.require
 
 can : (c : After-note) → CanPlace c.args.self.now c.args.address c.unused_page-page.result c.args.frame
 can c =
-    let sound : IsSound c.self.inside c.args.self.now = subst (IsSound c.self.inside) (c.self.view_is ∙ c.unused_page-page.ensures.same) c.self.invariant in
-    let unused = unused_is c.args.self.now c.unused_page-page.result c.unused_page-page.ensures.lowest in
+    let sound : IsSound c.self.inside c.args.self.now = subst (IsSound c.self.inside) c.self.view_is c.self.invariant in
+    let unused = unused_is c.args.self.now c.unused_page-page.result c.unused_page-page.ensures in
     record {
       lawful = sound.lawful;
       spare = spare c.args.self.now c.requires.room;
@@ -34,29 +35,30 @@ can c =
 
 pub put-requires : goal.put-requires
 put-requires c =
-    let sound : IsSound c.self.inside c.args.self.now = subst (IsSound c.self.inside) (c.self.view_is ∙ c.unused_page-page.ensures.same) c.self.invariant in
+    let sound : IsSound c.self.inside c.args.self.now = subst (IsSound c.self.inside) c.self.view_is c.self.invariant in
     omega (arith, c.requires.within, sound.frames.count)
 
 pub set_movable-requires : goal.set_movable-requires
 set_movable-requires c =
-    let sound : IsSound c.self.inside c.args.self.now = subst (IsSound c.self.inside) (c.self.view_is ∙ c.unused_page-page.ensures.same) c.self.invariant in
+    let sound : IsSound c.self.inside c.args.self.now = subst (IsSound c.self.inside) c.self.view_is c.self.invariant in
     omega (arith, c.requires.within, sound.frames.count, c.put.ensures.frames)
 
 pub put-requires-2 : goal.put-requires-2
 put-requires-2 c =
-    let sound : IsSound c.self.inside c.args.self.now = subst (IsSound c.self.inside) (c.self.view_is ∙ c.unused_page-page.ensures.same) c.self.invariant in
-    let unused = unused_is c.args.self.now c.unused_page-page.result c.unused_page-page.ensures.lowest in
+    let sound : IsSound c.self.inside c.args.self.now = subst (IsSound c.self.inside) c.self.view_is c.self.invariant in
+    let unused = unused_is c.args.self.now c.unused_page-page.result c.unused_page-page.ensures in
     omega (arith, unused.0, sound.notes.count)
 
 placing : (c : After-note) → Placing c.self.inside c.args.self.now c.args.client c.args.address c.args.unmovable c.unused_page-page.result c.args.frame c.set.new.self c.note.new.self
 placing c =
-    let sound : IsSound c.self.inside c.args.self.now = subst (IsSound c.self.inside) (c.self.view_is ∙ c.unused_page-page.ensures.same) c.self.invariant in
-    let unused = unused_is c.args.self.now c.unused_page-page.result c.unused_page-page.ensures.lowest in
+    let sound : IsSound c.self.inside c.args.self.now = subst (IsSound c.self.inside) c.self.view_is c.self.invariant in
+    let unused = unused_is c.args.self.now c.unused_page-page.result c.unused_page-page.ensures in
     record {
       sound = sound;
-      view = c.self.view_is ∙ c.unused_page-page.ensures.same;
+      view = c.self.view_is;
       can = can c;
       tables_new = c.set.ensures.set;
+      frames_same = c.set.ensures.frames;
       history_is = c.note.ensures;
     }
 
@@ -91,7 +93,17 @@ invariant_of-self c =
 pub returns-clause-step : goal.returns-clause-step
 returns-clause-step c =
     ap state_of (same c) ∙ view c
-    ∙ ap (λ (page : ℕ). placed c.args.self.now c.args.client c.args.address c.args.unmovable page c.args.frame) (sym (ap (λ o. unwrap_or o 0) c.unused_page-page.ensures.lowest))
+    ∙ ap (λ (page : ℕ). placed c.args.self.now c.args.client c.args.address c.args.unmovable page c.args.frame) (sym (ap (λ o. unwrap_or o 0) c.unused_page-page.ensures))
 
 pub returns-clause-lawful : goal.returns-clause-lawful
 returns-clause-lawful c = (invariant_of-self c).lawful
+
+pub set-requires-clause-within : goal.set-requires-clause-within
+set-requires-clause-within c =
+    let sound : IsSound c.self.inside c.args.self.now = subst (IsSound c.self.inside) c.self.view_is c.self.invariant in
+    omega (arith, c.requires.within, sound.tables)
+
+pub set-requires-clause-room : goal.set-requires-clause-room
+set-requires-clause-room c =
+    let sound : IsSound c.self.inside c.args.self.now = subst (IsSound c.self.inside) c.self.view_is c.self.invariant in
+    omega (arith, count_none c.self.inside.tables.entries c.args.self.now sound.entries sound.lawful c.args.frame (not_used _ _ c.requires.free))

@@ -8,9 +8,9 @@ pub unreachable-requires : goal.unreachable-requires
 unreachable-requires c =
     let sound : IsSound c.self.inside c.args.self.now = subst (IsSound c.self.inside) c.self.view_is c.self.invariant in
     unused_left c.args.self.now sound.lawful c.requires
-    (sym (lowest_unused_seen c.self.inside c.args.self.now c.self.view_is sound.notes.count) ∙ sym c.lowest_unused.ensures.lowest ∙ c.in_default.is)
+    (sym (lowest_unused_seen c.self.inside c.args.self.now c.self.view_is sound.notes.count) ∙ sym c.lowest_unused.ensures ∙ c.in_default.is)
 
-pub returns-clause-lowest : goal.returns-clause-lowest
-returns-clause-lowest c =
+pub returns : goal.returns
+returns c =
     let sound : IsSound c.self.inside c.args.self.now = subst (IsSound c.self.inside) c.self.view_is c.self.invariant in
-    sym (lowest_unused_seen c.self.inside c.args.self.now c.self.view_is sound.notes.count) ∙ sym c.lowest_unused.ensures.lowest ∙ c.in-Some.is
+    sym (lowest_unused_seen c.self.inside c.args.self.now c.self.view_is sound.notes.count) ∙ sym c.lowest_unused.ensures ∙ c.in-Some.is

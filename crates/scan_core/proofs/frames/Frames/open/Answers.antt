@@ -1,10 +1,30 @@
-use Rattle.std.proofs.Common.{List, refl, subst}
+use Rattle.std.proofs.Common.{◌≡◌, ◌+◌, ◌<◌, ◌≤◌, ◌^◌, ◌∙◌, ℕ, Bool, true, false, List, length, length-set, refl, sym, ap, subst, Vec, arith}
+use Rattle.std.specs.Prelude.{Some, None, IfSome, unwrap_or, nat_le, slice_get, slice_set, ◌&&◌, ◌||◌}
+use Rattle.std.specs.FinSet as set
+use Rattle.std.proofs.lemmas.Option.{slice_get_read}
+use Rattle.scan_core.specs.Frames.{Frames, free_at, huge_at, true_at}
+use Rattle.scan_core.proofs.Sounding.{kept_length}
 use Rattle.frame_core.specs.declared.state.FrameState.{FrameState}
-use Rattle.scan_core.specs.BlockCounts.{CountsFree}
-use Rattle.scan_core.proofs.Sounding.{sound_free}
+use Rattle.frame_core.specs.declared.state.FrameState.TheVariants.{Free}
+use Rattle.std.specs.Prelude.{replicate, ◌*◌}
+use Rattle.std.proofs.lemmas.List.{length-replicate}
+use Rattle.scan_core.proofs.Steps.{sound_free}
 use Rattle.scan_core.proofs.frames.Frames.open.Goals as goal
 
 pub invariant_of-result : goal.invariant_of-result
 invariant_of-result c =
-    sound_free _ c.args.blocks c.requires.some c.requires.few c.in_ok-states.ensures.items c.in_ok-movable.ensures.items c.in_ok-states.ensures.capacity c.in_ok-movable.ensures.capacity refl
-    (subst (λ (list : List FrameState). CountsFree c.of.result list) c.deref.ensures.value c.of.ensures) refl
+    let free = λ (n : ℕ). c.of-free.ensures n ∙ ap (λ (xs : List FrameState). free_at xs n) c.deref.ensures.value in
+    let sound = sound_free (record { kept = c.in_ok-kept.kept; movable = c.in_ok-movable.movable; held = c.new.result; free = c.of-free.result; stuck = c.new-2.result }) c.args.blocks c.requires.some c.requires.few c.in_ok-kept.ensures.items c.in_ok-movable.ensures.items c.in_ok-kept.ensures.capacity c.in_ok-movable.ensures.capacity c.new.ensures c.new-2.ensures free in
+    sound.0
+
+pub returns-clause-open : goal.returns-clause-open
+returns-clause-open c =
+    let free = λ (n : ℕ). c.of-free.ensures n ∙ ap (λ (xs : List FrameState). free_at xs n) c.deref.ensures.value in
+    let sound = sound_free (record { kept = c.in_ok-kept.kept; movable = c.in_ok-movable.movable; held = c.new.result; free = c.of-free.result; stuck = c.new-2.result }) c.args.blocks c.requires.some c.requires.few c.in_ok-kept.ensures.items c.in_ok-movable.ensures.items c.in_ok-kept.ensures.capacity c.in_ok-movable.ensures.capacity c.new.ensures c.new-2.ensures free in
+    (λ i. record { states = sound.1 i; movable = c.in_ok-movable.ensures.items i })
+
+pub returns-clause-frames : goal.returns-clause-frames
+returns-clause-frames c =
+    let free = λ (n : ℕ). c.of-free.ensures n ∙ ap (λ (xs : List FrameState). free_at xs n) c.deref.ensures.value in
+    let sound = sound_free (record { kept = c.in_ok-kept.kept; movable = c.in_ok-movable.movable; held = c.new.result; free = c.of-free.result; stuck = c.new-2.result }) c.args.blocks c.requires.some c.requires.few c.in_ok-kept.ensures.items c.in_ok-movable.ensures.items c.in_ok-kept.ensures.capacity c.in_ok-movable.ensures.capacity c.new.ensures c.new-2.ensures free in
+    ap length sound.1 ∙ length-replicate (512 * c.args.blocks) Free

@@ -1,9 +1,13 @@
-use Rattle.std.proofs.Common.{◌≡◌, ◌∙◌, ap, subst, sym}
-use Rattle.std.specs.Prelude.{IfOk}
+use Rattle.std.proofs.Common.{◌≡◌, ◌∙◌, true, ap, subst, sym}
+use Rattle.std.specs.Prelude.{IfOk, OnOk}
 use Rattle.std.proofs.lemmas.Bool.{eqb-true}
 use Rattle.state_core.specs.declared.error.ZoneError.TheVariants.{Out}
+use Rattle.state_core.specs.Lawful.{IsLawful}
+use Rattle.state_core.specs.Packed.{IsPacked}
+use Rattle.state_core.specs.Pairs.{HaveMet}
+use Rattle.state_core.specs.ZoneState.{ZoneState, is_quiet}
 use Rattle.zone_core.specs.Seats.{EndSeat, IsAudited}
-use Rattle.zone_core.proofs.Seated.{audited, ok_if_some, passes_exactly, part_missing}
+use Rattle.zone_core.proofs.Seated.{audited, counts_most, ok_if_some, ok_packed, passes_exactly, part_missing}
 use Rattle.zone_core.proofs.zone.Zone.audit.Given.{Over}
 use Rattle.zone_core.proofs.zone.Zone.audit.Goals as goal
 use Rattle.zone_core.proofs.zone.Zone.audit.Goals.{After-ok_or}
@@ -19,6 +23,11 @@ returns-clause-ok g c =
     c.tell.ensures.count (c.tell-2.ensures.moved (whole_seat g c)) (c.tell-2.ensures.back (whole_seat g c)) c.counted.ensures.some
     c.counted.ensures.isolated c.counted.ensures.moved c.counted.ensures.back c.counted.ensures.sum))
 
+pub returns-clause-packed : goal.returns-clause-packed
+returns-clause-packed g c =
+    subst (λ (z : ZoneState). OnOk c.ok_or.result (is_quiet z ≡ true → HaveMet z → IsPacked z)) (sym c.self.view_is)
+    (ok_packed c.args.self.now c.args.scan.now c.args.ends.now c.ok_or.result (subst IsLawful c.self.view_is c.self.invariant.2) (returns-clause-ok g c))
+
 pub returns-clause-exact : goal.returns-clause-exact
 returns-clause-exact g c most =
     passes_exactly c.self.inside.plain c.args.scan.now c.args.ends.now _ _ _ c.counted.result c.ok_or.result Out c.self.invariant.2 c.self.invariant.0
@@ -26,4 +35,13 @@ returns-clause-exact g c most =
 
 pub returns-then-not-is_whole-clause-exact : goal.returns-then-not-is_whole-clause-exact
 returns-then-not-is_whole-clause-exact g c least =
+    absurd (part_missing c.args.ends.now c.tell-2.new.self c.tell-2.ensures.seat (sym c.is_whole.ensures.whole ∙ c.if-not-is_whole.true) c.is_whole.ensures.most least)
+
+pub returns-clause-most : goal.returns-clause-most
+returns-clause-most g c most =
+    counts_most c.self.inside.plain c.args.scan.now c.args.ends.now _ _ _ c.self.invariant.2 c.self.invariant.0
+    c.tell.ensures.count (c.tell-2.ensures.moved (whole_seat g c)) (c.tell-2.ensures.back (whole_seat g c))
+
+pub returns-then-not-is_whole-clause-most : goal.returns-then-not-is_whole-clause-most
+returns-then-not-is_whole-clause-most g c least =
     absurd (part_missing c.args.ends.now c.tell-2.new.self c.tell-2.ensures.seat (sym c.is_whole.ensures.whole ∙ c.if-not-is_whole.true) c.is_whole.ensures.most least)

@@ -1,10 +1,12 @@
-use Rattle.std.proofs.Common.{◌∙◌, ap, sym}
+use Rattle.std.proofs.Common.{◌∙◌, ap, subst, sym}
 use Rattle.std.specs.FinMap as map
 use Rattle.journal_core.specs.declared.record.Cause.TheVariants.{Pinned}
 use Rattle.journal_core.specs.declared.record.Record.TheVariants.{Moved, Back}
 use Rattle.word_core.specs.Page.{Page}
-use Rattle.state_core.specs.Ending.{is_own, source_of, target_of}
-use Rattle.state_core.specs.ZoneState.{ZoneState}
+use Rattle.state_core.specs.Ending.{is_own, source_of, target_of, moved_to_target}
+use Rattle.state_core.specs.Pairs.{HaveMet}
+use Rattle.state_core.specs.ZoneState.{ZoneState, is_quiet}
+use Rattle.state_core.proofs.StaysMet.{met_moved, never_pinned}
 use Rattle.zone_core.proofs.Seated.{ended_once, ended_in}
 use Rattle.zone_core.proofs.zone.Zone.commit.Goals as goal
 
@@ -27,3 +29,22 @@ pub returns-clause-settled : goal.returns-clause-settled
 returns-clause-settled g c =
     ended_in c.self.inside.plain c.args.self.now c.arrive.new.self c.args.copied c.in-Some.way.page c.in-Some.way.serial c.in-Some.way.source c.in-Some.way.target _ _ c.self.view_is
     (ap (λ (p : Page). p.number) (sym c.page.ensures) ∙ sym c.in-Some.ensures.named.0) (sym c.serial.ensures ∙ sym c.in-Some.ensures.named.1) c.in-Some.ensures.placed c.arrive.ensures.settled
+
+pub returns-clause-met : goal.returns-clause-met
+returns-clause-met g c quiet met =
+    let z = c.self.inside.plain in
+    let law = c.self.invariant.2 in
+    let way = c.in-Some.way in
+    subst HaveMet {x = moved_to_target z way.serial way.page} (sym c.arrive.ensures.step)
+    (met_moved z way.page way.serial way.source way.target law (law.swept (ap is_quiet c.self.view_is ∙ quiet)) c.in-Some.ensures.placed (subst HaveMet (sym c.self.view_is) met))
+
+-- in a quiet round no page has a pin
+pub returns-then-has_pin-clause-met : goal.returns-then-has_pin-clause-met
+returns-then-has_pin-clause-met g c quiet met =
+    let way = c.in-Some.way in
+    absurd (never_pinned c.self.inside.plain way.page way.serial way.source way.target c.self.invariant.2 c.in-Some.ensures.placed (ap is_quiet c.self.view_is ∙ quiet) (sym c.has_pin.ensures ∙ c.if-has_pin.true))
+
+pub returns-then-has_pin-clause-moves : goal.returns-then-has_pin-clause-moves
+returns-then-has_pin-clause-moves g c quiet =
+    let way = c.in-Some.way in
+    absurd (never_pinned c.self.inside.plain way.page way.serial way.source way.target c.self.invariant.2 c.in-Some.ensures.placed (ap is_quiet c.self.view_is ∙ quiet) (sym c.has_pin.ensures ∙ c.if-has_pin.true))

@@ -8,6 +8,7 @@ use Rattle.state_core.specs.Pairs.{IsPair}
 use Rattle.state_core.specs.ZoneState.{ZoneState}
 use Rattle.state_core.proofs.Entries.{get_insert_same, get_insert_other}
 use Rattle.state_core.proofs.Facts.{isolated_most}
+use Rattle.state_core.proofs.Packing.{packed_quiet}
 use Rattle.zone_core.proofs.zone.Zone.isolate_next.Goals as goal
 
 pub returns-clause-followed : goal.returns-clause-followed
@@ -35,3 +36,6 @@ returns-clause-pair g c =
           ∙ ap (λ (z : ZoneState). map.get z.placement other) c.self.view_is;
       names = λ address. ap (λ (z : ZoneState). page_at z.records address) step ∙ ap (λ (z : ZoneState). page_at z.records address) c.self.view_is;
     }
+
+pub returns-in_default-clause-packed : goal.returns-in_default-clause-packed
+returns-in_default-clause-packed g c met quiet none = packed_quiet c.self.inside.plain c.self.invariant.2 quiet none c.in_default.ensures.none

@@ -1,0 +1,10 @@
+use Rattle.std.proofs.Common.{◌∙◌, ap}
+use Rattle.std.specs.FinSet as set
+use Rattle.plain_core.proofs.Marks.{mark_read}
+use Rattle.plain_core.proofs.Tables.{mark_seen}
+use Rattle.plain_core.proofs.plain.PlainZone.is_marked.Goals as goal
+
+pub returns : goal.returns
+returns c =
+    mark_read c.self.inside.marked c.get.result ∙ mark_seen c.self.inside c.args.self.now c.self.view_is c.get.result c.get.ensures.range
+    ∙ ap (set.contains c.args.self.now.marked) c.get.ensures.value

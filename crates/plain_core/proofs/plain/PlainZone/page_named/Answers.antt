@@ -1,0 +1,40 @@
+use Rattle.std.proofs.Common.{◌≡◌, ◌∙◌, ℕ, ap, subst, sym}
+use Rattle.std.specs.Prelude.{Option, Some, IfSome}
+use Rattle.std.specs.FinMap as map
+use Rattle.state_core.specs.declared.placement.Placement.TheVariants.{At, Moving}
+use Rattle.plain_core.specs.Sound.{IsSound}
+use Rattle.state_core.specs.ZoneState.{placement_at}
+use Rattle.plain_core.proofs.LoadsAndStores.{present_is}
+use Rattle.state_core.proofs.Facts.{page_named, frame_within, not_none}
+use Rattle.state_core.proofs.Holding.{holder_at}
+use Rattle.plain_core.proofs.Tables.{migration_is, moving_page}
+use Rattle.plain_core.proofs.plain.PlainZone.page_named.Goals as goal
+
+named_so : (o : Option ℕ) (P : ℕ → Type 0) (page : ℕ) → o ≡ Some page → P page → IfSome o P
+named_so o P page is holds = subst (λ (o : Option ℕ). IfSome o P) (sym is) holds
+
+pub holder-requires : goal.holder-requires
+holder-requires c =
+    let sound : IsSound c.self.inside c.args.self.now = subst (IsSound c.self.inside) c.self.view_is c.self.invariant in
+    let at = present_is (placement_at c.args.self.now c.args.address.now) c.in-Present.frame
+    (sym (sound.entries.each c.args.address.now c.entry.ensures.range) ∙ sym c.entry.ensures.value ∙ c.in-Present.is) in
+    let page = page_named c.args.self.now c.args.address.now (At c.in-Present.frame) at in
+    frame_within c.args.self.now sound.lawful page.0 (At c.in-Present.frame) page.2
+
+pub returns-in-Present : goal.returns-in-Present
+returns-in-Present c =
+    let sound : IsSound c.self.inside c.args.self.now = subst (IsSound c.self.inside) c.self.view_is c.self.invariant in
+    let at = present_is (placement_at c.args.self.now c.args.address.now) c.in-Present.frame
+    (sym (sound.entries.each c.args.address.now c.entry.ensures.range) ∙ sym c.entry.ensures.value ∙ c.in-Present.is) in
+    let page = page_named c.args.self.now c.args.address.now (At c.in-Present.frame) at in
+    let is = c.holder.ensures.holder ∙ holder_at c.args.self.now sound.lawful page.0 c.in-Present.frame page.2 in
+    record { page = is ∙ sym page.1; in_use = named_so c.holder.result _ page.0 is (not_none _ (At c.in-Present.frame) page.2) }
+
+pub returns-in-Migration : goal.returns-in-Migration
+returns-in-Migration c =
+    let sound : IsSound c.self.inside c.args.self.now = subst (IsSound c.self.inside) c.self.view_is c.self.invariant in
+    let at = migration_is (placement_at c.args.self.now c.args.address.now) c.in-Migration.serial c.in-Migration.source
+    (sym (sound.entries.each c.args.address.now c.entry.ensures.range) ∙ sym c.entry.ensures.value ∙ c.in-Migration.is) in
+    let page = page_named c.args.self.now c.args.address.now (Moving c.in-Migration.serial c.in-Migration.source at.0) at.1 in
+    let is = c.page_under.ensures ∙ moving_page c.args.self.now sound.lawful page.0 c.in-Migration.serial c.in-Migration.source at.0 page.2 in
+    record { page = is ∙ sym page.1; in_use = named_so c.page_under.result _ page.0 is (not_none _ (Moving c.in-Migration.serial c.in-Migration.source at.0) page.2) }

@@ -1,0 +1,59 @@
+use Rattle.std.proofs.Common.{◌≡◌, ◌∙◌, ℕ, ◌+◌, ap, subst, arith}
+use Rattle.std.specs.Prelude.{Option, slice_set, unwrap_or}
+use Rattle.journal_core.specs.declared.record.Record.TheVariants.{Share}
+use Rattle.journal_core.specs.History.{maps}
+use Rattle.state_core.specs.declared.placement.Placement.TheVariants.{At}
+use Rattle.state_core.proofs.Facts.{frame_within, page_stands, spare}
+use Rattle.state_core.proofs.Sharing.{CanShare}
+use Rattle.plain_core.specs.Sound.{IsSound}
+use Rattle.plain_core.proofs.ListedAddresses.{count_names}
+use Rattle.plain_core.proofs.Noting.{Noting, noting_holds}
+use Rattle.plain_core.proofs.Shared.{sharing}
+use Rattle.plain_core.proofs.Tables.{note_seen}
+use Rattle.plain_core.proofs.plain.PlainZone.share.Goals as goal
+use Rattle.plain_core.proofs.plain.PlainZone.share.Goals.{After-note}
+
+pub with_address-requires : goal.with_address-requires
+with_address-requires c =
+    let sound : IsSound c.self.inside c.args.self.now = subst (IsSound c.self.inside) c.self.view_is c.self.invariant in
+    let seen = note_seen c.self.inside c.args.self.now c.self.view_is sound c.page_at-page.result c.page_at-page.ensures.in_use c.get-note.result c.get-note.ensures in
+    omega (arith, c.requires.few, ap (λ (o : Option ℕ). maps c.args.self.now.records (unwrap_or o 0)) c.page_at-page.ensures.named, seen.fits.maps)
+
+can : (c : After-note) → CanShare c.args.self.now c.args.address c.args.alias c.page_at-page.result c.args.frame
+can c =
+    let sound : IsSound c.self.inside c.args.self.now = subst (IsSound c.self.inside) c.self.view_is c.self.invariant in
+    record {
+      lawful = sound.lawful;
+      spare = spare c.args.self.now c.requires.room;
+      named = c.page_at-page.ensures.named;
+      at = page_stands c.args.self.now c.args.address (At c.args.frame) c.page_at-page.result c.page_at-page.ensures.named c.requires.frame;
+      range = c.set.ensures.range;
+      vacant = c.requires.vacant;
+      few = omega (arith, c.requires.few, ap (λ (o : Option ℕ). maps c.args.self.now.records (unwrap_or o 0)) c.page_at-page.ensures.named);
+    }
+
+known : (c : After-note) → Noting c.self.inside c.args.self.now c.page_at-page.result (Share c.args.client c.args.address c.args.alias) c.get-note.result (record c.get-note.result { maps = c.get-note.result.maps + 1 }) c.self.inside.frames c.set.new.self c.note.new.self
+known c =
+    sharing c.self.inside c.args.self.now (subst (IsSound c.self.inside) c.self.view_is c.self.invariant) c.self.view_is c.args.client c.args.address c.args.alias c.page_at-page.result c.args.frame (can c)
+    c.get-note.result c.set.new.self c.note.new.self c.get-note.ensures c.set.ensures.set c.set.ensures.frames c.note.ensures
+
+pub invariant_of-self : goal.invariant_of-self
+invariant_of-self c = (noting_holds _ _ _ _ _ _ _ _ _ (known c) c.put.new.self (c.put.ensures ∙ ap (slice_set c.self.inside.notes c.page_at-page.result) c.with_address.ensures)).0
+
+pub returns-clause-step : goal.returns-clause-step
+returns-clause-step c = (noting_holds _ _ _ _ _ _ _ _ _ (known c) c.put.new.self (c.put.ensures ∙ ap (slice_set c.self.inside.notes c.page_at-page.result) c.with_address.ensures)).1
+
+pub returns-clause-lawful : goal.returns-clause-lawful
+returns-clause-lawful c = (invariant_of-self c).lawful
+
+pub set-requires-clause-within : goal.set-requires-clause-within
+set-requires-clause-within c =
+    let sound : IsSound c.self.inside c.args.self.now = subst (IsSound c.self.inside) c.self.view_is c.self.invariant in
+    let at = page_stands c.args.self.now c.args.address (At c.args.frame) c.page_at-page.result c.page_at-page.ensures.named c.requires.frame in
+    omega (arith, frame_within c.args.self.now sound.lawful c.page_at-page.result (At c.args.frame) at, sound.tables)
+
+pub set-requires-clause-room : goal.set-requires-clause-room
+set-requires-clause-room c =
+    let sound : IsSound c.self.inside c.args.self.now = subst (IsSound c.self.inside) c.self.view_is c.self.invariant in
+    let at = page_stands c.args.self.now c.args.address (At c.args.frame) c.page_at-page.result c.page_at-page.ensures.named c.requires.frame in
+    omega (arith, c.requires.few, ap (λ (o : Option ℕ). maps c.args.self.now.records (unwrap_or o 0)) c.page_at-page.ensures.named, count_names c.self.inside.tables.entries c.args.self.now sound.entries sound.lawful c.page_at-page.result c.args.frame at)

@@ -1,0 +1,42 @@
+use Rattle.std.proofs.Common.{◌≡◌, ◌∙◌, ℕ, ◌-◌, ap, subst, arith}
+use Rattle.std.specs.Prelude.{slice_set}
+use Rattle.journal_core.specs.declared.record.Record.TheVariants.{Unmap}
+use Rattle.state_core.specs.declared.placement.Placement.TheVariants.{At}
+use Rattle.state_core.proofs.Facts.{not_none, spare}
+use Rattle.plain_core.specs.Sound.{IsSound}
+use Rattle.plain_core.proofs.Noting.{Noting, noting_holds}
+use Rattle.plain_core.proofs.Unmapped.{Unmapping, unmapping_one}
+use Rattle.plain_core.proofs.Tables.{note_seen}
+use Rattle.plain_core.proofs.plain.PlainZone.unmap_one.Goals as goal
+use Rattle.plain_core.proofs.plain.PlainZone.unmap_one.Goals.{After-note}
+
+pub without_address-requires : goal.without_address-requires
+without_address-requires c =
+    let sound : IsSound c.self.inside c.args.self.now = subst (IsSound c.self.inside) c.self.view_is c.self.invariant in
+    let used = not_none _ (At c.requires.here.0) c.requires.here.1 in
+    let seen = note_seen c.self.inside c.args.self.now c.self.view_is sound c.args.page used c.get-note.result c.get-note.ensures in
+    omega (arith, seen.fits.maps, (sound.lawful.in_use c.args.page used).0)
+
+unmapping : (c : After-note) → Unmapping c.self.inside c.args.self.now c.args.client c.args.address c.args.page c.requires.here.0 c.clear.new.self c.note.new.self
+unmapping c =
+    let sound : IsSound c.self.inside c.args.self.now = subst (IsSound c.self.inside) c.self.view_is c.self.invariant in
+    record {
+      sound = sound;
+      view = c.self.view_is;
+      can = record { lawful = sound.lawful; spare = spare c.args.self.now c.requires.room; named = c.requires.named; at = c.requires.here.1 };
+      changes = c.clear.ensures.cleared;
+      frames_same = c.clear.ensures.frames;
+      history_is = c.note.ensures;
+    }
+
+known : (c : After-note) → Noting c.self.inside c.args.self.now c.args.page (Unmap c.args.client c.args.address) c.get-note.result (record c.get-note.result { maps = c.get-note.result.maps - 1 }) c.self.inside.frames c.clear.new.self c.note.new.self
+known c = unmapping_one _ _ _ _ _ _ _ _ (unmapping c) c.requires.more c.get-note.result c.get-note.ensures
+
+pub invariant_of-self : goal.invariant_of-self
+invariant_of-self c = (noting_holds _ _ _ _ _ _ _ _ _ (known c) c.put.new.self (c.put.ensures ∙ ap (slice_set c.self.inside.notes c.args.page) c.without_address.ensures)).0
+
+pub returns-clause-step : goal.returns-clause-step
+returns-clause-step c = (noting_holds _ _ _ _ _ _ _ _ _ (known c) c.put.new.self (c.put.ensures ∙ ap (slice_set c.self.inside.notes c.args.page) c.without_address.ensures)).1
+
+pub returns-clause-lawful : goal.returns-clause-lawful
+returns-clause-lawful c = (invariant_of-self c).lawful

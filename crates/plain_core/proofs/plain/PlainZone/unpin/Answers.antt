@@ -1,0 +1,45 @@
+use Rattle.std.proofs.Common.{◌≡◌, ◌∙◌, ℕ, ◌-◌, ap, subst, sym, arith}
+use Rattle.std.specs.Prelude.{Option, slice_set, unwrap_or}
+use Rattle.journal_core.specs.declared.record.Record.TheVariants.{Unpin}
+use Rattle.journal_core.specs.History.{pins}
+use Rattle.scan_core.specs.Frames.{Frames}
+use Rattle.state_core.specs.declared.placement.Placement.{Placement}
+use Rattle.state_core.specs.declared.placement.Placement.TheVariants.{At}
+use Rattle.state_core.proofs.Facts.{frame_within, spare}
+use Rattle.plain_core.specs.declared.note.Note.{Note}
+use Rattle.plain_core.specs.Notes.{movable_by}
+use Rattle.plain_core.specs.Sound.{IsSound}
+use Rattle.plain_core.proofs.Noting.{Noting, noting_holds}
+use Rattle.plain_core.proofs.Pinned.{unpinning}
+use Rattle.plain_core.proofs.Tables.{note_seen}
+use Rattle.plain_core.proofs.plain.PlainZone.unpin.Goals as goal
+use Rattle.plain_core.proofs.plain.PlainZone.unpin.Goals.{After-note}
+
+pub without_pin-note-requires : goal.without_pin-note-requires
+without_pin-note-requires c =
+    let sound : IsSound c.self.inside c.args.self.now = subst (IsSound c.self.inside) c.self.view_is c.self.invariant in
+    let seen = note_seen c.self.inside c.args.self.now c.self.view_is sound c.page_at-page.result c.page_at-page.ensures.in_use c.get.result c.get.ensures in
+    omega (arith, c.requires.some, ap (λ (o : Option ℕ). pins c.args.self.now.records (unwrap_or o 0)) c.page_at-page.ensures.named, seen.fits.pins)
+
+pub say_movable-requires : goal.say_movable-requires
+say_movable-requires c frame at =
+    let sound : IsSound c.self.inside c.args.self.now = subst (IsSound c.self.inside) c.self.view_is c.self.invariant in
+    let seen = note_seen c.self.inside c.args.self.now c.self.view_is sound c.page_at-page.result c.page_at-page.ensures.in_use c.get.result c.get.ensures in
+    let within = frame_within c.args.self.now sound.lawful c.page_at-page.result (At frame) (sym seen.placement ∙ sym (ap (λ (n : Note). n.placement) c.without_pin-note.ensures) ∙ at) in
+    omega (arith, within, sound.frames.count)
+
+known : (c : After-note) → Noting c.self.inside c.args.self.now c.page_at-page.result (Unpin c.args.client c.args.address) c.get.result (record c.get.result { pins = c.get.result.pins - 1 }) c.say_movable.new.frames c.self.inside.tables c.note.new.self
+known c =
+    unpinning c.self.inside c.args.self.now (subst (IsSound c.self.inside) c.self.view_is c.self.invariant) c.self.view_is c.page_at-page.result c.page_at-page.ensures.in_use c.get.result c.get.ensures
+    c.args.client c.args.address c.page_at-page.ensures.named (spare c.args.self.now c.requires.room) c.say_movable.new.frames c.note.new.self
+    (c.say_movable.ensures ∙ ap (λ (n : Note). record c.self.inside.frames { movable = movable_by c.self.inside.frames.movable n }) c.without_pin-note.ensures)
+    c.note.ensures
+
+pub invariant_of-self : goal.invariant_of-self
+invariant_of-self c = (noting_holds _ _ _ _ _ _ _ _ _ (known c) c.put.new.self (c.put.ensures ∙ ap (slice_set c.self.inside.notes c.page_at-page.result) c.without_pin-note.ensures)).0
+
+pub returns-clause-step : goal.returns-clause-step
+returns-clause-step c = (noting_holds _ _ _ _ _ _ _ _ _ (known c) c.put.new.self (c.put.ensures ∙ ap (slice_set c.self.inside.notes c.page_at-page.result) c.without_pin-note.ensures)).1
+
+pub returns-clause-lawful : goal.returns-clause-lawful
+returns-clause-lawful c = (invariant_of-self c).lawful

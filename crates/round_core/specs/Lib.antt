@@ -1,0 +1,6 @@
+pub mod Copying
+pub mod Crews
+pub mod Errors
+pub mod Kept
+pub mod Rounds
+pub mod Scanning

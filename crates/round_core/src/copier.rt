@@ -1,0 +1,121 @@
+ghost use Rattle.std.specs.Prelude.{◌≡◌, ◌<◌, [], false, IfOk};
+ghost use Rattle.round_core.specs.Copying.{IsCarried};
+ghost use Rattle.round_core.specs.Crews.{IsUnused, IsUnsent};
+
+use crate::gate::{Gate, Point};
+use frame_core::Serial;
+use hand_core::{DoneSender, Giver, Taker, Took};
+use std::snapshot::Snapshot;
+use std::sync::Wait;
+use std::thread::{Promise, PromisedHandle, Scope, Threads};
+
+/// What a copier hands back.
+#[derive(Drop)]
+pub struct Carried {
+    pub taker: Taker,
+    pub sender: DoneSender,
+    /// The serials of the pages that it took.
+    pub serials: Vec<Serial>,
+    /// Whether it came to the end of its pages and all their copies were sent.
+    pub whole: bool,
+}
+
+/// The body of a copier: it takes pages, copies them and sends the copies. It has no zone. It stops short where an end is gone,
+/// or where a page comes off while the list is full.
+pub fn carry<G: Gate, R: Wait>(
+    rt: &R,
+    mut taker: Taker,
+    mut sender: DoneSender,
+    mut serials: Vec<Serial>,
+    gate: &G,
+    who: usize,
+) -> Carried
+    requires taker { IsUnused taker.hand_over taker }
+    requires sender { IsUnsent sender }
+    requires serials { serials.items ≡ [] }
+    ensures { IsCarried taker sender result }
+{
+    for _ in rt.forever() {
+        match taker.take(rt) {
+            Took::Page(page) => {
+                gate.at(Point::Taken, who);
+                if serials.len() >= serials.capacity() {
+                    break;
+                }
+                serials.push_reserved(page.serial());
+                let copy = page.copy_into_new();
+                gate.at(Point::Copied, who);
+                if sender.send(rt, copy).is_err() {
+                    break;
+                }
+            }
+            Took::End => {
+                let whole = sender.close(rt).is_ok();
+                return Carried {
+                    taker,
+                    sender,
+                    serials,
+                    whole,
+                };
+            }
+            Took::Gone => break,
+        }
+    }
+    Carried {
+        taker,
+        sender,
+        serials,
+        whole: false,
+    }
+}
+
+/// A copier hands back what became of the ends that it was given.
+#[derive(Drop)]
+pub(crate) struct Carries {
+    pub(crate) taker: Snapshot<Taker>,
+    pub(crate) sender: Snapshot<DoneSender>,
+}
+
+impl Promise<Carried> for Carries {
+    ghost use Rattle.round_core.specs.Copying.{IsCarried};
+
+    ghost kept_by = { λ p r. IsCarried p.taker.value p.sender.value r };
+}
+
+pub(crate) type Copier = PromisedHandle<Carried, Carries>;
+
+/// Starts a copier. Where no thread can be started the giver goes, so that all copiers that run come to their ends.
+pub(crate) fn start_copier<'s, 'e, G: Gate, R: Threads + Wait + Sync>(
+    scope: &'s Scope<'s, &'e ()>,
+    rt: &'e R,
+    giver: Giver,
+    taker: Taker,
+    sender: DoneSender,
+    serials: Vec<Serial>,
+    gate: &'e G,
+    who: usize,
+) -> Result<(Giver, Copier), ()>
+    requires taker { IsUnused taker.hand_over taker }
+    requires sender { IsUnsent sender }
+    requires serials { serials.items ≡ [] }
+    ensures giver { IfOk result (λ started. started.0 ≡ giver) }
+    ensures taker { IfOk result (λ started. started.1.promise.taker.value ≡ taker) }
+{
+    let promise = Carries {
+        taker: Snapshot::of(&taker),
+        sender: Snapshot::of(&sender),
+    };
+    let started = scope.spawn_with(
+        promise,
+        move || -> Carried
+            requires taker { IsUnused taker.hand_over taker }
+            requires sender { IsUnsent sender }
+            requires serials { serials.items ≡ [] }
+            ensures { IsCarried taker sender result }
+        { carry(rt, taker, sender, serials, gate, who) },
+    );
+    match started {
+        Ok(copier) => Ok((giver, copier)),
+        Err(_) => Err(()),
+    }
+}

@@ -1,0 +1,33 @@
+ghost use Rattle.std.specs.Prelude.{◌≡◌};
+ghost use Rattle.round_core.specs.Errors.{number_of};
+
+use frame_core::Serial;
+use thiserror::Error;
+
+/// Why a round wasn't made, or didn't end.
+#[derive(Clone, Copy, Debug, PartialEq, Eq, Error)]
+pub enum RoundError {
+    #[error("out of memory")]
+    Memory,
+    #[error("a thread can't be started")]
+    NoWorker,
+    #[error("pages of a broken round are out, or a part of the end seat is missing")]
+    Broken,
+    /// The least serial whose commit was refused.
+    #[error("the copy of page {0} was refused")]
+    Stranger(Serial),
+}
+
+impl RoundError {
+    /// The error's number, 31 to 34.
+    pub fn number(&self) -> u16
+        ensures { result ≡ number_of self.now }
+    {
+        match self {
+            RoundError::Memory => 31,
+            RoundError::NoWorker => 32,
+            RoundError::Broken => 33,
+            RoundError::Stranger(_) => 34,
+        }
+    }
+}

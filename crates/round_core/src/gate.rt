@@ -1,0 +1,22 @@
+/// A step of a page.
+#[derive(Clone, Copy, Debug, PartialEq, Eq)]
+pub enum Point {
+    Isolated,
+    Taken,
+    Copied,
+    Ended,
+}
+
+/// Is called right after each step of a page and before its next one, by the thread that made the step, which holds no lock.
+pub trait Gate: Sync {
+    /// `who` is 0 for the scanner, 1 to 4 for a copier, and 5 for the committer.
+    fn at(&self, point: Point, who: usize);
+}
+
+/// The gate that does nothing.
+#[derive(Clone, Copy, Debug)]
+pub struct NoGate;
+
+impl Gate for NoGate {
+    fn at(&self, _point: Point, _who: usize) {}
+}

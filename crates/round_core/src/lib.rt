@@ -1,0 +1,21 @@
+//! Rounds on threads: a scanner isolates pages of a zone, copiers carry them, and a committer ends each move.
+//!
+//! The zone stands under one lock, which keeps it lawful. Contracts see a round by what it changes in the two seats.
+#![tactic(auto)]
+
+mod committer;
+mod compacting;
+mod copier;
+mod crew;
+mod error;
+mod gate;
+mod round;
+mod scanner;
+mod shared_zone;
+
+pub use compacting::compact;
+pub use copier::{Carried, carry};
+pub use error::RoundError;
+pub use gate::{Gate, NoGate, Point};
+pub use round::{Round, Stop};
+pub use shared_zone::{Room, SharedZone};

@@ -1,0 +1,23 @@
+use frame_core::Serial;
+
+/// Why the scanner of a round stopped.
+#[derive(Clone, Copy, Debug, PartialEq, Eq)]
+pub enum Stop {
+    /// There is no page left that has a frame to go to.
+    Met,
+    JournalFull,
+}
+
+/// What a round did.
+#[derive(Drop, Debug)]
+pub struct Round {
+    /// The serial of its first page.
+    pub base: Serial,
+    /// How many pages it isolated.
+    pub count: u32,
+    pub moved: u32,
+    pub back: u32,
+    /// The serials that each copier carried.
+    pub by_copier: Vec<Vec<Serial>>,
+    pub stopped: Stop,
+}

@@ -1,0 +1,154 @@
+ghost use Rattle.std.specs.Prelude.{◌≤◌};
+
+use std::marker::Model;
+use std::sync::ledger::Ledger;
+use std::sync::{Condvar, Mutex, MutexGuard, Wait};
+use word_core::{Copied, Isolated};
+use zone_core::{EndSeat, Ended, Next, ScanSeat, Stranger, Zone, ZoneError};
+
+/// What stands under the lock: a zone, and whether a thread waits for a move in it to end.
+#[derive(Drop)]
+pub struct Room<I: Ledger, M: Ledger, B: Ledger> {
+    pub zone: Zone<I, M, B>,
+    is_awaited: bool,
+}
+
+impl<I: Ledger, M: Ledger, B: Ledger> Model for Room<I, M, B> {
+    ghost use Rattle.plain_core.specs.contracts.plain.PlainZone as plain_zone;
+    ghost use Rattle.state_core.specs.Lawful.{IsLawful};
+    ghost use Rattle.state_core.specs.ZoneState.{ZoneState};
+
+    ghost Value = { ZoneState };
+
+    ghost coded = { plain_zone.the_row.coded };
+
+    ghost view = { λ r. r.zone };
+
+    ghost invariant = { λ r. IsLawful r.zone };
+}
+
+impl<I: Ledger, M: Ledger, B: Ledger> Room<I, M, B> {
+    ghost use Rattle.std.specs.Prelude.{◌≡◌};
+    ghost use Rattle.round_core.specs.Kept.{IsKept};
+
+    /// The zone, for reading, as whoever takes the lock finds it.
+    pub fn zone(&self) -> &Zone<I, M, B>
+        ensures zone { result.now ≡ self.now }
+        ensures kept { IsKept self.now }
+    {
+        &self.zone
+    }
+}
+
+/// A zone under one lock.
+#[derive(Drop)]
+pub struct SharedZone<I: Ledger, M: Ledger, B: Ledger> {
+    room: Mutex<Room<I, M, B>>,
+    ended: Condvar,
+    blocks: u32,
+    ghost few: { blocks ≤ 8 },
+}
+
+impl<I: Ledger, M: Ledger, B: Ledger> SharedZone<I, M, B> {
+    ghost use Rattle.std.specs.Prelude.{◌≡◌, ◌+◌, OnOk, OnErr, IfOk, IfErr};
+    ghost use Rattle.zone_core.specs.Seats.{seat_begun, seat_full, seat_noted, seat_ended, IsFollowed};
+    ghost use Rattle.round_core.specs.Kept.{IsKept};
+    ghost use Rattle.round_core.specs.Scanning.{HasNext};
+
+    pub fn new(zone: Zone<I, M, B>) -> Self {
+        let blocks = zone.blocks();
+        let room = Room {
+            zone,
+            is_awaited: false,
+        };
+        SharedZone {
+            room: Mutex::new(room),
+            ended: Condvar::new(),
+            blocks,
+        }
+    }
+
+    pub fn into_zone(self) -> Zone<I, M, B>
+        ensures { IsKept result }
+    {
+        self.room.into_inner().zone
+    }
+
+    /// How many pageblocks the zone has, 1 to 8.
+    pub fn blocks(&self) -> u32
+        ensures { result ≤ 8 }
+    {
+        self.blocks
+    }
+
+    /// Waits for the lock, and lends the zone as long as the guard lives. Who ends a move through it tells so by `tell_ended`.
+    pub fn lock<R: Wait>(&self, rt: &R) -> MutexGuard<'_, Room<I, M, B>> {
+        self.room.lock(rt)
+    }
+
+    /// Waits, without the lock, until a move has ended.
+    pub fn wait_for_end<'a, R: Wait>(
+        &self,
+        rt: &R,
+        mut room: MutexGuard<'a, Room<I, M, B>>,
+    ) -> MutexGuard<'a, Room<I, M, B>> {
+        room.is_awaited = true;
+        self.ended.wait(rt, room)
+    }
+
+    /// Wakes those who wait for the end of a move, if there are any.
+    pub fn tell_ended(&self, room: &mut Room<I, M, B>)
+        ensures { room.new ≡ room.old }
+    {
+        if room.is_awaited {
+            room.is_awaited = false;
+            self.ended.notify_all();
+        }
+    }
+
+    /// Begins a round.
+    pub(crate) fn begin_round<N: Ledger, R: Wait>(&self, rt: &R, seat: &mut ScanSeat<I, N>)
+        ensures { seat.new ≡ seat_begun seat.old }
+    {
+        self.lock(rt).zone.begin_round(seat);
+    }
+
+    /// Takes the next page of a round on its way.
+    pub(crate) fn isolate_next<N: Ledger, R: Wait>(
+        &self,
+        rt: &R,
+        seat: &mut ScanSeat<I, N>,
+    ) -> Result<Next, ZoneError>
+        ensures next { IfOk result (HasNext seat.old) }
+        ensures seat { IfOk result (λ next. seat.new ≡ seat_noted seat.old next) }
+        ensures full { OnErr result (seat.new ≡ seat_full seat.old) }
+    {
+        self.lock(rt).zone.isolate_next(seat)
+    }
+
+    /// Ends the move of a page with its copy, and wakes those who wait for it.
+    pub(crate) fn commit<R: Wait>(
+        &self,
+        rt: &R,
+        seat: &mut EndSeat<M, B>,
+        copy: Copied,
+    ) -> Result<Ended, Stranger<Copied>>
+        ensures back { IfErr result (λ stranger. stranger.0 ≡ copy) }
+        ensures seat { IfOk result (λ ended. seat.new ≡ seat_ended seat.old ended) }
+        ensures err { OnErr result (seat.new ≡ seat.old) }
+    {
+        let mut room = self.lock(rt);
+        let ended = room.zone.commit(seat, copy);
+        self.tell_ended(&mut room);
+        ended
+    }
+
+    /// Ends the move of a page that reached no copier, and wakes those who wait for it.
+    pub(crate) fn put_back<R: Wait>(&self, rt: &R, seat: &mut EndSeat<M, B>, page: Isolated)
+        ensures { (seat.new.parts ≡ seat.old.parts) × (seat.new.moved ≡ seat.old.moved) × (seat.old.back ≤ seat.new.back) }
+    {
+        let mut room = self.lock(rt);
+        let _ = room.zone.put_back(seat, page);
+        self.tell_ended(&mut room);
+    }
+}

@@ -1,0 +1,131 @@
+-- Bits of words, and masks.
+use Rattle.std.proofs.Common.{◌≡◌, ◌≢◌, ℕ, zero, suc, ◌+◌, ◌-◌, ◌*◌, ◌/◌, ◌%◌, ◌^◌, ◌<◌, ◌≤◌, max, min, Bool, true, false, not, inl, inr, refl, sym, ap, ◌∙◌, List, length, replicate, slice_index, eq-eqb, arith, w64}
+use Rattle.std.specs.Prelude.{nat_eq, nat_lt, ◌&&◌, ◌||◌, bit_and, bit_or}
+use Rattle.std.specs.Int.{bit_at, bit_not, trailing_zeros}
+use Rattle.std.proofs.lemmas.Bool.{ne_eqb, ltb-true, lt-ltb}
+use Rattle.std.proofs.lemmas.Bool.Decides.{eqb_tells, leb_tells}
+use Rattle.std.proofs.lemmas.Nat.Bits.{bit_at-zero, bit_at_and, bit_at_or, bit_at_not, bit_at-lt, bit_at-pow_same, bit_at-pow_other, bit_at-trailing_zeros}
+use Rattle.std.proofs.lemmas.List.{get_or_past}
+use Rattle.std.proofs.Math.Nat.{mod-eq_of_lt}
+use Rattle.std.proofs.Math.Pow.{pow-lt}
+use Rattle.scan_core.specs.Bits.{has_bit, IsFirstWord}
+
+pub clash : (b : Bool) → b ≡ true → b ≡ false → ⊥
+clash true e f = cc
+clash false e f = cc
+
+one_max : (m n : ℕ) → m < 2 → n < 2 → nat_eq (max m n) 1 ≡ (nat_eq m 1 || nat_eq n 1)
+one_max zero zero h l = refl
+one_max zero (suc zero) h l = refl
+one_max (suc zero) zero h l = refl
+one_max (suc zero) (suc zero) h l = refl
+one_max (suc (suc m)) n h l = absurd (omega arith)
+one_max m (suc (suc n)) h l = absurd (omega arith)
+
+one_min : (m n : ℕ) → m < 2 → n < 2 → nat_eq (min m n) 1 ≡ (nat_eq m 1 && nat_eq n 1)
+one_min zero zero h l = refl
+one_min zero (suc zero) h l = refl
+one_min (suc zero) zero h l = refl
+one_min (suc zero) (suc zero) h l = refl
+one_min (suc (suc m)) n h l = absurd (omega arith)
+one_min m (suc (suc n)) h l = absurd (omega arith)
+
+one_less : (m : ℕ) → m < 2 → nat_eq (1 - m) 1 ≡ not (nat_eq m 1)
+one_less zero h = refl
+one_less (suc zero) h = refl
+one_less (suc (suc m)) h = absurd (omega arith)
+
+pub has_bit_or : (a b i : ℕ) → has_bit (bit_or a b) i ≡ (has_bit a i || has_bit b i)
+has_bit_or a b i = ap (λ n. nat_eq n 1) (bit_at_or a b i) ∙ one_max (bit_at a i) (bit_at b i) (bit_at-lt a i) (bit_at-lt b i)
+
+pub has_bit_and : (a b i : ℕ) → has_bit (bit_and a b) i ≡ (has_bit a i && has_bit b i)
+has_bit_and a b i = ap (λ n. nat_eq n 1) (bit_at_and a b i) ∙ one_min (bit_at a i) (bit_at b i) (bit_at-lt a i) (bit_at-lt b i)
+
+pub has_bit_not : (n i : ℕ) → n < 2 ^ 64 → i < 64 → has_bit (2 ^ 64 - 1 - n) i ≡ not (has_bit n i)
+has_bit_not n i h l = ap (λ k. nat_eq k 1) (bit_at_not w64 n i h l) ∙ one_less (bit_at n i) (bit_at-lt n i)
+
+pub has_bit_zero : (i : ℕ) → has_bit 0 i ≡ false
+has_bit_zero i = ap (λ n. nat_eq n 1) (bit_at-zero i)
+
+pub pow_fits : (k : ℕ) → k < 64 → 1 * 2 ^ k % 2 ^ 64 ≡ 2 ^ k
+pow_fits k h = let below : 2 ^ k < 2 ^ 64 = pow-lt h in let same : 1 * 2 ^ k ≡ 2 ^ k = omega arith in ap (λ n. n % 2 ^ 64) same ∙ mod-eq_of_lt below
+
+pub has_bit_pow : (k i : ℕ) → k < 64 → has_bit (1 * 2 ^ k % 2 ^ 64) i ≡ nat_eq i k
+has_bit_pow k i h = ap (λ n. has_bit n i) (pow_fits k h) ∙ elim (eqb_tells i k) [
+  | inl at ↦ (ap (λ j. has_bit (2 ^ k) j) at.1 ∙ ap (λ n. nat_eq n 1) (bit_at-pow_same k) ∙ sym (eq-eqb i k at.1))
+  | inr away ↦ (ap (λ n. nat_eq n 1) (bit_at-pow_other k i away.1) ∙ sym (ne_eqb i k away.1))
+]
+
+pub pow_below : (k : ℕ) → k < 64 → 1 * 2 ^ k % 2 ^ 64 < 2 ^ 64
+pow_below k h = let below : 2 ^ k < 2 ^ 64 = pow-lt h in omega (arith, pow_fits k h)
+
+-- a word with a bit isn't empty
+pub some_bit : (word i : ℕ) → has_bit word i ≡ true → 0 < word
+some_bit zero i e = absurd (clash (has_bit 0 i) e (has_bit_zero i))
+some_bit (suc word) i e = omega arith
+
+pub or_true : (a : Bool) → (a || true) ≡ true
+or_true true = refl
+or_true false = refl
+
+pub or_false : (a : Bool) → (a || false) ≡ a
+or_false true = refl
+or_false false = refl
+
+pub and_true : (a : Bool) → (a && true) ≡ a
+and_true true = refl
+and_true false = refl
+
+pub and_false : (a : Bool) → (a && false) ≡ false
+and_false true = refl
+and_false false = refl
+
+-- the summary where a word got bits or lost them
+pub marked_same : (summary k bits : ℕ) → k < 64 → 0 < bits → has_bit (bit_or summary (1 * 2 ^ k % 2 ^ 64)) k ≡ nat_lt 0 bits
+marked_same summary k bits h some =
+    has_bit_or summary (1 * 2 ^ k % 2 ^ 64) k ∙ ap (λ b. has_bit summary k || b) (has_bit_pow k k h ∙ eq-eqb k k refl) ∙ or_true (has_bit summary k) ∙ sym (lt-ltb 0 bits some)
+
+pub marked_other : (summary k i : ℕ) → k < 64 → i ≢ k → has_bit (bit_or summary (1 * 2 ^ k % 2 ^ 64)) i ≡ has_bit summary i
+marked_other summary k i h ne =
+    has_bit_or summary (1 * 2 ^ k % 2 ^ 64) i ∙ ap (λ b. has_bit summary i || b) (has_bit_pow k i h ∙ ne_eqb i k ne) ∙ or_false (has_bit summary i)
+
+pub unmarked_same : (summary k bits : ℕ) → k < 64 → bits ≡ 0 → has_bit (bit_and summary (2 ^ 64 - 1 - 1 * 2 ^ k % 2 ^ 64)) k ≡ nat_lt 0 bits
+unmarked_same summary k bits h none =
+    has_bit_and summary (2 ^ 64 - 1 - 1 * 2 ^ k % 2 ^ 64) k
+    ∙ ap (λ b. has_bit summary k && b) (has_bit_not (1 * 2 ^ k % 2 ^ 64) k (pow_below k h) h ∙ ap not (has_bit_pow k k h ∙ eq-eqb k k refl))
+    ∙ and_false (has_bit summary k) ∙ ap (nat_lt 0) (sym none)
+
+pub unmarked_other : (summary k i : ℕ) → k < 64 → i < 64 → i ≢ k → has_bit (bit_and summary (2 ^ 64 - 1 - 1 * 2 ^ k % 2 ^ 64)) i ≡ has_bit summary i
+unmarked_other summary k i h l ne =
+    has_bit_and summary (2 ^ 64 - 1 - 1 * 2 ^ k % 2 ^ 64) i
+    ∙ ap (λ b. has_bit summary i && b) (has_bit_not (1 * 2 ^ k % 2 ^ 64) i (pow_below k h) l ∙ ap not (has_bit_pow k i h ∙ ne_eqb i k ne))
+    ∙ and_true (has_bit summary i)
+
+-- zeros are zero, past the end too
+pub zeros : (n i : ℕ) → slice_index (replicate n 0) i ≡ 0
+zeros zero i = refl
+zeros (suc n) zero = refl
+zeros (suc n) (suc i) = zeros n i
+
+zero_not_less : (n : ℕ) → nat_lt 0 n ≡ false → n ≡ 0
+zero_not_less zero e = refl
+zero_not_less (suc n) e = absurd (clash (nat_lt 0 (suc n)) (lt-ltb 0 (suc n) (omega arith)) e)
+
+-- the lowest bit of the summary is the first word that isn't empty
+pub first_by_summary : (words : List ℕ) (summary : ℕ) → summary < 2 ^ 64 → 0 < summary → ((i : ℕ) → i < 64 → has_bit summary i ≡ nat_lt 0 (slice_index words i)) → IsFirstWord words (trailing_zeros w64 summary)
+first_by_summary words summary fits some each =
+    let at = bit_at-trailing_zeros w64 summary some fits in
+    let place = trailing_zeros w64 summary in
+    record {
+      within = at.0;
+      some = ltb-true 0 (slice_index words place) (sym (each place at.0) ∙ ap (λ n. nat_eq n 1) at.1);
+      before = λ earlier h. let low : earlier < 64 = omega (arith, at.0, h) in
+          zero_not_less (slice_index words earlier) (sym (each earlier low) ∙ ap (λ n. nat_eq n 1) (at.2 earlier h));
+    }
+
+-- no word has bits where the summary has none
+pub none_by_summary : (words : List ℕ) (summary : ℕ) → summary ≡ 0 → length words ≡ 64 → ((i : ℕ) → i < 64 → has_bit summary i ≡ nat_lt 0 (slice_index words i)) → (i : ℕ) → slice_index words i ≡ 0
+none_by_summary words summary none len each i = elim (leb_tells 64 i) [
+  | inl past ↦ get_or_past words i 0 (omega (arith, past.1, len))
+  | inr within ↦ zero_not_less (slice_index words i) (sym (each i within.1) ∙ ap (λ n. has_bit n i) none ∙ has_bit_zero i)
+]

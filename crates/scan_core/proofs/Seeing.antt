@@ -1,0 +1,182 @@
+-- The states of frames, as they are kept and as they are.
+use Rattle.std.proofs.Common.{◌≡◌, ◌≢◌, ℕ, zero, suc, ◌+◌, ◌<◌, ◌≤◌, Bool, true, false, not, List, [], ◌∷◌, length, inl, inr, refl, sym, ap, ◌∙◌, arith, eq-eqb, replicate, length-set}
+use Rattle.std.specs.Prelude.{Option, Some, None, nat_eq, slice_get, slice_set, if◌then◌else◌, ◌&&◌, ◌||◌}
+use Rattle.std.specs.FinSet as set
+use Rattle.std.specs.Ordering.{nat_cmp}
+use Rattle.std.proofs.lemmas.Bool.{ne_eqb}
+use Rattle.std.proofs.lemmas.Bool.Decides.{eqb_tells, leb_tells}
+use Rattle.std.proofs.lemmas.Option.{slice_get_past}
+use Rattle.frame_core.proofs.Lists.{slice_get_set_same, slice_get_set_other}
+use Rattle.frame_core.specs.declared.state.FrameState.{FrameState}
+use Rattle.frame_core.specs.declared.state.FrameState.TheVariants.{Free, Holds, Source, Target, Huge}
+use Rattle.scan_core.specs.Frames.{is_free_state, is_huge_state, is_holding_state, is_stuck_state, free_at, huge_at, holds_at, true_at}
+use Rattle.scan_core.specs.Pairs.{is_marked, is_source, is_target}
+use Rattle.scan_core.specs.NumberSet.{in_run}
+use Rattle.scan_core.specs.Runs.{with_run}
+use Rattle.scan_core.specs.Seen.{seen, seen_from, kept_state}
+use Rattle.scan_core.proofs.Masking.{clash}
+use Rattle.scan_core.proofs.Spanning.{same_by, in_run_is, is_in_run}
+
+-- two lists with the same items are one
+pub same_items : {X : Type 0} → (xs ys : List X) → ((i : ℕ) → slice_get xs i ≡ slice_get ys i) → xs ≡ ys
+same_items [] [] same = refl
+same_items [] (y ∷ ys) same = let e = same zero in cc
+same_items (x ∷ xs) [] same = let e = same zero in cc
+same_items (x ∷ xs) (y ∷ ys) same =
+    let e = same zero in
+    let head : x ≡ y = cc in
+    λ i. head i ∷ same_items xs ys (λ k. same (suc k)) i
+
+-- a state, where the frame is held or not
+abbrev pub seen_state : Bool → Option FrameState → Option FrameState
+seen_state true (Some state) = Some Huge
+seen_state true None = None
+seen_state false state = state
+
+pub length_seen : (h : ℕ → Bool) (first : ℕ) (xs : List FrameState) → length (seen_from h first xs) ≡ length xs
+length_seen h first [] = refl
+length_seen h first (x ∷ xs) = ap suc (length_seen h (suc first) xs)
+
+one_seen : (b : Bool) (x : FrameState) → Some (if b then Huge else x) ≡ seen_state b (Some x)
+one_seen true x = refl
+one_seen false x = refl
+
+seen_none : (b : Bool) → None ≡ seen_state b None
+seen_none true = refl
+seen_none false = refl
+
+pub seen_get_from : (h : ℕ → Bool) (first : ℕ) (xs : List FrameState) (i : ℕ) → slice_get (seen_from h first xs) i ≡ seen_state (h (first + i)) (slice_get xs i)
+seen_get_from h first [] i = slice_get_past (seen_from h first []) i (omega arith) ∙ seen_none (h (first + i)) ∙ ap (seen_state (h (first + i))) (sym (slice_get_past {X = FrameState} [] i (omega arith)))
+seen_get_from h first (x ∷ xs) zero = let e : first ≡ first + zero = omega arith in one_seen (h first) x ∙ ap (λ k. seen_state (h k) (Some x)) e
+seen_get_from h first (x ∷ xs) (suc i) = let e : suc first + i ≡ first + suc i = omega arith in seen_get_from h (suc first) xs i ∙ ap (λ k. seen_state (h k) (slice_get xs i)) e
+
+pub seen_get : (h : ℕ → Bool) (xs : List FrameState) (i : ℕ) → slice_get (seen_from h 0 xs) i ≡ seen_state (h i) (slice_get xs i)
+seen_get h xs i = let e : 0 + i ≡ i = omega arith in seen_get_from h 0 xs i ∙ ap (λ k. seen_state (h k) (slice_get xs i)) e
+
+-- where no frame is held, what is kept is what is
+pub seen_none_held : (h : ℕ → Bool) (xs : List FrameState) → ((i : ℕ) → h i ≡ false) → seen_from h 0 xs ≡ xs
+seen_none_held h xs none = same_items (seen_from h 0 xs) xs (λ i. seen_get h xs i ∙ ap (λ b. seen_state b (slice_get xs i)) (none i))
+
+kept_seen : (state : FrameState) → seen_state (is_huge_state (Some state)) (Some (kept_state state)) ≡ Some state
+kept_seen Free = refl
+kept_seen (Holds page) = refl
+kept_seen (Source serial) = refl
+kept_seen (Target serial) = refl
+kept_seen Huge = refl
+
+pub kept_not_huge : (state : FrameState) → is_huge_state (Some (kept_state state)) ≡ false
+kept_not_huge Free = refl
+kept_not_huge (Holds page) = refl
+kept_not_huge (Source serial) = refl
+kept_not_huge (Target serial) = refl
+kept_not_huge Huge = refl
+
+pub kept_of_huge : (state : FrameState) → is_huge_state (Some state) ≡ true → kept_state state ≡ Free
+kept_of_huge Free e = refl
+kept_of_huge (Holds page) e = cc
+kept_of_huge (Source serial) e = cc
+kept_of_huge (Target serial) e = cc
+kept_of_huge Huge e = refl
+
+pub skipped : {A : Type 0} (b : Bool) (x y : A) → b ≡ false → (if b then x else y) ≡ y
+skipped b x y e = ap (λ t. if t then x else y) e
+
+pub taken : {A : Type 0} (b : Bool) (x y : A) → b ≡ true → (if b then x else y) ≡ x
+taken b x y e = ap (λ t. if t then x else y) e
+
+-- one frame is used for something else
+pub seen_put : (h new : ℕ → Bool) (kept : List FrameState) (frame : ℕ) (state : FrameState) → frame < length kept → ((n : ℕ) → new n ≡ (if nat_eq n frame then is_huge_state (Some state) else h n)) → seen_from new 0 (slice_set kept frame (kept_state state)) ≡ slice_set (seen_from h 0 kept) frame state
+seen_put h new kept frame state within each =
+    same_items (seen_from new 0 (slice_set kept frame (kept_state state))) (slice_set (seen_from h 0 kept) frame state) (λ i.
+    seen_get new (slice_set kept frame (kept_state state)) i ∙ elim (eqb_tells i frame) [
+      | inl at ↦ ((λ j. seen_state ((each i ∙ taken (nat_eq i frame) (is_huge_state (Some state)) (h i) (eq-eqb i frame at.1)) j) (slice_get_set_same kept frame i (kept_state state) at.1 within j))
+          ∙ kept_seen state ∙ sym (slice_get_set_same (seen_from h 0 kept) frame i state at.1 (omega (arith, length_seen h 0 kept))))
+      | inr away ↦ ((λ j. seen_state ((each i ∙ skipped (nat_eq i frame) (is_huge_state (Some state)) (h i) (ne_eqb i frame away.1)) j) (slice_get_set_other kept frame i (kept_state state) away.1 j))
+          ∙ sym (seen_get h kept i) ∙ sym (slice_get_set_other (seen_from h 0 kept) frame i state away.1))
+    ])
+
+-- what stands in a run and elsewhere
+pub run_none : (first n : ℕ) → in_run first zero n ≡ false
+run_none first n = same_by (in_run first zero n) false (λ e. let is = in_run_is first zero n e in absurd (omega (arith, is))) (λ e. cc)
+
+pub run_next : (first count n : ℕ) → in_run first (suc count) n ≡ (nat_eq n (first + count) || in_run first count n)
+run_next first count n = elim (eqb_tells n (first + count)) [
+  | inl at ↦ (is_in_run first (suc count) n (omega (arith, at.1)) (omega (arith, at.1)) ∙ sym (ap (λ b. b || in_run first count n) (eq-eqb n (first + count) at.1)))
+  | inr away ↦ (same_by (in_run first (suc count) n) (in_run first count n)
+      (λ e. let is = in_run_is first (suc count) n e in is_in_run first count n is.0 (omega (arith, is.1, away.1)))
+      (λ e. let is = in_run_is first count n e in is_in_run first (suc count) n is.0 (omega (arith, is.1)))
+      ∙ sym (ap (λ b. b || in_run first count n) (ne_eqb n (first + count) away.1)))
+]
+
+pub length_with_run : (states : List FrameState) (first count : ℕ) (state : FrameState) → length (with_run states first count state) ≡ length states
+unfolding with_run
+length_with_run states first zero state = refl
+length_with_run states first (suc n) state = length-set (with_run states first n state) (first + n) state ∙ length_with_run states first n state
+
+pub with_run_get : (states : List FrameState) (first count : ℕ) (state : FrameState) (i : ℕ) → first + count ≤ length states → slice_get (with_run states first count state) i ≡ (if in_run first count i then Some state else slice_get states i)
+unfolding with_run
+with_run_get states first zero state i within = sym (skipped (in_run first zero i) (Some state) (slice_get states i) (run_none first i))
+with_run_get states first (suc n) state i within = elim (eqb_tells i (first + n)) [
+  | inl at ↦ (slice_get_set_same (with_run states first n state) (first + n) i state at.1 (omega (arith, length_with_run states first n state))
+      ∙ sym (taken (in_run first (suc n) i) (Some state) (slice_get states i) (is_in_run first (suc n) i (omega (arith, at.1)) (omega (arith, at.1)))))
+  | inr away ↦ (slice_get_set_other (with_run states first n state) (first + n) i state away.1 ∙ with_run_get states first n state i (omega arith)
+      ∙ ap (λ b. if b then Some state else slice_get states i) (sym (run_next first n i ∙ ap (λ b. b || in_run first n i) (ne_eqb i (first + n) away.1))))
+]
+
+huge_where : (b : Bool) (o : Option FrameState) (h : Bool) → (b ≡ true → (x : FrameState) × (o ≡ Some x)) → seen_state (b || h) o ≡ (if b then Some Huge else seen_state h o)
+huge_where true None h some = let x = some refl in cc
+huge_where true (Some x) h some = refl
+huge_where false o h some = refl
+
+-- frames of a run are handed out
+pub seen_held : (h new : ℕ → Bool) (kept : List FrameState) (first count : ℕ) → first + count ≤ length kept → ((n : ℕ) → new n ≡ (in_run first count n || h n)) → seen_from new 0 kept ≡ with_run (seen_from h 0 kept) first count Huge
+seen_held h new kept first count within each =
+    same_items (seen_from new 0 kept) (with_run (seen_from h 0 kept) first count Huge) (λ i.
+    seen_get new kept i ∙ ap (λ b. seen_state b (slice_get kept i)) (each i)
+    ∙ huge_where (in_run first count i) (slice_get kept i) (h i) (λ e. let is = in_run_is first count i e in some_item kept i (omega (arith, is.1)))
+    ∙ sym (with_run_get (seen_from h 0 kept) first count Huge i (omega (arith, length_seen h 0 kept)) ∙ ap (λ o. if in_run first count i then Some Huge else o) (seen_get h kept i)))
+  where
+    some_item : (xs : List FrameState) (i : ℕ) → i < length xs → (x : FrameState) × (slice_get xs i ≡ Some x)
+    some_item [] i h = absurd (omega arith)
+    some_item (x ∷ xs) zero h = (x, refl)
+    some_item (x ∷ xs) (suc i) h = some_item xs i (omega arith)
+
+free_where : (b : Bool) (o : Option FrameState) (h : Bool) → (b ≡ true → o ≡ Some Free) → seen_state (not b && h) o ≡ (if b then Some Free else seen_state h o)
+free_where true o h free = free refl
+free_where false o h free = refl
+
+-- frames of a run are free again
+pub seen_released : (h new : ℕ → Bool) (kept : List FrameState) (first count : ℕ) → first + count ≤ length kept → ((n : ℕ) → new n ≡ (not (in_run first count n) && h n)) → ((n : ℕ) → in_run first count n ≡ true → slice_get kept n ≡ Some Free) → seen_from new 0 kept ≡ with_run (seen_from h 0 kept) first count Free
+seen_released h new kept first count within each free =
+    same_items (seen_from new 0 kept) (with_run (seen_from h 0 kept) first count Free) (λ i.
+    seen_get new kept i ∙ ap (λ b. seen_state b (slice_get kept i)) (each i)
+    ∙ free_where (in_run first count i) (slice_get kept i) (h i) (free i)
+    ∙ sym (with_run_get (seen_from h 0 kept) first count Free i (omega (arith, length_seen h 0 kept)) ∙ ap (λ o. if in_run first count i then Some Free else o) (seen_get h kept i)))
+
+seen_huge : (o : Option FrameState) → (f : Option FrameState → Bool) → f None ≡ false → f (Some Huge) ≡ false → f (seen_state true o) ≡ false
+seen_huge None f none huge = none
+seen_huge (Some x) f none huge = huge
+
+and_false : (a : Bool) → (a && false) ≡ false
+and_false true = refl
+and_false false = refl
+
+module _ (held : set.FinSet nat_cmp) (kept : List FrameState) (frame : ℕ) where
+  -- what is kept of a frame that isn't held is its state
+  pub seen_free : set.contains held frame ≡ false → slice_get (seen held kept) frame ≡ slice_get kept frame
+  seen_free free = seen_get (set.contains held) kept frame ∙ ap (λ b. seen_state b (slice_get kept frame)) free
+
+  no_part : (f : Option FrameState → Bool) → f None ≡ false → f (Some Huge) ≡ false → set.contains held frame ≡ true → f (slice_get (seen held kept) frame) ≡ false
+  no_part f none huge is = ap f (seen_get (set.contains held) kept frame ∙ ap (λ b. seen_state b (slice_get kept frame)) is) ∙ seen_huge (slice_get kept frame) f none huge
+
+  pub no_source_held : (movable marked : List Bool) → set.contains held frame ≡ true → is_source (seen held kept) movable marked frame ≡ false
+  no_source_held movable marked is = ap (λ b. not (is_marked marked frame) && (b && true_at movable frame)) (no_part is_holding_state refl refl is) ∙ and_false (not (is_marked marked frame))
+
+  pub no_target_held : (marked : List Bool) → set.contains held frame ≡ true → is_target (seen held kept) marked frame ≡ false
+  no_target_held marked is = ap (λ b. not (is_marked marked frame) && b) (no_part is_free_state refl refl is) ∙ and_false (not (is_marked marked frame))
+
+  pub source_kept : (movable marked : List Bool) → set.contains held frame ≡ false → is_source (seen held kept) movable marked frame ≡ is_source kept movable marked frame
+  source_kept movable marked free = ap (λ o. not (is_marked marked frame) && (is_holding_state o && true_at movable frame)) (seen_free free)
+
+  pub target_kept : (marked : List Bool) → set.contains held frame ≡ false → is_target (seen held kept) marked frame ≡ is_target kept marked frame
+  target_kept marked free = ap (λ o. not (is_marked marked frame) && is_free_state o) (seen_free free)

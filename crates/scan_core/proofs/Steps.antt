@@ -1,0 +1,226 @@
+-- The fields of the frames stay sound, step by step.
+use Rattle.std.proofs.Common.{◌≡◌, ◌≢◌, ℕ, ◌+◌, ◌*◌, ◌/◌, ◌^◌, ◌<◌, ◌≤◌, Bool, true, false, not, List, length, length-set, inl, inr, refl, sym, ap, ◌∙◌, subst, eq-eqb, Vec, vec_capacity, replicate, arith}
+use Rattle.std.specs.Prelude.{Option, Some, None, unwrap_or, nat_eq, nat_le, slice_get, slice_set, if◌then◌else◌, ◌&&◌, ◌||◌}
+use Rattle.std.specs.FinSet as set
+use Rattle.std.specs.Ordering.{nat_cmp}
+use Rattle.std.specs.declared.alloc.Global.{Global}
+use Rattle.std.proofs.lemmas.Bool.{ne_eqb, leb-true}
+use Rattle.std.proofs.lemmas.Bool.Decides.{eqb_tells, leb_tells}
+use Rattle.std.proofs.lemmas.List.{length-replicate}
+use Rattle.std.proofs.lemmas.Option.{slice_get_past}
+use Rattle.frame_core.specs.Order.{is_aligned}
+use Rattle.frame_core.specs.declared.state.FrameState.{FrameState}
+use Rattle.frame_core.specs.declared.state.FrameState.TheVariants.{Free, Holds, Source, Target, Huge}
+use Rattle.frame_core.proofs.Lists.{slice_get_set_same, slice_get_set_other, slice_get_replicate}
+use Rattle.scan_core.specs.Frames.{blocks_of, free_at, huge_at, true_at, is_stuck_state, is_free_state, is_holding_state, is_huge_state}
+use Rattle.scan_core.specs.NumberSet.{all_from, in_run}
+use Rattle.scan_core.specs.Runs.{has_block, is_run, with_run}
+use Rattle.scan_core.specs.Seen.{seen, kept_state}
+use Rattle.scan_core.specs.Sound.{IsSound}
+use Rattle.scan_core.specs.declared.frames.Frames.TheInside.{Inside}
+use Rattle.scan_core.proofs.FrameSets.{all_pass}
+use Rattle.scan_core.proofs.Masking.{clash}
+use Rattle.scan_core.proofs.Seeing.{length_seen, seen_get, seen_put, seen_held, seen_released, seen_none_held, seen_state, with_run_get, kept_not_huge, kept_of_huge, skipped, taken}
+use Rattle.scan_core.proofs.Spanning.{both}
+
+free_kept : (h : Bool) (o : Option FrameState) → is_free_state (seen_state h o) ≡ true → o ≡ Some Free
+free_kept true None e = cc
+free_kept true (Some x) e = cc
+free_kept false None e = cc
+free_kept false (Some Free) e = refl
+free_kept false (Some (Holds page)) e = cc
+free_kept false (Some (Source serial)) e = cc
+free_kept false (Some (Target serial)) e = cc
+free_kept false (Some Huge) e = cc
+
+huge_held : (h : Bool) (o : Option FrameState) → is_huge_state o ≡ false → is_huge_state (seen_state h o) ≡ true → h ≡ true
+huge_held true o never e = refl
+huge_held false o never e = absurd (clash (is_huge_state o) e never)
+
+free_not_stuck : (o : Option FrameState) (movable : Bool) → is_free_state o ≡ true → is_stuck_state o movable ≡ false
+free_not_stuck None m e = refl
+free_not_stuck (Some Free) m e = refl
+free_not_stuck (Some (Holds page)) m e = cc
+free_not_stuck (Some (Source serial)) m e = cc
+free_not_stuck (Some (Target serial)) m e = cc
+free_not_stuck (Some Huge) m e = cc
+
+huge_stuck : (o : Option FrameState) (movable : Bool) → is_huge_state o ≡ true → is_stuck_state o movable ≡ true
+huge_stuck o m e = ap (λ b. b || (is_holding_state o && not m)) e
+
+huge_not_free : (o : Option FrameState) → is_huge_state o ≡ true → is_free_state o ≡ false
+huge_not_free None e = refl
+huge_not_free (Some Free) e = cc
+huge_not_free (Some (Holds page)) e = refl
+huge_not_free (Some (Source serial)) e = refl
+huge_not_free (Some (Target serial)) e = refl
+huge_not_free (Some Huge) e = refl
+
+-- a fact of each state, where one was written
+written : (f : ℕ → Option FrameState → Bool) (states : List FrameState) (frame : ℕ) (state : FrameState) (p q : ℕ → Bool) (b : Bool) → frame < length states → b ≡ f frame (Some state) → ((n : ℕ) → p n ≡ f n (slice_get states n)) → ((n : ℕ) → q n ≡ (if nat_eq n frame then b else p n)) → (n : ℕ) → q n ≡ f n (slice_get (slice_set states frame state) n)
+written f states frame state p q b within is before put n = put n ∙ elim (eqb_tells n frame) [
+  | inl at ↦ (taken (nat_eq n frame) b (p n) (eq-eqb n frame at.1) ∙ is ∙ ap (λ k. f k (Some state)) (sym at.1) ∙ ap (f n) (sym (slice_get_set_same states frame n state at.1 within)))
+  | inr away ↦ (skipped (nat_eq n frame) b (p n) (ne_eqb n frame away.1) ∙ before n ∙ ap (f n) (sym (slice_get_set_other states frame n state away.1)))
+]
+
+-- a fact of each state, where a run of them changed
+run_written : (f : ℕ → Option FrameState → Bool) (states : List FrameState) (first count : ℕ) (state : FrameState) (p q : ℕ → Bool) (b : Bool) → first + count ≤ length states → ((n : ℕ) → f n (Some state) ≡ b) → ((n : ℕ) → p n ≡ f n (slice_get states n)) → ((n : ℕ) → q n ≡ (if in_run first count n then b else p n)) → (n : ℕ) → q n ≡ f n (slice_get (with_run states first count state) n)
+run_written f states first count state p q b within is before put n =
+    put n ∙ cases (in_run first count n) ∙ ap (f n) (sym (with_run_get states first count state n within))
+  where
+    cases : (c : Bool) → (if c then b else p n) ≡ f n (if c then Some state else slice_get states n)
+    cases true = sym (is n)
+    cases false = before n
+
+or_run : (c x : Bool) → (c || x) ≡ (if c then true else x)
+or_run true x = refl
+or_run false x = refl
+
+not_run : (c x : Bool) → (not c && x) ≡ (if c then false else x)
+not_run true x = refl
+not_run false x = refl
+
+module _ (z : Inside) (sound : IsSound z) where
+  seen_length : length (seen z.held z.kept.items) ≡ length z.kept.items
+  seen_length = length_seen (set.contains z.held) 0 z.kept.items
+
+  -- one frame is used for something else
+  pub sound_put : (kept : Vec FrameState Global) (held free stuck : set.FinSet nat_cmp) (frame index number : ℕ) (state stored : FrameState) (is_free is_stuck is_huge movable : Bool) → frame < length z.kept.items → index ≡ frame → number ≡ frame → kept.items ≡ slice_set z.kept.items index stored → vec_capacity kept ≡ vec_capacity z.kept → stored ≡ kept_state state → is_free ≡ is_free_state (Some state) → is_stuck ≡ is_stuck_state (Some state) movable → movable ≡ true_at z.movable.items frame → is_huge ≡ is_huge_state (Some state) → ((n : ℕ) → set.contains held n ≡ (if nat_eq n number then is_huge else set.contains z.held n)) → ((n : ℕ) → set.contains free n ≡ (if nat_eq n frame then is_free else set.contains z.free n)) → ((n : ℕ) → set.contains stuck n ≡ (if nat_eq n frame then is_stuck else set.contains z.stuck n)) → IsSound (record z { kept = kept; held = held; free = free; stuck = stuck }) × (seen held kept.items ≡ slice_set (seen z.held z.kept.items) frame state)
+  sound_put kept held free stuck frame index number state stored is_free is_stuck is_huge movable within at number_at items room store is_free_is is_stuck_is movable_is is_huge_is held_put free_put stuck_put =
+      let list : kept.items ≡ slice_set z.kept.items frame (kept_state state) = items ∙ (λ i. slice_set z.kept.items (at i) (store i)) in
+      let held_each = λ (n : ℕ). held_put n ∙ (λ i. if nat_eq n (number_at i) then is_huge_is i else set.contains z.held n) in
+      let view : seen held kept.items ≡ slice_set (seen z.held z.kept.items) frame state = ap (seen held) list ∙ seen_put (set.contains z.held) (set.contains held) z.kept.items frame state within held_each in
+      let len : length kept.items ≡ length z.kept.items = ap length list ∙ length-set z.kept.items frame (kept_state state) in
+      let there : frame < length (seen z.held z.kept.items) = omega (arith, seen_length, within) in (
+        record {
+          whole = omega (arith, len, sound.whole);
+          some = omega (arith, len, sound.some);
+          few = omega (arith, len, sound.few);
+          movable = sound.movable ∙ sym len;
+          room = room ∙ sound.room ∙ sym len;
+          movable_room = sound.movable_room ∙ sym len;
+          never_huge = λ n. ap (λ (xs : List FrameState). huge_at xs n) list ∙ elim (eqb_tells n frame) [
+            | inl here ↦ (ap is_huge_state (slice_get_set_same z.kept.items frame n (kept_state state) here.1 within) ∙ kept_not_huge state)
+            | inr away ↦ (ap is_huge_state (slice_get_set_other z.kept.items frame n (kept_state state) away.1) ∙ sound.never_huge n)
+          ];
+          held = λ n e. ap (λ (xs : List FrameState). slice_get xs n) list ∙ elim (eqb_tells n frame) [
+            | inl here ↦ (slice_get_set_same z.kept.items frame n (kept_state state) here.1 within ∙ ap Some (kept_of_huge state (sym (held_each n ∙ taken (nat_eq n frame) (is_huge_state (Some state)) (set.contains z.held n) (eq-eqb n frame here.1)) ∙ e)))
+            | inr away ↦ (slice_get_set_other z.kept.items frame n (kept_state state) away.1 ∙ sound.held n (sym (held_each n ∙ skipped (nat_eq n frame) (is_huge_state (Some state)) (set.contains z.held n) (ne_eqb n frame away.1)) ∙ e))
+          ];
+          free = λ n. written (λ k o. is_free_state o) (seen z.held z.kept.items) frame state (set.contains z.free) (set.contains free) is_free there is_free_is sound.free free_put n ∙ ap (λ (xs : List FrameState). free_at xs n) (sym view);
+          stuck = λ n. written (λ k o. is_stuck_state o (true_at z.movable.items k)) (seen z.held z.kept.items) frame state (set.contains z.stuck) (set.contains stuck) is_stuck there (is_stuck_is ∙ ap (is_stuck_state (Some state)) movable_is) sound.stuck stuck_put n ∙ ap (λ (xs : List FrameState). is_stuck_state (slice_get xs n) (true_at z.movable.items n)) (sym view);
+        },
+        view,
+      )
+
+  -- the frames of a free run are handed out
+  pub sound_held : (held free stuck : set.FinSet nat_cmp) (first count : ℕ) → first + count ≤ length z.kept.items → ((n : ℕ) → in_run first count n ≡ true → free_at (seen z.held z.kept.items) n ≡ true) → ((n : ℕ) → set.contains held n ≡ (in_run first count n || set.contains z.held n)) → ((n : ℕ) → set.contains free n ≡ (not (in_run first count n) && set.contains z.free n)) → ((n : ℕ) → set.contains stuck n ≡ (in_run first count n || set.contains z.stuck n)) → IsSound (record z { held = held; free = free; stuck = stuck }) × (seen held z.kept.items ≡ with_run (seen z.held z.kept.items) first count Huge)
+  sound_held held free stuck first count within all held_each free_each stuck_each =
+      let view = seen_held (set.contains z.held) (set.contains held) z.kept.items first count within held_each in
+      let there : first + count ≤ length (seen z.held z.kept.items) = omega (arith, seen_length, within) in (
+        record {
+          whole = sound.whole;
+          some = sound.some;
+          few = sound.few;
+          movable = sound.movable;
+          room = sound.room;
+          movable_room = sound.movable_room;
+          never_huge = sound.never_huge;
+          held = λ n e. held_or (in_run first count n) (set.contains z.held n) (slice_get z.kept.items n) (sym (held_each n) ∙ e)
+              (λ inside. free_kept (set.contains z.held n) (slice_get z.kept.items n) (ap is_free_state (sym (seen_get (set.contains z.held) z.kept.items n)) ∙ all n inside)) (sound.held n);
+          free = λ n. run_written (λ k o. is_free_state o) (seen z.held z.kept.items) first count Huge (set.contains z.free) (set.contains free) false there (λ k. refl) sound.free (λ k. free_each k ∙ not_run (in_run first count k) (set.contains z.free k)) n ∙ ap (λ (xs : List FrameState). free_at xs n) (sym view);
+          stuck = λ n. run_written (λ k o. is_stuck_state o (true_at z.movable.items k)) (seen z.held z.kept.items) first count Huge (set.contains z.stuck) (set.contains stuck) true there (λ k. refl) sound.stuck (λ k. stuck_each k ∙ or_run (in_run first count k) (set.contains z.stuck k)) n ∙ ap (λ (xs : List FrameState). is_stuck_state (slice_get xs n) (true_at z.movable.items n)) (sym view);
+        },
+        view,
+      )
+    where
+      held_or : (c h : Bool) (o : Option FrameState) → (c || h) ≡ true → (c ≡ true → o ≡ Some Free) → (h ≡ true → o ≡ Some Free) → o ≡ Some Free
+      held_or true h o e inside outside = inside refl
+      held_or false h o e inside outside = outside e
+
+  pub is_held : (n : ℕ) → huge_at (seen z.held z.kept.items) n ≡ true → set.contains z.held n ≡ true
+  is_held n e = huge_held (set.contains z.held n) (slice_get z.kept.items n) (sound.never_huge n) (ap is_huge_state (sym (seen_get (set.contains z.held) z.kept.items n)) ∙ e)
+
+  -- the frames of a block are free again
+  pub sound_released : (held free stuck : set.FinSet nat_cmp) (first count : ℕ) → first + count ≤ length z.kept.items → ((n : ℕ) → in_run first count n ≡ true → huge_at (seen z.held z.kept.items) n ≡ true) → ((n : ℕ) → set.contains held n ≡ (not (in_run first count n) && set.contains z.held n)) → ((n : ℕ) → set.contains free n ≡ (in_run first count n || set.contains z.free n)) → ((n : ℕ) → set.contains stuck n ≡ (not (in_run first count n) && set.contains z.stuck n)) → IsSound (record z { held = held; free = free; stuck = stuck }) × (seen held z.kept.items ≡ with_run (seen z.held z.kept.items) first count Free)
+  sound_released held free stuck first count within all held_each free_each stuck_each =
+      let view = seen_released (set.contains z.held) (set.contains held) z.kept.items first count within held_each (λ n inside. sound.held n (is_held n (all n inside))) in
+      let there : first + count ≤ length (seen z.held z.kept.items) = omega (arith, seen_length, within) in (
+        record {
+          whole = sound.whole;
+          some = sound.some;
+          few = sound.few;
+          movable = sound.movable;
+          room = sound.room;
+          movable_room = sound.movable_room;
+          never_huge = sound.never_huge;
+          held = λ n e. sound.held n (both (not (in_run first count n)) (set.contains z.held n) (sym (held_each n) ∙ e)).1;
+          free = λ n. run_written (λ k o. is_free_state o) (seen z.held z.kept.items) first count Free (set.contains z.free) (set.contains free) true there (λ k. refl) sound.free (λ k. free_each k ∙ or_run (in_run first count k) (set.contains z.free k)) n ∙ ap (λ (xs : List FrameState). free_at xs n) (sym view);
+          stuck = λ n. run_written (λ k o. is_stuck_state o (true_at z.movable.items k)) (seen z.held z.kept.items) first count Free (set.contains z.stuck) (set.contains stuck) false there (λ k. refl) sound.stuck (λ k. stuck_each k ∙ not_run (in_run first count k) (set.contains z.stuck k)) n ∙ ap (λ (xs : List FrameState). is_stuck_state (slice_get xs n) (true_at z.movable.items n)) (sym view);
+        },
+        view,
+      )
+
+  -- the page of a frame may be taken from it, or may not
+  pub sound_marked : (movable : Vec Bool Global) (stuck : set.FinSet nat_cmp) (frame index : ℕ) (state : FrameState) (is_stuck is_movable : Bool) → frame < length z.kept.items → index ≡ frame → movable.items ≡ slice_set z.movable.items index is_movable → vec_capacity movable ≡ vec_capacity z.movable → slice_get (seen z.held z.kept.items) frame ≡ Some state → is_stuck ≡ is_stuck_state (Some state) is_movable → ((n : ℕ) → set.contains stuck n ≡ (if nat_eq n frame then is_stuck else set.contains z.stuck n)) → IsSound (record z { movable = movable; stuck = stuck })
+  sound_marked movable stuck frame index state is_stuck is_movable within at items room is is_stuck_is put =
+      let list : movable.items ≡ slice_set z.movable.items frame is_movable = items ∙ ap (λ k. slice_set z.movable.items k is_movable) at in
+      let len : length movable.items ≡ length z.movable.items = ap length list ∙ length-set z.movable.items frame is_movable in
+      record {
+        whole = sound.whole;
+        some = sound.some;
+        few = sound.few;
+        movable = len ∙ sound.movable;
+        room = sound.room;
+        movable_room = room ∙ sound.movable_room;
+        never_huge = sound.never_huge;
+        held = sound.held;
+        free = sound.free;
+        stuck = λ n. put n ∙ elim (eqb_tells n frame) [
+          | inl here ↦ (taken (nat_eq n frame) is_stuck (set.contains z.stuck n) (eq-eqb n frame here.1) ∙ is_stuck_is
+              ∙ (λ i. is_stuck_state (sym is i) is_movable) ∙ ap (λ k. is_stuck_state (slice_get (seen z.held z.kept.items) k) is_movable) (sym here.1)
+              ∙ ap (is_stuck_state (slice_get (seen z.held z.kept.items) n)) (sym (ap (λ (xs : List Bool). true_at xs n) list ∙ ap (λ o. unwrap_or o false) (slice_get_set_same z.movable.items frame n is_movable here.1 (omega (arith, sound.movable, within))))))
+          | inr away ↦ (skipped (nat_eq n frame) is_stuck (set.contains z.stuck n) (ne_eqb n frame away.1) ∙ sound.stuck n
+              ∙ ap (is_stuck_state (slice_get (seen z.held z.kept.items) n)) (sym (ap (λ (xs : List Bool). true_at xs n) list ∙ ap (λ o. unwrap_or o false) (slice_get_set_other z.movable.items frame n is_movable away.1))))
+        ];
+      }
+
+-- frames that are all free
+pub sound_free : (z : Inside) (blocks : ℕ) → 0 < blocks → blocks ≤ 8 → z.kept.items ≡ replicate (512 * blocks) Free → z.movable.items ≡ replicate (512 * blocks) false → vec_capacity z.kept ≡ 512 * blocks → vec_capacity z.movable ≡ 512 * blocks → z.held ≡ set.empty → z.stuck ≡ set.empty → ((n : ℕ) → set.contains z.free n ≡ free_at z.kept.items n) → IsSound z × (seen z.held z.kept.items ≡ replicate (512 * blocks) Free)
+sound_free z blocks some few kept movable room movable_room held stuck free =
+    let count : length z.kept.items ≡ 512 * blocks = ap length kept ∙ length-replicate (512 * blocks) Free in
+    let movable_count : length z.movable.items ≡ 512 * blocks = ap length movable ∙ length-replicate (512 * blocks) false in
+    let none = λ (n : ℕ). ap (λ s. set.contains s n) held ∙ set.contains-empty nat_cmp n in
+    let view = seen_none_held (set.contains z.held) z.kept.items none in
+    let each = λ (n : ℕ). ap (λ (xs : List FrameState). slice_get xs n) kept in (
+      record {
+        whole = omega arith;
+        some = omega arith;
+        few = omega arith;
+        movable = omega arith;
+        room = omega arith;
+        movable_room = omega arith;
+        never_huge = λ n. ap is_huge_state (each n) ∙ free_state is_huge_state blocks n refl refl;
+        held = λ n e. absurd (clash (set.contains z.held n) e (none n));
+        free = λ n. free n ∙ ap (λ (xs : List FrameState). free_at xs n) (sym view);
+        stuck = λ n. ap (λ s. set.contains s n) stuck ∙ set.contains-empty nat_cmp n
+            ∙ sym (ap (λ (xs : List FrameState). is_stuck_state (slice_get xs n) (true_at z.movable.items n)) view ∙ ap (λ o. is_stuck_state o (true_at z.movable.items n)) (each n) ∙ free_state (λ o. is_stuck_state o (true_at z.movable.items n)) blocks n refl refl);
+      },
+      view ∙ kept,
+    )
+  where
+    free_state : (f : Option FrameState → Bool) (blocks n : ℕ) → f (Some Free) ≡ false → f None ≡ false → f (slice_get (replicate (512 * blocks) Free) n) ≡ false
+    free_state f blocks n free none = elim (leb_tells (512 * blocks) n) [
+      | inl past ↦ (ap f (slice_get_past (replicate (512 * blocks) Free) n (omega (arith, past.1, length-replicate (512 * blocks) Free))) ∙ none)
+      | inr under ↦ (ap f (slice_get_replicate (512 * blocks) n Free under.1) ∙ free)
+    ]
+
+-- what a free block has, and a block that is handed out
+pub free_stuck : (z : Inside) → IsSound z → (n : ℕ) → free_at (seen z.held z.kept.items) n ≡ true → set.contains z.stuck n ≡ false
+free_stuck z sound n free = sound.stuck n ∙ free_not_stuck (slice_get (seen z.held z.kept.items) n) (true_at z.movable.items n) free
+
+pub huge_is_stuck : (z : Inside) → IsSound z → (n : ℕ) → huge_at (seen z.held z.kept.items) n ≡ true → set.contains z.stuck n ≡ true
+huge_is_stuck z sound n huge = sound.stuck n ∙ huge_stuck (slice_get (seen z.held z.kept.items) n) (true_at z.movable.items n) huge
+
+pub huge_isnt_free : (z : Inside) → IsSound z → (n : ℕ) → huge_at (seen z.held z.kept.items) n ≡ true → set.contains z.free n ≡ false
+huge_isnt_free z sound n huge = sound.free n ∙ huge_not_free (slice_get (seen z.held z.kept.items) n) huge

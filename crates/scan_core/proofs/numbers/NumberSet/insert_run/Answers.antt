@@ -1,0 +1,25 @@
+use Rattle.std.proofs.Common.{◌≡◌, ◌%◌, ◌/◌, sym, ap, ◌∙◌, arith}
+use Rattle.std.specs.Prelude.{nat_eq, ◌&&◌, ◌||◌}
+use Rattle.std.specs.FinSet as set
+use Rattle.scan_core.specs.Bits.{has_bit}
+use Rattle.scan_core.specs.Spans.{in_words}
+use Rattle.scan_core.proofs.Spanning.{no_words, filled_more}
+use Rattle.scan_core.proofs.numbers.NumberSet.insert_run.Goals as goal
+
+pub loop-word-init : goal.loop-word-init
+loop-word-init c = λ n.
+    sym (ap (λ b. (b && has_bit c.span_of-span.result.mask (n % 64)) || set.contains c.args.self.now n) (no_words c.span_of-span.result.start n))
+
+pub loop-word-preserved : goal.loop-word-preserved
+loop-word-preserved c = λ n.
+    let span = c.span_of-span.result in
+    c.fill.ensures n
+    ∙ ap (λ b. (nat_eq (n / 64) c.loop-word.word && has_bit span.mask (n % 64)) || b) (c.loop-word.invariant n)
+    ∙ filled_more span.start c.loop-word.word n (has_bit span.mask (n % 64)) (set.contains c.args.self.now n) c.loop-word.auto.word
+
+pub returns : goal.returns
+returns c = λ n.
+    let span = c.span_of-span.result in
+    let end : c.loop-word.word ≡ span.end = omega (arith, c.span_of-span.ensures.order) in
+    c.loop-word.invariant n
+    ∙ ap (λ b. b || set.contains c.args.self.now n) (ap (λ e. in_words span.start e n && has_bit span.mask (n % 64)) end ∙ c.span_of-span.ensures.each n)

@@ -1,0 +1,186 @@
+//! A set of frames, counted.
+
+ghost use Rattle.std.specs.Prelude.{◌≡◌, ℕ, ◌+◌, ◌*◌, ◌%◌, ◌^◌, ◌<◌, ◌≤◌, ◌&&◌, ◌||◌, not, true, false, length, nat_eq, IfSome, if◌then◌else◌};
+ghost use Rattle.std.specs.FinSet as set;
+ghost use Rattle.frame_core.specs.Below.{count_below, lowest, some_below};
+ghost use Rattle.frame_core.specs.Order.{is_aligned};
+ghost use Rattle.scan_core.specs.Frames.{free_at};
+ghost use Rattle.scan_core.specs.FrameSet.{all_of_block, is_run_of};
+ghost use Rattle.scan_core.specs.NumberSet.{all_from, capacity, in_run};
+ghost use Rattle.scan_core.specs.Pairs.{is_marked};
+ghost use Rattle.scan_core.specs.Runs.{first_run};
+
+use crate::blocks::BlockCounts;
+use crate::lists;
+use crate::numbers::NumberSet;
+use frame_core::{FrameNo, FrameState, Order, block_of};
+use std::marker::Model;
+
+/// A set of frames, with how many of them there are, in all and in each pageblock.
+#[derive(Drop)]
+pub struct FrameSet {
+    numbers: NumberSet,
+    count: u32,
+    blocks: BlockCounts,
+}
+
+impl Model for FrameSet {
+    ghost use Rattle.std.specs.Ordering.{nat_cmp};
+    ghost use Rattle.std.specs.FinSet as set;
+    ghost use Rattle.std.specs.Coded.{coded_ℕ};
+
+    ghost Value = { set.FinSet nat_cmp };
+
+    ghost coded = { set.code coded_ℕ };
+
+    ghost use Rattle.scan_core.specs.FrameSetInside.{IsCounted};
+
+    ghost view = { λ s. s.numbers };
+
+    ghost invariant = { IsCounted };
+}
+
+impl FrameSet {
+    pub fn new() -> Self
+        ensures { result ≡ set.empty }
+    {
+        FrameSet {
+            numbers: NumberSet::new(),
+            count: 0,
+            blocks: BlockCounts::new(),
+        }
+    }
+
+    /// The frames of a list that are free.
+    pub fn of(frames: &[FrameState]) -> Self
+        requires { length frames.now ≤ 4096 }
+        ensures { (frame : ℕ) → set.contains result frame ≡ free_at frames.now frame }
+    {
+        let mut free = FrameSet::new();
+        for i in 0..frames.len() {
+            if let Some(frame) = FrameNo::new(i as u32) {
+                free.put(frame, lists::is_free(&frames[i]));
+            }
+        }
+        free
+    }
+
+    pub fn contains(&self, frame: FrameNo) -> bool
+        ensures { result ≡ set.contains self.now frame }
+    {
+        self.numbers.contains(frame.get())
+    }
+
+    /// Puts a frame in or takes it out.
+    pub fn put(&mut self, frame: FrameNo, member: bool)
+        ensures { (other : ℕ) → set.contains self.new other ≡ (if nat_eq other frame then member else set.contains self.old other) }
+    {
+        if member {
+            if !self.contains(frame) {
+                self.insert(frame);
+            }
+        } else if self.contains(frame) {
+            self.remove(frame);
+        }
+    }
+
+    fn insert(&mut self, frame: FrameNo)
+        requires { set.contains self.old frame ≡ false }
+        ensures { self.new ≡ set.insert self.old frame }
+    {
+        self.numbers.insert(frame.get());
+        self.count += 1;
+        self.blocks.more(block_of(frame), 1);
+    }
+
+    fn remove(&mut self, frame: FrameNo)
+        requires { set.contains self.old frame ≡ true }
+        ensures { self.new ≡ set.remove self.old frame }
+    {
+        self.numbers.remove(frame.get());
+        self.count -= 1;
+        self.blocks.fewer(block_of(frame), 1);
+    }
+
+    /// Puts in a run of frames, none of which is a member.
+    pub fn insert_run(&mut self, first: FrameNo, order: Order)
+        requires aligned { is_aligned order first ≡ true }
+        requires none { (frame : ℕ) → in_run first (2 ^ order) frame ≡ true → set.contains self.old frame ≡ false }
+        ensures { (frame : ℕ) → set.contains self.new frame ≡ (in_run first (2 ^ order) frame || set.contains self.old frame) }
+    {
+        let frames = run_frames(first, order);
+        self.numbers.insert_run(first.get(), order);
+        self.count += frames;
+        self.blocks.more(block_of(first), frames);
+    }
+
+    /// Takes out a run of frames, all of which are members.
+    pub fn remove_run(&mut self, first: FrameNo, order: Order)
+        requires aligned { is_aligned order first ≡ true }
+        requires all { (frame : ℕ) → in_run first (2 ^ order) frame ≡ true → set.contains self.old frame ≡ true }
+        ensures { (frame : ℕ) → set.contains self.new frame ≡ (not (in_run first (2 ^ order) frame) && set.contains self.old frame) }
+    {
+        let frames = run_frames(first, order);
+        self.numbers.remove_run(first.get(), order);
+        self.count -= frames;
+        self.blocks.fewer(block_of(first), frames);
+    }
+
+    pub fn count(&self) -> u32
+        ensures { result ≡ count_below (set.contains self.now) capacity }
+    {
+        self.count
+    }
+
+    /// The lowest frame of the set.
+    pub fn lowest(&self) -> Option<FrameNo>
+        ensures lowest { result ≡ lowest (set.contains self.now) capacity }
+        ensures member { IfSome result (λ frame. set.contains self.now frame ≡ true) }
+    {
+        FrameNo::new(self.numbers.lowest()?)
+    }
+
+    /// How many pageblocks have all of their frames in the set.
+    pub fn whole_blocks(&self) -> u32
+        ensures { result ≡ count_below (all_of_block (set.contains self.now)) 8 }
+    {
+        self.blocks.whole()
+    }
+
+    /// Whether some frame of an unmarked pageblock is a member.
+    pub fn is_any_unmarked(&self, marked: &[bool; 8]) -> bool
+        ensures { result ≡ some_below (λ frame. not (is_marked marked.now frame) && set.contains self.now frame) capacity }
+    {
+        self.blocks.is_any_unmarked(marked)
+    }
+
+    /// The first frame of the lowest run of this order that is in the set.
+    pub fn first_run(&self, order: Order) -> Option<FrameNo>
+        ensures { result ≡ lowest (is_run_of (set.contains self.now) order) capacity }
+    {
+        let frames = 1_u32 << order.get();
+        for run in 0..4096 / frames {
+            if self.numbers.has_run(run * frames, order) {
+                return FrameNo::new(run * frames);
+            }
+        }
+        None
+    }
+}
+
+/// The frames of a run of this order. They are of one pageblock.
+fn run_frames(first: FrameNo, order: Order) -> u32
+    requires { is_aligned order first ≡ true }
+    ensures frames { result ≡ 2 ^ order }
+    ensures block { first % 512 + result ≤ 512 }
+{
+    1 << order.get()
+}
+
+/// The first frame of the lowest free block of an order.
+pub fn first_run(frames: &[FrameState], order: Order) -> Option<FrameNo>
+    requires { length frames.now ≤ 4096 }
+    ensures { result ≡ first_run frames.now order }
+{
+    FrameSet::of(frames).first_run(order)
+}

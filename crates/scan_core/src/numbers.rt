@@ -1,0 +1,173 @@
+//! Sets of numbers below 4,096.
+
+ghost use Rattle.std.specs.Prelude.{◌≡◌, ℕ, ◌+◌, ◌*◌, ◌/◌, ◌%◌, ◌^◌, ◌<◌, ◌≤◌, ◌&&◌, ◌||◌, not, true, nat_eq, nat_lt, IfSome, if◌then◌else◌};
+ghost use Rattle.std.specs.Ordering.{nat_cmp};
+ghost use Rattle.std.specs.FinSet as set;
+ghost use Rattle.frame_core.specs.Below.{lowest};
+ghost use Rattle.frame_core.specs.Order.{is_aligned};
+ghost use Rattle.scan_core.specs.Bits.{has_bit};
+ghost use Rattle.scan_core.specs.NumberSet.{all_from, capacity, in_run};
+ghost use Rattle.scan_core.specs.Spans.{Spans};
+
+use crate::bits::Bits;
+use frame_core::Order;
+use std::marker::Model;
+
+/// A set of numbers below 4,096. It takes no memory of its own, and each call looks at a few words.
+#[derive(Drop)]
+pub struct NumberSet {
+    bits: Bits,
+}
+
+impl Model for NumberSet {
+    ghost use Rattle.std.specs.Prelude.{◌≡◌, length};
+    ghost use Rattle.std.specs.Ordering.{nat_cmp};
+    ghost use Rattle.std.specs.FinSet as set;
+    ghost use Rattle.std.specs.Coded.{coded_ℕ};
+    ghost use Rattle.scan_core.specs.NumberSet.{numbers_of};
+
+    ghost Value = { set.FinSet nat_cmp };
+
+    ghost coded = { set.code coded_ℕ };
+
+    ghost view = { λ s. numbers_of s.bits };
+
+    ghost invariant = { λ s. length s.bits ≡ 64 };
+}
+
+impl NumberSet {
+    pub fn new() -> Self
+        ensures { result ≡ set.empty }
+    {
+        NumberSet { bits: Bits::new() }
+    }
+
+    pub fn contains(&self, number: u32) -> bool
+        requires { number < 4096 }
+        ensures { result ≡ set.contains self.now number }
+    {
+        self.bits.get(number / 64) >> (number % 64) & 1 == 1
+    }
+
+    pub fn insert(&mut self, number: u32)
+        requires { number < 4096 }
+        ensures { self.new ≡ set.insert self.old number }
+    {
+        self.fill(number / 64, 1 << (number % 64));
+    }
+
+    pub fn remove(&mut self, number: u32)
+        requires { number < 4096 }
+        ensures { self.new ≡ set.remove self.old number }
+    {
+        self.clear(number / 64, 1 << (number % 64));
+    }
+
+    /// Puts a number in or takes it out.
+    pub fn put(&mut self, number: u32, member: bool)
+        requires { number < 4096 }
+        ensures { (other : ℕ) → set.contains self.new other ≡ (if nat_eq other number then member else set.contains self.old other) }
+    {
+        if member {
+            self.insert(number);
+        } else {
+            self.remove(number);
+        }
+    }
+
+    /// The lowest number of the set.
+    pub fn lowest(&self) -> Option<u32>
+        ensures lowest { result ≡ lowest (set.contains self.now) capacity }
+        ensures member { IfSome result (λ number. set.contains self.now number ≡ true) }
+        ensures within { IfSome result (λ number. number < 4096) }
+    {
+        let Some(word) = self.bits.first() else {
+            return None;
+        };
+        Some(64 * word + self.bits.get(word).trailing_zeros())
+    }
+
+    /// Puts in the 2^order numbers from a first one on.
+    pub fn insert_run(&mut self, first: u32, order: Order)
+        requires within { first < 4096 }
+        requires aligned { is_aligned order first ≡ true }
+        ensures { (number : ℕ) → set.contains self.new number ≡ (in_run first (2 ^ order) number || set.contains self.old number) }
+    {
+        let span = span_of(first, order);
+        for word in span.start..span.end {
+            self.fill(word, span.mask);
+        }
+    }
+
+    /// Takes out the 2^order numbers from a first one on.
+    pub fn remove_run(&mut self, first: u32, order: Order)
+        requires within { first < 4096 }
+        requires aligned { is_aligned order first ≡ true }
+        ensures { (number : ℕ) → set.contains self.new number ≡ (not (in_run first (2 ^ order) number) && set.contains self.old number) }
+    {
+        let span = span_of(first, order);
+        for word in span.start..span.end {
+            self.clear(word, span.mask);
+        }
+    }
+
+    /// Whether the 2^order numbers from a first one on are all of the set.
+    pub fn has_run(&self, first: u32, order: Order) -> bool
+        requires within { first < 4096 }
+        requires aligned { is_aligned order first ≡ true }
+        ensures { result ≡ all_from (set.contains self.now) first (2 ^ order) }
+    {
+        let span = span_of(first, order);
+        for word in span.start..span.end {
+            if self.bits.get(word) & span.mask != span.mask {
+                return false;
+            }
+        }
+        true
+    }
+
+    fn fill(&mut self, word: u32, mask: u64)
+        requires { word < 64 }
+        ensures { (number : ℕ) → set.contains self.new number ≡ ((nat_eq (number / 64) word && has_bit mask (number % 64)) || set.contains self.old number) }
+    {
+        let bits = self.bits.get(word);
+        self.bits.set(word, bits | mask);
+    }
+
+    fn clear(&mut self, word: u32, mask: u64)
+        requires { word < 64 }
+        ensures { (number : ℕ) → set.contains self.new number ≡ (not (nat_eq (number / 64) word && has_bit mask (number % 64)) && set.contains self.old number) }
+    {
+        let bits = self.bits.get(word);
+        self.bits.set(word, bits & !mask);
+    }
+}
+
+/// The words that a run stands in, and its bits in each of them.
+#[derive(Clone, Copy)]
+struct Span {
+    start: u32,
+    end: u32,
+    mask: u64,
+}
+
+fn span_of(first: u32, order: Order) -> Span
+    requires within { first < 4096 }
+    requires aligned { is_aligned order first ≡ true }
+    ensures { Spans result first (2 ^ order) }
+{
+    let (words, ones) = match order.get() {
+        3 => (1, 0xff),
+        4 => (1, 0xffff),
+        5 => (1, 0xffff_ffff),
+        6 => (1, u64::MAX),
+        7 => (2, u64::MAX),
+        8 => (4, u64::MAX),
+        _ => (8, u64::MAX),
+    };
+    Span {
+        start: first / 64,
+        end: first / 64 + words,
+        mask: ones << (first % 64),
+    }
+}

@@ -1,0 +1,65 @@
+-- A pin more and a pin less: nothing changes but how many pins the page has.
+use Rattle.std.proofs.Common.{◌≡◌, ◌≢◌, ℕ, ◌+◌, ◌-◌, ◌<◌, length, inl, inr, refl, sym, ap, ◌∙◌, arith, Option, Some}
+use Rattle.std.proofs.lemmas.Bool.{eq-eqb, ne_eqb}
+use Rattle.std.proofs.lemmas.Bool.Decides.{eqb_tells}
+use Rattle.frame_core.specs.Below.{one_if}
+use Rattle.frame_core.specs.declared.place.Address.{Address}
+use Rattle.journal_core.specs.declared.record.Record.TheVariants.{Pin, Unpin}
+use Rattle.journal_core.specs.History.{page_at, is_page, pins}
+use Rattle.journal_core.specs.Moves.{out}
+use Rattle.state_core.specs.Lawful.{IsLawful}
+use Rattle.state_core.specs.Pinning.{pinned, unpinned}
+use Rattle.state_core.specs.ZoneState.{ZoneState}
+use Rattle.state_core.proofs.Noted.{lawful_noted}
+use Rattle.state_core.proofs.Quiet.{swept_ended}
+
+module _ (v : ZoneState) (client : ℕ) (address : Address) (page : ℕ) (named : page_at v.records address ≡ Some page) where
+  named_one : one_if (is_page (page_at v.records address) page) ≡ 1
+  named_one = ap (λ (o : Option ℕ). one_if (is_page o page)) named ∙ ap one_if (eq-eqb page page refl)
+
+  named_none : (q : ℕ) → q ≢ page → one_if (is_page (page_at v.records address) q) ≡ 0
+  named_none q ne = ap (λ (o : Option ℕ). one_if (is_page o q)) named ∙ ap one_if (ne_eqb page q (λ e. ne (sym e)))
+
+  pub pins_one_more : pins (pinned v client address).records page ≡ pins v.records page + 1
+  pins_one_more = omega (arith, named_one)
+
+  pub pins_one_less : pins (unpinned v client address).records page ≡ pins v.records page - 1
+  pins_one_less = ap (λ n. pins v.records page - n) named_one
+
+  pub pinned_others : (q : ℕ) → q ≢ page → pins (pinned v client address).records q ≡ pins v.records q
+  pinned_others q ne = omega (arith, named_none q ne)
+
+  pub unpinned_others : (q : ℕ) → q ≢ page → pins (unpinned v client address).records q ≡ pins v.records q
+  unpinned_others q ne = omega (arith, named_none q ne)
+
+  module _ (law : IsLawful v) (spare : length (out v.records) < v.room) where
+    pub lawful_pinned : pins v.records page < 255 → IsLawful (pinned v client address)
+    lawful_pinned few = lawful_noted v law (Pin client address) spare (record {
+      truthful = law.truthful;
+      well_ended = law.well_ended;
+      named = law.named;
+      in_use = λ q used.
+          let before = law.in_use q used in
+          elim (eqb_tells q page) [
+            | inl same ↦ (before.0, before.1, omega (arith, ap (pins (pinned v client address).records) same.1, pins_one_more))
+            | inr other ↦ (before.0, before.1, omega (arith, pinned_others q other.1, before.2))
+          ];
+      out = refl;
+      ways = λ p serial. (λ way. way, λ way. way);
+      given = λ first. refl;
+      marks = λ block. refl;
+      swept = swept_ended v (pinned v client address) (Pin client address) law refl refl refl;
+    })
+
+    pub lawful_unpinned : IsLawful (unpinned v client address)
+    lawful_unpinned = lawful_noted v law (Unpin client address) spare (record {
+      truthful = law.truthful;
+      well_ended = law.well_ended;
+      named = law.named;
+      in_use = λ q used. (let before = law.in_use q used in (before.0, before.1, omega (arith, before.2)));
+      out = refl;
+      ways = λ p serial. (λ way. way, λ way. way);
+      given = λ first. refl;
+      marks = λ block. refl;
+      swept = swept_ended v (unpinned v client address) (Unpin client address) law refl refl refl;
+    })

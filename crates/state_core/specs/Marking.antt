@@ -1,0 +1,32 @@
+-- The calls that mark a pageblock, so that the scanners leave it alone, and take the mark off: when they are refused, and what
+-- they leave.
+use Rattle.std.specs.Prelude.{ℕ, Bool, not, nat_lt, if◌then◌else◌, Option, Some, None}
+use Rattle.std.specs.FinSet as set
+use Rattle.journal_core.specs.declared.record.Record.TheVariants.{Mark, Unmark}
+use Rattle.state_core.specs.declared.error.ZoneError.{ZoneError}
+use Rattle.state_core.specs.declared.error.ZoneError.TheVariants.{Range, JournalFull, Marked, NotMarked}
+use Rattle.state_core.specs.ZoneState.{ZoneState, has_room, noted}
+
+abbrev pub mark_refusal : ZoneState → ℕ → Option ZoneError
+mark_refusal z block =
+    if not (nat_lt block z.blocks) then Some Range
+    else if not (has_room z) then Some JournalFull
+    else if set.contains z.marked block then Some Marked
+    else None
+
+abbrev pub unmark_refusal : ZoneState → ℕ → Option ZoneError
+unmark_refusal z block =
+    if not (nat_lt block z.blocks) then Some Range
+    else if not (has_room z) then Some JournalFull
+    else if not (set.contains z.marked block) then Some NotMarked
+    else None
+
+abbrev pub block_marked : ZoneState → ℕ → ZoneState
+block_marked z block = record (noted z (Mark block)) { marked = set.insert z.marked block }
+
+abbrev pub block_unmarked : ZoneState → ℕ → ZoneState
+block_unmarked z block = record (noted z (Unmark block)) { marked = set.remove z.marked block }
+
+-- whether a pageblock of the zone is marked
+abbrev pub marked_of : ZoneState → ℕ → Option Bool
+marked_of z block = if nat_lt block z.blocks then Some (set.contains z.marked block) else None

@@ -1,0 +1,92 @@
+ghost use Rattle.std.specs.Prelude.{◌≡◌, ◌+◌, ◌<◌, ◌≤◌, [], length, replicate, vec_capacity, IfOk};
+ghost use Rattle.table_core.specs.Names.{IsIn, IsRising, rank, inserted, without};
+ghost use Rattle.table_core.specs.Tables.{place_of};
+ghost use Rattle.frame_core.specs.Address.{InRange};
+
+use arrayvec::ArrayVec;
+use frame_core::Address;
+use std::alloc::{AllocError, Global};
+use std::marker::Model;
+
+/// The addresses that are listed under a frame, in rising order.
+#[derive(Drop)]
+pub struct Names {
+    addresses: ArrayVec<Address, 4>,
+}
+
+impl Model for Names {
+    ghost use Rattle.std.specs.Prelude.{List};
+    ghost use Rattle.frame_core.specs.declared.place.Address.{Address as Named};
+
+    ghost Value = { List Named };
+
+    ghost view = { λ n. n.addresses.items };
+}
+
+impl Names {
+    pub fn none() -> Self
+        ensures { result ≡ [] }
+    {
+        Names {
+            addresses: ArrayVec::new(),
+        }
+    }
+
+    pub fn as_slice(&self) -> &[Address]
+        ensures value { result.now ≡ self.now }
+        ensures few { length self.now ≤ 4 }
+    {
+        self.addresses.as_slice()
+    }
+
+    pub fn insert(&mut self, address: Address)
+        requires { length self.old < 4 }
+        ensures { self.new ≡ inserted self.old address }
+    {
+        let place = rank(&self.addresses, &address);
+        self.addresses.insert(place, address);
+    }
+
+    pub fn remove(&mut self, address: &Address)
+        requires rising { IsRising self.old }
+        requires named { IsIn self.old address.now }
+        ensures { self.new ≡ without self.old address.now }
+    {
+        let place = rank(&self.addresses, address);
+        self.addresses.remove(place);
+    }
+}
+
+/// So many lists with no address, in memory for just so many.
+pub fn none_named(alloc: Global, count: usize) -> Result<Vec<Names>, AllocError>
+    ensures items { IfOk result (λ lists. lists.items ≡ replicate count []) }
+    ensures capacity { IfOk result (λ lists. vec_capacity lists ≡ count) }
+{
+    let mut lists = Vec::with_capacity(alloc, count)?;
+    for _ in 0..count {
+        lists.push_reserved(Names::none());
+    }
+    Ok(lists)
+}
+
+/// How many addresses of a list come before this one.
+fn rank(addresses: &[Address], address: &Address) -> usize
+    ensures value { result ≡ rank addresses.now address.now }
+    ensures within { result ≤ length addresses.now }
+{
+    for i in 0..addresses.len() {
+        if index_of(address) <= index_of(&addresses[i]) {
+            return i;
+        }
+    }
+    addresses.len()
+}
+
+/// The place of an address: the spaces one after the other.
+pub fn index_of(address: &Address) -> usize
+    ensures place { result ≡ place_of address.now }
+    ensures range { result < 32768 }
+    ensures in_range { InRange address.now }
+{
+    4096 * address.space.get() as usize + address.vpage.get() as usize
+}

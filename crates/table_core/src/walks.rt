@@ -1,0 +1,82 @@
+//! Which addresses have an entry, by walks over all entries: for tests and audits.
+
+ghost use Rattle.std.specs.Prelude.{◌≡◌, ◌≢◌, ℕ, ◌<◌, ◌≤◌, List, length, IfSome, IfNone};
+ghost use Rattle.frame_core.specs.Address.{InRange};
+ghost use Rattle.frame_core.specs.declared.place.Address.{Address as Named};
+ghost use Rattle.table_core.specs.Names.{IsIn, IsRising, AreJust};
+ghost use Rattle.table_core.specs.Tables.{place_of, entry_at};
+
+use crate::entry::Entry;
+use crate::tables::{ENTRIES, Tables};
+use arrayvec::ArrayVec;
+use frame_core::{Address, FrameNo, Serial, SpaceNo, VPage};
+
+impl Tables {
+    /// The addresses that name the page in a frame.
+    pub fn walk_mappings(&self, frame: FrameNo) -> ArrayVec<Address, 4>
+        ensures { AreJust result.items (λ a. entry_at self.now.entries a ≡ Entry.Present frame) }
+    {
+        walk(&self.entries, &Entry::Present(frame))
+    }
+
+    /// The addresses that name a page on its way, by its serial alone.
+    pub fn walk_moving(&self, serial: Serial) -> ArrayVec<Address, 4>
+        ensures { AreJust result.items (λ a. (source : ℕ) × (entry_at self.now.entries a ≡ Entry.Migration serial source)) }
+    {
+        match source_of(&self.entries, serial) {
+            Some(source) => walk(&self.entries, &Entry::Migration { serial, source }),
+            None => ArrayVec::new(),
+        }
+    }
+}
+
+/// The addresses that have an entry: four at most do.
+fn walk(entries: &[Entry], entry: &Entry) -> ArrayVec<Address, 4>
+    requires count { length entries.now ≡ 32768 }
+    requires few { (names : List Named) → IsRising names
+        → ((a : Named) → IsIn names a → InRange a × (entry_at entries.now a ≡ entry.now)) → length names ≤ 4 }
+    ensures { AreJust result.items (λ a. entry_at entries.now a ≡ entry.now) }
+{
+    let mut found = ArrayVec::new();
+    for place in 0..ENTRIES {
+        if entries[place] == *entry {
+            found.push(address_at(place));
+        }
+    }
+    found
+}
+
+/// The frame that the page left which is on its way under a serial.
+fn source_of(entries: &[Entry], serial: Serial) -> Option<FrameNo>
+    requires { length entries.now ≡ 32768 }
+    ensures some { IfSome result (λ source. (a : Named) × InRange a × (entry_at entries.now a ≡ Entry.Migration serial source)) }
+    ensures none { IfNone result ((a : Named) (source : ℕ) → entry_at entries.now a ≢ Entry.Migration serial source) }
+{
+    for entry in entries {
+        if let Entry::Migration {
+            serial: under,
+            source,
+        } = *entry
+        {
+            if under == serial {
+                return Some(source);
+            }
+        }
+    }
+    None
+}
+
+/// The address of a place in the list of entries.
+fn address_at(place: usize) -> Address
+    requires { place < 32768 }
+    ensures place { place_of result ≡ place }
+    ensures range { InRange result }
+{
+    let Some(space) = SpaceNo::new((place / 4096) as u32) else {
+        unreachable!();
+    };
+    let Some(vpage) = VPage::new((place % 4096) as u32) else {
+        unreachable!();
+    };
+    Address { space, vpage }
+}

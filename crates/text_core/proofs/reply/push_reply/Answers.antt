@@ -1,0 +1,77 @@
+use Rattle.std.proofs.Common.{◌≡◌, ◌∙◌, ◌≤◌, ◌++◌, ◌∷◌, [], List, ℕ, length, length-append, append_assoc, append-nil, sym, ap, decimal, arith}
+use Rattle.std.proofs.lemmas.Grind.{common_steps}
+use Rattle.std.specs.Prelude.{codes}
+use Rattle.text_core.specs.Reply.{newlines, text_of}
+use Rattle.text_core.proofs.Newlines.{newlines-append, one_line_behind, text_of-some}
+use Rattle.text_core.proofs.reply.push_reply.Goals as goal
+use Rattle.text_core.proofs.reply.push_reply.Goals.{in-Done, in-Value, in-Info, in-Serial, in-Met, in-Moved, in-PutBack, in-Shut, in-Looked, in-Block, in-Refused}
+
+-- a field more of what is appended
+field_more : (old text before after name : List ℕ) (n m : ℕ) → before ≡ old ++ text → after ≡ before ++ name ++ decimal n → n ≡ m → after ≡ old ++ (text ++ name ++ decimal m)
+field_more old text before after name n m so_far more same =
+    more ∙ ap (λ (k : ℕ). before ++ name ++ decimal k) same
+    ∙ ap (λ (r : List ℕ). r ++ name ++ decimal m) so_far ∙ ap (λ (r : List ℕ). r ++ decimal m) (append_assoc old text name) ∙ append_assoc old (text ++ name) (decimal m)
+
+-- one field, and what is behind it
+one_field : (old after name rest : List ℕ) (n m : ℕ) → after ≡ old ++ name ++ decimal n → n ≡ m → after ++ rest ≡ old ++ (name ++ decimal m ++ rest)
+one_field old after name rest n m more same =
+    ap (λ (r : List ℕ). r ++ rest) (field_more old [] old after name n m (sym (append-nil old)) more same) ∙ append_assoc old (name ++ decimal m) rest
+
+pub returns-clause-text : goal.returns-clause-text
+returns-clause-text g c =
+    let old = c.args.text.now.items in
+    let all = c.push-2.ensures.text in
+    elim c.match-reply.branch [
+      | in-Done w ↦ let t0 = w.push.ensures.text in let is = w.text-is in grind (arith, common_steps, all, is, t0)
+      | in-Value w ↦ let t0 = w.push_field.ensures.text in let is = w.text-is in grind (arith, common_steps, all, is, t0)
+      | in-Info w ↦
+          let i = w.in-Info.info in
+          let free : List ℕ = codes "free=" ++ decimal i.free in
+          let to_free : w.push_field-in-Info.new.text.items ≡ old ++ free = field_more old [] (old) (w.push_field-in-Info.new.text.items) (codes "free=") w.from.result i.free (sym (append-nil old)) w.push_field-in-Info.ensures.text (omega (arith, w.from.ensures)) in
+          let pages : List ℕ = free ++ codes " pages=" ++ decimal i.pages in
+          let to_pages : w.push_field-in-Info-2.new.text.items ≡ old ++ pages = field_more old free (w.push_field-in-Info.new.text.items) (w.push_field-in-Info-2.new.text.items) (codes " pages=") w.from-in-Info.result i.pages to_free w.push_field-in-Info-2.ensures.text (omega (arith, w.from-in-Info.ensures)) in
+          let moving : List ℕ = pages ++ codes " moving=" ++ decimal i.moving in
+          let to_moving : w.push_field-in-Info-3.new.text.items ≡ old ++ moving = field_more old pages (w.push_field-in-Info-2.new.text.items) (w.push_field-in-Info-3.new.text.items) (codes " moving=") w.from-in-Info-2.result i.moving to_pages w.push_field-in-Info-3.ensures.text (omega (arith, w.from-in-Info-2.ensures)) in
+          let huge : List ℕ = moving ++ codes " huge=" ++ decimal i.huge in
+          let to_huge : w.push_field-in-Info-4.new.text.items ≡ old ++ huge = field_more old moving (w.push_field-in-Info-3.new.text.items) (w.push_field-in-Info-4.new.text.items) (codes " huge=") w.from-in-Info-3.result i.huge to_moving w.push_field-in-Info-4.ensures.text (omega (arith, w.from-in-Info-3.ensures)) in
+          let whole : List ℕ = huge ++ codes " whole=" ++ decimal i.whole in
+          let to_whole : w.push_field-in-Info-5.new.text.items ≡ old ++ whole = field_more old huge (w.push_field-in-Info-4.new.text.items) (w.push_field-in-Info-5.new.text.items) (codes " whole=") w.from-in-Info-4.result i.whole to_huge w.push_field-in-Info-5.ensures.text (omega (arith, w.from-in-Info-4.ensures)) in
+          all ∙ ap (λ t. t.items ++ codes "\n") w.text-is ∙ ap (λ (r : List ℕ). r ++ codes "\n") to_whole ∙ append_assoc old whole (codes "\n") ∙ ap (λ r. old ++ text_of r) (sym w.in-Info.is)
+      | in-Serial w ↦ let t0 = w.push_field-in-Serial.ensures.text in let is = w.text-is in grind (arith, common_steps, all, is, t0)
+      | in-Met w ↦ let t0 = w.push-in-Met.ensures.text in let is = w.text-is in grind (arith, common_steps, all, is, t0)
+      | in-Moved w ↦
+          all ∙ ap (λ t. t.items ++ codes "\n") w.text-is
+          ∙ one_field old (w.push_field-in-Moved.new.text.items) (codes "moved serial=") (codes "\n") w.from-in-Moved.result w.in-Moved.serial w.push_field-in-Moved.ensures.text (omega (arith, w.from-in-Moved.ensures))
+          ∙ ap (λ r. old ++ text_of r) (sym w.in-Moved.is)
+      | in-PutBack w ↦
+          let told = w.push_field-in-PutBack.new.text.items in
+          all ∙ ap (λ t. t.items ++ codes "\n") w.text-is ∙ ap (λ (r : List ℕ). r ++ codes "\n") w.push-in-PutBack.ensures.text ∙ append_assoc told (codes " cause=1") (codes "\n")
+          ∙ one_field old told (codes "back serial=") (codes " cause=1\n") w.from-in-PutBack.result w.in-PutBack.serial w.push_field-in-PutBack.ensures.text (omega (arith, w.from-in-PutBack.ensures))
+          ∙ ap (λ r. old ++ text_of r) (sym w.in-PutBack.is)
+      | in-Shut w ↦ let t0 = w.push_field-in-Shut.ensures.text in let is = w.text-is in grind (arith, common_steps, all, is, t0)
+      | in-Looked w ↦ let t0 = w.push_look.ensures.text in let is = w.text-is in grind (arith, common_steps, all, is, t0)
+      | in-Block w ↦ let t0 = w.push_field-in-Block.ensures.text in let is = w.text-is in grind (arith, common_steps, all, is, t0)
+      | in-Refused w ↦ let t0 = w.push_field-in-Refused.ensures.text in let is = w.text-is in grind (arith, common_steps, all, is, t0)
+    ]
+
+pub returns-clause-line : goal.returns-clause-line
+returns-clause-line g c =
+    let old = c.args.text.now.items in
+    let mid = c.match-reply.text.items in
+    let text = text_of c.args.reply.now in
+    let all : old ++ text ≡ mid ++ 10 ∷ [] = sym (returns-clause-text g c) ∙ c.push-2.ensures.text in
+    let longer : length old ≤ length mid = omega (arith, ap length all, length-append old text, length-append mid (10 ∷ []), text_of-some c.args.reply.now) in
+    let same : newlines mid ≡ newlines old = elim c.match-reply.branch [
+      | in-Done w ↦ omega (arith, ap newlines w.push.ensures.text, newlines-append old (codes "ok"), ap (λ t. newlines t.items) w.text-is)
+      | in-Value w ↦ omega (arith, w.push_field.ensures.lines, ap (λ t. newlines t.items) w.text-is)
+      | in-Info w ↦ omega (arith, w.push_field-in-Info.ensures.lines, w.push_field-in-Info-2.ensures.lines, w.push_field-in-Info-3.ensures.lines, w.push_field-in-Info-4.ensures.lines, w.push_field-in-Info-5.ensures.lines, ap (λ t. newlines t.items) w.text-is)
+      | in-Serial w ↦ omega (arith, w.push_field-in-Serial.ensures.lines, ap (λ t. newlines t.items) w.text-is)
+      | in-Met w ↦ omega (arith, ap newlines w.push-in-Met.ensures.text, newlines-append old (codes "met"), ap (λ t. newlines t.items) w.text-is)
+      | in-Moved w ↦ omega (arith, w.push_field-in-Moved.ensures.lines, ap (λ t. newlines t.items) w.text-is)
+      | in-PutBack w ↦ omega (arith, w.push_field-in-PutBack.ensures.lines, ap newlines w.push-in-PutBack.ensures.text, newlines-append w.push_field-in-PutBack.new.text.items (codes " cause=1"), ap (λ t. newlines t.items) w.text-is)
+      | in-Shut w ↦ omega (arith, w.push_field-in-Shut.ensures.lines, ap (λ t. newlines t.items) w.text-is)
+      | in-Looked w ↦ omega (arith, w.push_look.ensures.lines, ap (λ t. newlines t.items) w.text-is)
+      | in-Block w ↦ omega (arith, w.push_field-in-Block.ensures.lines, ap (λ t. newlines t.items) w.text-is)
+      | in-Refused w ↦ omega (arith, w.push_field-in-Refused.ensures.lines, ap (λ t. newlines t.items) w.text-is)
+    ] in
+    one_line_behind old mid text all same longer

@@ -1,0 +1,133 @@
+ghost use Rattle.std.specs.Prelude.{◌≡◌, ◌*◌, ◌^◌, Some, IsTrue, IfOk, OnOk, OnErr};
+ghost use Rattle.std.specs.Result.{result_err};
+ghost use Rattle.frame_core.specs.Below.{lowest};
+ghost use Rattle.state_core.specs.Clear.{IsClear};
+ghost use Rattle.state_core.specs.HandingOut.{is_run, lowest_run, take_order_refusal, give_order_refusal, block_taken, block_given};
+ghost use Rattle.state_core.specs.Lawful.{IsLawful};
+ghost use Rattle.state_core.specs.Marking.{mark_refusal, unmark_refusal, block_marked, block_unmarked, marked_of};
+ghost use Rattle.state_core.specs.ZoneState.{is_whole};
+
+use crate::zone::Zone;
+use frame_core::{BlockNo, FrameNo, Order, block_of, first_frame};
+use state_core::ZoneError;
+use std::sync::ledger::Ledger;
+
+impl<I: Ledger, M: Ledger, B: Ledger> Zone<I, M, B> {
+    /// Hands out the lowest free block of an order: frames that are of no page, from a multiple of their number on. Marks don't
+    /// count.
+    pub fn take_order(&mut self, order: Order) -> Result<FrameNo, ZoneError>
+        ensures refused { result_err result ≡ take_order_refusal self.old order }
+        ensures err { OnErr result (self.new ≡ self.old) }
+        ensures first { IfOk result (λ first. lowest_run self.old order ≡ Some first) }
+        ensures ok { IfOk result (λ first. self.new ≡ block_taken self.old first order) }
+        // Each of its frames was free, and no address or page has one of them.
+        ensures run { IfOk result (λ first. IsTrue (is_run self.old order first)) }
+        ensures clear { IfOk result (λ first. IsClear self.new first (2 ^ order)) }
+        ensures lawful { IsLawful self.new }
+    {
+        if !self.plain.has_room() {
+            return Err(ZoneError::JournalFull);
+        }
+        let Some(first) = self.plain.find_run(order) else {
+            return Err(ZoneError::NoBlock);
+        };
+        self.plain.hand_out(first, order);
+        Ok(first)
+    }
+
+    /// Takes a block back that was handed out: all of its frames are free again.
+    pub fn give_order(&mut self, first: FrameNo, order: Order) -> Result<(), ZoneError>
+        ensures refused { result_err result ≡ give_order_refusal self.old first order }
+        ensures err { OnErr result (self.new ≡ self.old) }
+        ensures ok { OnOk result (self.new ≡ block_given self.old first order) }
+        ensures run { OnOk result (IsTrue (is_run self.new order first)) }
+        ensures lawful { IsLawful self.new }
+    {
+        if !self.plain.has_block(first, order) {
+            return Err(ZoneError::Range);
+        }
+        if !self.plain.has_room() {
+            return Err(ZoneError::JournalFull);
+        }
+        if !self.plain.is_handed_out(first, order) {
+            return Err(ZoneError::NotHuge);
+        }
+        self.plain.take_back(first, order);
+        Ok(())
+    }
+
+    /// Hands out the lowest pageblock whose 512 frames are all free.
+    pub fn take_huge(&mut self) -> Result<BlockNo, ZoneError>
+        ensures refused { result_err result ≡ take_order_refusal self.old 9 }
+        ensures err { OnErr result (self.new ≡ self.old) }
+        ensures block { IfOk result (λ block. lowest_run self.old 9 ≡ Some (512 * block)) }
+        ensures whole { IfOk result (λ block. lowest (is_whole self.old) self.old.blocks ≡ Some block) }
+        ensures ok { IfOk result (λ block. self.new ≡ block_taken self.old (512 * block) 9) }
+        ensures clear { IfOk result (λ block. IsClear self.new (512 * block) 512) }
+        ensures lawful { IsLawful self.new }
+    {
+        let first = self.take_order(Order::of_pageblock())?;
+        Ok(block_of(first))
+    }
+
+    /// Takes a pageblock back that was handed out.
+    pub fn give_huge(&mut self, block: BlockNo) -> Result<(), ZoneError>
+        ensures refused { result_err result ≡ give_order_refusal self.old (512 * block) 9 }
+        ensures err { OnErr result (self.new ≡ self.old) }
+        ensures ok { OnOk result (self.new ≡ block_given self.old (512 * block) 9) }
+        ensures whole { OnOk result (IsTrue (is_whole self.new block)) }
+        ensures lawful { IsLawful self.new }
+    {
+        self.give_order(first_frame(block), Order::of_pageblock())
+    }
+
+    /// Marks a pageblock: the scanners take no frame of it, neither as a source nor as a target.
+    pub fn mark(&mut self, block: BlockNo) -> Result<(), ZoneError>
+        ensures refused { result_err result ≡ mark_refusal self.old block }
+        ensures err { OnErr result (self.new ≡ self.old) }
+        ensures ok { OnOk result (self.new ≡ block_marked self.old block) }
+        ensures lawful { IsLawful self.new }
+    {
+        if !self.plain.has_pageblock(block) {
+            return Err(ZoneError::Range);
+        }
+        if !self.plain.has_room() {
+            return Err(ZoneError::JournalFull);
+        }
+        if self.plain.is_marked(block) {
+            return Err(ZoneError::Marked);
+        }
+        self.plain.mark(block);
+        Ok(())
+    }
+
+    /// Takes the mark of a pageblock off.
+    pub fn unmark(&mut self, block: BlockNo) -> Result<(), ZoneError>
+        ensures refused { result_err result ≡ unmark_refusal self.old block }
+        ensures err { OnErr result (self.new ≡ self.old) }
+        ensures ok { OnOk result (self.new ≡ block_unmarked self.old block) }
+        ensures lawful { IsLawful self.new }
+    {
+        if !self.plain.has_pageblock(block) {
+            return Err(ZoneError::Range);
+        }
+        if !self.plain.has_room() {
+            return Err(ZoneError::JournalFull);
+        }
+        if !self.plain.is_marked(block) {
+            return Err(ZoneError::NotMarked);
+        }
+        self.plain.unmark(block);
+        Ok(())
+    }
+
+    /// Whether a pageblock is marked, and none where the zone has no such pageblock.
+    pub fn marked(&self, block: BlockNo) -> Option<bool>
+        ensures { result ≡ marked_of self.now block }
+    {
+        if !self.plain.has_pageblock(block) {
+            return None;
+        }
+        Some(self.plain.is_marked(block))
+    }
+}

@@ -1,0 +1,102 @@
+//! The addresses and the pins of pages.
+
+ghost use Rattle.std.specs.Prelude.{◌≡◌, OnOk, OnErr};
+ghost use Rattle.std.specs.Result.{result_err};
+ghost use Rattle.state_core.specs.Lawful.{IsLawful};
+ghost use Rattle.state_core.specs.Sharing.{share_refusal, shared};
+ghost use Rattle.state_core.specs.Unmapping.{unmap_refusal, unmapped};
+ghost use Rattle.state_core.specs.Pinning.{pin_refusal, pinned, unpin_refusal, unpinned};
+
+use crate::zone::Zone;
+use frame_core::{Address, ClientNo};
+use state_core::ZoneError;
+use std::sync::ledger::Ledger;
+
+impl<I: Ledger, M: Ledger, B: Ledger> Zone<I, M, B> {
+    /// Lets an alias name the page of an address too. A page has 4 addresses at most.
+    pub fn share(
+        &mut self,
+        client: ClientNo,
+        address: Address,
+        alias: Address,
+    ) -> Result<(), ZoneError>
+        ensures refused { result_err result ≡ share_refusal self.old address alias }
+        ensures err { OnErr result (self.new ≡ self.old) }
+        ensures ok { OnOk result (self.new ≡ shared self.old client address alias) }
+        ensures lawful { IsLawful self.new }
+    {
+        if !self.plain.has_room() {
+            return Err(ZoneError::JournalFull);
+        }
+        let frame = self.plain.frame_of(&address)?;
+        if self.plain.names_page(&alias) {
+            return Err(ZoneError::Occupied);
+        }
+        if self.plain.uses_at(&address).maps >= 4 {
+            return Err(ZoneError::ShareFull);
+        }
+        self.plain.share(client, address, alias, frame);
+        Ok(())
+    }
+
+    /// Lets an address name no page any more. With its last address a page ends: its number and its frame may be used again.
+    /// A page with a pin keeps its last address.
+    pub fn unmap(&mut self, client: ClientNo, address: Address) -> Result<(), ZoneError>
+        ensures refused { result_err result ≡ unmap_refusal self.old address }
+        ensures err { OnErr result (self.new ≡ self.old) }
+        ensures ok { OnOk result (self.new ≡ unmapped self.old client address) }
+        ensures lawful { IsLawful self.new }
+    {
+        if !self.plain.has_room() {
+            return Err(ZoneError::JournalFull);
+        }
+        let frame = self.plain.frame_of(&address)?;
+        let uses = self.plain.uses_at(&address);
+        if uses.maps == 1 && uses.pins != 0 {
+            return Err(ZoneError::Pinned);
+        }
+        self.plain.unmap(client, address, frame);
+        Ok(())
+    }
+
+    /// Pins the page that an address names, also while it is on its way: it may not be moved until each pin is taken off. A
+    /// page has 255 pins at most.
+    pub fn pin(&mut self, client: ClientNo, address: Address) -> Result<(), ZoneError>
+        ensures refused { result_err result ≡ pin_refusal self.old address }
+        ensures err { OnErr result (self.new ≡ self.old) }
+        ensures ok { OnOk result (self.new ≡ pinned self.old client address) }
+        ensures lawful { IsLawful self.new }
+    {
+        if !self.plain.has_room() {
+            return Err(ZoneError::JournalFull);
+        }
+        if !self.plain.names_page(&address) {
+            return Err(ZoneError::Unmapped);
+        }
+        if self.plain.uses_at(&address).pins == 255 {
+            return Err(ZoneError::PinFull);
+        }
+        self.plain.pin(client, address);
+        Ok(())
+    }
+
+    /// Takes a pin off the page that an address names, also while it is on its way.
+    pub fn unpin(&mut self, client: ClientNo, address: Address) -> Result<(), ZoneError>
+        ensures refused { result_err result ≡ unpin_refusal self.old address }
+        ensures err { OnErr result (self.new ≡ self.old) }
+        ensures ok { OnOk result (self.new ≡ unpinned self.old client address) }
+        ensures lawful { IsLawful self.new }
+    {
+        if !self.plain.has_room() {
+            return Err(ZoneError::JournalFull);
+        }
+        if !self.plain.names_page(&address) {
+            return Err(ZoneError::Unmapped);
+        }
+        if self.plain.uses_at(&address).pins == 0 {
+            return Err(ZoneError::NotPinned);
+        }
+        self.plain.unpin(client, address);
+        Ok(())
+    }
+}
