@@ -52,4 +52,6 @@ text_of-some (reply.Shut n) = omega arith
 text_of-some (reply.Looked (At frame flags pins maps)) = omega arith
 text_of-some (reply.Looked (Moving serial pins maps)) = omega arith
 text_of-some (reply.Block b) = omega arith
+text_of-some (reply.AllDone m) = omega arith
+text_of-some (reply.DoneUntil m k) = omega arith
 text_of-some (reply.Refused k) = omega arith

@@ -49,6 +49,8 @@ text_of (reply.PutBack n) = codes "back serial=" ++ decimal n ++ codes " cause=1
 text_of (reply.Shut n) = codes "back=" ++ decimal n ++ codes "\n"
 text_of (reply.Looked l) = look_text l ++ codes "\n"
 text_of (reply.Block b) = codes "block=" ++ decimal b ++ codes "\n"
+text_of (reply.AllDone m) = codes "done=" ++ decimal m ++ codes "\n"
+text_of (reply.DoneUntil m k) = codes "done=" ++ decimal m ++ codes " refused=" ++ decimal k ++ codes "\n"
 text_of (reply.Refused k) = codes "refused " ++ decimal k ++ codes "\n"
 
 -- one newline, and it stands at the end

@@ -4,7 +4,7 @@ use Rattle.std.specs.List.{slice_split}
 use Rattle.std.specs.Str.{all_ascii_digits}
 use Rattle.std.specs.Str.Parse.{digits_value}
 use Rattle.text_core.specs.declared.token.Token.{Token}
-use Rattle.text_core.specs.declared.token.Token.TheVariants.{Number, Zone, Map, MapAt, Store, Load, Info, Unmovable, Scan, Take, Copy, Finish, Shut, Look, Share, Unmap, Pin, Unpin, Huge, Give, Other}
+use Rattle.text_core.specs.declared.token.Token.TheVariants.{Number, Zone, Map, MapAt, Store, Load, Info, Unmovable, Scan, Take, Copy, Finish, Shut, Look, Share, Unmap, Pin, Unpin, Huge, Give, Fill, Thin, Other}
 
 -- a lexeme is what stands between spaces, and not empty
 abbrev pub lexemes : List ℕ → List (List ℕ)
@@ -41,6 +41,8 @@ keyword_of lexeme =
     else if bytes_eq lexeme (codes "unpin") then Unpin
     else if bytes_eq lexeme (codes "huge") then Huge
     else if bytes_eq lexeme (codes "give") then Give
+    else if bytes_eq lexeme (codes "fill") then Fill
+    else if bytes_eq lexeme (codes "thin") then Thin
     else Other
 
 -- a number, or else a keyword or nothing of the language

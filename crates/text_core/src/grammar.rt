@@ -1,10 +1,11 @@
 //! The rows of the language, as `specs/Grammar.antt` has them. That an argument is in its range is tested here, by its type.
 
 ghost use Rattle.std.specs.Prelude.{◌≡◌};
-ghost use Rattle.text_core.specs.Grammar.{address_of, blocks_of, command_of, frame_of, hand_of, load_call, map_at_call, map_call, call_on, opening, pageblock_of, row_of, share_call, store_call, word_of, zone_of};
+ghost use Rattle.text_core.specs.Grammar.{address_of, blocks_of, command_of, frame_of, hand_of, load_call, map_at_call, map_call, call_on, calls_on, opening, page_count_of, pageblock_of, row_of, series_of, series_on, share_call, space_of, store_call, word_of, zone_of};
 
 use crate::blocks::BlockCount;
-use crate::command::{Call, Command};
+use crate::command::{Call, Calls, Command, Repeated, Series};
+use crate::pages::PageCount;
 use crate::token::Token;
 use frame_core::{Address, BlockNo, FrameNo, HandNo, SpaceNo, VPage, WordNo, ZoneNo};
 
@@ -27,8 +28,8 @@ fn row(keyword: Token, zone: Option<ZoneNo>, arguments: &[Token]) -> Option<Comm
     ensures { result ≡ row_of keyword zone arguments.now }
 {
     use Token::{
-        Copy, Finish, Give, Huge, Info, Load, Look, Map, MapAt, Number, Pin, Scan, Share, Shut,
-        Store, Take, Unmap, Unmovable, Unpin, Zone,
+        Copy, Fill, Finish, Give, Huge, Info, Load, Look, Map, MapAt, Number, Pin, Scan, Share,
+        Shut, Store, Take, Thin, Unmap, Unmovable, Unpin, Zone,
     };
     match (keyword, arguments) {
         (Zone, &[Number(b)]) => Some(open(zone, blocks(b))),
@@ -61,6 +62,15 @@ fn row(keyword: Token, zone: Option<ZoneNo>, arguments: &[Token]) -> Option<Comm
         (Unpin, &[Number(s), Number(v)]) => Some(on(zone, address(s, v).map(Call::Unpin))),
         (Huge, []) => Some(on(zone, Some(Call::Huge))),
         (Give, &[Number(b)]) => Some(on(zone, pageblock(b).map(Call::Give))),
+        (Fill, &[Number(s), Number(v), Number(n)]) => {
+            Some(series_on(zone, series(Repeated::Map, space(s), v, page_count(n), 1)))
+        }
+        (Thin, &[Number(s), Number(v), Number(n), Number(step)]) => {
+            Some(series_on(
+                zone,
+                series(Repeated::Unmap, space(s), v, page_count(n), step),
+            ))
+        }
         _ => None,
     }
 }
@@ -79,8 +89,21 @@ fn open(zone: Option<ZoneNo>, blocks: Option<BlockCount>) -> Command
 fn on(zone: Option<ZoneNo>, call: Option<Call>) -> Command
     ensures { result ≡ call_on zone call }
 {
-    match (zone, call) {
-        (Some(zone), Some(call)) => Command::On { zone, call },
+    all_on(zone, call.map(Calls::One))
+}
+
+/// A series of calls on a zone, where the zone and each argument that is tested beforehand is in its range.
+fn series_on(zone: Option<ZoneNo>, series: Option<Series>) -> Command
+    ensures { result ≡ series_on zone series }
+{
+    all_on(zone, series.map(Calls::Series))
+}
+
+fn all_on(zone: Option<ZoneNo>, calls: Option<Calls>) -> Command
+    ensures { result ≡ calls_on zone calls }
+{
+    match (zone, calls) {
+        (Some(zone), Some(calls)) => Command::On { zone, calls },
         _ => Command::OutOfRange,
     }
 }
@@ -132,6 +155,24 @@ fn share(address: Option<Address>, alias: Option<Address>) -> Option<Call>
     })
 }
 
+fn series(
+    call: Repeated,
+    space: Option<SpaceNo>,
+    first: u64,
+    count: Option<PageCount>,
+    step: u64,
+) -> Option<Series>
+    ensures { result ≡ series_of call space first count step }
+{
+    Some(Series {
+        call,
+        space: space?,
+        first,
+        count: count?,
+        step,
+    })
+}
+
 fn zone(number: u64) -> Option<ZoneNo>
     ensures { result ≡ zone_of number }
 {
@@ -166,6 +207,18 @@ fn hand(number: u64) -> Option<HandNo>
     ensures { result ≡ hand_of number }
 {
     HandNo::new(u32::try_from(number).ok()?)
+}
+
+fn space(number: u64) -> Option<SpaceNo>
+    ensures { result ≡ space_of number }
+{
+    SpaceNo::new(u32::try_from(number).ok()?)
+}
+
+fn page_count(number: u64) -> Option<PageCount>
+    ensures { result ≡ page_count_of number }
+{
+    PageCount::new(u32::try_from(number).ok()?)
 }
 
 fn address(space: u64, vpage: u64) -> Option<Address>

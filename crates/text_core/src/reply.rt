@@ -28,6 +28,10 @@ pub enum Reply {
     Looked(Look),
     /// The pageblock that was handed out.
     Block(BlockNo),
+    /// So many calls of a series, none of which was refused.
+    AllDone(u32),
+    /// So many calls of a series, behind which one was refused with this number.
+    DoneUntil { done: u32, refusal: u16 },
     /// The number of a refusal.
     Refused(u16),
 }
@@ -68,6 +72,11 @@ pub fn push_reply<const N: usize>(text: &mut ArrayVec<u8, N>, reply: &Reply)
         Reply::Shut(count) => push_field(text, b"back=", u64::from(*count)),
         Reply::Looked(look) => push_look(text, look),
         Reply::Block(block) => push_field(text, b"block=", u64::from(block.get())),
+        Reply::AllDone(done) => push_field(text, b"done=", u64::from(*done)),
+        Reply::DoneUntil { done, refusal } => {
+            push_field(text, b"done=", u64::from(*done));
+            push_field(text, b" refused=", u64::from(*refusal));
+        }
         Reply::Refused(number) => push_field(text, b"refused ", u64::from(*number)),
     }
     push(text, b"\n");

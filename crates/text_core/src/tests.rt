@@ -1,4 +1,7 @@
-use crate::{BlockCount, Call, Command, Reply, ScriptError, read_line, reply_text};
+use crate::{
+    BlockCount, Call, Calls, Command, PageCount, Repeated, Reply, ScriptError, Series, read_line,
+    reply_text,
+};
 use frame_core::{Address, BlockNo, FrameNo, HandNo, PageFlags, SpaceNo, VPage, WordNo, ZoneNo};
 use state_core::{Info, Look};
 
@@ -105,7 +108,61 @@ fn reads_calls(rt: HostRuntime) {
     for (name, line, call) in rows {
         assert_eq!(rt;
             read_line(line),
-            Ok(Some(Command::On { zone, call })),
+            Ok(Some(Command::On {
+                zone,
+                calls: Calls::One(call)
+            })),
+            "{name}"
+        );
+    }
+}
+
+#[test]
+fn reads_series(rt: HostRuntime) {
+    let zone = ZoneNo::new(3).unwrap();
+    let space = SpaceNo::new(7).unwrap();
+    let rows: [(&str, &[u8], Series); 3] = [
+        (
+            "a fill",
+            b"fill 3 7 4095 4096",
+            Series {
+                call: Repeated::Map,
+                space,
+                first: 4095,
+                count: PageCount::new(4096).unwrap(),
+                step: 1,
+            },
+        ),
+        (
+            "a thin",
+            b"thin 3 7 5 0 2",
+            Series {
+                call: Repeated::Unmap,
+                space,
+                first: 5,
+                count: PageCount::new(0).unwrap(),
+                step: 2,
+            },
+        ),
+        (
+            "the largest numbers",
+            b"thin 3 7 18446744073709551615 2 18446744073709551615",
+            Series {
+                call: Repeated::Unmap,
+                space,
+                first: 18446744073709551615,
+                count: PageCount::new(2).unwrap(),
+                step: 18446744073709551615,
+            },
+        ),
+    ];
+    for (name, line, series) in rows {
+        assert_eq!(rt;
+            read_line(line),
+            Ok(Some(Command::On {
+                zone,
+                calls: Calls::Series(series)
+            })),
             "{name}"
         );
     }
@@ -115,7 +172,7 @@ fn reads_calls(rt: HostRuntime) {
 fn reads_lines(rt: HostRuntime) {
     let zone = ZoneNo::new(3).unwrap();
     let blocks = BlockCount::new(8).unwrap();
-    let rows: [(&str, &[u8], Result<Option<Command>, ScriptError>); 12] = [
+    let rows: [(&str, &[u8], Result<Option<Command>, ScriptError>); 14] = [
         ("nothing", b"", Ok(None)),
         ("spaces", b"   ", Ok(None)),
         ("a comment", b"  #zone 0 1", Ok(None)),
@@ -140,6 +197,16 @@ fn reads_lines(rt: HostRuntime) {
         ("a token too few", b"zone 0", Err(ScriptError::Syntax)),
         ("a token too many", b"info 0 0", Err(ScriptError::Syntax)),
         (
+            "a fill without a number of pages",
+            b"fill 0 0 0",
+            Err(ScriptError::Syntax),
+        ),
+        (
+            "a thin without a step",
+            b"thin 0 0 0 1",
+            Err(ScriptError::Syntax),
+        ),
+        (
             "eight tokens",
             b"store 0 1 2 3 4 5 6",
             Err(ScriptError::Syntax),
@@ -152,7 +219,7 @@ fn reads_lines(rt: HostRuntime) {
 
 #[test]
 fn tests_each_range(rt: HostRuntime) {
-    let lines: [&[u8]; 24] = [
+    let lines: [&[u8]; 30] = [
         b"zone 4 1",
         b"zone 0 0",
         b"zone 0 9",
@@ -177,6 +244,12 @@ fn tests_each_range(rt: HostRuntime) {
         b"unpin 0 8 0",
         b"huge 4",
         b"give 0 8",
+        b"fill 4 0 0 1",
+        b"fill 0 8 0 1",
+        b"fill 0 0 0 4097",
+        b"thin 4 0 0 1 1",
+        b"thin 0 8 0 1 1",
+        b"thin 0 0 0 4097 1",
     ];
     for line in lines {
         assert_eq!(rt; read_line(line), Ok(Some(Command::OutOfRange)));
@@ -211,7 +284,7 @@ fn prints_replies(rt: HostRuntime) {
         pins: 1,
         maps: 2,
     };
-    let rows: [(Reply, &[u8]); 12] = [
+    let rows: [(Reply, &[u8]); 14] = [
         (Reply::Done, b"ok\n"),
         (
             Reply::Value(18446744073709551615),
@@ -235,6 +308,14 @@ fn prints_replies(rt: HostRuntime) {
             b"moving serial=4294967295 pins=1 maps=2\n",
         ),
         (Reply::Block(BlockNo::new(7).unwrap()), b"block=7\n"),
+        (Reply::AllDone(4096), b"done=4096\n"),
+        (
+            Reply::DoneUntil {
+                done: 2,
+                refusal: 1,
+            },
+            b"done=2 refused=1\n",
+        ),
         (Reply::Refused(44), b"refused 44\n"),
     ];
     for (reply, expected) in rows {

@@ -25,6 +25,8 @@ pub(crate) enum Token {
     Unpin,
     Huge,
     Give,
+    Fill,
+    Thin,
     /// Anything else.
     #[default]
     Other,
@@ -84,6 +86,10 @@ fn keyword(bytes: &[u8]) -> Token
         Token::Huge
     } else if is_word(bytes, b"give") {
         Token::Give
+    } else if is_word(bytes, b"fill") {
+        Token::Fill
+    } else if is_word(bytes, b"thin") {
+        Token::Thin
     } else {
         Token::Other
     }

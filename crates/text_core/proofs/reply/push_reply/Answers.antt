@@ -4,7 +4,7 @@ use Rattle.std.specs.Prelude.{codes}
 use Rattle.text_core.specs.Reply.{newlines, text_of}
 use Rattle.text_core.proofs.Newlines.{newlines-append, one_line_behind, text_of-some}
 use Rattle.text_core.proofs.reply.push_reply.Goals as goal
-use Rattle.text_core.proofs.reply.push_reply.Goals.{in-Done, in-Value, in-Info, in-Serial, in-Met, in-Moved, in-PutBack, in-Shut, in-Looked, in-Block, in-Refused}
+use Rattle.text_core.proofs.reply.push_reply.Goals.{in-Done, in-Value, in-Info, in-Serial, in-Met, in-Moved, in-PutBack, in-Shut, in-Looked, in-Block, in-AllDone, in-DoneUntil, in-Refused}
 
 -- a field more of what is appended
 field_more : (old text before after name : List ℕ) (n m : ℕ) → before ≡ old ++ text → after ≡ before ++ name ++ decimal n → n ≡ m → after ≡ old ++ (text ++ name ++ decimal m)
@@ -51,6 +51,13 @@ returns-clause-text g c =
       | in-Shut w ↦ let t0 = w.push_field-in-Shut.ensures.text in let is = w.text-is in grind (arith, common_steps, all, is, t0)
       | in-Looked w ↦ let t0 = w.push_look.ensures.text in let is = w.text-is in grind (arith, common_steps, all, is, t0)
       | in-Block w ↦ let t0 = w.push_field-in-Block.ensures.text in let is = w.text-is in grind (arith, common_steps, all, is, t0)
+      | in-AllDone w ↦ let t0 = w.push_field-in-AllDone.ensures.text in let is = w.text-is in grind (arith, common_steps, all, is, t0)
+      | in-DoneUntil w ↦
+          let done : List ℕ = codes "done=" ++ decimal w.in-DoneUntil.done in
+          let to_done : w.push_field-in-DoneUntil.new.text.items ≡ old ++ done = field_more old [] old (w.push_field-in-DoneUntil.new.text.items) (codes "done=") w.from-in-DoneUntil.result w.in-DoneUntil.done (sym (append-nil old)) w.push_field-in-DoneUntil.ensures.text (omega (arith, w.from-in-DoneUntil.ensures)) in
+          let refused : List ℕ = done ++ codes " refused=" ++ decimal w.in-DoneUntil.refusal in
+          let to_refused : w.push_field-in-DoneUntil-2.new.text.items ≡ old ++ refused = field_more old done (w.push_field-in-DoneUntil.new.text.items) (w.push_field-in-DoneUntil-2.new.text.items) (codes " refused=") w.from-in-DoneUntil-2.result w.in-DoneUntil.refusal to_done w.push_field-in-DoneUntil-2.ensures.text (omega (arith, w.from-in-DoneUntil-2.ensures)) in
+          all ∙ ap (λ t. t.items ++ codes "\n") w.text-is ∙ ap (λ (r : List ℕ). r ++ codes "\n") to_refused ∙ append_assoc old refused (codes "\n") ∙ ap (λ r. old ++ text_of r) (sym w.in-DoneUntil.is)
       | in-Refused w ↦ let t0 = w.push_field-in-Refused.ensures.text in let is = w.text-is in grind (arith, common_steps, all, is, t0)
     ]
 
@@ -72,6 +79,8 @@ returns-clause-line g c =
       | in-Shut w ↦ omega (arith, w.push_field-in-Shut.ensures.lines, ap (λ t. newlines t.items) w.text-is)
       | in-Looked w ↦ omega (arith, w.push_look.ensures.lines, ap (λ t. newlines t.items) w.text-is)
       | in-Block w ↦ omega (arith, w.push_field-in-Block.ensures.lines, ap (λ t. newlines t.items) w.text-is)
+      | in-AllDone w ↦ omega (arith, w.push_field-in-AllDone.ensures.lines, ap (λ t. newlines t.items) w.text-is)
+      | in-DoneUntil w ↦ omega (arith, w.push_field-in-DoneUntil.ensures.lines, w.push_field-in-DoneUntil-2.ensures.lines, ap (λ t. newlines t.items) w.text-is)
       | in-Refused w ↦ omega (arith, w.push_field-in-Refused.ensures.lines, ap (λ t. newlines t.items) w.text-is)
     ] in
     one_line_behind old mid text all same longer
