@@ -1,12 +1,13 @@
 ghost use Rattle.std.specs.Prelude.{◌≡◌, ◌∷◌, IfSome, length, map, ◌<◌, IfNone};
 ghost use Rattle.text_core.specs.Token.{lexemes, token_of};
-ghost use Rattle.text_core.specs.Grammar.{command_of};
-ghost use Rattle.text_core.specs.Line.{line_of};
+ghost use Rattle.text_core.specs.Line.{command_in, line_of};
+ghost use Rattle.text_core.specs.Profile.{is_profile_2};
 
 use crate::command::Command;
 use crate::error::ScriptError;
 use crate::grammar;
-use crate::token::{Token, first_lexeme};
+use crate::profile::Profile;
+use crate::token::{Token, first_lexeme, is_word};
 use arrayvec::ArrayVec;
 
 /// The tokens of a line, whose first lexeme was found; None where there are more than 7.
@@ -26,17 +27,32 @@ fn tokens_of(first: &[u8], behind: &[u8]) -> Option<ArrayVec<Token, 7>>
     Some(found)
 }
 
-/// The command that a line is, if it is one.
-fn command(first: &[u8], behind: &[u8]) -> Option<Command>
-    ensures { result ≡ command_of (map token_of (first.now ∷ lexemes behind.now)) }
+/// Whether a line, whose first lexeme was found, is `profile 2`.
+fn is_profile_2(first: &[u8], behind: &[u8]) -> bool
+    ensures { result ≡ is_profile_2 (first.now ∷ lexemes behind.now) }
 {
-    let tokens = tokens_of(first, behind)?;
-    grammar::command(&tokens)
+    match first_lexeme(behind) {
+        Some((number, rest)) => {
+            is_word(first, b"profile") && is_word(number, b"2") && first_lexeme(rest).is_none()
+        }
+        None => false,
+    }
 }
 
-/// The command of a line; None where the line is empty or a comment.
-pub fn read_line(line: &[u8]) -> Result<Option<Command>, ScriptError>
-    ensures { result ≡ line_of line.now }
+/// The command that a line is, if it is one.
+fn command(profile: Profile, first: &[u8], behind: &[u8]) -> Option<Command>
+    ensures { result ≡ command_in profile (first.now ∷ lexemes behind.now) }
+{
+    if matches!(profile, Profile::Untold) && is_profile_2(first, behind) {
+        return Some(Command::Profile2);
+    }
+    let tokens = tokens_of(first, behind)?;
+    grammar::command(profile, &tokens)
+}
+
+/// The command of a line that is read by this profile; None where the line is empty or a comment.
+pub fn read_line(profile: Profile, line: &[u8]) -> Result<Option<Command>, ScriptError>
+    ensures { result ≡ line_of profile line.now }
 {
     if line.len() > 200 {
         return Err(ScriptError::LongLine);
@@ -44,6 +60,8 @@ pub fn read_line(line: &[u8]) -> Result<Option<Command>, ScriptError>
     match first_lexeme(line) {
         None => Ok(None),
         Some((first, _)) if first.starts_with(b"#") => Ok(None),
-        Some((first, behind)) => command(first, behind).map(Some).ok_or(ScriptError::Syntax),
+        Some((first, behind)) => command(profile, first, behind)
+            .map(Some)
+            .ok_or(ScriptError::Syntax),
     }
 }

@@ -27,6 +27,8 @@ pub(crate) enum Token {
     Give,
     Fill,
     Thin,
+    Mark,
+    Unmark,
     /// Anything else.
     #[default]
     Other,
@@ -90,6 +92,10 @@ fn keyword(bytes: &[u8]) -> Token
         Token::Fill
     } else if is_word(bytes, b"thin") {
         Token::Thin
+    } else if is_word(bytes, b"mark") {
+        Token::Mark
+    } else if is_word(bytes, b"unmark") {
+        Token::Unmark
     } else {
         Token::Other
     }
@@ -97,7 +103,7 @@ fn keyword(bytes: &[u8]) -> Token
 
 /// Whether bytes are a word. The first byte tells most words apart.
 #[inline(always)]
-fn is_word(bytes: &[u8], word: &[u8]) -> bool
+pub(crate) fn is_word(bytes: &[u8], word: &[u8]) -> bool
     ensures { result ≡ bytes_eq bytes.now word.now }
 {
     bytes.first() == word.first() && bytes == word
