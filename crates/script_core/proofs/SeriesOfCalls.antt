@@ -11,6 +11,7 @@ goes_on : (r : Reply) (done : ℕ) (w : WorldState) (rest : Answered) → ((numb
 goes_on reply.Done done w rest accepted = refl
 goes_on (reply.Value x) done w rest accepted = refl
 goes_on (reply.Info i) done w rest accepted = refl
+goes_on (reply.InfoWithHeld i) done w rest accepted = refl
 goes_on (reply.Serial n) done w rest accepted = refl
 goes_on reply.Met done w rest accepted = refl
 goes_on (reply.Moved n) done w rest accepted = refl
@@ -18,6 +19,7 @@ goes_on (reply.PutBack n) done w rest accepted = refl
 goes_on (reply.Shut n) done w rest accepted = refl
 goes_on (reply.Looked l) done w rest accepted = refl
 goes_on (reply.Block b) done w rest accepted = refl
+goes_on (reply.HandedOut f k) done w rest accepted = refl
 goes_on (reply.AllDone m) done w rest accepted = refl
 goes_on (reply.DoneUntil m k) done w rest accepted = refl
 goes_on (reply.Refused k) done w rest accepted = absurd (accepted k refl)

@@ -17,10 +17,11 @@ use Rattle.state_core.specs.Sharing.{share_refusal, shared}
 use Rattle.state_core.specs.Unmapping.{unmap_refusal, unmapped}
 use Rattle.state_core.specs.Pinning.{pin_refusal, unpin_refusal, pinned, unpinned}
 use Rattle.state_core.specs.HandingOut.{take_order_refusal, give_order_refusal, lowest_run, block_taken, block_given}
+use Rattle.state_core.specs.Marking.{mark_refusal, unmark_refusal, block_marked, block_unmarked}
 use Rattle.state_core.specs.ZoneState.{ZoneState, lowest_free_frame}
 use Rattle.zone_core.specs.World.{WorldState, world_opened, with_zone, scan_refusal, scan_stopped, scan_answer, scanned, take_step, copy_step, finish_step, shut_step}
 use Rattle.text_core.specs.declared.command.Call.{Call}
-use Rattle.text_core.specs.declared.command.Call.TheVariants.{Map, MapAt, Store, Load, Info, Scan, Take, Copy, Finish, Shut, Look, Share, Unmap, Pin, Unpin, Huge, Give}
+use Rattle.text_core.specs.declared.command.Call.TheVariants.{Map, MapAt, Store, Load, Info, Scan, Take, Copy, Finish, Shut, Look, Share, Unmap, Pin, Unpin, Huge, Give, InfoWithHeld, TakeOrder, GiveOrder, Mark, Unmark}
 use Rattle.text_core.specs.declared.command.Calls.{Calls}
 use Rattle.text_core.specs.declared.command.Calls.TheVariants.{One, Series as SeriesOf}
 use Rattle.text_core.specs.declared.command.Series.{Series}
@@ -28,7 +29,7 @@ use Rattle.text_core.specs.declared.command.Repeated.{Repeated}
 use Rattle.text_core.specs.declared.command.Repeated.TheVariants as repeated
 use Rattle.text_core.specs.Grammar.{address_of}
 use Rattle.text_core.specs.declared.command.Command.{Command}
-use Rattle.text_core.specs.declared.command.Command.TheVariants.{Open, On, OutOfRange}
+use Rattle.text_core.specs.declared.command.Command.TheVariants.{Open, On, Profile2, OutOfRange}
 use Rattle.text_core.specs.declared.reply.Reply.{Reply}
 use Rattle.text_core.specs.declared.reply.Reply.TheVariants as reply
 
@@ -89,6 +90,11 @@ abbrev pub handed_out : WorldState → Option ℕ → Answered
 handed_out w None = refused (number_of NoBlock) w
 handed_out w (Some first) = says (reply.Block (first / 512)) (with_zone w (block_taken w.zone first 9))
 
+-- the block of this order that begins at this frame is handed out, if there is one
+abbrev pub order_handed_out : WorldState → ℕ → Option ℕ → Answered
+order_handed_out w order None = refused (number_of NoBlock) w
+order_handed_out w order (Some first) = says (reply.HandedOut first order) (with_zone w (block_taken w.zone first order))
+
 -- a call on the zone that is open, by client number 0
 abbrev pub call_step : WorldState → Call → Answered
 call_step w (Map a unmovable) = unless (map_refusal w.zone a) w (fresh_page w a unmovable (lowest_free_frame w.zone))
@@ -109,6 +115,11 @@ call_step w (Pin a) = unless (pin_refusal w.zone a) w (done w (pinned w.zone 0 a
 call_step w (Unpin a) = unless (unpin_refusal w.zone a) w (done w (unpinned w.zone 0 a))
 call_step w Huge = unless (take_order_refusal w.zone 9) w (handed_out w (lowest_run w.zone 9))
 call_step w (Give block) = unless (give_order_refusal w.zone (512 * block) 9) w (done w (block_given w.zone (512 * block) 9))
+call_step w InfoWithHeld = says (reply.InfoWithHeld (info_of w.zone)) w
+call_step w (TakeOrder order) = unless (take_order_refusal w.zone order) w (order_handed_out w order (lowest_run w.zone order))
+call_step w (GiveOrder first order) = unless (give_order_refusal w.zone first order) w (done w (block_given w.zone first order))
+call_step w (Mark block) = unless (mark_refusal w.zone block) w (done w (block_marked w.zone block))
+call_step w (Unmark block) = unless (unmark_refusal w.zone block) w (done w (block_unmarked w.zone block))
 
 -- the call that a series makes at an address
 abbrev pub call_at : Repeated → Address → Call
@@ -166,6 +177,7 @@ step_on zone calls (Some w) = if nat_eq zone w.zone.number then answered (calls_
 -- any command, where a zone is opened with these places in its journal
 abbrev pub step : ℕ → Option WorldState → Command → Step
 step places world OutOfRange = declined 1 world
+step places world Profile2 = record { reply = reply.Done; world = world }
 step places world (Open zone blocks) = open_step zone blocks places world
 step places world (On zone calls) = step_on zone calls world
 

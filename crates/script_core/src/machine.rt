@@ -65,6 +65,7 @@ impl<I: Ledger, N: Ledger, M: Ledger, B: Ledger> Machine<I, N, M, B> {
     {
         match command {
             Command::OutOfRange => Ok(Reply::Refused(1)),
+            Command::Profile2 => Ok(Reply::Done),
             Command::Open { zone, blocks } => self.open(alloc, places, zone, blocks),
             Command::On { zone, calls } => Ok(self.call(zone, calls)),
         }
@@ -234,6 +235,15 @@ fn answer<I: Ledger, N: Ledger, M: Ledger, B: Ledger>(
         Call::Give(block) => world
             .give_huge(block)
             .map_or_else(by_zone, |()| Reply::Done),
+        Call::InfoWithHeld => Reply::InfoWithHeld(world.zone().info()),
+        Call::TakeOrder(order) => world
+            .take_order(order)
+            .map_or_else(by_zone, |first| Reply::HandedOut { first, order }),
+        Call::GiveOrder { first, order } => world
+            .give_order(first, order)
+            .map_or_else(by_zone, |()| Reply::Done),
+        Call::Mark(block) => world.mark(block).map_or_else(by_zone, |()| Reply::Done),
+        Call::Unmark(block) => world.unmark(block).map_or_else(by_zone, |()| Reply::Done),
     }
 }
 

@@ -115,6 +115,26 @@ fn makes_series_of_calls(rt: HostRuntime) -> Result<(), Fail> {
 }
 
 #[test]
+fn is_read_by_profile_2(rt: HostRuntime) -> Result<(), Fail> {
+    let rows: [(&[u8], &[u8]); 2] = [
+        (
+            b"# blocks\n\nprofile 2\nzone 0 2\nhuge 0 3\nhuge 0\ngive 0 0 4\ngive 0 0 3\ninfo 0\n",
+            b"ok\nok\nframe=0 order=3\nblock=1\nrefused 12\nok\nfree=512 pages=0 moving=0 huge=1 whole=1 held=512\n",
+        ),
+        (
+            b"profile 2\nzone 0 1\nmark 0 0\nmap 0 0 0\nscan 0\nmark 0 0\nunmark 0 0\nscan 0\nunmark 0 1\n",
+            b"ok\nok\nok\nok\nmet\nrefused 17\nok\nserial=0\nrefused 1\n",
+        ),
+    ];
+    for (script, expected) in rows {
+        let (written, ended) = played(&rt, script)?;
+        assert_eq!(rt; written.as_slice(), expected);
+        assert!(rt; ended.is_ok());
+    }
+    Ok(())
+}
+
+#[test]
 fn refuses_in_order(rt: HostRuntime) -> Result<(), Fail> {
     let script =
         b"info 0\nzone 0 9\nzone 0 1\nzone 0 9\nzone 0 1\ninfo 4\ninfo 1\nmapat 0 0 0 600\nmap 0 0 0\nmap 0 0 0\nload 0 0 1 0\n";
@@ -128,7 +148,10 @@ fn refuses_in_order(rt: HostRuntime) -> Result<(), Fail> {
 
 #[test]
 fn stops_at_a_fault(rt: HostRuntime) -> Result<(), Fail> {
-    let rows: [(&[u8], Fault, u64); 3] = [
+    let rows: [(&[u8], Fault, u64); 6] = [
+        (b"zone 0 1\nprofile 2\n", Fault::Syntax, 2),
+        (b"#\nprofile 02\n", Fault::Syntax, 2),
+        (b"profile 2\n\nprofile 2\n", Fault::Syntax, 3),
         (b"zone 0 1\nfill\ninfo 0\n", Fault::Syntax, 2),
         (b"zone 0 1\n\n# cut", Fault::Syntax, 3),
         (&[b'0'; 201], Fault::LongLine, 1),

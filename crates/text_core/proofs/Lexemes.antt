@@ -1,5 +1,5 @@
 -- The lexemes of a text.
-use Rattle.std.proofs.Common.{◌≡◌, ℕ, suc, ◌+◌, ◌<◌, ◌≤◌, Bool, true, false, not, List, [], ◌∷◌, length, length-drop, take, drop, get_or, refl, sym, ap, ◌∙◌, arith, Some, None, add-one, drop-cons, cond}
+use Rattle.std.proofs.Common.{◌≡◌, ℕ, suc, ◌+◌, ◌<◌, ◌≤◌, Bool, true, false, not, List, [], ◌∷◌, length, take, drop, get_or, refl, sym, ap, ◌∙◌, arith, Some, None, add-one, drop-cons, cond}
 use Rattle.std.specs.Prelude.{nat_eq, nat_lt, filter, codes, position, unwrap_or}
 use Rattle.std.specs.List.{slice_split, onto_first, starts_with, position_or_len, after_first}
 use Rattle.std.proofs.lemmas.List.{drop_all, take_all}
@@ -88,9 +88,3 @@ first_word_none (b ∷ xs) e = ap (λ (t : Bool). take (cond (not t) (1 + lexeme
 pub behind_word_none : (xs : List ℕ) → starts_with nat_eq xs (codes " ") ≡ true → behind_word xs ≡ xs
 behind_word_none [] e = refl
 behind_word_none (b ∷ xs) e = ap (λ (t : Bool). drop (cond (not t) (1 + lexeme_len xs) 0) (b ∷ xs)) (space_first b xs e)
-
-pub behind_word_less : (xs : List ℕ) → 0 < length xs → starts_with nat_eq xs (codes " ") ≡ false → length (behind_word xs) < length xs
-behind_word_less [] h e = absurd (omega arith)
-behind_word_less (b ∷ xs) h e =
-    let some = lexeme_len_pos b xs (apart b xs e) in
-    omega (arith, some, length-drop (lexeme_len (b ∷ xs)) (b ∷ xs))

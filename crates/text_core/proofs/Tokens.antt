@@ -1,4 +1,4 @@
--- The first token of a text, and what its first byte tells.
+-- The first token of a text.
 use Rattle.std.proofs.Common.{◌≡◌, ℕ, ◌<◌, Bool, true, false, List, [], ◌∷◌, length, map, refl, sym, ap, ◌∙◌, arith, Some, None, Option}
 use Rattle.std.specs.Prelude.{nat_eq, codes, Ok}
 use Rattle.std.specs.List.{starts_with}
@@ -14,16 +14,3 @@ tokens_first xs some e = ap (map token_of) (lexemes_first xs some e)
 
 pub token_of_number : (word : List ℕ) (n : ℕ) → number_of word ≡ Some n → token_of word ≡ Number n
 token_of_number word n e = ap (λ (o : Option ℕ). number_or_keyword o word) e
-
--- the first lexeme begins with the first byte
-first_lexeme : (x : ℕ) (xs : List ℕ) → starts_with nat_eq (x ∷ xs) (codes " ") ≡ false → is_space x ≡ false → lexemes (x ∷ xs) ≡ (x ∷ first_word xs) ∷ lexemes (behind_word (x ∷ xs))
-first_lexeme x xs e apart = lexemes_first (x ∷ xs) (omega arith) e ∙ ap (λ (w : List ℕ). w ∷ lexemes (behind_word (x ∷ xs))) (first_word_step x xs apart)
-
-pub comment_says : (xs : List ℕ) → lexemes_say (lexemes (35 ∷ xs)) ≡ Ok None
-comment_says xs = ap lexemes_say (first_lexeme 35 xs refl refl)
-
-pub command_says : (x : ℕ) (xs : List ℕ) → starts_with nat_eq (x ∷ xs) (codes " ") ≡ false → nat_eq x 35 ≡ false → lexemes_say (lexemes (x ∷ xs)) ≡ command_or_fault (command_of (map token_of (lexemes (x ∷ xs))))
-command_says x xs e other =
-    let apart : is_space x ≡ false = grind (arith, nat_tests) in
-    let is = first_lexeme x xs e apart in
-    ap lexemes_say is ∙ grind (arith, nat_tests, other) ∙ ap (λ l. command_or_fault (command_of (map token_of l))) (sym is)

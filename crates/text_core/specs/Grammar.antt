@@ -1,8 +1,9 @@
 -- The commands of the language: the row of each says what stands in its line, and what that makes.
 use Rattle.std.specs.Prelude.{ℕ, Bool, true, false, ◌&&◌, List, [], ◌∷◌, nat_lt, nat_le, Option, Some, None, option_map, if◌then◌else◌}
+use Rattle.std.specs.Option.{option_or}
 use Rattle.frame_core.specs.declared.place.Address.{Address}
 use Rattle.text_core.specs.declared.token.Token.{Token}
-use Rattle.text_core.specs.declared.token.Token.TheVariants.{Number, Zone, Map, MapAt, Store, Load, Info, Unmovable, Scan, Take, Copy, Finish, Shut, Look, Share, Unmap, Pin, Unpin, Huge, Give, Fill, Thin}
+use Rattle.text_core.specs.declared.token.Token.TheVariants.{Number, Zone, Map, MapAt, Store, Load, Info, Unmovable, Scan, Take, Copy, Finish, Shut, Look, Share, Unmap, Pin, Unpin, Huge, Give, Fill, Thin, Mark, Unmark}
 use Rattle.text_core.specs.declared.command.Call.{Call}
 use Rattle.text_core.specs.declared.command.Call.TheVariants as call
 use Rattle.text_core.specs.declared.command.Calls.{Calls}
@@ -12,6 +13,8 @@ use Rattle.text_core.specs.declared.command.Repeated.{Repeated}
 use Rattle.text_core.specs.declared.command.Repeated.TheVariants as repeated
 use Rattle.text_core.specs.declared.command.Command.{Command}
 use Rattle.text_core.specs.declared.command.Command.TheVariants.{Open, On, OutOfRange}
+use Rattle.text_core.specs.declared.profile.Profile.{Profile}
+use Rattle.text_core.specs.declared.profile.Profile.TheVariants.{Two}
 
 -- a number below a bound
 abbrev pub below : ℕ → ℕ → Option ℕ
@@ -40,6 +43,10 @@ blocks_of n = up_to 8 n
 -- the number of a pageblock
 abbrev pub pageblock_of : ℕ → Option ℕ
 pageblock_of n = below 8 n
+
+-- the order of a block, 3 to 9
+abbrev pub order_of : ℕ → Option ℕ
+order_of n = if nat_le 3 n && nat_le n 9 then Some n else None
 
 -- the number of a hand
 abbrev pub hand_of : ℕ → Option ℕ
@@ -81,6 +88,11 @@ load_call _ _ = None
 abbrev pub share_call : Option Address → Option Address → Option Call
 share_call (Some a) (Some alias) = Some (call.Share a alias)
 share_call _ _ = None
+
+-- the giving back of a block of an order, if its first frame and its order are there
+abbrev pub give_order_call : Option ℕ → Option ℕ → Option Call
+give_order_call (Some first) (Some order) = Some (call.GiveOrder first order)
+give_order_call _ _ = None
 
 -- a series of calls, if its space and its number of pages are there; its first page and its step are any numbers
 abbrev pub series_of : Repeated → Option ℕ → ℕ → Option ℕ → ℕ → Option Series
@@ -136,7 +148,21 @@ row_of Thin z (Number s ∷ Number v ∷ Number n ∷ Number step ∷ []) =
     Some (series_on z (series_of repeated.Unmap (space_of s) v (page_count_of n) step))
 row_of _ z _ = None
 
+-- the rows that profile 2 has besides
+abbrev pub row_of_profile_2 : Token → Option ℕ → List Token → Option Command
+row_of_profile_2 Info z [] = Some (call_on z (Some call.InfoWithHeld))
+row_of_profile_2 Huge z (Number k ∷ []) = Some (call_on z (option_map call.TakeOrder (order_of k)))
+row_of_profile_2 Give z (Number f ∷ Number k ∷ []) = Some (call_on z (give_order_call (frame_of f) (order_of k)))
+row_of_profile_2 Mark z (Number b ∷ []) = Some (call_on z (option_map call.Mark (pageblock_of b)))
+row_of_profile_2 Unmark z (Number b ∷ []) = Some (call_on z (option_map call.Unmark (pageblock_of b)))
+row_of_profile_2 _ z _ = None
+
+-- in profile 2 its own rows come first
+abbrev pub row_in : Profile → Token → Option ℕ → List Token → Option Command
+row_in Two keyword z arguments = option_or (row_of_profile_2 keyword z arguments) (row_of keyword z arguments)
+row_in _ keyword z arguments = row_of keyword z arguments
+
 -- the command that tokens are, if they are one
-abbrev pub command_of : List Token → Option Command
-command_of (keyword ∷ Number z ∷ arguments) = row_of keyword (zone_of z) arguments
-command_of _ = None
+abbrev pub command_of : Profile → List Token → Option Command
+command_of profile (keyword ∷ Number z ∷ arguments) = row_in profile keyword (zone_of z) arguments
+command_of profile _ = None

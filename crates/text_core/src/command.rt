@@ -1,6 +1,6 @@
 use crate::blocks::BlockCount;
 use crate::pages::PageCount;
-use frame_core::{Address, BlockNo, FrameNo, HandNo, SpaceNo, WordNo, ZoneNo};
+use frame_core::{Address, BlockNo, FrameNo, HandNo, Order, SpaceNo, WordNo, ZoneNo};
 
 /// A command.
 #[derive(Clone, Copy, Debug, PartialEq, Eq)]
@@ -9,6 +9,8 @@ pub enum Command {
     Open { zone: ZoneNo, blocks: BlockCount },
     /// Calls on the zone with this number.
     On { zone: ZoneNo, calls: Calls },
+    /// The script is read by profile 2.
+    Profile2,
     /// An argument is out of its range.
     OutOfRange,
 }
@@ -76,4 +78,13 @@ pub enum Call {
     Unpin(Address),
     Huge,
     Give(BlockNo),
+    /// As `Info`, with the frames that are handed out.
+    InfoWithHeld,
+    TakeOrder(Order),
+    GiveOrder {
+        first: FrameNo,
+        order: Order,
+    },
+    Mark(BlockNo),
+    Unmark(BlockNo),
 }

@@ -1,20 +1,22 @@
 //! The rows of the language, as `specs/Grammar.antt` has them. That an argument is in its range is tested here, by its type.
 
 ghost use Rattle.std.specs.Prelude.{◌≡◌};
-ghost use Rattle.text_core.specs.Grammar.{address_of, blocks_of, command_of, frame_of, hand_of, load_call, map_at_call, map_call, call_on, calls_on, opening, page_count_of, pageblock_of, row_of, series_of, series_on, share_call, space_of, store_call, word_of, zone_of};
+ghost use Rattle.text_core.specs.Grammar.{address_of, blocks_of, command_of, frame_of, give_order_call, order_of, row_in, row_of_profile_2, hand_of, load_call, map_at_call, map_call, call_on, calls_on, opening, page_count_of, pageblock_of, row_of, series_of, series_on, share_call, space_of, store_call, word_of, zone_of};
 
 use crate::blocks::BlockCount;
 use crate::command::{Call, Calls, Command, Repeated, Series};
 use crate::pages::PageCount;
+use crate::profile::Profile;
 use crate::token::Token;
-use frame_core::{Address, BlockNo, FrameNo, HandNo, SpaceNo, VPage, WordNo, ZoneNo};
+use frame_core::{Address, BlockNo, FrameNo, HandNo, Order, SpaceNo, VPage, WordNo, ZoneNo};
 
 /// The command that these tokens are, if they are one.
-pub(crate) fn command(tokens: &[Token]) -> Option<Command>
-    ensures { result ≡ command_of tokens.now }
+pub(crate) fn command(profile: Profile, tokens: &[Token]) -> Option<Command>
+    ensures { result ≡ command_of profile tokens.now }
 {
     match *tokens {
-        [keyword, Token::Number(number), ref arguments @ ..] => row(
+        [keyword, Token::Number(number), ref arguments @ ..] => row_in(
+            profile,
             keyword,
             zone(number),
             arguments,
@@ -23,7 +25,40 @@ pub(crate) fn command(tokens: &[Token]) -> Option<Command>
     }
 }
 
-/// What a keyword, a zone and the arguments behind it make, if there is such a row.
+/// What a keyword, a zone and the arguments behind it make, if there is such a row in a profile.
+fn row_in(
+    profile: Profile,
+    keyword: Token,
+    zone: Option<ZoneNo>,
+    arguments: &[Token],
+) -> Option<Command>
+    ensures { result ≡ row_in profile keyword zone arguments.now }
+{
+    if !matches!(profile, Profile::Two) {
+        return row(keyword, zone, arguments);
+    }
+    match row_of_profile_2(keyword, zone, arguments) {
+        None => row(keyword, zone, arguments),
+        own => own,
+    }
+}
+
+/// The same by the rows that profile 2 has besides.
+fn row_of_profile_2(keyword: Token, zone: Option<ZoneNo>, arguments: &[Token]) -> Option<Command>
+    ensures { result ≡ row_of_profile_2 keyword zone arguments.now }
+{
+    use Token::{Give, Huge, Info, Mark, Number, Unmark};
+    match (keyword, arguments) {
+        (Info, []) => Some(on(zone, Some(Call::InfoWithHeld))),
+        (Huge, &[Number(k)]) => Some(on(zone, order(k).map(Call::TakeOrder))),
+        (Give, &[Number(f), Number(k)]) => Some(on(zone, give_order(frame(f), order(k)))),
+        (Mark, &[Number(b)]) => Some(on(zone, pageblock(b).map(Call::Mark))),
+        (Unmark, &[Number(b)]) => Some(on(zone, pageblock(b).map(Call::Unmark))),
+        _ => None,
+    }
+}
+
+/// The same by the rows of both profiles.
 fn row(keyword: Token, zone: Option<ZoneNo>, arguments: &[Token]) -> Option<Command>
     ensures { result ≡ row_of keyword zone arguments.now }
 {
@@ -155,6 +190,15 @@ fn share(address: Option<Address>, alias: Option<Address>) -> Option<Call>
     })
 }
 
+fn give_order(first: Option<FrameNo>, order: Option<Order>) -> Option<Call>
+    ensures { result ≡ give_order_call first order }
+{
+    Some(Call::GiveOrder {
+        first: first?,
+        order: order?,
+    })
+}
+
 fn series(
     call: Repeated,
     space: Option<SpaceNo>,
@@ -201,6 +245,12 @@ fn pageblock(number: u64) -> Option<BlockNo>
     ensures { result ≡ pageblock_of number }
 {
     BlockNo::new(u32::try_from(number).ok()?)
+}
+
+fn order(number: u64) -> Option<Order>
+    ensures { result ≡ order_of number }
+{
+    Order::new(u32::try_from(number).ok()?)
 }
 
 fn hand(number: u64) -> Option<HandNo>

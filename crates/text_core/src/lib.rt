@@ -10,6 +10,7 @@ mod error;
 mod grammar;
 mod line;
 mod pages;
+mod profile;
 mod reply;
 #[cfg(test)]
 mod tests;
@@ -20,4 +21,5 @@ pub use command::{Call, Calls, Command, Repeated, Series};
 pub use error::ScriptError;
 pub use line::read_line;
 pub use pages::PageCount;
+pub use profile::Profile;
 pub use reply::{Reply, push_reply, reply_text};

@@ -27,6 +27,8 @@ pub(crate) enum Token {
     Give,
     Fill,
     Thin,
+    Mark,
+    Unmark,
     /// Anything else.
     #[default]
     Other,
@@ -90,6 +92,10 @@ fn keyword(bytes: &[u8]) -> Token
         Token::Fill
     } else if is_word(bytes, b"thin") {
         Token::Thin
+    } else if is_word(bytes, b"mark") {
+        Token::Mark
+    } else if is_word(bytes, b"unmark") {
+        Token::Unmark
     } else {
         Token::Other
     }
@@ -97,7 +103,7 @@ fn keyword(bytes: &[u8]) -> Token
 
 /// Whether bytes are a word. The first byte tells most words apart.
 #[inline(always)]
-fn is_word(bytes: &[u8], word: &[u8]) -> bool
+pub(crate) fn is_word(bytes: &[u8], word: &[u8]) -> bool
     ensures { result ≡ bytes_eq bytes.now word.now }
 {
     bytes.first() == word.first() && bytes == word
@@ -131,7 +137,7 @@ pub(crate) fn first_token(text: &[u8]) -> Option<(Token, &[u8])>
     if let Some((number, behind)) = leading_number(text) {
         return Some((Token::Number(number), behind));
     }
-    let (lexeme, behind) = leading_lexeme(text)?;
+    let (lexeme, behind) = first_lexeme(text)?;
     Some((Token::from_bytes(lexeme), behind))
 }
 
@@ -175,13 +181,12 @@ fn leading_digit(text: &[u8]) -> Option<(u8, &[u8])>
     }
 }
 
-/// The lexeme that a text without leading spaces begins with, and what stands behind it.
-fn leading_lexeme(text: &[u8]) -> Option<(&[u8], &[u8])>
-    ensures empty { IfNone result (length text.now ≡ 0) }
-    ensures some { IfSome result (λ found. 0 < length text.now) }
-    ensures lexeme { IfSome result (λ found. found.0.now ≡ first_word text.now) }
-    ensures behind { IfSome result (λ found. found.1.now ≡ behind_word text.now) }
+/// The first lexeme of a text, and what stands behind it.
+pub(crate) fn first_lexeme(text: &[u8]) -> Option<(&[u8], &[u8])>
+    ensures lexeme { MatchOption result (lexemes text.now ≡ []) (λ found. lexemes text.now ≡ found.0.now ∷ lexemes found.1.now) }
+    ensures less { IfSome result (λ found. length found.1.now < length text.now) }
 {
+    let text = without_spaces(text);
     if text.is_empty() {
         return None;
     }

@@ -2,7 +2,6 @@ use Rattle.std.proofs.Common.{◌≡◌, ◌<◌, ◌≤◌, ◌∙◌, sym, ap,
 use Rattle.text_core.specs.declared.token.Token.{Token}
 use Rattle.text_core.specs.declared.token.Token.TheVariants.{Number}
 use Rattle.text_core.specs.Token.{behind_word, first_word, lexemes, token_of}
-use Rattle.text_core.proofs.Lexemes.{behind_word_less}
 use Rattle.text_core.proofs.Tokens.{token_of_number, tokens_first}
 use Rattle.text_core.proofs.token.first_token.Goals as goal
 
@@ -17,16 +16,5 @@ returns-in-Some-clause-token c =
 
 pub returns-clause-token : goal.returns-clause-token
 returns-clause-token c =
-    let xs = c.without_spaces-text.result.now in
-    let token = c.from_bytes.ensures ∙ ap token_of c.in_ok-lexeme.ensures.lexeme in
-    ap (map token_of) (sym c.without_spaces-text.ensures.lexemes)
-    ∙ tokens_first xs c.in_ok-lexeme.ensures.some c.without_spaces-text.ensures.first
-    ∙ ap (λ (t : Token). t ∷ map token_of (lexemes (behind_word xs))) (sym token)
-    ∙ ap (λ (r : List ℕ). c.from_bytes.result ∷ map token_of (lexemes r)) (sym c.in_ok-lexeme.ensures.behind)
-
-pub returns-clause-less : goal.returns-clause-less
-returns-clause-less c =
-    let xs = c.without_spaces-text.result.now in
-    let less = behind_word_less xs c.in_ok-lexeme.ensures.some c.without_spaces-text.ensures.first in
-    let behind = ap length c.in_ok-lexeme.ensures.behind in
-    omega (arith, less, behind, c.without_spaces-text.ensures.shorter)
+    ap (map token_of) (sym c.without_spaces-text.ensures.lexemes ∙ c.in_ok-lexeme.ensures.lexeme)
+    ∙ ap (λ (t : Token). t ∷ map token_of (lexemes c.in_ok-lexeme.behind.now)) (sym c.from_bytes.ensures)
