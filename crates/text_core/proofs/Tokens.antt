@@ -1,13 +1,10 @@
 -- The first token of a text.
-use Rattle.std.proofs.Common.{◌≡◌, ℕ, ◌<◌, Bool, true, false, List, [], ◌∷◌, length, map, refl, sym, ap, ◌∙◌, arith, Some, None, Option}
-use Rattle.std.specs.Prelude.{nat_eq, codes, Ok}
+use Rattle.std.proofs.Common.{◌≡◌, ℕ, ◌<◌, false, List, ◌∷◌, length, map, ap, Some, Option}
+use Rattle.std.specs.Prelude.{nat_eq, codes}
 use Rattle.std.specs.List.{starts_with}
-use Rattle.std.proofs.lemmas.Bool.Decides.{nat_tests}
 use Rattle.text_core.specs.declared.token.Token.TheVariants.{Number}
-use Rattle.text_core.specs.Grammar.{command_of}
-use Rattle.text_core.specs.Line.{command_or_fault, lexemes_say}
 use Rattle.text_core.specs.Token.{lexemes, first_word, behind_word, number_of, number_or_keyword, token_of}
-use Rattle.text_core.proofs.Lexemes.{is_space, lexemes_first, first_word_step}
+use Rattle.text_core.proofs.Lexemes.{lexemes_first}
 
 pub tokens_first : (xs : List ℕ) → 0 < length xs → starts_with nat_eq xs (codes " ") ≡ false → map token_of (lexemes xs) ≡ token_of (first_word xs) ∷ map token_of (lexemes (behind_word xs))
 tokens_first xs some e = ap (map token_of) (lexemes_first xs some e)

@@ -1,4 +1,4 @@
-use Rattle.std.proofs.Common.{◌≡◌, ◌<◌, ◌≤◌, ◌∙◌, sym, ap, List, ℕ, length, map, ◌∷◌, arith}
+use Rattle.std.proofs.Common.{◌<◌, ◌∙◌, sym, ap, List, ℕ, length, map, ◌∷◌, arith}
 use Rattle.text_core.specs.declared.token.Token.{Token}
 use Rattle.text_core.specs.declared.token.Token.TheVariants.{Number}
 use Rattle.text_core.specs.Token.{behind_word, first_word, lexemes, token_of}
