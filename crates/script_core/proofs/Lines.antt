@@ -1,15 +1,13 @@
 -- The lines of an input, from one to the next.
-use Rattle.std.proofs.Common.{◌≡◌, ℕ, suc, ◌+◌, ◌<◌, ◌≤◌, Bool, true, false, cond, List, [], ◌∷◌, ◌++◌, length, length-append, get_or, take, drop, length-take, add-one, drop-cons, not, refl, sym, ap, ◌∙◌, arith, Option, Some, None, Result, Err}
-use Rattle.std.specs.Prelude.{nat_eq, nat_lt, position, if◌then◌else◌}
-use Rattle.std.specs.List.{All, AllByRecursion, onto_first, position_or_len}
+use Rattle.std.proofs.Common.{◌≡◌, ℕ, suc, ◌+◌, ◌<◌, Bool, true, false, cond, List, [], ◌∷◌, ◌++◌, length, length-append, get_or, take, drop, length-take, add-one, drop-cons, refl, sym, ap, ◌∙◌, arith, Option, Some, None, Result, Err}
+use Rattle.std.specs.Prelude.{nat_eq, nat_lt, if◌then◌else◌}
+use Rattle.std.specs.List.{All, AllByRecursion, onto_first}
 use Rattle.std.specs.Option.{option_or}
 use Rattle.std.proofs.lemmas.Bool.Decides.{nat_tests}
-use Rattle.std.proofs.lemmas.List.{get_or-take, take_all, take-append-drop}
-use Rattle.std.proofs.lemmas.List.Folds.{length-prefix_len}
-use Rattle.std.proofs.lemmas.List.Quantifiers.{position-Some}
-use Rattle.std.proofs.lemmas.List.Sums.{fails_before_first}
+use Rattle.std.proofs.lemmas.List.{get_or-take, take-append-drop}
 use Rattle.std.proofs.lemmas.List.Elements.{All-from_recursion}
 use Rattle.std.proofs.lemmas.List.Splits.{slice_split_at, slice_split_none}
+use Rattle.memchr.specs.Find.{IsFirstByte, is_byte}
 use Rattle.zone_core.specs.World.{WorldState}
 use Rattle.text_core.specs.declared.command.Command.{Command}
 use Rattle.text_core.specs.declared.error.ScriptError.{ScriptError}
@@ -136,11 +134,11 @@ newlines-none (x ∷ xs) h =
     let one : newlines (x ∷ []) ≡ 0 = grind (arith, nat_tests) in
     omega (arith, newlines-append (x ∷ []) xs, one, newlines-none xs (λ k below. h (suc k) (omega (arith, below))))
 
-line_len_none : (xs : List ℕ) → newlines (take (position_or_len (λ b. nat_eq b 10) xs) xs) ≡ 0
-line_len_none xs =
-    let n = position_or_len (λ b. nat_eq b 10) xs in
-    newlines-none (take n xs) (λ k below. let within : k < n = omega (arith, below, length-prefix_len (λ b. not (nat_eq b 10)) xs) in
-    ap (λ (b : ℕ). nat_eq b 10) (get_or-take n xs k 0 within) ∙ fails_before_first (λ b. nat_eq b 10) xs k 0 within)
+other_byte : (x : ℕ) → ¬ (is_byte 10 x ≡ true) → nat_eq x 10 ≡ false
+other_byte x h = by_test (nat_eq x 10) refl where
+  by_test : (t : Bool) → nat_eq x 10 ≡ t → t ≡ false
+  by_test false e = refl
+  by_test true e = absurd (h e)
 
 drop-at : (xs : List ℕ) (i : ℕ) → i < length xs → drop i xs ≡ get_or xs i 0 ∷ drop (i + 1) xs
 drop-at xs i h = rw (add-one, drop-cons xs i 0) refl
@@ -151,22 +149,17 @@ pub record FirstNewline (xs : List ℕ) (end : ℕ) : Type 0 where
   pub unbroken : newlines (take end xs) ≡ 0
   pub split : xs ≡ take end xs ++ 10 ∷ drop (end + 1) xs
 
-pub newline_found : (xs : List ℕ) (end : ℕ) → Some end ≡ position (λ b. nat_eq b 10) xs → FirstNewline xs end
-newline_found xs end e =
-    let n = position_or_len (λ b. nat_eq b 10) xs in
-    let found = position-Some (λ b. nat_eq b 10) xs end 0 (sym e) in
-    let byte : get_or xs end 0 ≡ 10 = (let is = found.1 in grind (arith, nat_tests, is)) in
+pub newline_found : (xs : List ℕ) (end : ℕ) → IsFirstByte (is_byte 10) xs (Some end) → FirstNewline xs end
+newline_found xs end found =
+    let place = found.0 in
+    let is = found.1 in
+    let byte : get_or xs end 0 ≡ 10 = grind (arith, nat_tests, is) in
     record {
-      within = found.0;
-      unbroken = newlines-none (take end xs) (λ k below. let near : k < end = (let some = found.0 in omega (arith, below, length-take end xs)) in
-          ap (λ (b : ℕ). nat_eq b 10) (get_or-take end xs k 0 near) ∙ found.2 k near);
-      split = sym (take-append-drop end xs) ∙ ap (λ (r : List ℕ). take end xs ++ r) (drop-at xs end found.0 ∙ ap (λ (b : ℕ). b ∷ drop (end + 1) xs) byte);
+      within = place.high;
+      unbroken = newlines-none (take end xs) (λ k below. let near : k < end = (let some = place.high in omega (arith, below, length-take end xs)) in
+          ap (λ (b : ℕ). nat_eq b 10) (get_or-take end xs k 0 near) ∙ other_byte (get_or xs k 0) (place.before k (omega arith) near));
+      split = sym (take-append-drop end xs) ∙ ap (λ (r : List ℕ). take end xs ++ r) (drop-at xs end place.high ∙ ap (λ (b : ℕ). b ∷ drop (end + 1) xs) byte);
     }
 
-pub newline_missing : (xs : List ℕ) → None ≡ position (λ b. nat_eq b 10) xs → newlines xs ≡ 0
-newline_missing xs e = by_test (nat_lt (position_or_len (λ b. nat_eq b 10) xs) (length xs)) refl e where
-  by_test : (t : Bool) → nat_lt (position_or_len (λ b. nat_eq b 10) xs) (length xs) ≡ t → None ≡ cond t (Some (position_or_len (λ b. nat_eq b 10) xs)) None → newlines xs ≡ 0
-  by_test true at none = cc
-  by_test false at none =
-      let past : length xs ≤ position_or_len (λ b. nat_eq b 10) xs = grind (arith, nat_tests) in
-      ap newlines (sym (take_all (position_or_len (λ b. nat_eq b 10) xs) xs past)) ∙ line_len_none xs
+pub newline_missing : (xs : List ℕ) → IsFirstByte (is_byte 10) xs None → newlines xs ≡ 0
+newline_missing xs none = newlines-none xs (λ k within. other_byte (get_or xs k 0) (none k (omega arith) within))

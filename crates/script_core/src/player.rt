@@ -1,4 +1,4 @@
-ghost use Rattle.std.specs.Prelude.{◌≡◌, ℕ, ◌+◌, ◌^◌, ◌<◌, ◌≤◌, [], ◌∷◌, ◌++◌, List, Option, length, position, nat_eq, false, Some, None, Ok, IfNone, IfSome, IfErr, IfOk, IsTrue, OnErr, OnOk};
+ghost use Rattle.std.specs.Prelude.{◌≡◌, ℕ, ◌+◌, ◌^◌, ◌<◌, ◌≤◌, [], ◌∷◌, ◌++◌, List, Option, length, false, Some, None, Ok, IfNone, IfSome, IfErr, IfOk, IsTrue, OnErr, OnOk};
 ghost use Rattle.zone_core.specs.Books.{AreFor};
 ghost use Rattle.text_core.specs.Line.{line_of};
 ghost use Rattle.text_core.specs.Reply.{newlines};
@@ -16,6 +16,7 @@ use crate::outbox::Outbox;
 use crate::output::Output;
 use crate::script::Totals;
 use arrayvec::ArrayVec;
+use memchr::memchr;
 use std::alloc::Global;
 use std::marker::Model;
 use std::mem;
@@ -309,13 +310,6 @@ fn first_line(bytes: &[u8]) -> Option<(&[u8], &[u8])>
     ensures line { IfSome result (λ parts. newlines parts.0.now ≡ 0) }
     ensures parts { IfSome result (λ parts. bytes.now ≡ parts.0.now ++ 10 ∷ parts.1.now) }
 {
-    let end = newline_in(bytes)?;
+    let end = memchr(b'\n', bytes)?;
     Some((&bytes[..end], &bytes[end + 1..]))
-}
-
-/// The place of the first newline.
-fn newline_in(bytes: &[u8]) -> Option<usize>
-    ensures { result ≡ position (λ byte. nat_eq byte 10) bytes.now }
-{
-    bytes.iter().position(|byte| *byte == b'\n')
 }
