@@ -1,14 +1,17 @@
-//! The counts of a zone, and its journal.
+//! The counts of a zone, its journal, its tables and its frames.
 
 ghost use Rattle.std.specs.Prelude.{◌≡◌, ◌+◌};
 ghost use Rattle.state_core.specs.Lawful.{IsLawful};
 ghost use Rattle.state_core.specs.Looking.{info_of};
 ghost use Rattle.state_core.specs.ZoneState.{frame_count};
+ghost use Rattle.plain_core.specs.Fits.{EntriesFit, FramesFit, MovableFit};
 
 use crate::plain::PlainZone;
 use frame_core::ZoneNo;
 use journal_core::Journal;
+use scan_core::Frames;
 use state_core::Info;
+use table_core::Tables;
 
 impl PlainZone {
     /// The counts.
@@ -44,5 +47,19 @@ impl PlainZone {
         ensures lawful { IsLawful self.now }
     {
         self.history.journal()
+    }
+
+    pub fn tables(&self) -> &Tables
+        ensures entries { EntriesFit result.now.entries self.now }
+        ensures frames { result.now.frames ≡ frame_count self.now }
+    {
+        &self.tables
+    }
+
+    pub fn frames(&self) -> &Frames
+        ensures states { FramesFit result.now.states self.now }
+        ensures movable { MovableFit result.now.movable self.now }
+    {
+        &self.frames
     }
 }

@@ -1,5 +1,5 @@
 -- When a round isn't begun.
-use Rattle.std.proofs.Common.{◌≡◌, ◌+◌, ◌<◌, ℕ, zero, suc, false, [], refl, ap, sym, ◌∙◌, arith, ⊎_elim}
+use Rattle.std.proofs.Common.{◌≡◌, ◌+◌, ◌<◌, ℕ, zero, suc, false, [], refl, ap, ◌∙◌, arith, ⊎_elim}
 use Rattle.std.specs.Prelude.{Result, Ok, Err, IfErr}
 use Rattle.std.specs.List.{list_all, range_with_len}
 use Rattle.hand_core.specs.CopyEnds.{DoneTaker, has_ended, has_mark}

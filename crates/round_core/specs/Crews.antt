@@ -1,5 +1,5 @@
 -- What the ends of the queues are when a round starts, and what the copiers together hand back.
-use Rattle.std.specs.Prelude.{◌≡◌, ◌<◌, ◌+◌, ℕ, false, true, [], List, map, All, length}
+use Rattle.std.specs.Prelude.{◌≡◌, ◌+◌, ℕ, false, [], List, map, length}
 use Rattle.word_core.specs.Serials.{serials_of}
 use Rattle.hand_core.specs.PageEnds.{Giver, Taker, HandOver}
 use Rattle.hand_core.specs.CopyEnds.{DoneSender}

@@ -12,6 +12,8 @@ mod gate;
 mod round;
 mod scanner;
 mod shared_zone;
+#[cfg(test)]
+mod tests;
 
 pub use compacting::compact;
 pub use copier::{Carried, carry};

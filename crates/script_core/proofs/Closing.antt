@@ -63,7 +63,7 @@ flushed Memory places s input e left left_new first mid after other h flushes = 
 -- a flush behind what was read stopped
 pub read_stops : (places : ℕ) (s : Player) (past : List ℕ) (first mid after : Option (List ℕ)) (at : ℕ) → HasRead places s past first mid → FlushStops s mid after at → (rest : List ℕ) → StopsIn (answers_of places (past ++ rest)) first after at
 read_stops places s past first mid after at r stops rest =
-    let order : commands_of (past ++ rest) ≡ r.before ++ commands_from s.line (parts_of (s.held ++ rest)) =
+    let order : commands_of (past ++ rest) ≡ r.before ++ commands_from s.profile s.line (parts_of (s.held ++ rest)) =
     ap (λ (p : List ℕ). commands_of (p ++ rest)) r.split ∙ ap commands_of (append_assoc r.whole s.held rest) ∙ r.commands (s.held ++ rest) in
     stops_in_all places (past ++ rest) r.before _ first after at order (stops (answers_from places None r.before) first r.owes)
 

@@ -18,10 +18,10 @@ use Rattle.script_core.proofs.Reading.{whole_is}
 
 commands_end : (places : ℕ) (s : Player) (input : List ℕ) (first now : Option (List ℕ)) → (r : HasRead places s input first now) → commands_of input ≡ r.before
 commands_end places s input first now r =
-    ap commands_of r.split ∙ r.commands s.held ∙ ap (λ (ps : List (List ℕ)). r.before ++ commands_from s.line ps) (parts-end s.held r.unbroken) ∙ append-nil r.before
+    ap commands_of r.split ∙ r.commands s.held ∙ ap (λ (ps : List (List ℕ)). r.before ++ commands_from s.profile s.line ps) (parts-end s.held r.unbroken) ∙ append-nil r.before
 
 fault_end : (places : ℕ) (s : Player) (input : List ℕ) (first now : Option (List ℕ)) → (r : HasRead places s input first now) → fault_of input ≡ cut_fault s.line s.held
-fault_end places s input first now r = ap fault_of r.split ∙ r.fault s.held ∙ ap (fault_from s.line) (parts-end s.held r.unbroken)
+fault_end places s input first now r = ap fault_of r.split ∙ r.fault s.held ∙ ap (fault_from s.profile s.line) (parts-end s.held r.unbroken)
 
 pub owes_end : (places : ℕ) (s : Player) (input : List ℕ) (first now : Option (List ℕ)) → HasRead places s input first now → Owes s.box (answers_of places input) first now
 owes_end places s input first now r =

@@ -5,3 +5,4 @@ pub mod Reading
 pub mod Inputs
 pub mod Closing
 pub mod Endings
+pub mod SeriesOfCalls

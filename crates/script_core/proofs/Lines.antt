@@ -1,19 +1,22 @@
 -- The lines of an input, from one to the next.
-use Rattle.std.proofs.Common.{◌≡◌, ℕ, suc, ◌+◌, ◌<◌, ◌≤◌, Bool, true, false, cond, List, [], ◌∷◌, ◌++◌, length, length-append, get_or, take, drop, length-take, add-one, drop-cons, not, refl, sym, ap, ◌∙◌, arith, Option, Some, None, Err}
-use Rattle.std.specs.Prelude.{nat_eq, nat_lt, position, if◌then◌else◌}
-use Rattle.std.specs.List.{All, AllByRecursion, onto_first, position_or_len}
+use Rattle.std.proofs.Common.{◌≡◌, ℕ, suc, ◌+◌, ◌<◌, Bool, true, false, cond, List, [], ◌∷◌, ◌++◌, length, length-append, get_or, take, drop, length-take, add-one, drop-cons, refl, sym, ap, ◌∙◌, arith, Option, Some, None, Result, Err}
+use Rattle.std.specs.Prelude.{nat_eq, nat_lt, if◌then◌else◌}
+use Rattle.std.specs.List.{All, AllByRecursion, onto_first}
 use Rattle.std.specs.Option.{option_or}
 use Rattle.std.proofs.lemmas.Bool.Decides.{nat_tests}
-use Rattle.std.proofs.lemmas.List.{get_or-take, take_all, take-append-drop}
-use Rattle.std.proofs.lemmas.List.Folds.{length-prefix_len}
-use Rattle.std.proofs.lemmas.List.Quantifiers.{position-Some}
-use Rattle.std.proofs.lemmas.List.Sums.{fails_before_first}
+use Rattle.std.proofs.lemmas.List.{get_or-take, take-append-drop}
 use Rattle.std.proofs.lemmas.List.Elements.{All-from_recursion}
 use Rattle.std.proofs.lemmas.List.Splits.{slice_split_at, slice_split_none}
+use Rattle.memchr.specs.Find.{IsFirstByte, is_byte}
 use Rattle.zone_core.specs.World.{WorldState}
+use Rattle.text_core.specs.declared.command.Command.{Command}
+use Rattle.text_core.specs.declared.error.ScriptError.{ScriptError}
 use Rattle.text_core.specs.declared.error.ScriptError.TheVariants as of_line
+use Rattle.script_core.specs.declared.error.RunError.{RunError}
 use Rattle.script_core.specs.declared.error.Fault.TheVariants.{Syntax, LongLine}
+use Rattle.text_core.specs.declared.profile.Profile.{Profile}
 use Rattle.text_core.specs.Line.{line_of, lexemes_say}
+use Rattle.text_core.specs.Profile.{profile_behind}
 use Rattle.text_core.specs.Token.{lexemes}
 use Rattle.script_core.specs.Machine.{step}
 use Rattle.text_core.specs.Reply.{newlines}
@@ -64,45 +67,53 @@ parts-more (b ∷ text) rest p e =
     ap (λ (t : Bool). cond t ([] ∷ parts_of (text ++ rest)) (onto_first b (parts_of (text ++ rest)))) first.0
     ∙ onto_first_is b (parts_of (text ++ rest)) (text ++ p.first) p.others (parts-more text rest p first.1)
 
-commands_at : (n : ℕ) (text : List ℕ) (parts : List (List ℕ)) (first : List ℕ) (others : List (List ℕ)) → parts ≡ first ∷ others → commands_from n (text ∷ parts) ≡ onto_commands n (line_of text) (commands_from (n + 1) parts)
-commands_at n text parts first others e =
-    ap (λ (ps : List (List ℕ)). commands_from n (text ∷ ps)) e ∙ ap (λ (ps : List (List ℕ)). onto_commands n (line_of text) (commands_from (n + 1) ps)) (sym e)
+-- the commands from a line on, by what it says
+abbrev pub commands_by : Profile → ℕ → Result (Option Command) ScriptError → List (List ℕ) → List Numbered
+commands_by q n says parts = onto_commands n says (commands_from (profile_behind says q) (n + 1) parts)
 
-fault_at : (n : ℕ) (text : List ℕ) (parts : List (List ℕ)) (first : List ℕ) (others : List (List ℕ)) → parts ≡ first ∷ others → fault_from n (text ∷ parts) ≡ option_or (line_fault n (line_of text)) (fault_from (n + 1) parts)
-fault_at n text parts first others e =
-    ap (λ (ps : List (List ℕ)). fault_from n (text ∷ ps)) e ∙ ap (λ (ps : List (List ℕ)). option_or (line_fault n (line_of text)) (fault_from (n + 1) ps)) (sym e)
+-- the first fault from a line on, by what it says
+abbrev pub fault_by : Profile → ℕ → Result (Option Command) ScriptError → List (List ℕ) → Option RunError
+fault_by q n says parts = option_or (line_fault n says) (fault_from (profile_behind says q) (n + 1) parts)
 
-pub commands-line : (n : ℕ) (text rest : List ℕ) → newlines text ≡ 0 → commands_from n (parts_of (text ++ 10 ∷ rest)) ≡ onto_commands n (line_of text) (commands_from (n + 1) (parts_of rest))
-commands-line n text rest e = let p = parts_are rest in ap (commands_from n) (parts-line text rest e) ∙ commands_at n text (parts_of rest) p.first p.others p.are
+commands_at : (q : Profile) (n : ℕ) (text : List ℕ) (parts : List (List ℕ)) (first : List ℕ) (others : List (List ℕ)) → parts ≡ first ∷ others → commands_from q n (text ∷ parts) ≡ commands_by q n (line_of q text) parts
+commands_at q n text parts first others e =
+    ap (λ (ps : List (List ℕ)). commands_from q n (text ∷ ps)) e ∙ ap (λ (ps : List (List ℕ)). commands_by q n (line_of q text) ps) (sym e)
 
-pub fault-line : (n : ℕ) (text rest : List ℕ) → newlines text ≡ 0 → fault_from n (parts_of (text ++ 10 ∷ rest)) ≡ option_or (line_fault n (line_of text)) (fault_from (n + 1) (parts_of rest))
-fault-line n text rest e = let p = parts_are rest in ap (fault_from n) (parts-line text rest e) ∙ fault_at n text (parts_of rest) p.first p.others p.are
+fault_at : (q : Profile) (n : ℕ) (text : List ℕ) (parts : List (List ℕ)) (first : List ℕ) (others : List (List ℕ)) → parts ≡ first ∷ others → fault_from q n (text ∷ parts) ≡ fault_by q n (line_of q text) parts
+fault_at q n text parts first others e =
+    ap (λ (ps : List (List ℕ)). fault_from q n (text ∷ ps)) e ∙ ap (λ (ps : List (List ℕ)). fault_by q n (line_of q text) ps) (sym e)
+
+pub commands-line : (q : Profile) (n : ℕ) (text rest : List ℕ) → newlines text ≡ 0 → commands_from q n (parts_of (text ++ 10 ∷ rest)) ≡ commands_by q n (line_of q text) (parts_of rest)
+commands-line q n text rest e = let p = parts_are rest in ap (commands_from q n) (parts-line text rest e) ∙ commands_at q n text (parts_of rest) p.first p.others p.are
+
+pub fault-line : (q : Profile) (n : ℕ) (text rest : List ℕ) → newlines text ≡ 0 → fault_from q n (parts_of (text ++ 10 ∷ rest)) ≡ fault_by q n (line_of q text) (parts_of rest)
+fault-line q n text rest e = let p = parts_are rest in ap (fault_from q n) (parts-line text rest e) ∙ fault_at q n text (parts_of rest) p.first p.others p.are
 
 -- more than 200 bytes are a fault however they go on
-line_of-long : (text : List ℕ) → 200 < length text → line_of text ≡ Err of_line.LongLine
-line_of-long text h =
+line_of-long : (q : Profile) (text : List ℕ) → 200 < length text → line_of q text ≡ Err of_line.LongLine
+line_of-long q text h =
     let long : nat_lt 200 (length text) ≡ true = grind (arith, nat_tests) in
-    ap (λ (t : Bool). if t then Err of_line.LongLine else lexemes_say (lexemes text)) long
+    ap (λ (t : Bool). if t then Err of_line.LongLine else lexemes_say q (lexemes text)) long
 
-commands_long : (n : ℕ) (text : List ℕ) (others : List (List ℕ)) → 200 < length text → commands_from n (text ∷ others) ≡ []
-commands_long n text [] h = refl
-commands_long n text (next ∷ parts) h = ap (λ l. onto_commands n l (commands_from (n + 1) (next ∷ parts))) (line_of-long text h)
+commands_long : (q : Profile) (n : ℕ) (text : List ℕ) (others : List (List ℕ)) → 200 < length text → commands_from q n (text ∷ others) ≡ []
+commands_long q n text [] h = refl
+commands_long q n text (next ∷ parts) h = ap (λ l. commands_by q n l (next ∷ parts)) (line_of-long q text h)
 
-fault_long : (n : ℕ) (text : List ℕ) (others : List (List ℕ)) → 200 < length text → fault_from n (text ∷ others) ≡ Some (record { fault = LongLine; line = n })
-fault_long n [] others h = absurd (omega arith)
-fault_long n (b ∷ bytes) [] h =
+fault_long : (q : Profile) (n : ℕ) (text : List ℕ) (others : List (List ℕ)) → 200 < length text → fault_from q n (text ∷ others) ≡ Some (record { fault = LongLine; line = n })
+fault_long q n [] others h = absurd (omega arith)
+fault_long q n (b ∷ bytes) [] h =
     let long : nat_lt 200 (length (b ∷ bytes)) ≡ true = grind (arith, nat_tests) in
     ap (λ (t : Bool). Some (record { fault = if t then LongLine else Syntax; line = n })) long
-fault_long n (b ∷ bytes) (next ∷ parts) h = ap (λ l. option_or (line_fault n l) (fault_from (n + 1) (next ∷ parts))) (line_of-long (b ∷ bytes) h)
+fault_long q n (b ∷ bytes) (next ∷ parts) h = ap (λ l. fault_by q n l (next ∷ parts)) (line_of-long q (b ∷ bytes) h)
 
 -- a line that begins with more than 200 bytes is the first fault
-pub commands-long : (n : ℕ) (text rest : List ℕ) → newlines text ≡ 0 → 200 < length text → commands_from n (parts_of (text ++ rest)) ≡ []
-commands-long n text rest e h = let p = parts_are rest in
-    ap (commands_from n) (parts-more text rest p e) ∙ commands_long n (text ++ p.first) p.others (omega (arith, length-append text p.first))
+pub commands-long : (q : Profile) (n : ℕ) (text rest : List ℕ) → newlines text ≡ 0 → 200 < length text → commands_from q n (parts_of (text ++ rest)) ≡ []
+commands-long q n text rest e h = let p = parts_are rest in
+    ap (commands_from q n) (parts-more text rest p e) ∙ commands_long q n (text ++ p.first) p.others (omega (arith, length-append text p.first))
 
-pub fault-long : (n : ℕ) (text rest : List ℕ) → newlines text ≡ 0 → 200 < length text → fault_from n (parts_of (text ++ rest)) ≡ Some (record { fault = LongLine; line = n })
-fault-long n text rest e h = let p = parts_are rest in
-    ap (fault_from n) (parts-more text rest p e) ∙ fault_long n (text ++ p.first) p.others (omega (arith, length-append text p.first))
+pub fault-long : (q : Profile) (n : ℕ) (text rest : List ℕ) → newlines text ≡ 0 → 200 < length text → fault_from q n (parts_of (text ++ rest)) ≡ Some (record { fault = LongLine; line = n })
+fault-long q n text rest e h = let p = parts_are rest in
+    ap (fault_from q n) (parts-more text rest p e) ∙ fault_long q n (text ++ p.first) p.others (omega (arith, length-append text p.first))
 
 pub answers_from-append : (places : ℕ) (w : Option WorldState) (xs ys : List Numbered) → answers_from places w (xs ++ ys) ≡ answers_from places w xs ++ answers_from places (world_behind places w xs) ys
 answers_from-append places w [] ys = refl
@@ -123,11 +134,11 @@ newlines-none (x ∷ xs) h =
     let one : newlines (x ∷ []) ≡ 0 = grind (arith, nat_tests) in
     omega (arith, newlines-append (x ∷ []) xs, one, newlines-none xs (λ k below. h (suc k) (omega (arith, below))))
 
-line_len_none : (xs : List ℕ) → newlines (take (position_or_len (λ b. nat_eq b 10) xs) xs) ≡ 0
-line_len_none xs =
-    let n = position_or_len (λ b. nat_eq b 10) xs in
-    newlines-none (take n xs) (λ k below. let within : k < n = omega (arith, below, length-prefix_len (λ b. not (nat_eq b 10)) xs) in
-    ap (λ (b : ℕ). nat_eq b 10) (get_or-take n xs k 0 within) ∙ fails_before_first (λ b. nat_eq b 10) xs k 0 within)
+other_byte : (x : ℕ) → ¬ (is_byte 10 x ≡ true) → nat_eq x 10 ≡ false
+other_byte x h = by_test (nat_eq x 10) refl where
+  by_test : (t : Bool) → nat_eq x 10 ≡ t → t ≡ false
+  by_test false e = refl
+  by_test true e = absurd (h e)
 
 drop-at : (xs : List ℕ) (i : ℕ) → i < length xs → drop i xs ≡ get_or xs i 0 ∷ drop (i + 1) xs
 drop-at xs i h = rw (add-one, drop-cons xs i 0) refl
@@ -138,22 +149,17 @@ pub record FirstNewline (xs : List ℕ) (end : ℕ) : Type 0 where
   pub unbroken : newlines (take end xs) ≡ 0
   pub split : xs ≡ take end xs ++ 10 ∷ drop (end + 1) xs
 
-pub newline_found : (xs : List ℕ) (end : ℕ) → Some end ≡ position (λ b. nat_eq b 10) xs → FirstNewline xs end
-newline_found xs end e =
-    let n = position_or_len (λ b. nat_eq b 10) xs in
-    let found = position-Some (λ b. nat_eq b 10) xs end 0 (sym e) in
-    let byte : get_or xs end 0 ≡ 10 = (let is = found.1 in grind (arith, nat_tests, is)) in
+pub newline_found : (xs : List ℕ) (end : ℕ) → IsFirstByte (is_byte 10) xs (Some end) → FirstNewline xs end
+newline_found xs end found =
+    let place = found.0 in
+    let is = found.1 in
+    let byte : get_or xs end 0 ≡ 10 = grind (arith, nat_tests, is) in
     record {
-      within = found.0;
-      unbroken = newlines-none (take end xs) (λ k below. let near : k < end = (let some = found.0 in omega (arith, below, length-take end xs)) in
-          ap (λ (b : ℕ). nat_eq b 10) (get_or-take end xs k 0 near) ∙ found.2 k near);
-      split = sym (take-append-drop end xs) ∙ ap (λ (r : List ℕ). take end xs ++ r) (drop-at xs end found.0 ∙ ap (λ (b : ℕ). b ∷ drop (end + 1) xs) byte);
+      within = place.high;
+      unbroken = newlines-none (take end xs) (λ k below. let near : k < end = (let some = place.high in omega (arith, below, length-take end xs)) in
+          ap (λ (b : ℕ). nat_eq b 10) (get_or-take end xs k 0 near) ∙ other_byte (get_or xs k 0) (place.before k (omega arith) near));
+      split = sym (take-append-drop end xs) ∙ ap (λ (r : List ℕ). take end xs ++ r) (drop-at xs end place.high ∙ ap (λ (b : ℕ). b ∷ drop (end + 1) xs) byte);
     }
 
-pub newline_missing : (xs : List ℕ) → None ≡ position (λ b. nat_eq b 10) xs → newlines xs ≡ 0
-newline_missing xs e = by_test (nat_lt (position_or_len (λ b. nat_eq b 10) xs) (length xs)) refl e where
-  by_test : (t : Bool) → nat_lt (position_or_len (λ b. nat_eq b 10) xs) (length xs) ≡ t → None ≡ cond t (Some (position_or_len (λ b. nat_eq b 10) xs)) None → newlines xs ≡ 0
-  by_test true at none = cc
-  by_test false at none =
-      let past : length xs ≤ position_or_len (λ b. nat_eq b 10) xs = grind (arith, nat_tests) in
-      ap newlines (sym (take_all (position_or_len (λ b. nat_eq b 10) xs) xs past)) ∙ line_len_none xs
+pub newline_missing : (xs : List ℕ) → IsFirstByte (is_byte 10) xs None → newlines xs ≡ 0
+newline_missing xs none = newlines-none xs (λ k within. other_byte (get_or xs k 0) (none k (omega arith) within))

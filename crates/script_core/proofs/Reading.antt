@@ -1,6 +1,5 @@
 -- A script that is read line by line.
 use Rattle.std.proofs.Common.{◌≡◌, ℕ, ◌+◌, ◌<◌, ◌≤◌, IsTrue, List, [], ◌∷◌, ◌++◌, length, length-append, refl, sym, ap, subst, ◌∙◌, append_assoc, append-nil, arith, Option, Some, None, Ok, Err}
-use Rattle.std.specs.Option.{option_or}
 use Rattle.zone_core.specs.World.{WorldState}
 use Rattle.text_core.specs.declared.command.Command.{Command}
 use Rattle.script_core.specs.declared.error.RunError.{RunError}
@@ -11,13 +10,15 @@ use Rattle.text_core.specs.declared.error.ScriptError.TheVariants as of_line
 use Rattle.text_core.specs.declared.reply.Reply.{Reply}
 use Rattle.script_core.specs.Ends.{IsOpening, StopsIn}
 use Rattle.script_core.specs.ErrorNumber.{fault_of_line}
+use Rattle.text_core.specs.declared.profile.Profile.{Profile}
 use Rattle.text_core.specs.Line.{line_of}
+use Rattle.text_core.specs.Profile.{profile_told}
 use Rattle.script_core.specs.Machine.{Step, opens, step}
 use Rattle.script_core.specs.Outbox.{Outbox, Owes}
 use Rattle.text_core.specs.Reply.{newlines}
-use Rattle.script_core.specs.Script.{Answer, Numbered, answers_from, answers_of, commands_from, commands_of, fault_from, fault_of, line_fault, onto_commands, parts_of, world_behind}
+use Rattle.script_core.specs.Script.{Answer, Numbered, answers_from, answers_of, commands_from, commands_of, fault_from, fault_of, parts_of, world_behind}
 use Rattle.script_core.specs.Player.{Player, EndsBy, HasEnded, HasRead, HasFault, HasNoMemory}
-use Rattle.script_core.proofs.Lines.{commands-line, commands-long, fault-line, fault-long, answers_from-append, world_behind-append}
+use Rattle.script_core.proofs.Lines.{commands_by, fault_by, commands-line, commands-long, fault-line, fault-long, answers_from-append, world_behind-append}
 use Rattle.text_core.proofs.Newlines.{newlines-append}
 
 stops_more : (answers more : List Answer) (old new : Option (List ℕ)) (line : ℕ) → StopsIn answers old new line → StopsIn (answers ++ more) old new line
@@ -46,10 +47,10 @@ stops_in_all places input before behind old new line order stops =
 pub whole_is : (places : ℕ) (s : Player) (past : List ℕ) (first now : Option (List ℕ)) → (r : HasRead places s past first now) → s.held ≡ [] → r.whole ≡ past
 whole_is places s past first now r e = sym (append-nil r.whole) ∙ ap (λ (h : List ℕ). r.whole ++ h) (sym e) ∙ sym r.split
 
-commands_next : (places : ℕ) (s : Player) (past : List ℕ) (first now : Option (List ℕ)) → (r : HasRead places s past first now) → s.held ≡ [] → (rest : List ℕ) → commands_of (past ++ rest) ≡ r.before ++ commands_from s.line (parts_of rest)
+commands_next : (places : ℕ) (s : Player) (past : List ℕ) (first now : Option (List ℕ)) → (r : HasRead places s past first now) → s.held ≡ [] → (rest : List ℕ) → commands_of (past ++ rest) ≡ r.before ++ commands_from s.profile s.line (parts_of rest)
 commands_next places s past first now r e rest = ap (λ (w : List ℕ). commands_of (w ++ rest)) (sym (whole_is places s past first now r e)) ∙ r.commands rest
 
-fault_next : (places : ℕ) (s : Player) (past : List ℕ) (first now : Option (List ℕ)) → (r : HasRead places s past first now) → s.held ≡ [] → (rest : List ℕ) → fault_of (past ++ rest) ≡ fault_from s.line (parts_of rest)
+fault_next : (places : ℕ) (s : Player) (past : List ℕ) (first now : Option (List ℕ)) → (r : HasRead places s past first now) → s.held ≡ [] → (rest : List ℕ) → fault_of (past ++ rest) ≡ fault_from s.profile s.line (parts_of rest)
 fault_next places s past first now r e rest = ap (λ (w : List ℕ). fault_of (w ++ rest)) (sym (whole_is places s past first now r e)) ∙ r.fault rest
 
 pub joined : (past text rest : List ℕ) → (past ++ (text ++ 10 ∷ [])) ++ rest ≡ past ++ (text ++ 10 ∷ rest)
@@ -60,16 +61,16 @@ line_next places s past text first now r e none =
     omega (arith, r.line, ap newlines (whole_is places s past first now r e), newlines-append past (text ++ 10 ∷ []), newlines-append text (10 ∷ []), none)
 
 module _ (places : ℕ) (s : Player) (past text : List ℕ) (first now : Option (List ℕ)) (r : HasRead places s past first now) (begins : s.held ≡ []) (none : newlines text ≡ 0) where
-  commands_line : (rest : List ℕ) → commands_of ((past ++ (text ++ 10 ∷ [])) ++ rest) ≡ r.before ++ onto_commands s.line (line_of text) (commands_from (s.line + 1) (parts_of rest))
+  commands_line : (rest : List ℕ) → commands_of ((past ++ (text ++ 10 ∷ [])) ++ rest) ≡ r.before ++ commands_by s.profile s.line (line_of s.profile text) (parts_of rest)
   commands_line rest =
       ap commands_of (joined past text rest) ∙ commands_next places s past first now r begins (text ++ 10 ∷ rest)
-      ∙ ap (λ (cs : List Numbered). r.before ++ cs) (commands-line s.line text rest none)
+      ∙ ap (λ (cs : List Numbered). r.before ++ cs) (commands-line s.profile s.line text rest none)
 
-  fault_line : (rest : List ℕ) → fault_of ((past ++ (text ++ 10 ∷ [])) ++ rest) ≡ option_or (line_fault s.line (line_of text)) (fault_from (s.line + 1) (parts_of rest))
-  fault_line rest = ap fault_of (joined past text rest) ∙ fault_next places s past first now r begins (text ++ 10 ∷ rest) ∙ fault-line s.line text rest none
+  fault_line : (rest : List ℕ) → fault_of ((past ++ (text ++ 10 ∷ [])) ++ rest) ≡ fault_by s.profile s.line (line_of s.profile text) (parts_of rest)
+  fault_line rest = ap fault_of (joined past text rest) ∙ fault_next places s past first now r begins (text ++ 10 ∷ rest) ∙ fault-line s.profile s.line text rest none
 
   -- a line that is skipped
-  pub read_skipped : line_of text ≡ Ok None → HasRead places (record s { line = s.line + 1 }) (past ++ (text ++ 10 ∷ [])) first now
+  pub read_skipped : line_of s.profile text ≡ Ok None → HasRead places (record s { line = s.line + 1 }) (past ++ (text ++ 10 ∷ [])) first now
   read_skipped is = record {
     places_are = r.places_are;
     whole = past ++ (text ++ 10 ∷ []);
@@ -78,18 +79,18 @@ module _ (places : ℕ) (s : Player) (past text : List ℕ) (first now : Option 
     short = r.short;
     line = line_next places s past text first now r begins none;
     before = r.before;
-    commands = λ rest. commands_line rest ∙ ap (λ l. r.before ++ onto_commands s.line l (commands_from (s.line + 1) (parts_of rest))) is;
-    fault = λ rest. fault_line rest ∙ ap (λ l. option_or (line_fault s.line l) (fault_from (s.line + 1) (parts_of rest))) is;
+    commands = λ rest. commands_line rest ∙ ap (λ l. r.before ++ commands_by s.profile s.line l (parts_of rest)) is;
+    fault = λ rest. fault_line rest ∙ ap (λ l. fault_by s.profile s.line l (parts_of rest)) is;
     replies = r.replies;
     world = r.world;
     owes = r.owes;
   }
 
   -- a line that is answered
-  pub read_answered : (command : Command) (reply : Reply) (world : Option WorldState) (box : Outbox) (after : Option (List ℕ)) → line_of text ≡ Ok (Some command) → record { reply = reply; world = world } ≡ step s.places s.world command
+  pub read_answered : (command : Command) (reply : Reply) (profile : Profile) (world : Option WorldState) (box : Outbox) (after : Option (List ℕ)) → line_of s.profile text ≡ Ok (Some command) → profile ≡ profile_told command s.profile → record { reply = reply; world = world } ≡ step s.places s.world command
       → ((answers : List Answer) (first : Option (List ℕ)) → Owes s.box answers first now → Owes box (answers ++ record { line = s.line; reply = reply } ∷ []) first after)
-      → HasRead places (record { places = s.places; world = world; held = s.held; line = s.line + 1; replies = s.replies + 1; box = box }) (past ++ (text ++ 10 ∷ [])) first after
-  read_answered command reply world box after is told posts =
+      → HasRead places (record { places = s.places; profile = profile; world = world; held = s.held; line = s.line + 1; replies = s.replies + 1; box = box }) (past ++ (text ++ 10 ∷ [])) first after
+  read_answered command reply profile world box after is behind told posts =
       let entry : Numbered = record { line = s.line; command = command } in
       let here : step places (world_behind places None r.before) command ≡ record { reply = reply; world = world } = ap (λ w. step places w command) (sym r.world) ∙ ap (λ (n : ℕ). step n s.world command) (sym r.places_are) ∙ sym told in
       let answers : answers_from places None (r.before ++ entry ∷ []) ≡ answers_from places None r.before ++ record { line = s.line; reply = reply } ∷ [] =
@@ -103,30 +104,31 @@ module _ (places : ℕ) (s : Player) (past text : List ℕ) (first now : Option 
         short = r.short;
         line = line_next places s past text first now r begins none;
         before = r.before ++ entry ∷ [];
-        commands = λ rest. commands_line rest ∙ ap (λ l. r.before ++ onto_commands s.line l (commands_from (s.line + 1) (parts_of rest))) is ∙ sym (append_assoc r.before (entry ∷ []) _);
-        fault = λ rest. fault_line rest ∙ ap (λ l. option_or (line_fault s.line l) (fault_from (s.line + 1) (parts_of rest))) is;
+        commands = λ rest. commands_line rest ∙ ap (λ l. r.before ++ commands_by s.profile s.line l (parts_of rest)) is
+            ∙ ap (λ q. r.before ++ entry ∷ commands_from q (s.line + 1) (parts_of rest)) (sym behind) ∙ sym (append_assoc r.before (entry ∷ []) _);
+        fault = λ rest. fault_line rest ∙ ap (λ l. fault_by s.profile s.line l (parts_of rest)) is ∙ ap (λ q. fault_from q (s.line + 1) (parts_of rest)) (sym behind);
         replies = omega (arith, r.replies, length-append r.before (entry ∷ []));
         world = sym (world_behind-append places None r.before (entry ∷ []) ∙ ap (λ (t : Step). t.world) here);
         owes = subst O (sym answers) (posts _ first r.owes);
       }
 
   -- a line that is wrong
-  pub read_wrong : (error : ScriptError) → line_of text ≡ Err error → HasFault places s (past ++ (text ++ 10 ∷ [])) (record { fault = fault_of_line error; line = s.line }) first now
+  pub read_wrong : (error : ScriptError) → line_of s.profile text ≡ Err error → HasFault places s (past ++ (text ++ 10 ∷ [])) (record { fault = fault_of_line error; line = s.line }) first now
   read_wrong error is = record {
     before = r.before;
-    commands = λ rest. commands_line rest ∙ ap (λ l. r.before ++ onto_commands s.line l (commands_from (s.line + 1) (parts_of rest))) is ∙ append-nil r.before;
-    fault = λ rest. fault_line rest ∙ ap (λ l. option_or (line_fault s.line l) (fault_from (s.line + 1) (parts_of rest))) is;
+    commands = λ rest. commands_line rest ∙ ap (λ l. r.before ++ commands_by s.profile s.line l (parts_of rest)) is ∙ append-nil r.before;
+    fault = λ rest. fault_line rest ∙ ap (λ l. fault_by s.profile s.line l (parts_of rest)) is;
     owes = r.owes;
   }
 
   -- a line that opens a zone, for which there is no memory
-  pub read_lacking : (command : Command) (w : Option WorldState) → line_of text ≡ Ok (Some command) → IsTrue (opens s.world command) → HasNoMemory places (record s { world = w }) (past ++ (text ++ 10 ∷ [])) s.line first now
+  pub read_lacking : (command : Command) (w : Option WorldState) → line_of s.profile text ≡ Ok (Some command) → IsTrue (opens s.world command) → HasNoMemory places (record s { world = w }) (past ++ (text ++ 10 ∷ [])) s.line first now
   read_lacking command w is opening = record {
     before = r.before;
     opening = λ rest. record {
       command = record { line = s.line; command = command };
-      behind = commands_from (s.line + 1) (parts_of rest);
-      order = commands_line rest ∙ ap (λ l. r.before ++ onto_commands s.line l (commands_from (s.line + 1) (parts_of rest))) is;
+      behind = commands_from (profile_told command s.profile) (s.line + 1) (parts_of rest);
+      order = commands_line rest ∙ ap (λ l. r.before ++ commands_by s.profile s.line l (parts_of rest)) is;
       opening = (let T : Option WorldState → Type 0 = λ w. IsTrue (opens w command) in subst T r.world opening);
       at = refl;
     };
@@ -191,8 +193,8 @@ read_long places s past text first now r none long =
     record {
       before = r.before;
       commands = λ rest. ap commands_of (at rest) ∙ r.commands ((s.held ++ text) ++ rest)
-          ∙ ap (λ (cs : List Numbered). r.before ++ cs) (commands-long s.line (s.held ++ text) rest unbroken long) ∙ append-nil r.before;
-      fault = λ rest. ap fault_of (at rest) ∙ r.fault ((s.held ++ text) ++ rest) ∙ fault-long s.line (s.held ++ text) rest unbroken long;
+          ∙ ap (λ (cs : List Numbered). r.before ++ cs) (commands-long s.profile s.line (s.held ++ text) rest unbroken long) ∙ append-nil r.before;
+      fault = λ rest. ap fault_of (at rest) ∙ r.fault ((s.held ++ text) ++ rest) ∙ fault-long s.profile s.line (s.held ++ text) rest unbroken long;
       owes = r.owes;
     }
 

@@ -1,5 +1,5 @@
 -- The machine of a script: it has no zone yet, or one in a world.
-use Rattle.std.specs.Prelude.{ℕ, ◌*◌, ◌/◌, Bool, true, false, nat_eq, if◌then◌else◌, Option, Some, None}
+use Rattle.std.specs.Prelude.{ℕ, zero, suc, ◌+◌, ◌*◌, ◌/◌, Bool, true, false, nat_eq, if◌then◌else◌, Option, Some, None}
 use Rattle.frame_core.specs.declared.place.Address.{Address}
 use Rattle.state_core.specs.declared.error.ZoneError.{ZoneError}
 use Rattle.state_core.specs.declared.error.ZoneError.TheVariants.{NoFrame, NoBlock}
@@ -17,50 +17,57 @@ use Rattle.state_core.specs.Sharing.{share_refusal, shared}
 use Rattle.state_core.specs.Unmapping.{unmap_refusal, unmapped}
 use Rattle.state_core.specs.Pinning.{pin_refusal, unpin_refusal, pinned, unpinned}
 use Rattle.state_core.specs.HandingOut.{take_order_refusal, give_order_refusal, lowest_run, block_taken, block_given}
+use Rattle.state_core.specs.Marking.{mark_refusal, unmark_refusal, block_marked, block_unmarked}
 use Rattle.state_core.specs.ZoneState.{ZoneState, lowest_free_frame}
 use Rattle.zone_core.specs.World.{WorldState, world_opened, with_zone, scan_refusal, scan_stopped, scan_answer, scanned, take_step, copy_step, finish_step, shut_step}
 use Rattle.text_core.specs.declared.command.Call.{Call}
-use Rattle.text_core.specs.declared.command.Call.TheVariants.{Map, MapAt, Store, Load, Info, Scan, Take, Copy, Finish, Shut, Look, Share, Unmap, Pin, Unpin, Huge, Give}
+use Rattle.text_core.specs.declared.command.Call.TheVariants.{Map, MapAt, Store, Load, Info, Scan, Take, Copy, Finish, Shut, Look, Share, Unmap, Pin, Unpin, Huge, Give, InfoWithHeld, TakeOrder, GiveOrder, Mark, Unmark}
+use Rattle.text_core.specs.declared.command.Calls.{Calls}
+use Rattle.text_core.specs.declared.command.Calls.TheVariants.{One, Series as SeriesOf}
+use Rattle.text_core.specs.declared.command.Series.{Series}
+use Rattle.text_core.specs.declared.command.Repeated.{Repeated}
+use Rattle.text_core.specs.declared.command.Repeated.TheVariants as repeated
+use Rattle.text_core.specs.Grammar.{address_of}
 use Rattle.text_core.specs.declared.command.Command.{Command}
-use Rattle.text_core.specs.declared.command.Command.TheVariants.{Open, On, OutOfRange}
+use Rattle.text_core.specs.declared.command.Command.TheVariants.{Open, On, Profile2, OutOfRange}
 use Rattle.text_core.specs.declared.reply.Reply.{Reply}
 use Rattle.text_core.specs.declared.reply.Reply.TheVariants as reply
 
--- the reply to a command, and the world after it
-pub record Step : Type 0 where
+-- the reply to a call, and the world after it
+pub record Answered : Type 0 where
   pub reply : Reply
-  pub world : Option WorldState
-
--- a refusal, which leaves this world
-abbrev pub refused : ℕ → Option WorldState → Step
-refused number world = record { reply = reply.Refused number; world = world }
+  pub world : WorldState
 
 -- a reply, and the world after it
-abbrev pub says : Reply → WorldState → Step
-says reply after = record { reply = reply; world = Some after }
+abbrev pub says : Reply → WorldState → Answered
+says reply after = record { reply = reply; world = after }
+
+-- a refusal, which leaves this world
+abbrev pub refused : ℕ → WorldState → Answered
+refused number w = says (reply.Refused number) w
 
 -- a call of the zone that has no answer
-abbrev pub done : WorldState → ZoneState → Step
+abbrev pub done : WorldState → ZoneState → Answered
 done w zone = says reply.Done (with_zone w zone)
 
--- a refusal of the zone, which leaves this world, or else a step
-abbrev pub unless : Option ZoneError → WorldState → Step → Step
-unless None world step = step
-unless (Some error) world step = refused (number_of error) (Some world)
+-- a refusal of the zone, which leaves this world, or else an answer
+abbrev pub unless : Option ZoneError → WorldState → Answered → Answered
+unless None world answered = answered
+unless (Some error) world answered = refused (number_of error) world
 
 -- what the world answers and leaves, or else a refusal, since a hand doesn't hold what the call needs
-abbrev pub by_hand : {A : Type 0} → (A → Reply) → WorldState → Option (A × WorldState) → Step
-by_hand told world None = refused 45 (Some world)
+abbrev pub by_hand : {A : Type 0} → (A → Reply) → WorldState → Option (A × WorldState) → Answered
+by_hand told world None = refused 45 world
 by_hand told world (Some (answer, after)) = says (told answer) after
 
 -- the same of a copy, which has no answer
-abbrev pub copied : WorldState → Option WorldState → Step
-copied world None = refused 45 (Some world)
+abbrev pub copied : WorldState → Option WorldState → Answered
+copied world None = refused 45 world
 copied world (Some after) = says reply.Done after
 
 -- a fresh page in this frame, if there is one
-abbrev pub fresh_page : WorldState → Address → Bool → Option ℕ → Step
-fresh_page w a unmovable None = refused (number_of NoFrame) (Some w)
+abbrev pub fresh_page : WorldState → Address → Bool → Option ℕ → Answered
+fresh_page w a unmovable None = refused (number_of NoFrame) w
 fresh_page w a unmovable (Some frame) = done w (mapped w.zone 0 a unmovable frame)
 
 -- what a scan found
@@ -74,17 +81,22 @@ ending serial ended.Moved = reply.Moved serial
 ending serial ended.Back = reply.PutBack serial
 
 -- what is known of a page, which changes nothing
-abbrev pub looked : WorldState → Option Known → Step
-looked world None = refused 3 (Some world)
+abbrev pub looked : WorldState → Option Known → Answered
+looked world None = refused 3 world
 looked world (Some known) = says (reply.Looked known) world
 
 -- the pageblock that begins at this frame is handed out, if there is one
-abbrev pub handed_out : WorldState → Option ℕ → Step
-handed_out w None = refused (number_of NoBlock) (Some w)
+abbrev pub handed_out : WorldState → Option ℕ → Answered
+handed_out w None = refused (number_of NoBlock) w
 handed_out w (Some first) = says (reply.Block (first / 512)) (with_zone w (block_taken w.zone first 9))
 
+-- the block of this order that begins at this frame is handed out, if there is one
+abbrev pub order_handed_out : WorldState → ℕ → Option ℕ → Answered
+order_handed_out w order None = refused (number_of NoBlock) w
+order_handed_out w order (Some first) = says (reply.HandedOut first order) (with_zone w (block_taken w.zone first order))
+
 -- a call on the zone that is open, by client number 0
-abbrev pub call_step : WorldState → Call → Step
+abbrev pub call_step : WorldState → Call → Answered
 call_step w (Map a unmovable) = unless (map_refusal w.zone a) w (fresh_page w a unmovable (lowest_free_frame w.zone))
 call_step w (MapAt a frame unmovable) = unless (map_at_refusal w.zone a frame) w (fresh_page w a unmovable (Some frame))
 call_step w (Store a word value) = unless (access_refusal w.zone a) w (done w (stored w.zone 0 a word value))
@@ -103,22 +115,71 @@ call_step w (Pin a) = unless (pin_refusal w.zone a) w (done w (pinned w.zone 0 a
 call_step w (Unpin a) = unless (unpin_refusal w.zone a) w (done w (unpinned w.zone 0 a))
 call_step w Huge = unless (take_order_refusal w.zone 9) w (handed_out w (lowest_run w.zone 9))
 call_step w (Give block) = unless (give_order_refusal w.zone (512 * block) 9) w (done w (block_given w.zone (512 * block) 9))
+call_step w InfoWithHeld = says (reply.InfoWithHeld (info_of w.zone)) w
+call_step w (TakeOrder order) = unless (take_order_refusal w.zone order) w (order_handed_out w order (lowest_run w.zone order))
+call_step w (GiveOrder first order) = unless (give_order_refusal w.zone first order) w (done w (block_given w.zone first order))
+call_step w (Mark block) = unless (mark_refusal w.zone block) w (done w (block_marked w.zone block))
+call_step w (Unmark block) = unless (unmark_refusal w.zone block) w (done w (block_unmarked w.zone block))
+
+-- the call that a series makes at an address
+abbrev pub call_at : Repeated → Address → Call
+call_at repeated.Map a = Map a false
+call_at repeated.Unmap a = Unmap a
+
+-- that call, or a refusal where the page is none of the space
+abbrev pub page_step : Repeated → WorldState → Option Address → Answered
+page_step c w None = refused 1 w
+page_step c w (Some a) = call_step w (call_at c a)
+
+-- where a call was refused behind so many others, that ends a series, and else it goes on
+abbrev pub unless_refused : ℕ → Reply → WorldState → Answered → Answered
+unless_refused done (reply.Refused number) w rest = says (reply.DoneUntil done number) w
+unless_refused done _ w rest = rest
+
+-- n more calls behind so many: at page v of space s, and at each page that is so much further, in order up to the first refusal
+abbrev pub series_from : Repeated → (s v further done n : ℕ) → WorldState → Answered
+series_from c s v further done zero w = says (reply.AllDone done) w
+series_from c s v further done (suc n) w = let a = page_step c w (address_of s v) in
+    unless_refused done a.reply a.world (series_from c s (v + further) further (done + 1) n a.world)
+
+-- the calls of a series
+abbrev pub series_step : WorldState → Series → Answered
+series_step w s = series_from s.call s.space s.first s.step 0 s.count w
+
+-- the calls of one command
+abbrev pub calls_step : WorldState → Calls → Answered
+calls_step w (One call) = call_step w call
+calls_step w (SeriesOf series) = series_step w series
+
+-- the reply to a command, and the world after it, if there is one
+pub record Step : Type 0 where
+  pub reply : Reply
+  pub world : Option WorldState
+
+-- an answer of the zone that is open
+abbrev pub answered : Answered → Step
+answered a = record { reply = a.reply; world = Some a.world }
+
+-- a refusal of the machine, which leaves what there is
+abbrev pub declined : ℕ → Option WorldState → Step
+declined number world = record { reply = reply.Refused number; world = world }
 
 -- a zone with so many pageblocks and places in its journal is opened, where none is yet
 abbrev pub open_step : ℕ → ℕ → ℕ → Option WorldState → Step
-open_step zone blocks places None = says reply.Done (world_opened zone blocks places)
-open_step zone blocks places (Some w) = refused 44 (Some w)
+open_step zone blocks places None = answered (says reply.Done (world_opened zone blocks places))
+open_step zone blocks places (Some w) = declined 44 (Some w)
 
--- a call on the zone with this number, where that is the one that is open
-abbrev pub step_on : ℕ → Call → Option WorldState → Step
-step_on zone call None = refused 43 None
-step_on zone call (Some w) = if nat_eq zone w.zone.number then call_step w call else refused 43 (Some w)
+-- calls on the zone with this number, where that is the one that is open
+abbrev pub step_on : ℕ → Calls → Option WorldState → Step
+step_on zone calls None = declined 43 None
+step_on zone calls (Some w) = if nat_eq zone w.zone.number then answered (calls_step w calls) else declined 43 (Some w)
 
 -- any command, where a zone is opened with these places in its journal
 abbrev pub step : ℕ → Option WorldState → Command → Step
-step places world OutOfRange = refused 1 world
+step places world OutOfRange = declined 1 world
+step places world Profile2 = record { reply = reply.Done; world = world }
 step places world (Open zone blocks) = open_step zone blocks places world
-step places world (On zone call) = step_on zone call world
+step places world (On zone calls) = step_on zone calls world
 
 -- whether a command opens a zone
 abbrev pub opens : Option WorldState → Command → Bool

@@ -2,6 +2,8 @@
 use Rattle.std.specs.Prelude.{◌≡◌, ◌≢◌, ℕ, ◌+◌, ◌≤◌, List, [], ◌++◌, length, Option, Some, None}
 use Rattle.std.specs.Io.KnownBytes.{Consumes}
 use Rattle.zone_core.specs.World.{WorldState}
+use Rattle.text_core.specs.declared.profile.Profile.{Profile}
+use Rattle.text_core.specs.declared.profile.Profile.TheVariants.{Untold}
 use Rattle.script_core.specs.declared.error.Fault.{Fault}
 use Rattle.script_core.specs.declared.error.Fault.TheVariants.{Syntax, LongLine, Read, Write, Memory}
 use Rattle.script_core.specs.declared.error.RunError.{RunError}
@@ -10,9 +12,11 @@ use Rattle.script_core.specs.Outbox.{Outbox, Owes, empty}
 use Rattle.text_core.specs.Reply.{newlines}
 use Rattle.script_core.specs.Script.{Numbered, answers_from, answers_of, commands_from, commands_of, fault_from, fault_of, parts_of, world_behind}
 
--- the places of a journal, the world, the line that has begun and its number, how many replies there were, and those that wait
+-- the places of a journal, the profile, the world, the line that has begun and its number, how many replies there were, and
+-- those that wait
 pub record Player : Type 0 where
   pub places : ℕ
+  pub profile : Profile
   pub world : Option WorldState
   pub held : List ℕ
   pub line : ℕ
@@ -21,7 +25,7 @@ pub record Player : Type 0 where
 
 -- a script at its first byte
 abbrev pub begun : ℕ → Player
-begun places = record { places = places; world = None; held = []; line = 1; replies = 0; box = empty }
+begun places = record { places = places; profile = Untold; world = None; held = []; line = 1; replies = 0; box = empty }
 
 -- these bytes were read without a fault, and the replies to their lines were written or wait
 pub record HasRead (places : ℕ) (s : Player) (past : List ℕ) (first now : Option (List ℕ)) : Type 0 where
@@ -32,8 +36,8 @@ pub record HasRead (places : ℕ) (s : Player) (past : List ℕ) (first now : Op
   pub short : length s.held ≤ 200
   pub line : s.line ≡ newlines whole + 1
   pub before : List Numbered
-  pub commands : (rest : List ℕ) → commands_of (whole ++ rest) ≡ before ++ commands_from s.line (parts_of rest)
-  pub fault : (rest : List ℕ) → fault_of (whole ++ rest) ≡ fault_from s.line (parts_of rest)
+  pub commands : (rest : List ℕ) → commands_of (whole ++ rest) ≡ before ++ commands_from s.profile s.line (parts_of rest)
+  pub fault : (rest : List ℕ) → fault_of (whole ++ rest) ≡ fault_from s.profile s.line (parts_of rest)
   pub replies : s.replies ≡ length before
   pub world : s.world ≡ world_behind places None before
   pub owes : Owes s.box (answers_from places None before) first now

@@ -5,12 +5,15 @@ use Rattle.std.specs.Option.{option_or}
 use Rattle.zone_core.specs.World.{WorldState}
 use Rattle.text_core.specs.declared.command.Command.{Command}
 use Rattle.text_core.specs.declared.error.ScriptError.{ScriptError}
+use Rattle.text_core.specs.declared.profile.Profile.{Profile}
+use Rattle.text_core.specs.declared.profile.Profile.TheVariants.{Untold}
 use Rattle.script_core.specs.declared.error.Fault.TheVariants.{Syntax, LongLine}
 use Rattle.script_core.specs.declared.error.RunError.{RunError}
 use Rattle.text_core.specs.declared.reply.Reply.{Reply}
 use Rattle.script_core.specs.declared.script.Totals.{Totals}
 use Rattle.script_core.specs.ErrorNumber.{fault_of_line}
 use Rattle.text_core.specs.Line.{line_of}
+use Rattle.text_core.specs.Profile.{profile_behind}
 use Rattle.script_core.specs.Machine.{step}
 use Rattle.text_core.specs.Reply.{newlines, text_of}
 
@@ -38,12 +41,12 @@ abbrev pub line_fault : ℕ → Result (Option Command) ScriptError → Option R
 line_fault line (Ok command) = None
 line_fault line (Err error) = Some (record { fault = fault_of_line error; line = line })
 
--- the first fault, where the first of the lines has this number
-abbrev pub fault_from : ℕ → List (List ℕ) → Option RunError
-fault_from line [] = None
-fault_from line (cut ∷ []) = cut_fault line cut
-fault_from line (text ∷ next ∷ parts) =
-    option_or (line_fault line (line_of text)) (fault_from (line + 1) (next ∷ parts))
+-- the first fault, where the first of the lines is read by this profile and has this number
+abbrev pub fault_from : Profile → ℕ → List (List ℕ) → Option RunError
+fault_from profile line [] = None
+fault_from profile line (cut ∷ []) = cut_fault line cut
+fault_from profile line (text ∷ next ∷ parts) = let says = line_of profile text in
+    option_or (line_fault line says) (fault_from (profile_behind says profile) (line + 1) (next ∷ parts))
 
 -- the command of a line, and those behind it; there are none behind a fault
 abbrev pub onto_commands : ℕ → Result (Option Command) ScriptError → List Numbered → List Numbered
@@ -52,11 +55,11 @@ onto_commands line (Ok None) behind = behind
 onto_commands line (Err fault) behind = []
 
 -- the commands up to the first fault
-abbrev pub commands_from : ℕ → List (List ℕ) → List Numbered
-commands_from line [] = []
-commands_from line (cut ∷ []) = []
-commands_from line (text ∷ next ∷ parts) =
-    onto_commands line (line_of text) (commands_from (line + 1) (next ∷ parts))
+abbrev pub commands_from : Profile → ℕ → List (List ℕ) → List Numbered
+commands_from profile line [] = []
+commands_from profile line (cut ∷ []) = []
+commands_from profile line (text ∷ next ∷ parts) = let says = line_of profile text in
+    onto_commands line says (commands_from (profile_behind says profile) (line + 1) (next ∷ parts))
 
 -- the machine's replies to commands
 abbrev pub answers_from : ℕ → Option WorldState → List Numbered → List Answer
@@ -71,7 +74,7 @@ world_behind places w (c ∷ commands) = world_behind places (step places w c.co
 
 -- the commands of an input
 abbrev pub commands_of : List ℕ → List Numbered
-commands_of input = commands_from 1 (parts_of input)
+commands_of input = commands_from Untold 1 (parts_of input)
 
 -- the machine's replies to an input
 abbrev pub answers_of : ℕ → List ℕ → List Answer
@@ -87,7 +90,7 @@ output_of places input = texts (answers_of places input)
 
 -- the first fault of an input
 abbrev pub fault_of : List ℕ → Option RunError
-fault_of input = fault_from 1 (parts_of input)
+fault_of input = fault_from Untold 1 (parts_of input)
 
 -- the lines that were read and the replies that were written
 abbrev pub totals_of : ℕ → List ℕ → Totals

@@ -26,4 +26,7 @@ pub use script::{Totals, run, run_text};
 pub use sink::Sink;
 pub use source::Source;
 pub use text::Text;
-pub use text_core::{BlockCount, Call, Command, Reply, ScriptError, read_line, reply_text};
+pub use text_core::{
+    BlockCount, Call, Calls, Command, PageCount, Repeated, Reply, ScriptError, Series, read_line,
+    reply_text,
+};

@@ -1,5 +1,6 @@
 ghost use Rattle.std.specs.Prelude.{◌≡◌, ◌<◌, ◌≤◌, bit_and, Some, None, IfOk, OnErr, IsTrue};
-ghost use Rattle.script_core.specs.Machine.{call_step, ending, found, open_step, opens, step, step_on};
+ghost use Rattle.script_core.specs.Machine.{call_at, call_step, calls_step, ending, found, open_step, opens, page_step, series_step, step, step_on};
+ghost use Rattle.text_core.specs.Grammar.{address_of};
 ghost use Rattle.text_core.specs.declared.reply.Reply.TheVariants as reply;
 ghost use Rattle.zone_core.specs.Books.{AreFor};
 ghost use Rattle.zone_core.specs.ErrorNumber.{world_number_of};
@@ -7,12 +8,12 @@ ghost use Rattle.state_core.specs.ErrorNumber.{number_of};
 ghost use Rattle.frame_core.specs.PageFlags.{is_unmovable};
 
 use bitflags::Flags;
-use frame_core::{ClientNo, PageFlags, ZoneNo};
+use frame_core::{Address, ClientNo, PageFlags, SpaceNo, VPage, ZoneNo};
 use state_core::{Ended, ZoneError};
 use std::alloc::{AllocError, Global};
 use std::marker::Model;
 use std::sync::ledger::Ledger;
-use text_core::{BlockCount, Call, Command, Reply};
+use text_core::{BlockCount, Call, Calls, Command, Repeated, Reply, Series};
 use zone_core::{Blanks, Finished, Scanned, World, WorldError};
 
 /// What a script works on: no zone yet, with the blanks to open one, or the world of the one zone that it opened.
@@ -64,8 +65,9 @@ impl<I: Ledger, N: Ledger, M: Ledger, B: Ledger> Machine<I, N, M, B> {
     {
         match command {
             Command::OutOfRange => Ok(Reply::Refused(1)),
+            Command::Profile2 => Ok(Reply::Done),
             Command::Open { zone, blocks } => self.open(alloc, places, zone, blocks),
-            Command::On { zone, call } => Ok(self.call(zone, call)),
+            Command::On { zone, calls } => Ok(self.call(zone, calls)),
         }
     }
 
@@ -94,15 +96,88 @@ impl<I: Ledger, N: Ledger, M: Ledger, B: Ledger> Machine<I, N, M, B> {
         Ok(Reply::Done)
     }
 
-    /// Answers a call on the zone with this number, where that is the one that is open.
-    fn call(&mut self, zone: ZoneNo, call: Call) -> Reply
-        ensures { record { reply = result; world = self.new } ≡ step_on zone call self.old }
+    /// Answers calls on the zone with this number, where that is the one that is open.
+    fn call(&mut self, zone: ZoneNo, calls: Calls) -> Reply
+        ensures { record { reply = result; world = self.new } ≡ step_on zone calls self.old }
     {
         match &mut self.world {
-            Some(world) if world.zone().number() == zone => answer(world, call),
+            Some(world) if world.zone().number() == zone => answer_all(world, calls),
             _ => Reply::Refused(43),
         }
     }
+}
+
+/// Answers the calls of a command on the zone of a world.
+fn answer_all<I: Ledger, N: Ledger, M: Ledger, B: Ledger>(
+    world: &mut World<I, N, M, B>,
+    calls: Calls,
+) -> Reply
+    ensures { record { reply = result; world = world.new } ≡ calls_step world.old calls }
+{
+    match calls {
+        Calls::One(call) => answer(world, call),
+        Calls::Series(series) => answer_series(world, series),
+    }
+}
+
+/// Makes the calls of a series one after the other, up to the first that is refused.
+fn answer_series<I: Ledger, N: Ledger, M: Ledger, B: Ledger>(
+    world: &mut World<I, N, M, B>,
+    series: Series,
+) -> Reply
+    ensures { record { reply = result; world = world.new } ≡ series_step world.old series }
+{
+    let Series {
+        call,
+        space,
+        first,
+        count,
+        step,
+    } = series;
+    let count = count.get();
+    let mut page = u128::from(first);
+    for done in 0..count {
+        if let Reply::Refused(refusal) = answer_at(world, call, address(space, page)) {
+            return Reply::DoneUntil { done, refusal };
+        }
+        page += u128::from(step);
+    }
+    Reply::AllDone(count)
+}
+
+/// Answers a call of a series at its page, where that is one of the space.
+fn answer_at<I: Ledger, N: Ledger, M: Ledger, B: Ledger>(
+    world: &mut World<I, N, M, B>,
+    repeated: Repeated,
+    address: Option<Address>,
+) -> Reply
+    ensures { record { reply = result; world = world.new } ≡ page_step repeated world.old address }
+{
+    match address {
+        Some(address) => answer(world, call_at(repeated, address)),
+        None => Reply::Refused(1),
+    }
+}
+
+/// The call that a series makes at an address.
+fn call_at(repeated: Repeated, address: Address) -> Call
+    ensures { result ≡ call_at repeated address }
+{
+    match repeated {
+        Repeated::Map => Call::Map {
+            address,
+            unmovable: false,
+        },
+        Repeated::Unmap => Call::Unmap(address),
+    }
+}
+
+/// A page of a space, where it has so many.
+fn address(space: SpaceNo, page: u128) -> Option<Address>
+    ensures { result ≡ address_of space page }
+{
+    let vpage = VPage::new(u32::try_from(page).ok()?)?;
+    Some(Address { space, vpage })
 }
 
 /// Answers a call on the zone of a world.
@@ -110,7 +185,7 @@ fn answer<I: Ledger, N: Ledger, M: Ledger, B: Ledger>(
     world: &mut World<I, N, M, B>,
     call: Call,
 ) -> Reply
-    ensures { record { reply = result; world = Some world.new } ≡ call_step world.old call }
+    ensures { record { reply = result; world = world.new } ≡ call_step world.old call }
 {
     let client = script_client();
     match call {
@@ -160,6 +235,15 @@ fn answer<I: Ledger, N: Ledger, M: Ledger, B: Ledger>(
         Call::Give(block) => world
             .give_huge(block)
             .map_or_else(by_zone, |()| Reply::Done),
+        Call::InfoWithHeld => Reply::InfoWithHeld(world.zone().info()),
+        Call::TakeOrder(order) => world
+            .take_order(order)
+            .map_or_else(by_zone, |first| Reply::HandedOut { first, order }),
+        Call::GiveOrder { first, order } => world
+            .give_order(first, order)
+            .map_or_else(by_zone, |()| Reply::Done),
+        Call::Mark(block) => world.mark(block).map_or_else(by_zone, |()| Reply::Done),
+        Call::Unmark(block) => world.unmark(block).map_or_else(by_zone, |()| Reply::Done),
     }
 }
 

@@ -1,4 +1,4 @@
-ghost use Rattle.std.specs.Prelude.{◌≡◌, ℕ, ◌+◌, ◌^◌, ◌<◌, ◌≤◌, [], ◌∷◌, ◌++◌, List, Option, length, position, nat_eq, false, Some, None, Ok, IfNone, IfSome, IfErr, IfOk, IsTrue, OnErr, OnOk};
+ghost use Rattle.std.specs.Prelude.{◌≡◌, ℕ, ◌+◌, ◌^◌, ◌<◌, ◌≤◌, [], ◌∷◌, ◌++◌, List, Option, length, false, Some, None, Ok, IfNone, IfSome, IfErr, IfOk, IsTrue, OnErr, OnOk};
 ghost use Rattle.zone_core.specs.Books.{AreFor};
 ghost use Rattle.text_core.specs.Line.{line_of};
 ghost use Rattle.text_core.specs.Reply.{newlines};
@@ -16,11 +16,12 @@ use crate::outbox::Outbox;
 use crate::output::Output;
 use crate::script::Totals;
 use arrayvec::ArrayVec;
+use memchr::memchr;
 use std::alloc::Global;
 use std::marker::Model;
 use std::mem;
 use std::sync::ledger::Ledger;
-use text_core::{Command, ScriptError, read_line};
+use text_core::{Command, Profile, ScriptError, read_line};
 use zone_core::Blanks;
 
 /// Plays a script: the machine that answers it, the line that has begun, and the replies that wait.
@@ -28,6 +29,7 @@ use zone_core::Blanks;
 pub(crate) struct Player<I: Ledger, N: Ledger, M: Ledger, B: Ledger> {
     alloc: Global,
     places: u32,
+    profile: Profile,
     machine: Machine<I, N, M, B>,
     held: ArrayVec<u8, 200>,
     line: u64,
@@ -45,7 +47,7 @@ impl<I: Ledger, N: Ledger, M: Ledger, B: Ledger> Model for Player<I, N, M, B> {
 
     ghost coded = { Prim.hlevel (codes, plain_zone.the_row.coded) };
 
-    ghost view = { λ s. record { places = s.places; world = s.machine; held = s.held.items; line = s.line; replies = s.replies; box = s.outbox } };
+    ghost view = { λ s. record { places = s.places; profile = s.profile; world = s.machine; held = s.held.items; line = s.line; replies = s.replies; box = s.outbox } };
 
     ghost invariant = { λ s. (0 < s.places) × (s.places ≤ 65536) × (s.replies < s.line) };
 }
@@ -60,6 +62,7 @@ impl<I: Ledger, N: Ledger, M: Ledger, B: Ledger> Player<I, N, M, B> {
         Player {
             alloc,
             places,
+            profile: Profile::Untold,
             machine: Machine::new(blanks),
             held: ArrayVec::new(),
             line: 1,
@@ -83,7 +86,7 @@ impl<I: Ledger, N: Ledger, M: Ledger, B: Ledger> Player<I, N, M, B> {
         ensures held { OnOk result (self.new.held ≡ []) }
     {
         let line = self.line;
-        match read_line(text) {
+        match read_line(self.profile, text) {
             Ok(None) => {
                 self.line = line + 1;
                 Ok(())
@@ -101,16 +104,17 @@ impl<I: Ledger, N: Ledger, M: Ledger, B: Ledger> Player<I, N, M, B> {
         requires begins { self.old.held ≡ [] }
         requires room { self.old.line + 1 < 2 ^ 64 }
         ensures ok { OnOk result ((places : ℕ) (text past : List ℕ) (first : Option (List ℕ))
-            → line_of text ≡ Ok (Some command) → newlines text ≡ 0 → HasRead places self.old past first (W.contents writer.old)
+            → line_of self.old.profile text ≡ Ok (Some command) → newlines text ≡ 0 → HasRead places self.old past first (W.contents writer.old)
             → HasRead places self.new (past ++ (text ++ 10 ∷ [])) first (W.contents writer.new)) }
         ensures err { IfErr result (λ error. (places : ℕ) (text past : List ℕ) (first : Option (List ℕ))
-            → line_of text ≡ Ok (Some command) → newlines text ≡ 0 → HasRead places self.old past first (W.contents writer.old)
+            → line_of self.old.profile text ≡ Ok (Some command) → newlines text ≡ 0 → HasRead places self.old past first (W.contents writer.old)
             → HasEnded places self.new (past ++ (text ++ 10 ∷ [])) error first (W.contents writer.new)) }
         ensures stuck { IfErr result (λ error. error.fault ≡ Fault.Write → IsTrue (W.stuck writer.new)) }
         ensures line { OnOk result (self.new.line ≡ self.old.line + 1) }
         ensures held { OnOk result (self.new.held ≡ []) }
     {
         let line = self.line;
+        let profile = self.profile.behind(&command);
         let Ok(reply) = self.machine.answer(self.alloc, self.places, command) else {
             return Err(RunError {
                 fault: Fault::Memory,
@@ -123,6 +127,7 @@ impl<I: Ledger, N: Ledger, M: Ledger, B: Ledger> Player<I, N, M, B> {
                 line,
             });
         }
+        self.profile = profile;
         self.replies += 1;
         self.line = line + 1;
         Ok(())
@@ -305,13 +310,6 @@ fn first_line(bytes: &[u8]) -> Option<(&[u8], &[u8])>
     ensures line { IfSome result (λ parts. newlines parts.0.now ≡ 0) }
     ensures parts { IfSome result (λ parts. bytes.now ≡ parts.0.now ++ 10 ∷ parts.1.now) }
 {
-    let end = newline_in(bytes)?;
+    let end = memchr(b'\n', bytes)?;
     Some((&bytes[..end], &bytes[end + 1..]))
-}
-
-/// The place of the first newline.
-fn newline_in(bytes: &[u8]) -> Option<usize>
-    ensures { result ≡ position (λ byte. nat_eq byte 10) bytes.now }
-{
-    bytes.iter().position(|byte| *byte == b'\n')
 }

@@ -83,6 +83,58 @@ fn refuses_what_a_hand_lacks(rt: HostRuntime) -> Result<(), Fail> {
 }
 
 #[test]
+fn makes_series_of_calls(rt: HostRuntime) -> Result<(), Fail> {
+    let rows: [(&[u8], &[u8]); 5] = [
+        (
+            b"zone 0 1\nfill 0 0 4094 5\nthin 0 0 4094 3 0\n",
+            b"ok\ndone=2 refused=1\ndone=1 refused=3\n",
+        ),
+        (
+            b"zone 0 1\nfill 0 7 0 512\nfill 0 6 0 1\nthin 0 7 0 256 2\ninfo 0\n",
+            b"ok\ndone=512\ndone=0 refused=6\ndone=256\nfree=256 pages=256 moving=0 huge=0 whole=0\n",
+        ),
+        (
+            b"zone 0 1\nfill 0 0 18446744073709551615 2\nfill 0 0 0 0\nthin 0 0 9999 0 1\n",
+            b"ok\ndone=0 refused=1\ndone=0\ndone=0\n",
+        ),
+        (
+            b"zone 0 1\nfill 0 0 4 2\nthin 0 0 4 2 18446744073709551615\nlook 0 0 5\n",
+            b"ok\ndone=2\ndone=1 refused=1\nframe=1 dirty=0 unmovable=0 pins=0 maps=1\n",
+        ),
+        (
+            b"fill 0 8 0 1\nfill 0 0 0 1\nzone 0 1\nfill 1 0 0 1\nmap 0 0 2\nfill 0 0 0 4\nthin 0 0 1 2 1\n",
+            b"refused 1\nrefused 43\nok\nrefused 43\nok\ndone=2 refused=5\ndone=2\n",
+        ),
+    ];
+    for (script, expected) in rows {
+        let (written, ended) = played(&rt, script)?;
+        assert_eq!(rt; written.as_slice(), expected);
+        assert!(rt; ended.is_ok());
+    }
+    Ok(())
+}
+
+#[test]
+fn is_read_by_profile_2(rt: HostRuntime) -> Result<(), Fail> {
+    let rows: [(&[u8], &[u8]); 2] = [
+        (
+            b"# blocks\n\nprofile 2\nzone 0 2\nhuge 0 3\nhuge 0\ngive 0 0 4\ngive 0 0 3\ninfo 0\n",
+            b"ok\nok\nframe=0 order=3\nblock=1\nrefused 12\nok\nfree=512 pages=0 moving=0 huge=1 whole=1 held=512\n",
+        ),
+        (
+            b"profile 2\nzone 0 1\nmark 0 0\nmap 0 0 0\nscan 0\nmark 0 0\nunmark 0 0\nscan 0\nunmark 0 1\n",
+            b"ok\nok\nok\nok\nmet\nrefused 17\nok\nserial=0\nrefused 1\n",
+        ),
+    ];
+    for (script, expected) in rows {
+        let (written, ended) = played(&rt, script)?;
+        assert_eq!(rt; written.as_slice(), expected);
+        assert!(rt; ended.is_ok());
+    }
+    Ok(())
+}
+
+#[test]
 fn refuses_in_order(rt: HostRuntime) -> Result<(), Fail> {
     let script =
         b"info 0\nzone 0 9\nzone 0 1\nzone 0 9\nzone 0 1\ninfo 4\ninfo 1\nmapat 0 0 0 600\nmap 0 0 0\nmap 0 0 0\nload 0 0 1 0\n";
@@ -96,7 +148,10 @@ fn refuses_in_order(rt: HostRuntime) -> Result<(), Fail> {
 
 #[test]
 fn stops_at_a_fault(rt: HostRuntime) -> Result<(), Fail> {
-    let rows: [(&[u8], Fault, u64); 3] = [
+    let rows: [(&[u8], Fault, u64); 6] = [
+        (b"zone 0 1\nprofile 2\n", Fault::Syntax, 2),
+        (b"#\nprofile 02\n", Fault::Syntax, 2),
+        (b"profile 2\n\nprofile 2\n", Fault::Syntax, 3),
         (b"zone 0 1\nfill\ninfo 0\n", Fault::Syntax, 2),
         (b"zone 0 1\n\n# cut", Fault::Syntax, 3),
         (&[b'0'; 201], Fault::LongLine, 1),

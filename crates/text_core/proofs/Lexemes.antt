@@ -1,5 +1,5 @@
 -- The lexemes of a text.
-use Rattle.std.proofs.Common.{◌≡◌, ℕ, ◌+◌, ◌<◌, ◌≤◌, Bool, true, false, not, List, [], ◌∷◌, length, take, drop, get_or, refl, sym, ap, ◌∙◌, arith, Some, None, add-one, drop-cons, cond}
+use Rattle.std.proofs.Common.{◌≡◌, ℕ, suc, ◌+◌, ◌<◌, ◌≤◌, Bool, true, false, not, List, [], ◌∷◌, length, take, drop, get_or, refl, sym, ap, ◌∙◌, arith, Some, None, add-one, drop-cons, cond}
 use Rattle.std.specs.Prelude.{nat_eq, nat_lt, filter, codes, position, unwrap_or}
 use Rattle.std.specs.List.{slice_split, onto_first, starts_with, position_or_len, after_first}
 use Rattle.std.proofs.lemmas.List.{drop_all, take_all}
@@ -7,7 +7,7 @@ use Rattle.std.proofs.lemmas.List.Sums.{prefix_len-le-length, passes_at_first, f
 use Rattle.std.proofs.lemmas.List.Folds.{length-prefix_len}
 use Rattle.std.proofs.lemmas.List.Splits.{slice_split_first, slice_split_none}
 use Rattle.std.proofs.lemmas.Bool.Decides.{nat_tests}
-use Rattle.text_core.specs.Token.{lexemes}
+use Rattle.text_core.specs.Token.{lexemes, first_word, behind_word}
 
 abbrev pub is_space : ℕ → Bool
 is_space byte = nat_eq byte 32
@@ -38,7 +38,7 @@ lexeme_len_pos x xs e =
     let is : lexeme_len (x ∷ xs) ≡ 1 + lexeme_len xs = ap (λ (t : Bool). cond (not t) (1 + lexeme_len xs) 0) e in
     omega arith
 
-lexeme_then_space : (xs : List ℕ) → 0 < lexeme_len xs → lexeme_len xs < length xs → lexemes xs ≡ take (lexeme_len xs) xs ∷ lexemes (drop (lexeme_len xs) xs)
+lexeme_then_space : (xs : List ℕ) → 0 < lexeme_len xs → lexeme_len xs < length xs → lexemes xs ≡ first_word xs ∷ lexemes (behind_word xs)
 lexeme_then_space xs some h =
     let n = lexeme_len xs in
     let len : length (take n xs) ≡ n = length-prefix_len (λ b. not (is_space b)) xs in
@@ -47,20 +47,44 @@ lexeme_then_space xs some h =
     ap lexemes ahead ∙ lexemes_space (get_or xs n 0) (drop (n + 1) xs) (passes_at_first is_space xs 0 h) in
     ap (filter is_lexeme) (slice_split_first is_space xs 0 h) ∙ first_kept (take n xs) (slice_split is_space (after_first is_space xs)) (omega arith) ∙ ap (λ (r : List (List ℕ)). take n xs ∷ r) (sym behind)
 
-lexeme_to_end : (xs : List ℕ) → 0 < length xs → length xs ≤ lexeme_len xs → lexemes xs ≡ take (lexeme_len xs) xs ∷ lexemes (drop (lexeme_len xs) xs)
+lexeme_to_end : (xs : List ℕ) → 0 < length xs → length xs ≤ lexeme_len xs → lexemes xs ≡ first_word xs ∷ lexemes (behind_word xs)
 lexeme_to_end xs some h =
     ap (filter is_lexeme) (slice_split_none is_space xs (λ k d below. fails_before_first is_space xs k d (omega arith)))
     ∙ first_kept xs [] some
     ∙ ap (λ (r : List ℕ). r ∷ []) (sym (take_all (lexeme_len xs) xs h))
     ∙ ap (λ (r : List ℕ). take (lexeme_len xs) xs ∷ lexemes r) (sym (drop_all (lexeme_len xs) xs h))
 
+apart : (a : ℕ) (ys : List ℕ) → starts_with nat_eq (a ∷ ys) (codes " ") ≡ false → is_space a ≡ false
+apart a ys e = grind (arith, nat_tests)
+
 -- where a text begins with a lexeme, that is the first
-pub lexemes_first : (xs : List ℕ) → 0 < length xs → starts_with nat_eq xs (codes " ") ≡ false → lexemes xs ≡ take (lexeme_len xs) xs ∷ lexemes (drop (lexeme_len xs) xs)
+pub lexemes_first : (xs : List ℕ) → 0 < length xs → starts_with nat_eq xs (codes " ") ≡ false → lexemes xs ≡ first_word xs ∷ lexemes (behind_word xs)
 lexemes_first [] h e = absurd (omega arith)
 lexemes_first (x ∷ xs) h e = at_test (nat_lt (lexeme_len (x ∷ xs)) (length (x ∷ xs))) refl where
-  apart : (a : ℕ) (ys : List ℕ) → starts_with nat_eq (a ∷ ys) (codes " ") ≡ false → is_space a ≡ false
-  apart a ys e = grind (arith, nat_tests)
-
-  at_test : (t : Bool) → nat_lt (lexeme_len (x ∷ xs)) (length (x ∷ xs)) ≡ t → lexemes (x ∷ xs) ≡ take (lexeme_len (x ∷ xs)) (x ∷ xs) ∷ lexemes (drop (lexeme_len (x ∷ xs)) (x ∷ xs))
+  at_test : (t : Bool) → nat_lt (lexeme_len (x ∷ xs)) (length (x ∷ xs)) ≡ t → lexemes (x ∷ xs) ≡ first_word (x ∷ xs) ∷ lexemes (behind_word (x ∷ xs))
   at_test true below = lexeme_then_space (x ∷ xs) (lexeme_len_pos x xs (apart x xs e)) (let h : lexeme_len (x ∷ xs) < length (x ∷ xs) = grind (arith, nat_tests) in h)
   at_test false below = lexeme_to_end (x ∷ xs) h (let h : length (x ∷ xs) ≤ lexeme_len (x ∷ xs) = grind (arith, nat_tests) in h)
+
+one_more : (n : ℕ) → 1 + n ≡ suc n
+one_more n = omega arith
+
+-- a byte before the first space
+pub first_word_step : (b : ℕ) (xs : List ℕ) → is_space b ≡ false → first_word (b ∷ xs) ≡ b ∷ first_word xs
+first_word_step b xs e =
+    ap (λ (t : Bool). take (cond (not t) (1 + lexeme_len xs) 0) (b ∷ xs)) e ∙ ap (λ (n : ℕ). take n (b ∷ xs)) (one_more (lexeme_len xs))
+
+pub behind_word_step : (b : ℕ) (xs : List ℕ) → is_space b ≡ false → behind_word (b ∷ xs) ≡ behind_word xs
+behind_word_step b xs e =
+    ap (λ (t : Bool). drop (cond (not t) (1 + lexeme_len xs) 0) (b ∷ xs)) e ∙ ap (λ (n : ℕ). drop n (b ∷ xs)) (one_more (lexeme_len xs))
+
+space_first : (b : ℕ) (xs : List ℕ) → starts_with nat_eq (b ∷ xs) (codes " ") ≡ true → is_space b ≡ true
+space_first b xs e = grind (arith, nat_tests)
+
+-- where a space or the end comes first
+pub first_word_none : (xs : List ℕ) → starts_with nat_eq xs (codes " ") ≡ true → first_word xs ≡ []
+first_word_none [] e = refl
+first_word_none (b ∷ xs) e = ap (λ (t : Bool). take (cond (not t) (1 + lexeme_len xs) 0) (b ∷ xs)) (space_first b xs e)
+
+pub behind_word_none : (xs : List ℕ) → starts_with nat_eq xs (codes " ") ≡ true → behind_word xs ≡ xs
+behind_word_none [] e = refl
+behind_word_none (b ∷ xs) e = ap (λ (t : Bool). drop (cond (not t) (1 + lexeme_len xs) 0) (b ∷ xs)) (space_first b xs e)

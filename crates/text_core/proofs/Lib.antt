@@ -2,3 +2,4 @@ pub mod Numbers
 pub mod Lexemes
 pub mod Newlines
 pub mod LongLines
+pub mod Tokens

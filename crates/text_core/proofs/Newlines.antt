@@ -44,6 +44,7 @@ pub text_of-some : (r : Reply) → 0 < length (text_of r)
 text_of-some reply.Done = omega arith
 text_of-some (reply.Value x) = omega arith
 text_of-some (reply.Info i) = omega arith
+text_of-some (reply.InfoWithHeld i) = omega arith
 text_of-some (reply.Serial n) = omega arith
 text_of-some reply.Met = omega arith
 text_of-some (reply.Moved n) = omega arith
@@ -52,4 +53,7 @@ text_of-some (reply.Shut n) = omega arith
 text_of-some (reply.Looked (At frame flags pins maps)) = omega arith
 text_of-some (reply.Looked (Moving serial pins maps)) = omega arith
 text_of-some (reply.Block b) = omega arith
+text_of-some (reply.HandedOut f k) = omega arith
+text_of-some (reply.AllDone m) = omega arith
+text_of-some (reply.DoneUntil m k) = omega arith
 text_of-some (reply.Refused k) = omega arith

@@ -1,12 +1,20 @@
 -- The commands of the language: the row of each says what stands in its line, and what that makes.
 use Rattle.std.specs.Prelude.{ℕ, Bool, true, false, ◌&&◌, List, [], ◌∷◌, nat_lt, nat_le, Option, Some, None, option_map, if◌then◌else◌}
+use Rattle.std.specs.Option.{option_or}
 use Rattle.frame_core.specs.declared.place.Address.{Address}
 use Rattle.text_core.specs.declared.token.Token.{Token}
-use Rattle.text_core.specs.declared.token.Token.TheVariants.{Number, Zone, Map, MapAt, Store, Load, Info, Unmovable, Scan, Take, Copy, Finish, Shut, Look, Share, Unmap, Pin, Unpin, Huge, Give}
+use Rattle.text_core.specs.declared.token.Token.TheVariants.{Number, Zone, Map, MapAt, Store, Load, Info, Unmovable, Scan, Take, Copy, Finish, Shut, Look, Share, Unmap, Pin, Unpin, Huge, Give, Fill, Thin, Mark, Unmark}
 use Rattle.text_core.specs.declared.command.Call.{Call}
 use Rattle.text_core.specs.declared.command.Call.TheVariants as call
+use Rattle.text_core.specs.declared.command.Calls.{Calls}
+use Rattle.text_core.specs.declared.command.Calls.TheVariants.{One, Series as SeriesOf}
+use Rattle.text_core.specs.declared.command.Series.{Series}
+use Rattle.text_core.specs.declared.command.Repeated.{Repeated}
+use Rattle.text_core.specs.declared.command.Repeated.TheVariants as repeated
 use Rattle.text_core.specs.declared.command.Command.{Command}
 use Rattle.text_core.specs.declared.command.Command.TheVariants.{Open, On, OutOfRange}
+use Rattle.text_core.specs.declared.profile.Profile.{Profile}
+use Rattle.text_core.specs.declared.profile.Profile.TheVariants.{Two}
 
 -- a number below a bound
 abbrev pub below : ℕ → ℕ → Option ℕ
@@ -36,9 +44,21 @@ blocks_of n = up_to 8 n
 abbrev pub pageblock_of : ℕ → Option ℕ
 pageblock_of n = below 8 n
 
+-- the order of a block, 3 to 9
+abbrev pub order_of : ℕ → Option ℕ
+order_of n = if nat_le 3 n && nat_le n 9 then Some n else None
+
 -- the number of a hand
 abbrev pub hand_of : ℕ → Option ℕ
 hand_of n = up_to 4 n
+
+-- the number of a space
+abbrev pub space_of : ℕ → Option ℕ
+space_of n = below 8 n
+
+-- how many pages a series of calls is for, 0 to 4096
+abbrev pub page_count_of : ℕ → Option ℕ
+page_count_of n = below 4097 n
 
 -- virtual page v of space s
 abbrev pub address_of : ℕ → ℕ → Option Address
@@ -69,15 +89,33 @@ abbrev pub share_call : Option Address → Option Address → Option Call
 share_call (Some a) (Some alias) = Some (call.Share a alias)
 share_call _ _ = None
 
+-- the giving back of a block of an order, if its first frame and its order are there
+abbrev pub give_order_call : Option ℕ → Option ℕ → Option Call
+give_order_call (Some first) (Some order) = Some (call.GiveOrder first order)
+give_order_call _ _ = None
+
+-- a series of calls, if its space and its number of pages are there; its first page and its step are any numbers
+abbrev pub series_of : Repeated → Option ℕ → ℕ → Option ℕ → ℕ → Option Series
+series_of c (Some s) first (Some n) step = Some (record { call = c; space = s; first = first; count = n; step = step })
+series_of c _ first _ step = None
+
 -- the opening of a zone, or else an argument is out of its range
 abbrev pub opening : Option ℕ → Option ℕ → Command
 opening (Some z) (Some b) = Open z b
 opening _ _ = OutOfRange
 
--- a call on a zone, or else an argument is out of its range
+-- calls on a zone, or else an argument is out of its range
+abbrev pub calls_on : Option ℕ → Option Calls → Command
+calls_on (Some z) (Some c) = On z c
+calls_on _ _ = OutOfRange
+
+-- one call on a zone
 abbrev pub call_on : Option ℕ → Option Call → Command
-call_on (Some z) (Some c) = On z c
-call_on _ _ = OutOfRange
+call_on z c = calls_on z (option_map One c)
+
+-- a series of calls on a zone
+abbrev pub series_on : Option ℕ → Option Series → Command
+series_on z s = calls_on z (option_map SeriesOf s)
 
 -- what a keyword, a zone and the arguments behind it make, if there is such a row
 abbrev pub row_of : Token → Option ℕ → List Token → Option Command
@@ -104,9 +142,27 @@ row_of Pin z (Number s ∷ Number v ∷ []) = Some (call_on z (option_map call.P
 row_of Unpin z (Number s ∷ Number v ∷ []) = Some (call_on z (option_map call.Unpin (address_of s v)))
 row_of Huge z [] = Some (call_on z (Some call.Huge))
 row_of Give z (Number b ∷ []) = Some (call_on z (option_map call.Give (pageblock_of b)))
+row_of Fill z (Number s ∷ Number v ∷ Number n ∷ []) =
+    Some (series_on z (series_of repeated.Map (space_of s) v (page_count_of n) 1))
+row_of Thin z (Number s ∷ Number v ∷ Number n ∷ Number step ∷ []) =
+    Some (series_on z (series_of repeated.Unmap (space_of s) v (page_count_of n) step))
 row_of _ z _ = None
 
+-- the rows that profile 2 has besides
+abbrev pub row_of_profile_2 : Token → Option ℕ → List Token → Option Command
+row_of_profile_2 Info z [] = Some (call_on z (Some call.InfoWithHeld))
+row_of_profile_2 Huge z (Number k ∷ []) = Some (call_on z (option_map call.TakeOrder (order_of k)))
+row_of_profile_2 Give z (Number f ∷ Number k ∷ []) = Some (call_on z (give_order_call (frame_of f) (order_of k)))
+row_of_profile_2 Mark z (Number b ∷ []) = Some (call_on z (option_map call.Mark (pageblock_of b)))
+row_of_profile_2 Unmark z (Number b ∷ []) = Some (call_on z (option_map call.Unmark (pageblock_of b)))
+row_of_profile_2 _ z _ = None
+
+-- in profile 2 its own rows come first
+abbrev pub row_in : Profile → Token → Option ℕ → List Token → Option Command
+row_in Two keyword z arguments = option_or (row_of_profile_2 keyword z arguments) (row_of keyword z arguments)
+row_in _ keyword z arguments = row_of keyword z arguments
+
 -- the command that tokens are, if they are one
-abbrev pub command_of : List Token → Option Command
-command_of (keyword ∷ Number z ∷ arguments) = row_of keyword (zone_of z) arguments
-command_of _ = None
+abbrev pub command_of : Profile → List Token → Option Command
+command_of profile (keyword ∷ Number z ∷ arguments) = row_in profile keyword (zone_of z) arguments
+command_of profile _ = None

@@ -1,4 +1,5 @@
 pub mod Token
+pub mod Profile
 pub mod Grammar
 pub mod Line
 pub mod ErrorNumber

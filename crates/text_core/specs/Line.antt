@@ -2,14 +2,23 @@
 use Rattle.std.specs.Prelude.{ℕ, List, [], ◌∷◌, map, Bool, length, nat_eq, nat_lt, codes, Option, Some, None, Result, Ok, Err, if◌then◌else◌}
 use Rattle.std.specs.List.{starts_with}
 use Rattle.text_core.specs.declared.command.Command.{Command}
+use Rattle.text_core.specs.declared.command.Command.TheVariants.{Profile2}
 use Rattle.text_core.specs.declared.error.ScriptError.{ScriptError}
 use Rattle.text_core.specs.declared.error.ScriptError.TheVariants.{Syntax, LongLine}
+use Rattle.text_core.specs.declared.profile.Profile.{Profile}
+use Rattle.text_core.specs.declared.profile.Profile.TheVariants.{Untold}
 use Rattle.text_core.specs.Grammar.{command_of}
+use Rattle.text_core.specs.Profile.{is_profile_2}
 use Rattle.text_core.specs.Token.{lexemes, token_of}
 
 -- a comment begins with `#`
 abbrev pub is_comment : List ℕ → Bool
 is_comment lexeme = starts_with nat_eq lexeme (codes "#")
+
+-- the command that lexemes are, if they are one; they can be `profile 2` where no line told the profile yet
+abbrev pub command_in : Profile → List (List ℕ) → Option Command
+command_in Untold lexemes = if is_profile_2 lexemes then Some Profile2 else command_of Untold (map token_of lexemes)
+command_in profile lexemes = command_of profile (map token_of lexemes)
 
 -- a command, or else a fault
 abbrev pub command_or_fault : Option Command → Result (Option Command) ScriptError
@@ -17,10 +26,10 @@ command_or_fault None = Err Syntax
 command_or_fault (Some c) = Ok (Some c)
 
 -- what the lexemes of a line say: nothing where there are none and in a comment
-abbrev pub lexemes_say : List (List ℕ) → Result (Option Command) ScriptError
-lexemes_say [] = Ok None
-lexemes_say (first ∷ more) = if is_comment first then Ok None else command_or_fault (command_of (map token_of (first ∷ more)))
+abbrev pub lexemes_say : Profile → List (List ℕ) → Result (Option Command) ScriptError
+lexemes_say profile [] = Ok None
+lexemes_say profile (first ∷ more) = if is_comment first then Ok None else command_or_fault (command_in profile (first ∷ more))
 
 -- what a line says; more than 200 bytes are a fault whatever they are
-abbrev pub line_of : List ℕ → Result (Option Command) ScriptError
-line_of line = if nat_lt 200 (length line) then Err LongLine else lexemes_say (lexemes line)
+abbrev pub line_of : Profile → List ℕ → Result (Option Command) ScriptError
+line_of profile line = if nat_lt 200 (length line) then Err LongLine else lexemes_say profile (lexemes line)

@@ -13,10 +13,10 @@ use Rattle.text_core.specs.declared.reply.Reply.TheVariants as reply
 abbrev pub newlines : List ℕ → ℕ
 newlines bytes = count_by (λ byte. nat_eq byte 10) bytes
 
--- the counts of a zone
-abbrev pub info_text : Info → List ℕ
-info_text i = codes "free=" ++ decimal i.free ++ codes " pages=" ++ decimal i.pages ++ codes " moving=" ++ decimal i.moving
-    ++ codes " huge=" ++ decimal i.huge ++ codes " whole=" ++ decimal i.whole ++ codes "\n"
+-- the counts of a zone, without a newline
+abbrev pub counts_text : Info → List ℕ
+counts_text i = codes "free=" ++ decimal i.free ++ codes " pages=" ++ decimal i.pages ++ codes " moving=" ++ decimal i.moving
+    ++ codes " huge=" ++ decimal i.huge ++ codes " whole=" ++ decimal i.whole
 
 -- whether the flags of a page say that it was stored to
 abbrev pub is_dirty : PageFlags → Bool
@@ -41,7 +41,8 @@ look_text (Moving serial pins maps) = codes "moving serial=" ++ decimal serial +
 abbrev pub text_of : Reply → List ℕ
 text_of reply.Done = codes "ok\n"
 text_of (reply.Value x) = codes "value=" ++ decimal x ++ codes "\n"
-text_of (reply.Info i) = info_text i
+text_of (reply.Info i) = counts_text i ++ codes "\n"
+text_of (reply.InfoWithHeld i) = counts_text i ++ codes " held=" ++ decimal i.held ++ codes "\n"
 text_of (reply.Serial n) = codes "serial=" ++ decimal n ++ codes "\n"
 text_of reply.Met = codes "met\n"
 text_of (reply.Moved n) = codes "moved serial=" ++ decimal n ++ codes "\n"
@@ -49,6 +50,9 @@ text_of (reply.PutBack n) = codes "back serial=" ++ decimal n ++ codes " cause=1
 text_of (reply.Shut n) = codes "back=" ++ decimal n ++ codes "\n"
 text_of (reply.Looked l) = look_text l ++ codes "\n"
 text_of (reply.Block b) = codes "block=" ++ decimal b ++ codes "\n"
+text_of (reply.HandedOut f k) = codes "frame=" ++ decimal f ++ codes " order=" ++ decimal k ++ codes "\n"
+text_of (reply.AllDone m) = codes "done=" ++ decimal m ++ codes "\n"
+text_of (reply.DoneUntil m k) = codes "done=" ++ decimal m ++ codes " refused=" ++ decimal k ++ codes "\n"
 text_of (reply.Refused k) = codes "refused " ++ decimal k ++ codes "\n"
 
 -- one newline, and it stands at the end

@@ -1,14 +1,22 @@
 -- The tokens of a line.
-use Rattle.std.specs.Prelude.{ℕ, ◌^◌, Bool, ◌&&◌, List, length, filter, codes, bytes_eq, nat_eq, nat_lt, nat_le, Option, Some, None, if◌then◌else◌}
-use Rattle.std.specs.List.{slice_split}
+use Rattle.std.specs.Prelude.{ℕ, ◌^◌, Bool, ◌&&◌, List, length, take, drop, filter, codes, bytes_eq, nat_eq, nat_lt, nat_le, Option, Some, None, if◌then◌else◌}
+use Rattle.std.specs.List.{position_or_len, slice_split}
 use Rattle.std.specs.Str.{all_ascii_digits}
 use Rattle.std.specs.Str.Parse.{digits_value}
 use Rattle.text_core.specs.declared.token.Token.{Token}
-use Rattle.text_core.specs.declared.token.Token.TheVariants.{Number, Zone, Map, MapAt, Store, Load, Info, Unmovable, Scan, Take, Copy, Finish, Shut, Look, Share, Unmap, Pin, Unpin, Huge, Give, Other}
+use Rattle.text_core.specs.declared.token.Token.TheVariants.{Number, Zone, Map, MapAt, Store, Load, Info, Unmovable, Scan, Take, Copy, Finish, Shut, Look, Share, Unmap, Pin, Unpin, Huge, Give, Fill, Thin, Mark, Unmark, Other}
 
 -- a lexeme is what stands between spaces, and not empty
 abbrev pub lexemes : List ℕ → List (List ℕ)
 lexemes text = filter (λ part. nat_lt 0 (length part)) (slice_split (λ byte. nat_eq byte 32) text)
+
+-- what stands before the first space of a text
+abbrev pub first_word : List ℕ → List ℕ
+first_word text = take (position_or_len (λ byte. nat_eq byte 32) text) text
+
+-- the first space of a text, and what stands behind it
+abbrev pub behind_word : List ℕ → List ℕ
+behind_word text = drop (position_or_len (λ byte. nat_eq byte 32) text) text
 
 -- a number has 1 to 20 digits and fits 64 bits
 abbrev pub is_number : List ℕ → Bool
@@ -41,6 +49,10 @@ keyword_of lexeme =
     else if bytes_eq lexeme (codes "unpin") then Unpin
     else if bytes_eq lexeme (codes "huge") then Huge
     else if bytes_eq lexeme (codes "give") then Give
+    else if bytes_eq lexeme (codes "fill") then Fill
+    else if bytes_eq lexeme (codes "thin") then Thin
+    else if bytes_eq lexeme (codes "mark") then Mark
+    else if bytes_eq lexeme (codes "unmark") then Unmark
     else Other
 
 -- a number, or else a keyword or nothing of the language

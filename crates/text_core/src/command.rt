@@ -1,15 +1,44 @@
 use crate::blocks::BlockCount;
-use frame_core::{Address, BlockNo, FrameNo, HandNo, WordNo, ZoneNo};
+use crate::pages::PageCount;
+use frame_core::{Address, BlockNo, FrameNo, HandNo, Order, SpaceNo, WordNo, ZoneNo};
 
 /// A command.
 #[derive(Clone, Copy, Debug, PartialEq, Eq)]
 pub enum Command {
     /// Opens a zone with so many pageblocks.
     Open { zone: ZoneNo, blocks: BlockCount },
-    /// A call on the zone with this number.
-    On { zone: ZoneNo, call: Call },
+    /// Calls on the zone with this number.
+    On { zone: ZoneNo, calls: Calls },
+    /// The script is read by profile 2.
+    Profile2,
     /// An argument is out of its range.
     OutOfRange,
+}
+
+/// The calls of one command.
+#[derive(Clone, Copy, Debug, PartialEq, Eq)]
+pub enum Calls {
+    One(Call),
+    Series(Series),
+}
+
+/// The same call at so many pages of a space: the first, and each `step` behind the one before. The first number and the
+/// step are any, so that a page may lie outside of the space.
+#[derive(Clone, Copy, Debug, PartialEq, Eq)]
+pub struct Series {
+    pub call: Repeated,
+    pub space: SpaceNo,
+    pub first: u64,
+    pub count: PageCount,
+    pub step: u64,
+}
+
+/// A call that a series repeats.
+#[derive(Clone, Copy, Debug, PartialEq, Eq)]
+pub enum Repeated {
+    /// Maps a page that can be moved.
+    Map,
+    Unmap,
 }
 
 /// A call on a zone.
@@ -49,4 +78,13 @@ pub enum Call {
     Unpin(Address),
     Huge,
     Give(BlockNo),
+    /// As `Info`, with the frames that are handed out.
+    InfoWithHeld,
+    TakeOrder(Order),
+    GiveOrder {
+        first: FrameNo,
+        order: Order,
+    },
+    Mark(BlockNo),
+    Unmark(BlockNo),
 }

@@ -1,19 +1,22 @@
 //! The rows of the language, as `specs/Grammar.antt` has them. That an argument is in its range is tested here, by its type.
 
 ghost use Rattle.std.specs.Prelude.{◌≡◌};
-ghost use Rattle.text_core.specs.Grammar.{address_of, blocks_of, command_of, frame_of, hand_of, load_call, map_at_call, map_call, call_on, opening, pageblock_of, row_of, share_call, store_call, word_of, zone_of};
+ghost use Rattle.text_core.specs.Grammar.{address_of, blocks_of, command_of, frame_of, give_order_call, order_of, row_in, row_of_profile_2, hand_of, load_call, map_at_call, map_call, call_on, calls_on, opening, page_count_of, pageblock_of, row_of, series_of, series_on, share_call, space_of, store_call, word_of, zone_of};
 
 use crate::blocks::BlockCount;
-use crate::command::{Call, Command};
+use crate::command::{Call, Calls, Command, Repeated, Series};
+use crate::pages::PageCount;
+use crate::profile::Profile;
 use crate::token::Token;
-use frame_core::{Address, BlockNo, FrameNo, HandNo, SpaceNo, VPage, WordNo, ZoneNo};
+use frame_core::{Address, BlockNo, FrameNo, HandNo, Order, SpaceNo, VPage, WordNo, ZoneNo};
 
 /// The command that these tokens are, if they are one.
-pub(crate) fn command(tokens: &[Token]) -> Option<Command>
-    ensures { result ≡ command_of tokens.now }
+pub(crate) fn command(profile: Profile, tokens: &[Token]) -> Option<Command>
+    ensures { result ≡ command_of profile tokens.now }
 {
     match *tokens {
-        [keyword, Token::Number(number), ref arguments @ ..] => row(
+        [keyword, Token::Number(number), ref arguments @ ..] => row_in(
+            profile,
             keyword,
             zone(number),
             arguments,
@@ -22,13 +25,46 @@ pub(crate) fn command(tokens: &[Token]) -> Option<Command>
     }
 }
 
-/// What a keyword, a zone and the arguments behind it make, if there is such a row.
+/// What a keyword, a zone and the arguments behind it make, if there is such a row in a profile.
+fn row_in(
+    profile: Profile,
+    keyword: Token,
+    zone: Option<ZoneNo>,
+    arguments: &[Token],
+) -> Option<Command>
+    ensures { result ≡ row_in profile keyword zone arguments.now }
+{
+    if !matches!(profile, Profile::Two) {
+        return row(keyword, zone, arguments);
+    }
+    match row_of_profile_2(keyword, zone, arguments) {
+        None => row(keyword, zone, arguments),
+        own => own,
+    }
+}
+
+/// The same by the rows that profile 2 has besides.
+fn row_of_profile_2(keyword: Token, zone: Option<ZoneNo>, arguments: &[Token]) -> Option<Command>
+    ensures { result ≡ row_of_profile_2 keyword zone arguments.now }
+{
+    use Token::{Give, Huge, Info, Mark, Number, Unmark};
+    match (keyword, arguments) {
+        (Info, []) => Some(on(zone, Some(Call::InfoWithHeld))),
+        (Huge, &[Number(k)]) => Some(on(zone, order(k).map(Call::TakeOrder))),
+        (Give, &[Number(f), Number(k)]) => Some(on(zone, give_order(frame(f), order(k)))),
+        (Mark, &[Number(b)]) => Some(on(zone, pageblock(b).map(Call::Mark))),
+        (Unmark, &[Number(b)]) => Some(on(zone, pageblock(b).map(Call::Unmark))),
+        _ => None,
+    }
+}
+
+/// The same by the rows of both profiles.
 fn row(keyword: Token, zone: Option<ZoneNo>, arguments: &[Token]) -> Option<Command>
     ensures { result ≡ row_of keyword zone arguments.now }
 {
     use Token::{
-        Copy, Finish, Give, Huge, Info, Load, Look, Map, MapAt, Number, Pin, Scan, Share, Shut,
-        Store, Take, Unmap, Unmovable, Unpin, Zone,
+        Copy, Fill, Finish, Give, Huge, Info, Load, Look, Map, MapAt, Number, Pin, Scan, Share,
+        Shut, Store, Take, Thin, Unmap, Unmovable, Unpin, Zone,
     };
     match (keyword, arguments) {
         (Zone, &[Number(b)]) => Some(open(zone, blocks(b))),
@@ -61,6 +97,15 @@ fn row(keyword: Token, zone: Option<ZoneNo>, arguments: &[Token]) -> Option<Comm
         (Unpin, &[Number(s), Number(v)]) => Some(on(zone, address(s, v).map(Call::Unpin))),
         (Huge, []) => Some(on(zone, Some(Call::Huge))),
         (Give, &[Number(b)]) => Some(on(zone, pageblock(b).map(Call::Give))),
+        (Fill, &[Number(s), Number(v), Number(n)]) => {
+            Some(series_on(zone, series(Repeated::Map, space(s), v, page_count(n), 1)))
+        }
+        (Thin, &[Number(s), Number(v), Number(n), Number(step)]) => {
+            Some(series_on(
+                zone,
+                series(Repeated::Unmap, space(s), v, page_count(n), step),
+            ))
+        }
         _ => None,
     }
 }
@@ -79,8 +124,21 @@ fn open(zone: Option<ZoneNo>, blocks: Option<BlockCount>) -> Command
 fn on(zone: Option<ZoneNo>, call: Option<Call>) -> Command
     ensures { result ≡ call_on zone call }
 {
-    match (zone, call) {
-        (Some(zone), Some(call)) => Command::On { zone, call },
+    all_on(zone, call.map(Calls::One))
+}
+
+/// A series of calls on a zone, where the zone and each argument that is tested beforehand is in its range.
+fn series_on(zone: Option<ZoneNo>, series: Option<Series>) -> Command
+    ensures { result ≡ series_on zone series }
+{
+    all_on(zone, series.map(Calls::Series))
+}
+
+fn all_on(zone: Option<ZoneNo>, calls: Option<Calls>) -> Command
+    ensures { result ≡ calls_on zone calls }
+{
+    match (zone, calls) {
+        (Some(zone), Some(calls)) => Command::On { zone, calls },
         _ => Command::OutOfRange,
     }
 }
@@ -132,6 +190,33 @@ fn share(address: Option<Address>, alias: Option<Address>) -> Option<Call>
     })
 }
 
+fn give_order(first: Option<FrameNo>, order: Option<Order>) -> Option<Call>
+    ensures { result ≡ give_order_call first order }
+{
+    Some(Call::GiveOrder {
+        first: first?,
+        order: order?,
+    })
+}
+
+fn series(
+    call: Repeated,
+    space: Option<SpaceNo>,
+    first: u64,
+    count: Option<PageCount>,
+    step: u64,
+) -> Option<Series>
+    ensures { result ≡ series_of call space first count step }
+{
+    Some(Series {
+        call,
+        space: space?,
+        first,
+        count: count?,
+        step,
+    })
+}
+
 fn zone(number: u64) -> Option<ZoneNo>
     ensures { result ≡ zone_of number }
 {
@@ -162,10 +247,28 @@ fn pageblock(number: u64) -> Option<BlockNo>
     BlockNo::new(u32::try_from(number).ok()?)
 }
 
+fn order(number: u64) -> Option<Order>
+    ensures { result ≡ order_of number }
+{
+    Order::new(u32::try_from(number).ok()?)
+}
+
 fn hand(number: u64) -> Option<HandNo>
     ensures { result ≡ hand_of number }
 {
     HandNo::new(u32::try_from(number).ok()?)
+}
+
+fn space(number: u64) -> Option<SpaceNo>
+    ensures { result ≡ space_of number }
+{
+    SpaceNo::new(u32::try_from(number).ok()?)
+}
+
+fn page_count(number: u64) -> Option<PageCount>
+    ensures { result ≡ page_count_of number }
+{
+    PageCount::new(u32::try_from(number).ok()?)
 }
 
 fn address(space: u64, vpage: u64) -> Option<Address>

@@ -9,13 +9,17 @@ mod command;
 mod error;
 mod grammar;
 mod line;
+mod pages;
+mod profile;
 mod reply;
 #[cfg(test)]
 mod tests;
 mod token;
 
 pub use blocks::BlockCount;
-pub use command::{Call, Command};
+pub use command::{Call, Calls, Command, Repeated, Series};
 pub use error::ScriptError;
 pub use line::read_line;
+pub use pages::PageCount;
+pub use profile::Profile;
 pub use reply::{Reply, push_reply, reply_text};

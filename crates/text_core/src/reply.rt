@@ -1,10 +1,10 @@
 ghost use Rattle.std.specs.Prelude.{◌≡◌, ◌+◌, ◌≤◌, ◌++◌, length, decimal};
 ghost use Rattle.arrayvec.specs.ArrayVec.{array_vec_len};
-ghost use Rattle.text_core.specs.Reply.{IsOneLine, look_text, newlines, text_of, uses_text};
+ghost use Rattle.text_core.specs.Reply.{IsOneLine, counts_text, look_text, newlines, text_of, uses_text};
 
 use arrayvec::ArrayVec;
 use bitflags::Flags;
-use frame_core::{BlockNo, PageFlags, Serial};
+use frame_core::{BlockNo, FrameNo, Order, PageFlags, Serial};
 use itoa::Buffer;
 use state_core::{Info, Look};
 
@@ -15,6 +15,8 @@ pub enum Reply {
     /// The value of a word.
     Value(u64),
     Info(Info),
+    /// The same, with the frames that are handed out.
+    InfoWithHeld(Info),
     /// A page is on its way under this serial, or was taken by a hand.
     Serial(Serial),
     /// There is no page left that has a frame to go to.
@@ -28,6 +30,12 @@ pub enum Reply {
     Looked(Look),
     /// The pageblock that was handed out.
     Block(BlockNo),
+    /// The first frame of the block that was handed out, and its order.
+    HandedOut { first: FrameNo, order: Order },
+    /// So many calls of a series, none of which was refused.
+    AllDone(u32),
+    /// So many calls of a series, behind which one was refused with this number.
+    DoneUntil { done: u32, refusal: u16 },
     /// The number of a refusal.
     Refused(u16),
 }
@@ -51,12 +59,10 @@ pub fn push_reply<const N: usize>(text: &mut ArrayVec<u8, N>, reply: &Reply)
     match reply {
         Reply::Done => push(text, b"ok"),
         Reply::Value(value) => push_field(text, b"value=", *value),
-        Reply::Info(info) => {
-            push_field(text, b"free=", u64::from(info.free));
-            push_field(text, b" pages=", u64::from(info.pages));
-            push_field(text, b" moving=", u64::from(info.moving));
-            push_field(text, b" huge=", u64::from(info.huge));
-            push_field(text, b" whole=", u64::from(info.whole));
+        Reply::Info(info) => push_counts(text, info),
+        Reply::InfoWithHeld(info) => {
+            push_counts(text, info);
+            push_field(text, b" held=", u64::from(info.held));
         }
         Reply::Serial(serial) => push_field(text, b"serial=", u64::from(*serial)),
         Reply::Met => push(text, b"met"),
@@ -68,9 +74,32 @@ pub fn push_reply<const N: usize>(text: &mut ArrayVec<u8, N>, reply: &Reply)
         Reply::Shut(count) => push_field(text, b"back=", u64::from(*count)),
         Reply::Looked(look) => push_look(text, look),
         Reply::Block(block) => push_field(text, b"block=", u64::from(block.get())),
+        Reply::HandedOut { first, order } => {
+            push_field(text, b"frame=", u64::from(first.get()));
+            push_field(text, b" order=", u64::from(order.get()));
+        }
+        Reply::AllDone(done) => push_field(text, b"done=", u64::from(*done)),
+        Reply::DoneUntil { done, refusal } => {
+            push_field(text, b"done=", u64::from(*done));
+            push_field(text, b" refused=", u64::from(*refusal));
+        }
         Reply::Refused(number) => push_field(text, b"refused ", u64::from(*number)),
     }
     push(text, b"\n");
+}
+
+/// Appends the counts of a zone.
+fn push_counts<const N: usize>(text: &mut ArrayVec<u8, N>, info: &Info)
+    requires { array_vec_len text.old + 133 ≤ N }
+    ensures text { text.new.items ≡ text.old.items ++ counts_text info.now }
+    ensures lines { newlines text.new.items ≡ newlines text.old.items }
+    ensures len { array_vec_len text.new ≤ array_vec_len text.old + 133 }
+{
+    push_field(text, b"free=", u64::from(info.free));
+    push_field(text, b" pages=", u64::from(info.pages));
+    push_field(text, b" moving=", u64::from(info.moving));
+    push_field(text, b" huge=", u64::from(info.huge));
+    push_field(text, b" whole=", u64::from(info.whole));
 }
 
 /// Appends what is known of a page.

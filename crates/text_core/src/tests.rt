@@ -1,5 +1,10 @@
-use crate::{BlockCount, Call, Command, Reply, ScriptError, read_line, reply_text};
-use frame_core::{Address, BlockNo, FrameNo, HandNo, PageFlags, SpaceNo, VPage, WordNo, ZoneNo};
+use crate::{
+    BlockCount, Call, Calls, Command, PageCount, Profile, Repeated, Reply, ScriptError, Series,
+    read_line, reply_text,
+};
+use frame_core::{
+    Address, BlockNo, FrameNo, HandNo, Order, PageFlags, SpaceNo, VPage, WordNo, ZoneNo,
+};
 use state_core::{Info, Look};
 
 /// Page 2 of space 1.
@@ -104,18 +109,142 @@ fn reads_calls(rt: HostRuntime) {
     ];
     for (name, line, call) in rows {
         assert_eq!(rt;
-            read_line(line),
-            Ok(Some(Command::On { zone, call })),
+            read_line(Profile::One, line),
+            Ok(Some(Command::On {
+                zone,
+                calls: Calls::One(call)
+            })),
             "{name}"
         );
     }
 }
 
 #[test]
+fn reads_series(rt: HostRuntime) {
+    let zone = ZoneNo::new(3).unwrap();
+    let space = SpaceNo::new(7).unwrap();
+    let rows: [(&str, &[u8], Series); 3] = [
+        (
+            "a fill",
+            b"fill 3 7 4095 4096",
+            Series {
+                call: Repeated::Map,
+                space,
+                first: 4095,
+                count: PageCount::new(4096).unwrap(),
+                step: 1,
+            },
+        ),
+        (
+            "a thin",
+            b"thin 3 7 5 0 2",
+            Series {
+                call: Repeated::Unmap,
+                space,
+                first: 5,
+                count: PageCount::new(0).unwrap(),
+                step: 2,
+            },
+        ),
+        (
+            "the largest numbers",
+            b"thin 3 7 18446744073709551615 2 18446744073709551615",
+            Series {
+                call: Repeated::Unmap,
+                space,
+                first: 18446744073709551615,
+                count: PageCount::new(2).unwrap(),
+                step: 18446744073709551615,
+            },
+        ),
+    ];
+    for (name, line, series) in rows {
+        assert_eq!(rt;
+            read_line(Profile::One, line),
+            Ok(Some(Command::On {
+                zone,
+                calls: Calls::Series(series)
+            })),
+            "{name}"
+        );
+    }
+}
+
+#[test]
+fn reads_the_calls_of_profile_2(rt: HostRuntime) {
+    let zone = ZoneNo::new(3).unwrap();
+    let first = FrameNo::new(4095).unwrap();
+    let order = Order::new(9).unwrap();
+    let block = BlockNo::new(7).unwrap();
+    let rows: [(&[u8], Call); 7] = [
+        (b"info 3", Call::InfoWithHeld),
+        (b"huge 3 9", Call::TakeOrder(order)),
+        (b"huge 3", Call::Huge),
+        (b"give 3 4095 9", Call::GiveOrder { first, order }),
+        (b"give 3 7", Call::Give(block)),
+        (b"mark 3 7", Call::Mark(block)),
+        (b"unmark 3 7", Call::Unmark(block)),
+    ];
+    for (line, call) in rows {
+        assert_eq!(rt;
+            read_line(Profile::Two, line),
+            Ok(Some(Command::On {
+                zone,
+                calls: Calls::One(call)
+            }))
+        );
+    }
+    let wrong: [&[u8]; 6] = [
+        b"huge 0 2",
+        b"huge 0 10",
+        b"give 0 4096 3",
+        b"give 0 0 2",
+        b"mark 0 8",
+        b"unmark 4 0",
+    ];
+    for line in wrong {
+        assert_eq!(rt;
+            read_line(Profile::Two, line),
+            Ok(Some(Command::OutOfRange))
+        );
+    }
+    let absent: [&[u8]; 4] = [b"huge 0 3", b"give 0 0 3", b"mark 0 0", b"unmark 0 0"];
+    for line in absent {
+        for profile in [Profile::Untold, Profile::One] {
+            assert_eq!(rt; read_line(profile, line), Err(ScriptError::Syntax));
+        }
+    }
+}
+
+#[test]
+fn is_told_its_profile_once(rt: HostRuntime) {
+    let line: &[u8] = b" profile  2 ";
+    assert_eq!(rt;
+        read_line(Profile::Untold, line),
+        Ok(Some(Command::Profile2))
+    );
+    assert_eq!(rt; read_line(Profile::One, line), Err(ScriptError::Syntax));
+    assert_eq!(rt; read_line(Profile::Two, line), Err(ScriptError::Syntax));
+    let wrong: [&[u8]; 5] = [
+        b"profile",
+        b"profile 1",
+        b"profile 02",
+        b"profile 2 2",
+        b"Profile 2",
+    ];
+    for line in wrong {
+        assert_eq!(rt; read_line(Profile::Untold, line), Err(ScriptError::Syntax));
+    }
+    assert_eq!(rt; Profile::Untold.behind(&Command::Profile2), Profile::Two);
+    assert_eq!(rt; Profile::Untold.behind(&Command::OutOfRange), Profile::One);
+    assert_eq!(rt; Profile::Two.behind(&Command::OutOfRange), Profile::Two);
+}
+
+#[test]
 fn reads_lines(rt: HostRuntime) {
     let zone = ZoneNo::new(3).unwrap();
     let blocks = BlockCount::new(8).unwrap();
-    let rows: [(&str, &[u8], Result<Option<Command>, ScriptError>); 12] = [
+    let rows: [(&str, &[u8], Result<Option<Command>, ScriptError>); 14] = [
         ("nothing", b"", Ok(None)),
         ("spaces", b"   ", Ok(None)),
         ("a comment", b"  #zone 0 1", Ok(None)),
@@ -140,19 +269,29 @@ fn reads_lines(rt: HostRuntime) {
         ("a token too few", b"zone 0", Err(ScriptError::Syntax)),
         ("a token too many", b"info 0 0", Err(ScriptError::Syntax)),
         (
+            "a fill without a number of pages",
+            b"fill 0 0 0",
+            Err(ScriptError::Syntax),
+        ),
+        (
+            "a thin without a step",
+            b"thin 0 0 0 1",
+            Err(ScriptError::Syntax),
+        ),
+        (
             "eight tokens",
             b"store 0 1 2 3 4 5 6",
             Err(ScriptError::Syntax),
         ),
     ];
     for (name, line, expected) in rows {
-        assert_eq!(rt; read_line(line), expected, "{name}");
+        assert_eq!(rt; read_line(Profile::One, line), expected, "{name}");
     }
 }
 
 #[test]
 fn tests_each_range(rt: HostRuntime) {
-    let lines: [&[u8]; 24] = [
+    let lines: [&[u8]; 30] = [
         b"zone 4 1",
         b"zone 0 0",
         b"zone 0 9",
@@ -177,17 +316,32 @@ fn tests_each_range(rt: HostRuntime) {
         b"unpin 0 8 0",
         b"huge 4",
         b"give 0 8",
+        b"fill 4 0 0 1",
+        b"fill 0 8 0 1",
+        b"fill 0 0 0 4097",
+        b"thin 4 0 0 1 1",
+        b"thin 0 8 0 1 1",
+        b"thin 0 0 0 4097 1",
     ];
     for line in lines {
-        assert_eq!(rt; read_line(line), Ok(Some(Command::OutOfRange)));
+        assert_eq!(rt;
+            read_line(Profile::One, line),
+            Ok(Some(Command::OutOfRange))
+        );
     }
 }
 
 #[test]
 fn reads_no_more_than_200_bytes(rt: HostRuntime) {
-    assert_eq!(rt; read_line(&[b'#'; 200]), Ok(None));
-    assert_eq!(rt; read_line(&[b'#'; 201]), Err(ScriptError::LongLine));
-    assert_eq!(rt; read_line(&[b' '; 201]), Err(ScriptError::LongLine));
+    assert_eq!(rt; read_line(Profile::One, &[b'#'; 200]), Ok(None));
+    assert_eq!(rt;
+        read_line(Profile::One, &[b'#'; 201]),
+        Err(ScriptError::LongLine)
+    );
+    assert_eq!(rt;
+        read_line(Profile::One, &[b' '; 201]),
+        Err(ScriptError::LongLine)
+    );
 }
 
 #[test]
@@ -211,7 +365,7 @@ fn prints_replies(rt: HostRuntime) {
         pins: 1,
         maps: 2,
     };
-    let rows: [(Reply, &[u8]); 12] = [
+    let rows: [(Reply, &[u8]); 16] = [
         (Reply::Done, b"ok\n"),
         (
             Reply::Value(18446744073709551615),
@@ -220,6 +374,10 @@ fn prints_replies(rt: HostRuntime) {
         (
             Reply::Info(info),
             b"free=510 pages=1 moving=2 huge=3 whole=4\n",
+        ),
+        (
+            Reply::InfoWithHeld(info),
+            b"free=510 pages=1 moving=2 huge=3 whole=4 held=5\n",
         ),
         (Reply::Serial(4294967295), b"serial=4294967295\n"),
         (Reply::Met, b"met\n"),
@@ -235,6 +393,21 @@ fn prints_replies(rt: HostRuntime) {
             b"moving serial=4294967295 pins=1 maps=2\n",
         ),
         (Reply::Block(BlockNo::new(7).unwrap()), b"block=7\n"),
+        (
+            Reply::HandedOut {
+                first: FrameNo::new(256).unwrap(),
+                order: Order::new(8).unwrap(),
+            },
+            b"frame=256 order=8\n",
+        ),
+        (Reply::AllDone(4096), b"done=4096\n"),
+        (
+            Reply::DoneUntil {
+                done: 2,
+                refusal: 1,
+            },
+            b"done=2 refused=1\n",
+        ),
         (Reply::Refused(44), b"refused 44\n"),
     ];
     for (reply, expected) in rows {

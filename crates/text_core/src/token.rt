@@ -1,6 +1,6 @@
-ghost use Rattle.std.specs.Prelude.{◌≡◌, ◌<◌, ◌≤◌, bytes_eq, nat_eq, false, codes, IfSome, length, position, [], ◌∷◌, MatchOption};
+ghost use Rattle.std.specs.Prelude.{◌≡◌, ◌<◌, ◌≤◌, bytes_eq, nat_eq, false, codes, IfNone, IfSome, IsTrue, length, map, position, [], ◌∷◌, ◌+◌, MatchOption, Some};
 ghost use Rattle.std.specs.List.{starts_with};
-ghost use Rattle.text_core.specs.Token.{keyword_of, lexemes, number_of, token_of};
+ghost use Rattle.text_core.specs.Token.{behind_word, first_word, keyword_of, lexemes, number_of, token_of};
 
 /// What a lexeme means: a number, a keyword, or nothing of the language.
 #[derive(Clone, Copy, Debug, Default, PartialEq, Eq)]
@@ -25,6 +25,10 @@ pub(crate) enum Token {
     Unpin,
     Huge,
     Give,
+    Fill,
+    Thin,
+    Mark,
+    Unmark,
     /// Anything else.
     #[default]
     Other,
@@ -84,6 +88,14 @@ fn keyword(bytes: &[u8]) -> Token
         Token::Huge
     } else if is_word(bytes, b"give") {
         Token::Give
+    } else if is_word(bytes, b"fill") {
+        Token::Fill
+    } else if is_word(bytes, b"thin") {
+        Token::Thin
+    } else if is_word(bytes, b"mark") {
+        Token::Mark
+    } else if is_word(bytes, b"unmark") {
+        Token::Unmark
     } else {
         Token::Other
     }
@@ -91,7 +103,7 @@ fn keyword(bytes: &[u8]) -> Token
 
 /// Whether bytes are a word. The first byte tells most words apart.
 #[inline(always)]
-fn is_word(bytes: &[u8], word: &[u8]) -> bool
+pub(crate) fn is_word(bytes: &[u8], word: &[u8]) -> bool
     ensures { result ≡ bytes_eq bytes.now word.now }
 {
     bytes.first() == word.first() && bytes == word
@@ -116,6 +128,59 @@ fn number(digits: &[u8]) -> Option<u64>
     Some(value)
 }
 
+/// The first token of a text, and what stands behind its lexeme.
+pub(crate) fn first_token(text: &[u8]) -> Option<(Token, &[u8])>
+    ensures token { MatchOption result (lexemes text.now ≡ []) (λ found. map token_of (lexemes text.now) ≡ found.0 ∷ map token_of (lexemes found.1.now)) }
+    ensures less { IfSome result (λ found. length found.1.now < length text.now) }
+{
+    let text = without_spaces(text);
+    if let Some((number, behind)) = leading_number(text) {
+        return Some((Token::Number(number), behind));
+    }
+    let (lexeme, behind) = first_lexeme(text)?;
+    Some((Token::from_bytes(lexeme), behind))
+}
+
+/// The number that a text without leading spaces begins with, and what stands behind it. None says nothing: most numbers are read
+/// here, in one pass.
+fn leading_number(text: &[u8]) -> Option<(u64, &[u8])>
+    ensures number { IfSome result (λ found. number_of (first_word text.now) ≡ Some found.0) }
+    ensures behind { IfSome result (λ found. found.1.now ≡ behind_word text.now) }
+    ensures some { IfSome result (λ found. length found.1.now < length text.now) }
+{
+    let mut value: u64 = 0;
+    let mut rest = text;
+    while let Some((digit, behind)) = leading_digit(rest) {
+        value = value.checked_mul(10)?.checked_add(u64::from(digit))?;
+        rest = behind;
+    }
+    let count = text.len() - rest.len();
+    if 0 < count && count <= 20 && ends_word(rest) {
+        Some((value, rest))
+    } else {
+        None
+    }
+}
+
+/// Whether a text is empty or begins with a space.
+fn ends_word(text: &[u8]) -> bool
+    ensures word { IsTrue result → first_word text.now ≡ [] }
+    ensures behind { IsTrue result → behind_word text.now ≡ text.now }
+{
+    text.is_empty() || text.starts_with(b" ")
+}
+
+/// The digit that a text begins with, and what stands behind it.
+fn leading_digit(text: &[u8]) -> Option<(u8, &[u8])>
+    ensures digit { IfSome result (λ found. text.now ≡ (48 + found.0) ∷ found.1.now) }
+    ensures small { IfSome result (λ found. found.0 < 10) }
+{
+    match text {
+        [byte @ b'0'..=b'9', behind @ ..] => Some((*byte - b'0', behind)),
+        _ => None,
+    }
+}
+
 /// The first lexeme of a text, and what stands behind it.
 pub(crate) fn first_lexeme(text: &[u8]) -> Option<(&[u8], &[u8])>
     ensures lexeme { MatchOption result (lexemes text.now ≡ []) (λ found. lexemes text.now ≡ found.0.now ∷ lexemes found.1.now) }
@@ -130,7 +195,7 @@ pub(crate) fn first_lexeme(text: &[u8]) -> Option<(&[u8], &[u8])>
 }
 
 /// A text without the spaces before its first lexeme.
-fn without_spaces(text: &[u8]) -> &[u8]
+pub(crate) fn without_spaces(text: &[u8]) -> &[u8]
     ensures lexemes { lexemes result.now ≡ lexemes text.now }
     ensures first { starts_with nat_eq result.now (codes " ") ≡ false }
     ensures shorter { length result.now ≤ length text.now }

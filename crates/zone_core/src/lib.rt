@@ -12,6 +12,7 @@ mod hands;
 mod rest;
 mod seats;
 mod sharing;
+mod tables;
 mod world;
 mod zone;
 

@@ -1,4 +1,4 @@
-use Rattle.std.proofs.Common.{rules, ◌≡◌, ◌+◌, ◌∙◌, ap, sym, subst, arith}
+use Rattle.std.proofs.Common.{◌+◌, ◌∙◌, ap, arith}
 use Rattle.hand_core.specs.CopyEnds.{DoneTaker}
 use Rattle.zone_core.specs.Seats.{ScanSeat}
 use Rattle.round_core.proofs.Early.{not_ended, begun}

@@ -1,5 +1,4 @@
-use Rattle.std.proofs.Common.{rules, ◌≡◌, ◌+◌, ◌∙◌, length, ap, sym, subst, arith}
-use Rattle.std.specs.Prelude.{IfSome, Some}
+use Rattle.std.proofs.Common.{rules, ◌≡◌, ◌+◌, ◌∙◌, length, arith}
 use Rattle.round_core.proofs.Sharing.{shared}
 use Rattle.round_core.proofs.compacting.wind_up.Goals as goal
 

@@ -1,4 +1,4 @@
-use Rattle.std.proofs.Common.{rules, ◌≡◌, ◌∙◌, Some, true, Bool, ◌&&◌, refl, List, ℕ}
+use Rattle.std.proofs.Common.{rules, ◌≡◌, ◌∙◌, Some}
 use Rattle.std.proofs.lemmas.List.Elements.{All-pop, All-push, All-same}
 use Rattle.round_core.proofs.Lists.{listed_more, both}
 use Rattle.round_core.proofs.crew.join_copiers.Goals as goal

@@ -1,13 +1,9 @@
-use Rattle.std.proofs.Common.{◌<◌, ◌∷◌, ◌∙◌, List, length, map, arith}
-use Rattle.std.proofs.lemmas.Grind.{common_steps}
-use Rattle.text_core.specs.declared.token.Token.{Token}
-use Rattle.text_core.specs.Token.{lexemes, token_of}
-use Rattle.text_core.proofs.LongLines.{command_of-long}
+use Rattle.std.proofs.Common.{◌∙◌, arith}
+use Rattle.text_core.specs.Token.{lexemes}
+use Rattle.text_core.proofs.LongLines.{command_in-long}
 use Rattle.text_core.proofs.line.command.Goals as goal
 
 pub returns-in_err-tokens : goal.returns-in_err-tokens
 returns-in_err-tokens c =
-    let tokens : List Token = map token_of (c.args.first.now ∷ lexemes c.args.behind.now) in
     let many = c.in_err-tokens.ensures.many in
-    let long : 6 < length tokens = grind (arith, common_steps, many) in
-    c.from_residual.ensures ∙ command_of-long tokens long
+    c.from_residual.ensures ∙ command_in-long c.args.profile (lexemes c.args.text.now) (omega (arith, many))

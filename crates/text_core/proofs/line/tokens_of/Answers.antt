@@ -4,6 +4,6 @@ use Rattle.text_core.proofs.line.tokens_of.Goals as goal
 
 pub returns-then-is_err-clause-many : goal.returns-then-is_err-clause-many
 returns-then-is_err-clause-many c =
-    let all = ap length c.loop-lexeme.invariant in
-    let next = ap length c.in-Some.ensures.lexeme in
+    let all = ap length c.loop-token.invariant in
+    let next = ap length c.in-Some.ensures.token in
     grind (arith, common_steps, all, next)

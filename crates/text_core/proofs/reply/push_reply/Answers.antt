@@ -1,10 +1,10 @@
 use Rattle.std.proofs.Common.{◌≡◌, ◌∙◌, ◌≤◌, ◌++◌, ◌∷◌, [], List, ℕ, length, length-append, append_assoc, append-nil, sym, ap, decimal, arith}
 use Rattle.std.proofs.lemmas.Grind.{common_steps}
 use Rattle.std.specs.Prelude.{codes}
-use Rattle.text_core.specs.Reply.{newlines, text_of}
+use Rattle.text_core.specs.Reply.{counts_text, newlines, text_of}
 use Rattle.text_core.proofs.Newlines.{newlines-append, one_line_behind, text_of-some}
 use Rattle.text_core.proofs.reply.push_reply.Goals as goal
-use Rattle.text_core.proofs.reply.push_reply.Goals.{in-Done, in-Value, in-Info, in-Serial, in-Met, in-Moved, in-PutBack, in-Shut, in-Looked, in-Block, in-Refused}
+use Rattle.text_core.proofs.reply.push_reply.Goals.{in-Done, in-Value, in-Info, in-InfoWithHeld, in-Serial, in-Met, in-Moved, in-PutBack, in-Shut, in-Looked, in-Block, in-HandedOut, in-AllDone, in-DoneUntil, in-Refused}
 
 -- a field more of what is appended
 field_more : (old text before after name : List ℕ) (n m : ℕ) → before ≡ old ++ text → after ≡ before ++ name ++ decimal n → n ≡ m → after ≡ old ++ (text ++ name ++ decimal m)
@@ -24,19 +24,13 @@ returns-clause-text g c =
     elim c.match-reply.branch [
       | in-Done w ↦ let t0 = w.push.ensures.text in let is = w.text-is in grind (arith, common_steps, all, is, t0)
       | in-Value w ↦ let t0 = w.push_field.ensures.text in let is = w.text-is in grind (arith, common_steps, all, is, t0)
-      | in-Info w ↦
-          let i = w.in-Info.info in
-          let free : List ℕ = codes "free=" ++ decimal i.free in
-          let to_free : w.push_field-in-Info.new.text.items ≡ old ++ free = field_more old [] (old) (w.push_field-in-Info.new.text.items) (codes "free=") w.from.result i.free (sym (append-nil old)) w.push_field-in-Info.ensures.text (omega (arith, w.from.ensures)) in
-          let pages : List ℕ = free ++ codes " pages=" ++ decimal i.pages in
-          let to_pages : w.push_field-in-Info-2.new.text.items ≡ old ++ pages = field_more old free (w.push_field-in-Info.new.text.items) (w.push_field-in-Info-2.new.text.items) (codes " pages=") w.from-in-Info.result i.pages to_free w.push_field-in-Info-2.ensures.text (omega (arith, w.from-in-Info.ensures)) in
-          let moving : List ℕ = pages ++ codes " moving=" ++ decimal i.moving in
-          let to_moving : w.push_field-in-Info-3.new.text.items ≡ old ++ moving = field_more old pages (w.push_field-in-Info-2.new.text.items) (w.push_field-in-Info-3.new.text.items) (codes " moving=") w.from-in-Info-2.result i.moving to_pages w.push_field-in-Info-3.ensures.text (omega (arith, w.from-in-Info-2.ensures)) in
-          let huge : List ℕ = moving ++ codes " huge=" ++ decimal i.huge in
-          let to_huge : w.push_field-in-Info-4.new.text.items ≡ old ++ huge = field_more old moving (w.push_field-in-Info-3.new.text.items) (w.push_field-in-Info-4.new.text.items) (codes " huge=") w.from-in-Info-3.result i.huge to_moving w.push_field-in-Info-4.ensures.text (omega (arith, w.from-in-Info-3.ensures)) in
-          let whole : List ℕ = huge ++ codes " whole=" ++ decimal i.whole in
-          let to_whole : w.push_field-in-Info-5.new.text.items ≡ old ++ whole = field_more old huge (w.push_field-in-Info-4.new.text.items) (w.push_field-in-Info-5.new.text.items) (codes " whole=") w.from-in-Info-4.result i.whole to_huge w.push_field-in-Info-5.ensures.text (omega (arith, w.from-in-Info-4.ensures)) in
-          all ∙ ap (λ t. t.items ++ codes "\n") w.text-is ∙ ap (λ (r : List ℕ). r ++ codes "\n") to_whole ∙ append_assoc old whole (codes "\n") ∙ ap (λ r. old ++ text_of r) (sym w.in-Info.is)
+      | in-Info w ↦ let t0 = w.push_counts.ensures.text in let is = w.text-is in grind (arith, common_steps, all, is, t0)
+      | in-InfoWithHeld w ↦
+          let i = w.in-InfoWithHeld.info in
+          let counts : List ℕ = counts_text i in
+          let held : List ℕ = counts ++ codes " held=" ++ decimal i.held in
+          let to_held : w.push_field-in-InfoWithHeld.new.text.items ≡ old ++ held = field_more old counts (w.push_counts-in-InfoWithHeld.new.text.items) (w.push_field-in-InfoWithHeld.new.text.items) (codes " held=") w.from.result i.held w.push_counts-in-InfoWithHeld.ensures.text w.push_field-in-InfoWithHeld.ensures.text (omega (arith, w.from.ensures)) in
+          all ∙ ap (λ t. t.items ++ codes "\n") w.text-is ∙ ap (λ (r : List ℕ). r ++ codes "\n") to_held ∙ append_assoc old held (codes "\n") ∙ ap (λ r. old ++ text_of r) (sym w.in-InfoWithHeld.is)
       | in-Serial w ↦ let t0 = w.push_field-in-Serial.ensures.text in let is = w.text-is in grind (arith, common_steps, all, is, t0)
       | in-Met w ↦ let t0 = w.push-in-Met.ensures.text in let is = w.text-is in grind (arith, common_steps, all, is, t0)
       | in-Moved w ↦
@@ -51,6 +45,19 @@ returns-clause-text g c =
       | in-Shut w ↦ let t0 = w.push_field-in-Shut.ensures.text in let is = w.text-is in grind (arith, common_steps, all, is, t0)
       | in-Looked w ↦ let t0 = w.push_look.ensures.text in let is = w.text-is in grind (arith, common_steps, all, is, t0)
       | in-Block w ↦ let t0 = w.push_field-in-Block.ensures.text in let is = w.text-is in grind (arith, common_steps, all, is, t0)
+      | in-HandedOut w ↦
+          let first : List ℕ = codes "frame=" ++ decimal w.in-HandedOut.first in
+          let to_first : w.push_field-in-HandedOut.new.text.items ≡ old ++ first = field_more old [] old (w.push_field-in-HandedOut.new.text.items) (codes "frame=") w.from-in-HandedOut.result w.in-HandedOut.first (sym (append-nil old)) w.push_field-in-HandedOut.ensures.text (omega (arith, w.from-in-HandedOut.ensures, w.get-in-HandedOut.ensures.value)) in
+          let order : List ℕ = first ++ codes " order=" ++ decimal w.in-HandedOut.order in
+          let to_order : w.push_field-in-HandedOut-2.new.text.items ≡ old ++ order = field_more old first (w.push_field-in-HandedOut.new.text.items) (w.push_field-in-HandedOut-2.new.text.items) (codes " order=") w.from-in-HandedOut-2.result w.in-HandedOut.order to_first w.push_field-in-HandedOut-2.ensures.text (omega (arith, w.from-in-HandedOut-2.ensures, w.get-in-HandedOut-2.ensures.value)) in
+          all ∙ ap (λ t. t.items ++ codes "\n") w.text-is ∙ ap (λ (r : List ℕ). r ++ codes "\n") to_order ∙ append_assoc old order (codes "\n") ∙ ap (λ r. old ++ text_of r) (sym w.in-HandedOut.is)
+      | in-AllDone w ↦ let t0 = w.push_field-in-AllDone.ensures.text in let is = w.text-is in grind (arith, common_steps, all, is, t0)
+      | in-DoneUntil w ↦
+          let done : List ℕ = codes "done=" ++ decimal w.in-DoneUntil.done in
+          let to_done : w.push_field-in-DoneUntil.new.text.items ≡ old ++ done = field_more old [] old (w.push_field-in-DoneUntil.new.text.items) (codes "done=") w.from-in-DoneUntil.result w.in-DoneUntil.done (sym (append-nil old)) w.push_field-in-DoneUntil.ensures.text (omega (arith, w.from-in-DoneUntil.ensures)) in
+          let refused : List ℕ = done ++ codes " refused=" ++ decimal w.in-DoneUntil.refusal in
+          let to_refused : w.push_field-in-DoneUntil-2.new.text.items ≡ old ++ refused = field_more old done (w.push_field-in-DoneUntil.new.text.items) (w.push_field-in-DoneUntil-2.new.text.items) (codes " refused=") w.from-in-DoneUntil-2.result w.in-DoneUntil.refusal to_done w.push_field-in-DoneUntil-2.ensures.text (omega (arith, w.from-in-DoneUntil-2.ensures)) in
+          all ∙ ap (λ t. t.items ++ codes "\n") w.text-is ∙ ap (λ (r : List ℕ). r ++ codes "\n") to_refused ∙ append_assoc old refused (codes "\n") ∙ ap (λ r. old ++ text_of r) (sym w.in-DoneUntil.is)
       | in-Refused w ↦ let t0 = w.push_field-in-Refused.ensures.text in let is = w.text-is in grind (arith, common_steps, all, is, t0)
     ]
 
@@ -64,7 +71,8 @@ returns-clause-line g c =
     let same : newlines mid ≡ newlines old = elim c.match-reply.branch [
       | in-Done w ↦ omega (arith, ap newlines w.push.ensures.text, newlines-append old (codes "ok"), ap (λ t. newlines t.items) w.text-is)
       | in-Value w ↦ omega (arith, w.push_field.ensures.lines, ap (λ t. newlines t.items) w.text-is)
-      | in-Info w ↦ omega (arith, w.push_field-in-Info.ensures.lines, w.push_field-in-Info-2.ensures.lines, w.push_field-in-Info-3.ensures.lines, w.push_field-in-Info-4.ensures.lines, w.push_field-in-Info-5.ensures.lines, ap (λ t. newlines t.items) w.text-is)
+      | in-Info w ↦ omega (arith, w.push_counts.ensures.lines, ap (λ t. newlines t.items) w.text-is)
+      | in-InfoWithHeld w ↦ omega (arith, w.push_counts-in-InfoWithHeld.ensures.lines, w.push_field-in-InfoWithHeld.ensures.lines, ap (λ t. newlines t.items) w.text-is)
       | in-Serial w ↦ omega (arith, w.push_field-in-Serial.ensures.lines, ap (λ t. newlines t.items) w.text-is)
       | in-Met w ↦ omega (arith, ap newlines w.push-in-Met.ensures.text, newlines-append old (codes "met"), ap (λ t. newlines t.items) w.text-is)
       | in-Moved w ↦ omega (arith, w.push_field-in-Moved.ensures.lines, ap (λ t. newlines t.items) w.text-is)
@@ -72,6 +80,9 @@ returns-clause-line g c =
       | in-Shut w ↦ omega (arith, w.push_field-in-Shut.ensures.lines, ap (λ t. newlines t.items) w.text-is)
       | in-Looked w ↦ omega (arith, w.push_look.ensures.lines, ap (λ t. newlines t.items) w.text-is)
       | in-Block w ↦ omega (arith, w.push_field-in-Block.ensures.lines, ap (λ t. newlines t.items) w.text-is)
+      | in-HandedOut w ↦ omega (arith, w.push_field-in-HandedOut.ensures.lines, w.push_field-in-HandedOut-2.ensures.lines, ap (λ t. newlines t.items) w.text-is)
+      | in-AllDone w ↦ omega (arith, w.push_field-in-AllDone.ensures.lines, ap (λ t. newlines t.items) w.text-is)
+      | in-DoneUntil w ↦ omega (arith, w.push_field-in-DoneUntil.ensures.lines, w.push_field-in-DoneUntil-2.ensures.lines, ap (λ t. newlines t.items) w.text-is)
       | in-Refused w ↦ omega (arith, w.push_field-in-Refused.ensures.lines, ap (λ t. newlines t.items) w.text-is)
     ] in
     one_line_behind old mid text all same longer

@@ -9,7 +9,7 @@ returns-in-Err-clause-err g c = λ places past first none read.
     let now = g.W.Write.contents c.args.writer.now in
     let text = c.args.text.now in
     let s = c.args.self.now in
-    let wrong = read_wrong places s past text first now read c.requires.begins none c.in-Err.error (sym c.in-Err.ensures) in
+    let wrong = read_wrong places s past text first now read c.requires.begins none c.in-Err.error (ap (λ (t : Player). line_of t.profile text) (sym c.self.view_is) ∙ sym c.in-Err.ensures) in
     let line : s.line ≡ c.self.inside.line = ap (λ (t : Player). t.line) (sym c.self.view_is) in
     let E : ℕ → Type 0 = λ n. HasEnded places s (past ++ (text ++ 10 ∷ [])) (record { fault = c.from.result; line = n }) first now in
     subst E line (ended_wrong places s (past ++ (text ++ 10 ∷ [])) c.in-Err.error c.from.result s.line first now c.from.ensures wrong)
@@ -19,5 +19,5 @@ returns-in-Ok-None-clause-ok g c = λ places past first none read.
     let now = g.W.Write.contents c.args.writer.now in
     let R : Player → Type 0 = λ s. HasRead places s past first now in
     let begins = ap (λ (s : Player). s.held) c.self.view_is ∙ c.requires.begins in
-    let says : line_of c.args.text.now ≡ Ok None = sym c.in-Ok-None.ensures ∙ ap Ok c.in-Ok-None.field-0-is in
+    let says : line_of c.self.inside.profile c.args.text.now ≡ Ok None = sym c.in-Ok-None.ensures ∙ ap Ok c.in-Ok-None.field-0-is in
     read_skipped places _ past c.args.text.now first now (subst R (sym c.self.view_is) read) begins none says

@@ -1,0 +1,28 @@
+ghost use Rattle.std.specs.Prelude.{◌≡◌};
+ghost use Rattle.text_core.specs.Profile.{profile_told};
+
+use crate::command::Command;
+
+/// By which profile a script is read. The first line that isn't skipped tells.
+#[derive(Clone, Copy, Debug, PartialEq, Eq)]
+pub enum Profile {
+    /// No line told yet.
+    Untold,
+    One,
+    Two,
+}
+
+impl Profile {
+    /// The profile by which the lines behind a command are read.
+    pub fn behind(self, command: &Command) -> Profile
+        ensures { result ≡ profile_told command.now self }
+    {
+        match self {
+            Profile::Untold => match command {
+                Command::Profile2 => Profile::Two,
+                _ => Profile::One,
+            },
+            told => told,
+        }
+    }
+}

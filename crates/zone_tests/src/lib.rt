@@ -1,0 +1,5 @@
+//! Tests of zones and worlds, by the public calls of `zone_core` alone.
+#![tactic(auto)]
+
+#[cfg(test)]
+mod tests;
