@@ -2,7 +2,8 @@
 # No command but `zone` takes memory, and no request that is refused goes wrong. One script has every command, answers each, gets
 # each refusal, and fills the zone's lists. Its run has to make as many requests for memory as one that only opens the zone,
 # those that are made in vain included. Then each of these requests is refused in turn: the run has to end with the script's
-# own replies, or with none and fault 48 at line 0 or 1. Ends with status 1 where it isn't so.
+# own replies, or with fault 48: at line 0 and no reply, or at the line of `zone` behind the reply to the line before. Ends with
+# status 1 where it isn't so.
 set -euo pipefail
 
 root=$(dirname -- "$(readlink -f -- "${BASH_SOURCE[0]}")")/..
@@ -97,10 +98,13 @@ again() {
 # A zone of 4,096 frames, in which half of the pages are on their way at once, then no frame is free, and then no place of the
 # journal.
 every_command() {
+    echo 'profile 2'
     again 'zone 0 8' 2
     echo 'info 1'
     echo 'info 4'
     handing_out
+    marking
+    series
     each 'map 0 0 %.0f' 0 2046
     echo 'map 0 0 2047 unmovable'
     each 'mapat 0 1 %.0f 4095' 0 1
@@ -128,11 +132,27 @@ every_command() {
     echo 'info 0'
 }
 
-# All pageblocks are handed out, and taken back.
+# All pageblocks are handed out, and taken back, and then a smaller block is.
 handing_out() {
     again 'huge 0' 9
     each 'give 0 %.0f' 0 8
     echo 'give 0 0'
+    echo 'huge 0 3'
+    echo 'give 0 0 3'
+}
+
+# Each pageblock is marked, and then not any more.
+marking() {
+    each 'mark 0 %.0f' 0 7
+    echo 'mark 0 0'
+    each 'unmark 0 %.0f' 0 7
+    echo 'unmark 0 0'
+}
+
+# A space is filled and emptied.
+series() {
+    echo 'fill 0 4 0 4096'
+    echo 'thin 0 4 0 4096 1'
 }
 
 # A page has all the addresses and pins that one may have, and then as before one address and no pin.
@@ -159,18 +179,24 @@ requests_of() {
     cat "$work/requests"
 }
 
-# The words of the script that were answered, and the refusals that were given, against those of docs/SCRIPT.md.
+# The words of the script's calls that were answered, and the refusals that were given, against those of docs/SCRIPT.md.
 has_everything() {
     {
-        paste -d ' ' "$work/script" "$work/replies" | grep -v refused | cut -d ' ' -f 1
+        paste -d ' ' "$work/script" "$work/replies" | grep -v 'refused\|^profile' | cut -d ' ' -f 1
         grep refused "$work/replies"
     } | sort -u >"$work/found"
     # shellcheck disable=SC2016
     sed -n 's/^| `\([a-z]*\) Z.*/\1/p; s/^| `\(refused [0-9]*\)`.*/\1/p' "$root/docs/SCRIPT.md" | sort -u | diff - "$work/found"
 }
 
+# Whether a run that wrote these to standard error and standard output ended where memory was asked for: in reading its words, or at
+# the second line of the script.
+is_fault_48() {
+    [[ "$1/$2" == 'compactd: fault 48 at line 0/' || "$1/$2" == 'compactd: fault 48 at line 2/ok' ]]
+}
+
 build_counter
-echo 'zone 0 8' >"$work/opening"
+printf 'profile 2\nzone 0 8\n' >"$work/opening"
 every_command >"$work/script"
 wanted=$(requests_of "$work/opening")
 found=$(requests_of "$work/script")
@@ -181,7 +207,7 @@ faults=0
 for ((request = 1; request <= wanted; request++)); do
     status=0
     REFUSED_REQUEST=$request LD_PRELOAD=$work/count.so "$program" <"$work/script" >"$work/out" 2>"$work/err" || status=$?
-    if ((status == 1)) && [[ ! -s $work/out && $(<"$work/err") =~ ^'compactd: fault 48 at line '[01]$ ]]; then
+    if ((status == 1)) && is_fault_48 "$(<"$work/err")" "$(<"$work/out")"; then
         faults=$((faults + 1))
     elif ((status != 0)) || [[ -s $work/err ]] || ! cmp -s "$work/out" "$work/replies"; then
         fail "request $request refused: status $status, $(<"$work/err")"
