@@ -3,12 +3,7 @@
 # time for, so the built program runs over a C library whose `read` gives a newline. Ends with status 1 where it isn't so.
 set -euo pipefail
 
-root=$(dirname -- "$(readlink -f -- "${BASH_SOURCE[0]}")")/..
-program=$root/crates/compactd/out/compactd
-"$root/compactd" --help >/dev/null
-
-work=$(mktemp -d)
-trap 'rm -rf "$work"' EXIT
+source "$(dirname -- "${BASH_SOURCE[0]}")/built.sh"
 
 cat >"$work/newlines.c" <<'C'
 long read(int file, char *buffer, unsigned long size)
@@ -19,8 +14,7 @@ long read(int file, char *buffer, unsigned long size)
     return 1;
 }
 C
-kit=$(dirname -- "$(readlink -f -- "$(command -v rt)")")/..
-"$kit/toolchain/bin/clang" -shared -fPIC -fuse-ld=lld -nostdlib -O1 -o "$work/newlines.so" "$work/newlines.c"
+build_library newlines
 
 status=0
 LD_PRELOAD=$work/newlines.so "$program" </dev/null >"$work/out" 2>"$work/err" || status=$?

@@ -3,9 +3,7 @@
 # the next. A program that held a reply back while it reads on would leave both waiting. Ends with status 1 where it isn't so.
 set -euo pipefail
 
-root=$(dirname -- "$(readlink -f -- "${BASH_SOURCE[0]}")")/..
-program=$root/crates/compactd/out/compactd
-"$root/compactd" --help >/dev/null
+source "$(dirname -- "${BASH_SOURCE[0]}")/built.sh"
 
 # Sends a line to the program, and waits for the reply that it has to have.
 answers() {

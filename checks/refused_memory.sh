@@ -6,12 +6,7 @@
 # status 1 where it isn't so.
 set -euo pipefail
 
-root=$(dirname -- "$(readlink -f -- "${BASH_SOURCE[0]}")")/..
-program=$root/crates/compactd/out/compactd
-"$root/compactd" --help >/dev/null
-
-work=$(mktemp -d)
-trap 'rm -rf "$work"' EXIT
+source "$(dirname -- "${BASH_SOURCE[0]}")/built.sh"
 
 fail() {
     echo "$1"
@@ -79,9 +74,7 @@ __attribute__((destructor)) static void tell(void)
         dprintf(creat(path, 0600), "%d\n", found);
 }
 C
-    local kit
-    kit=$(dirname -- "$(readlink -f -- "$(command -v rt)")")/..
-    "$kit/toolchain/bin/clang" -shared -fPIC -fuse-ld=lld -nostdlib -O1 -fno-builtin -o "$work/count.so" "$work/count.c"
+    build_library count
 }
 
 # A command for each number from one to another: `each 'map 0 0 %.0f' 0 9`.
