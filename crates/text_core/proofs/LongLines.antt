@@ -11,13 +11,13 @@ use Rattle.text_core.specs.Token.{token_of}
 row_of-long : (keyword : Token) (z : Option ℕ) (arguments : List Token) → 4 < length arguments → None ≡ row_of keyword z arguments
 row_of-long keyword z arguments long = grind arith
 
-row_of_profile_2-long : (keyword : Token) (z : Option ℕ) (arguments : List Token) → 4 < length arguments → None ≡ row_of_profile_2 keyword z arguments
-row_of_profile_2-long keyword z arguments long = grind arith
+row_of_profile_2-long : (keyword : Token) (arguments : List Token) → 4 < length arguments → None ≡ row_of_profile_2 keyword arguments
+row_of_profile_2-long keyword arguments long = grind arith
 
 row_in-long : (profile : Profile) (keyword : Token) (z : Option ℕ) (arguments : List Token) → 4 < length arguments → None ≡ row_in profile keyword z arguments
 row_in-long Untold keyword z arguments long = row_of-long keyword z arguments long
 row_in-long One keyword z arguments long = row_of-long keyword z arguments long
-row_in-long Two keyword z arguments long = rw (← row_of_profile_2-long keyword z arguments long) (row_of-long keyword z arguments long)
+row_in-long Two keyword z arguments long = rw (← row_of_profile_2-long keyword arguments long) (row_of-long keyword z arguments long)
 
 command_of-long : (profile : Profile) (tokens : List Token) → 6 < length tokens → None ≡ command_of profile tokens
 command_of-long profile tokens long = grind (arith, row_in-long)

@@ -1,6 +1,5 @@
 -- The commands of the language: the row of each says what stands in its line, and what that makes.
 use Rattle.std.specs.Prelude.{ℕ, Bool, true, false, ◌&&◌, List, [], ◌∷◌, nat_lt, nat_le, Option, Some, None, option_map, if◌then◌else◌}
-use Rattle.std.specs.Option.{option_or}
 use Rattle.frame_core.specs.declared.place.Address.{Address}
 use Rattle.text_core.specs.declared.token.Token.{Token}
 use Rattle.text_core.specs.declared.token.Token.TheVariants.{Number, Zone, Map, MapAt, Store, Load, Info, Unmovable, Scan, Take, Copy, Finish, Shut, Look, Share, Unmap, Pin, Unpin, Huge, Give, Fill, Thin, Mark, Unmark}
@@ -148,19 +147,28 @@ row_of Thin z (Number s ∷ Number v ∷ Number n ∷ Number step ∷ []) =
     Some (series_on z (series_of repeated.Unmap (space_of s) v (page_count_of n) step))
 row_of _ z _ = None
 
--- the rows that profile 2 has besides
-abbrev pub row_of_profile_2 : Token → Option ℕ → List Token → Option Command
-row_of_profile_2 Info z [] = Some (call_on z (Some call.InfoWithHeld))
-row_of_profile_2 Huge z (Number k ∷ []) = Some (call_on z (option_map call.TakeOrder (order_of k)))
-row_of_profile_2 Give z (Number f ∷ Number k ∷ []) = Some (call_on z (give_order_call (frame_of f) (order_of k)))
-row_of_profile_2 Mark z (Number b ∷ []) = Some (call_on z (option_map call.Mark (pageblock_of b)))
-row_of_profile_2 Unmark z (Number b ∷ []) = Some (call_on z (option_map call.Unmark (pageblock_of b)))
-row_of_profile_2 _ z _ = None
+-- the calls on a zone by the rows that profile 2 has besides; one whose argument is out of its range is None
+abbrev pub row_of_profile_2 : Token → List Token → Option (Option Call)
+row_of_profile_2 Info [] = Some (Some call.InfoWithHeld)
+row_of_profile_2 Huge (Number k ∷ []) = Some (option_map call.TakeOrder (order_of k))
+row_of_profile_2 Give (Number f ∷ Number k ∷ []) = Some (give_order_call (frame_of f) (order_of k))
+row_of_profile_2 Mark (Number b ∷ []) = Some (option_map call.Mark (pageblock_of b))
+row_of_profile_2 Unmark (Number b ∷ []) = Some (option_map call.Unmark (pageblock_of b))
+row_of_profile_2 _ _ = None
 
--- in profile 2 its own rows come first
+-- the same of any profile
+abbrev pub own_row : Profile → Token → List Token → Option (Option Call)
+own_row Two keyword arguments = row_of_profile_2 keyword arguments
+own_row _ keyword arguments = None
+
+-- the call that a profile's own row makes on a zone, if there is one, or else a row of both profiles
+abbrev pub row_or : Option ℕ → Option (Option Call) → Option Command → Option Command
+row_or z (Some call) row = Some (call_on z call)
+row_or z None row = row
+
+-- a profile's own rows come first
 abbrev pub row_in : Profile → Token → Option ℕ → List Token → Option Command
-row_in Two keyword z arguments = option_or (row_of_profile_2 keyword z arguments) (row_of keyword z arguments)
-row_in _ keyword z arguments = row_of keyword z arguments
+row_in profile keyword z arguments = row_or z (own_row profile keyword arguments) (row_of keyword z arguments)
 
 -- the command that tokens are, if they are one
 abbrev pub command_of : Profile → List Token → Option Command

@@ -1,7 +1,7 @@
 //! The rows of the language, as `specs/Grammar.antt` has them. That an argument is in its range is tested here, by its type.
 
 ghost use Rattle.std.specs.Prelude.{◌≡◌};
-ghost use Rattle.text_core.specs.Grammar.{address_of, blocks_of, command_of, frame_of, give_order_call, order_of, row_in, row_of_profile_2, hand_of, load_call, map_at_call, map_call, call_on, calls_on, opening, page_count_of, pageblock_of, row_of, series_of, series_on, share_call, space_of, store_call, word_of, zone_of};
+ghost use Rattle.text_core.specs.Grammar.{address_of, blocks_of, command_of, frame_of, give_order_call, order_of, row_in, own_row, hand_of, load_call, map_at_call, map_call, call_on, calls_on, opening, page_count_of, pageblock_of, row_of, series_of, series_on, share_call, space_of, store_call, word_of, zone_of};
 
 use crate::blocks::BlockCount;
 use crate::command::{Call, Calls, Command, Repeated, Series};
@@ -34,31 +34,31 @@ fn row_in(
 ) -> Option<Command>
     ensures { result ≡ row_in profile keyword zone arguments.now }
 {
-    if !matches!(profile, Profile::Two) {
-        return row(keyword, zone, arguments);
-    }
-    match row_of_profile_2(keyword, zone, arguments) {
+    match own_row(profile, keyword, arguments) {
+        Some(call) => Some(on(zone, call)),
         None => row(keyword, zone, arguments),
-        own => own,
     }
 }
 
-/// The same by the rows that profile 2 has besides.
-fn row_of_profile_2(keyword: Token, zone: Option<ZoneNo>, arguments: &[Token]) -> Option<Command>
-    ensures { result ≡ row_of_profile_2 keyword zone arguments.now }
+/// The call on a zone that a keyword and the arguments make by a row that a profile has besides, if there is one.
+fn own_row(profile: Profile, keyword: Token, arguments: &[Token]) -> Option<Option<Call>>
+    ensures { result ≡ own_row profile keyword arguments.now }
 {
     use Token::{Give, Huge, Info, Mark, Number, Unmark};
+    if !matches!(profile, Profile::Two) {
+        return None;
+    }
     match (keyword, arguments) {
-        (Info, []) => Some(on(zone, Some(Call::InfoWithHeld))),
-        (Huge, &[Number(k)]) => Some(on(zone, order(k).map(Call::TakeOrder))),
-        (Give, &[Number(f), Number(k)]) => Some(on(zone, give_order(frame(f), order(k)))),
-        (Mark, &[Number(b)]) => Some(on(zone, pageblock(b).map(Call::Mark))),
-        (Unmark, &[Number(b)]) => Some(on(zone, pageblock(b).map(Call::Unmark))),
+        (Info, []) => Some(Some(Call::InfoWithHeld)),
+        (Huge, &[Number(k)]) => Some(order(k).map(Call::TakeOrder)),
+        (Give, &[Number(f), Number(k)]) => Some(give_order(frame(f), order(k))),
+        (Mark, &[Number(b)]) => Some(pageblock(b).map(Call::Mark)),
+        (Unmark, &[Number(b)]) => Some(pageblock(b).map(Call::Unmark)),
         _ => None,
     }
 }
 
-/// The same by the rows of both profiles.
+/// The command by the rows of both profiles.
 fn row(keyword: Token, zone: Option<ZoneNo>, arguments: &[Token]) -> Option<Command>
     ensures { result ≡ row_of keyword zone arguments.now }
 {
