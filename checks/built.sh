@@ -13,3 +13,9 @@ build_library() {
     kit=$(dirname -- "$(readlink -f -- "$(command -v rt)")")/..
     "$kit/toolchain/bin/clang" -shared -fPIC -fuse-ld=lld -nostdlib -O1 -fno-builtin -o "$work/$1.so" "$work/$1.c"
 }
+
+# Says what is wrong, and ends the check.
+fail() {
+    echo "$1"
+    exit 1
+}

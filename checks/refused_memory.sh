@@ -8,11 +8,6 @@ set -euo pipefail
 
 source "$(dirname -- "${BASH_SOURCE[0]}")/built.sh"
 
-fail() {
-    echo "$1"
-    exit 1
-}
-
 # The C library's requests for memory. They are counted, one of them is refused, and when the program ends the file that
 # REQUESTS names has their number.
 build_counter() {

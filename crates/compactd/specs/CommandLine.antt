@@ -1,5 +1,5 @@
 -- What the words of a command line mean: clap's own account of a parse, at the options of this program.
-use Rattle.std.specs.Prelude.{◌≡◌, ℕ, Bool, List, map, Some, pos, codes, option_map, unwrap_or}
+use Rattle.std.specs.Prelude.{◌≡◌, ℕ, Bool, true, List, map, Some, pos, codes, option_map, unwrap_or}
 use Rattle.std.specs.List.{list_all, list_any}
 use Rattle.std.specs.String.{string_bytes}
 use Rattle.std.specs.Vec.Iter.{into_iter_items}
@@ -22,10 +22,14 @@ abbrev pub number_rule : Text → ℕ → Rule
 number_rule name most =
     record (new_rule name) { long = Some name; value_names = 1; parser = Some (Signed (pos 1) (pos most)) }
 
--- the three options
+-- `--version` is an option too
+abbrev pub with_version : App → App
+with_version app = record app { top = record app.top { has_version = true } }
+
+-- the three options of the program
 unfoldable pub options_line : App
 options_line =
-    with_rule (with_rule (with_rule (new_app (codes "compactd"))
+    with_rule (with_rule (with_rule (with_version (new_app (codes "compactd")))
     (number_rule (codes "copiers") 4)) (number_rule (codes "capacity") 64)) (number_rule (codes "journal") 65536)
 
 -- the kinds of clap's answer where the words give no options: none where they give them

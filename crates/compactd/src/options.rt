@@ -16,6 +16,20 @@ use std::convert::AsStr;
 use std::env::Args;
 use std::io;
 
+/// What `--help` says of scripts.
+const COMMANDS: &str = "\
+Commands of a script, one a line:
+  zone Z B, info Z
+  map Z S V [unmovable], mapat Z S V F [unmovable], fill Z S V N
+  share Z S V S2 V2, unmap Z S V, thin Z S V N STEP
+  store Z S V W X, load Z S V W, look Z S V, pin Z S V, unpin Z S V
+  scan Z, take Z K, copy Z K, finish Z K, shut Z
+  huge Z, give Z B
+and in profile 2, where the first line is `profile 2`:
+  huge Z K, give Z F K, mark Z B, unmark Z B
+
+docs/SCRIPT.md has what each does, its replies, refusals and faults, and examples.";
+
 /// The options that the process was started with, or clap's answer in their place.
 pub fn given_options(alloc: Global, words: io::Result<Args>) -> Result<Options, Error>
     ensures unread { IfErr words (λ error. IsErrAnd result (λ answer. HasKind (ErrorKind.ValueValidation ∷ []) answer)) }
@@ -88,22 +102,24 @@ fn command_line<'a>(alloc: Global) -> Result<Command<'a>, AllocError>
         alloc,
         "copiers",
         value_parser!(u32).range(1..=4),
-        "How many copiers a round has: 1 to 4, and 2 where it is left out",
+        "Copiers that a round has, 1 to 4 [default: 2]",
     );
     let capacity = number_option(
         alloc,
         "capacity",
         value_parser!(u32).range(1..=64),
-        "How many pages may wait for a copier: 1 to 64, and 8 where it is left out",
+        "Pages that may wait for a copier, 1 to 64 [default: 8]",
     );
     let journal = number_option(
         alloc,
         "journal",
         value_parser!(u32).range(1..=65536),
-        "How many records the journal holds: 1 to 65536, and 65536 where it is left out",
+        "Records that the journal holds, 1 to 65536 [default: 65536]",
     );
     Command::new(alloc, "compactd")
+        .version("0.1.0")
         .about("Runs the script on standard input, and writes a reply for each command")
+        .after_help(COMMANDS)
         .arg(copiers)?
         .arg(capacity)?
         .arg(journal)
