@@ -87,8 +87,8 @@ impl PlainZone {
         } = *way;
         let note = self.notes.get(page);
         self.frames.put(source, FrameState::Free);
-        self.frames.put(target, FrameState::Holds(page));
         self.frames.set_movable(target, note.can_move());
+        self.frames.put(target, FrameState::Holds(page));
         self.words.write_in(target, copy);
         self.tables.to_present(serial, source, target);
         self.moves.arrive();
@@ -112,8 +112,8 @@ impl PlainZone {
         } = *way;
         let note = self.notes.get(page);
         self.frames.put(target, FrameState::Free);
-        self.frames.put(source, FrameState::Holds(page));
         self.frames.set_movable(source, note.can_move());
+        self.frames.put(source, FrameState::Holds(page));
         self.tables.to_present(serial, source, source);
         self.moves.go_back();
         self.notes.put(page, note.placed(Placement::At(source)));
