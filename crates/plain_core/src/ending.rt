@@ -92,7 +92,7 @@ impl PlainZone {
         self.words.write_in(target, copy);
         self.tables.to_present(serial, source, target);
         self.moves.arrive();
-        self.notes.put(page, note.placed(Placement::At(target)));
+        self.notes.place(page, Placement::At(target));
         self.history.note(Record::Moved { serial });
     }
 
@@ -116,7 +116,7 @@ impl PlainZone {
         self.frames.put(source, FrameState::Holds(page));
         self.tables.to_present(serial, source, source);
         self.moves.go_back();
-        self.notes.put(page, note.placed(Placement::At(source)));
+        self.notes.place(page, Placement::At(source));
         self.history.note(Record::Back { serial, cause });
     }
 

@@ -85,10 +85,11 @@ impl Frames {
         requires { frame < length self.now.states }
         ensures { slice_get self.now.states frame ≡ Some result }
     {
-        if self.held.contains(frame.get()) {
+        let kept = self.kept[frame.get() as usize];
+        if lists::is_free(&kept) && self.held.contains(frame.get()) {
             return FrameState::Huge;
         }
-        self.kept[frame.get() as usize]
+        kept
     }
 
     /// Whether a frame is free.

@@ -1,10 +1,10 @@
 use Rattle.std.proofs.Common.{length, ◌≡◌, ◌∙◌, ◌-◌, ◌∷◌, ℕ, List, refl, ap, subst, sym, arith}
-use Rattle.std.specs.Prelude.{slice_set}
+use Rattle.std.specs.Prelude.{is_some, slice_set}
 use Rattle.frame_core.specs.declared.state.FrameState.TheVariants.{Free, Holds}
 use Rattle.journal_core.specs.declared.record.Record.TheVariants.{Moved}
 use Rattle.scan_core.specs.Frames.{Frames}
 use Rattle.state_core.specs.Pairs.{can_move}
-use Rattle.plain_core.proofs.Tables.{words_seen, note_seen, movable_seen}
+use Rattle.plain_core.proofs.Tables.{placement_seen, words_seen, note_seen, movable_seen}
 use Rattle.plain_core.proofs.ListedAddresses.{all_left, target_unnamed}
 use Rattle.plain_core.specs.Fits.{MovesFit}
 use Rattle.plain_core.specs.Moves.{Moves}
@@ -52,6 +52,9 @@ write_in-requires c =
     let within = target_in c.args.self.now c.args.way.now.page c.args.way.now.serial c.args.way.now.source c.args.way.now.target sound.lawful c.requires.placed in
     omega (arith, within, sound.words.count)
 
+pub place-requires : goal.place-requires
+place-requires c = ap is_some (placement_seen c.self.inside c.args.self.now c.self.view_is c.args.way.now.page ∙ c.requires.placed)
+
 pub note-requires : goal.note-requires
 note-requires c =
     let sound : IsSound c.self.inside c.args.self.now = subst (IsSound c.self.inside) c.self.view_is c.self.invariant in
@@ -64,7 +67,7 @@ after c = record c.self.inside {
   frames = c.put-2.new.self;
   tables = c.to_present.new.self;
   words = c.write_in.new.self;
-  notes = c.put-3.new.self;
+  notes = c.place.new.self;
   moves = c.arrive.new.self;
   history = c.note.new.self;
 }
@@ -97,7 +100,7 @@ settling c =
       tables = c.to_present.ensures.replaced;
       words = subst (λ (rows : List (List ℕ)). WordsSettled z.words rows (Moving way.serial way.source way.target) (At way.target)) (sym c.write_in.ensures.written)
           (moved_words z.words c.args.copy.now.words way.serial way.source way.target (omega (arith, target_here, sound.words.count)) (c.requires.words ∙ sym (words_seen z.words v sound.words law way.page (Moving way.serial way.source way.target) at)) c.write_in.ensures.eight);
-      notes = c.put-3.ensures ∙ ap (slice_set z.notes way.page) c.placed.ensures;
+      notes = c.place.ensures c.get-note.result c.get-note.ensures;
       moves = subst (λ (moves : Moves). MovesFit moves (Moved way.serial ∷ v.records) (v.room - 1)) (sym c.arrive.ensures)
           (moves_arrived z.moves v.records v.room sound.moves way.serial (ending_room v way.page way.serial way.source way.target law at));
       fingers_are = ap (λ (u : ZoneState). record { migrate = u.migrate; free = u.free }) c.self.view_is;

@@ -1,10 +1,10 @@
 use Rattle.std.proofs.Common.{length, ◌≡◌, ◌∙◌, ◌-◌, ◌∷◌, ℕ, refl, ap, subst, sym, arith}
-use Rattle.std.specs.Prelude.{slice_set}
+use Rattle.std.specs.Prelude.{is_some, slice_set}
 use Rattle.frame_core.specs.declared.state.FrameState.TheVariants.{Free, Holds}
 use Rattle.journal_core.specs.declared.record.Record.TheVariants.{Back}
 use Rattle.scan_core.specs.Frames.{Frames}
 use Rattle.state_core.specs.Pairs.{can_move}
-use Rattle.plain_core.proofs.Tables.{note_seen, movable_seen}
+use Rattle.plain_core.proofs.Tables.{placement_seen, note_seen, movable_seen}
 use Rattle.plain_core.proofs.ListedAddresses.{all_left}
 use Rattle.plain_core.specs.Fits.{MovesFit}
 use Rattle.plain_core.specs.Moves.{Moves}
@@ -46,6 +46,9 @@ set_movable-requires c =
     let within = source_within c.args.self.now c.args.way.now.page c.args.way.now.serial c.args.way.now.source c.args.way.now.target sound.lawful c.requires.placed in
     omega (arith, within, sound.frames.count, c.put.ensures.frames)
 
+pub place-requires : goal.place-requires
+place-requires c = ap is_some (placement_seen c.self.inside c.args.self.now c.self.view_is c.args.way.now.page ∙ c.requires.placed)
+
 pub note-requires : goal.note-requires
 note-requires c =
     let sound : IsSound c.self.inside c.args.self.now = subst (IsSound c.self.inside) c.self.view_is c.self.invariant in
@@ -57,7 +60,7 @@ abbrev after : After-note → Inside
 after c = record c.self.inside {
   frames = c.put-2.new.self;
   tables = c.to_present.new.self;
-  notes = c.put-3.new.self;
+  notes = c.place.new.self;
   moves = c.go_back.new.self;
   history = c.note.new.self;
 }
@@ -89,7 +92,7 @@ settling c =
           (c.can_move.ensures ∙ movable_seen z v way.page c.get-note.result (note_seen z v c.self.view_is sound way.page (not_none _ (Moving way.serial way.source way.target) at) c.get-note.result c.get-note.ensures)));
       tables = c.to_present.ensures.replaced;
       words = back_words z.words v sound.words way.serial way.source way.target source_in;
-      notes = c.put-3.ensures ∙ ap (slice_set z.notes way.page) c.placed.ensures;
+      notes = c.place.ensures c.get-note.result c.get-note.ensures;
       moves = subst (λ (moves : Moves). MovesFit moves (Back way.serial c.args.cause ∷ v.records) (v.room - 1)) (sym c.go_back.ensures)
           (moves_back z.moves v.records v.room sound.moves way.serial c.args.cause (ending_room v way.page way.serial way.source way.target law at));
       fingers_are = ap (λ (u : ZoneState). record { migrate = u.migrate; free = u.free }) c.self.view_is;
