@@ -1,6 +1,6 @@
 -- The notes of pages: which numbers are in use, and how many, when one changes.
 use Rattle.std.proofs.Common.{◌≡◌, ◌≢◌, ℕ, zero, suc, ◌+◌, ◌-◌, ◌<◌, ◌≤◌, Bool, true, false, not, List, length, inl, inr, refl, sym, ap, ◌∙◌, get_or, arith}
-use Rattle.std.specs.Prelude.{is_some, is_none, nat_eq, nat_lt, slice_set, ◌&&◌, if◌then◌else◌}
+use Rattle.std.specs.Prelude.{Option, Some, None, is_some, is_none, nat_eq, nat_lt, slice_set, ◌&&◌, if◌then◌else◌}
 use Rattle.std.specs.FinSet as set
 use Rattle.std.specs.Ordering.{nat_cmp}
 use Rattle.std.specs.Option.{option_and_then}
@@ -8,11 +8,12 @@ use Rattle.std.specs.Vec.{with_item}
 use Rattle.std.proofs.lemmas.Bool.{lt-ltb}
 use Rattle.std.proofs.lemmas.Bool.Decides.{eqb_tells}
 use Rattle.std.proofs.lemmas.List.{length-set}
-use Rattle.std.proofs.lemmas.Option.{slice_get-get_or}
+use Rattle.std.proofs.lemmas.Option.{slice_get-get_or, slice_get_cases}
 use Rattle.frame_core.proofs.Lists.{slice_get_set_same, slice_get_set_other}
 use Rattle.frame_core.proofs.Searches.{count_more, count_same}
 use Rattle.frame_core.specs.Below.{count_below, one_if}
 use Rattle.plain_core.specs.declared.note.Note.{Note}
+use Rattle.state_core.specs.declared.placement.Placement.{Placement}
 use Rattle.plain_core.specs.declared.notes.Notes.TheInside.{Inside}
 use Rattle.plain_core.specs.Notes.{placement_of, is_in_use}
 use Rattle.plain_core.specs.NotesInside.{IsCounted}
@@ -24,6 +25,21 @@ one_most false = omega arith
 pub in_use_most : (notes : List Note) (n : ℕ) → count_below (is_in_use notes) n ≤ n
 in_use_most notes zero = omega arith
 in_use_most notes (suc n) = omega (arith, one_most (is_in_use notes n), in_use_most notes n)
+
+-- a number in use has a note
+pub in_use_within : (notes : List Note) (page : ℕ) → is_in_use notes page ≡ true → page < length notes
+in_use_within notes page used = elim (slice_get_cases notes page).1 [
+  | inl here ↦ here.1
+  | inr past ↦ (let none : is_in_use notes page ≡ false = ap (λ o. is_some (option_and_then (λ (n : Note). n.placement) o)) past.1 in cc)
+]
+
+some_not_none : (placement : Option Placement) → is_some placement ≡ true → is_none placement ≡ false
+some_not_none (Some placement) e = refl
+some_not_none None e = cc
+
+and_false : (b : Bool) → (b && false) ≡ false
+and_false true = refl
+and_false false = refl
 
 module _ (notes : List Note) (page : ℕ) (note : Note) (within : page < length notes) where
   pub placement_here : (q : ℕ) → q ≡ page → placement_of (slice_set notes page note) q ≡ note.placement
@@ -98,3 +114,16 @@ module _ (z : Inside) (counted : IsCounted z) (page : ℕ) (note : Note) (within
       in_use = counted.in_use ∙ sym (kept z.notes.items page note within (same ∙ used));
       unused = unused_then unused number is at used put;
     }
+
+-- a page in use is placed elsewhere
+pub placed_counted : (z : Inside) → IsCounted z → (page : ℕ) (note : Note) → is_in_use z.notes.items page ≡ true → is_some note.placement ≡ true → IsCounted (record z { notes = with_item z.notes page note })
+placed_counted z counted page note used placed =
+    kept_counted z counted page note (in_use_within z.notes.items page used) z.unused page true refl (sym placed) unused used where
+      absent : set.contains z.unused page ≡ false
+      absent = counted.unused page ∙ ap (λ b. nat_lt page (length z.notes.items) && b) (some_not_none (placement_of z.notes.items page) used) ∙ and_false (nat_lt page (length z.notes.items))
+
+      unused : (q : ℕ) → set.contains z.unused q ≡ (if nat_eq q page then false else set.contains z.unused q)
+      unused q = elim (eqb_tells q page) [
+        | inl here ↦ (ap (set.contains z.unused) here.1 ∙ absent ∙ sym (ap (λ b. if b then false else set.contains z.unused q) here.0))
+        | inr away ↦ sym (ap (λ b. if b then false else set.contains z.unused q) away.0)
+      ]

@@ -142,5 +142,8 @@ module _ (v : ZoneState) (page serial source target : ℕ) (law : IsLawful v) (a
 pub two_puts : (f a b : Frames) (i j : ℕ) (x y : FrameState) → a ≡ record f { states = slice_set f.states i x } → b ≡ record a { states = slice_set a.states j y } → b ≡ record f { states = slice_set (slice_set f.states i x) j y }
 two_puts f a b i j x y first second = second ∙ ap (λ (fs : Frames). record fs { states = slice_set fs.states j y }) first
 
+pub then_put : (f b c : Frames) (j : ℕ) (y : FrameState) → b ≡ f → c ≡ record b { states = slice_set b.states j y } → c ≡ record f { states = slice_set f.states j y }
+then_put f b c j y before second = second ∙ ap (λ (fs : Frames). record fs { states = slice_set fs.states j y }) before
+
 pub then_noted : (f b c : Frames) (k : ℕ) (can : Bool) → b ≡ f → c ≡ record b { movable = slice_set b.movable k can } → c ≡ record f { movable = slice_set f.movable k can }
 then_noted f b c k can before noted = noted ∙ ap (λ (fs : Frames). record fs { movable = slice_set fs.movable k can }) before

@@ -87,12 +87,12 @@ impl PlainZone {
         } = *way;
         let note = self.notes.get(page);
         self.frames.put(source, FrameState::Free);
-        self.frames.put(target, FrameState::Holds(page));
         self.frames.set_movable(target, note.can_move());
+        self.frames.put(target, FrameState::Holds(page));
         self.words.write_in(target, copy);
         self.tables.to_present(serial, source, target);
         self.moves.arrive();
-        self.notes.put(page, note.placed(Placement::At(target)));
+        self.notes.place(page, Placement::At(target));
         self.history.note(Record::Moved { serial });
     }
 
@@ -112,11 +112,11 @@ impl PlainZone {
         } = *way;
         let note = self.notes.get(page);
         self.frames.put(target, FrameState::Free);
-        self.frames.put(source, FrameState::Holds(page));
         self.frames.set_movable(source, note.can_move());
+        self.frames.put(source, FrameState::Holds(page));
         self.tables.to_present(serial, source, source);
         self.moves.go_back();
-        self.notes.put(page, note.placed(Placement::At(source)));
+        self.notes.place(page, Placement::At(source));
         self.history.note(Record::Back { serial, cause });
     }
 

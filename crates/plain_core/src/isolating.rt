@@ -92,8 +92,7 @@ impl PlainZone {
             source,
             target,
         };
-        let note = self.notes.get(page);
-        self.notes.put(page, note.placed(way));
+        self.notes.place(page, way);
         self.fingers = Fingers {
             migrate: source.get() + 1,
             free: target.get(),

@@ -69,8 +69,8 @@ impl PlainZone {
     {
         let named = address;
         let page = self.unused_page();
-        self.frames.put(frame, FrameState::Holds(page));
         self.frames.set_movable(frame, !unmovable);
+        self.frames.put(frame, FrameState::Holds(page));
         self.tables.set(named, frame);
         self.words.blank(frame);
         self.notes.put(page, Note::fresh(frame, unmovable));

@@ -91,16 +91,6 @@ impl Note {
         }
     }
 
-    /// Of the page at another place.
-    pub fn placed(self, placement: Placement) -> Self
-        ensures { result ≡ record self { placement = Some placement } }
-    {
-        Note {
-            placement: Some(placement),
-            ..self
-        }
-    }
-
     /// Of a fresh page at a frame.
     pub fn fresh(frame: FrameNo, unmovable: bool) -> Self
         ensures { result ≡ record { placement = Some (At frame); unmovable = unmovable; dirty = false; pins = 0; maps = 1 } }

@@ -1,9 +1,10 @@
 //! What a zone notes of its pages.
 
-ghost use Rattle.std.specs.Prelude.{◌≡◌, ℕ, ◌<◌, ◌≤◌, nat_lt, length, replicate, slice_get, slice_set, is_none, Some, IfOk};
+ghost use Rattle.std.specs.Prelude.{◌≡◌, ℕ, ◌<◌, ◌≤◌, true, nat_lt, length, replicate, slice_get, slice_set, is_none, Some, IfOk};
 ghost use Rattle.std.specs.FinSet as set;
 ghost use Rattle.frame_core.specs.Below.{count_below, lowest};
 ghost use Rattle.plain_core.specs.Notes.{placement_of, is_in_use, unused_note};
+ghost use Rattle.plain_core.specs.declared.note.Note.{Note as Noted};
 
 use crate::note::Note;
 use frame_core::{PageNo, filled};
@@ -88,6 +89,14 @@ impl Notes {
         } else if is {
             self.in_use += 1;
         }
+    }
+
+    /// Places a page in use elsewhere.
+    pub fn place(&mut self, page: PageNo, placement: Placement)
+        requires { is_in_use self.old page ≡ true }
+        ensures { (note : Noted) → slice_get self.old page ≡ Some note → self.new ≡ slice_set self.old page (record note { placement = Some placement }) }
+    {
+        self.notes[page.get() as usize].placement = Some(placement);
     }
 
     /// The lowest page number that isn't in use.

@@ -72,6 +72,7 @@ impl FrameSet {
     }
 
     /// Puts a frame in or takes it out.
+    #[inline(always)]
     pub fn put(&mut self, frame: FrameNo, member: bool)
         ensures { (other : ℕ) → set.contains self.new other ≡ (if nat_eq other frame then member else set.contains self.old other) }
     {

@@ -85,10 +85,11 @@ impl Frames {
         requires { frame < length self.now.states }
         ensures { slice_get self.now.states frame ≡ Some result }
     {
-        if self.held.contains(frame.get()) {
+        let kept = self.kept[frame.get() as usize];
+        if lists::is_free(&kept) && self.held.contains(frame.get()) {
             return FrameState::Huge;
         }
-        self.kept[frame.get() as usize]
+        kept
     }
 
     /// Whether a frame is free.
@@ -100,6 +101,7 @@ impl Frames {
     }
 
     /// Uses a frame for something else, or frees it.
+    #[inline(always)]
     pub fn put(&mut self, frame: FrameNo, state: FrameState)
         requires { frame < length self.old.states }
         ensures state { self.new ≡ record self.old { states = slice_set self.old.states frame state } }
@@ -145,6 +147,7 @@ impl Frames {
     }
 
     /// Says whether the page that a frame holds may be taken from it.
+    #[inline(always)]
     pub fn set_movable(&mut self, frame: FrameNo, movable: bool)
         requires { frame < length self.old.states }
         ensures movable { self.new ≡ record self.old { movable = slice_set self.old.movable frame movable } }

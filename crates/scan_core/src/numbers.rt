@@ -64,13 +64,16 @@ impl NumberSet {
     }
 
     /// Puts a number in or takes it out.
+    #[inline(always)]
     pub fn put(&mut self, number: u32, member: bool)
         requires { number < 4096 }
         ensures { (other : ℕ) → set.contains self.new other ≡ (if nat_eq other number then member else set.contains self.old other) }
     {
         if member {
-            self.insert(number);
-        } else {
+            if !self.contains(number) {
+                self.insert(number);
+            }
+        } else if self.contains(number) {
             self.remove(number);
         }
     }

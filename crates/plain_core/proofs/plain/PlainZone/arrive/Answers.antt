@@ -1,10 +1,10 @@
-use Rattle.std.proofs.Common.{◌≡◌, ◌∙◌, ◌-◌, ◌∷◌, ℕ, List, refl, ap, subst, sym, arith}
-use Rattle.std.specs.Prelude.{slice_set}
+use Rattle.std.proofs.Common.{length, ◌≡◌, ◌∙◌, ◌-◌, ◌∷◌, ℕ, List, refl, ap, subst, sym, arith}
+use Rattle.std.specs.Prelude.{is_some, slice_set}
 use Rattle.frame_core.specs.declared.state.FrameState.TheVariants.{Free, Holds}
 use Rattle.journal_core.specs.declared.record.Record.TheVariants.{Moved}
 use Rattle.scan_core.specs.Frames.{Frames}
 use Rattle.state_core.specs.Pairs.{can_move}
-use Rattle.plain_core.proofs.Tables.{words_seen, note_seen, movable_seen}
+use Rattle.plain_core.proofs.Tables.{placement_seen, words_seen, note_seen, movable_seen}
 use Rattle.plain_core.proofs.ListedAddresses.{all_left, target_unnamed}
 use Rattle.plain_core.specs.Fits.{MovesFit}
 use Rattle.plain_core.specs.Moves.{Moves}
@@ -17,7 +17,7 @@ use Rattle.plain_core.specs.Sound.{IsSound, state_of}
 use Rattle.state_core.specs.ZoneState.{ZoneState}
 use Rattle.state_core.proofs.Facts.{not_none}
 use Rattle.state_core.proofs.Settled.{can_move_on, moved_recorded, frames_apart, source_within, target_in, swept_if_moved}
-use Rattle.plain_core.proofs.MoveEnds.{moved_frames, moved_words, kept_movable, two_puts, then_noted, moved_settled, some_on_the_way, ending_room}
+use Rattle.plain_core.proofs.MoveEnds.{moved_frames, moved_words, kept_movable, then_put, then_noted, moved_settled, some_on_the_way, ending_room}
 use Rattle.plain_core.proofs.Relocation.{Settling, FramesSettled, MovableSettled, WordsSettled, settle_sound, settle_view}
 use Rattle.plain_core.proofs.plain.PlainZone.arrive.Goals as goal
 use Rattle.plain_core.proofs.plain.PlainZone.arrive.Goals.{After-note}
@@ -38,19 +38,22 @@ pub put-requires-2 : goal.put-requires-2
 put-requires-2 c =
     let sound : IsSound c.self.inside c.args.self.now = subst (IsSound c.self.inside) c.self.view_is c.self.invariant in
     let within = target_in c.args.self.now c.args.way.now.page c.args.way.now.serial c.args.way.now.source c.args.way.now.target sound.lawful c.requires.placed in
-    omega (arith, within, sound.frames.count, c.put.ensures.frames)
+    omega (arith, within, sound.frames.count, c.put.ensures.frames, ap (λ (fs : Frames). length fs.states) c.set_movable.ensures.movable)
 
 pub set_movable-requires : goal.set_movable-requires
 set_movable-requires c =
     let sound : IsSound c.self.inside c.args.self.now = subst (IsSound c.self.inside) c.self.view_is c.self.invariant in
     let within = target_in c.args.self.now c.args.way.now.page c.args.way.now.serial c.args.way.now.source c.args.way.now.target sound.lawful c.requires.placed in
-    omega (arith, within, sound.frames.count, c.put.ensures.frames, c.put-2.ensures.frames)
+    omega (arith, within, sound.frames.count, c.put.ensures.frames)
 
 pub write_in-requires : goal.write_in-requires
 write_in-requires c =
     let sound : IsSound c.self.inside c.args.self.now = subst (IsSound c.self.inside) c.self.view_is c.self.invariant in
     let within = target_in c.args.self.now c.args.way.now.page c.args.way.now.serial c.args.way.now.source c.args.way.now.target sound.lawful c.requires.placed in
     omega (arith, within, sound.words.count)
+
+pub place-requires : goal.place-requires
+place-requires c = ap is_some (placement_seen c.self.inside c.args.self.now c.self.view_is c.args.way.now.page ∙ c.requires.placed)
 
 pub note-requires : goal.note-requires
 note-requires c =
@@ -61,16 +64,16 @@ note-requires c =
 -- the fields after the call
 abbrev after : After-note → Inside
 after c = record c.self.inside {
-  frames = c.set_movable.new.self;
+  frames = c.put-2.new.self;
   tables = c.to_present.new.self;
   words = c.write_in.new.self;
-  notes = c.put-3.new.self;
+  notes = c.place.new.self;
   moves = c.arrive.new.self;
   history = c.note.new.self;
 }
 
-frames_are : (c : After-note) → c.set_movable.new.self ≡ record { states = slice_set (slice_set c.self.inside.frames.states c.args.way.now.source Free) c.args.way.now.target (Holds c.args.way.now.page); movable = slice_set c.self.inside.frames.movable c.args.way.now.target c.can_move.result }
-frames_are c = then_noted _ c.put-2.new.self c.set_movable.new.self _ _ (two_puts c.self.inside.frames c.put.new.self c.put-2.new.self _ _ _ _ c.put.ensures.state c.put-2.ensures.state) c.set_movable.ensures.movable
+frames_are : (c : After-note) → c.put-2.new.self ≡ record { states = slice_set (slice_set c.self.inside.frames.states c.args.way.now.source Free) c.args.way.now.target (Holds c.args.way.now.page); movable = slice_set c.self.inside.frames.movable c.args.way.now.target c.can_move.result }
+frames_are c = then_put _ c.set_movable.new.self c.put-2.new.self _ _ (then_noted _ c.put.new.self c.set_movable.new.self _ _ c.put.ensures.state c.set_movable.ensures.movable) c.put-2.ensures.state
 
 settling : (c : After-note) → Settling c.self.inside (after c) c.args.self.now c.args.way.now.page (Moving c.args.way.now.serial c.args.way.now.source c.args.way.now.target) (At c.args.way.now.target) (Moved c.args.way.now.serial) c.get-note.result c.args.self.now.migrate c.args.self.now.free
 settling c =
@@ -97,7 +100,7 @@ settling c =
       tables = c.to_present.ensures.replaced;
       words = subst (λ (rows : List (List ℕ)). WordsSettled z.words rows (Moving way.serial way.source way.target) (At way.target)) (sym c.write_in.ensures.written)
           (moved_words z.words c.args.copy.now.words way.serial way.source way.target (omega (arith, target_here, sound.words.count)) (c.requires.words ∙ sym (words_seen z.words v sound.words law way.page (Moving way.serial way.source way.target) at)) c.write_in.ensures.eight);
-      notes = c.put-3.ensures ∙ ap (slice_set z.notes way.page) c.placed.ensures;
+      notes = c.place.ensures c.get-note.result c.get-note.ensures;
       moves = subst (λ (moves : Moves). MovesFit moves (Moved way.serial ∷ v.records) (v.room - 1)) (sym c.arrive.ensures)
           (moves_arrived z.moves v.records v.room sound.moves way.serial (ending_room v way.page way.serial way.source way.target law at));
       fingers_are = ap (λ (u : ZoneState). record { migrate = u.migrate; free = u.free }) c.self.view_is;

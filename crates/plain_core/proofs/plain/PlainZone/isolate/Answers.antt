@@ -1,5 +1,6 @@
-use Rattle.std.proofs.Common.{◌≡◌, ◌∙◌, ◌+◌, ◌-◌, ◌∷◌, ℕ, refl, ap, subst, sym, arith}
-use Rattle.std.specs.Prelude.{Some, slice_set}
+use Rattle.std.proofs.Common.{get_or, ◌≡◌, ◌∙◌, ◌+◌, ◌-◌, ◌∷◌, ℕ, refl, ap, subst, sym, arith}
+use Rattle.std.specs.Prelude.{Some, is_some, slice_get, slice_set}
+use Rattle.std.proofs.lemmas.Option.{slice_get-get_or}
 use Rattle.frame_core.specs.declared.state.FrameState.TheVariants.{Source, Target}
 use Rattle.journal_core.specs.declared.record.Record.TheVariants.{Isolate}
 use Rattle.journal_core.specs.Moves.{isolated}
@@ -14,7 +15,10 @@ use Rattle.plain_core.proofs.ListedAddresses.{fresh_serial}
 use Rattle.plain_core.specs.Fits.{MovesFit}
 use Rattle.plain_core.specs.History.{told}
 use Rattle.plain_core.specs.Moves.{Moves}
-use Rattle.state_core.proofs.Facts.{isolated_most}
+use Rattle.state_core.proofs.Facts.{isolated_most, not_none}
+use Rattle.plain_core.proofs.Tables.{placement_seen, note_within}
+use Rattle.plain_core.specs.Notes.{unused_note}
+use Rattle.plain_core.specs.declared.note.Note.{Note}
 use Rattle.plain_core.proofs.OutAndEnded.{moves_more}
 use Rattle.plain_core.specs.Sound.{IsSound}
 use Rattle.plain_core.proofs.Isolation.{isolated_frames, isolated_words, isolated_movable}
@@ -42,18 +46,33 @@ isolate-serial-requires c =
     let room = c.requires.room in
     omega (arith, sound.moves.count, sound.moves.places, isolated_most c.args.self.now.records)
 
+pub place-requires : goal.place-requires
+place-requires c =
+    let sound : IsSound c.self.inside c.args.self.now = subst (IsSound c.self.inside) c.self.view_is c.self.invariant in
+    ap is_some (placement_seen c.self.inside c.args.self.now c.self.view_is c.args.pair.page ∙ (can_isolate c.args.self.now c.args.pair sound.lawful c.requires.pair).at)
+
+-- the note of the page
+abbrev noted : After-note → Note
+noted c = get_or c.self.inside.notes c.args.pair.page unused_note
+
+note_is : (c : After-note) → slice_get c.self.inside.notes c.args.pair.page ≡ Some (noted c)
+note_is c =
+    let sound : IsSound c.self.inside c.args.self.now = subst (IsSound c.self.inside) c.self.view_is c.self.invariant in
+    let used = not_none _ (At c.args.pair.source) (can_isolate c.args.self.now c.args.pair sound.lawful c.requires.pair).at in
+    slice_get-get_or c.self.inside.notes c.args.pair.page unused_note (note_within c.self.inside c.args.self.now sound c.args.pair.page used)
+
 -- the fields after the call
 abbrev after : After-note → Inside
 after c = record c.self.inside {
   frames = c.put-2.new.self;
   tables = c.to_migration.new.self;
-  notes = c.put-3.new.self;
+  notes = c.place.new.self;
   moves = c.isolate-serial.new.self;
   fingers = record { migrate = c.get.result + 1; free = c.get-2.result };
   history = c.note.new.self;
 }
 
-settling : (c : After-note) → Settling c.self.inside (after c) c.args.self.now c.args.pair.page (At c.args.pair.source) (Moving (isolated c.args.self.now.records) c.args.pair.source c.args.pair.target) (Isolate (isolated c.args.self.now.records) c.args.pair.page) c.get-note.result (c.args.pair.source + 1) c.args.pair.target
+settling : (c : After-note) → Settling c.self.inside (after c) c.args.self.now c.args.pair.page (At c.args.pair.source) (Moving (isolated c.args.self.now.records) c.args.pair.source c.args.pair.target) (Isolate (isolated c.args.self.now.records) c.args.pair.page) (noted c) (c.args.pair.source + 1) c.args.pair.target
 settling c =
     let z = c.self.inside in
     let v = c.args.self.now in
@@ -74,7 +93,7 @@ settling c =
       can = can_isolate v pair law is;
       recorded = isolate_recorded v pair law is c.requires.room;
       spare = omega arith;
-      note_is = c.get-note.ensures;
+      note_is = note_is c;
       frames = subst (λ (fs : Frames). FramesSettled z.frames.states fs.states pair.page (At pair.source) (Moving (isolated v.records) pair.source pair.target)) (sym frames_are)
           (subst (λ (n : ℕ). FramesSettled z.frames.states (slice_set (slice_set z.frames.states pair.source (Source n)) pair.target (Target n)) pair.page (At pair.source) (Moving (isolated v.records) pair.source pair.target)) (sym serial)
           (isolated_frames z.frames.states pair.page pair.source pair.target (isolated v.records) (λ e. absurd (omega arith)) (omega (arith, target_in, sound.frames.count)) (omega (arith, target_in, sound.frames.count))));
@@ -82,7 +101,7 @@ settling c =
           (isolated_movable z.frames.movable (can_move v pair.page) (isolated v.records) pair.source pair.target);
       tables = subst (λ (n : ℕ). Replaces z.tables.entries c.to_migration.new.self.entries (Present pair.source) (Migration n pair.source)) serial c.to_migration.ensures.replaced;
       words = isolated_words z.words v sound.words (isolated v.records) pair.source pair.target (omega arith) target_in;
-      notes = c.put-3.ensures ∙ ap (slice_set z.notes pair.page) (c.placed.ensures ∙ ap (λ (n : ℕ). record c.get-note.result { placement = Some (Moving n pair.source pair.target) }) serial);
+      notes = c.place.ensures (noted c) (note_is c) ∙ ap (λ (n : ℕ). slice_set z.notes pair.page (record (noted c) { placement = Some (Moving n pair.source pair.target) })) serial;
       moves = subst (λ (moves : Moves). MovesFit moves (Isolate (isolated v.records) pair.page ∷ v.records) (v.room - 1)) (sym c.isolate-serial.ensures.pages)
           (moves_more z.moves v.records v.room sound.moves pair.page (omega arith));
       fingers_are = λ i. record { migrate = c.get.ensures.value i + 1; free = c.get-2.ensures.value i };
