@@ -8,37 +8,43 @@ use Rattle.script_core.specs.declared.error.RunError.{RunError}
 use Rattle.script_core.specs.declared.error.Fault.{Fault}
 use Rattle.script_core.specs.declared.error.Fault.TheVariants.{Syntax, LongLine, Read, Write, Memory}
 use Rattle.script_core.specs.declared.script.Totals.{Totals}
-use Rattle.script_core.specs.Ends.{IsOpening, StopsIn}
-use Rattle.script_core.specs.Outbox.{Owes}
+use Rattle.script_core.specs.Runs.{Rule, Asking, Begins, IsAsking, IsStopped, Replied}
 use Rattle.text_core.specs.Reply.{newlines}
-use Rattle.script_core.specs.Script.{Numbered, answers_from, answers_of, commands_from, commands_of, cut_fault, fault_from, fault_of}
+use Rattle.script_core.specs.Script.{Numbered, commands_from, commands_of, cut_fault, fault_from, fault_of}
 use Rattle.script_core.specs.Player.{Player, EndsBy, Finishes, StopsBy, HasRead, HasFault}
-use Rattle.script_core.proofs.Lines.{length-answers_from, parts-end}
-use Rattle.script_core.proofs.Reading.{whole_is}
+use Rattle.script_core.proofs.Lines.{parts-end}
+use Rattle.script_core.proofs.Reading.{begins_of, whole_is}
 
-commands_end : (places : ℕ) (s : Player) (input : List ℕ) (first now : Option (List ℕ)) → (r : HasRead places s input first now) → commands_of input ≡ r.before
-commands_end places s input first now r =
+pub commands_end : {S : Type 0} (may : Rule S) (start : S) (s : Player S) (input : List ℕ) (first now : Option (List ℕ)) → (r : HasRead may start s input first now) → commands_of input ≡ r.before
+commands_end may start s input first now r =
     ap commands_of r.split ∙ r.commands s.held ∙ ap (λ (ps : List (List ℕ)). r.before ++ commands_from s.profile s.line ps) (parts-end s.held r.unbroken) ∙ append-nil r.before
 
-fault_end : (places : ℕ) (s : Player) (input : List ℕ) (first now : Option (List ℕ)) → (r : HasRead places s input first now) → fault_of input ≡ cut_fault s.line s.held
-fault_end places s input first now r = ap fault_of r.split ∙ r.fault s.held ∙ ap (fault_from s.profile s.line) (parts-end s.held r.unbroken)
+pub fault_end : {S : Type 0} (may : Rule S) (start : S) (s : Player S) (input : List ℕ) (first now : Option (List ℕ)) → (r : HasRead may start s input first now) → fault_of input ≡ cut_fault s.line s.held
+fault_end may start s input first now r = ap fault_of r.split ∙ r.fault s.held ∙ ap (fault_from s.profile s.line) (parts-end s.held r.unbroken)
 
-pub owes_end : (places : ℕ) (s : Player) (input : List ℕ) (first now : Option (List ℕ)) → HasRead places s input first now → Owes s.box (answers_of places input) first now
-owes_end places s input first now r =
-    let O : List Numbered → Type 0 = λ cs. Owes s.box (answers_from places None cs) first now in subst O (sym (commands_end places s input first now r)) r.owes
-
--- an input that ends where no line has begun
-pub read_end : (places : ℕ) (s : Player) (input : List ℕ) (first now : Option (List ℕ)) → HasRead places s input first now → s.held ≡ [] → Finishes places s input None first now
-read_end places s input first now r none = record {
-  fault = fault_end places s input first now r ∙ ap (cut_fault s.line) none;
-  owes = owes_end places s input first now r;
+-- the same replies, to the same commands
+abbrev begins_same : {S : Type 0} (may : Rule S) (start : S) (commands same : List Numbered) → commands ≡ same → Begins may start commands → Begins may start same
+begins_same may start commands same is b = record {
+  answers = b.answers;
+  after = b.after;
+  replied = (let R : List Numbered → Type 0 = λ cs. Replied may start cs b.answers b.after in subst R is b.replied);
 }
 
-pub totals_end : (places : ℕ) (s : Player) (input : List ℕ) (first now : Option (List ℕ)) → HasRead places s input first now → s.held ≡ [] → (s.line - 1 ≡ newlines input) × (s.replies ≡ length (answers_of places input))
-totals_end places s input first now r none = (
-  omega (arith, r.line, ap newlines (whole_is places s input first now r none)),
-  r.replies ∙ ap length (sym (commands_end places s input first now r)) ∙ sym (length-answers_from places None (commands_of input)),
-)
+-- the input that ends here was answered
+abbrev pub begins_end : {S : Type 0} (may : Rule S) (start : S) (s : Player S) (input : List ℕ) (first now : Option (List ℕ)) → HasRead may start s input first now → Begins may start (commands_of input)
+begins_end may start s input first now r =
+    begins_same may start r.before (commands_of input) (sym (commands_end may start s input first now r)) (begins_of may start s input first now r)
+
+-- an input that ends where no line has begun
+abbrev pub read_end : {S : Type 0} (may : Rule S) (start : S) (s : Player S) (input : List ℕ) (first now : Option (List ℕ)) → HasRead may start s input first now → s.held ≡ [] → Finishes may start s input None first now
+read_end may start s input first now r none = record {
+  fault = fault_end may start s input first now r ∙ ap (cut_fault s.line) none;
+  begins = begins_end may start s input first now r;
+  owes = r.owes;
+}
+
+pub lines_end : {S : Type 0} (may : Rule S) (start : S) (s : Player S) (input : List ℕ) (first now : Option (List ℕ)) → HasRead may start s input first now → s.held ≡ [] → s.line - 1 ≡ newlines input
+lines_end may start s input first now r none = omega (arith, r.line, ap newlines (whole_is may start s input first now r none))
 
 cut_is : (line : ℕ) (cut : List ℕ) → 0 < length cut → length cut ≤ 200 → cut_fault line cut ≡ Some (record { fault = Syntax; line = line })
 cut_is line [] some short = absurd (omega arith)
@@ -47,18 +53,19 @@ cut_is line (b ∷ bytes) some short =
     ap (λ (t : Bool). Some (record { fault = if t then LongLine else Syntax; line = line })) few
 
 -- an input that ends within a line
-pub read_cut : (places : ℕ) (s : Player) (input : List ℕ) (first now : Option (List ℕ)) → HasRead places s input first now → 0 < length s.held → Finishes places s input (Some (record { fault = Syntax; line = s.line })) first now
-read_cut places s input first now r some = record {
-  fault = fault_end places s input first now r ∙ cut_is s.line s.held some r.short;
-  owes = owes_end places s input first now r;
+pub read_cut : {S : Type 0} (may : Rule S) (start : S) (s : Player S) (input : List ℕ) (first now : Option (List ℕ)) → HasRead may start s input first now → 0 < length s.held → Finishes may start s input (Some (record { fault = Syntax; line = s.line })) first now
+read_cut may start s input first now r some = record {
+  fault = fault_end may start s input first now r ∙ cut_is s.line s.held some r.short;
+  begins = begins_end may start s input first now r;
+  owes = r.owes;
 }
 
 -- what was read has no fault but that its last line is cut
-pub read_clean : (places : ℕ) (s : Player) (past : List ℕ) (first now : Option (List ℕ)) → HasRead places s past first now → IfSome (fault_of past) (λ e. e ≡ record { fault = Syntax; line = s.line })
-read_clean places s past first now r = by_held s.held refl where
+pub read_clean : {S : Type 0} (may : Rule S) (start : S) (s : Player S) (past : List ℕ) (first now : Option (List ℕ)) → HasRead may start s past first now → IfSome (fault_of past) (λ e. e ≡ record { fault = Syntax; line = s.line })
+read_clean may start s past first now r = by_held s.held refl where
   by_held : (held : List ℕ) → s.held ≡ held → IfSome (fault_of past) (λ e. e ≡ record { fault = Syntax; line = s.line })
-  by_held [] is = rw (fault_end places s past first now r ∙ ap (cut_fault s.line) is) tt
-  by_held (b ∷ bytes) is = rw (fault_end places s past first now r ∙ cut_is s.line s.held (omega (arith, ap length is)) r.short) refl
+  by_held [] is = rw (fault_end may start s past first now r ∙ ap (cut_fault s.line) is) tt
+  by_held (b ∷ bytes) is = rw (fault_end may start s past first now r ∙ cut_is s.line s.held (omega (arith, ap length is)) r.short) refl
 
 pub consumed : (left left_new : Option (List ℕ)) (input past : List ℕ) → left ≡ Some input → Consumes left left_new past → (rest : List ℕ) × (left_new ≡ Some rest) × (input ≡ past ++ rest)
 consumed None left_new input past e took = cc
@@ -70,29 +77,29 @@ consumed_all None left_new input past e took end = cc
 consumed_all (Some xs) None input past e took end = absurd took
 consumed_all (Some xs) (Some ys) input past e took end = let same : input ≡ xs = cc in sym (append-nil past) ∙ ap (λ (r : List ℕ). past ++ r) (sym end) ∙ sym took ∙ sym same
 
-fault_stops : (places : ℕ) (s : Player) (past rest input : List ℕ) (e : RunError) (first now : Option (List ℕ)) → input ≡ past ++ rest → HasFault places s past e first now → Finishes places s input (Some e) first now
-fault_stops places s past rest input e first now split h =
-    let O : List Numbered → Type 0 = λ cs. Owes s.box (answers_from places None cs) first now in
-    record {
-      fault = ap fault_of split ∙ h.fault rest;
-      owes = subst O (sym (ap commands_of split ∙ h.commands rest)) h.owes;
-    }
+fault_stops : {S : Type 0} (may : Rule S) (start : S) (s : Player S) (past rest input : List ℕ) (e : RunError) (first now : Option (List ℕ)) → input ≡ past ++ rest → HasFault may start s past e first now → Finishes may start s input (Some e) first now
+fault_stops may start s past rest input e first now split h = record {
+  fault = ap fault_of split ∙ h.fault rest;
+  begins = begins_same may start h.before (commands_of input) (sym (ap commands_of split ∙ h.commands rest)) h.begins;
+  owes = h.owes;
+}
 
-pub ends_stop : (f : Fault) (places : ℕ) (s : Player) (past rest input : List ℕ) (e : RunError) (left left_new first now : Option (List ℕ)) → input ≡ past ++ rest → EndsBy f places s past e first now → StopsBy f places s input e left left_new first now
-ends_stop Syntax places s past rest input e left left_new first now split h = fault_stops places s past rest input e first now split h
-ends_stop LongLine places s past rest input e left left_new first now split h = fault_stops places s past rest input e first now split h
-ends_stop Read places s past rest input e left left_new first now split h = absurd h
-ends_stop Write places s past rest input e left left_new first now split h = let S : List ℕ → Type 0 = λ i. StopsIn (answers_of places i) first now e.line in subst S (sym split) (h rest)
-ends_stop Memory places s past rest input e left left_new first now split h = record {
+pub ends_stop : {S : Type 0} (may : Rule S) (asks : Asking S) (start : S) (f : Fault) (s : Player S) (past rest input : List ℕ) (e : RunError) (left left_new first now : Option (List ℕ)) → input ≡ past ++ rest → EndsBy may asks start f s past e first now → StopsBy may asks start f s input e left left_new first now
+ends_stop may asks start Syntax s past rest input e left left_new first now split h = fault_stops may start s past rest input e first now split h
+ends_stop may asks start LongLine s past rest input e left left_new first now split h = fault_stops may start s past rest input e first now split h
+ends_stop may asks start Read s past rest input e left left_new first now split h = absurd h
+ends_stop may asks start Write s past rest input e left left_new first now split h = let W : List ℕ → Type 0 = λ i. IsStopped may start i first now e.line in subst W (sym split) (h rest)
+ends_stop may asks start Memory s past rest input e left left_new first now split h = record {
   before = h.before;
-  opening = (let O : List ℕ → Type 0 = λ i. IsOpening places i h.before e.line in subst O (sym split) (h.opening rest));
+  begins = h.begins;
+  asking = (let O : List ℕ → Type 0 = λ i. IsAsking asks i h.before h.begins.after e.line in subst O (sym split) (h.asking rest));
   owes = h.owes;
 }
 
 -- an input that was read to its end
-pub end_finishes : (places : ℕ) (s : Player) (past input : List ℕ) (left mid left_new first now : Option (List ℕ)) → left ≡ Some input → Consumes left mid past → Consumes mid left_new [] → IsAtEnd left_new → HasRead places s past first now → HasRead places s input first now
-end_finishes places s past input left mid left_new first now known took none end h =
-    let R : List ℕ → Type 0 = λ p. HasRead places s p first now in
+pub end_finishes : {S : Type 0} (may : Rule S) (start : S) (s : Player S) (past input : List ℕ) (left mid left_new first now : Option (List ℕ)) → left ≡ Some input → Consumes left mid past → Consumes mid left_new [] → IsAtEnd left_new → HasRead may start s past first now → HasRead may start s input first now
+end_finishes may start s past input left mid left_new first now known took none end h =
+    let R : List ℕ → Type 0 = λ p. HasRead may start s p first now in
     subst R (sym (append-nil past) ∙ consumed_all left left_new input (past ++ []) known (Consumes-trans left mid left_new past [] took none) end) h
 
 pub took_none : (left left_new : Option (List ℕ)) (n : ℕ) (buffer : List ℕ) → n ≡ 0 → Consumes left left_new (take n buffer) → Consumes left left_new []

@@ -5,4 +5,5 @@ pub mod Reading
 pub mod Inputs
 pub mod Closing
 pub mod Endings
+pub mod SerialRuns
 pub mod SeriesOfCalls

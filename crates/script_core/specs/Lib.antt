@@ -2,6 +2,8 @@ pub mod ErrorNumber
 pub mod Machine
 pub mod Script
 pub mod Ends
+pub mod Runs
+pub mod Serial
 pub mod Outbox
 pub mod Player
 pub mod Streams

@@ -11,6 +11,7 @@ mod options;
 mod outbox;
 mod output;
 mod player;
+mod respond;
 mod script;
 mod sink;
 mod source;

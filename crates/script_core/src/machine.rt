@@ -1,5 +1,6 @@
-ghost use Rattle.std.specs.Prelude.{◌≡◌, ◌<◌, ◌≤◌, bit_and, Some, None, IfOk, OnErr, IsTrue};
-ghost use Rattle.script_core.specs.Machine.{call_at, call_step, calls_step, ending, found, open_step, opens, page_step, series_step, step, step_on};
+ghost use Rattle.std.specs.Prelude.{◌≡◌, ◌<◌, ◌≤◌, bit_and, Some, None, IfOk, OnErr, OnOk};
+ghost use Rattle.script_core.specs.Machine.{call_at, call_step, calls_step, ending, found, open_step, page_step, series_step, step_on};
+ghost use Rattle.script_core.specs.Serial.{IsStep, Opens, serial_at_first};
 ghost use Rattle.text_core.specs.Grammar.{address_of};
 ghost use Rattle.text_core.specs.declared.reply.Reply.TheVariants as reply;
 ghost use Rattle.zone_core.specs.Books.{AreFor};
@@ -7,6 +8,7 @@ ghost use Rattle.zone_core.specs.ErrorNumber.{world_number_of};
 ghost use Rattle.state_core.specs.ErrorNumber.{number_of};
 ghost use Rattle.frame_core.specs.PageFlags.{is_unmovable};
 
+use crate::respond::Respond;
 use bitflags::Flags;
 use frame_core::{Address, ClientNo, PageFlags, SpaceNo, VPage, ZoneNo};
 use state_core::{Ended, ZoneError};
@@ -19,69 +21,62 @@ use zone_core::{Blanks, Finished, Scanned, World, WorldError};
 /// What a script works on: no zone yet, with the blanks to open one, or the world of the one zone that it opened.
 #[derive(Drop)]
 pub(crate) struct Machine<I: Ledger, N: Ledger, M: Ledger, B: Ledger> {
+    places: u32,
     blanks: Option<Blanks>,
     world: Option<World<I, N, M, B>>,
 }
 
 impl<I: Ledger, N: Ledger, M: Ledger, B: Ledger> Model for Machine<I, N, M, B> {
-    ghost use Rattle.std.specs.Prelude.{Option};
+    ghost use Rattle.std.specs.Prelude.{◌<◌, ◌≤◌};
     ghost use Rattle.std.specs.Option.{ForSome};
     ghost use Rattle.zone_core.specs.Books.{AreFor};
-    ghost use Rattle.zone_core.specs.World.{WorldState};
     ghost use Rattle.std.specs.Coded.{codes};
     ghost use Rattle.plain_core.specs.contracts.plain.PlainZone as plain_zone;
+    ghost use Rattle.script_core.specs.Serial.{Serial};
 
-    ghost Value = { Option WorldState };
+    ghost Value = { Serial };
 
     ghost coded = { Prim.hlevel (codes, plain_zone.the_row.coded) };
 
-    ghost view = { λ m. m.world };
+    ghost view = { λ m. record { places = m.places; world = m.world } };
 
-    ghost invariant = { λ m. ForSome m.blanks (λ b. AreFor b I.name I.parts N.name N.parts M.name M.parts B.name B.parts) };
+    ghost invariant = { λ m. (0 < m.places) × (m.places ≤ 65536) × ForSome m.blanks (λ b. AreFor b I.name I.parts N.name N.parts M.name M.parts B.name B.parts) };
+}
+
+impl<I: Ledger, N: Ledger, M: Ledger, B: Ledger> Respond for Machine<I, N, M, B> {
+    ghost may = { IsStep };
+
+    ghost asks = { Opens };
+
+    fn respond(&mut self, alloc: Global, command: Command) -> Result<Reply, AllocError> {
+        match command {
+            Command::OutOfRange => Ok(Reply::Refused(1)),
+            Command::Profile2 => Ok(Reply::Done),
+            Command::Open { zone, blocks } => self.open(alloc, zone, blocks),
+            Command::On { zone, calls } => Ok(self.call(zone, calls)),
+        }
+    }
 }
 
 impl<I: Ledger, N: Ledger, M: Ledger, B: Ledger> Machine<I, N, M, B> {
-    /// No zone yet.
-    pub(crate) fn new(blanks: Blanks) -> Self
+    /// No zone yet. One that is opened has so many places in its journal.
+    pub(crate) fn new(places: u32, blanks: Blanks) -> Self
+        requires places { (0 < places) × (places ≤ 65536) }
         requires blanks { AreFor blanks I.name I.parts N.name N.parts M.name M.parts B.name B.parts }
-        ensures { result ≡ None }
+        ensures { result ≡ serial_at_first places }
     {
         Machine {
+            places,
             blanks: Some(blanks),
             world: None,
         }
     }
 
-    /// One step of the machine. It fails only for want of memory, where a zone is to be opened.
-    pub(crate) fn answer(
-        &mut self,
-        alloc: Global,
-        places: u32,
-        command: Command,
-    ) -> Result<Reply, AllocError>
-        requires { (0 < places) × (places ≤ 65536) }
-        ensures ok { IfOk result (λ reply. record { reply = reply; world = self.new } ≡ step places self.old command) }
-        ensures memory { OnErr result (IsTrue (opens self.old command)) }
-    {
-        match command {
-            Command::OutOfRange => Ok(Reply::Refused(1)),
-            Command::Profile2 => Ok(Reply::Done),
-            Command::Open { zone, blocks } => self.open(alloc, places, zone, blocks),
-            Command::On { zone, calls } => Ok(self.call(zone, calls)),
-        }
-    }
-
     /// Opens a zone, where none is open yet.
-    fn open(
-        &mut self,
-        alloc: Global,
-        places: u32,
-        zone: ZoneNo,
-        blocks: BlockCount,
-    ) -> Result<Reply, AllocError>
-        requires { (0 < places) × (places ≤ 65536) }
-        ensures ok { IfOk result (λ reply. record { reply = reply; world = self.new } ≡ open_step zone blocks places self.old) }
-        ensures memory { OnErr result (self.old ≡ None) }
+    fn open(&mut self, alloc: Global, zone: ZoneNo, blocks: BlockCount) -> Result<Reply, AllocError>
+        ensures ok { IfOk result (λ reply. record { reply = reply; world = self.new.world } ≡ open_step zone blocks self.old.places self.old.world) }
+        ensures places { OnOk result (self.new.places ≡ self.old.places) }
+        ensures memory { OnErr result (self.old.world ≡ None) }
     {
         if self.world.is_some() {
             return Ok(Reply::Refused(44));
@@ -89,7 +84,7 @@ impl<I: Ledger, N: Ledger, M: Ledger, B: Ledger> Machine<I, N, M, B> {
         let Some(blanks) = self.blanks.take() else {
             return Err(AllocError);
         };
-        let Ok(world) = World::open(alloc, zone, blocks.get(), places, blanks) else {
+        let Ok(world) = World::open(alloc, zone, blocks.get(), self.places, blanks) else {
             return Err(AllocError);
         };
         self.world = Some(world);
@@ -98,7 +93,8 @@ impl<I: Ledger, N: Ledger, M: Ledger, B: Ledger> Machine<I, N, M, B> {
 
     /// Answers calls on the zone with this number, where that is the one that is open.
     fn call(&mut self, zone: ZoneNo, calls: Calls) -> Reply
-        ensures { record { reply = result; world = self.new } ≡ step_on zone calls self.old }
+        ensures answer { record { reply = result; world = self.new.world } ≡ step_on zone calls self.old.world }
+        ensures places { self.new.places ≡ self.old.places }
     {
         match &mut self.world {
             Some(world) if world.zone().number() == zone => answer_all(world, calls),

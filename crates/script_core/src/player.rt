@@ -1,69 +1,59 @@
 ghost use Rattle.std.specs.Prelude.{◌≡◌, ℕ, ◌+◌, ◌^◌, ◌<◌, ◌≤◌, [], ◌∷◌, ◌++◌, List, Option, length, false, Some, None, Ok, IfNone, IfSome, IfErr, IfOk, IsTrue, OnErr, OnOk};
-ghost use Rattle.zone_core.specs.Books.{AreFor};
 ghost use Rattle.text_core.specs.Line.{line_of};
 ghost use Rattle.text_core.specs.Reply.{newlines};
 ghost use Rattle.std.specs.Io.KnownBytes.{Appends};
-ghost use Rattle.script_core.specs.Ends.{EndsIn, StopsIn};
+ghost use Rattle.script_core.specs.Ends.{StopsIn};
+ghost use Rattle.script_core.specs.Runs.{IsEnded, IsTotal};
 ghost use Rattle.script_core.specs.Outbox.{Owes, empty};
-ghost use Rattle.script_core.specs.Script.{Answer, fault_of, output_of, texts, totals_of};
+ghost use Rattle.script_core.specs.Script.{Answer, fault_of, texts};
 ghost use Rattle.script_core.specs.Player.{Finishes, HasClosed, HasEnded, HasRead, begun};
 ghost use Rattle.script_core.specs.Streams.{CannotReadOn};
 
 use crate::error::{Fault, RunError};
 use crate::input::Input;
-use crate::machine::Machine;
 use crate::outbox::Outbox;
 use crate::output::Output;
+use crate::respond::Respond;
 use crate::script::Totals;
 use arrayvec::ArrayVec;
 use memchr::memchr;
 use std::alloc::Global;
 use std::marker::Model;
 use std::mem;
-use std::sync::ledger::Ledger;
 use text_core::{Command, Profile, ScriptError, read_line};
-use zone_core::Blanks;
 
 /// Plays a script: the machine that answers it, the line that has begun, and the replies that wait.
 #[derive(Drop)]
-pub(crate) struct Player<I: Ledger, N: Ledger, M: Ledger, B: Ledger> {
+pub(crate) struct Player<A> {
     alloc: Global,
-    places: u32,
     profile: Profile,
-    machine: Machine<I, N, M, B>,
+    machine: A,
     held: ArrayVec<u8, 200>,
     line: u64,
     replies: u64,
     outbox: Outbox,
 }
 
-impl<I: Ledger, N: Ledger, M: Ledger, B: Ledger> Model for Player<I, N, M, B> {
-    ghost use Rattle.std.specs.Prelude.{◌<◌, ◌≤◌};
-    ghost use Rattle.std.specs.Coded.{codes};
-    ghost use Rattle.plain_core.specs.contracts.plain.PlainZone as plain_zone;
+impl<A> Model for Player<A> {
+    ghost use Rattle.std.specs.Prelude.{◌<◌};
     ghost use Rattle.script_core.specs.Player.{Player as Seen};
 
-    ghost Value = { Seen };
+    ghost Value = { Seen A };
 
-    ghost coded = { Prim.hlevel (codes, plain_zone.the_row.coded) };
+    ghost view = { λ s. record { profile = s.profile; machine = s.machine; held = s.held.items; line = s.line; replies = s.replies; box = s.outbox } };
 
-    ghost view = { λ s. record { places = s.places; profile = s.profile; world = s.machine; held = s.held.items; line = s.line; replies = s.replies; box = s.outbox } };
-
-    ghost invariant = { λ s. (0 < s.places) × (s.places ≤ 65536) × (s.replies < s.line) };
+    ghost invariant = { λ s. s.replies < s.line };
 }
 
-impl<I: Ledger, N: Ledger, M: Ledger, B: Ledger> Player<I, N, M, B> {
+impl<A: Respond> Player<A> {
     /// At the first byte of a script.
-    pub(crate) fn new(alloc: Global, places: u32, blanks: Blanks) -> Self
-        requires places { (0 < places) × (places ≤ 65536) }
-        requires blanks { AreFor blanks I.name I.parts N.name N.parts M.name M.parts B.name B.parts }
-        ensures { result ≡ begun places }
+    pub(crate) fn new(alloc: Global, machine: A) -> Self
+        ensures { result ≡ begun machine }
     {
         Player {
             alloc,
-            places,
             profile: Profile::Untold,
-            machine: Machine::new(blanks),
+            machine,
             held: ArrayVec::new(),
             line: 1,
             replies: 0,
@@ -75,12 +65,12 @@ impl<I: Ledger, N: Ledger, M: Ledger, B: Ledger> Player<I, N, M, B> {
     fn take_line<W: Output>(&mut self, writer: &mut W, text: &[u8]) -> Result<(), RunError>
         requires begins { self.old.held ≡ [] }
         requires room { self.old.line + 1 < 2 ^ 64 }
-        ensures ok { OnOk result ((places : ℕ) (past : List ℕ) (first : Option (List ℕ))
-            → newlines text.now ≡ 0 → HasRead places self.old past first (W.contents writer.old)
-            → HasRead places self.new (past ++ (text.now ++ 10 ∷ [])) first (W.contents writer.new)) }
-        ensures err { IfErr result (λ error. (places : ℕ) (past : List ℕ) (first : Option (List ℕ))
-            → newlines text.now ≡ 0 → HasRead places self.old past first (W.contents writer.old)
-            → HasEnded places self.new (past ++ (text.now ++ 10 ∷ [])) error first (W.contents writer.new)) }
+        ensures ok { OnOk result ((start : A) (past : List ℕ) (first : Option (List ℕ))
+            → newlines text.now ≡ 0 → HasRead A.may start self.old past first (W.contents writer.old)
+            → HasRead A.may start self.new (past ++ (text.now ++ 10 ∷ [])) first (W.contents writer.new)) }
+        ensures err { IfErr result (λ error. (start : A) (past : List ℕ) (first : Option (List ℕ))
+            → newlines text.now ≡ 0 → HasRead A.may start self.old past first (W.contents writer.old)
+            → HasEnded A.may A.asks start self.new (past ++ (text.now ++ 10 ∷ [])) error first (W.contents writer.new)) }
         ensures stuck { IfErr result (λ error. error.fault ≡ Fault.Write → IsTrue (W.stuck writer.new)) }
         ensures line { OnOk result (self.new.line ≡ self.old.line + 1) }
         ensures held { OnOk result (self.new.held ≡ []) }
@@ -103,19 +93,19 @@ impl<I: Ledger, N: Ledger, M: Ledger, B: Ledger> Player<I, N, M, B> {
     fn answer<W: Output>(&mut self, writer: &mut W, command: Command) -> Result<(), RunError>
         requires begins { self.old.held ≡ [] }
         requires room { self.old.line + 1 < 2 ^ 64 }
-        ensures ok { OnOk result ((places : ℕ) (text past : List ℕ) (first : Option (List ℕ))
-            → line_of self.old.profile text ≡ Ok (Some command) → newlines text ≡ 0 → HasRead places self.old past first (W.contents writer.old)
-            → HasRead places self.new (past ++ (text ++ 10 ∷ [])) first (W.contents writer.new)) }
-        ensures err { IfErr result (λ error. (places : ℕ) (text past : List ℕ) (first : Option (List ℕ))
-            → line_of self.old.profile text ≡ Ok (Some command) → newlines text ≡ 0 → HasRead places self.old past first (W.contents writer.old)
-            → HasEnded places self.new (past ++ (text ++ 10 ∷ [])) error first (W.contents writer.new)) }
+        ensures ok { OnOk result ((start : A) (text past : List ℕ) (first : Option (List ℕ))
+            → line_of self.old.profile text ≡ Ok (Some command) → newlines text ≡ 0 → HasRead A.may start self.old past first (W.contents writer.old)
+            → HasRead A.may start self.new (past ++ (text ++ 10 ∷ [])) first (W.contents writer.new)) }
+        ensures err { IfErr result (λ error. (start : A) (text past : List ℕ) (first : Option (List ℕ))
+            → line_of self.old.profile text ≡ Ok (Some command) → newlines text ≡ 0 → HasRead A.may start self.old past first (W.contents writer.old)
+            → HasEnded A.may A.asks start self.new (past ++ (text ++ 10 ∷ [])) error first (W.contents writer.new)) }
         ensures stuck { IfErr result (λ error. error.fault ≡ Fault.Write → IsTrue (W.stuck writer.new)) }
         ensures line { OnOk result (self.new.line ≡ self.old.line + 1) }
         ensures held { OnOk result (self.new.held ≡ []) }
     {
         let line = self.line;
         let profile = self.profile.behind(&command);
-        let Ok(reply) = self.machine.answer(self.alloc, self.places, command) else {
+        let Ok(reply) = self.machine.respond(self.alloc, command) else {
             return Err(RunError {
                 fault: Fault::Memory,
                 line,
@@ -137,12 +127,12 @@ impl<I: Ledger, N: Ledger, M: Ledger, B: Ledger> Player<I, N, M, B> {
     fn end_line<W: Output>(&mut self, writer: &mut W, text: &[u8]) -> Result<(), RunError>
         requires unbroken { newlines text.now ≡ 0 }
         requires room { self.old.line + 1 < 2 ^ 64 }
-        ensures ok { OnOk result ((places : ℕ) (past : List ℕ) (first : Option (List ℕ))
-            → HasRead places self.old past first (W.contents writer.old)
-            → HasRead places self.new (past ++ (text.now ++ 10 ∷ [])) first (W.contents writer.new)) }
-        ensures err { IfErr result (λ error. (places : ℕ) (past : List ℕ) (first : Option (List ℕ))
-            → HasRead places self.old past first (W.contents writer.old)
-            → HasEnded places self.new (past ++ (text.now ++ 10 ∷ [])) error first (W.contents writer.new)) }
+        ensures ok { OnOk result ((start : A) (past : List ℕ) (first : Option (List ℕ))
+            → HasRead A.may start self.old past first (W.contents writer.old)
+            → HasRead A.may start self.new (past ++ (text.now ++ 10 ∷ [])) first (W.contents writer.new)) }
+        ensures err { IfErr result (λ error. (start : A) (past : List ℕ) (first : Option (List ℕ))
+            → HasRead A.may start self.old past first (W.contents writer.old)
+            → HasEnded A.may A.asks start self.new (past ++ (text.now ++ 10 ∷ [])) error first (W.contents writer.new)) }
         ensures stuck { IfErr result (λ error. error.fault ≡ Fault.Write → IsTrue (W.stuck writer.new)) }
         ensures line { OnOk result (self.new.line ≡ self.old.line + 1) }
     {
@@ -163,10 +153,10 @@ impl<I: Ledger, N: Ledger, M: Ledger, B: Ledger> Player<I, N, M, B> {
     /// Takes a part of a line without its end.
     fn hold(&mut self, text: &[u8]) -> Result<(), RunError>
         requires { newlines text.now ≡ 0 }
-        ensures ok { OnOk result ((places : ℕ) (past : List ℕ) (first now : Option (List ℕ))
-            → HasRead places self.old past first now → HasRead places self.new (past ++ text.now) first now) }
-        ensures err { IfErr result (λ error. (places : ℕ) (past : List ℕ) (first now : Option (List ℕ))
-            → HasRead places self.old past first now → HasEnded places self.new (past ++ text.now) error first now) }
+        ensures ok { OnOk result ((start : A) (past : List ℕ) (first now : Option (List ℕ))
+            → HasRead A.may start self.old past first now → HasRead A.may start self.new (past ++ text.now) first now) }
+        ensures err { IfErr result (λ error. (start : A) (past : List ℕ) (first now : Option (List ℕ))
+            → HasRead A.may start self.old past first now → HasEnded A.may A.asks start self.new (past ++ text.now) error first now) }
         ensures fault { IfErr result (λ error. error.fault ≡ Fault.LongLine) }
         ensures line { self.new.line ≡ self.old.line }
     {
@@ -183,12 +173,12 @@ impl<I: Ledger, N: Ledger, M: Ledger, B: Ledger> Player<I, N, M, B> {
     /// Takes bytes of a script.
     fn take_piece<W: Output>(&mut self, writer: &mut W, piece: &[u8]) -> Result<(), RunError>
         requires { self.old.line + length piece.now < 2 ^ 64 }
-        ensures ok { OnOk result ((places : ℕ) (past : List ℕ) (first : Option (List ℕ))
-            → HasRead places self.old past first (W.contents writer.old)
-            → HasRead places self.new (past ++ piece.now) first (W.contents writer.new)) }
-        ensures err { IfErr result (λ error. (places : ℕ) (past : List ℕ) (first : Option (List ℕ))
-            → HasRead places self.old past first (W.contents writer.old)
-            → HasEnded places self.new (past ++ piece.now) error first (W.contents writer.new)) }
+        ensures ok { OnOk result ((start : A) (past : List ℕ) (first : Option (List ℕ))
+            → HasRead A.may start self.old past first (W.contents writer.old)
+            → HasRead A.may start self.new (past ++ piece.now) first (W.contents writer.new)) }
+        ensures err { IfErr result (λ error. (start : A) (past : List ℕ) (first : Option (List ℕ))
+            → HasRead A.may start self.old past first (W.contents writer.old)
+            → HasEnded A.may A.asks start self.new (past ++ piece.now) error first (W.contents writer.new)) }
         ensures stuck { IfErr result (λ error. error.fault ≡ Fault.Write → IsTrue (W.stuck writer.new)) }
         ensures line { OnOk result (self.new.line ≤ self.old.line + length piece.now) }
     {
@@ -203,12 +193,12 @@ impl<I: Ledger, N: Ledger, M: Ledger, B: Ledger> Player<I, N, M, B> {
     /// Takes bytes of a script, and writes the replies.
     fn play<W: Output>(&mut self, writer: &mut W, piece: &[u8]) -> Result<(), RunError>
         requires { self.old.line + length piece.now < 2 ^ 64 }
-        ensures ok { OnOk result ((places : ℕ) (past : List ℕ) (first : Option (List ℕ))
-            → HasRead places self.old past first (W.contents writer.old)
-            → HasRead places self.new (past ++ piece.now) first (W.contents writer.new)) }
-        ensures err { IfErr result (λ error. (places : ℕ) (past : List ℕ) (first : Option (List ℕ))
-            → HasRead places self.old past first (W.contents writer.old)
-            → HasClosed places (past ++ piece.now) error first (W.contents writer.new)) }
+        ensures ok { OnOk result ((start : A) (past : List ℕ) (first : Option (List ℕ))
+            → HasRead A.may start self.old past first (W.contents writer.old)
+            → HasRead A.may start self.new (past ++ piece.now) first (W.contents writer.new)) }
+        ensures err { IfErr result (λ error. (start : A) (past : List ℕ) (first : Option (List ℕ))
+            → HasRead A.may start self.old past first (W.contents writer.old)
+            → HasClosed A.may A.asks start (past ++ piece.now) error first (W.contents writer.new)) }
         ensures stuck { IfErr result (λ error. error.fault ≡ Fault.Write → IsTrue (W.stuck writer.new)) }
         ensures line { OnOk result (self.new.line ≤ self.old.line + length piece.now) }
         ensures empty { OnOk result (self.new.box ≡ empty) }
@@ -229,14 +219,12 @@ impl<I: Ledger, N: Ledger, M: Ledger, B: Ledger> Player<I, N, M, B> {
         reader: &mut R,
         writer: &mut W,
     ) -> Result<Totals, RunError>
-        requires { self.old ≡ begun self.old.places }
+        requires { self.old ≡ begun self.old.machine }
         ensures ok { OnOk result (IfSome (R.remaining reader.old) (λ input. fault_of input ≡ None)) }
-        ensures totals { IfOk result (λ totals. IfSome (R.remaining reader.old) (λ input.
-            totals ≡ totals_of self.old.places input)) }
-        ensures output { OnOk result (IfSome (R.remaining reader.old) (λ input.
-            Appends (W.contents writer.old) (W.contents writer.new) (output_of self.old.places input))) }
+        ensures answered { IfOk result (λ totals. IfSome (R.remaining reader.old) (λ input.
+            IsTotal A.may self.old.machine input (W.contents writer.old) (W.contents writer.new) totals)) }
         ensures err { IfErr result (λ error. IfSome (R.remaining reader.old) (λ input.
-            EndsIn error.fault self.old.places input error (R.remaining reader.old) (R.remaining reader.new)
+            IsEnded A.may A.asks self.old.machine error.fault input error (R.remaining reader.old) (R.remaining reader.new)
             (W.contents writer.old) (W.contents writer.new))) }
         ensures heard { OnOk result (R.failed reader.new ≡ false) }
         ensures unread { IfErr result (λ error. error.fault ≡ Fault.Read → CannotReadOn (R.failed reader.new)
@@ -266,11 +254,12 @@ impl<I: Ledger, N: Ledger, M: Ledger, B: Ledger> Player<I, N, M, B> {
 
     /// What the end of the input is: the end of the script, or a cut line.
     fn end(&self) -> Result<Totals, RunError>
-        ensures ok { IfOk result (λ totals. (places : ℕ) (input : List ℕ) (first now : Option (List ℕ))
-            → HasRead places self.now input first now
-            → Finishes places self.now input None first now × (totals ≡ totals_of places input)) }
-        ensures err { IfErr result (λ error. (places : ℕ) (input : List ℕ) (first now : Option (List ℕ))
-            → HasRead places self.now input first now → Finishes places self.now input (Some error) first now) }
+        ensures ok { IfOk result (λ totals. (start : A) (input : List ℕ) (first now : Option (List ℕ))
+            → HasRead A.may start self.now input first now
+            → (finishes : Finishes A.may start self.now input None first now)
+            × (totals ≡ record { lines = newlines input; replies = length finishes.begins.answers })) }
+        ensures err { IfErr result (λ error. (start : A) (input : List ℕ) (first now : Option (List ℕ))
+            → HasRead A.may start self.now input first now → Finishes A.may start self.now input (Some error) first now) }
         ensures syntax { IfErr result (λ error. error.fault ≡ Fault.Syntax) }
     {
         let line = self.line;

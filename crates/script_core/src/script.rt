@@ -8,6 +8,7 @@ ghost use Rattle.script_core.specs.Script.{answers_of, fault_of, output_of, tota
 
 use crate::error::RunError;
 use crate::input::Input;
+use crate::machine::Machine;
 use crate::options::Options;
 use crate::output::Output;
 use crate::player::Player;
@@ -108,6 +109,7 @@ fn run_with<I: Ledger, N: Ledger, M: Ledger, B: Ledger, R: Input, W: Output>(
         (R.reads reader.old) (R.reads reader.new) (R.remaining reader.old)) }
     ensures stuck { IfErr result (λ error. error.fault ≡ Fault.Write → IsTrue (W.stuck writer.new)) }
 {
-    let mut player = Player::<I, N, M, B>::new(alloc, options.journal, blanks);
+    let machine = Machine::<I, N, M, B>::new(options.journal, blanks);
+    let mut player = Player::new(alloc, machine);
     player.run(reader, writer)
 }

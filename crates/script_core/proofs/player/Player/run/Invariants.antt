@@ -12,6 +12,6 @@ invariant-loop g l = record {
   none : l.self.box ≡ empty;
   reads : min (g.R.Input.reads l.fn.reader + l.counter) (2 ^ 64 - 1) ≤ g.R.Input.reads l.reader;
   past : (past : List ℕ) × Consumes (g.R.Read.remaining l.fn.reader) (g.R.Read.remaining l.reader) past
-      × HasRead l.fn.self.places l.self past (g.W.Write.contents l.fn.writer) (g.W.Write.contents l.writer)
+      × HasRead g.A.Respond.may l.fn.self.machine l.self past (g.W.Write.contents l.fn.writer) (g.W.Write.contents l.writer)
       × (l.counter ≤ length past);
 }

@@ -7,7 +7,7 @@ abbrev pub invariant-loop-text : goal.invariant-loop-text
 invariant-loop-text g l = record {
   line : l.self.line + length l.rest ≤ l.fn.self.line + length l.piece;
   done : (done : List ℕ) × (l.piece ≡ done ++ l.rest)
-      × ((places : ℕ) (past : List ℕ) (first : Option (List ℕ)) → HasRead places l.fn.self past first (g.W.Write.contents l.fn.writer) → HasRead places l.self (past ++ done) first (g.W.Write.contents l.writer));
+      × ((start : _) (past : List ℕ) (first : Option (List ℕ)) → HasRead g.A.Respond.may start l.fn.self past first (g.W.Write.contents l.fn.writer) → HasRead g.A.Respond.may start l.self (past ++ done) first (g.W.Write.contents l.writer));
 }
 
 abbrev pub decreases-loop-text : goal.decreases-loop-text

@@ -1,0 +1,24 @@
+-- A machine on one thread: what it answers to a command is what the machine's step says.
+use Rattle.std.specs.Prelude.{◌≡◌, ℕ, IsTrue, Option, None}
+use Rattle.zone_core.specs.World.{WorldState}
+use Rattle.text_core.specs.declared.command.Command.{Command}
+use Rattle.text_core.specs.declared.reply.Reply.{Reply}
+use Rattle.script_core.specs.Machine.{opens, step}
+
+-- the places of a journal, and the world of its zone, if one was opened
+pub record Serial : Type 0 where
+  pub places : ℕ
+  pub world : Option WorldState
+
+-- before the first command
+abbrev pub serial_at_first : ℕ → Serial
+serial_at_first places = record { places = places; world = None }
+
+-- the reply to a command, and the machine behind it
+pub record IsStep (old : Serial) (command : Command) (reply : Reply) (new : Serial) : Type 0 where
+  pub step_is : record { reply = reply; world = new.world } ≡ step old.places old.world command
+  pub places_are : new.places ≡ old.places
+
+-- a command that opens a zone asks for memory
+abbrev pub Opens : Serial → Command → Type 0
+Opens m command = IsTrue (opens m.world command)
