@@ -5,6 +5,7 @@ mod calls;
 mod moving;
 mod opening;
 mod sharing;
+mod world_blocks;
 mod world_opening;
 mod worlds;
 mod zones;

@@ -72,6 +72,28 @@ enum Trial {
     APageblockIsHandedOutAndMarked,
 }
 
+impl Trial {
+    /// How many pageblocks the zone has.
+    fn blocks(self) -> u32 {
+        match self {
+            Trial::BlocksOfEachOrderAreHandedOut => 1,
+            Trial::APageblockIsHandedOutAndMarked => 2,
+        }
+    }
+}
+
+fn tries_in<I: Ledger, N: Ledger, M: Ledger, B: Ledger, R: Abort>(
+    rt: &R,
+    trial: Trial,
+    opening: &mut Opening<I, N, M, B>,
+) {
+    match trial {
+        Trial::BlocksOfEachOrderAreHandedOut => hands_blocks_out(rt, opening),
+        Trial::APageblockIsHandedOutAndMarked => hands_a_pageblock_out(rt, opening),
+    }
+}
+
+/// The same, with a zone of its own.
 fn tries<I: Ledger, N: Ledger, M: Ledger, B: Ledger, R: Abort + AllocGlobal>(
     rt: &R,
     trial: Trial,
@@ -79,15 +101,8 @@ fn tries<I: Ledger, N: Ledger, M: Ledger, B: Ledger, R: Abort + AllocGlobal>(
 )
     requires blanks { AreFor blanks I.name I.parts N.name N.parts M.name M.parts B.name B.parts }
 {
-    let blocks = match trial {
-        Trial::BlocksOfEachOrderAreHandedOut => 1,
-        Trial::APageblockIsHandedOutAndMarked => 2,
-    };
-    let mut opening = Opening::<I, N, M, B>::of(rt, blocks, 16, blanks);
-    match trial {
-        Trial::BlocksOfEachOrderAreHandedOut => hands_blocks_out(rt, &mut opening),
-        Trial::APageblockIsHandedOutAndMarked => hands_a_pageblock_out(rt, &mut opening),
-    }
+    let mut opening = Opening::<I, N, M, B>::of(rt, trial.blocks(), 16, blanks);
+    tries_in(rt, trial, &mut opening);
 }
 
 #[test]

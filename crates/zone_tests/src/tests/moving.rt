@@ -281,6 +281,41 @@ enum Trial {
     AnUnmovablePageStays,
 }
 
+impl Trial {
+    /// How many places the journal has.
+    fn places(self) -> u32 {
+        match self {
+            Trial::ASeatIsSplitIntoPartsAndJoined => 4,
+            Trial::TheLargestJournalTakesAsManySerials => 65536,
+            _ => 64,
+        }
+    }
+}
+
+fn tries_in<I: Ledger, N: Ledger, M: Ledger, B: Ledger, R: Abort + AllocGlobal>(
+    rt: &R,
+    trial: Trial,
+    opening: &mut Opening<I, N, M, B>,
+) {
+    match trial {
+        Trial::APageIsMovedWithItsWords => moves_a_page(rt, opening),
+        Trial::AChangedCopyIsHandedBack => commits_a_changed_copy(rt, opening),
+        Trial::ASeatIsSplitIntoPartsAndJoined => splits_a_seat(rt, opening),
+        Trial::ASerialIsEndedOnce => ends_a_serial_twice(rt, opening),
+        Trial::APageThatIsNotOnItsWayHereIsAStranger => ends_strangers(rt, opening),
+        Trial::TheLargestJournalTakesAsManySerials => fills_a_journal(rt, opening),
+        Trial::ARoundIsQuietUpToAMap => {
+            is_quiet_up_to(rt, opening, Call::Map(TEN), Answer::Frame(1))
+        }
+        Trial::ARoundIsQuietUpToAPin => {
+            is_quiet_up_to(rt, opening, Call::Pin(NINE), Answer::Done)
+        }
+        Trial::APageOnItsWayIsNotLoadedOrStored => refuses_a_page_on_its_way(rt, opening),
+        Trial::AnUnmovablePageStays => leaves_an_unmovable_page(rt, opening),
+    }
+}
+
+/// The same, with a zone of its own.
 fn tries<I: Ledger, N: Ledger, M: Ledger, B: Ledger, R: Abort + AllocGlobal>(
     rt: &R,
     trial: Trial,
@@ -288,28 +323,8 @@ fn tries<I: Ledger, N: Ledger, M: Ledger, B: Ledger, R: Abort + AllocGlobal>(
 )
     requires blanks { AreFor blanks I.name I.parts N.name N.parts M.name M.parts B.name B.parts }
 {
-    let places = match trial {
-        Trial::ASeatIsSplitIntoPartsAndJoined => 4,
-        Trial::TheLargestJournalTakesAsManySerials => 65536,
-        _ => 64,
-    };
-    let mut opening = Opening::<I, N, M, B>::of(rt, 1, places, blanks);
-    match trial {
-        Trial::APageIsMovedWithItsWords => moves_a_page(rt, &mut opening),
-        Trial::AChangedCopyIsHandedBack => commits_a_changed_copy(rt, &mut opening),
-        Trial::ASeatIsSplitIntoPartsAndJoined => splits_a_seat(rt, &mut opening),
-        Trial::ASerialIsEndedOnce => ends_a_serial_twice(rt, &mut opening),
-        Trial::APageThatIsNotOnItsWayHereIsAStranger => ends_strangers(rt, &mut opening),
-        Trial::TheLargestJournalTakesAsManySerials => fills_a_journal(rt, &mut opening),
-        Trial::ARoundIsQuietUpToAMap => {
-            is_quiet_up_to(rt, &mut opening, Call::Map(TEN), Answer::Frame(1))
-        }
-        Trial::ARoundIsQuietUpToAPin => {
-            is_quiet_up_to(rt, &mut opening, Call::Pin(NINE), Answer::Done)
-        }
-        Trial::APageOnItsWayIsNotLoadedOrStored => refuses_a_page_on_its_way(rt, &mut opening),
-        Trial::AnUnmovablePageStays => leaves_an_unmovable_page(rt, &mut opening),
-    }
+    let mut opening = Opening::<I, N, M, B>::of(rt, 1, trial.places(), blanks);
+    tries_in(rt, trial, &mut opening);
 }
 
 #[test]

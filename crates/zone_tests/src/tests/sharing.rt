@@ -141,6 +141,20 @@ enum Trial {
     APinPutsAPageBack,
 }
 
+fn tries_in<I: Ledger, N: Ledger, M: Ledger, B: Ledger, R: Abort>(
+    rt: &R,
+    trial: Trial,
+    opening: &mut Opening<I, N, M, B>,
+) {
+    match trial {
+        Trial::APageHasFourAddressesAtMost => shares_and_unmaps(rt, opening),
+        Trial::APinnedPageKeepsItsLastAddress => keeps_a_pinned_page(rt, opening),
+        Trial::APageHas255PinsAtMost => takes_so_many_pins(rt, opening),
+        Trial::APinPutsAPageBack => pins_a_page_on_its_way(rt, opening),
+    }
+}
+
+/// The same, with a zone of its own.
 fn tries<I: Ledger, N: Ledger, M: Ledger, B: Ledger, R: Abort + AllocGlobal>(
     rt: &R,
     trial: Trial,
@@ -149,12 +163,7 @@ fn tries<I: Ledger, N: Ledger, M: Ledger, B: Ledger, R: Abort + AllocGlobal>(
     requires blanks { AreFor blanks I.name I.parts N.name N.parts M.name M.parts B.name B.parts }
 {
     let mut opening = Opening::<I, N, M, B>::of(rt, 1, 512, blanks);
-    match trial {
-        Trial::APageHasFourAddressesAtMost => shares_and_unmaps(rt, &mut opening),
-        Trial::APinnedPageKeepsItsLastAddress => keeps_a_pinned_page(rt, &mut opening),
-        Trial::APageHas255PinsAtMost => takes_so_many_pins(rt, &mut opening),
-        Trial::APinPutsAPageBack => pins_a_page_on_its_way(rt, &mut opening),
-    }
+    tries_in(rt, trial, &mut opening);
 }
 
 #[test]

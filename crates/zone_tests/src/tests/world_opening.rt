@@ -49,6 +49,14 @@ impl<I: Ledger, N: Ledger, M: Ledger, B: Ledger> WorldOpening<I, N, M, B> {
         }
     }
 
+    /// Makes calls of its zone, each of which has its answer.
+    pub fn calls<R: Abort>(&mut self, rt: &R, calls: &[(Call, Answer)]) {
+        for row in calls {
+            let (call, want) = *row;
+            assert_eq!(rt; self.call(rt, call), want, "{call:?}");
+        }
+    }
+
     pub fn make<R: Abort>(&mut self, rt: &R, step: Step) -> Answer {
         match step {
             Step::Of(call) => self.call(rt, call),
