@@ -1,6 +1,6 @@
 -- A line of profile 1 says the same where no line told the profile yet, and in profile 2 but for the held frames of an info.
-use Rattle.std.proofs.Common.{◌≡◌, ℕ, Bool, true, false, List, [], ◌∷◌, length, refl, sym, ap, ◌∙◌, Option, Some, None, Result, Ok, Err}
-use Rattle.std.specs.Prelude.{◌&&◌, bytes_eq, codes, map, nat_lt, if◌then◌else◌, IfSome, ⊤, option_map}
+use Rattle.std.proofs.Common.{◌≡◌, ℕ, Bool, true, false, List, [], ◌∷◌, length, refl, sym, ap, Option, Some, None, Result, Ok, Err}
+use Rattle.std.specs.Prelude.{bytes_eq, codes, map, nat_lt, if◌then◌else◌, IfSome, ⊤, option_map}
 use Rattle.std.proofs.lemmas.Bool.{and_parts}
 use Rattle.std.proofs.lemmas.Option.{same_Some}
 use Rattle.std.proofs.lemmas.Slice.Eq.{bytes_eq-Decides}
@@ -9,14 +9,14 @@ use Rattle.text_core.specs.declared.token.Token.{Token}
 use Rattle.text_core.specs.declared.token.Token.TheVariants.{Number, Zone, Map, MapAt, Store, Load, Info, Unmovable, Scan, Take, Copy, Finish, Shut, Look, Share, Unmap, Pin, Unpin, Huge, Give, Fill, Thin}
 use Rattle.text_core.specs.declared.command.Call.{Call}
 use Rattle.text_core.specs.declared.command.Call.TheVariants as call
-use Rattle.text_core.specs.declared.command.Calls.TheVariants.{One, Series as SeriesOf}
+use Rattle.text_core.specs.declared.command.Calls.TheVariants.{One}
 use Rattle.text_core.specs.declared.command.Series.{Series}
 use Rattle.text_core.specs.declared.command.Command.{Command}
-use Rattle.text_core.specs.declared.command.Command.TheVariants.{Open, On, Profile2, OutOfRange}
+use Rattle.text_core.specs.declared.command.Command.TheVariants.{On, Profile2}
 use Rattle.text_core.specs.declared.error.ScriptError.{ScriptError}
 use Rattle.text_core.specs.declared.error.ScriptError.TheVariants.{LongLine}
 use Rattle.text_core.specs.declared.profile.Profile.TheVariants.{Untold, One as Profile1, Two}
-use Rattle.text_core.specs.Grammar.{address_of, blocks_of, call_on, command_of, frame_of, hand_of, load_call, map_at_call, map_call, opening, page_count_of, pageblock_of, row_of, row_of_profile_2, row_or, series_of, series_on, share_call, space_of, store_call, word_of, zone_of}
+use Rattle.text_core.specs.Grammar.{address_of, blocks_of, call_on, command_of, frame_of, hand_of, load_call, map_at_call, map_call, opening, pageblock_of, row_of, row_of_profile_2, row_or, series_on, share_call, store_call, word_of, zone_of}
 use Rattle.text_core.specs.Line.{command_in, command_or_fault, is_comment, lexemes_say, line_of}
 use Rattle.text_core.specs.Profile.{is_profile_2}
 use Rattle.text_core.specs.Token.{lexemes, token_of}
