@@ -3,3 +3,5 @@ pub mod Lexemes
 pub mod Newlines
 pub mod LongLines
 pub mod Tokens
+pub mod Profiles
+pub mod Ranges

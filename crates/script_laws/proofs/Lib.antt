@@ -1,0 +1,10 @@
+pub mod CallsAccepted
+pub mod CommandsInRange
+pub mod CountsAdded
+pub mod LockStep
+pub mod Matching
+pub mod PagesMoved
+pub mod Replies
+pub mod Runs
+pub mod Steps
+pub mod ValuesStored

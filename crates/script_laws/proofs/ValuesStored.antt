@@ -1,0 +1,289 @@
+-- The values that a machine tells are those of its history.
+use Rattle.std.proofs.Common.{◌≡◌, ℕ, zero, suc, ◌+◌, ◌*◌, ◌<◌, ◌≤◌, Bool, true, false, List, [], ◌∷◌, length, refl, sym, ap, subst, ◌∙◌, arith, Option, Some, None, IsSomeAnd}
+use Rattle.std.specs.Prelude.{◌&&◌, nat_eq, nat_lt, if◌then◌else◌, unwrap_or}
+use Rattle.std.proofs.lemmas.Option.{same_Some}
+use Rattle.frame_core.specs.declared.place.Address.{Address}
+use Rattle.journal_core.specs.declared.record.Record.{Record}
+use Rattle.journal_core.specs.declared.record.Record.TheVariants as record_of
+use Rattle.journal_core.specs.History.{last, page_at}
+use Rattle.state_core.specs.declared.error.ZoneError.{ZoneError}
+use Rattle.state_core.specs.declared.information.Look.{Look}
+use Rattle.state_core.specs.Access.{access_refusal, value_at}
+use Rattle.state_core.specs.ErrorNumber.{number_of}
+use Rattle.state_core.specs.HandingOut.{take_order_refusal, give_order_refusal, lowest_run}
+use Rattle.state_core.specs.Lawful.{IsLawful}
+use Rattle.state_core.specs.Looking.{look_of}
+use Rattle.state_core.specs.Mapping.{map_refusal, map_at_refusal, mapped}
+use Rattle.state_core.specs.Marking.{mark_refusal, unmark_refusal}
+use Rattle.state_core.specs.Pinning.{pin_refusal, unpin_refusal}
+use Rattle.state_core.specs.Sharing.{share_refusal}
+use Rattle.state_core.specs.Unmapping.{is_last, unmap_refusal, unmapped, without_page}
+use Rattle.state_core.specs.ZoneState.{ZoneState, lowest_free_frame, noted}
+use Rattle.state_core.proofs.Placed.{clash}
+use Rattle.zone_core.specs.declared.hand.Finished.{Finished}
+use Rattle.zone_core.specs.declared.hand.Scanned.{Scanned}
+use Rattle.zone_core.specs.declared.hand.Scanned.TheVariants as scan
+use Rattle.state_core.specs.declared.moves.Ended.{Ended}
+use Rattle.state_core.specs.declared.moves.Ended.TheVariants as ended
+use Rattle.zone_core.specs.World.{IsOrderly, WorldState, copy_step, finish_step, scan_answer, scan_refusal, scan_stopped, scanned, shut_step, take_step, world_opened}
+use Rattle.text_core.specs.declared.command.Call.{Call}
+use Rattle.text_core.specs.declared.command.Call.TheVariants.{Map, MapAt, Store, Load, Info, Scan, Take, Copy, Finish, Shut, Look as LookAt, Share, Unmap, Pin, Unpin, Huge, Give, InfoWithHeld, TakeOrder, GiveOrder, Mark, Unmark}
+use Rattle.text_core.specs.declared.command.Calls.{Calls}
+use Rattle.text_core.specs.declared.command.Calls.TheVariants.{One, Series as SeriesOf}
+use Rattle.text_core.specs.declared.command.Repeated.{Repeated}
+use Rattle.text_core.specs.declared.command.Command.{Command}
+use Rattle.text_core.specs.declared.command.Command.TheVariants.{Open, On, Profile2, OutOfRange}
+use Rattle.text_core.specs.declared.profile.Profile.TheVariants.{Untold}
+use Rattle.text_core.specs.declared.reply.Reply.{Reply}
+use Rattle.text_core.specs.declared.reply.Reply.TheVariants as reply
+use Rattle.text_core.specs.Grammar.{address_of}
+use Rattle.text_core.proofs.Ranges.{IsInRange}
+use Rattle.script_core.specs.Machine.{Answered, answered, by_hand, call_at, call_step, calls_step, copied, declined, ending, found, fresh_page, handed_out, looked, order_handed_out, page_step, says, series_from, step, unless, unless_refused}
+use Rattle.script_core.specs.Script.{Numbered, answers_from, answers_of, commands_of, parts_of}
+use Rattle.script_laws.specs.Values.{IsLastStored, ValuesAreStored, accepted, accepted_count, called, repeated, told}
+use Rattle.script_laws.proofs.CallsAccepted.{CanMap, can_map, can_map_at, fresh_number, mapped_is, rests_for_access}
+use Rattle.script_laws.proofs.CommandsInRange.{AreInRange, commands_ranged}
+use Rattle.script_laws.proofs.Matching.{Match, match_empty, match_mapped, match_same, match_shared, match_stored, match_unmapped}
+use Rattle.script_laws.proofs.PagesMoved.{LeavesCells, copied_leaves, finished_leaves, leaves_all, opened_leaves, scanned_leaves, shut_leaves, taken_leaves}
+use Rattle.script_laws.proofs.Runs.{Goes, goes, opened_orderly}
+use Rattle.script_laws.proofs.Steps.{keeps_page_step}
+
+-- an answer to a call that was made behind a history
+record Tells (older : List Record) (c : Call) (a : Answered) : Type 0 where
+  match : Match a.world.zone.records (called older c a.reply)
+  value : (zone : ℕ) → IsLastStored older (On zone (One c)) a.reply
+
+-- a refusal, which binds nothing and stores nothing
+refuses : (older : List Record) (c : Call) (number : ℕ) (w : WorldState) → Match w.zone.records older → Tells older c (says (reply.Refused number) w)
+refuses older c number w m = record { match = m; value = λ zone. tt }
+
+tells_unless : (older : List Record) (c : Call) (o : Option ZoneError) (stopped : WorldState) (a : Answered) → Match stopped.zone.records older → (o ≡ None → Tells older c a) → Tells older c (unless o stopped a)
+tells_unless older c None stopped a m go = go refl
+tells_unless older c (Some e) stopped a m go = refuses older c (number_of e) stopped m
+
+leaves : (older : List Record) (z after : ZoneState) → LeavesCells z after → Match z.records older → Match after.records older
+leaves older z after l m = match_same z.records after.records older l.names l.words m
+
+-- a call that binds no address and stores nothing
+abbrev binds_nothing : Call → Bool
+binds_nothing (Map a unmovable) = false
+binds_nothing (MapAt a frame unmovable) = false
+binds_nothing (Store a word value) = false
+binds_nothing (Load a word) = false
+binds_nothing (Share a alias) = false
+binds_nothing (Unmap a) = false
+binds_nothing _ = true
+
+nothing_added : (older : List Record) (c : Call) → binds_nothing c ≡ true → accepted older c ≡ older
+nothing_added older (Map a unmovable) h = cc
+nothing_added older (MapAt a frame unmovable) h = cc
+nothing_added older (Store a word value) h = cc
+nothing_added older (Load a word) h = refl
+nothing_added older (Share a alias) h = cc
+nothing_added older (Unmap a) h = cc
+nothing_added older _ h = refl
+
+nothing_called : (older : List Record) (c : Call) (r : Reply) → binds_nothing c ≡ true → called older c r ≡ older
+nothing_called older c (reply.Refused number) h = refl
+nothing_called older c _ h = nothing_added older c h
+
+-- whether a reply tells a value
+abbrev has_value : Reply → Bool
+has_value (reply.Value x) = true
+has_value _ = false
+
+no_value : (older : List Record) (c : Command) (r : Reply) → has_value r ≡ false → IsLastStored older c r
+no_value older c (reply.Value x) h = cc
+no_value older c _ h = tt
+
+-- such a call tells no value
+quiet : (older : List Record) (c : Call) (z : ZoneState) (a : Answered) → binds_nothing c ≡ true → has_value a.reply ≡ false → Match z.records older → LeavesCells z a.world.zone → Tells older c a
+quiet older c z a h none m l = record {
+  match = subst (Match a.world.zone.records) (sym (nothing_called older c a.reply h)) (leaves older z a.world.zone l m);
+  value = λ zone. no_value older (On zone (One c)) a.reply none;
+}
+
+quiet_hand : {A : Type 0} (older : List Record) (c : Call) (w : WorldState) (to : A → Reply) (o : Option (A × WorldState)) → binds_nothing c ≡ true → ((x : A) → has_value (to x) ≡ false) → Match w.zone.records older → ((x : A) (after : WorldState) → o ≡ Some (x, after) → LeavesCells w.zone after.zone) → Tells older c (by_hand to w o)
+quiet_hand older c w to None h none m l = refuses older c 45 w m
+quiet_hand older c w to (Some (x, after)) h none m l = quiet older c w.zone (says (to x) after) h (none x) m (l x after refl)
+
+quiet_copied : (older : List Record) (c : Call) (w : WorldState) (o : Option WorldState) → binds_nothing c ≡ true → Match w.zone.records older → ((after : WorldState) → o ≡ Some after → LeavesCells w.zone after.zone) → Tells older c (copied w o)
+quiet_copied older c w None h m l = refuses older c 45 w m
+quiet_copied older c w (Some after) h m l = quiet older c w.zone (says reply.Done after) h refl m (l after refl)
+
+quiet_looked : (older : List Record) (c : Call) (w : WorldState) (o : Option Look) → binds_nothing c ≡ true → Match w.zone.records older → Tells older c (looked w o)
+quiet_looked older c w None h m = refuses older c 3 w m
+quiet_looked older c w (Some known) h m = quiet older c w.zone (says (reply.Looked known) w) h refl m (leaves_all w.zone)
+
+quiet_huge : (older : List Record) (w : WorldState) (o : Option ℕ) → Match w.zone.records older → Tells older Huge (handed_out w o)
+quiet_huge older w None m = refuses older Huge 11 w m
+quiet_huge older w (Some first) m = quiet older Huge w.zone (handed_out w (Some first)) refl refl m (record { blocks = refl; names = λ a. refl; words = λ page word. refl })
+
+quiet_order : (older : List Record) (w : WorldState) (order : ℕ) (o : Option ℕ) → Match w.zone.records older → Tells older (TakeOrder order) (order_handed_out w order o)
+quiet_order older w order None m = refuses older (TakeOrder order) 11 w m
+quiet_order older w order (Some first) m = quiet older (TakeOrder order) w.zone (order_handed_out w order (Some first)) refl refl m (record { blocks = refl; names = λ a. refl; words = λ page word. refl })
+
+no_value_found : (s : Scanned) → has_value (found s) ≡ false
+no_value_found (scan.Serial serial) = refl
+no_value_found scan.Met = refl
+
+no_value_ending : (serial : ℕ) (e : Ended) → has_value (ending serial e) ≡ false
+no_value_ending serial ended.Moved = refl
+no_value_ending serial ended.Back = refl
+
+-- a fresh page, which no address names
+maps_fresh : (older : List Record) (z : ZoneState) (a : Address) (unmovable : Bool) (frame : ℕ) → IsLawful z → CanMap z a frame → Match z.records older → Match (mapped z 0 a unmovable frame).records (record_of.Map 0 a (length older) ∷ older)
+maps_fresh older z a unmovable frame law can m =
+    let fresh = fresh_number z a frame law can in
+    subst (λ (next : ZoneState). Match next.records (record_of.Map 0 a (length older) ∷ older)) (sym (mapped_is z a unmovable frame fresh.0 fresh.1))
+    (match_mapped z.records older a fresh.0 (λ b e. clash _ fresh.1.unused (law.named b fresh.0 e).1) m)
+
+tells_page : (older : List Record) (w : WorldState) (a : Address) (unmovable : Bool) (o : Option ℕ) → IsLawful w.zone → Match w.zone.records older → ((frame : ℕ) → o ≡ Some frame → CanMap w.zone a frame) → Tells older (Map a unmovable) (fresh_page w a unmovable o)
+tells_page older w a unmovable None law m can = refuses older (Map a unmovable) 6 w m
+tells_page older w a unmovable (Some frame) law m can = record { match = maps_fresh older w.zone a unmovable frame law (can frame refl) m; value = λ zone. tt }
+
+unmapped_records : (z : ZoneState) (a : Address) → record_of.Unmap 0 a ∷ z.records ≡ (unmapped z 0 a).records
+unmapped_records z a = by_last (is_last z a) where
+  by_last : (b : Bool) → record_of.Unmap 0 a ∷ z.records ≡ (if b then without_page (noted z (record_of.Unmap 0 a)) (unwrap_or (page_at z.records a) 0) else noted z (record_of.Unmap 0 a)).records
+  by_last true = refl
+  by_last false = refl
+
+-- a load tells the last value of its page
+loaded_value : (older : List Record) (z : ZoneState) (a : Address) (word page : ℕ) → page_at z.records a ≡ Some page → Match z.records older → IsSomeAnd (page_at older a) (λ p. value_at z a word ≡ last older p word)
+loaded_value older z a word page named m =
+    let at = m.some a page named in
+    subst (λ (o : Option ℕ). IsSomeAnd o (λ p. value_at z a word ≡ last older p word)) (sym at.1)
+    (ap (λ (o : Option ℕ). last z.records (unwrap_or o 0) word) named ∙ m.words a page at.0 word named at.1)
+
+tells_call : (older : List Record) (w : WorldState) → IsOrderly w → Match w.zone.records older → (c : Call) → Tells older c (call_step w c)
+tells_call older w o m (Map a unmovable) = tells_unless older (Map a unmovable) (map_refusal w.zone a) w (fresh_page w a unmovable (lowest_free_frame w.zone)) m
+    (λ e. tells_page older w a unmovable (lowest_free_frame w.zone) o.lawful m (λ frame lowest. can_map w.zone a frame e lowest))
+tells_call older w o m (MapAt a frame unmovable) = tells_unless older (MapAt a frame unmovable) (map_at_refusal w.zone a frame) w (fresh_page w a unmovable (Some frame)) m
+    (λ e. record { match = maps_fresh older w.zone a unmovable frame o.lawful (can_map_at w.zone a frame e) m; value = λ zone. tt })
+tells_call older w o m (Store a word value) = tells_unless older (Store a word value) (access_refusal w.zone a) w _ m
+    (λ e. record { match = match_stored w.zone.records older a word value m; value = λ zone. tt })
+tells_call older w o m (Load a word) = tells_unless older (Load a word) (access_refusal w.zone a) w _ m
+    (λ e. (let rest = rests_for_access w.zone a e in record { match = match_same w.zone.records _ older (λ b. refl) (λ p v. refl) m; value = λ zone. loaded_value older w.zone a word rest.page rest.named m }))
+tells_call older w o m Info = quiet older Info w.zone (call_step w Info) refl refl m (leaves_all w.zone)
+tells_call older w o m Scan = tells_unless older Scan (scan_refusal w) (scan_stopped w) (says (found (scan_answer w)) (scanned w)) (leaves older w.zone (scan_stopped w).zone (opened_leaves w) m)
+    (λ e. quiet older Scan w.zone (says (found (scan_answer w)) (scanned w)) refl (no_value_found (scan_answer w)) m (scanned_leaves w))
+tells_call older w o m (Take hand) = quiet_hand older (Take hand) w (λ serial. reply.Serial serial) (take_step w hand) refl (λ serial. refl) m (λ serial after e. taken_leaves w hand serial after e)
+tells_call older w o m (Copy hand) = quiet_copied older (Copy hand) w (copy_step w hand) refl m (λ after e. copied_leaves w hand after e)
+tells_call older w o m (Finish hand) = quiet_hand older (Finish hand) w (λ (f : Finished). ending f.serial f.ended) (finish_step w hand) refl (λ f. no_value_ending f.serial f.ended) m (λ f after e. finished_leaves w hand f after e)
+tells_call older w o m Shut = quiet_hand older Shut w (λ count. reply.Shut count) (shut_step w) refl (λ count. refl) m (λ count after e. shut_leaves w count after e)
+tells_call older w o m (LookAt a) = quiet_looked older (LookAt a) w (look_of w.zone a) refl m
+tells_call older w o m (Share a alias) = tells_unless older (Share a alias) (share_refusal w.zone a alias) w _ m
+    (λ e. record { match = match_shared w.zone.records older a alias m; value = λ zone. tt })
+tells_call older w o m (Unmap a) = tells_unless older (Unmap a) (unmap_refusal w.zone a) w _ m
+    (λ e. record { match = subst (λ (records : List Record). Match records (record_of.Unmap 0 a ∷ older)) (unmapped_records w.zone a) (match_unmapped w.zone.records older a m); value = λ zone. tt })
+tells_call older w o m (Pin a) = tells_unless older (Pin a) (pin_refusal w.zone a) w _ m (λ e. quiet older (Pin a) w.zone _ refl refl m (record { blocks = refl; names = λ b. refl; words = λ page word. refl }))
+tells_call older w o m (Unpin a) = tells_unless older (Unpin a) (unpin_refusal w.zone a) w _ m (λ e. quiet older (Unpin a) w.zone _ refl refl m (record { blocks = refl; names = λ b. refl; words = λ page word. refl }))
+tells_call older w o m Huge = tells_unless older Huge (take_order_refusal w.zone 9) w (handed_out w (lowest_run w.zone 9)) m (λ e. quiet_huge older w (lowest_run w.zone 9) m)
+tells_call older w o m (Give block) = tells_unless older (Give block) (give_order_refusal w.zone (512 * block) 9) w _ m (λ e. quiet older (Give block) w.zone _ refl refl m (record { blocks = refl; names = λ b. refl; words = λ page word. refl }))
+tells_call older w o m InfoWithHeld = quiet older InfoWithHeld w.zone (call_step w InfoWithHeld) refl refl m (leaves_all w.zone)
+tells_call older w o m (TakeOrder order) = tells_unless older (TakeOrder order) (take_order_refusal w.zone order) w (order_handed_out w order (lowest_run w.zone order)) m (λ e. quiet_order older w order (lowest_run w.zone order) m)
+tells_call older w o m (GiveOrder first order) = tells_unless older (GiveOrder first order) (give_order_refusal w.zone first order) w _ m (λ e. quiet older (GiveOrder first order) w.zone _ refl refl m (record { blocks = refl; names = λ b. refl; words = λ page word. refl }))
+tells_call older w o m (Mark block) = tells_unless older (Mark block) (mark_refusal w.zone block) w _ m (λ e. quiet older (Mark block) w.zone _ refl refl m (record { blocks = refl; names = λ b. refl; words = λ page word. refl }))
+tells_call older w o m (Unmark block) = tells_unless older (Unmark block) (unmark_refusal w.zone block) w _ m (λ e. quiet older (Unmark block) w.zone _ refl refl m (record { blocks = refl; names = λ b. refl; words = λ page word. refl }))
+
+-- the calls of a series
+address_is : (s v : ℕ) (a : Address) → address_of s v ≡ Some a → record { space = s; vpage = v } ≡ a
+address_is s v a e = by_test (nat_lt s 8 && nat_lt v 4096) e where
+  by_test : (b : Bool) → (if b then Some (record { space = s; vpage = v }) else None) ≡ Some a → record { space = s; vpage = v } ≡ a
+  by_test true e = same_Some _ a e
+  by_test false e = cc
+
+tells_at : (older : List Record) (w : WorldState) → IsOrderly w → Match w.zone.records older → (c : Repeated) (s v : ℕ) (o : Option Address) → address_of s v ≡ o → Match (page_step c w o).world.zone.records (called older (call_at c (record { space = s; vpage = v })) (page_step c w o).reply)
+tells_at older w o m c s v None e = m
+tells_at older w o m c s v (Some a) e =
+    subst (λ (b : Address). Match (call_step w (call_at c a)).world.zone.records (called older (call_at c b) (call_step w (call_at c a)).reply)) (sym (address_is s v a e))
+    (tells_call older w o m (call_at c a)).match
+
+-- what a part of a series tells, behind so many calls
+record SeriesTold (c : Repeated) (s v further done : ℕ) (older : List Record) (a : Answered) : Type 0 where
+  more : ℕ
+  count : accepted_count a.reply ≡ done + more
+  match : Match a.world.zone.records (repeated c s v further more older)
+  none : has_value a.reply ≡ false
+
+told_on : (c : Repeated) (s v further done : ℕ) (older : List Record) (r : Reply) (after : WorldState) (rest : Answered) → Match after.zone.records (called older (call_at c (record { space = s; vpage = v })) r)
+    → (Match after.zone.records (accepted older (call_at c (record { space = s; vpage = v }))) → SeriesTold c s (v + further) further (done + 1) (accepted older (call_at c (record { space = s; vpage = v }))) rest)
+    → SeriesTold c s v further done older (unless_refused done r after rest)
+told_on c s v further done older (reply.Refused number) after rest m go = record { more = 0; count = omega arith; match = m; none = refl }
+told_on c s v further done older _ after rest m go = let t = go m in record { more = suc t.more; count = omega (arith, t.count); match = t.match; none = t.none }
+
+tells_series : (c : Repeated) (s v further done n : ℕ) (older : List Record) (w : WorldState) → IsOrderly w → Match w.zone.records older → SeriesTold c s v further done older (series_from c s v further done n w)
+tells_series c s v further done zero older w o m = record { more = 0; count = omega arith; match = m; none = refl }
+tells_series c s v further done (suc n) older w o m =
+    let a : Answered = page_step c w (address_of s v) in
+    told_on c s v further done older a.reply a.world (series_from c s (v + further) further (done + 1) n a.world)
+    (tells_at older w o m c s v (address_of s v) refl)
+    (λ matched. tells_series c s (v + further) further (done + 1) n (accepted older (call_at c (record { space = s; vpage = v }))) a.world (keeps_page_step w o c s v).orderly matched)
+
+-- a command on a zone that is open
+record StepTold (places : ℕ) (w : WorldState) (older : List Record) (c : Command) : Type 0 where
+  match : (after : WorldState) → (step places (Some w) c).world ≡ Some after → Match after.zone.records (told older c (step places (Some w) c).reply)
+  value : IsLastStored older c (step places (Some w) c).reply
+
+refused_nothing : (older : List Record) (c : Command) (number : ℕ) → told older c (reply.Refused number) ≡ older
+refused_nothing older OutOfRange number = refl
+refused_nothing older Profile2 number = refl
+refused_nothing older (Open zone blocks) number = refl
+refused_nothing older (On zone (One c)) number = refl
+refused_nothing older (On zone (SeriesOf s)) number = refl
+
+moved_to : (v after : WorldState) (history : List Record) → Some v ≡ Some after → Match v.zone.records history → Match after.zone.records history
+moved_to v after history e m = subst (λ (x : WorldState). Match x.zone.records history) (same_Some v after e) m
+
+tells_calls : (older : List Record) (w : WorldState) → IsOrderly w → Match w.zone.records older → (zone : ℕ) (c : Calls) → Match (calls_step w c).world.zone.records (told older (On zone c) (calls_step w c).reply) × IsLastStored older (On zone c) (calls_step w c).reply
+tells_calls older w o m zone (One c) = let t = tells_call older w o m c in (t.match, t.value zone)
+tells_calls older w o m zone (SeriesOf s) =
+    let t = tells_series s.call s.space s.first s.step 0 s.count older w o m in
+    let count : t.more ≡ accepted_count (calls_step w (SeriesOf s)).reply = omega (arith, t.count) in (
+      subst (λ n. Match (calls_step w (SeriesOf s)).world.zone.records (repeated s.call s.space s.first s.step n older)) count t.match,
+      no_value older (On zone (SeriesOf s)) (calls_step w (SeriesOf s)).reply t.none,
+    )
+
+tells_step : (places : ℕ) (older : List Record) (w : WorldState) → IsOrderly w → Match w.zone.records older → (c : Command) → StepTold places w older c
+tells_step places older w o m OutOfRange = record { match = λ after e. moved_to w after older e m; value = tt }
+tells_step places older w o m Profile2 = record { match = λ after e. moved_to w after older e m; value = tt }
+tells_step places older w o m (Open zone blocks) = record { match = λ after e. moved_to w after older e m; value = tt }
+tells_step places older w o m (On zone calls) = record { match = (by_number (nat_eq zone w.zone.number)).0; value = (by_number (nat_eq zone w.zone.number)).1 } where
+  by_number : (b : Bool)
+      → ((after : WorldState) → (if b then answered (calls_step w calls) else declined 43 (Some w)).world ≡ Some after → Match after.zone.records (told older (On zone calls) (if b then answered (calls_step w calls) else declined 43 (Some w)).reply))
+      × IsLastStored older (On zone calls) (if b then answered (calls_step w calls) else declined 43 (Some w)).reply
+  by_number true = let t = tells_calls older w o m zone calls in (λ after e. moved_to (calls_step w calls).world after _ e t.0, t.1)
+  by_number false = (
+    λ after e. moved_to w after _ e (subst (Match w.zone.records) (sym (refused_nothing older (On zone calls) 43)) m),
+    no_value older (On zone calls) (reply.Refused 43) refl,
+  )
+
+-- a script whose zone is open
+open_values : (places : ℕ) (commands : List Numbered) → AreInRange commands → (older : List Record) (w : WorldState) → IsOrderly w → Match w.zone.records older → ValuesAreStored older commands (answers_from places (Some w) commands)
+open_values places [] ranged older w o m = tt
+open_values places (c ∷ commands) ranged older w o m =
+    let on : Goes places w c.command = goes places w o c.command ranged.0 in
+    let t : StepTold places w older c.command = tells_step places older w o m c.command in
+    let next : List Record = told older c.command (step places (Some w) c.command).reply in (
+      t.value,
+      subst (λ (v : Option WorldState). ValuesAreStored next commands (answers_from places v commands)) (sym on.world)
+          (open_values places commands ranged.1 next on.after on.keeps.orderly (t.match on.after on.world)),
+    )
+
+-- a script from its first command on
+first_values : (places : ℕ) → (0 < places) × (places ≤ 65536) → (line : ℕ) (command : Command) (commands : List Numbered) → IsInRange command → AreInRange commands → ValuesAreStored [] commands (answers_from places None commands)
+    → ValuesAreStored [] (record { line = line; command = command } ∷ commands) (answers_from places None (record { line = line; command = command } ∷ commands))
+first_values places range line OutOfRange commands r ranged rest = (tt, rest)
+first_values places range line Profile2 commands r ranged rest = (tt, rest)
+first_values places range line (On zone calls) commands r ranged rest = (
+  no_value [] (On zone calls) (reply.Refused 43) refl,
+  subst (λ (history : List Record). ValuesAreStored history commands (answers_from places None commands)) (sym (refused_nothing [] (On zone calls) 43)) rest,
+)
+first_values places range line (Open zone blocks) commands r ranged rest = (tt, open_values places commands ranged [] (world_opened zone blocks places) (opened_orderly zone blocks places r range) match_empty)
+
+values : (places : ℕ) → (0 < places) × (places ≤ 65536) → (commands : List Numbered) → AreInRange commands → ValuesAreStored [] commands (answers_from places None commands)
+values places range [] ranged = tt
+values places range (c ∷ commands) ranged = first_values places range c.line c.command commands ranged.0 ranged.1 (values places range commands ranged.1)
+
+pub values_stored : (places : ℕ) → (0 < places) × (places ≤ 65536) → (input : List ℕ) → ValuesAreStored [] (commands_of input) (answers_of places input)
+values_stored places range input = values places range (commands_of input) (commands_ranged Untold 1 (parts_of input))

@@ -1,0 +1,3 @@
+pub mod Counts
+pub mod Profile2
+pub mod Values

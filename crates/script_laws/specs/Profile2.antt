@@ -1,0 +1,29 @@
+-- A script of profile 1 behind the line `profile 2`.
+use Rattle.std.specs.Prelude.{◌≡◌, ℕ, ◌+◌, List, ◌∷◌, ◌++◌, codes, map, Option, None}
+use Rattle.text_core.specs.declared.profile.Profile.TheVariants.{One}
+use Rattle.text_core.specs.declared.reply.Reply.{Reply}
+use Rattle.text_core.specs.declared.reply.Reply.TheVariants as reply
+use Rattle.script_core.specs.declared.error.RunError.{RunError}
+use Rattle.script_core.specs.Script.{Answer, answers_of, fault_from, fault_of, parts_of}
+
+-- the first fault where each line is read by profile 1, so that `profile 2` is one too
+abbrev pub fault_in_profile_1 : List ℕ → Option RunError
+fault_in_profile_1 input = fault_from One 1 (parts_of input)
+
+abbrev pub behind_profile_2 : List ℕ → List ℕ
+behind_profile_2 input = codes "profile 2\n" ++ input
+
+-- the same reply in profile 2: an info reply ends with the frames that are handed out
+abbrev pub with_held : Reply → Reply
+with_held (reply.Info i) = reply.InfoWithHeld i
+with_held r = r
+
+-- the replies in profile 2: first `ok`, and then the same, each to the line behind its own
+abbrev pub in_profile_2 : List Answer → List Answer
+in_profile_2 answers = record { line = 1; reply = reply.Done } ∷ map (λ a. record { line = a.line + 1; reply = with_held a.reply }) answers
+
+-- a script without a fault in profile 1 has none by itself, and none in profile 2, and the same replies there
+pub record IsSameInProfile2 (places : ℕ) (input : List ℕ) : Type 0 where
+  pub fault : fault_of input ≡ None
+  pub fault_in_profile_2 : fault_of (behind_profile_2 input) ≡ None
+  pub answers : answers_of places (behind_profile_2 input) ≡ in_profile_2 (answers_of places input)

@@ -1,0 +1,22 @@
+ghost use Rattle.std.specs.Prelude.{◌≡◌, ℕ, ◌<◌, ◌≤◌, [], List, None};
+ghost use Rattle.script_core.specs.Script.{answers_of, commands_of};
+ghost use Rattle.script_laws.specs.Counts.{CountsAddUp};
+ghost use Rattle.script_laws.specs.Profile2.{IsSameInProfile2, fault_in_profile_1};
+ghost use Rattle.script_laws.specs.Values.{ValuesAreStored};
+
+/// Each value in a reply is the last one stored before it, through whatever address, in that word of that page since the
+/// page was mapped, and 0 if there is none.
+pub fn values_are_stored()
+    ensures { (places : ℕ) (input : List ℕ) → (0 < places) × (places ≤ 65536) → ValuesAreStored [] (commands_of input) (answers_of places input) }
+{}
+
+/// Free frames, pages, pages on their way and frames handed out of each info reply are together the frames of the zone.
+pub fn counts_add_up()
+    ensures { (places : ℕ) (input : List ℕ) → (0 < places) × (places ≤ 65536) → CountsAddUp (commands_of input) (answers_of places input) }
+{}
+
+/// A script without a fault in profile 1, behind the line `profile 2`, has the same replies but for the first `ok` and the
+/// frames handed out in those of `info`.
+pub fn profile_2_keeps_replies()
+    ensures { (places : ℕ) (input : List ℕ) → fault_in_profile_1 input ≡ None → IsSameInProfile2 places input }
+{}

@@ -1,0 +1,170 @@
+-- A line of profile 1 says the same where no line told the profile yet, and in profile 2 but for the held frames of an info.
+use Rattle.std.proofs.Common.{◌≡◌, ℕ, Bool, true, false, List, [], ◌∷◌, length, refl, sym, ap, Option, Some, None, Result, Ok, Err}
+use Rattle.std.specs.Prelude.{bytes_eq, codes, map, nat_lt, if◌then◌else◌, IfSome, ⊤, option_map}
+use Rattle.std.proofs.lemmas.Bool.{and_parts}
+use Rattle.std.proofs.lemmas.Option.{same_Some}
+use Rattle.std.proofs.lemmas.Slice.Eq.{bytes_eq-Decides}
+use Rattle.frame_core.specs.declared.place.Address.{Address}
+use Rattle.text_core.specs.declared.token.Token.{Token}
+use Rattle.text_core.specs.declared.token.Token.TheVariants.{Number, Zone, Map, MapAt, Store, Load, Info, Unmovable, Scan, Take, Copy, Finish, Shut, Look, Share, Unmap, Pin, Unpin, Huge, Give, Fill, Thin}
+use Rattle.text_core.specs.declared.command.Call.{Call}
+use Rattle.text_core.specs.declared.command.Call.TheVariants as call
+use Rattle.text_core.specs.declared.command.Calls.TheVariants.{One}
+use Rattle.text_core.specs.declared.command.Series.{Series}
+use Rattle.text_core.specs.declared.command.Command.{Command}
+use Rattle.text_core.specs.declared.command.Command.TheVariants.{On, Profile2}
+use Rattle.text_core.specs.declared.error.ScriptError.{ScriptError}
+use Rattle.text_core.specs.declared.error.ScriptError.TheVariants.{LongLine}
+use Rattle.text_core.specs.declared.profile.Profile.TheVariants.{Untold, One as Profile1, Two}
+use Rattle.text_core.specs.Grammar.{address_of, blocks_of, call_on, command_of, frame_of, hand_of, load_call, map_at_call, map_call, opening, pageblock_of, row_of, row_of_profile_2, row_or, series_on, share_call, store_call, word_of, zone_of}
+use Rattle.text_core.specs.Line.{command_in, command_or_fault, is_comment, lexemes_say, line_of}
+use Rattle.text_core.specs.Profile.{is_profile_2}
+use Rattle.text_core.specs.Token.{lexemes, token_of}
+
+-- a call of profile 1 in profile 2, where an info tells the held frames too
+abbrev pub call_in_profile_2 : Call → Call
+call_in_profile_2 call.Info = call.InfoWithHeld
+call_in_profile_2 c = c
+
+abbrev pub in_profile_2 : Command → Command
+in_profile_2 (On zone (One c)) = On zone (One (call_in_profile_2 c))
+in_profile_2 c = c
+
+-- a command that is the same there
+abbrev IsKept : Command → Type 0
+IsKept c = (in_profile_2 c ≡ c) × (c ≡ Profile2 → ⊥)
+
+abbrev IsKeptCall : Call → Type 0
+IsKeptCall c = call_in_profile_2 c ≡ c
+
+kept_opening : (z b : Option ℕ) → IsKept (opening z b)
+kept_opening (Some z) (Some b) = (refl, λ e. cc)
+kept_opening (Some z) None = (refl, λ e. cc)
+kept_opening None b = (refl, λ e. cc)
+
+kept_call : (z : Option ℕ) (o : Option Call) → IfSome o IsKeptCall → IsKept (call_on z o)
+kept_call (Some z) (Some c) e = (ap (λ d. On z (One d)) e, λ e. cc)
+kept_call (Some z) None e = (refl, λ e. cc)
+kept_call None (Some c) e = (refl, λ e. cc)
+kept_call None None e = (refl, λ e. cc)
+
+kept_series : (z : Option ℕ) (s : Option Series) → IsKept (series_on z s)
+kept_series (Some z) (Some s) = (refl, λ e. cc)
+kept_series (Some z) None = (refl, λ e. cc)
+kept_series None (Some s) = (refl, λ e. cc)
+kept_series None None = (refl, λ e. cc)
+
+kept_map : (o : Option Address) (unmovable : Bool) → IfSome (map_call o unmovable) IsKeptCall
+kept_map (Some a) unmovable = refl
+kept_map None unmovable = tt
+
+kept_map_at : (o : Option Address) (f : Option ℕ) (unmovable : Bool) → IfSome (map_at_call o f unmovable) IsKeptCall
+kept_map_at (Some a) (Some f) unmovable = refl
+kept_map_at (Some a) None unmovable = tt
+kept_map_at None f unmovable = tt
+
+kept_share : (o alias : Option Address) → IfSome (share_call o alias) IsKeptCall
+kept_share (Some a) (Some alias) = refl
+kept_share (Some a) None = tt
+kept_share None alias = tt
+
+kept_store : (o : Option Address) (w : Option ℕ) (x : ℕ) → IfSome (store_call o w x) IsKeptCall
+kept_store (Some a) (Some w) x = refl
+kept_store (Some a) None x = tt
+kept_store None w x = tt
+
+kept_load : (o : Option Address) (w : Option ℕ) → IfSome (load_call o w) IsKeptCall
+kept_load (Some a) (Some w) = refl
+kept_load (Some a) None = tt
+kept_load None w = tt
+
+kept_with : {A : Type 0} (f : A → Call) → ((x : A) → IsKeptCall (f x)) → (o : Option A) → IfSome (option_map f o) IsKeptCall
+kept_with f g (Some x) = g x
+kept_with f g None = tt
+
+-- where profile 1 has a command, a line that tells no profile yet has it, and profile 2 has its own form of it
+abbrev AreAlike : (one untold two : Option Command) → Type 0
+AreAlike None untold two = ⊤
+AreAlike (Some c) untold two = (untold ≡ Some c) × (two ≡ Some (in_profile_2 c)) × (c ≡ Profile2 → ⊥)
+
+alike : (c : Command) → IsKept c → AreAlike (Some c) (Some c) (Some c)
+alike c kept = (refl, ap Some (sym kept.0), kept.1)
+
+alike_info : (z : Option ℕ) → AreAlike (Some (call_on z (Some call.Info))) (Some (call_on z (Some call.Info))) (Some (call_on z (Some call.InfoWithHeld)))
+alike_info (Some z) = (refl, refl, λ e. cc)
+alike_info None = (refl, refl, λ e. cc)
+
+alike_row : (keyword : Token) (z : Option ℕ) (arguments : List Token) → AreAlike (row_of keyword z arguments) (row_of keyword z arguments) (row_or z (row_of_profile_2 keyword arguments) (row_of keyword z arguments))
+alike_row Zone z (Number b ∷ []) = alike _ (kept_opening z (blocks_of b))
+alike_row Map z (Number s ∷ Number v ∷ []) = alike _ (kept_call z _ (kept_map (address_of s v) false))
+alike_row Map z (Number s ∷ Number v ∷ Unmovable ∷ []) = alike _ (kept_call z _ (kept_map (address_of s v) true))
+alike_row MapAt z (Number s ∷ Number v ∷ Number f ∷ []) = alike _ (kept_call z _ (kept_map_at (address_of s v) (frame_of f) false))
+alike_row MapAt z (Number s ∷ Number v ∷ Number f ∷ Unmovable ∷ []) = alike _ (kept_call z _ (kept_map_at (address_of s v) (frame_of f) true))
+alike_row Store z (Number s ∷ Number v ∷ Number w ∷ Number x ∷ []) = alike _ (kept_call z _ (kept_store (address_of s v) (word_of w) x))
+alike_row Load z (Number s ∷ Number v ∷ Number w ∷ []) = alike _ (kept_call z _ (kept_load (address_of s v) (word_of w)))
+alike_row Info z [] = alike_info z
+alike_row Scan z [] = alike _ (kept_call z (Some call.Scan) refl)
+alike_row Take z (Number k ∷ []) = alike _ (kept_call z _ (kept_with call.Take (λ n. refl) (hand_of k)))
+alike_row Copy z (Number k ∷ []) = alike _ (kept_call z _ (kept_with call.Copy (λ n. refl) (hand_of k)))
+alike_row Finish z (Number k ∷ []) = alike _ (kept_call z _ (kept_with call.Finish (λ n. refl) (hand_of k)))
+alike_row Shut z [] = alike _ (kept_call z (Some call.Shut) refl)
+alike_row Look z (Number s ∷ Number v ∷ []) = alike _ (kept_call z _ (kept_with call.Look (λ a. refl) (address_of s v)))
+alike_row Share z (Number s ∷ Number v ∷ Number s2 ∷ Number v2 ∷ []) = alike _ (kept_call z _ (kept_share (address_of s v) (address_of s2 v2)))
+alike_row Unmap z (Number s ∷ Number v ∷ []) = alike _ (kept_call z _ (kept_with call.Unmap (λ a. refl) (address_of s v)))
+alike_row Pin z (Number s ∷ Number v ∷ []) = alike _ (kept_call z _ (kept_with call.Pin (λ a. refl) (address_of s v)))
+alike_row Unpin z (Number s ∷ Number v ∷ []) = alike _ (kept_call z _ (kept_with call.Unpin (λ a. refl) (address_of s v)))
+alike_row Huge z [] = alike _ (kept_call z (Some call.Huge) refl)
+alike_row Give z (Number b ∷ []) = alike _ (kept_call z _ (kept_with call.Give (λ n. refl) (pageblock_of b)))
+alike_row Fill z (Number s ∷ Number v ∷ Number n ∷ []) = alike _ (kept_series z _)
+alike_row Thin z (Number s ∷ Number v ∷ Number n ∷ Number step ∷ []) = alike _ (kept_series z _)
+alike_row _ z _ = tt
+
+alike_tokens : (tokens : List Token) → AreAlike (command_of Profile1 tokens) (command_of Untold tokens) (command_of Two tokens)
+alike_tokens (keyword ∷ Number z ∷ arguments) = alike_row keyword (zone_of z) arguments
+alike_tokens _ = tt
+
+bytes_same : (xs ys : List ℕ) → bytes_eq xs ys ≡ true → xs ≡ ys
+bytes_same xs ys e = (bytes_eq-Decides xs ys).0 e
+
+-- `profile 2` is no command of profile 1
+no_command : (words : List (List ℕ)) → is_profile_2 words ≡ true → command_of Profile1 (map token_of words) ≡ None
+no_command [] e = refl
+no_command (keyword ∷ []) e = cc
+no_command (keyword ∷ number ∷ []) e =
+    let both = and_parts (bytes_eq keyword (codes "profile")) _ e in
+    λ i. command_of Profile1 (token_of (bytes_same keyword (codes "profile") both.0 i) ∷ token_of (bytes_same number (codes "2") both.1 i) ∷ [])
+no_command (keyword ∷ number ∷ another ∷ more) e = cc
+
+none_alike : (one untold two : Option Command) → one ≡ None → AreAlike one untold two
+none_alike None untold two e = tt
+none_alike (Some c) untold two e = cc
+
+alike_words : (words : List (List ℕ)) → AreAlike (command_in Profile1 words) (command_in Untold words) (command_in Two words)
+alike_words words = by_test (is_profile_2 words) refl where
+  by_test : (b : Bool) → is_profile_2 words ≡ b → AreAlike (command_of Profile1 (map token_of words)) (if b then Some Profile2 else command_of Untold (map token_of words)) (command_of Two (map token_of words))
+  by_test true e = none_alike _ _ _ (no_command words e)
+  by_test false e = alike_tokens (map token_of words)
+
+-- the same of what lines say
+abbrev pub SayAlike : (one untold two : Result (Option Command) ScriptError) → Type 0
+SayAlike (Err e) untold two = ⊤
+SayAlike (Ok o) untold two = (untold ≡ Ok o) × (two ≡ Ok (option_map in_profile_2 o)) × (o ≡ Some Profile2 → ⊥)
+
+or_faults_alike : (one untold two : Option Command) → AreAlike one untold two → SayAlike (command_or_fault one) (command_or_fault untold) (command_or_fault two)
+or_faults_alike None untold two a = tt
+or_faults_alike (Some c) untold two a = (ap command_or_fault a.0, ap command_or_fault a.1, λ e. a.2 (same_Some c Profile2 e))
+
+or_skipped_alike : (words : List (List ℕ)) (skipped : Bool)
+    → SayAlike (if skipped then Ok None else command_or_fault (command_in Profile1 words)) (if skipped then Ok None else command_or_fault (command_in Untold words)) (if skipped then Ok None else command_or_fault (command_in Two words))
+or_skipped_alike words true = (refl, refl, λ e. cc)
+or_skipped_alike words false = or_faults_alike (command_in Profile1 words) (command_in Untold words) (command_in Two words) (alike_words words)
+
+lexemes_alike : (words : List (List ℕ)) → SayAlike (lexemes_say Profile1 words) (lexemes_say Untold words) (lexemes_say Two words)
+lexemes_alike [] = (refl, refl, λ e. cc)
+lexemes_alike (first ∷ more) = or_skipped_alike (first ∷ more) (is_comment first)
+
+pub lines_alike : (line : List ℕ) → SayAlike (line_of Profile1 line) (line_of Untold line) (line_of Two line)
+lines_alike line = by_test (nat_lt 200 (length line)) where
+  by_test : (b : Bool) → SayAlike (if b then Err LongLine else lexemes_say Profile1 (lexemes line)) (if b then Err LongLine else lexemes_say Untold (lexemes line)) (if b then Err LongLine else lexemes_say Two (lexemes line))
+  by_test true = tt
+  by_test false = lexemes_alike (lexemes line)

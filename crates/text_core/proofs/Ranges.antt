@@ -1,0 +1,197 @@
+-- The arguments of what a line says are in their ranges.
+use Rattle.std.proofs.Common.{◌≡◌, ℕ, ◌<◌, ◌≤◌, Bool, true, false, List, [], ◌∷◌, length, refl, Option, Some, None, Result, Ok, Err}
+use Rattle.std.specs.Prelude.{◌&&◌, nat_le, nat_lt, map, if◌then◌else◌, IfSome, ⊤, option_map}
+use Rattle.std.proofs.lemmas.Bool.{and_parts, leb-true, ltb-true}
+use Rattle.frame_core.specs.Address.{InRange}
+use Rattle.frame_core.specs.declared.place.Address.{Address}
+use Rattle.text_core.specs.declared.token.Token.{Token}
+use Rattle.text_core.specs.declared.token.Token.TheVariants.{Number, Zone, Map, MapAt, Store, Load, Info, Unmovable, Scan, Take, Copy, Finish, Shut, Look, Share, Unmap, Pin, Unpin, Huge, Give, Fill, Thin, Mark, Unmark}
+use Rattle.text_core.specs.declared.command.Call.{Call}
+use Rattle.text_core.specs.declared.command.Call.TheVariants as call
+use Rattle.text_core.specs.declared.command.Calls.TheVariants.{One}
+use Rattle.text_core.specs.declared.command.Series.{Series}
+use Rattle.text_core.specs.declared.command.Command.{Command}
+use Rattle.text_core.specs.declared.command.Command.TheVariants.{Open, On, Profile2}
+use Rattle.text_core.specs.declared.error.ScriptError.{ScriptError}
+use Rattle.text_core.specs.declared.error.ScriptError.TheVariants.{LongLine}
+use Rattle.text_core.specs.declared.profile.Profile.{Profile}
+use Rattle.text_core.specs.declared.profile.Profile.TheVariants.{Untold, One as Profile1, Two}
+use Rattle.text_core.specs.Grammar.{address_of, blocks_of, call_on, command_of, frame_of, give_order_call, hand_of, load_call, map_at_call, map_call, opening, order_of, own_row, pageblock_of, row_in, row_of, row_of_profile_2, row_or, series_on, share_call, store_call, word_of, zone_of}
+use Rattle.text_core.specs.Line.{command_in, command_or_fault, is_comment, lexemes_say, line_of}
+use Rattle.text_core.specs.Profile.{is_profile_2}
+use Rattle.text_core.specs.Token.{lexemes, token_of}
+
+-- the arguments of a call are in their ranges
+abbrev pub IsCallInRange : Call → Type 0
+IsCallInRange (call.Map a unmovable) = InRange a
+IsCallInRange (call.MapAt a frame unmovable) = InRange a
+IsCallInRange (call.Share a alias) = InRange alias
+IsCallInRange (call.Take hand) = (0 < hand) × (hand ≤ 4)
+IsCallInRange (call.Copy hand) = (0 < hand) × (hand ≤ 4)
+IsCallInRange (call.Finish hand) = (0 < hand) × (hand ≤ 4)
+IsCallInRange (call.TakeOrder order) = (3 ≤ order) × (order ≤ 9)
+IsCallInRange _ = ⊤
+
+-- and so are those of a command
+abbrev pub IsInRange : Command → Type 0
+IsInRange (Open zone blocks) = (0 < blocks) × (blocks ≤ 8)
+IsInRange (On zone (One c)) = IsCallInRange c
+IsInRange _ = ⊤
+
+-- a number below a bound, a number between bounds
+between : (low high n : ℕ) (b : Bool) → (nat_le low n && nat_le n high) ≡ b → IfSome (if b then Some n else None) (λ k. (low ≤ k) × (k ≤ high))
+between low high n true e = let both = and_parts (nat_le low n) _ e in (leb-true low n both.0, leb-true n high both.1)
+between low high n false e = tt
+
+pub in_space : (s v : ℕ) → IfSome (address_of s v) InRange
+in_space s v = by_test (nat_lt s 8 && nat_lt v 4096) refl where
+  by_test : (b : Bool) → (nat_lt s 8 && nat_lt v 4096) ≡ b → IfSome (if b then Some (record { space = s; vpage = v }) else None) InRange
+  by_test true e = let both = and_parts (nat_lt s 8) _ e in record { space = ltb-true s 8 both.0; vpage = ltb-true v 4096 both.1 }
+  by_test false e = tt
+
+-- an opening, and a call
+opening_ranged : (z b : Option ℕ) → IfSome b (λ n. (1 ≤ n) × (n ≤ 8)) → IsInRange (opening z b)
+opening_ranged (Some z) (Some b) r = r
+opening_ranged (Some z) None r = tt
+opening_ranged None b r = tt
+
+call_ranged : (z : Option ℕ) (c : Option Call) → IfSome c IsCallInRange → IsInRange (call_on z c)
+call_ranged (Some z) (Some c) r = r
+call_ranged (Some z) None r = tt
+call_ranged None (Some c) r = tt
+call_ranged None None r = tt
+
+series_ranged : (z : Option ℕ) (s : Option Series) → IsInRange (series_on z s)
+series_ranged (Some z) (Some s) = tt
+series_ranged (Some z) None = tt
+series_ranged None (Some s) = tt
+series_ranged None None = tt
+
+map_ranged : (o : Option Address) (unmovable : Bool) → IfSome o InRange → IfSome (map_call o unmovable) IsCallInRange
+map_ranged (Some a) unmovable r = r
+map_ranged None unmovable r = tt
+
+map_at_ranged : (o : Option Address) (f : Option ℕ) (unmovable : Bool) → IfSome o InRange → IfSome (map_at_call o f unmovable) IsCallInRange
+map_at_ranged (Some a) (Some f) unmovable r = r
+map_at_ranged (Some a) None unmovable r = tt
+map_at_ranged None f unmovable r = tt
+
+share_ranged : (o alias : Option Address) → IfSome alias InRange → IfSome (share_call o alias) IsCallInRange
+share_ranged (Some a) (Some alias) r = r
+share_ranged (Some a) None r = tt
+share_ranged None alias r = tt
+
+store_ranged : (o : Option Address) (w : Option ℕ) (x : ℕ) → IfSome (store_call o w x) IsCallInRange
+store_ranged (Some a) (Some w) x = tt
+store_ranged (Some a) None x = tt
+store_ranged None w x = tt
+
+load_ranged : (o : Option Address) (w : Option ℕ) → IfSome (load_call o w) IsCallInRange
+load_ranged (Some a) (Some w) = tt
+load_ranged (Some a) None = tt
+load_ranged None w = tt
+
+give_ranged : (f k : Option ℕ) → IfSome (give_order_call f k) IsCallInRange
+give_ranged (Some f) (Some k) = tt
+give_ranged (Some f) None = tt
+give_ranged None k = tt
+
+-- a call with one argument, which is in its range
+mapped_ranged : {A : Type 0} (P : A → Type 0) (f : A → Call) → ((x : A) → P x → IsCallInRange (f x)) → (o : Option A) → IfSome o P → IfSome (option_map f o) IsCallInRange
+mapped_ranged P f g (Some x) r = g x r
+mapped_ranged P f g None r = tt
+
+any : {A : Type 0} (o : Option A) → IfSome o (λ x. ⊤)
+any (Some x) = tt
+any None = tt
+
+hand_ranged : (f : ℕ → Call) → ((k : ℕ) → (1 ≤ k) × (k ≤ 4) → IsCallInRange (f k)) → (k : ℕ) → IfSome (option_map f (hand_of k)) IsCallInRange
+hand_ranged f g k = mapped_ranged (λ n. (1 ≤ n) × (n ≤ 4)) f g (hand_of k) (between 1 4 k (nat_le 1 k && nat_le k 4) refl)
+
+at_ranged : (f : Address → Call) → ((a : Address) → IsCallInRange (f a)) → (s v : ℕ) → IfSome (option_map f (address_of s v)) IsCallInRange
+at_ranged f g s v = mapped_ranged (λ a. ⊤) f (λ a r. g a) (address_of s v) (any (address_of s v))
+
+-- the rows
+row_ranged : (keyword : Token) (z : Option ℕ) (arguments : List Token) → IfSome (row_of keyword z arguments) IsInRange
+row_ranged Zone z (Number b ∷ []) = opening_ranged z (blocks_of b) (between 1 8 b (nat_le 1 b && nat_le b 8) refl)
+row_ranged Map z (Number s ∷ Number v ∷ []) = call_ranged z _ (map_ranged (address_of s v) false (in_space s v))
+row_ranged Map z (Number s ∷ Number v ∷ Unmovable ∷ []) = call_ranged z _ (map_ranged (address_of s v) true (in_space s v))
+row_ranged MapAt z (Number s ∷ Number v ∷ Number f ∷ []) = call_ranged z _ (map_at_ranged (address_of s v) (frame_of f) false (in_space s v))
+row_ranged MapAt z (Number s ∷ Number v ∷ Number f ∷ Unmovable ∷ []) = call_ranged z _ (map_at_ranged (address_of s v) (frame_of f) true (in_space s v))
+row_ranged Store z (Number s ∷ Number v ∷ Number w ∷ Number x ∷ []) = call_ranged z _ (store_ranged (address_of s v) (word_of w) x)
+row_ranged Load z (Number s ∷ Number v ∷ Number w ∷ []) = call_ranged z _ (load_ranged (address_of s v) (word_of w))
+row_ranged Info z [] = call_ranged z (Some call.Info) tt
+row_ranged Scan z [] = call_ranged z (Some call.Scan) tt
+row_ranged Take z (Number k ∷ []) = call_ranged z _ (hand_ranged call.Take (λ n r. r) k)
+row_ranged Copy z (Number k ∷ []) = call_ranged z _ (hand_ranged call.Copy (λ n r. r) k)
+row_ranged Finish z (Number k ∷ []) = call_ranged z _ (hand_ranged call.Finish (λ n r. r) k)
+row_ranged Shut z [] = call_ranged z (Some call.Shut) tt
+row_ranged Look z (Number s ∷ Number v ∷ []) = call_ranged z _ (at_ranged call.Look (λ a. tt) s v)
+row_ranged Share z (Number s ∷ Number v ∷ Number s2 ∷ Number v2 ∷ []) = call_ranged z _ (share_ranged (address_of s v) (address_of s2 v2) (in_space s2 v2))
+row_ranged Unmap z (Number s ∷ Number v ∷ []) = call_ranged z _ (at_ranged call.Unmap (λ a. tt) s v)
+row_ranged Pin z (Number s ∷ Number v ∷ []) = call_ranged z _ (at_ranged call.Pin (λ a. tt) s v)
+row_ranged Unpin z (Number s ∷ Number v ∷ []) = call_ranged z _ (at_ranged call.Unpin (λ a. tt) s v)
+row_ranged Huge z [] = call_ranged z (Some call.Huge) tt
+row_ranged Give z (Number b ∷ []) = call_ranged z _ (mapped_ranged (λ n. ⊤) call.Give (λ n r. tt) (pageblock_of b) (any (pageblock_of b)))
+row_ranged Fill z (Number s ∷ Number v ∷ Number n ∷ []) = series_ranged z _
+row_ranged Thin z (Number s ∷ Number v ∷ Number n ∷ Number step ∷ []) = series_ranged z _
+row_ranged _ z _ = tt
+
+-- a profile's own rows
+abbrev AreInRange : Option (Option Call) → Type 0
+AreInRange own = IfSome own (λ c. IfSome c IsCallInRange)
+
+row_of_profile_2_ranged : (keyword : Token) (arguments : List Token) → AreInRange (row_of_profile_2 keyword arguments)
+row_of_profile_2_ranged Info [] = tt
+row_of_profile_2_ranged Huge (Number k ∷ []) = mapped_ranged (λ n. (3 ≤ n) × (n ≤ 9)) call.TakeOrder (λ n r. r) (order_of k) (between 3 9 k (nat_le 3 k && nat_le k 9) refl)
+row_of_profile_2_ranged Give (Number f ∷ Number k ∷ []) = give_ranged (frame_of f) (order_of k)
+row_of_profile_2_ranged Mark (Number b ∷ []) = mapped_ranged (λ n. ⊤) call.Mark (λ n r. tt) (pageblock_of b) (any (pageblock_of b))
+row_of_profile_2_ranged Unmark (Number b ∷ []) = mapped_ranged (λ n. ⊤) call.Unmark (λ n r. tt) (pageblock_of b) (any (pageblock_of b))
+row_of_profile_2_ranged _ _ = tt
+
+own_row_ranged : (profile : Profile) (keyword : Token) (arguments : List Token) → AreInRange (own_row profile keyword arguments)
+own_row_ranged Two keyword arguments = row_of_profile_2_ranged keyword arguments
+own_row_ranged Untold keyword arguments = tt
+own_row_ranged Profile1 keyword arguments = tt
+
+either_ranged : (z : Option ℕ) (own : Option (Option Call)) (row : Option Command) → AreInRange own → IfSome row IsInRange → IfSome (row_or z own row) IsInRange
+either_ranged z (Some c) row r s = call_ranged z c r
+either_ranged z None row r s = s
+
+row_in_ranged : (profile : Profile) (keyword : Token) (z : Option ℕ) (arguments : List Token) → IfSome (row_in profile keyword z arguments) IsInRange
+row_in_ranged profile keyword z arguments =
+    either_ranged z (own_row profile keyword arguments) (row_of keyword z arguments) (own_row_ranged profile keyword arguments) (row_ranged keyword z arguments)
+
+command_ranged : (profile : Profile) (tokens : List Token) → IfSome (command_of profile tokens) IsInRange
+command_ranged profile (keyword ∷ Number z ∷ arguments) = row_in_ranged profile keyword (zone_of z) arguments
+command_ranged profile _ = tt
+
+-- the commands of lines
+command_in_ranged : (profile : Profile) (words : List (List ℕ)) → IfSome (command_in profile words) IsInRange
+command_in_ranged Untold words = by_test (is_profile_2 words) where
+  by_test : (b : Bool) → IfSome (if b then Some Profile2 else command_of Untold (map token_of words)) IsInRange
+  by_test true = tt
+  by_test false = command_ranged Untold (map token_of words)
+command_in_ranged Profile1 words = command_ranged Profile1 (map token_of words)
+command_in_ranged Two words = command_ranged Two (map token_of words)
+
+abbrev pub SaysInRange : Result (Option Command) ScriptError → Type 0
+SaysInRange (Ok (Some c)) = IsInRange c
+SaysInRange _ = ⊤
+
+or_fault_ranged : (o : Option Command) → IfSome o IsInRange → SaysInRange (command_or_fault o)
+or_fault_ranged (Some c) r = r
+or_fault_ranged None r = tt
+
+words_ranged : (profile : Profile) (words : List (List ℕ)) → SaysInRange (lexemes_say profile words)
+words_ranged profile [] = tt
+words_ranged profile (first ∷ more) = by_test (is_comment first) where
+  by_test : (b : Bool) → SaysInRange (if b then Ok None else command_or_fault (command_in profile (first ∷ more)))
+  by_test true = tt
+  by_test false = or_fault_ranged (command_in profile (first ∷ more)) (command_in_ranged profile (first ∷ more))
+
+pub line_ranged : (profile : Profile) (line : List ℕ) → SaysInRange (line_of profile line)
+line_ranged profile line = by_test (nat_lt 200 (length line)) where
+  by_test : (b : Bool) → SaysInRange (if b then Err LongLine else lexemes_say profile (lexemes line))
+  by_test true = tt
+  by_test false = words_ranged profile (lexemes line)
