@@ -1,0 +1,3 @@
+pub mod Errors
+pub mod Receipts
+pub mod Settling

@@ -1,0 +1,264 @@
+ghost use Rattle.std.specs.Prelude.{◌≡◌, ◌≢◌, ℕ, [], Some, slice_get, IsSome, IfOk, IfErr, OnOk, OnErr};
+ghost use Rattle.std.specs.Int.RustNames.{bit_and};
+ghost use Rattle.journal_core.specs.declared.record.Record.TheVariants.{Map, Share, Unmap, Store, Load, Pin, Unpin};
+ghost use Rattle.client_core.specs.Receipts.{with_receipt};
+
+use crate::access;
+use crate::access::{Access, once_there};
+use crate::error::ClientError;
+use frame_core::{Address, ClientNo, FrameNo, PageFlags, WordNo};
+use journal_core::{Journal, Record};
+use round_core::SharedZone;
+use std::alloc::Global;
+use std::marker::Model;
+use std::sync::Wait;
+use std::sync::ledger::Ledger;
+use zone_core::ZoneError;
+
+/// Makes calls of a shared zone under one number, and keeps the record of each that was accepted.
+///
+/// Each call first takes the place for its receipt, so `Memory` comes before any refusal of the zone. A call that finds its page
+/// on its way waits until the move has ended; `pin` and `unpin` never wait.
+#[derive(Drop)]
+pub struct Client {
+    number: ClientNo,
+    receipts: Vec<Record>,
+}
+
+impl Model for Client {
+    ghost use Rattle.client_core.specs.Receipts.{Client as Seen};
+
+    ghost Value = { Seen };
+
+    ghost view = { λ c. record { number = c.number; receipts = c.receipts.items } };
+}
+
+impl Client {
+    /// A client that made no call yet.
+    pub fn new(alloc: Global, number: ClientNo) -> Client
+        ensures { result ≡ record { number = number; receipts = [] } }
+    {
+        Client {
+            number,
+            receipts: Vec::new(alloc),
+        }
+    }
+
+    pub fn number(&self) -> ClientNo
+        ensures { result ≡ self.now.number }
+    {
+        self.number
+    }
+
+    /// The record of each accepted call, the oldest first.
+    pub fn receipts(&self) -> &[Record]
+        ensures { result.now ≡ self.now.receipts }
+    {
+        &self.receipts
+    }
+
+    /// Binds an address to a fresh page in the lowest free frame, which is answered. The number of the page stands in the receipt.
+    pub fn map<I: Ledger, M: Ledger, B: Ledger, R: Wait>(
+        &mut self,
+        rt: &R,
+        shared: &SharedZone<I, M, B>,
+        address: Address,
+        flags: PageFlags,
+    ) -> Result<FrameNo, ClientError>
+        requires clean { bit_and flags.0 2 ≡ 0 }
+        ensures ok { OnOk result ((page : ℕ) × (self.new ≡ with_receipt self.old (Map self.old.number address page))) }
+        ensures err { OnErr result (self.new ≡ self.old) }
+    {
+        self.receipts.reserve(1)?;
+        let mut room = shared.lock(rt);
+        let frame = room.zone.map(self.number, address, flags)?;
+        self.receipts.push_reserved(newest(room.zone.journal()));
+        Ok(frame)
+    }
+
+    /// Binds an address to a fresh page in the frame that is given. The number of the page stands in the receipt.
+    pub fn map_at<I: Ledger, M: Ledger, B: Ledger, R: Wait>(
+        &mut self,
+        rt: &R,
+        shared: &SharedZone<I, M, B>,
+        address: Address,
+        flags: PageFlags,
+        frame: FrameNo,
+    ) -> Result<(), ClientError>
+        requires clean { bit_and flags.0 2 ≡ 0 }
+        ensures ok { OnOk result ((page : ℕ) × (self.new ≡ with_receipt self.old (Map self.old.number address page))) }
+        ensures err { OnErr result (self.new ≡ self.old) }
+    {
+        self.receipts.reserve(1)?;
+        let mut room = shared.lock(rt);
+        room.zone.map_at(self.number, address, flags, frame)?;
+        self.receipts.push_reserved(newest(room.zone.journal()));
+        Ok(())
+    }
+
+    /// Lets an alias name the page of an address too.
+    pub fn share<I: Ledger, M: Ledger, B: Ledger, R: Wait>(
+        &mut self,
+        rt: &R,
+        shared: &SharedZone<I, M, B>,
+        address: Address,
+        alias: Address,
+    ) -> Result<(), ClientError>
+        ensures ok { OnOk result (self.new ≡ with_receipt self.old (Share self.old.number address alias)) }
+        ensures err { OnErr result (self.new ≡ self.old) }
+        ensures there { IfErr result (λ error. error ≢ ClientError.Zone ZoneError.Moving) }
+    {
+        self.receipts.reserve(1)?;
+        let call = access::Share {
+            client: self.number,
+            address,
+            alias,
+        };
+        once_there(rt, shared, &call)?;
+        self.receipts.push_reserved(Record::Share {
+            client: call.client,
+            address: call.address,
+            alias: call.alias,
+        });
+        Ok(())
+    }
+
+    /// Lets an address name no page any more.
+    pub fn unmap<I: Ledger, M: Ledger, B: Ledger, R: Wait>(
+        &mut self,
+        rt: &R,
+        shared: &SharedZone<I, M, B>,
+        address: Address,
+    ) -> Result<(), ClientError>
+        ensures ok { OnOk result (self.new ≡ with_receipt self.old (Unmap self.old.number address)) }
+        ensures err { OnErr result (self.new ≡ self.old) }
+        ensures there { IfErr result (λ error. error ≢ ClientError.Zone ZoneError.Moving) }
+    {
+        self.receipts.reserve(1)?;
+        let call = access::Unmap {
+            client: self.number,
+            address,
+        };
+        once_there(rt, shared, &call)?;
+        self.receipts.push_reserved(Record::Unmap {
+            client: call.client,
+            address: call.address,
+        });
+        Ok(())
+    }
+
+    /// Reads a word of the page that an address names.
+    pub fn load<I: Ledger, M: Ledger, B: Ledger, R: Wait>(
+        &mut self,
+        rt: &R,
+        shared: &SharedZone<I, M, B>,
+        address: Address,
+        word: WordNo,
+    ) -> Result<u64, ClientError>
+        ensures ok { IfOk result (λ value. self.new ≡ with_receipt self.old (Load self.old.number address word value)) }
+        ensures err { OnErr result (self.new ≡ self.old) }
+        ensures there { IfErr result (λ error. error ≢ ClientError.Zone ZoneError.Moving) }
+    {
+        self.receipts.reserve(1)?;
+        let call = access::Load {
+            client: self.number,
+            address,
+            word,
+        };
+        let value = once_there(rt, shared, &call)?;
+        self.receipts.push_reserved(Record::Load {
+            client: call.client,
+            address: call.address,
+            word: call.word,
+            value,
+        });
+        Ok(value)
+    }
+
+    /// Writes a word of the page that an address names.
+    pub fn store<I: Ledger, M: Ledger, B: Ledger, R: Wait>(
+        &mut self,
+        rt: &R,
+        shared: &SharedZone<I, M, B>,
+        address: Address,
+        word: WordNo,
+        value: u64,
+    ) -> Result<(), ClientError>
+        ensures ok { OnOk result (self.new ≡ with_receipt self.old (Store self.old.number address word value)) }
+        ensures err { OnErr result (self.new ≡ self.old) }
+        ensures there { IfErr result (λ error. error ≢ ClientError.Zone ZoneError.Moving) }
+    {
+        self.receipts.reserve(1)?;
+        let call = access::Store {
+            client: self.number,
+            address,
+            word,
+            value,
+        };
+        once_there(rt, shared, &call)?;
+        self.receipts.push_reserved(Record::Store {
+            client: call.client,
+            address: call.address,
+            word: call.word,
+            value: call.value,
+        });
+        Ok(())
+    }
+
+    /// Pins the page that an address names, also while it is on its way.
+    pub fn pin<I: Ledger, M: Ledger, B: Ledger, R: Wait>(
+        &mut self,
+        rt: &R,
+        shared: &SharedZone<I, M, B>,
+        address: Address,
+    ) -> Result<(), ClientError>
+        ensures ok { OnOk result (self.new ≡ with_receipt self.old (Pin self.old.number address)) }
+        ensures err { OnErr result (self.new ≡ self.old) }
+    {
+        self.receipts.reserve(1)?;
+        let call = access::Pin {
+            client: self.number,
+            address,
+        };
+        call.make(&mut shared.lock(rt).zone)?;
+        self.receipts.push_reserved(Record::Pin {
+            client: call.client,
+            address: call.address,
+        });
+        Ok(())
+    }
+
+    /// Takes a pin off the page that an address names, also while it is on its way.
+    pub fn unpin<I: Ledger, M: Ledger, B: Ledger, R: Wait>(
+        &mut self,
+        rt: &R,
+        shared: &SharedZone<I, M, B>,
+        address: Address,
+    ) -> Result<(), ClientError>
+        ensures ok { OnOk result (self.new ≡ with_receipt self.old (Unpin self.old.number address)) }
+        ensures err { OnErr result (self.new ≡ self.old) }
+    {
+        self.receipts.reserve(1)?;
+        let call = access::Unpin {
+            client: self.number,
+            address,
+        };
+        call.make(&mut shared.lock(rt).zone)?;
+        self.receipts.push_reserved(Record::Unpin {
+            client: call.client,
+            address: call.address,
+        });
+        Ok(())
+    }
+}
+
+/// The newest record of a journal.
+fn newest(journal: &Journal) -> Record
+    requires { IsSome (slice_get journal.now.records 0) }
+    ensures { slice_get journal.now.records 0 ≡ Some result }
+{
+    let Some(entry) = journal.last() else {
+        unreachable!();
+    };
+    *entry
+}
