@@ -1,0 +1,8 @@
+use Rattle.std.proofs.lemmas.Result.{IfErr-weaker}
+use Rattle.huge_core.proofs.huge.give.Goals as goal
+
+pub returns-clause-refused : goal.returns-clause-refused
+returns-clause-refused g c =
+    IfErr-weaker c.give.result _ _
+    (λ back is. record { zone = c.behind-room.inside.zone; lawful = c.behind-room.invariant; refused = is })
+    c.give.ensures.refused
