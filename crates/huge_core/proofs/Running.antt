@@ -1,7 +1,6 @@
 -- A collector between two of its rounds, and where it stops.
-use Rattle.std.proofs.Common.{◌≡◌, ◌<◌, ◌≤◌, ◌+◌, ℕ, Bool, true, false, not, List, ◌∷◌, [], All, length, refl, sym, subst, inl, arith, Some, None}
-use Rattle.std.specs.Prelude.{if◌then◌else◌, Option}
-use Rattle.std.proofs.lemmas.List.Elements.{All-cons, All-nil}
+use Rattle.std.proofs.Common.{◌≡◌, ◌<◌, ◌≤◌, ◌+◌, ℕ, List, ◌∷◌, length, refl, inl, arith}
+use Rattle.std.proofs.lemmas.List.Elements.{All-cons}
 use Rattle.round_core.specs.Rounds.{IsRound}
 use Rattle.round_core.specs.declared.round.Round.{Round}
 use Rattle.round_core.specs.declared.round.Stop.{Stop as RoundStop}

@@ -1,8 +1,8 @@
 -- A block of frames that a zone handed out.
-use Rattle.std.specs.Prelude.{◌≡◌, ℕ, ◌^◌, Some}
+use Rattle.std.specs.Prelude.{◌≡◌, ℕ, ◌^◌, Some, None}
 use Rattle.state_core.specs.declared.error.ZoneError.{ZoneError}
 use Rattle.state_core.specs.Clear.{IsClear}
-use Rattle.state_core.specs.HandingOut.{lowest_run, take_order_refusal, give_order_refusal, block_taken}
+use Rattle.state_core.specs.HandingOut.{lowest_run, take_order_refusal, give_order_refusal, block_taken, block_given}
 use Rattle.state_core.specs.Lawful.{IsLawful}
 use Rattle.state_core.specs.ZoneState.{ZoneState}
 
@@ -27,6 +27,14 @@ pub record IsRefused (order : ℕ) (error : ZoneError) : Type 0 where
   pub zone : ZoneState
   pub lawful : IsLawful zone
   pub refused : take_order_refusal zone order ≡ Some error
+
+-- a zone took a block back that it had handed out: what the zone was at that moment, and what it was then
+pub record IsTakenBack (block : Huge) : Type 0 where
+  pub zone : ZoneState
+  pub zone_new : ZoneState
+  pub accepted : give_order_refusal zone block.frame block.order ≡ None
+  pub given : zone_new ≡ block_given zone block.frame block.order
+  pub lawful : IsLawful zone_new
 
 -- a zone, as it was at that moment, refused to take a block back
 pub record IsRefusedBack (block : Huge) (error : ZoneError) : Type 0 where

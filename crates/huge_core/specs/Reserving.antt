@@ -1,5 +1,5 @@
 -- What a collector did, and why it stopped.
-use Rattle.std.specs.Prelude.{◌≡◌, ◌<◌, ◌≤◌, ◌+◌, ◌⊎◌, ⊤, ℕ, List, [], ◌∷◌, All, length, Option, Some, None, Err}
+use Rattle.std.specs.Prelude.{◌≡◌, ◌<◌, ◌≤◌, ◌⊎◌, ℕ, List, [], ◌∷◌, All, length, Option, Some, None, Err}
 use Rattle.round_core.specs.Rounds.{IsRound, IsRefusedEarly}
 use Rattle.round_core.specs.declared.round.Round.{Round}
 use Rattle.round_core.specs.declared.round.Stop.TheVariants as round

@@ -1,9 +1,9 @@
-ghost use Rattle.std.specs.Prelude.{◌≡◌, ◌/◌, IsTrue, IfOk, IfErr, OnOk, OnErr};
+ghost use Rattle.std.specs.Prelude.{◌≡◌, ◌/◌, Some, None, IsTrue, IfOk, IfErr, OnOk, OnErr};
 ghost use Rattle.std.specs.Result.{result_err};
 ghost use Rattle.frame_core.specs.Order.{is_aligned};
 ghost use Rattle.state_core.specs.HandingOut.{take_order_refusal, give_order_refusal, block_taken, block_given};
 ghost use Rattle.state_core.specs.Lawful.{IsLawful};
-ghost use Rattle.huge_core.specs.Huge.{IsHandedOut, IsRefusedBack};
+ghost use Rattle.huge_core.specs.Huge.{IsHandedOut, IsTakenBack, IsRefusedBack};
 
 use frame_core::{BlockNo, FrameNo, Order, block_of};
 use round_core::SharedZone;
@@ -57,6 +57,7 @@ impl Huge {
         ensures refused { IfErr result (λ refused. give_order_refusal zone.old self.frame self.order ≡ Some refused.0) }
         ensures back { IfErr result (λ refused. refused.1 ≡ self) }
         ensures err { OnErr result (zone.new ≡ zone.old) }
+        ensures accepted { OnOk result (give_order_refusal zone.old self.frame self.order ≡ None) }
         ensures ok { OnOk result (zone.new ≡ block_given zone.old self.frame self.order) }
         ensures lawful { IsLawful zone.new }
     {
@@ -100,7 +101,7 @@ impl Huge {
     pub fn into_block(self) -> BlockNo
         ensures { result ≡ self.frame / 512 }
     {
-        block_of(self.frame)
+        self.block()
     }
 }
 
@@ -111,8 +112,9 @@ pub fn give<I: Ledger, M: Ledger, B: Ledger, R: Wait>(
     shared: &SharedZone<I, M, B>,
     huge: Huge,
 ) -> Result<(), (ZoneError, Huge)>
-    ensures back { IfErr result (λ refused. refused.1 ≡ huge) }
+    ensures ok { OnOk result (IsTakenBack huge) }
     ensures refused { IfErr result (λ refused. IsRefusedBack huge refused.0) }
+    ensures back { IfErr result (λ refused. refused.1 ≡ huge) }
 {
     let mut room = shared.lock(rt);
     huge.give(&mut room.zone)
