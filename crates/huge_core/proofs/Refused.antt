@@ -1,0 +1,37 @@
+-- What the answer of a zone under its lock tells.
+use Rattle.std.proofs.Common.{◌≡◌, ℕ, Bool, true, false, not, sym, subst, Some, None}
+use Rattle.std.specs.Prelude.{Result, Ok, Err, IfErr, OnOk, Option, IfSome, is_none, if◌then◌else◌}
+use Rattle.std.specs.Result.{result_err}
+use Rattle.state_core.specs.declared.error.ZoneError.{ZoneError}
+use Rattle.state_core.specs.declared.error.ZoneError.TheVariants.{JournalFull, NoBlock}
+use Rattle.state_core.specs.HandingOut.{lowest_run, take_order_refusal, give_order_refusal, block_given}
+use Rattle.state_core.specs.Lawful.{IsLawful}
+use Rattle.state_core.specs.ZoneState.{ZoneState, has_room}
+use Rattle.huge_core.specs.Huge.{Huge, IsRefused, IsTakenBack}
+
+pub refused : (zone : ZoneState) (order : ℕ) → IsLawful zone → (result : Result Huge ZoneError)
+    → result_err result ≡ take_order_refusal zone order → IfErr result (IsRefused order)
+refused zone order lawful (Ok huge) is = tt
+refused zone order lawful (Err error) is = record { zone = zone; lawful = lawful; refused = sym is }
+
+-- a refusal that isn't for want of room is for want of a block
+pub no_block : (order : ℕ) (error : ZoneError) → IsRefused order error → (error ≡ JournalFull → ⊥) → error ≡ NoBlock
+no_block order error was other = only (has_room was.zone) (is_none (lowest_run was.zone order)) error was.refused other
+  where
+    only : (room none : Bool) (error : ZoneError) → (if not room then Some JournalFull else if none then Some NoBlock else None) ≡ Some error
+        → (error ≡ JournalFull → ⊥) → error ≡ NoBlock
+    only false none error is other = absurd (other (cc is))
+    only true true error is other = cc is
+    only true false error is other = absurd (subst (λ o. IfSome o (λ _. ⊥)) is tt)
+
+pub taken_back : (zone zone_new : ZoneState) (huge : Huge) → IsLawful zone_new → (result : Result Unit (ZoneError × Huge))
+    → OnOk result (give_order_refusal zone huge.frame huge.order ≡ None) → OnOk result (zone_new ≡ block_given zone huge.frame huge.order)
+    → OnOk result (IsTakenBack huge)
+taken_back zone zone_new huge lawful (Ok done) accepted given = record {
+  zone = zone;
+  zone_new = zone_new;
+  accepted = accepted;
+  given = given;
+  lawful = lawful;
+}
+taken_back zone zone_new huge lawful (Err back) accepted given = tt

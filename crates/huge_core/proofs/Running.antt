@@ -1,0 +1,80 @@
+-- A collector between two of its rounds, and where it stops.
+use Rattle.std.proofs.Common.{◌≡◌, ◌<◌, ◌≤◌, ◌+◌, ℕ, List, ◌∷◌, length, refl, inl, arith}
+use Rattle.std.proofs.lemmas.List.Elements.{All-cons}
+use Rattle.round_core.specs.Rounds.{IsRound}
+use Rattle.round_core.specs.declared.round.Round.{Round}
+use Rattle.round_core.specs.declared.round.Stop.{Stop as RoundStop}
+use Rattle.round_core.specs.declared.round.Stop.TheVariants as round
+use Rattle.zone_core.specs.Seats.{ScanSeat, EndSeat}
+use Rattle.huge_core.specs.declared.collector.Collector.{Collector}
+use Rattle.huge_core.specs.declared.report.Report.{Report}
+use Rattle.huge_core.specs.declared.report.Stop.{Stop}
+use Rattle.huge_core.specs.declared.report.Stop.TheVariants as stop
+use Rattle.huge_core.specs.Reserving.{AreRounds, HaveMoved, IsReason, AreLeft, HasRun}
+
+-- it ran so many rounds, each of which moved a page, and they are no more than it may run
+pub record IsRunning (c : Collector) (scan scan_new : ScanSeat) (ends ends_new : EndSeat) (count : ℕ) : Type 0 where
+  pub rounds : List Round
+  pub count_is : count ≡ length rounds
+  pub most : count ≤ c.rounds
+  pub moved : HaveMoved rounds
+  pub ran : AreRounds rounds scan scan_new ends ends_new
+
+-- it runs a round that moves a page
+pub run_on : (c : Collector) (scan scan_between scan_new : ScanSeat) (ends ends_between ends_new : EndSeat) (count : ℕ) (latest : Round)
+    → IsRunning c scan scan_between ends ends_between count → (count ≡ c.rounds → ⊥)
+    → IsRound scan_between scan_new ends_between ends_new latest → (latest.moved ≡ 0 → ⊥)
+    → IsRunning c scan scan_new ends ends_new (count + 1)
+run_on c scan scan_between scan_new ends ends_between ends_new count latest was left round moved =
+    let length_was = was.count_is in
+    let most_was = was.most in
+    record {
+      rounds = latest ∷ was.rounds;
+      count_is = omega (arith, length_was);
+      most = omega (arith, most_was, left);
+      moved = All-cons (λ (r : Round). 0 < r.moved) latest was.rounds (omega (arith, moved)) was.moved;
+      ran = (scan_between, ends_between, was.ran, round);
+    }
+
+-- it stops behind rounds that each moved a page
+pub stopped : (c : Collector) (scan scan_behind scan_new : ScanSeat) (ends ends_behind ends_new : EndSeat) (report : Report)
+    → IsRunning c scan scan_behind ends ends_behind report.rounds
+    → AreLeft report.stop scan_behind scan_new ends_behind ends_new
+    → ((rounds : List Round) → report.rounds ≡ length rounds → HaveMoved rounds → IsReason c rounds report.stop)
+    → HasRun c scan scan_new ends ends_new report
+stopped c scan scan_behind scan_new ends ends_behind ends_new report was left reason = record {
+  rounds = was.rounds;
+  count = was.count_is;
+  most = was.most;
+  scan_behind = scan_behind;
+  ends_behind = ends_behind;
+  ran = was.ran;
+  left = left;
+  reason = reason was.rounds was.count_is was.moved;
+}
+
+-- it stops behind a round that moved none
+pub idled : (c : Collector) (scan scan_between scan_new : ScanSeat) (ends ends_between ends_new : EndSeat) (report : Report) (count : ℕ) (latest : Round)
+    → IsRunning c scan scan_between ends ends_between count → (count ≡ c.rounds → ⊥) → report.rounds ≡ count + 1
+    → IsRound scan_between scan_new ends_between ends_new latest → latest.moved ≡ 0
+    → (latest.stopped ≡ round.Met → report.stop ≡ stop.NoBlock) → (latest.stopped ≡ round.JournalFull → report.stop ≡ stop.JournalFull)
+    → HasRun c scan scan_new ends ends_new report
+idled c scan scan_between scan_new ends ends_between ends_new report count latest was left more ran idle met full =
+    let length_was = was.count_is in
+    let most_was = was.most in
+    let why = reason latest.stopped refl met full in
+    record {
+      rounds = latest ∷ was.rounds;
+      count = omega (arith, more, length_was);
+      most = omega (arith, more, most_was, left);
+      scan_behind = scan_new;
+      ends_behind = ends_new;
+      ran = (scan_between, ends_between, was.ran, ran);
+      left = why.0;
+      reason = why.1;
+    }
+  where
+    reason : (at : RoundStop) → latest.stopped ≡ at → (at ≡ round.Met → report.stop ≡ stop.NoBlock) → (at ≡ round.JournalFull → report.stop ≡ stop.JournalFull)
+        → AreLeft report.stop scan_new scan_new ends_new ends_new × IsReason c (latest ∷ was.rounds) report.stop
+    reason round.Met is met full = rw (met refl) ((refl, refl), (idle, is, was.moved))
+    reason round.JournalFull is met full = rw (full refl) ((refl, refl), inl (idle, is, was.moved))

@@ -1,0 +1,14 @@
+use Rattle.std.proofs.lemmas.Result.{IfErr-weaker}
+use Rattle.huge_core.proofs.Refused.{taken_back}
+use Rattle.huge_core.proofs.huge.give.Goals as goal
+
+pub returns-clause-ok : goal.returns-clause-ok
+returns-clause-ok g c =
+    taken_back c.behind-room.inside.zone c.give.new.zone c.args.huge c.give.ensures.lawful c.give.result
+    c.give.ensures.accepted c.give.ensures.ok
+
+pub returns-clause-refused : goal.returns-clause-refused
+returns-clause-refused g c =
+    IfErr-weaker c.give.result _ _
+    (λ back is. record { zone = c.behind-room.inside.zone; lawful = c.behind-room.invariant; refused = is })
+    c.give.ensures.refused

@@ -1,0 +1,13 @@
+use Rattle.huge_core.proofs.tests.blocks.a_block_is_given_back.Given as goal
+
+abbrev pub ghosts-gives_back-I-Ledger : goal.ghosts-gives_back-I-Ledger
+ghosts-gives_back-I-Ledger g a = record { name = a.blanks.isolated.name; parts = a.blanks.isolated.parts }
+
+abbrev pub ghosts-gives_back-N-Ledger : goal.ghosts-gives_back-N-Ledger
+ghosts-gives_back-N-Ledger g a = record { name = a.blanks.rounds.name; parts = a.blanks.rounds.parts }
+
+abbrev pub ghosts-gives_back-M-Ledger : goal.ghosts-gives_back-M-Ledger
+ghosts-gives_back-M-Ledger g a = record { name = a.blanks.moved.name; parts = a.blanks.moved.parts }
+
+abbrev pub ghosts-gives_back-B-Ledger : goal.ghosts-gives_back-B-Ledger
+ghosts-gives_back-B-Ledger g a = record { name = a.blanks.back.name; parts = a.blanks.back.parts }

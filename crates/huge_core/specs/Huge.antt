@@ -1,0 +1,43 @@
+-- A block of frames that a zone handed out.
+use Rattle.std.specs.Prelude.{◌≡◌, ℕ, ◌^◌, Some, None}
+use Rattle.state_core.specs.declared.error.ZoneError.{ZoneError}
+use Rattle.state_core.specs.Clear.{IsClear}
+use Rattle.state_core.specs.HandingOut.{lowest_run, take_order_refusal, give_order_refusal, block_taken, block_given}
+use Rattle.state_core.specs.Lawful.{IsLawful}
+use Rattle.state_core.specs.ZoneState.{ZoneState}
+
+-- its first frame, and its order: it has 2 ^ order frames
+pub record Huge : Type 0 where
+  pub frame : ℕ
+  pub order : ℕ
+
+-- a zone handed it out: what the zone was at that moment, and what it was then
+pub record IsHandedOut (block : Huge) : Type 0 where
+  pub zone : ZoneState
+  pub zone_new : ZoneState
+  -- no lower block of its order was free
+  pub lowest : lowest_run zone block.order ≡ Some block.frame
+  pub taken : zone_new ≡ block_taken zone block.frame block.order
+  -- no page and no address has a frame of it
+  pub clear : IsClear zone_new block.frame (2 ^ block.order)
+  pub lawful : IsLawful zone_new
+
+-- a zone, as it was at that moment, refused to hand out a block of this order
+pub record IsRefused (order : ℕ) (error : ZoneError) : Type 0 where
+  pub zone : ZoneState
+  pub lawful : IsLawful zone
+  pub refused : take_order_refusal zone order ≡ Some error
+
+-- a zone took a block back that it had handed out: what the zone was at that moment, and what it was then
+pub record IsTakenBack (block : Huge) : Type 0 where
+  pub zone : ZoneState
+  pub zone_new : ZoneState
+  pub accepted : give_order_refusal zone block.frame block.order ≡ None
+  pub given : zone_new ≡ block_given zone block.frame block.order
+  pub lawful : IsLawful zone_new
+
+-- a zone, as it was at that moment, refused to take a block back
+pub record IsRefusedBack (block : Huge) (error : ZoneError) : Type 0 where
+  pub zone : ZoneState
+  pub lawful : IsLawful zone
+  pub refused : give_order_refusal zone block.frame block.order ≡ Some error

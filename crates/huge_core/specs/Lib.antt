@@ -1,0 +1,2 @@
+pub mod Huge
+pub mod Reserving

@@ -1,0 +1,121 @@
+ghost use Rattle.std.specs.Prelude.{◌≡◌, ◌/◌, Some, None, IsTrue, IfOk, IfErr, OnOk, OnErr};
+ghost use Rattle.std.specs.Result.{result_err};
+ghost use Rattle.frame_core.specs.Order.{is_aligned};
+ghost use Rattle.state_core.specs.HandingOut.{take_order_refusal, give_order_refusal, block_taken, block_given};
+ghost use Rattle.state_core.specs.Lawful.{IsLawful};
+ghost use Rattle.huge_core.specs.Huge.{IsHandedOut, IsTakenBack, IsRefusedBack};
+
+use frame_core::{BlockNo, FrameNo, Order, block_of};
+use round_core::SharedZone;
+use std::marker::Model;
+use std::sync::Wait;
+use std::sync::ledger::Ledger;
+use zone_core::{Zone, ZoneError};
+
+/// A block of frames that a zone handed out. It can't be cloned, and one that is dropped stays handed out.
+#[must_use]
+#[derive(Drop, Debug)]
+pub struct Huge {
+    frame: FrameNo,
+    order: Order,
+}
+
+impl Model for Huge {
+    ghost use Rattle.std.specs.Prelude.{◌≡◌, true};
+    ghost use Rattle.frame_core.specs.Order.{is_aligned};
+    ghost use Rattle.huge_core.specs.Huge.{Huge as Seen};
+
+    ghost Value = { Seen };
+
+    ghost view = { λ h. record { frame = h.frame; order = h.order } };
+
+    ghost invariant = { λ h. is_aligned h.order h.frame ≡ true };
+}
+
+impl Huge {
+    /// Takes the lowest free block of an order.
+    pub(crate) fn take<I: Ledger, M: Ledger, B: Ledger>(
+        zone: &mut Zone<I, M, B>,
+        order: Order,
+    ) -> Result<Huge, ZoneError>
+        ensures refused { result_err result ≡ take_order_refusal zone.old order }
+        ensures err { OnErr result (zone.new ≡ zone.old) }
+        ensures order { IfOk result (λ huge. huge.order ≡ order) }
+        ensures ok { IfOk result (λ huge. zone.new ≡ block_taken zone.old huge.frame order) }
+        ensures handed_out { IfOk result IsHandedOut }
+        ensures lawful { IsLawful zone.new }
+    {
+        let frame = zone.take_order(order)?;
+        Ok(Huge { frame, order })
+    }
+
+    /// Gives the block back, or is handed back itself.
+    fn give<I: Ledger, M: Ledger, B: Ledger>(
+        self,
+        zone: &mut Zone<I, M, B>,
+    ) -> Result<(), (ZoneError, Huge)>
+        ensures refused { IfErr result (λ refused. give_order_refusal zone.old self.frame self.order ≡ Some refused.0) }
+        ensures back { IfErr result (λ refused. refused.1 ≡ self) }
+        ensures err { OnErr result (zone.new ≡ zone.old) }
+        ensures accepted { OnOk result (give_order_refusal zone.old self.frame self.order ≡ None) }
+        ensures ok { OnOk result (zone.new ≡ block_given zone.old self.frame self.order) }
+        ensures lawful { IsLawful zone.new }
+    {
+        match zone.give_order(self.frame, self.order) {
+            Ok(()) => Ok(()),
+            Err(error) => Err((error, self)),
+        }
+    }
+
+    /// Its first frame. It has the frames from there on, as many as its order says.
+    pub fn frame(&self) -> FrameNo
+        ensures value { result ≡ self.now.frame }
+        ensures aligned { IsTrue (is_aligned self.now.order result) }
+    {
+        self.frame
+    }
+
+    pub fn order(&self) -> Order
+        ensures { result ≡ self.now.order }
+    {
+        self.order
+    }
+
+    /// The pageblock that it lies in.
+    pub fn block(&self) -> BlockNo
+        ensures { result ≡ self.now.frame / 512 }
+    {
+        block_of(self.frame)
+    }
+
+    /// Its first frame and its order, by which `Zone::give_order` takes it back.
+    pub fn into_parts(self) -> (FrameNo, Order)
+        ensures frame { result.0 ≡ self.frame }
+        ensures order { result.1 ≡ self.order }
+        ensures aligned { IsTrue (is_aligned result.1 result.0) }
+    {
+        (self.frame, self.order)
+    }
+
+    /// The pageblock that it lies in.
+    pub fn into_block(self) -> BlockNo
+        ensures { result ≡ self.frame / 512 }
+    {
+        self.block()
+    }
+}
+
+/// Gives a block back to the zone that handed it out. Where the zone refuses it, it is handed back, and the zone is as it was:
+/// refused as JournalFull, and as Range or NotHuge where the zone hasn't handed it out, or took it back by its number.
+pub fn give<I: Ledger, M: Ledger, B: Ledger, R: Wait>(
+    rt: &R,
+    shared: &SharedZone<I, M, B>,
+    huge: Huge,
+) -> Result<(), (ZoneError, Huge)>
+    ensures ok { OnOk result (IsTakenBack huge) }
+    ensures refused { IfErr result (λ refused. IsRefusedBack huge refused.0) }
+    ensures back { IfErr result (λ refused. refused.1 ≡ huge) }
+{
+    let mut room = shared.lock(rt);
+    huge.give(&mut room.zone)
+}

@@ -1,0 +1,14 @@
+//! A collector of blocks of free frames, which runs rounds as it needs them.
+//!
+//! A block that a zone handed out is a `Huge`; contracts see it as its first frame and its order.
+#![tactic(auto)]
+
+mod collector;
+mod huge;
+mod report;
+#[cfg(test)]
+mod tests;
+
+pub use collector::Collector;
+pub use huge::{Huge, give};
+pub use report::{Report, Stop};
