@@ -2,9 +2,13 @@ ghost use Rattle.std.specs.Prelude.{◌≡◌};
 
 mod blocks;
 mod calls;
+mod counts;
+mod draws;
+mod lists;
 mod moving;
 mod opening;
 mod sharing;
+mod walks;
 mod world_blocks;
 mod world_opening;
 mod worlds;

@@ -1,0 +1,203 @@
+//! The counts and sets of a zone, beside what walks over its frames and its journal find.
+
+ghost use Rattle.std.specs.Prelude.{◌≡◌, ◌<◌, ◌≤◌, length};
+
+use super::calls::{Answer, looked};
+use super::lists::Listed;
+use super::{frame, order};
+use frame_core::{FrameNo, FrameState, PageNo, Serial};
+use journal_core::{Journal, Record};
+use scan_core::Frames;
+use std::process::Abort;
+use std::sync::ledger::Ledger;
+use table_core::Entry;
+use zone_core::{Info, Zone};
+
+/// The counts that a zone tells, the sets of its frames, and the newest page's number are what walks find.
+pub fn assert_counts<I: Ledger, M: Ledger, B: Ledger, R: Abort + AllocGlobal>(
+    rt: &R,
+    zone: &Zone<I, M, B>,
+) {
+    let frames = zone.frames();
+    let states = states(rt, frames);
+    let told = zone.info();
+    assert_told(rt, told, &states);
+    assert_eq!(rt; told.huge as usize, blocks_out(zone.journal()));
+    assert_eq!(rt;
+        (frames.free(), frames.whole_blocks()),
+        (told.free, told.whole)
+    );
+    assert_free(rt, frames, &states);
+    for number in 3..10 {
+        assert_run(rt, frames, &states, number);
+    }
+    assert_newest(rt, zone.journal(), &states);
+}
+
+/// What each frame is used for.
+fn states<R: Abort + AllocGlobal>(rt: &R, frames: &Frames) -> Vec<FrameState> {
+    let mut states = Vec::new(rt.alloc());
+    for number in 0..frames.len() {
+        let state = frames.state(frame(rt, number));
+        states.push(state).expect(rt, "memory");
+    }
+    states
+}
+
+fn assert_told<R: Abort>(rt: &R, told: Info, states: &[FrameState]) {
+    let pages = states
+        .iter()
+        .filter(|state| matches!(state, FrameState::Holds(_) | FrameState::Source(_)))
+        .count();
+    let sources = states
+        .iter()
+        .filter(|state| matches!(state, FrameState::Source(_)))
+        .count();
+    let targets = states
+        .iter()
+        .filter(|state| matches!(state, FrameState::Target(_)))
+        .count();
+    let held = states
+        .iter()
+        .filter(|state| matches!(state, FrameState::Huge))
+        .count();
+    let free = states.iter().filter(|state| is_free(state)).count();
+    let whole = states
+        .chunks(512)
+        .filter(|block| block.iter().all(is_free))
+        .count();
+    assert_eq!(rt; (told.pages as usize, told.held as usize), (pages, held));
+    assert_eq!(rt;
+        (told.moving as usize, told.moving as usize),
+        (sources, targets)
+    );
+    assert_eq!(rt; (told.free as usize, told.whole as usize), (free, whole));
+}
+
+fn is_free(state: &FrameState) -> bool {
+    *state == FrameState::Free
+}
+
+/// How many blocks a journal tells of that are handed out.
+fn blocks_out(journal: &Journal) -> usize {
+    let mut count = 0_usize;
+    for index in 0..journal.len() {
+        match journal.get(index) {
+            Some(Record::TakeHuge { .. }) => count = count.saturating_add(1),
+            Some(Record::GiveHuge { .. }) => count = count.saturating_sub(1),
+            _ => {}
+        }
+    }
+    count
+}
+
+/// The set of frames that are free has just those, and knows the lowest.
+fn assert_free<R: Abort>(rt: &R, frames: &Frames, states: &[FrameState]) {
+    for number in 0..frames.len() {
+        let state = states.get(number as usize).expect(rt, "a frame");
+        assert_eq!(rt; frames.is_free(frame(rt, number)), is_free(state));
+    }
+    let lowest = frames.lowest_free().map(|frame| frame.get() as usize);
+    assert_eq!(rt; lowest, states.iter().position(is_free));
+}
+
+/// The first run of an order is the lowest aligned one whose frames are all free.
+fn assert_run<R: Abort>(rt: &R, frames: &Frames, states: &[FrameState], number: u32) {
+    let order = order(rt, number);
+    let size = order.frames() as usize;
+    let mut runs = states.chunks(size);
+    let lowest = runs.position(|run| run.iter().all(is_free));
+    let first = frames.first_run(order).map(|frame| frame.get() as usize);
+    assert_eq!(rt;
+        first.map(|first| (first / size, first % size)),
+        lowest.map(|place| (place, 0))
+    );
+}
+
+/// The number of a page that was just mapped is the lowest that no other page has.
+fn assert_newest<R: Abort>(rt: &R, journal: &Journal, states: &[FrameState]) {
+    let Some(Record::Map { page, .. }) = journal.last() else {
+        return;
+    };
+    let newest = *page;
+    let lower = states
+        .iter()
+        .filter_map(|state| page_in(journal, state))
+        .filter(|page| *page < newest);
+    assert_eq!(rt; lower.count(), newest.get() as usize);
+}
+
+/// The page that a frame holds, or that left it.
+fn page_in(journal: &Journal, state: &FrameState) -> Option<PageNo> {
+    match *state {
+        FrameState::Holds(page) => Some(page),
+        FrameState::Source(serial) => isolated_page(journal, serial),
+        _ => None,
+    }
+}
+
+fn isolated_page(journal: &Journal, under: Serial) -> Option<PageNo> {
+    for index in 0..journal.len() {
+        if let Some(Record::Isolate { serial, page }) = journal.get(index) {
+            if *serial == under {
+                return Some(*page);
+            }
+        }
+    }
+    None
+}
+
+/// What is told of the page that a frame holds, or that left it, is what its entries and its frame say.
+pub fn assert_pages<I: Ledger, M: Ledger, B: Ledger, R: Abort>(
+    rt: &R,
+    zone: &Zone<I, M, B>,
+    lists: &[Listed],
+) {
+    for number in 0..zone.frames().len() {
+        let list = lists.get(number as usize).expect(rt, "a list");
+        match list.addresses.first() {
+            Some(address) => {
+                let told = looked(zone.look(*address));
+                assert_page(rt, zone.frames(), frame(rt, number), list, told);
+            }
+            None => assert_no_page(rt, zone.frames(), frame(rt, number)),
+        }
+    }
+}
+
+fn assert_page<R: Abort>(rt: &R, frames: &Frames, frame: FrameNo, list: &Listed, told: Answer)
+    requires { frame < length frames.now.states }
+{
+    let state = frames.state(frame);
+    let addresses = list.addresses.len();
+    match told {
+        Answer::At {
+            frame: number,
+            unmovable,
+            pins,
+            maps,
+            ..
+        } => {
+            assert!(rt; matches!(state, FrameState::Holds(_)));
+            assert_eq!(rt; (number, maps as usize), (frame.get(), addresses));
+            assert_eq!(rt; list.entry, Entry::Present(frame));
+            assert_eq!(rt; frames.movable(frame), pins == 0 && !unmovable);
+        }
+        Answer::OnItsWay { serial, maps, .. } => {
+            assert_eq!(rt;
+                (state, maps as usize),
+                (FrameState::Source(serial), addresses)
+            );
+            let source = frame;
+            assert_eq!(rt; list.entry, Entry::Migration { serial, source });
+        }
+        _ => panic!(rt; "nothing is told of a page"),
+    }
+}
+
+fn assert_no_page<R: Abort>(rt: &R, frames: &Frames, frame: FrameNo)
+    requires { frame < length frames.now.states }
+{
+    let state = frames.state(frame);
+    assert!(rt; !matches!(state, FrameState::Holds(_) | FrameState::Source(_)));
+}

@@ -1,0 +1,116 @@
+//! The addresses that are listed under each frame, beside what walks over all entries find.
+
+ghost use Rattle.std.specs.Prelude.{◌≡◌, ◌<◌, ◌≤◌, length};
+
+use super::{address, frame};
+use arrayvec::ArrayVec;
+use frame_core::{Address, FrameNo, FrameState};
+use std::process::Abort;
+use std::sync::ledger::Ledger;
+use table_core::{Entry, Tables};
+use zone_core::Zone;
+
+/// The entry that names a frame, or the page that left it, and the addresses that have this entry.
+#[derive(Drop)]
+pub struct Listed {
+    pub entry: Entry,
+    pub addresses: ArrayVec<Address, 4>,
+}
+
+impl Listed {
+    fn none() -> Self {
+        Listed {
+            entry: Entry::Absent,
+            addresses: ArrayVec::new(),
+        }
+    }
+
+    /// Each address that is listed under one frame has the same entry.
+    fn add<R: Abort>(&mut self, rt: &R, entry: Entry, address: Address) {
+        assert!(rt; self.addresses.is_empty() || self.entry == entry);
+        self.entry = entry;
+        assert!(rt;
+            self.addresses.try_push(address).is_ok(),
+            "a page has five addresses"
+        );
+    }
+}
+
+/// What one walk over all entries lists under each of so many frames.
+pub fn walked<R: Abort + AllocGlobal>(rt: &R, tables: &Tables, frames: u32) -> Vec<Listed> {
+    let mut lists = Vec::new(rt.alloc());
+    for _ in 0..frames {
+        lists.push(Listed::none()).expect(rt, "memory");
+    }
+    for space in 0..8 {
+        list_space(rt, tables, space, &mut lists);
+    }
+    lists
+}
+
+fn list_space<R: Abort>(rt: &R, tables: &Tables, space: u32, lists: &mut Vec<Listed>) {
+    for vpage in 0..4096 {
+        let entry = tables.entry(address(rt, (space, vpage)));
+        if let Some(frame) = frame_of(&entry) {
+            let Some(list) = lists.get_mut(frame.get() as usize) else {
+                panic!(rt; "no frame of the zone");
+            };
+            list.add(rt, entry, address(rt, (space, vpage)));
+        }
+    }
+}
+
+/// The frame under which an address with this entry is listed.
+fn frame_of(entry: &Entry) -> Option<FrameNo> {
+    match *entry {
+        Entry::Absent => None,
+        Entry::Present(frame) => Some(frame),
+        Entry::Migration { source, .. } => Some(source),
+    }
+}
+
+/// The list that is kept for each frame is the one that the walk found.
+pub fn assert_lists<I: Ledger, M: Ledger, B: Ledger, R: Abort>(
+    rt: &R,
+    zone: &Zone<I, M, B>,
+    lists: &[Listed],
+) {
+    for number in 0..zone.frames().len() {
+        let list = lists.get(number as usize).expect(rt, "a list");
+        assert_list(rt, zone.tables(), frame(rt, number), list);
+    }
+}
+
+fn assert_list<R: Abort>(rt: &R, tables: &Tables, frame: FrameNo, list: &Listed)
+    requires { frame < tables.now.frames }
+{
+    let addresses = list.addresses.as_slice();
+    if let Entry::Migration { serial, .. } = list.entry {
+        assert!(rt; &*tables.mappings_moving(serial, frame) == addresses);
+        assert!(rt; tables.mappings(frame).is_empty());
+    } else {
+        assert!(rt; &*tables.mappings(frame) == addresses);
+    }
+}
+
+/// The list of each frame in use is what a walk for this frame or serial finds.
+pub fn assert_walks<I: Ledger, M: Ledger, B: Ledger, R: Abort>(rt: &R, zone: &Zone<I, M, B>) {
+    for number in 0..zone.frames().len() {
+        let frame = frame(rt, number);
+        assert_walk(rt, zone.tables(), frame, zone.frames().state(frame));
+    }
+}
+
+fn assert_walk<R: Abort>(rt: &R, tables: &Tables, frame: FrameNo, state: FrameState)
+    requires { frame < tables.now.frames }
+{
+    match state {
+        FrameState::Holds(_) => {
+            assert!(rt; *tables.mappings(frame) == *tables.walk_mappings(frame));
+        }
+        FrameState::Source(serial) => {
+            assert!(rt; *tables.mappings_moving(serial, frame) == *tables.walk_moving(serial));
+        }
+        _ => assert!(rt; tables.mappings(frame).is_empty()),
+    }
+}
