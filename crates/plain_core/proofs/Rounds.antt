@@ -1,12 +1,15 @@
 -- Whether a round begins calm, and what a zone is when it has begun.
-use Rattle.std.proofs.Common.{◌≡◌, ◌*◌, length}
+use Rattle.std.proofs.Common.{◌≡◌, ◌*◌, ℕ, true, length, subst}
 use Rattle.std.specs.Prelude.{Some}
 use Rattle.plain_core.specs.declared.plain.PlainZone.TheInside.{Inside}
 use Rattle.state_core.specs.declared.round.RoundStart.{RoundStart}
 use Rattle.plain_core.specs.Sound.{IsSound}
+use Rattle.state_core.specs.Lawful.{IsLawful}
 use Rattle.state_core.specs.Pairs.{is_calm}
-use Rattle.state_core.specs.ZoneState.{ZoneState}
+use Rattle.state_core.specs.Swept.{IsSwept}
+use Rattle.state_core.specs.ZoneState.{ZoneState, frame_count}
 use Rattle.state_core.proofs.Rounds.{begun, lawful_from}
+use Rattle.state_core.proofs.Sweeping.{swept_begun}
 
 -- the fields when a round has begun
 abbrev pub after_begin : Inside → RoundStart → Inside
@@ -28,3 +31,17 @@ begun_sound z v sound start here as_calm = record {
   moves = sound.moves;
   movable = record { count = sound.movable.count; each = sound.movable.each };
 }
+
+-- a calm zone is swept where its fingers stand at its ends
+pub swept_at_ends : (v : ZoneState) → IsLawful v → is_calm v ≡ true → (free : ℕ) → frame_count v ≡ free → IsSwept (record v { migrate = 0; free = free })
+swept_at_ends v law calm free ends = subst (λ (n : ℕ). IsSwept (record v { migrate = 0; free = n })) ends (record {
+  below = begins.below;
+  above = begins.above;
+  unheld = begins.unheld;
+  movable = begins.movable;
+  ways = λ page serial source target at.
+      let way = begins.ways page serial source target at in
+      record { low = way.low; high = way.high; movable = way.movable };
+}) where
+  begins : IsSwept (begun v (record { records = 0; calm = true }))
+  begins = swept_begun v law calm (record { records = 0; calm = true })

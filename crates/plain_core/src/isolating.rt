@@ -1,6 +1,6 @@
 //! Rounds, and the page that a round isolates next.
 
-ghost use Rattle.std.specs.Prelude.{◌≡◌, ◌+◌, ◌<◌, ℕ, length, IsSome, IfSome, IfNone, Some};
+ghost use Rattle.std.specs.Prelude.{◌≡◌, ◌+◌, ◌<◌, ℕ, length, IsSome, IfSome, IfNone, Some, true};
 ghost use Rattle.std.specs.FinMap as map;
 ghost use Rattle.journal_core.specs.Moves.{isolated, out};
 ghost use Rattle.state_core.specs.Lawful.{IsLawful};
@@ -8,6 +8,7 @@ ghost use Rattle.state_core.specs.Rounds.{round_begun};
 ghost use Rattle.state_core.specs.Carrying.{flags_of, page_now};
 ghost use Rattle.state_core.specs.Isolating.{isolated_next};
 ghost use Rattle.state_core.specs.Pairs.{IsPair, is_calm, holder, next_pair};
+ghost use Rattle.state_core.specs.Swept.{IsSwept};
 ghost use Rattle.state_core.specs.ZoneState.{frame_count};
 ghost use Rattle.state_core.specs.declared.placement.Placement.TheVariants.{At};
 
@@ -108,13 +109,23 @@ impl PlainZone {
         self.moves.out() == 0 && !self.frames.is_any_stuck(&self.marked)
     }
 
+    /// The fingers with which a round begins: at the bottom of the zone and above its top.
+    #[tactic(auto, using(crate::proofs::Rounds::swept_at_ends))]
+    fn fingers_at_ends(&self) -> Fingers
+        ensures ends { result ≡ record { migrate = 0; free = frame_count self.now } }
+        // With these a calm zone is swept.
+        ensures swept { is_calm self.now ≡ true → IsSwept (record self.now { migrate = result.migrate; free = result.free }) }
+    {
+        Fingers::at_ends(512 * self.blocks)
+    }
+
     /// Sets the fingers to the ends of the zone.
     pub fn begin_round(&mut self)
         ensures step { self.new ≡ round_begun self.old }
         ensures lawful { IsLawful self.new }
     {
         let calm = self.is_calm();
+        self.fingers = self.fingers_at_ends();
         self.history.begin_round(calm);
-        self.fingers = Fingers::at_ends(512 * self.blocks);
     }
 }
