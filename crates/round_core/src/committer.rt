@@ -2,6 +2,7 @@ ghost use Rattle.std.specs.Prelude.{◌≡◌, false, IfOk, IfErr};
 ghost use Rattle.hand_core.specs.CopyEnds.{has_ended};
 
 use crate::gate::{Gate, Point};
+use crate::shape::Shape;
 use crate::shared_zone::SharedZone;
 use frame_core::Serial;
 use hand_core::{Came, DoneSender, DoneTaker};
@@ -19,9 +20,9 @@ pub(crate) struct Committed<M: Ledger, B: Ledger> {
 }
 
 /// Commits each copy that comes, by the one seat.
-fn commit_all<I: Ledger, M: Ledger, B: Ledger, G: Gate, R: Wait>(
+fn commit_all<K: Shape, I: Ledger, M: Ledger, B: Ledger, G: Gate, R: Wait>(
     rt: &R,
-    shared: &SharedZone<I, M, B>,
+    shared: &SharedZone<K, I, M, B>,
     mut copies: DoneTaker,
     mut seat: EndSeat<M, B>,
     gate: &G,
@@ -78,6 +79,7 @@ pub(crate) type Committer<M, B> = PromisedHandle<Committed<M, B>, HandsPartBack>
 pub(crate) fn start_committer<
     's,
     'e,
+    K: Shape + Send + Sync,
     I: Ledger + Send + Sync,
     M: Ledger + Send + Sync,
     B: Ledger + Send + Sync,
@@ -86,7 +88,7 @@ pub(crate) fn start_committer<
 >(
     scope: &'s Scope<'s, &'e ()>,
     rt: &'e R,
-    shared: &'e SharedZone<I, M, B>,
+    shared: &'e SharedZone<K, I, M, B>,
     senders: Vec<DoneSender>,
     copies: DoneTaker,
     seat: EndSeat<M, B>,

@@ -8,6 +8,7 @@ use crate::crew::{Memory, Ran, run};
 use crate::error::RoundError;
 use crate::gate::Gate;
 use crate::round::{Round, Stop};
+use crate::shape::Shape;
 use crate::shared_zone::SharedZone;
 use frame_core::Serial;
 use hand_core::{DoneSender, DoneTaker, Giver, Takers, done_open, open, settle};
@@ -24,6 +25,7 @@ use zone_core::{Audit, Seats, Zone, ZoneError};
 /// Refused as Memory or NoWorker; as Broken where `audit` refuses, where an end of a queue was gone, or where a copier's list had
 /// no place for a page; as Stranger where the zone refused a copy.
 pub fn compact<
+    K: Shape + Send + Sync,
     I: Ledger + Send + Sync,
     N: Ledger,
     M: Ledger + Send + Sync,
@@ -33,7 +35,7 @@ pub fn compact<
 >(
     rt: &R,
     alloc: Global,
-    shared: &SharedZone<I, M, B>,
+    shared: &SharedZone<K, I, M, B>,
     seats: &mut Seats<I, N, M, B>,
     copiers: usize,
     cap: usize,
@@ -79,9 +81,9 @@ fn audit_zone<I: Ledger, N: Ledger, M: Ledger, B: Ledger>(
 }
 
 /// The same under the lock.
-fn audit<I: Ledger, N: Ledger, M: Ledger, B: Ledger, R: Wait>(
+fn audit<K: Shape, I: Ledger, N: Ledger, M: Ledger, B: Ledger, R: Wait>(
     rt: &R,
-    shared: &SharedZone<I, M, B>,
+    shared: &SharedZone<K, I, M, B>,
     seats: &mut Seats<I, N, M, B>,
 ) -> Result<Audit, RoundError>
     ensures counts { IfOk result (λ a. (a.isolated ≡ seats.old.scan.count) × (a.moved ≡ seats.old.ends.moved) × (a.back ≡ seats.old.ends.back) × (a.moved + a.back ≡ a.isolated)) }
@@ -119,6 +121,7 @@ fn reserve(alloc: Global, copiers: usize, serials: usize) -> Result<Memory, Allo
 
 /// Runs the threads of a round in a scope of their own. None where one of them can't be started.
 fn in_scope<
+    K: Shape + Send + Sync,
     I: Ledger + Send + Sync,
     N: Ledger,
     M: Ledger + Send + Sync,
@@ -127,7 +130,7 @@ fn in_scope<
     R: Threads + Wait + Sync,
 >(
     rt: &R,
-    shared: &SharedZone<I, M, B>,
+    shared: &SharedZone<K, I, M, B>,
     seats: &mut Seats<I, N, M, B>,
     giver: Giver,
     takers: Takers,
@@ -183,9 +186,9 @@ fn in_scope<
 }
 
 /// Settles the hand-over and audits the zone.
-fn wind_up<I: Ledger, N: Ledger, M: Ledger, B: Ledger, R: Wait>(
+fn wind_up<K: Shape, I: Ledger, N: Ledger, M: Ledger, B: Ledger, R: Wait>(
     rt: &R,
-    shared: &SharedZone<I, M, B>,
+    shared: &SharedZone<K, I, M, B>,
     seats: &mut Seats<I, N, M, B>,
     before: &Audit,
     ran: Ran,

@@ -8,6 +8,7 @@ use crate::copier::{Carried, Copier, start_copier};
 use crate::gate::Gate;
 use crate::round::Stop;
 use crate::scanner::scan_all;
+use crate::shape::Shape;
 use crate::shared_zone::SharedZone;
 use frame_core::Serial;
 use hand_core::{DoneSender, DoneTaker, Giver, Taker, Takers};
@@ -130,6 +131,7 @@ fn join_early<M: Ledger, B: Ledger, R: Threads>(
 pub(crate) fn run<
     's,
     'e,
+    K: Shape + Send + Sync,
     I: Ledger + Send + Sync,
     N: Ledger,
     M: Ledger + Send + Sync,
@@ -139,7 +141,7 @@ pub(crate) fn run<
 >(
     scope: &'s Scope<'s, &'e ()>,
     rt: &'e R,
-    shared: &'e SharedZone<I, M, B>,
+    shared: &'e SharedZone<K, I, M, B>,
     seats: &mut Seats<I, N, M, B>,
     giver: Giver,
     takers: Takers,

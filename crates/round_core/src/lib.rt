@@ -3,6 +3,7 @@
 //! The zone stands under one lock, which keeps it lawful. Contracts see a round by what it changes in the two seats.
 #![tactic(auto)]
 
+mod alone;
 mod committer;
 mod compacting;
 mod copier;
@@ -11,13 +12,16 @@ mod error;
 mod gate;
 mod round;
 mod scanner;
+mod shape;
 mod shared_zone;
 #[cfg(test)]
 mod tests;
 
+pub use alone::compact_alone;
 pub use compacting::compact;
 pub use copier::{Carried, carry};
 pub use error::RoundError;
 pub use gate::{Gate, NoGate, Point};
 pub use round::{Round, Stop};
+pub use shape::Shape;
 pub use shared_zone::{Room, SharedZone};

@@ -4,6 +4,7 @@ ghost use Rattle.round_core.specs.Rounds.{answer_at};
 
 use crate::gate::{Gate, Point};
 use crate::round::Stop;
+use crate::shape::Shape;
 use crate::shared_zone::SharedZone;
 use hand_core::Giver;
 use std::sync::Wait;
@@ -11,9 +12,9 @@ use std::sync::ledger::Ledger;
 use zone_core::{EndSeat, Next, ScanSeat};
 
 /// Isolates pages and gives them, until there is nothing left or the journal is full. None where the takers are gone.
-pub(crate) fn scan_all<I: Ledger, N: Ledger, M: Ledger, B: Ledger, G: Gate, R: Wait>(
+pub(crate) fn scan_all<K: Shape, I: Ledger, N: Ledger, M: Ledger, B: Ledger, G: Gate, R: Wait>(
     rt: &R,
-    shared: &SharedZone<I, M, B>,
+    shared: &SharedZone<K, I, M, B>,
     scan: &mut ScanSeat<I, N>,
     ends: &mut EndSeat<M, B>,
     giver: &mut Giver,

@@ -1,6 +1,7 @@
 ghost use Rattle.std.specs.Prelude.{◌≤◌};
 
-use std::marker::Model;
+use crate::shape::Shape;
+use std::marker::{Model, PhantomData};
 use std::sync::ledger::Ledger;
 use std::sync::{Condvar, Mutex, MutexGuard, Wait};
 use word_core::{Copied, Isolated};
@@ -8,15 +9,17 @@ use zone_core::{EndSeat, Ended, Next, ScanSeat, Stranger, Zone, ZoneError};
 
 /// What stands under the lock: a zone, and whether a thread waits for a move in it to end.
 #[derive(Drop)]
-pub struct Room<I: Ledger, M: Ledger, B: Ledger> {
+pub struct Room<K: Shape, I: Ledger, M: Ledger, B: Ledger> {
     pub zone: Zone<I, M, B>,
     is_awaited: bool,
+    of: PhantomData<K>,
 }
 
-impl<I: Ledger, M: Ledger, B: Ledger> Model for Room<I, M, B> {
+impl<K: Shape, I: Ledger, M: Ledger, B: Ledger> Model for Room<K, I, M, B> {
     ghost use Rattle.plain_core.specs.contracts.plain.PlainZone as plain_zone;
     ghost use Rattle.state_core.specs.Lawful.{IsLawful};
     ghost use Rattle.state_core.specs.ZoneState.{ZoneState};
+    ghost use Rattle.zone_core.specs.Shape.{HasShape};
 
     ghost Value = { ZoneState };
 
@@ -24,17 +27,19 @@ impl<I: Ledger, M: Ledger, B: Ledger> Model for Room<I, M, B> {
 
     ghost view = { λ r. r.zone };
 
-    ghost invariant = { λ r. IsLawful r.zone };
+    ghost invariant = { λ r. IsLawful r.zone × HasShape K.number K.blocks r.zone };
 }
 
-impl<I: Ledger, M: Ledger, B: Ledger> Room<I, M, B> {
+impl<K: Shape, I: Ledger, M: Ledger, B: Ledger> Room<K, I, M, B> {
     ghost use Rattle.std.specs.Prelude.{◌≡◌};
     ghost use Rattle.round_core.specs.Kept.{IsKept};
+    ghost use Rattle.zone_core.specs.Shape.{HasShape};
 
     /// The zone, for reading, as whoever takes the lock finds it.
     pub fn zone(&self) -> &Zone<I, M, B>
         ensures zone { result.now ≡ self.now }
         ensures kept { IsKept self.now }
+        ensures shape { HasShape K.number K.blocks self.now }
     {
         &self.zone
     }
@@ -42,24 +47,28 @@ impl<I: Ledger, M: Ledger, B: Ledger> Room<I, M, B> {
 
 /// A zone under one lock.
 #[derive(Drop)]
-pub struct SharedZone<I: Ledger, M: Ledger, B: Ledger> {
-    room: Mutex<Room<I, M, B>>,
+pub struct SharedZone<K: Shape, I: Ledger, M: Ledger, B: Ledger> {
+    room: Mutex<Room<K, I, M, B>>,
     ended: Condvar,
     blocks: u32,
     ghost few: { blocks ≤ 8 },
 }
 
-impl<I: Ledger, M: Ledger, B: Ledger> SharedZone<I, M, B> {
+impl<K: Shape, I: Ledger, M: Ledger, B: Ledger> SharedZone<K, I, M, B> {
     ghost use Rattle.std.specs.Prelude.{◌≡◌, ◌+◌, OnOk, OnErr, IfOk, IfErr};
     ghost use Rattle.zone_core.specs.Seats.{seat_begun, seat_full, seat_noted, seat_ended, IsFollowed};
     ghost use Rattle.round_core.specs.Kept.{IsKept};
     ghost use Rattle.round_core.specs.Scanning.{HasNext};
+    ghost use Rattle.zone_core.specs.Shape.{HasShape};
 
-    pub fn new(zone: Zone<I, M, B>) -> Self {
+    pub fn new(zone: Zone<I, M, B>) -> Self
+        requires shape { HasShape K.number K.blocks zone }
+    {
         let blocks = zone.blocks();
         let room = Room {
             zone,
             is_awaited: false,
+            of: PhantomData,
         };
         SharedZone {
             room: Mutex::new(room),
@@ -69,7 +78,8 @@ impl<I: Ledger, M: Ledger, B: Ledger> SharedZone<I, M, B> {
     }
 
     pub fn into_zone(self) -> Zone<I, M, B>
-        ensures { IsKept result }
+        ensures kept { IsKept result }
+        ensures shape { HasShape K.number K.blocks result }
     {
         self.room.into_inner().zone
     }
@@ -82,7 +92,7 @@ impl<I: Ledger, M: Ledger, B: Ledger> SharedZone<I, M, B> {
     }
 
     /// Waits for the lock, and lends the zone as long as the guard lives. Who ends a move through it tells so by `tell_ended`.
-    pub fn lock<R: Wait>(&self, rt: &R) -> MutexGuard<'_, Room<I, M, B>> {
+    pub fn lock<R: Wait>(&self, rt: &R) -> MutexGuard<'_, Room<K, I, M, B>> {
         self.room.lock(rt)
     }
 
@@ -90,14 +100,14 @@ impl<I: Ledger, M: Ledger, B: Ledger> SharedZone<I, M, B> {
     pub fn wait_for_end<'a, R: Wait>(
         &self,
         rt: &R,
-        mut room: MutexGuard<'a, Room<I, M, B>>,
-    ) -> MutexGuard<'a, Room<I, M, B>> {
+        mut room: MutexGuard<'a, Room<K, I, M, B>>,
+    ) -> MutexGuard<'a, Room<K, I, M, B>> {
         room.is_awaited = true;
         self.ended.wait(rt, room)
     }
 
     /// Wakes those who wait for the end of a move, if there are any.
-    pub fn tell_ended(&self, room: &mut Room<I, M, B>)
+    pub fn tell_ended(&self, room: &mut Room<K, I, M, B>)
         ensures { room.new ≡ room.old }
     {
         if room.is_awaited {

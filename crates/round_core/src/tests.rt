@@ -1,4 +1,4 @@
-ghost use Rattle.std.specs.Prelude.{◌<◌, ◌≤◌};
+ghost use Rattle.std.specs.Prelude.{◌≡◌, ◌<◌, ◌≤◌};
 ghost use Rattle.zone_core.specs.Books.{AreFor};
 
 mod carrying;
@@ -7,7 +7,7 @@ mod gates;
 mod refusals;
 mod whole_rounds;
 
-use crate::{Gate, Round, RoundError, SharedZone, compact};
+use crate::{Gate, Round, RoundError, Shape, SharedZone, compact};
 use bitflags::Flags;
 use frame_core::{Address, ClientNo, FrameNo, PageFlags, SpaceNo, VPage, WordNo, ZoneNo};
 use std::alloc::Global;
@@ -19,18 +19,19 @@ use zone_core::{Blanks, Info, Seats, Zone, ZoneError};
 
 /// A shared zone with its seats.
 #[derive(Drop)]
-struct Opening<I: Ledger, N: Ledger, M: Ledger, B: Ledger> {
-    shared: SharedZone<I, M, B>,
+struct Opening<K: Shape, I: Ledger, N: Ledger, M: Ledger, B: Ledger> {
+    shared: SharedZone<K, I, M, B>,
     seats: Seats<I, N, M, B>,
 }
 
 /// An empty zone of so many pageblocks, with 65,536 places in its journal.
-fn opened<I: Ledger, N: Ledger, M: Ledger, B: Ledger, R: Abort>(
+fn opened<K: Shape, I: Ledger, N: Ledger, M: Ledger, B: Ledger, R: Abort>(
     rt: &R,
     alloc: Global,
     blocks: u32,
     blanks: Blanks,
-) -> Result<Opening<I, N, M, B>, ZoneError>
+) -> Result<Opening<K, I, N, M, B>, ZoneError>
+    requires shape { (K.number ≡ 1) × (K.blocks ≡ blocks) }
     requires blanks { AreFor blanks I.name I.parts N.name N.parts M.name M.parts B.name B.parts }
 {
     let number = ZoneNo::new(1).expect(rt, "a zone");
@@ -42,15 +43,16 @@ fn opened<I: Ledger, N: Ledger, M: Ledger, B: Ledger, R: Abort>(
 }
 
 /// The same where there is memory.
-fn must_open<I: Ledger, N: Ledger, M: Ledger, B: Ledger, R: Abort>(
+fn must_open<K: Shape, I: Ledger, N: Ledger, M: Ledger, B: Ledger, R: Abort>(
     rt: &R,
     alloc: Global,
     blocks: u32,
     blanks: Blanks,
-) -> Opening<I, N, M, B>
+) -> Opening<K, I, N, M, B>
+    requires shape { (K.number ≡ 1) × (K.blocks ≡ blocks) }
     requires blanks { AreFor blanks I.name I.parts N.name N.parts M.name M.parts B.name B.parts }
 {
-    opened::<I, N, M, B, R>(rt, alloc, blocks, blanks).expect(rt, "a zone")
+    opened::<K, I, N, M, B, R>(rt, alloc, blocks, blanks).expect(rt, "a zone")
 }
 
 fn client<R: Abort>(rt: &R) -> ClientNo {
@@ -67,9 +69,9 @@ fn address<R: Abort>(rt: &R, number: u32) -> Address {
     Address { space, vpage }
 }
 
-fn map_at<I: Ledger, M: Ledger, B: Ledger, R: Wait + Abort>(
+fn map_at<K: Shape, I: Ledger, M: Ledger, B: Ledger, R: Wait + Abort>(
     rt: &R,
-    shared: &SharedZone<I, M, B>,
+    shared: &SharedZone<K, I, M, B>,
     number: u32,
 ) -> Result<(), ZoneError> {
     let frame = FrameNo::new(number).expect(rt, "a frame");
@@ -79,9 +81,9 @@ fn map_at<I: Ledger, M: Ledger, B: Ledger, R: Wait + Abort>(
         .map_at(client(rt), address(rt, number), PageFlags::empty(), frame)
 }
 
-fn store<I: Ledger, M: Ledger, B: Ledger, R: Wait + Abort>(
+fn store<K: Shape, I: Ledger, M: Ledger, B: Ledger, R: Wait + Abort>(
     rt: &R,
-    shared: &SharedZone<I, M, B>,
+    shared: &SharedZone<K, I, M, B>,
     number: u32,
     value: u64,
 ) -> Result<(), ZoneError> {
@@ -91,9 +93,9 @@ fn store<I: Ledger, M: Ledger, B: Ledger, R: Wait + Abort>(
         .store(client(rt), address(rt, number), last_word(rt), value)
 }
 
-fn load<I: Ledger, M: Ledger, B: Ledger, R: Wait + Abort>(
+fn load<K: Shape, I: Ledger, M: Ledger, B: Ledger, R: Wait + Abort>(
     rt: &R,
-    shared: &SharedZone<I, M, B>,
+    shared: &SharedZone<K, I, M, B>,
     number: u32,
 ) -> Result<u64, ZoneError> {
     shared
@@ -102,14 +104,17 @@ fn load<I: Ledger, M: Ledger, B: Ledger, R: Wait + Abort>(
         .load(client(rt), address(rt, number), last_word(rt))
 }
 
-fn info<I: Ledger, M: Ledger, B: Ledger, R: Wait>(rt: &R, shared: &SharedZone<I, M, B>) -> Info {
+fn info<K: Shape, I: Ledger, M: Ledger, B: Ledger, R: Wait>(
+    rt: &R,
+    shared: &SharedZone<K, I, M, B>,
+) -> Info {
     shared.lock(rt).zone().info()
 }
 
 /// Virtual pages 0, 1, .. name pages at the frames 0, 1, ..; the last word of each is the frame's number plus 1.
-fn fill<I: Ledger, M: Ledger, B: Ledger, R: Wait + Abort>(
+fn fill<K: Shape, I: Ledger, M: Ledger, B: Ledger, R: Wait + Abort>(
     rt: &R,
-    shared: &SharedZone<I, M, B>,
+    shared: &SharedZone<K, I, M, B>,
     pages: u32,
 ) {
     for number in 0..pages {
@@ -120,9 +125,9 @@ fn fill<I: Ledger, M: Ledger, B: Ledger, R: Wait + Abort>(
 }
 
 /// Each page has its word.
-fn assert_words<I: Ledger, M: Ledger, B: Ledger, R: Wait + Abort>(
+fn assert_words<K: Shape, I: Ledger, M: Ledger, B: Ledger, R: Wait + Abort>(
     rt: &R,
-    shared: &SharedZone<I, M, B>,
+    shared: &SharedZone<K, I, M, B>,
     pages: u32,
 ) {
     for number in 0..pages {
@@ -132,6 +137,7 @@ fn assert_words<I: Ledger, M: Ledger, B: Ledger, R: Wait + Abort>(
 
 /// A round, known by its answer alone.
 fn round_of<
+    K: Shape + Send + Sync,
     I: Ledger + Send + Sync,
     N: Ledger,
     M: Ledger + Send + Sync,
@@ -141,7 +147,7 @@ fn round_of<
 >(
     rt: &R,
     alloc: Global,
-    shared: &SharedZone<I, M, B>,
+    shared: &SharedZone<K, I, M, B>,
     seats: &mut Seats<I, N, M, B>,
     copiers: usize,
     cap: usize,

@@ -56,4 +56,5 @@ text_of-some (reply.Block b) = omega arith
 text_of-some (reply.HandedOut f k) = omega arith
 text_of-some (reply.AllDone m) = omega arith
 text_of-some (reply.DoneUntil m k) = omega arith
+text_of-some (reply.Round i m b s) = omega arith
 text_of-some (reply.Refused k) = omega arith

@@ -6,7 +6,7 @@ use Rattle.std.proofs.lemmas.Option.{same_Some}
 use Rattle.std.proofs.lemmas.Slice.Eq.{bytes_eq-Decides}
 use Rattle.frame_core.specs.declared.place.Address.{Address}
 use Rattle.text_core.specs.declared.token.Token.{Token}
-use Rattle.text_core.specs.declared.token.Token.TheVariants.{Number, Zone, Map, MapAt, Store, Load, Info, Unmovable, Scan, Take, Copy, Finish, Shut, Look, Share, Unmap, Pin, Unpin, Huge, Give, Fill, Thin}
+use Rattle.text_core.specs.declared.token.Token.TheVariants.{Number, Zone, Map, MapAt, Store, Load, Info, Unmovable, Scan, Take, Copy, Finish, Shut, Look, Share, Unmap, Pin, Unpin, Huge, Give, Fill, Thin, Compact}
 use Rattle.text_core.specs.declared.command.Call.{Call}
 use Rattle.text_core.specs.declared.command.Call.TheVariants as call
 use Rattle.text_core.specs.declared.command.Calls.TheVariants.{One}
@@ -16,7 +16,7 @@ use Rattle.text_core.specs.declared.command.Command.TheVariants.{On, Profile2}
 use Rattle.text_core.specs.declared.error.ScriptError.{ScriptError}
 use Rattle.text_core.specs.declared.error.ScriptError.TheVariants.{LongLine}
 use Rattle.text_core.specs.declared.profile.Profile.TheVariants.{Untold, One as Profile1, Two}
-use Rattle.text_core.specs.Grammar.{address_of, blocks_of, call_on, command_of, frame_of, hand_of, load_call, map_at_call, map_call, opening, pageblock_of, row_of, row_of_profile_2, row_or, series_on, share_call, store_call, word_of, zone_of}
+use Rattle.text_core.specs.Grammar.{address_of, blocks_of, call_on, command_of, compacting, frame_of, hand_of, load_call, map_at_call, map_call, opening, pageblock_of, row_of, row_of_profile_2, row_or, series_on, share_call, store_call, word_of, zone_of}
 use Rattle.text_core.specs.Line.{command_in, command_or_fault, is_comment, lexemes_say, line_of}
 use Rattle.text_core.specs.Profile.{is_profile_2}
 use Rattle.text_core.specs.Token.{lexemes, token_of}
@@ -41,6 +41,10 @@ kept_opening : (z b : Option ℕ) → IsKept (opening z b)
 kept_opening (Some z) (Some b) = (refl, λ e. cc)
 kept_opening (Some z) None = (refl, λ e. cc)
 kept_opening None b = (refl, λ e. cc)
+
+kept_compacting : (z : Option ℕ) → IsKept (compacting z)
+kept_compacting (Some z) = (refl, λ e. cc)
+kept_compacting None = (refl, λ e. cc)
 
 kept_call : (z : Option ℕ) (o : Option Call) → IfSome o IsKeptCall → IsKept (call_on z o)
 kept_call (Some z) (Some c) e = (ap (λ d. On z (One d)) e, λ e. cc)
@@ -117,6 +121,7 @@ alike_row Huge z [] = alike _ (kept_call z (Some call.Huge) refl)
 alike_row Give z (Number b ∷ []) = alike _ (kept_call z _ (kept_with call.Give (λ n. refl) (pageblock_of b)))
 alike_row Fill z (Number s ∷ Number v ∷ Number n ∷ []) = alike _ (kept_series z _)
 alike_row Thin z (Number s ∷ Number v ∷ Number n ∷ Number step ∷ []) = alike _ (kept_series z _)
+alike_row Compact z [] = alike _ (kept_compacting z)
 alike_row _ z _ = tt
 
 alike_tokens : (tokens : List Token) → AreAlike (command_of Profile1 tokens) (command_of Untold tokens) (command_of Two tokens)

@@ -5,7 +5,7 @@ use Rattle.std.proofs.lemmas.Bool.{and_parts, leb-true, ltb-true}
 use Rattle.frame_core.specs.Address.{InRange}
 use Rattle.frame_core.specs.declared.place.Address.{Address}
 use Rattle.text_core.specs.declared.token.Token.{Token}
-use Rattle.text_core.specs.declared.token.Token.TheVariants.{Number, Zone, Map, MapAt, Store, Load, Info, Unmovable, Scan, Take, Copy, Finish, Shut, Look, Share, Unmap, Pin, Unpin, Huge, Give, Fill, Thin, Mark, Unmark}
+use Rattle.text_core.specs.declared.token.Token.TheVariants.{Number, Zone, Map, MapAt, Store, Load, Info, Unmovable, Scan, Take, Copy, Finish, Shut, Look, Share, Unmap, Pin, Unpin, Huge, Give, Fill, Thin, Mark, Unmark, Compact}
 use Rattle.text_core.specs.declared.command.Call.{Call}
 use Rattle.text_core.specs.declared.command.Call.TheVariants as call
 use Rattle.text_core.specs.declared.command.Calls.TheVariants.{One}
@@ -16,7 +16,7 @@ use Rattle.text_core.specs.declared.error.ScriptError.{ScriptError}
 use Rattle.text_core.specs.declared.error.ScriptError.TheVariants.{LongLine}
 use Rattle.text_core.specs.declared.profile.Profile.{Profile}
 use Rattle.text_core.specs.declared.profile.Profile.TheVariants.{Untold, One as Profile1, Two}
-use Rattle.text_core.specs.Grammar.{address_of, blocks_of, call_on, command_of, frame_of, give_order_call, hand_of, load_call, map_at_call, map_call, opening, order_of, own_row, pageblock_of, row_in, row_of, row_of_profile_2, row_or, series_on, share_call, store_call, word_of, zone_of}
+use Rattle.text_core.specs.Grammar.{address_of, blocks_of, call_on, command_of, compacting, frame_of, give_order_call, hand_of, load_call, map_at_call, map_call, opening, order_of, own_row, pageblock_of, row_in, row_of, row_of_profile_2, row_or, series_on, share_call, store_call, word_of, zone_of}
 use Rattle.text_core.specs.Line.{command_in, command_or_fault, is_comment, lexemes_say, line_of}
 use Rattle.text_core.specs.Profile.{is_profile_2}
 use Rattle.text_core.specs.Token.{lexemes, token_of}
@@ -49,11 +49,15 @@ in_space s v = by_test (nat_lt s 8 && nat_lt v 4096) refl where
   by_test true e = let both = and_parts (nat_lt s 8) _ e in record { space = ltb-true s 8 both.0; vpage = ltb-true v 4096 both.1 }
   by_test false e = tt
 
--- an opening, and a call
+-- an opening, a round, and a call
 opening_ranged : (z b : Option ℕ) → IfSome b (λ n. (1 ≤ n) × (n ≤ 8)) → IsInRange (opening z b)
 opening_ranged (Some z) (Some b) r = r
 opening_ranged (Some z) None r = tt
 opening_ranged None b r = tt
+
+compacting_ranged : (z : Option ℕ) → IsInRange (compacting z)
+compacting_ranged (Some z) = tt
+compacting_ranged None = tt
 
 call_ranged : (z : Option ℕ) (c : Option Call) → IfSome c IsCallInRange → IsInRange (call_on z c)
 call_ranged (Some z) (Some c) r = r
@@ -135,6 +139,7 @@ row_ranged Huge z [] = call_ranged z (Some call.Huge) tt
 row_ranged Give z (Number b ∷ []) = call_ranged z _ (mapped_ranged (λ n. ⊤) call.Give (λ n r. tt) (pageblock_of b) (any (pageblock_of b)))
 row_ranged Fill z (Number s ∷ Number v ∷ Number n ∷ []) = series_ranged z _
 row_ranged Thin z (Number s ∷ Number v ∷ Number n ∷ Number step ∷ []) = series_ranged z _
+row_ranged Compact z [] = compacting_ranged z
 row_ranged _ z _ = tt
 
 -- a profile's own rows

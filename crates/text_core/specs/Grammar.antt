@@ -2,7 +2,7 @@
 use Rattle.std.specs.Prelude.{ℕ, Bool, true, false, ◌&&◌, List, [], ◌∷◌, nat_lt, nat_le, Option, Some, None, option_map, if◌then◌else◌}
 use Rattle.frame_core.specs.declared.place.Address.{Address}
 use Rattle.text_core.specs.declared.token.Token.{Token}
-use Rattle.text_core.specs.declared.token.Token.TheVariants.{Number, Zone, Map, MapAt, Store, Load, Info, Unmovable, Scan, Take, Copy, Finish, Shut, Look, Share, Unmap, Pin, Unpin, Huge, Give, Fill, Thin, Mark, Unmark}
+use Rattle.text_core.specs.declared.token.Token.TheVariants.{Number, Zone, Map, MapAt, Store, Load, Info, Unmovable, Scan, Take, Copy, Finish, Shut, Look, Share, Unmap, Pin, Unpin, Huge, Give, Fill, Thin, Mark, Unmark, Compact}
 use Rattle.text_core.specs.declared.command.Call.{Call}
 use Rattle.text_core.specs.declared.command.Call.TheVariants as call
 use Rattle.text_core.specs.declared.command.Calls.{Calls}
@@ -11,7 +11,7 @@ use Rattle.text_core.specs.declared.command.Series.{Series}
 use Rattle.text_core.specs.declared.command.Repeated.{Repeated}
 use Rattle.text_core.specs.declared.command.Repeated.TheVariants as repeated
 use Rattle.text_core.specs.declared.command.Command.{Command}
-use Rattle.text_core.specs.declared.command.Command.TheVariants.{Open, On, OutOfRange}
+use Rattle.text_core.specs.declared.command.Command.TheVariants.{Open, On, Compact as RoundOn, OutOfRange}
 use Rattle.text_core.specs.declared.profile.Profile.{Profile}
 use Rattle.text_core.specs.declared.profile.Profile.TheVariants.{Two}
 
@@ -103,6 +103,11 @@ abbrev pub opening : Option ℕ → Option ℕ → Command
 opening (Some z) (Some b) = Open z b
 opening _ _ = OutOfRange
 
+-- a round over a zone, or else its number is out of its range
+abbrev pub compacting : Option ℕ → Command
+compacting (Some z) = RoundOn z
+compacting None = OutOfRange
+
 -- calls on a zone, or else an argument is out of its range
 abbrev pub calls_on : Option ℕ → Option Calls → Command
 calls_on (Some z) (Some c) = On z c
@@ -145,6 +150,7 @@ row_of Fill z (Number s ∷ Number v ∷ Number n ∷ []) =
     Some (series_on z (series_of repeated.Map (space_of s) v (page_count_of n) 1))
 row_of Thin z (Number s ∷ Number v ∷ Number n ∷ Number step ∷ []) =
     Some (series_on z (series_of repeated.Unmap (space_of s) v (page_count_of n) step))
+row_of Compact z [] = Some (compacting z)
 row_of _ z _ = None
 
 -- the calls on a zone by the rows that profile 2 has besides; one whose argument is out of its range is None

@@ -8,6 +8,8 @@ use Rattle.frame_core.specs.PageFlags.{is_unmovable}
 use Rattle.state_core.specs.declared.information.Info.{Info}
 use Rattle.text_core.specs.declared.reply.Reply.{Reply}
 use Rattle.text_core.specs.declared.reply.Reply.TheVariants as reply
+use Rattle.text_core.specs.declared.reply.Stopped.{Stopped}
+use Rattle.text_core.specs.declared.reply.Stopped.TheVariants as stopped
 
 -- how many newlines there are
 abbrev pub newlines : List ℕ → ℕ
@@ -37,6 +39,16 @@ look_text (At frame flags pins maps) =
     ++ codes " unmovable=" ++ one_if (is_unmovable flags) ++ uses_text pins maps
 look_text (Moving serial pins maps) = codes "moving serial=" ++ decimal serial ++ uses_text pins maps
 
+-- why a round stopped
+abbrev pub stopped_text : Stopped → List ℕ
+stopped_text stopped.Met = codes " stopped=met"
+stopped_text stopped.JournalFull = codes " stopped=journalfull"
+
+-- how many pages a round isolated, moved and put back, and why it stopped, without a newline
+abbrev pub round_text : ℕ → ℕ → ℕ → Stopped → List ℕ
+round_text isolated moved back why =
+    codes "isolated=" ++ decimal isolated ++ codes " moved=" ++ decimal moved ++ codes " back=" ++ decimal back ++ stopped_text why
+
 -- the line of a reply, with its newline; cause 1 is that the page has a pin
 abbrev pub text_of : Reply → List ℕ
 text_of reply.Done = codes "ok\n"
@@ -53,6 +65,7 @@ text_of (reply.Block b) = codes "block=" ++ decimal b ++ codes "\n"
 text_of (reply.HandedOut f k) = codes "frame=" ++ decimal f ++ codes " order=" ++ decimal k ++ codes "\n"
 text_of (reply.AllDone m) = codes "done=" ++ decimal m ++ codes "\n"
 text_of (reply.DoneUntil m k) = codes "done=" ++ decimal m ++ codes " refused=" ++ decimal k ++ codes "\n"
+text_of (reply.Round i m b s) = round_text i m b s ++ codes "\n"
 text_of (reply.Refused k) = codes "refused " ++ decimal k ++ codes "\n"
 
 -- one newline, and it stands at the end

@@ -9,6 +9,8 @@ pub enum Command {
     Open { zone: ZoneNo, blocks: BlockCount },
     /// Calls on the zone with this number.
     On { zone: ZoneNo, calls: Calls },
+    /// A round over the zone with this number.
+    Compact { zone: ZoneNo },
     /// The script is read by profile 2.
     Profile2,
     /// An argument is out of its range.

@@ -1,7 +1,7 @@
 //! The rows of the language, as `specs/Grammar.antt` has them. That an argument is in its range is tested here, by its type.
 
 ghost use Rattle.std.specs.Prelude.{◌≡◌};
-ghost use Rattle.text_core.specs.Grammar.{address_of, blocks_of, command_of, frame_of, give_order_call, order_of, row_in, own_row, hand_of, load_call, map_at_call, map_call, call_on, calls_on, opening, page_count_of, pageblock_of, row_of, series_of, series_on, share_call, space_of, store_call, word_of, zone_of};
+ghost use Rattle.text_core.specs.Grammar.{address_of, blocks_of, command_of, compacting, frame_of, give_order_call, order_of, row_in, own_row, hand_of, load_call, map_at_call, map_call, call_on, calls_on, opening, page_count_of, pageblock_of, row_of, series_of, series_on, share_call, space_of, store_call, word_of, zone_of};
 
 use crate::blocks::BlockCount;
 use crate::command::{Call, Calls, Command, Repeated, Series};
@@ -63,8 +63,8 @@ fn row(keyword: Token, zone: Option<ZoneNo>, arguments: &[Token]) -> Option<Comm
     ensures { result ≡ row_of keyword zone arguments.now }
 {
     use Token::{
-        Copy, Fill, Finish, Give, Huge, Info, Load, Look, Map, MapAt, Number, Pin, Scan, Share,
-        Shut, Store, Take, Thin, Unmap, Unmovable, Unpin, Zone,
+        Compact, Copy, Fill, Finish, Give, Huge, Info, Load, Look, Map, MapAt, Number, Pin, Scan,
+        Share, Shut, Store, Take, Thin, Unmap, Unmovable, Unpin, Zone,
     };
     match (keyword, arguments) {
         (Zone, &[Number(b)]) => Some(open(zone, blocks(b))),
@@ -106,11 +106,13 @@ fn row(keyword: Token, zone: Option<ZoneNo>, arguments: &[Token]) -> Option<Comm
                 series(Repeated::Unmap, space(s), v, page_count(n), step),
             ))
         }
+        (Compact, []) => Some(compact(zone)),
         _ => None,
     }
 }
 
 /// The opening of a zone, where each argument is in its range.
+#[inline(always)]
 fn open(zone: Option<ZoneNo>, blocks: Option<BlockCount>) -> Command
     ensures { result ≡ opening zone blocks }
 {
@@ -120,7 +122,18 @@ fn open(zone: Option<ZoneNo>, blocks: Option<BlockCount>) -> Command
     }
 }
 
+/// A round over a zone, where the zone is in its range.
+fn compact(zone: Option<ZoneNo>) -> Command
+    ensures { result ≡ compacting zone }
+{
+    match zone {
+        Some(zone) => Command::Compact { zone },
+        None => Command::OutOfRange,
+    }
+}
+
 /// A call on a zone, where the zone and each argument is in its range.
+#[inline(always)]
 fn on(zone: Option<ZoneNo>, call: Option<Call>) -> Command
     ensures { result ≡ call_on zone call }
 {
@@ -128,12 +141,14 @@ fn on(zone: Option<ZoneNo>, call: Option<Call>) -> Command
 }
 
 /// A series of calls on a zone, where the zone and each argument that is tested beforehand is in its range.
+#[inline(always)]
 fn series_on(zone: Option<ZoneNo>, series: Option<Series>) -> Command
     ensures { result ≡ series_on zone series }
 {
     all_on(zone, series.map(Calls::Series))
 }
 
+#[inline(always)]
 fn all_on(zone: Option<ZoneNo>, calls: Option<Calls>) -> Command
     ensures { result ≡ calls_on zone calls }
 {

@@ -22,4 +22,4 @@ pub use error::ScriptError;
 pub use line::read_line;
 pub use pages::PageCount;
 pub use profile::Profile;
-pub use reply::{Reply, push_reply, reply_text};
+pub use reply::{Reply, Stopped, push_reply, reply_text};

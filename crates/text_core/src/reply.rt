@@ -1,6 +1,6 @@
 ghost use Rattle.std.specs.Prelude.{◌≡◌, ◌+◌, ◌≤◌, ◌++◌, length, decimal};
 ghost use Rattle.arrayvec.specs.ArrayVec.{array_vec_len};
-ghost use Rattle.text_core.specs.Reply.{IsOneLine, counts_text, look_text, newlines, text_of, uses_text};
+ghost use Rattle.text_core.specs.Reply.{IsOneLine, counts_text, look_text, newlines, round_text, text_of, uses_text};
 
 use arrayvec::ArrayVec;
 use bitflags::Flags;
@@ -31,13 +31,34 @@ pub enum Reply {
     /// The pageblock that was handed out.
     Block(BlockNo),
     /// The first frame of the block that was handed out, and its order.
-    HandedOut { first: FrameNo, order: Order },
+    HandedOut {
+        first: FrameNo,
+        order: Order,
+    },
     /// So many calls of a series, none of which was refused.
     AllDone(u32),
     /// So many calls of a series, behind which one was refused with this number.
-    DoneUntil { done: u32, refusal: u16 },
+    DoneUntil {
+        done: u32,
+        refusal: u16,
+    },
+    /// A round: how many pages it isolated, moved and put back, and why it stopped.
+    Round {
+        isolated: u32,
+        moved: u32,
+        back: u32,
+        stopped: Stopped,
+    },
     /// The number of a refusal.
     Refused(u16),
+}
+
+/// Why a round stopped.
+#[derive(Clone, Copy, Debug, PartialEq, Eq)]
+pub enum Stopped {
+    /// There is no page left that has a frame to go to.
+    Met,
+    JournalFull,
 }
 
 /// The line of a reply.
@@ -83,6 +104,12 @@ pub fn push_reply<const N: usize>(text: &mut ArrayVec<u8, N>, reply: &Reply)
             push_field(text, b"done=", u64::from(*done));
             push_field(text, b" refused=", u64::from(*refusal));
         }
+        Reply::Round {
+            isolated,
+            moved,
+            back,
+            stopped,
+        } => push_round(text, *isolated, *moved, *back, *stopped),
         Reply::Refused(number) => push_field(text, b"refused ", u64::from(*number)),
     }
     push(text, b"\n");
@@ -147,6 +174,28 @@ fn push_uses<const N: usize>(text: &mut ArrayVec<u8, N>, pins: u8, maps: u8)
     push_field(text, b" maps=", u64::from(maps));
 }
 
+/// Appends what a round did.
+fn push_round<const N: usize>(
+    text: &mut ArrayVec<u8, N>,
+    isolated: u32,
+    moved: u32,
+    back: u32,
+    stopped: Stopped,
+)
+    requires { array_vec_len text.old + 102 ≤ N }
+    ensures text { text.new.items ≡ text.old.items ++ round_text isolated moved back stopped }
+    ensures lines { newlines text.new.items ≡ newlines text.old.items }
+    ensures len { array_vec_len text.new ≤ array_vec_len text.old + 102 }
+{
+    push_field(text, b"isolated=", u64::from(isolated));
+    push_field(text, b" moved=", u64::from(moved));
+    push_field(text, b" back=", u64::from(back));
+    match stopped {
+        Stopped::Met => push_word(text, b" stopped=met"),
+        Stopped::JournalFull => push_word(text, b" stopped=journalfull"),
+    }
+}
+
 /// Appends a name and a number.
 #[inline(always)]
 fn push_field<const N: usize>(text: &mut ArrayVec<u8, N>, name: &[u8], number: u64)
@@ -172,6 +221,16 @@ fn push_number<const N: usize>(text: &mut ArrayVec<u8, N>, number: u64)
     }
     let mut digits = Buffer::new();
     push(text, digits.format(number).as_bytes());
+}
+
+/// Appends a word.
+fn push_word<const N: usize>(text: &mut ArrayVec<u8, N>, word: &[u8])
+    requires { array_vec_len text.old + length word.now ≤ N }
+    ensures text { text.new.items ≡ text.old.items ++ word.now }
+    ensures lines { newlines text.new.items ≡ newlines text.old.items + newlines word.now }
+    ensures len { array_vec_len text.new ≡ array_vec_len text.old + length word.now }
+{
+    push(text, word);
 }
 
 /// Appends bytes.

@@ -1,6 +1,6 @@
 use crate::{
     BlockCount, Call, Calls, Command, PageCount, Profile, Repeated, Reply, ScriptError, Series,
-    read_line, reply_text,
+    Stopped, read_line, reply_text,
 };
 use frame_core::{
     Address, BlockNo, FrameNo, HandNo, Order, PageFlags, SpaceNo, VPage, WordNo, ZoneNo,
@@ -244,7 +244,7 @@ fn is_told_its_profile_once(rt: HostRuntime) {
 fn reads_lines(rt: HostRuntime) {
     let zone = ZoneNo::new(3).unwrap();
     let blocks = BlockCount::new(8).unwrap();
-    let rows: [(&str, &[u8], Result<Option<Command>, ScriptError>); 14] = [
+    let rows: [(&str, &[u8], Result<Option<Command>, ScriptError>); 16] = [
         ("nothing", b"", Ok(None)),
         ("spaces", b"   ", Ok(None)),
         ("a comment", b"  #zone 0 1", Ok(None)),
@@ -252,6 +252,12 @@ fn reads_lines(rt: HostRuntime) {
             "a zone",
             b"zone 3 8",
             Ok(Some(Command::Open { zone, blocks })),
+        ),
+        ("a round", b"compact 3", Ok(Some(Command::Compact { zone }))),
+        (
+            "a round with an argument",
+            b"compact 3 1",
+            Err(ScriptError::Syntax),
         ),
         (
             "a number too large",
@@ -291,7 +297,7 @@ fn reads_lines(rt: HostRuntime) {
 
 #[test]
 fn tests_each_range(rt: HostRuntime) {
-    let lines: [&[u8]; 30] = [
+    let lines: [&[u8]; 31] = [
         b"zone 4 1",
         b"zone 0 0",
         b"zone 0 9",
@@ -322,6 +328,7 @@ fn tests_each_range(rt: HostRuntime) {
         b"thin 4 0 0 1 1",
         b"thin 0 8 0 1 1",
         b"thin 0 0 0 4097 1",
+        b"compact 4",
     ];
     for line in lines {
         assert_eq!(rt;
@@ -365,7 +372,7 @@ fn prints_replies(rt: HostRuntime) {
         pins: 1,
         maps: 2,
     };
-    let rows: [(Reply, &[u8]); 16] = [
+    let rows: [(Reply, &[u8]); 18] = [
         (Reply::Done, b"ok\n"),
         (
             Reply::Value(18446744073709551615),
@@ -407,6 +414,24 @@ fn prints_replies(rt: HostRuntime) {
                 refusal: 1,
             },
             b"done=2 refused=1\n",
+        ),
+        (
+            Reply::Round {
+                isolated: 3,
+                moved: 2,
+                back: 1,
+                stopped: Stopped::Met,
+            },
+            b"isolated=3 moved=2 back=1 stopped=met\n",
+        ),
+        (
+            Reply::Round {
+                isolated: 0,
+                moved: 0,
+                back: 0,
+                stopped: Stopped::JournalFull,
+            },
+            b"isolated=0 moved=0 back=0 stopped=journalfull\n",
         ),
         (Reply::Refused(44), b"refused 44\n"),
     ];

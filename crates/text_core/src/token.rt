@@ -29,6 +29,7 @@ pub(crate) enum Token {
     Thin,
     Mark,
     Unmark,
+    Compact,
     /// Anything else.
     #[default]
     Other,
@@ -96,6 +97,8 @@ fn keyword(bytes: &[u8]) -> Token
         Token::Mark
     } else if is_word(bytes, b"unmark") {
         Token::Unmark
+    } else if is_word(bytes, b"compact") {
+        Token::Compact
     } else {
         Token::Other
     }

@@ -6,6 +6,7 @@ ghost use Rattle.state_core.specs.HandingOut.{is_run, lowest_run, take_order_ref
 ghost use Rattle.state_core.specs.Lawful.{IsLawful};
 ghost use Rattle.state_core.specs.Marking.{mark_refusal, unmark_refusal, block_marked, block_unmarked, marked_of};
 ghost use Rattle.state_core.specs.ZoneState.{is_whole};
+ghost use Rattle.zone_core.specs.Shape.{HasShape};
 
 use crate::zone::Zone;
 use frame_core::{BlockNo, FrameNo, Order, block_of, first_frame};
@@ -23,6 +24,7 @@ impl<I: Ledger, M: Ledger, B: Ledger> Zone<I, M, B> {
         // Each of its frames was free, and no address or page has one of them.
         ensures run { IfOk result (λ first. IsTrue (is_run self.old order first)) }
         ensures clear { IfOk result (λ first. IsClear self.new first (2 ^ order)) }
+        ensures shape { HasShape self.old.number self.old.blocks self.new }
         ensures lawful { IsLawful self.new }
     {
         if !self.plain.has_room() {
@@ -41,6 +43,7 @@ impl<I: Ledger, M: Ledger, B: Ledger> Zone<I, M, B> {
         ensures err { OnErr result (self.new ≡ self.old) }
         ensures ok { OnOk result (self.new ≡ block_given self.old first order) }
         ensures run { OnOk result (IsTrue (is_run self.new order first)) }
+        ensures shape { HasShape self.old.number self.old.blocks self.new }
         ensures lawful { IsLawful self.new }
     {
         if !self.plain.has_block(first, order) {
@@ -64,6 +67,7 @@ impl<I: Ledger, M: Ledger, B: Ledger> Zone<I, M, B> {
         ensures whole { IfOk result (λ block. lowest (is_whole self.old) self.old.blocks ≡ Some block) }
         ensures ok { IfOk result (λ block. self.new ≡ block_taken self.old (512 * block) 9) }
         ensures clear { IfOk result (λ block. IsClear self.new (512 * block) 512) }
+        ensures shape { HasShape self.old.number self.old.blocks self.new }
         ensures lawful { IsLawful self.new }
     {
         let first = self.take_order(Order::of_pageblock())?;
@@ -76,6 +80,7 @@ impl<I: Ledger, M: Ledger, B: Ledger> Zone<I, M, B> {
         ensures err { OnErr result (self.new ≡ self.old) }
         ensures ok { OnOk result (self.new ≡ block_given self.old (512 * block) 9) }
         ensures whole { OnOk result (IsTrue (is_whole self.new block)) }
+        ensures shape { HasShape self.old.number self.old.blocks self.new }
         ensures lawful { IsLawful self.new }
     {
         self.give_order(first_frame(block), Order::of_pageblock())
@@ -86,6 +91,7 @@ impl<I: Ledger, M: Ledger, B: Ledger> Zone<I, M, B> {
         ensures refused { result_err result ≡ mark_refusal self.old block }
         ensures err { OnErr result (self.new ≡ self.old) }
         ensures ok { OnOk result (self.new ≡ block_marked self.old block) }
+        ensures shape { HasShape self.old.number self.old.blocks self.new }
         ensures lawful { IsLawful self.new }
     {
         if !self.plain.has_pageblock(block) {
@@ -106,6 +112,7 @@ impl<I: Ledger, M: Ledger, B: Ledger> Zone<I, M, B> {
         ensures refused { result_err result ≡ unmark_refusal self.old block }
         ensures err { OnErr result (self.new ≡ self.old) }
         ensures ok { OnOk result (self.new ≡ block_unmarked self.old block) }
+        ensures shape { HasShape self.old.number self.old.blocks self.new }
         ensures lawful { IsLawful self.new }
     {
         if !self.plain.has_pageblock(block) {

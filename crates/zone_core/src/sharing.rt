@@ -6,6 +6,7 @@ ghost use Rattle.state_core.specs.Lawful.{IsLawful};
 ghost use Rattle.state_core.specs.Sharing.{share_refusal, shared};
 ghost use Rattle.state_core.specs.Unmapping.{unmap_refusal, unmapped};
 ghost use Rattle.state_core.specs.Pinning.{pin_refusal, pinned, unpin_refusal, unpinned};
+ghost use Rattle.zone_core.specs.Shape.{HasShape};
 
 use crate::zone::Zone;
 use frame_core::{Address, ClientNo};
@@ -23,6 +24,7 @@ impl<I: Ledger, M: Ledger, B: Ledger> Zone<I, M, B> {
         ensures refused { result_err result ≡ share_refusal self.old address alias }
         ensures err { OnErr result (self.new ≡ self.old) }
         ensures ok { OnOk result (self.new ≡ shared self.old client address alias) }
+        ensures shape { HasShape self.old.number self.old.blocks self.new }
         ensures lawful { IsLawful self.new }
     {
         if !self.plain.has_room() {
@@ -45,6 +47,7 @@ impl<I: Ledger, M: Ledger, B: Ledger> Zone<I, M, B> {
         ensures refused { result_err result ≡ unmap_refusal self.old address }
         ensures err { OnErr result (self.new ≡ self.old) }
         ensures ok { OnOk result (self.new ≡ unmapped self.old client address) }
+        ensures shape { HasShape self.old.number self.old.blocks self.new }
         ensures lawful { IsLawful self.new }
     {
         if !self.plain.has_room() {
@@ -65,6 +68,7 @@ impl<I: Ledger, M: Ledger, B: Ledger> Zone<I, M, B> {
         ensures refused { result_err result ≡ pin_refusal self.old address }
         ensures err { OnErr result (self.new ≡ self.old) }
         ensures ok { OnOk result (self.new ≡ pinned self.old client address) }
+        ensures shape { HasShape self.old.number self.old.blocks self.new }
         ensures lawful { IsLawful self.new }
     {
         if !self.plain.has_room() {
@@ -85,6 +89,7 @@ impl<I: Ledger, M: Ledger, B: Ledger> Zone<I, M, B> {
         ensures refused { result_err result ≡ unpin_refusal self.old address }
         ensures err { OnErr result (self.new ≡ self.old) }
         ensures ok { OnOk result (self.new ≡ unpinned self.old client address) }
+        ensures shape { HasShape self.old.number self.old.blocks self.new }
         ensures lawful { IsLawful self.new }
     {
         if !self.plain.has_room() {

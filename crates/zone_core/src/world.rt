@@ -123,6 +123,13 @@ impl<I: Ledger, N: Ledger, M: Ledger, B: Ledger> World<I, N, M, B> {
         &self.zone
     }
 
+    /// Whether a round is open by hand.
+    pub fn is_open(&self) -> bool
+        ensures { result ≡ self.now.is_open }
+    {
+        self.is_open
+    }
+
     /// Binds an address to a fresh page in the lowest free frame.
     pub fn map(
         &mut self,

@@ -9,6 +9,7 @@ ghost use Rattle.state_core.specs.Rounds.{round_begun};
 ghost use Rattle.state_core.specs.Isolating.{isolate_refusal, next_answer, next_state, Scans};
 ghost use Rattle.state_core.specs.Ending.{is_own, IsOwnCopy, Ends, ended_as, committed, put_back_to_source};
 ghost use Rattle.state_core.specs.Looking.{look_of, info_of};
+ghost use Rattle.zone_core.specs.Shape.{HasShape};
 ghost use Rattle.zone_core.specs.Seats.{IsFollowed, seat_begun, seat_full, seat_noted, seat_ended, audit_refusal, IsAudited, fresh_scan_seat, fresh_end_seat};
 ghost use Rattle.state_core.specs.Packed.{IsPacked, IsPlacement, unmarked_free, marked_whole, free_runs, left_whole, left_runs, places_now};
 ghost use Rattle.state_core.specs.Pairs.{HaveMet, is_calm, next_pair};
@@ -127,6 +128,7 @@ impl<I: Ledger, M: Ledger, B: Ledger> Zone<I, M, B> {
         ensures err { OnErr result (self.new ≡ self.old) }
         ensures frame { IfOk result (λ frame. lowest_free_frame self.old ≡ Some frame) }
         ensures ok { IfOk result (λ frame. self.new ≡ mapped self.old client address (is_unmovable flags) frame) }
+        ensures shape { HasShape self.old.number self.old.blocks self.new }
         ensures lawful { IsLawful self.new }
     {
         if !self.plain.has_room() {
@@ -155,6 +157,7 @@ impl<I: Ledger, M: Ledger, B: Ledger> Zone<I, M, B> {
         ensures refused { result_err result ≡ map_at_refusal self.old address frame }
         ensures err { OnErr result (self.new ≡ self.old) }
         ensures ok { OnOk result (self.new ≡ mapped self.old client address (is_unmovable flags) frame) }
+        ensures shape { HasShape self.old.number self.old.blocks self.new }
         ensures lawful { IsLawful self.new }
     {
         if !self.plain.has_frame(frame) {
@@ -187,6 +190,7 @@ impl<I: Ledger, M: Ledger, B: Ledger> Zone<I, M, B> {
         ensures ok { OnOk result (self.new ≡ loaded self.old client address word) }
         // It brings no pair back.
         ensures met { OnOk result (HaveMet self.old → HaveMet self.new) }
+        ensures shape { HasShape self.old.number self.old.blocks self.new }
         ensures lawful { IsLawful self.new }
     {
         if !self.plain.has_room() {
@@ -208,6 +212,7 @@ impl<I: Ledger, M: Ledger, B: Ledger> Zone<I, M, B> {
         ensures err { OnErr result (self.new ≡ self.old) }
         ensures ok { OnOk result (self.new ≡ stored self.old client address word value) }
         ensures met { OnOk result (HaveMet self.old → HaveMet self.new) }
+        ensures shape { HasShape self.old.number self.old.blocks self.new }
         ensures lawful { IsLawful self.new }
     {
         if !self.plain.has_room() {
@@ -224,6 +229,7 @@ impl<I: Ledger, M: Ledger, B: Ledger> Zone<I, M, B> {
         ensures zone { self.new ≡ round_begun self.old }
         ensures seat { seat.new ≡ seat_begun seat.old }
         ensures quiet { is_quiet self.new ≡ is_calm self.old }
+        ensures shape { HasShape self.old.number self.old.blocks self.new }
         ensures lawful { IsLawful self.new }
     {
         self.plain.begin_round();
@@ -246,6 +252,7 @@ impl<I: Ledger, M: Ledger, B: Ledger> Zone<I, M, B> {
         ensures followed { IfOk result IsFollowed }
         ensures seat { IfOk result (λ next. seat.new ≡ seat_noted seat.old next) }
         ensures full { OnErr result (seat.new ≡ seat_full seat.old) }
+        ensures shape { HasShape self.old.number self.old.blocks self.new }
         ensures lawful { IsLawful self.new }
     {
         seat.tell(&mut self.isolated);
@@ -281,6 +288,7 @@ impl<I: Ledger, M: Ledger, B: Ledger> Zone<I, M, B> {
         ensures met { OnOk result (is_quiet self.old ≡ true → HaveMet self.old → HaveMet self.new) }
         ensures once { OnOk result (is_own self.new copied ≡ false) }
         ensures seat { IfOk result (λ ended. seat.new ≡ seat_ended seat.old ended) }
+        ensures shape { HasShape self.old.number self.old.blocks self.new }
         ensures lawful { IsLawful self.new }
     {
         let Some(way) = self.plain.way_of(copied.serial(), copied.page()) else {
@@ -313,6 +321,7 @@ impl<I: Ledger, M: Ledger, B: Ledger> Zone<I, M, B> {
         ensures settled { OnOk result (Ends self.old self.new isolated Ended.Back) }
         ensures once { OnOk result (is_own self.new isolated ≡ false) }
         ensures seat { OnOk result (seat.new ≡ record seat.old { back = seat.old.back + 1 }) }
+        ensures shape { HasShape self.old.number self.old.blocks self.new }
         ensures lawful { IsLawful self.new }
     {
         let Some(way) = self.plain.way_of(isolated.serial(), isolated.page()) else {

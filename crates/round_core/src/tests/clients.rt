@@ -1,10 +1,11 @@
+ghost use Rattle.std.specs.Prelude.{◌≡◌};
 ghost use Rattle.zone_core.specs.Books.{AreFor};
 
 use super::gates::comes_above;
 use super::{
     Opening, address, client, counts_of, fill, last_word, load, must_open, round_of, store,
 };
-use crate::{Gate, Point, Round, RoundError, SharedZone};
+use crate::{Gate, Point, Round, RoundError, Shape, SharedZone};
 use std::alloc::Global;
 use std::marker::Brand;
 use std::process::Abort;
@@ -40,18 +41,18 @@ impl Gate for HoldsTheCopy {
 }
 
 /// Whether the page is in a frame, with one pin.
-fn is_pinned<I: Ledger, M: Ledger, B: Ledger, R: Wait + Abort>(
+fn is_pinned<K: Shape, I: Ledger, M: Ledger, B: Ledger, R: Wait + Abort>(
     rt: &R,
-    shared: &SharedZone<I, M, B>,
+    shared: &SharedZone<K, I, M, B>,
 ) -> bool {
     let look = shared.lock(rt).zone().look(address(rt, 0));
     matches!(look, Ok(Look::At { pins: 1, .. }))
 }
 
 /// Pins the page while its copy is held.
-fn pin_held<I: Ledger, M: Ledger, B: Ledger, R: Wait + Abort>(
+fn pin_held<K: Shape, I: Ledger, M: Ledger, B: Ledger, R: Wait + Abort>(
     rt: &R,
-    shared: &SharedZone<I, M, B>,
+    shared: &SharedZone<K, I, M, B>,
     gate: &HoldsTheCopy,
 ) -> Result<(), ZoneError> {
     let _ = comes_above(&gate.copied, 0);
@@ -61,15 +62,17 @@ fn pin_held<I: Ledger, M: Ledger, B: Ledger, R: Wait + Abort>(
 }
 
 fn a_client_pins<
+    K: Shape + Send + Sync,
     I: Ledger + Send + Sync,
     N: Ledger + Send,
     M: Ledger + Send + Sync,
     B: Ledger + Send + Sync,
     R: Threads + Wait + Abort + Sync,
 >(rt: &R, alloc: Global, blanks: Blanks)
+    requires shape { (K.number ≡ 1) × (K.blocks ≡ 1) }
     requires blanks { AreFor blanks I.name I.parts N.name N.parts M.name M.parts B.name B.parts }
 {
-    let Opening { shared, mut seats } = must_open::<I, N, M, B, R>(rt, alloc, 1, blanks);
+    let Opening { shared, mut seats } = must_open::<K, I, N, M, B, R>(rt, alloc, 1, blanks);
     fill(rt, &shared, 1);
     let gate = HoldsTheCopy::new();
     let lock = &shared;
@@ -86,13 +89,13 @@ fn a_client_pins<
 
 #[test]
 fn a_page_that_a_client_pins_is_put_back(rt: HostRuntime) {
-    a_client_pins::<Brand, Brand, Brand, Brand, HostRuntime>(&rt, rt.alloc(), Blanks::new());
+    a_client_pins::<Brand, Brand, Brand, Brand, Brand, HostRuntime>(&rt, rt.alloc(), Blanks::new());
 }
 
 /// Stores to the page while it is held, and then waits until its move has ended.
-fn visit<I: Ledger, M: Ledger, B: Ledger, R: Wait + Abort>(
+fn visit<K: Shape, I: Ledger, M: Ledger, B: Ledger, R: Wait + Abort>(
     rt: &R,
-    shared: &SharedZone<I, M, B>,
+    shared: &SharedZone<K, I, M, B>,
     gate: &HoldsTheCopy,
 ) -> (Result<(), ZoneError>, Result<u64, ZoneError>) {
     let _ = comes_above(&gate.copied, 0);
@@ -110,15 +113,17 @@ fn visit<I: Ledger, M: Ledger, B: Ledger, R: Wait + Abort>(
 }
 
 fn a_client_waits<
+    K: Shape + Send + Sync,
     I: Ledger + Send + Sync,
     N: Ledger + Send,
     M: Ledger + Send + Sync,
     B: Ledger + Send + Sync,
     R: Threads + Wait + Abort + Sync,
 >(rt: &R, alloc: Global, blanks: Blanks)
+    requires shape { (K.number ≡ 1) × (K.blocks ≡ 1) }
     requires blanks { AreFor blanks I.name I.parts N.name N.parts M.name M.parts B.name B.parts }
 {
-    let Opening { shared, mut seats } = must_open::<I, N, M, B, R>(rt, alloc, 1, blanks);
+    let Opening { shared, mut seats } = must_open::<K, I, N, M, B, R>(rt, alloc, 1, blanks);
     fill(rt, &shared, 1);
     let gate = HoldsTheCopy::new();
     let lock = &shared;
@@ -135,5 +140,9 @@ fn a_client_waits<
 
 #[test]
 fn a_client_waits_for_a_page_on_its_way(rt: HostRuntime) {
-    a_client_waits::<Brand, Brand, Brand, Brand, HostRuntime>(&rt, rt.alloc(), Blanks::new());
+    a_client_waits::<Brand, Brand, Brand, Brand, Brand, HostRuntime>(
+        &rt,
+        rt.alloc(),
+        Blanks::new(),
+    );
 }

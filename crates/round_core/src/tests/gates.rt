@@ -1,7 +1,8 @@
+ghost use Rattle.std.specs.Prelude.{◌≡◌};
 ghost use Rattle.zone_core.specs.Books.{AreFor};
 
 use super::{Opening, counts_of, fill, must_open, round_of};
-use crate::{Gate, Point};
+use crate::{Gate, Point, Shape};
 use std::alloc::Global;
 use std::marker::Brand;
 use std::process::Abort;
@@ -50,15 +51,17 @@ impl Gate for HoldsTheFirst {
 }
 
 fn two_copiers<
+    K: Shape + Send + Sync,
     I: Ledger + Send + Sync,
     N: Ledger,
     M: Ledger + Send + Sync,
     B: Ledger + Send + Sync,
     R: Threads + Wait + Abort + Sync,
 >(rt: &R, alloc: Global, blanks: Blanks)
+    requires shape { (K.number ≡ 1) × (K.blocks ≡ 1) }
     requires blanks { AreFor blanks I.name I.parts N.name N.parts M.name M.parts B.name B.parts }
 {
-    let Opening { shared, mut seats } = must_open::<I, N, M, B, R>(rt, alloc, 1, blanks);
+    let Opening { shared, mut seats } = must_open::<K, I, N, M, B, R>(rt, alloc, 1, blanks);
     fill(rt, &shared, 2);
     let gate = HoldsTheFirst {
         taken: AtomicU64::new(0),
@@ -72,7 +75,7 @@ fn two_copiers<
 
 #[test]
 fn gate_two_copiers(rt: HostRuntime) {
-    two_copiers::<Brand, Brand, Brand, Brand, HostRuntime>(&rt, rt.alloc(), Blanks::new());
+    two_copiers::<Brand, Brand, Brand, Brand, Brand, HostRuntime>(&rt, rt.alloc(), Blanks::new());
 }
 
 /// Notes how many pages each copier took.
@@ -109,15 +112,17 @@ impl Gate for Notes {
 }
 
 fn notes_each_taken<
+    K: Shape + Send + Sync,
     I: Ledger + Send + Sync,
     N: Ledger,
     M: Ledger + Send + Sync,
     B: Ledger + Send + Sync,
     R: Threads + Wait + Abort + Sync,
 >(rt: &R, alloc: Global, blanks: Blanks)
+    requires shape { (K.number ≡ 1) × (K.blocks ≡ 2) }
     requires blanks { AreFor blanks I.name I.parts N.name N.parts M.name M.parts B.name B.parts }
 {
-    let Opening { shared, mut seats } = must_open::<I, N, M, B, R>(rt, alloc, 2, blanks);
+    let Opening { shared, mut seats } = must_open::<K, I, N, M, B, R>(rt, alloc, 2, blanks);
     fill(rt, &shared, 512);
     let gate = Notes::none();
     let Ok(round) = round_of(rt, alloc, &shared, &mut seats, 4, 8, &gate) else {
@@ -133,5 +138,9 @@ fn notes_each_taken<
 
 #[test]
 fn each_list_has_what_its_copier_took(rt: HostRuntime) {
-    notes_each_taken::<Brand, Brand, Brand, Brand, HostRuntime>(&rt, rt.alloc(), Blanks::new());
+    notes_each_taken::<Brand, Brand, Brand, Brand, Brand, HostRuntime>(
+        &rt,
+        rt.alloc(),
+        Blanks::new(),
+    );
 }

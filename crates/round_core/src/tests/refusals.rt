@@ -1,7 +1,8 @@
+ghost use Rattle.std.specs.Prelude.{◌≡◌};
 ghost use Rattle.zone_core.specs.Books.{AreFor};
 
 use super::{Opening, assert_words, counts_of, fill, info, must_open, opened, round_of};
-use crate::{NoGate, RoundError, SharedZone};
+use crate::{NoGate, RoundError, Shape, SharedZone};
 use std::alloc::Global;
 use std::marker::Brand;
 use std::process::Abort;
@@ -12,9 +13,9 @@ use word_core::Isolated;
 use zone_core::{Blanks, Info, Next, Seats};
 
 /// Isolates a page by hand.
-fn isolated<I: Ledger, N: Ledger, M: Ledger, B: Ledger, R: Wait + Abort>(
+fn isolated<K: Shape, I: Ledger, N: Ledger, M: Ledger, B: Ledger, R: Wait + Abort>(
     rt: &R,
-    shared: &SharedZone<I, M, B>,
+    shared: &SharedZone<K, I, M, B>,
     seats: &mut Seats<I, N, M, B>,
 ) -> Isolated {
     shared.lock(rt).zone.begin_round(&mut seats.scan);
@@ -25,9 +26,9 @@ fn isolated<I: Ledger, N: Ledger, M: Ledger, B: Ledger, R: Wait + Abort>(
 }
 
 /// Puts it back.
-fn put_back<I: Ledger, N: Ledger, M: Ledger, B: Ledger, R: Wait + Abort>(
+fn put_back<K: Shape, I: Ledger, N: Ledger, M: Ledger, B: Ledger, R: Wait + Abort>(
     rt: &R,
-    shared: &SharedZone<I, M, B>,
+    shared: &SharedZone<K, I, M, B>,
     seats: &mut Seats<I, N, M, B>,
     page: Isolated,
 ) {
@@ -38,24 +39,26 @@ fn put_back<I: Ledger, N: Ledger, M: Ledger, B: Ledger, R: Wait + Abort>(
 }
 
 /// What is told of a zone: its counts, and the length of its journal.
-fn told<I: Ledger, M: Ledger, B: Ledger, R: Wait>(
+fn told<K: Shape, I: Ledger, M: Ledger, B: Ledger, R: Wait>(
     rt: &R,
-    shared: &SharedZone<I, M, B>,
+    shared: &SharedZone<K, I, M, B>,
 ) -> (Info, usize) {
     (info(rt, shared), shared.lock(rt).zone().journal().len())
 }
 
 /// A round isn't begun while a page that was isolated by hand is out.
 fn waits_for_the_page_that_is_out<
+    K: Shape + Send + Sync,
     I: Ledger + Send + Sync,
     N: Ledger,
     M: Ledger + Send + Sync,
     B: Ledger + Send + Sync,
     R: Threads + Wait + Abort + Sync,
 >(rt: &R, alloc: Global, blanks: Blanks)
+    requires shape { (K.number ≡ 1) × (K.blocks ≡ 1) }
     requires blanks { AreFor blanks I.name I.parts N.name N.parts M.name M.parts B.name B.parts }
 {
-    let Opening { shared, mut seats } = must_open::<I, N, M, B, R>(rt, alloc, 1, blanks);
+    let Opening { shared, mut seats } = must_open::<K, I, N, M, B, R>(rt, alloc, 1, blanks);
     fill(rt, &shared, 2);
     let page = isolated(rt, &shared, &mut seats);
     let before = told(rt, &shared);
@@ -70,15 +73,17 @@ fn waits_for_the_page_that_is_out<
 
 /// A round isn't begun while a part of the end seat is missing.
 fn waits_for_the_part_that_is_missing<
+    K: Shape + Send + Sync,
     I: Ledger + Send + Sync,
     N: Ledger,
     M: Ledger + Send + Sync,
     B: Ledger + Send + Sync,
     R: Threads + Wait + Abort + Sync,
 >(rt: &R, alloc: Global, blanks: Blanks)
+    requires shape { (K.number ≡ 1) × (K.blocks ≡ 1) }
     requires blanks { AreFor blanks I.name I.parts N.name N.parts M.name M.parts B.name B.parts }
 {
-    let Opening { shared, mut seats } = must_open::<I, N, M, B, R>(rt, alloc, 1, blanks);
+    let Opening { shared, mut seats } = must_open::<K, I, N, M, B, R>(rt, alloc, 1, blanks);
     fill(rt, &shared, 2);
     let before = told(rt, &shared);
     let Some(part) = seats.ends.split() else {
@@ -94,15 +99,17 @@ fn waits_for_the_part_that_is_missing<
 
 /// Where memory or a thread is refused the zone is as before, and the next round is made.
 fn is_made_where_nothing_is_refused<
+    K: Shape + Send + Sync,
     I: Ledger + Send + Sync,
     N: Ledger,
     M: Ledger + Send + Sync,
     B: Ledger + Send + Sync,
     R: Threads + Wait + Abort + Sync,
 >(rt: &R, alloc: Global, blanks: Blanks)
+    requires shape { (K.number ≡ 1) × (K.blocks ≡ 1) }
     requires blanks { AreFor blanks I.name I.parts N.name N.parts M.name M.parts B.name B.parts }
 {
-    let Ok(opening) = opened::<I, N, M, B, R>(rt, alloc, 1, blanks) else {
+    let Ok(opening) = opened::<K, I, N, M, B, R>(rt, alloc, 1, blanks) else {
         return;
     };
     let Opening { shared, mut seats } = opening;
@@ -119,7 +126,7 @@ fn is_made_where_nothing_is_refused<
 
 #[test]
 fn a_round_is_broken_while_a_page_is_out(rt: HostRuntime) {
-    waits_for_the_page_that_is_out::<Brand, Brand, Brand, Brand, HostRuntime>(
+    waits_for_the_page_that_is_out::<Brand, Brand, Brand, Brand, Brand, HostRuntime>(
         &rt,
         rt.alloc(),
         Blanks::new(),
@@ -128,7 +135,7 @@ fn a_round_is_broken_while_a_page_is_out(rt: HostRuntime) {
 
 #[test]
 fn a_round_is_broken_while_a_part_is_missing(rt: HostRuntime) {
-    waits_for_the_part_that_is_missing::<Brand, Brand, Brand, Brand, HostRuntime>(
+    waits_for_the_part_that_is_missing::<Brand, Brand, Brand, Brand, Brand, HostRuntime>(
         &rt,
         rt.alloc(),
         Blanks::new(),
@@ -137,7 +144,7 @@ fn a_round_is_broken_while_a_part_is_missing(rt: HostRuntime) {
 
 #[test]
 fn a_round_without_memory_changes_nothing(rt: HostRuntime) {
-    is_made_where_nothing_is_refused::<Brand, Brand, Brand, Brand, HostRuntime>(
+    is_made_where_nothing_is_refused::<Brand, Brand, Brand, Brand, Brand, HostRuntime>(
         &rt,
         rt.alloc(),
         Blanks::new(),

@@ -1,10 +1,10 @@
-ghost use Rattle.std.specs.Prelude.{◌<◌, ◌≤◌};
+ghost use Rattle.std.specs.Prelude.{◌≡◌, ◌<◌, ◌≤◌};
 ghost use Rattle.zone_core.specs.Books.{AreFor};
 
 use super::{
     Opening, address, assert_words, client, counts_of, fill, info, map_at, must_open, round_of,
 };
-use crate::{NoGate, Round, RoundError, SharedZone, Stop};
+use crate::{NoGate, Round, RoundError, Shape, SharedZone, Stop};
 use std::alloc::Global;
 use std::marker::Brand;
 use std::process::Abort;
@@ -36,6 +36,7 @@ fn assert_shared<R: Abort>(rt: &R, alloc: Global, round: &Round) {
 
 /// The pages of the lower half move up, and a second round moves nothing.
 fn moves_the_lower_half<
+    K: Shape + Send + Sync,
     I: Ledger + Send + Sync,
     N: Ledger,
     M: Ledger + Send + Sync,
@@ -44,9 +45,10 @@ fn moves_the_lower_half<
 >(rt: &R, alloc: Global, copiers: usize, cap: usize, blanks: Blanks)
     requires copiers { (0 < copiers) × (copiers ≤ 4) }
     requires cap { (0 < cap) × (cap ≤ 64) }
+    requires shape { (K.number ≡ 1) × (K.blocks ≡ 2) }
     requires blanks { AreFor blanks I.name I.parts N.name N.parts M.name M.parts B.name B.parts }
 {
-    let Opening { shared, mut seats } = must_open::<I, N, M, B, R>(rt, alloc, 2, blanks);
+    let Opening { shared, mut seats } = must_open::<K, I, N, M, B, R>(rt, alloc, 2, blanks);
     assert_eq!(rt; shared.blocks(), 2);
     fill(rt, &shared, 512);
     let Ok(round) = round_of(rt, alloc, &shared, &mut seats, copiers, cap, &NoGate) else {
@@ -66,7 +68,7 @@ fn moves_the_lower_half<
 #[test]
 fn one_to_four_copiers_move_the_lower_half(rt: HostRuntime) {
     for copiers in 1..5usize {
-        moves_the_lower_half::<Brand, Brand, Brand, Brand, HostRuntime>(
+        moves_the_lower_half::<Brand, Brand, Brand, Brand, Brand, HostRuntime>(
             &rt,
             rt.alloc(),
             copiers,
@@ -76,9 +78,9 @@ fn one_to_four_copiers_move_the_lower_half(rt: HostRuntime) {
     }
 }
 
-fn unmap<I: Ledger, M: Ledger, B: Ledger, R: Wait + Abort>(
+fn unmap<K: Shape, I: Ledger, M: Ledger, B: Ledger, R: Wait + Abort>(
     rt: &R,
-    shared: &SharedZone<I, M, B>,
+    shared: &SharedZone<K, I, M, B>,
     number: u32,
 ) -> Result<(), ZoneError> {
     shared.lock(rt).zone.unmap(client(rt), address(rt, number))
@@ -87,6 +89,7 @@ fn unmap<I: Ledger, M: Ledger, B: Ledger, R: Wait + Abort>(
 /// Of 1,024 pages at the low end of four pageblocks 100 are unmapped, at steps of so many pages. A round makes two pageblocks
 /// whole.
 fn packs_what_was_thinned<
+    K: Shape + Send + Sync,
     I: Ledger + Send + Sync,
     N: Ledger,
     M: Ledger + Send + Sync,
@@ -95,9 +98,10 @@ fn packs_what_was_thinned<
 >(rt: &R, alloc: Global, copiers: usize, step: u32, blanks: Blanks)
     requires copiers { (0 < copiers) × (copiers ≤ 4) }
     requires step { step < 10 }
+    requires shape { (K.number ≡ 1) × (K.blocks ≡ 4) }
     requires blanks { AreFor blanks I.name I.parts N.name N.parts M.name M.parts B.name B.parts }
 {
-    let Opening { shared, mut seats } = must_open::<I, N, M, B, R>(rt, alloc, 4, blanks);
+    let Opening { shared, mut seats } = must_open::<K, I, N, M, B, R>(rt, alloc, 4, blanks);
     for number in 0..1024 {
         assert_eq!(rt; map_at(rt, &shared, number), Ok(()));
     }
@@ -118,7 +122,7 @@ fn packs_what_was_thinned<
 fn a_thinned_zone_is_packed(rt: HostRuntime) {
     for copiers in 1..5usize {
         for step in 2..10u32 {
-            packs_what_was_thinned::<Brand, Brand, Brand, Brand, HostRuntime>(
+            packs_what_was_thinned::<Brand, Brand, Brand, Brand, Brand, HostRuntime>(
                 &rt,
                 rt.alloc(),
                 copiers,

@@ -1,40 +1,41 @@
 use Rattle.std.proofs.Common.{◌≡◌, ℕ, List, Option, None, refl, arith}
 use Rattle.std.proofs.lemmas.Grind.{common_steps}
 use Rattle.text_core.specs.declared.token.Token.{Token}
-use Rattle.text_core.specs.declared.token.Token.TheVariants.{Number, Zone, Map, MapAt, Store, Load, Info, Unmovable, Scan, Take, Copy, Finish, Shut, Look, Share, Unmap, Pin, Unpin, Huge, Give, Fill, Thin, Mark, Unmark, Other}
+use Rattle.text_core.specs.declared.token.Token.TheVariants.{Number, Zone, Map, MapAt, Store, Load, Info, Unmovable, Scan, Take, Copy, Finish, Shut, Look, Share, Unmap, Pin, Unpin, Huge, Give, Fill, Thin, Mark, Unmark, Compact, Other}
 use Rattle.text_core.specs.Grammar.{row_of}
 use Rattle.text_core.proofs.grammar.row.Goals as goal
-use Rattle.text_core.proofs.grammar.row.Goals.{in_default-via-in-Zone+then-arguments-lt1, in_default-via-in-Zone+else-arguments-lt1+then-this-lt2+in-Zone-this-offset0, in_default-via-in-Zone+else-arguments-lt1+else-this-lt2, in_default-via-in-Map+then-this-lt2-2, in_default-via-in-Map+else-this-lt2-2+then-this-lt3+in-Number+in-Zone-1, in_default-via-in-Map+else-this-lt2-2+then-this-lt3+in-Zone-1, in_default-via-in-Map+else-this-lt2-2+else-this-lt3+then-this-lt4+in-Number+in-Number-this-offset16-2+in-Number-this-offset32, in_default-via-in-Map+else-this-lt2-2+else-this-lt3+then-this-lt4+in-Number+in-Zone-1, in_default-via-in-Map+else-this-lt2-2+else-this-lt3+then-this-lt4+in-Zone-1, in_default-via-in-Map+else-this-lt2-2+else-this-lt3+else-this-lt4, in_default-via-in-MapAt+then-this-lt3-2, in_default-via-in-MapAt+else-this-lt3-2+then-this-lt4-2+in-Number+in-Number-this-offset16-3+in-Zone-1, in_default-via-in-MapAt+else-this-lt3-2+then-this-lt4-2+in-Number+in-Zone-1, in_default-via-in-MapAt+else-this-lt3-2+then-this-lt4-2+in-Zone-1, in_default-via-in-MapAt+else-this-lt3-2+else-this-lt4-2+then-this-lt5+in-Number+in-Number-this-offset16-4+in-Number-this-offset32-3+in-Number-this-offset48, in_default-via-in-MapAt+else-this-lt3-2+else-this-lt4-2+then-this-lt5+in-Number+in-Number-this-offset16-4+in-Zone-1, in_default-via-in-MapAt+else-this-lt3-2+else-this-lt4-2+then-this-lt5+in-Number+in-Zone-1, in_default-via-in-MapAt+else-this-lt3-2+else-this-lt4-2+then-this-lt5+in-Zone-1, in_default-via-in-MapAt+else-this-lt3-2+else-this-lt4-2+else-this-lt5, in_default-via-in-Store+then-this-lt4-3, in_default-via-in-Store+else-this-lt4-3+then-this-lt5-2+in-Number+in-Number-this-offset16-5+in-Number-this-offset32-4+in-Zone-1, in_default-via-in-Store+else-this-lt4-3+then-this-lt5-2+in-Number+in-Number-this-offset16-5+in-Zone-1, in_default-via-in-Store+else-this-lt4-3+then-this-lt5-2+in-Number+in-Zone-1, in_default-via-in-Store+else-this-lt4-3+then-this-lt5-2+in-Zone-1, in_default-via-in-Store+else-this-lt4-3+else-this-lt5-2, in_default-via-in-Load+then-this-lt3-3, in_default-via-in-Load+else-this-lt3-3+then-this-lt4-4+in-Number+in-Number-this-offset16-6+in-Zone-1, in_default-via-in-Load+else-this-lt3-3+then-this-lt4-4+in-Number+in-Zone-1, in_default-via-in-Load+else-this-lt3-3+then-this-lt4-4+in-Zone-1, in_default-via-in-Load+else-this-lt3-3+else-this-lt4-4, in_default-via-in-Info+else-this-lt1, in_default-via-in-Scan+else-this-lt1-2, in_default-via-in-Take+then-this-lt1-3, in_default-via-in-Take+else-this-lt1-3+then-this-lt2-3+in-Zone-1, in_default-via-in-Take+else-this-lt1-3+else-this-lt2-3, in_default-via-in-Copy+then-this-lt1-4, in_default-via-in-Copy+else-this-lt1-4+then-this-lt2-4+in-Zone-1, in_default-via-in-Copy+else-this-lt1-4+else-this-lt2-4, in_default-via-in-Finish+then-this-lt1-5, in_default-via-in-Finish+else-this-lt1-5+then-this-lt2-5+in-Zone-1, in_default-via-in-Finish+else-this-lt1-5+else-this-lt2-5, in_default-via-in-Shut+else-this-lt1-6, in_default-via-in-Look+then-this-lt2-6, in_default-via-in-Look+else-this-lt2-6+then-this-lt3-4+in-Number+in-Zone-1, in_default-via-in-Look+else-this-lt2-6+then-this-lt3-4+in-Zone-1, in_default-via-in-Look+else-this-lt2-6+else-this-lt3-4, in_default-via-in-Share+then-this-lt4-5, in_default-via-in-Share+else-this-lt4-5+then-this-lt5-3+in-Number+in-Number-this-offset16-8+in-Number-this-offset32-6+in-Zone-1, in_default-via-in-Share+else-this-lt4-5+then-this-lt5-3+in-Number+in-Number-this-offset16-8+in-Zone-1, in_default-via-in-Share+else-this-lt4-5+then-this-lt5-3+in-Number+in-Zone-1, in_default-via-in-Share+else-this-lt4-5+then-this-lt5-3+in-Zone-1, in_default-via-in-Share+else-this-lt4-5+else-this-lt5-3, in_default-via-in-Unmap+then-this-lt2-7, in_default-via-in-Unmap+else-this-lt2-7+then-this-lt3-5+in-Number+in-Zone-1, in_default-via-in-Unmap+else-this-lt2-7+then-this-lt3-5+in-Zone-1, in_default-via-in-Unmap+else-this-lt2-7+else-this-lt3-5, in_default-via-in-Pin+then-this-lt2-8, in_default-via-in-Pin+else-this-lt2-8+then-this-lt3-6+in-Number+in-Zone-1, in_default-via-in-Pin+else-this-lt2-8+then-this-lt3-6+in-Zone-1, in_default-via-in-Pin+else-this-lt2-8+else-this-lt3-6, in_default-via-in-Unpin+then-this-lt2-9, in_default-via-in-Unpin+else-this-lt2-9+then-this-lt3-7+in-Number+in-Zone-1, in_default-via-in-Unpin+else-this-lt2-9+then-this-lt3-7+in-Zone-1, in_default-via-in-Unpin+else-this-lt2-9+else-this-lt3-7, in_default-via-in-Huge+else-this-lt1-7, in_default-via-in-Give+then-this-lt1-8, in_default-via-in-Give+else-this-lt1-8+then-this-lt2-10+in-Zone-1, in_default-via-in-Give+else-this-lt1-8+else-this-lt2-10, in_default-via-in-Fill+then-this-lt3-8, in_default-via-in-Fill+else-this-lt3-8+then-this-lt4-6+in-Number+in-Number-this-offset16-12+in-Zone-1, in_default-via-in-Fill+else-this-lt3-8+then-this-lt4-6+in-Number+in-Zone-1, in_default-via-in-Fill+else-this-lt3-8+then-this-lt4-6+in-Zone-1, in_default-via-in-Fill+else-this-lt3-8+else-this-lt4-6, in_default-via-in-Thin+then-this-lt4-7, in_default-via-in-Thin+else-this-lt4-7+then-this-lt5-4+in-Number+in-Number-this-offset16-13+in-Number-this-offset32-8+in-Zone-1, in_default-via-in-Thin+else-this-lt4-7+then-this-lt5-4+in-Number+in-Number-this-offset16-13+in-Zone-1, in_default-via-in-Thin+else-this-lt4-7+then-this-lt5-4+in-Number+in-Zone-1, in_default-via-in-Thin+else-this-lt4-7+then-this-lt5-4+in-Zone-1, in_default-via-in-Thin+else-this-lt4-7+else-this-lt5-4, in_default-via-in_default}
+use Rattle.text_core.proofs.grammar.row.Goals.{in_default-via-in-Zone+then-arguments-lt1, in_default-via-in-Zone+else-arguments-lt1+then-this-lt2+in-Zone-this-offset0, in_default-via-in-Zone+else-arguments-lt1+else-this-lt2, in_default-via-in-Map+then-this-lt2-2, in_default-via-in-Map+else-this-lt2-2+then-this-lt3+in-Number+in-Zone-1, in_default-via-in-Map+else-this-lt2-2+then-this-lt3+in-Zone-1, in_default-via-in-Map+else-this-lt2-2+else-this-lt3+then-this-lt4+in-Number+in-Number-this-offset16-2+in-Number-this-offset32, in_default-via-in-Map+else-this-lt2-2+else-this-lt3+then-this-lt4+in-Number+in-Zone-1, in_default-via-in-Map+else-this-lt2-2+else-this-lt3+then-this-lt4+in-Zone-1, in_default-via-in-Map+else-this-lt2-2+else-this-lt3+else-this-lt4, in_default-via-in-MapAt+then-this-lt3-2, in_default-via-in-MapAt+else-this-lt3-2+then-this-lt4-2+in-Number+in-Number-this-offset16-3+in-Zone-1, in_default-via-in-MapAt+else-this-lt3-2+then-this-lt4-2+in-Number+in-Zone-1, in_default-via-in-MapAt+else-this-lt3-2+then-this-lt4-2+in-Zone-1, in_default-via-in-MapAt+else-this-lt3-2+else-this-lt4-2+then-this-lt5+in-Number+in-Number-this-offset16-4+in-Number-this-offset32-3+in-Number-this-offset48, in_default-via-in-MapAt+else-this-lt3-2+else-this-lt4-2+then-this-lt5+in-Number+in-Number-this-offset16-4+in-Zone-1, in_default-via-in-MapAt+else-this-lt3-2+else-this-lt4-2+then-this-lt5+in-Number+in-Zone-1, in_default-via-in-MapAt+else-this-lt3-2+else-this-lt4-2+then-this-lt5+in-Zone-1, in_default-via-in-MapAt+else-this-lt3-2+else-this-lt4-2+else-this-lt5, in_default-via-in-Store+then-this-lt4-3, in_default-via-in-Store+else-this-lt4-3+then-this-lt5-2+in-Number+in-Number-this-offset16-5+in-Number-this-offset32-4+in-Zone-1, in_default-via-in-Store+else-this-lt4-3+then-this-lt5-2+in-Number+in-Number-this-offset16-5+in-Zone-1, in_default-via-in-Store+else-this-lt4-3+then-this-lt5-2+in-Number+in-Zone-1, in_default-via-in-Store+else-this-lt4-3+then-this-lt5-2+in-Zone-1, in_default-via-in-Store+else-this-lt4-3+else-this-lt5-2, in_default-via-in-Load+then-this-lt3-3, in_default-via-in-Load+else-this-lt3-3+then-this-lt4-4+in-Number+in-Number-this-offset16-6+in-Zone-1, in_default-via-in-Load+else-this-lt3-3+then-this-lt4-4+in-Number+in-Zone-1, in_default-via-in-Load+else-this-lt3-3+then-this-lt4-4+in-Zone-1, in_default-via-in-Load+else-this-lt3-3+else-this-lt4-4, in_default-via-in-Info+else-this-lt1, in_default-via-in-Scan+else-this-lt1-2, in_default-via-in-Take+then-this-lt1-3, in_default-via-in-Take+else-this-lt1-3+then-this-lt2-3+in-Zone-1, in_default-via-in-Take+else-this-lt1-3+else-this-lt2-3, in_default-via-in-Copy+then-this-lt1-4, in_default-via-in-Copy+else-this-lt1-4+then-this-lt2-4+in-Zone-1, in_default-via-in-Copy+else-this-lt1-4+else-this-lt2-4, in_default-via-in-Finish+then-this-lt1-5, in_default-via-in-Finish+else-this-lt1-5+then-this-lt2-5+in-Zone-1, in_default-via-in-Finish+else-this-lt1-5+else-this-lt2-5, in_default-via-in-Shut+else-this-lt1-6, in_default-via-in-Look+then-this-lt2-6, in_default-via-in-Look+else-this-lt2-6+then-this-lt3-4+in-Number+in-Zone-1, in_default-via-in-Look+else-this-lt2-6+then-this-lt3-4+in-Zone-1, in_default-via-in-Look+else-this-lt2-6+else-this-lt3-4, in_default-via-in-Share+then-this-lt4-5, in_default-via-in-Share+else-this-lt4-5+then-this-lt5-3+in-Number+in-Number-this-offset16-8+in-Number-this-offset32-6+in-Zone-1, in_default-via-in-Share+else-this-lt4-5+then-this-lt5-3+in-Number+in-Number-this-offset16-8+in-Zone-1, in_default-via-in-Share+else-this-lt4-5+then-this-lt5-3+in-Number+in-Zone-1, in_default-via-in-Share+else-this-lt4-5+then-this-lt5-3+in-Zone-1, in_default-via-in-Share+else-this-lt4-5+else-this-lt5-3, in_default-via-in-Unmap+then-this-lt2-7, in_default-via-in-Unmap+else-this-lt2-7+then-this-lt3-5+in-Number+in-Zone-1, in_default-via-in-Unmap+else-this-lt2-7+then-this-lt3-5+in-Zone-1, in_default-via-in-Unmap+else-this-lt2-7+else-this-lt3-5, in_default-via-in-Pin+then-this-lt2-8, in_default-via-in-Pin+else-this-lt2-8+then-this-lt3-6+in-Number+in-Zone-1, in_default-via-in-Pin+else-this-lt2-8+then-this-lt3-6+in-Zone-1, in_default-via-in-Pin+else-this-lt2-8+else-this-lt3-6, in_default-via-in-Unpin+then-this-lt2-9, in_default-via-in-Unpin+else-this-lt2-9+then-this-lt3-7+in-Number+in-Zone-1, in_default-via-in-Unpin+else-this-lt2-9+then-this-lt3-7+in-Zone-1, in_default-via-in-Unpin+else-this-lt2-9+else-this-lt3-7, in_default-via-in-Huge+else-this-lt1-7, in_default-via-in-Give+then-this-lt1-8, in_default-via-in-Give+else-this-lt1-8+then-this-lt2-10+in-Zone-1, in_default-via-in-Give+else-this-lt1-8+else-this-lt2-10, in_default-via-in-Fill+then-this-lt3-8, in_default-via-in-Fill+else-this-lt3-8+then-this-lt4-6+in-Number+in-Number-this-offset16-12+in-Zone-1, in_default-via-in-Fill+else-this-lt3-8+then-this-lt4-6+in-Number+in-Zone-1, in_default-via-in-Fill+else-this-lt3-8+then-this-lt4-6+in-Zone-1, in_default-via-in-Fill+else-this-lt3-8+else-this-lt4-6, in_default-via-in-Thin+then-this-lt4-7, in_default-via-in-Thin+else-this-lt4-7+then-this-lt5-4+in-Number+in-Number-this-offset16-13+in-Number-this-offset32-8+in-Zone-1, in_default-via-in-Thin+else-this-lt4-7+then-this-lt5-4+in-Number+in-Number-this-offset16-13+in-Zone-1, in_default-via-in-Thin+else-this-lt4-7+then-this-lt5-4+in-Number+in-Zone-1, in_default-via-in-Thin+else-this-lt4-7+then-this-lt5-4+in-Zone-1, in_default-via-in-Thin+else-this-lt4-7+else-this-lt5-4, in_default-via-in-Compact+else-this-lt1-9, in_default-via-in_default}
 
 -- no row begins with another word
 no_row : (keyword : Token) (z : Option ℕ) (arguments : List Token)
-    → (keyword ≡ Zone → ⊥) → (keyword ≡ Map → ⊥) → (keyword ≡ MapAt → ⊥) → (keyword ≡ Store → ⊥) → (keyword ≡ Load → ⊥) → (keyword ≡ Info → ⊥) → (keyword ≡ Scan → ⊥) → (keyword ≡ Take → ⊥) → (keyword ≡ Copy → ⊥) → (keyword ≡ Finish → ⊥) → (keyword ≡ Shut → ⊥) → (keyword ≡ Look → ⊥) → (keyword ≡ Share → ⊥) → (keyword ≡ Unmap → ⊥) → (keyword ≡ Pin → ⊥) → (keyword ≡ Unpin → ⊥) → (keyword ≡ Huge → ⊥) → (keyword ≡ Give → ⊥) → (keyword ≡ Fill → ⊥) → (keyword ≡ Thin → ⊥)
+    → (keyword ≡ Zone → ⊥) → (keyword ≡ Map → ⊥) → (keyword ≡ MapAt → ⊥) → (keyword ≡ Store → ⊥) → (keyword ≡ Load → ⊥) → (keyword ≡ Info → ⊥) → (keyword ≡ Scan → ⊥) → (keyword ≡ Take → ⊥) → (keyword ≡ Copy → ⊥) → (keyword ≡ Finish → ⊥) → (keyword ≡ Shut → ⊥) → (keyword ≡ Look → ⊥) → (keyword ≡ Share → ⊥) → (keyword ≡ Unmap → ⊥) → (keyword ≡ Pin → ⊥) → (keyword ≡ Unpin → ⊥) → (keyword ≡ Huge → ⊥) → (keyword ≡ Give → ⊥) → (keyword ≡ Fill → ⊥) → (keyword ≡ Thin → ⊥) → (keyword ≡ Compact → ⊥)
     → None ≡ row_of keyword z arguments
-no_row Zone z arguments h1 h2 h3 h4 h5 h6 h7 h8 h9 h10 h11 h12 h13 h14 h15 h16 h17 h18 h19 h20 = absurd (h1 refl)
-no_row Map z arguments h1 h2 h3 h4 h5 h6 h7 h8 h9 h10 h11 h12 h13 h14 h15 h16 h17 h18 h19 h20 = absurd (h2 refl)
-no_row MapAt z arguments h1 h2 h3 h4 h5 h6 h7 h8 h9 h10 h11 h12 h13 h14 h15 h16 h17 h18 h19 h20 = absurd (h3 refl)
-no_row Store z arguments h1 h2 h3 h4 h5 h6 h7 h8 h9 h10 h11 h12 h13 h14 h15 h16 h17 h18 h19 h20 = absurd (h4 refl)
-no_row Load z arguments h1 h2 h3 h4 h5 h6 h7 h8 h9 h10 h11 h12 h13 h14 h15 h16 h17 h18 h19 h20 = absurd (h5 refl)
-no_row Info z arguments h1 h2 h3 h4 h5 h6 h7 h8 h9 h10 h11 h12 h13 h14 h15 h16 h17 h18 h19 h20 = absurd (h6 refl)
-no_row Scan z arguments h1 h2 h3 h4 h5 h6 h7 h8 h9 h10 h11 h12 h13 h14 h15 h16 h17 h18 h19 h20 = absurd (h7 refl)
-no_row Take z arguments h1 h2 h3 h4 h5 h6 h7 h8 h9 h10 h11 h12 h13 h14 h15 h16 h17 h18 h19 h20 = absurd (h8 refl)
-no_row Copy z arguments h1 h2 h3 h4 h5 h6 h7 h8 h9 h10 h11 h12 h13 h14 h15 h16 h17 h18 h19 h20 = absurd (h9 refl)
-no_row Finish z arguments h1 h2 h3 h4 h5 h6 h7 h8 h9 h10 h11 h12 h13 h14 h15 h16 h17 h18 h19 h20 = absurd (h10 refl)
-no_row Shut z arguments h1 h2 h3 h4 h5 h6 h7 h8 h9 h10 h11 h12 h13 h14 h15 h16 h17 h18 h19 h20 = absurd (h11 refl)
-no_row Look z arguments h1 h2 h3 h4 h5 h6 h7 h8 h9 h10 h11 h12 h13 h14 h15 h16 h17 h18 h19 h20 = absurd (h12 refl)
-no_row Share z arguments h1 h2 h3 h4 h5 h6 h7 h8 h9 h10 h11 h12 h13 h14 h15 h16 h17 h18 h19 h20 = absurd (h13 refl)
-no_row Unmap z arguments h1 h2 h3 h4 h5 h6 h7 h8 h9 h10 h11 h12 h13 h14 h15 h16 h17 h18 h19 h20 = absurd (h14 refl)
-no_row Pin z arguments h1 h2 h3 h4 h5 h6 h7 h8 h9 h10 h11 h12 h13 h14 h15 h16 h17 h18 h19 h20 = absurd (h15 refl)
-no_row Unpin z arguments h1 h2 h3 h4 h5 h6 h7 h8 h9 h10 h11 h12 h13 h14 h15 h16 h17 h18 h19 h20 = absurd (h16 refl)
-no_row Huge z arguments h1 h2 h3 h4 h5 h6 h7 h8 h9 h10 h11 h12 h13 h14 h15 h16 h17 h18 h19 h20 = absurd (h17 refl)
-no_row Give z arguments h1 h2 h3 h4 h5 h6 h7 h8 h9 h10 h11 h12 h13 h14 h15 h16 h17 h18 h19 h20 = absurd (h18 refl)
-no_row Fill z arguments h1 h2 h3 h4 h5 h6 h7 h8 h9 h10 h11 h12 h13 h14 h15 h16 h17 h18 h19 h20 = absurd (h19 refl)
-no_row Thin z arguments h1 h2 h3 h4 h5 h6 h7 h8 h9 h10 h11 h12 h13 h14 h15 h16 h17 h18 h19 h20 = absurd (h20 refl)
-no_row (Number n) z arguments h1 h2 h3 h4 h5 h6 h7 h8 h9 h10 h11 h12 h13 h14 h15 h16 h17 h18 h19 h20 = refl
-no_row Unmovable z arguments h1 h2 h3 h4 h5 h6 h7 h8 h9 h10 h11 h12 h13 h14 h15 h16 h17 h18 h19 h20 = refl
-no_row Mark z arguments h1 h2 h3 h4 h5 h6 h7 h8 h9 h10 h11 h12 h13 h14 h15 h16 h17 h18 h19 h20 = refl
-no_row Unmark z arguments h1 h2 h3 h4 h5 h6 h7 h8 h9 h10 h11 h12 h13 h14 h15 h16 h17 h18 h19 h20 = refl
-no_row Other z arguments h1 h2 h3 h4 h5 h6 h7 h8 h9 h10 h11 h12 h13 h14 h15 h16 h17 h18 h19 h20 = refl
+no_row Zone z arguments h1 h2 h3 h4 h5 h6 h7 h8 h9 h10 h11 h12 h13 h14 h15 h16 h17 h18 h19 h20 h21 = absurd (h1 refl)
+no_row Map z arguments h1 h2 h3 h4 h5 h6 h7 h8 h9 h10 h11 h12 h13 h14 h15 h16 h17 h18 h19 h20 h21 = absurd (h2 refl)
+no_row MapAt z arguments h1 h2 h3 h4 h5 h6 h7 h8 h9 h10 h11 h12 h13 h14 h15 h16 h17 h18 h19 h20 h21 = absurd (h3 refl)
+no_row Store z arguments h1 h2 h3 h4 h5 h6 h7 h8 h9 h10 h11 h12 h13 h14 h15 h16 h17 h18 h19 h20 h21 = absurd (h4 refl)
+no_row Load z arguments h1 h2 h3 h4 h5 h6 h7 h8 h9 h10 h11 h12 h13 h14 h15 h16 h17 h18 h19 h20 h21 = absurd (h5 refl)
+no_row Info z arguments h1 h2 h3 h4 h5 h6 h7 h8 h9 h10 h11 h12 h13 h14 h15 h16 h17 h18 h19 h20 h21 = absurd (h6 refl)
+no_row Scan z arguments h1 h2 h3 h4 h5 h6 h7 h8 h9 h10 h11 h12 h13 h14 h15 h16 h17 h18 h19 h20 h21 = absurd (h7 refl)
+no_row Take z arguments h1 h2 h3 h4 h5 h6 h7 h8 h9 h10 h11 h12 h13 h14 h15 h16 h17 h18 h19 h20 h21 = absurd (h8 refl)
+no_row Copy z arguments h1 h2 h3 h4 h5 h6 h7 h8 h9 h10 h11 h12 h13 h14 h15 h16 h17 h18 h19 h20 h21 = absurd (h9 refl)
+no_row Finish z arguments h1 h2 h3 h4 h5 h6 h7 h8 h9 h10 h11 h12 h13 h14 h15 h16 h17 h18 h19 h20 h21 = absurd (h10 refl)
+no_row Shut z arguments h1 h2 h3 h4 h5 h6 h7 h8 h9 h10 h11 h12 h13 h14 h15 h16 h17 h18 h19 h20 h21 = absurd (h11 refl)
+no_row Look z arguments h1 h2 h3 h4 h5 h6 h7 h8 h9 h10 h11 h12 h13 h14 h15 h16 h17 h18 h19 h20 h21 = absurd (h12 refl)
+no_row Share z arguments h1 h2 h3 h4 h5 h6 h7 h8 h9 h10 h11 h12 h13 h14 h15 h16 h17 h18 h19 h20 h21 = absurd (h13 refl)
+no_row Unmap z arguments h1 h2 h3 h4 h5 h6 h7 h8 h9 h10 h11 h12 h13 h14 h15 h16 h17 h18 h19 h20 h21 = absurd (h14 refl)
+no_row Pin z arguments h1 h2 h3 h4 h5 h6 h7 h8 h9 h10 h11 h12 h13 h14 h15 h16 h17 h18 h19 h20 h21 = absurd (h15 refl)
+no_row Unpin z arguments h1 h2 h3 h4 h5 h6 h7 h8 h9 h10 h11 h12 h13 h14 h15 h16 h17 h18 h19 h20 h21 = absurd (h16 refl)
+no_row Huge z arguments h1 h2 h3 h4 h5 h6 h7 h8 h9 h10 h11 h12 h13 h14 h15 h16 h17 h18 h19 h20 h21 = absurd (h17 refl)
+no_row Give z arguments h1 h2 h3 h4 h5 h6 h7 h8 h9 h10 h11 h12 h13 h14 h15 h16 h17 h18 h19 h20 h21 = absurd (h18 refl)
+no_row Fill z arguments h1 h2 h3 h4 h5 h6 h7 h8 h9 h10 h11 h12 h13 h14 h15 h16 h17 h18 h19 h20 h21 = absurd (h19 refl)
+no_row Thin z arguments h1 h2 h3 h4 h5 h6 h7 h8 h9 h10 h11 h12 h13 h14 h15 h16 h17 h18 h19 h20 h21 = absurd (h20 refl)
+no_row Compact z arguments h1 h2 h3 h4 h5 h6 h7 h8 h9 h10 h11 h12 h13 h14 h15 h16 h17 h18 h19 h20 h21 = absurd (h21 refl)
+no_row (Number n) z arguments h1 h2 h3 h4 h5 h6 h7 h8 h9 h10 h11 h12 h13 h14 h15 h16 h17 h18 h19 h20 h21 = refl
+no_row Unmovable z arguments h1 h2 h3 h4 h5 h6 h7 h8 h9 h10 h11 h12 h13 h14 h15 h16 h17 h18 h19 h20 h21 = refl
+no_row Mark z arguments h1 h2 h3 h4 h5 h6 h7 h8 h9 h10 h11 h12 h13 h14 h15 h16 h17 h18 h19 h20 h21 = refl
+no_row Unmark z arguments h1 h2 h3 h4 h5 h6 h7 h8 h9 h10 h11 h12 h13 h14 h15 h16 h17 h18 h19 h20 h21 = refl
+no_row Other z arguments h1 h2 h3 h4 h5 h6 h7 h8 h9 h10 h11 h12 h13 h14 h15 h16 h17 h18 h19 h20 h21 = refl
 
 -- no row fits
 pub returns-in_default : goal.returns-in_default
@@ -118,7 +119,9 @@ returns-in_default c = elim c.in_default.branch [
   | in_default-via-in-Thin+else-this-lt4-7+then-this-lt5-4+in-Number+in-Zone-1 w ↦ grind (arith, common_steps)
   | in_default-via-in-Thin+else-this-lt4-7+then-this-lt5-4+in-Zone-1 w ↦ grind (arith, common_steps)
   | in_default-via-in-Thin+else-this-lt4-7+else-this-lt5-4 w ↦ grind (arith, common_steps)
+  | in_default-via-in-Compact+else-this-lt1-9 w ↦ grind (arith, common_steps)
   | in_default-via-in_default w ↦ no_row c.args.keyword c.args.zone c.args.arguments.now
+      (λ e. grind arith)
       (λ e. grind arith)
       (λ e. grind arith)
       (λ e. grind arith)

@@ -1,5 +1,8 @@
 use Rattle.round_core.proofs.tests.clients.a_client_waits_for_a_page_on_its_way.Given as goal
 
+abbrev pub ghosts-a_client_waits-K-Shape : goal.ghosts-a_client_waits-K-Shape
+ghosts-a_client_waits-K-Shape g a = record { number = 1; blocks = 1 }
+
 abbrev pub ghosts-a_client_waits-I-Ledger : goal.ghosts-a_client_waits-I-Ledger
 ghosts-a_client_waits-I-Ledger g a = record { name = a.blanks.isolated.name; parts = a.blanks.isolated.parts }
 

@@ -1,5 +1,8 @@
 use Rattle.round_core.proofs.tests.clients.a_page_that_a_client_pins_is_put_back.Given as goal
 
+abbrev pub ghosts-a_client_pins-K-Shape : goal.ghosts-a_client_pins-K-Shape
+ghosts-a_client_pins-K-Shape g a = record { number = 1; blocks = 1 }
+
 abbrev pub ghosts-a_client_pins-I-Ledger : goal.ghosts-a_client_pins-I-Ledger
 ghosts-a_client_pins-I-Ledger g a = record { name = a.blanks.isolated.name; parts = a.blanks.isolated.parts }
 

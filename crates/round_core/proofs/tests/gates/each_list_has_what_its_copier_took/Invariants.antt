@@ -1,5 +1,8 @@
 use Rattle.round_core.proofs.tests.gates.each_list_has_what_its_copier_took.Given as goal
 
+abbrev pub ghosts-notes_each_taken-K-Shape : goal.ghosts-notes_each_taken-K-Shape
+ghosts-notes_each_taken-K-Shape g a = record { number = 1; blocks = 2 }
+
 abbrev pub ghosts-notes_each_taken-I-Ledger : goal.ghosts-notes_each_taken-I-Ledger
 ghosts-notes_each_taken-I-Ledger g a = record { name = a.blanks.isolated.name; parts = a.blanks.isolated.parts }
 

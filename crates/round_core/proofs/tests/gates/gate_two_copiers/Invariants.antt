@@ -1,5 +1,8 @@
 use Rattle.round_core.proofs.tests.gates.gate_two_copiers.Given as goal
 
+abbrev pub ghosts-two_copiers-K-Shape : goal.ghosts-two_copiers-K-Shape
+ghosts-two_copiers-K-Shape g a = record { number = 1; blocks = 1 }
+
 abbrev pub ghosts-two_copiers-I-Ledger : goal.ghosts-two_copiers-I-Ledger
 ghosts-two_copiers-I-Ledger g a = record { name = a.blanks.isolated.name; parts = a.blanks.isolated.parts }
 

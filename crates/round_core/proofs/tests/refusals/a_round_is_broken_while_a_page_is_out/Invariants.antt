@@ -1,5 +1,8 @@
 use Rattle.round_core.proofs.tests.refusals.a_round_is_broken_while_a_page_is_out.Given as goal
 
+abbrev pub ghosts-waits_for_the_page_that_is_out-K-Shape : goal.ghosts-waits_for_the_page_that_is_out-K-Shape
+ghosts-waits_for_the_page_that_is_out-K-Shape g a = record { number = 1; blocks = 1 }
+
 abbrev pub ghosts-waits_for_the_page_that_is_out-I-Ledger : goal.ghosts-waits_for_the_page_that_is_out-I-Ledger
 ghosts-waits_for_the_page_that_is_out-I-Ledger g a = record { name = a.blanks.isolated.name; parts = a.blanks.isolated.parts }
 

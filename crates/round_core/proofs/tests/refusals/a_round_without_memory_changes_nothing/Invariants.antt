@@ -1,5 +1,8 @@
 use Rattle.round_core.proofs.tests.refusals.a_round_without_memory_changes_nothing.Given as goal
 
+abbrev pub ghosts-is_made_where_nothing_is_refused-K-Shape : goal.ghosts-is_made_where_nothing_is_refused-K-Shape
+ghosts-is_made_where_nothing_is_refused-K-Shape g a = record { number = 1; blocks = 1 }
+
 abbrev pub ghosts-is_made_where_nothing_is_refused-I-Ledger : goal.ghosts-is_made_where_nothing_is_refused-I-Ledger
 ghosts-is_made_where_nothing_is_refused-I-Ledger g a = record { name = a.blanks.isolated.name; parts = a.blanks.isolated.parts }
 

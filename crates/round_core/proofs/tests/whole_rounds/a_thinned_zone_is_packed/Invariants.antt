@@ -1,5 +1,8 @@
 use Rattle.round_core.proofs.tests.whole_rounds.a_thinned_zone_is_packed.Given as goal
 
+abbrev pub ghosts-packs_what_was_thinned-K-Shape : goal.ghosts-packs_what_was_thinned-K-Shape
+ghosts-packs_what_was_thinned-K-Shape g a = record { number = 1; blocks = 4 }
+
 abbrev pub ghosts-packs_what_was_thinned-I-Ledger : goal.ghosts-packs_what_was_thinned-I-Ledger
 ghosts-packs_what_was_thinned-I-Ledger g a = record { name = a.blanks.isolated.name; parts = a.blanks.isolated.parts }
 

@@ -1,5 +1,8 @@
 use Rattle.round_core.proofs.tests.whole_rounds.one_to_four_copiers_move_the_lower_half.Given as goal
 
+abbrev pub ghosts-moves_the_lower_half-K-Shape : goal.ghosts-moves_the_lower_half-K-Shape
+ghosts-moves_the_lower_half-K-Shape g a = record { number = 1; blocks = 2 }
+
 abbrev pub ghosts-moves_the_lower_half-I-Ledger : goal.ghosts-moves_the_lower_half-I-Ledger
 ghosts-moves_the_lower_half-I-Ledger g a = record { name = a.blanks.isolated.name; parts = a.blanks.isolated.parts }
 
