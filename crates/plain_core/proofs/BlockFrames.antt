@@ -1,5 +1,5 @@
 -- A block is handed out, or taken back: its frames, and that the tables stand for the zone then.
-use Rattle.std.proofs.Common.{◌≡◌, ◌≢◌, ℕ, zero, suc, ◌+◌, ◌^◌, ◌<◌, ◌≤◌, Bool, true, false, ◌∷◌, List, length, ◌⊎◌, inl, inr, refl, sym, ap, subst, ◌∙◌, arith}
+use Rattle.std.proofs.Common.{◌≡◌, ◌≢◌, ℕ, zero, suc, ◌+◌, ◌^◌, ◌<◌, ◌≤◌, Bool, true, false, List, length, ◌⊎◌, inl, inr, refl, sym, ap, ◌∙◌, arith}
 use Rattle.std.specs.Prelude.{Option, Some, None, slice_get, slice_set, nat_eq, nat_le, ◌&&◌, ◌||◌, if◌then◌else◌, IsTrue}
 use Rattle.std.specs.FinMap as map
 use Rattle.std.proofs.Math.Bool.{or-false}
@@ -15,14 +15,13 @@ use Rattle.frame_core.specs.declared.state.FrameState.{FrameState}
 use Rattle.frame_core.specs.declared.state.FrameState.TheVariants.{Free, Holds, Source, Target, Huge}
 use Rattle.journal_core.specs.declared.record.Record.TheVariants.{TakeHuge, GiveHuge}
 use Rattle.journal_core.specs.Moves.{out}
-use Rattle.scan_core.specs.Frames.{Frames, free_at, huge_at, is_huge_state}
+use Rattle.scan_core.specs.Frames.{free_at, huge_at, is_huge_state}
 use Rattle.scan_core.specs.NumberSet.{all_from}
 use Rattle.scan_core.specs.Runs as runs
 use Rattle.scan_core.specs.Runs.{with_run}
 use Rattle.state_core.specs.declared.placement.Placement.{Placement}
 use Rattle.state_core.specs.declared.placement.Placement.TheVariants.{At, Moving}
 use Rattle.state_core.specs.HandingOut.{has_block, is_order, is_run, lowest_run, block_taken, block_given}
-use Rattle.state_core.specs.Lawful.{IsLawful}
 use Rattle.state_core.specs.ZoneState.{ZoneState, frame_count, takes_up, covers, is_held, is_free}
 use Rattle.state_core.proofs.Entries.{get_remove_same, get_remove_other}
 use Rattle.state_core.proofs.HandingOut as blocks

@@ -1,5 +1,5 @@
 -- Which addresses are listed under a frame, by the pages that they name.
-use Rattle.std.proofs.Common.{◌≡◌, ◌≢◌, ℕ, ◌<◌, Bool, true, false, not, List, inl, inr, refl, sym, ap, ◌∙◌, arith}
+use Rattle.std.proofs.Common.{◌≡◌, ◌≢◌, ℕ, Bool, true, false, not, List, inl, inr, refl, sym, ap, ◌∙◌, arith}
 use Rattle.std.specs.Prelude.{Option, Some, None, nat_eq, ◌&&◌}
 use Rattle.std.specs.FinMap as map
 use Rattle.std.specs.Option.{option_and_then}
@@ -17,7 +17,7 @@ use Rattle.table_core.specs.Tables.{entry_at, is_listed, count_listed}
 use Rattle.state_core.specs.declared.placement.Placement.{Placement}
 use Rattle.state_core.specs.declared.placement.Placement.TheVariants.{At, Moving}
 use Rattle.state_core.specs.Lawful.{IsLawful, is_under}
-use Rattle.state_core.specs.ZoneState.{ZoneState, frame_count, placement_at, takes_up, is_used, is_free}
+use Rattle.state_core.specs.ZoneState.{ZoneState, frame_count, placement_at, takes_up, is_used}
 use Rattle.state_core.proofs.Facts.{page_named, not_none}
 use Rattle.state_core.proofs.Placed.{untrue}
 use Rattle.plain_core.specs.Fits.{entry_for, EntriesFit}

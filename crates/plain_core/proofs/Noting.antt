@@ -1,6 +1,6 @@
 -- The note of a page in use changes, and the page stays where it is: the tables of the zone go on fitting.
 use Rattle.std.proofs.Common.{◌≡◌, ◌≢◌, ℕ, ◌-◌, ◌<◌, List, ◌∷◌, length, refl, sym, ap, subst, ◌∙◌}
-use Rattle.std.specs.Prelude.{Option, Some, IsSome, is_some, slice_get, slice_set, ◌&&◌}
+use Rattle.std.specs.Prelude.{Some, is_some, slice_get, slice_set, ◌&&◌}
 use Rattle.std.specs.Option.{option_and_then}
 use Rattle.std.specs.FinMap as map
 use Rattle.std.proofs.lemmas.Option.{slice_get_within}

@@ -11,7 +11,6 @@ use Rattle.journal_core.specs.Moves.{out}
 use Rattle.scan_core.specs.Frames.{Frames}
 use Rattle.state_core.specs.declared.placement.Placement.{Placement}
 use Rattle.state_core.specs.Lawful.{IsLawful}
-use Rattle.state_core.specs.Pairs.{can_move}
 use Rattle.state_core.specs.ZoneState.{ZoneState, noted}
 use Rattle.state_core.proofs.Pinning.{pins_one_more, pins_one_less, pinned_others, unpinned_others, lawful_pinned, lawful_unpinned}
 use Rattle.plain_core.specs.declared.note.Note.{Note}

@@ -1,4 +1,4 @@
-use Rattle.std.proofs.Common.{◌≡◌, ◌+◌, ◌^◌, ◌≤◌, length, arith, ap, sym, subst, ℕ}
+use Rattle.std.proofs.Common.{◌+◌, arith, sym, subst, ℕ}
 use Rattle.std.specs.Prelude.{Some}
 use Rattle.std.specs.Vec.{with_item}
 use Rattle.plain_core.specs.HandedOutInside.{IsCounted}

@@ -1,8 +1,7 @@
-use Rattle.std.proofs.Common.{◌≡◌, ◌∙◌, Some, length, refl, sym, ap}
+use Rattle.std.proofs.Common.{◌≡◌, ◌∙◌, Some, length, refl, sym}
 use Rattle.std.specs.Prelude.{slice_get, slice_set}
 use Rattle.std.proofs.lemmas.Option.{slice_get_read}
 use Rattle.plain_core.specs.Notes.{is_in_use}
-use Rattle.plain_core.specs.declared.note.Note.{Note}
 use Rattle.plain_core.proofs.InUse.{in_use_within, placed_counted}
 use Rattle.plain_core.proofs.notes.Notes.place.Goals as goal
 

@@ -1,4 +1,4 @@
-use Rattle.std.proofs.Common.{◌≡◌, ◌∙◌, ℕ, ap, sym}
+use Rattle.std.proofs.Common.{◌∙◌, ℕ, ap, sym}
 use Rattle.std.specs.Prelude.{Option}
 use Rattle.state_core.specs.HandingOut.{is_order}
 use Rattle.plain_core.proofs.SearchesAndCounts.{orders_seen}

@@ -1,11 +1,8 @@
-use Rattle.std.proofs.Common.{◌≡◌, ◌∙◌, ap, subst, sym}
-use Rattle.std.specs.Prelude.{Option, Some}
+use Rattle.std.proofs.Common.{◌∙◌, ap, sym}
+use Rattle.std.specs.Prelude.{Some}
 use Rattle.state_core.specs.declared.information.Look.TheVariants as look
-use Rattle.state_core.specs.declared.placement.Placement.{Placement}
-use Rattle.state_core.specs.declared.placement.Placement.TheVariants.{At, Moving}
 use Rattle.state_core.specs.Looking.{look_by}
 use Rattle.state_core.proofs.Placed.{clash}
-use Rattle.plain_core.specs.Sound.{IsSound}
 use Rattle.plain_core.proofs.Tables.{placement_seen}
 use Rattle.plain_core.proofs.plain.PlainZone.look_at.Goals as goal
 

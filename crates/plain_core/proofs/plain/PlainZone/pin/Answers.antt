@@ -1,9 +1,7 @@
-use Rattle.std.proofs.Common.{◌≡◌, ◌∙◌, ℕ, ◌+◌, ap, subst, sym, arith}
+use Rattle.std.proofs.Common.{◌∙◌, ℕ, ◌+◌, ap, subst, sym, arith}
 use Rattle.std.specs.Prelude.{Option, slice_set, unwrap_or}
 use Rattle.journal_core.specs.declared.record.Record.TheVariants.{Pin}
 use Rattle.journal_core.specs.History.{pins}
-use Rattle.scan_core.specs.Frames.{Frames}
-use Rattle.state_core.specs.declared.placement.Placement.{Placement}
 use Rattle.state_core.specs.declared.placement.Placement.TheVariants.{At}
 use Rattle.state_core.proofs.Facts.{frame_within, spare}
 use Rattle.plain_core.specs.declared.note.Note.{Note}

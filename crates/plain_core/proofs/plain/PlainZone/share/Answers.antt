@@ -1,4 +1,4 @@
-use Rattle.std.proofs.Common.{◌≡◌, ◌∙◌, ℕ, ◌+◌, ap, subst, arith}
+use Rattle.std.proofs.Common.{◌∙◌, ℕ, ◌+◌, ap, subst, arith}
 use Rattle.std.specs.Prelude.{Option, slice_set, unwrap_or}
 use Rattle.journal_core.specs.declared.record.Record.TheVariants.{Share}
 use Rattle.journal_core.specs.History.{maps}

@@ -1,4 +1,4 @@
-use Rattle.std.proofs.Common.{◌≡◌, ◌∙◌, ℕ, ◌-◌, ap, subst, arith}
+use Rattle.std.proofs.Common.{◌∙◌, ◌-◌, ap, subst, arith}
 use Rattle.std.specs.Prelude.{slice_set}
 use Rattle.journal_core.specs.declared.record.Record.TheVariants.{Unmap}
 use Rattle.state_core.specs.declared.placement.Placement.TheVariants.{At}

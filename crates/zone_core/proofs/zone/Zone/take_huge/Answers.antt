@@ -1,4 +1,4 @@
-use Rattle.std.proofs.Common.{◌≡◌, ◌∙◌, ℕ, Some, ap, sym}
+use Rattle.std.proofs.Common.{◌≡◌, ◌∙◌, Some, ap, sym}
 use Rattle.state_core.specs.HandingOut.{lowest_run}
 use Rattle.state_core.proofs.HandingOut.{lowest_whole}
 use Rattle.zone_core.proofs.zone.Zone.take_huge.Goals as goal
