@@ -188,6 +188,7 @@ fn tries<I: Ledger, N: Ledger, M: Ledger, B: Ledger, R: Abort + AllocGlobal>(
     requires blanks { AreFor blanks I.name I.parts N.name N.parts M.name M.parts B.name B.parts }
 {
     let mut opening = WorldOpening::<I, N, M, B>::of(rt, 1, 64, blanks);
+    assert_kept(rt, &opening);
     tries_in(rt, trial, &mut opening);
 }
 
