@@ -2,9 +2,10 @@
 
 ghost use Rattle.std.specs.Prelude.{◌≢◌, IfErr};
 ghost use Rattle.state_core.specs.Lawful.{IsLawful};
+ghost use Rattle.zone_core.specs.Shape.{HasShape};
 
 use frame_core::{Address, ClientNo, WordNo};
-use round_core::SharedZone;
+use round_core::{Shape, SharedZone};
 use std::sync::Wait;
 use std::sync::ledger::Ledger;
 use zone_core::{Zone, ZoneError};
@@ -17,14 +18,15 @@ pub(crate) trait Access {
         &self,
         zone: &mut Zone<I, M, B>,
     ) -> Result<Self::Answer, ZoneError>
-        ensures { IsLawful zone.new };
+        ensures shape { HasShape zone.old.number zone.old.blocks zone.new }
+        ensures lawful { IsLawful zone.new };
 }
 
 /// Makes a call under the lock of a zone. As long as the page is on its way, it waits until a move has ended and makes the call
 /// again.
-pub(crate) fn once_there<A: Access, I: Ledger, M: Ledger, B: Ledger, R: Wait>(
+pub(crate) fn once_there<A: Access, K: Shape, I: Ledger, M: Ledger, B: Ledger, R: Wait>(
     rt: &R,
-    shared: &SharedZone<I, M, B>,
+    shared: &SharedZone<K, I, M, B>,
     access: &A,
 ) -> Result<A::Answer, ZoneError>
     ensures there { IfErr result (λ refusal. refusal ≢ ZoneError.Moving) }

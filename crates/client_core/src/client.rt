@@ -8,7 +8,7 @@ use crate::access::{Access, once_there};
 use crate::error::ClientError;
 use frame_core::{Address, ClientNo, FrameNo, PageFlags, WordNo};
 use journal_core::{Journal, Record};
-use round_core::SharedZone;
+use round_core::{Shape, SharedZone};
 use std::alloc::Global;
 use std::marker::Model;
 use std::sync::Wait;
@@ -58,10 +58,10 @@ impl Client {
     }
 
     /// Binds an address to a fresh page in the lowest free frame, which is answered. The number of the page stands in the receipt.
-    pub fn map<I: Ledger, M: Ledger, B: Ledger, R: Wait>(
+    pub fn map<K: Shape, I: Ledger, M: Ledger, B: Ledger, R: Wait>(
         &mut self,
         rt: &R,
-        shared: &SharedZone<I, M, B>,
+        shared: &SharedZone<K, I, M, B>,
         address: Address,
         flags: PageFlags,
     ) -> Result<FrameNo, ClientError>
@@ -77,10 +77,10 @@ impl Client {
     }
 
     /// Binds an address to a fresh page in the frame that is given. The number of the page stands in the receipt.
-    pub fn map_at<I: Ledger, M: Ledger, B: Ledger, R: Wait>(
+    pub fn map_at<K: Shape, I: Ledger, M: Ledger, B: Ledger, R: Wait>(
         &mut self,
         rt: &R,
-        shared: &SharedZone<I, M, B>,
+        shared: &SharedZone<K, I, M, B>,
         address: Address,
         flags: PageFlags,
         frame: FrameNo,
@@ -97,10 +97,10 @@ impl Client {
     }
 
     /// Lets an alias name the page of an address too.
-    pub fn share<I: Ledger, M: Ledger, B: Ledger, R: Wait>(
+    pub fn share<K: Shape, I: Ledger, M: Ledger, B: Ledger, R: Wait>(
         &mut self,
         rt: &R,
-        shared: &SharedZone<I, M, B>,
+        shared: &SharedZone<K, I, M, B>,
         address: Address,
         alias: Address,
     ) -> Result<(), ClientError>
@@ -124,10 +124,10 @@ impl Client {
     }
 
     /// Lets an address name no page any more.
-    pub fn unmap<I: Ledger, M: Ledger, B: Ledger, R: Wait>(
+    pub fn unmap<K: Shape, I: Ledger, M: Ledger, B: Ledger, R: Wait>(
         &mut self,
         rt: &R,
-        shared: &SharedZone<I, M, B>,
+        shared: &SharedZone<K, I, M, B>,
         address: Address,
     ) -> Result<(), ClientError>
         ensures ok { OnOk result (self.new ≡ with_receipt self.old (Unmap self.old.number address)) }
@@ -148,10 +148,10 @@ impl Client {
     }
 
     /// Reads a word of the page that an address names.
-    pub fn load<I: Ledger, M: Ledger, B: Ledger, R: Wait>(
+    pub fn load<K: Shape, I: Ledger, M: Ledger, B: Ledger, R: Wait>(
         &mut self,
         rt: &R,
-        shared: &SharedZone<I, M, B>,
+        shared: &SharedZone<K, I, M, B>,
         address: Address,
         word: WordNo,
     ) -> Result<u64, ClientError>
@@ -176,10 +176,10 @@ impl Client {
     }
 
     /// Writes a word of the page that an address names.
-    pub fn store<I: Ledger, M: Ledger, B: Ledger, R: Wait>(
+    pub fn store<K: Shape, I: Ledger, M: Ledger, B: Ledger, R: Wait>(
         &mut self,
         rt: &R,
-        shared: &SharedZone<I, M, B>,
+        shared: &SharedZone<K, I, M, B>,
         address: Address,
         word: WordNo,
         value: u64,
@@ -206,10 +206,10 @@ impl Client {
     }
 
     /// Pins the page that an address names, also while it is on its way.
-    pub fn pin<I: Ledger, M: Ledger, B: Ledger, R: Wait>(
+    pub fn pin<K: Shape, I: Ledger, M: Ledger, B: Ledger, R: Wait>(
         &mut self,
         rt: &R,
-        shared: &SharedZone<I, M, B>,
+        shared: &SharedZone<K, I, M, B>,
         address: Address,
     ) -> Result<(), ClientError>
         ensures ok { OnOk result (self.new ≡ with_receipt self.old (Pin self.old.number address)) }
@@ -229,10 +229,10 @@ impl Client {
     }
 
     /// Takes a pin off the page that an address names, also while it is on its way.
-    pub fn unpin<I: Ledger, M: Ledger, B: Ledger, R: Wait>(
+    pub fn unpin<K: Shape, I: Ledger, M: Ledger, B: Ledger, R: Wait>(
         &mut self,
         rt: &R,
-        shared: &SharedZone<I, M, B>,
+        shared: &SharedZone<K, I, M, B>,
         address: Address,
     ) -> Result<(), ClientError>
         ensures ok { OnOk result (self.new ≡ with_receipt self.old (Unpin self.old.number address)) }

@@ -7,6 +7,8 @@ mod access;
 mod client;
 mod error;
 mod settling;
+#[cfg(test)]
+mod tests;
 
 pub use client::Client;
 pub use error::ClientError;

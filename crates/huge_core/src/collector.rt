@@ -6,7 +6,7 @@ use crate::huge::Huge;
 use crate::report::{Report, Stop};
 use arrayvec::ArrayVec;
 use frame_core::Order;
-use round_core::{Gate, SharedZone, Stop as RoundStop, compact};
+use round_core::{Gate, Shape, SharedZone, Stop as RoundStop, compact};
 use std::alloc::Global;
 use std::sync::Wait;
 use std::sync::ledger::Ledger;
@@ -35,6 +35,7 @@ impl Collector {
     /// Reserves so many blocks, 1 to 8, one after the other. Where none is free it runs a round, as long as it may and its rounds
     /// move pages.
     pub fn reserve<
+        K: Shape + Send + Sync,
         I: Ledger + Send + Sync,
         N: Ledger,
         M: Ledger + Send + Sync,
@@ -45,7 +46,7 @@ impl Collector {
         &self,
         rt: &R,
         alloc: Global,
-        shared: &SharedZone<I, M, B>,
+        shared: &SharedZone<K, I, M, B>,
         seats: &mut Seats<I, N, M, B>,
         n: usize,
         gate: &G,
@@ -82,10 +83,10 @@ impl Collector {
     }
 
     /// Takes free blocks until there are so many.
-    fn fill<I: Ledger, M: Ledger, B: Ledger, R: Wait>(
+    fn fill<K: Shape, I: Ledger, M: Ledger, B: Ledger, R: Wait>(
         &self,
         rt: &R,
-        shared: &SharedZone<I, M, B>,
+        shared: &SharedZone<K, I, M, B>,
         n: usize,
         got: &mut ArrayVec<Option<Huge>, 8>,
     ) -> Result<(), ZoneError>
@@ -105,9 +106,9 @@ impl Collector {
 }
 
 /// Takes the lowest free block of an order.
-fn take<I: Ledger, M: Ledger, B: Ledger, R: Wait>(
+fn take<K: Shape, I: Ledger, M: Ledger, B: Ledger, R: Wait>(
     rt: &R,
-    shared: &SharedZone<I, M, B>,
+    shared: &SharedZone<K, I, M, B>,
     order: Order,
 ) -> Result<Huge, ZoneError>
     ensures got { IfOk result (λ huge. (huge.order ≡ order) × IsHandedOut huge) }

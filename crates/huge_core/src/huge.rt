@@ -3,10 +3,11 @@ ghost use Rattle.std.specs.Result.{result_err};
 ghost use Rattle.frame_core.specs.Order.{is_aligned};
 ghost use Rattle.state_core.specs.HandingOut.{take_order_refusal, give_order_refusal, block_taken, block_given};
 ghost use Rattle.state_core.specs.Lawful.{IsLawful};
+ghost use Rattle.zone_core.specs.Shape.{HasShape};
 ghost use Rattle.huge_core.specs.Huge.{IsHandedOut, IsTakenBack, IsRefusedBack};
 
 use frame_core::{BlockNo, FrameNo, Order, block_of};
-use round_core::SharedZone;
+use round_core::{Shape, SharedZone};
 use std::marker::Model;
 use std::sync::Wait;
 use std::sync::ledger::Ledger;
@@ -43,6 +44,7 @@ impl Huge {
         ensures order { IfOk result (λ huge. huge.order ≡ order) }
         ensures ok { IfOk result (λ huge. zone.new ≡ block_taken zone.old huge.frame order) }
         ensures handed_out { IfOk result IsHandedOut }
+        ensures shape { HasShape zone.old.number zone.old.blocks zone.new }
         ensures lawful { IsLawful zone.new }
     {
         let frame = zone.take_order(order)?;
@@ -59,6 +61,7 @@ impl Huge {
         ensures err { OnErr result (zone.new ≡ zone.old) }
         ensures accepted { OnOk result (give_order_refusal zone.old self.frame self.order ≡ None) }
         ensures ok { OnOk result (zone.new ≡ block_given zone.old self.frame self.order) }
+        ensures shape { HasShape zone.old.number zone.old.blocks zone.new }
         ensures lawful { IsLawful zone.new }
     {
         match zone.give_order(self.frame, self.order) {
@@ -107,9 +110,9 @@ impl Huge {
 
 /// Gives a block back to the zone that handed it out. Where the zone refuses it, it is handed back, and the zone is as it was:
 /// refused as JournalFull, and as Range or NotHuge where the zone hasn't handed it out, or took it back by its number.
-pub fn give<I: Ledger, M: Ledger, B: Ledger, R: Wait>(
+pub fn give<K: Shape, I: Ledger, M: Ledger, B: Ledger, R: Wait>(
     rt: &R,
-    shared: &SharedZone<I, M, B>,
+    shared: &SharedZone<K, I, M, B>,
     huge: Huge,
 ) -> Result<(), (ZoneError, Huge)>
     ensures ok { OnOk result (IsTakenBack huge) }

@@ -1,3 +1,4 @@
+ghost use Rattle.std.specs.Prelude.{◌≡◌};
 ghost use Rattle.zone_core.specs.Books.{AreFor};
 
 mod blocks;
@@ -8,7 +9,7 @@ use crate::{Collector, Report};
 use arrayvec::ArrayVec;
 use bitflags::Flags;
 use frame_core::{Address, ClientNo, FrameNo, Order, PageFlags, SpaceNo, VPage, ZoneNo};
-use round_core::{NoGate, SharedZone};
+use round_core::{NoGate, Shape, SharedZone};
 use std::alloc::Global;
 use std::process::Abort;
 use std::sync::Wait;
@@ -18,19 +19,20 @@ use zone_core::{Blanks, Info, Seats, Zone, ZoneError};
 
 /// A shared zone with its seats.
 #[derive(Drop)]
-struct Opening<I: Ledger, N: Ledger, M: Ledger, B: Ledger> {
-    shared: SharedZone<I, M, B>,
+struct Opening<K: Shape, I: Ledger, N: Ledger, M: Ledger, B: Ledger> {
+    shared: SharedZone<K, I, M, B>,
     seats: Seats<I, N, M, B>,
 }
 
 /// An empty zone of so many pageblocks, with so many places in its journal.
-fn opened<I: Ledger, N: Ledger, M: Ledger, B: Ledger, R: Abort>(
+fn opened<K: Shape, I: Ledger, N: Ledger, M: Ledger, B: Ledger, R: Abort>(
     rt: &R,
     alloc: Global,
     blocks: u32,
     places: u32,
     blanks: Blanks,
-) -> Opening<I, N, M, B>
+) -> Opening<K, I, N, M, B>
+    requires shape { (K.number ≡ 1) × (K.blocks ≡ blocks) }
     requires blanks { AreFor blanks I.name I.parts N.name N.parts M.name M.parts B.name B.parts }
 {
     let number = ZoneNo::new(1).expect(rt, "a zone");
@@ -42,9 +44,9 @@ fn opened<I: Ledger, N: Ledger, M: Ledger, B: Ledger, R: Abort>(
     }
 }
 
-fn map_at<I: Ledger, M: Ledger, B: Ledger, R: Wait + Abort>(
+fn map_at<K: Shape, I: Ledger, M: Ledger, B: Ledger, R: Wait + Abort>(
     rt: &R,
-    shared: &SharedZone<I, M, B>,
+    shared: &SharedZone<K, I, M, B>,
     frame: u32,
 ) -> Result<(), ZoneError> {
     let client = ClientNo::new(2).expect(rt, "a client");
@@ -54,12 +56,16 @@ fn map_at<I: Ledger, M: Ledger, B: Ledger, R: Wait + Abort>(
     shared.lock(rt).zone.map_at(client, Address { space, vpage }, PageFlags::empty(), frame)
 }
 
-fn info<I: Ledger, M: Ledger, B: Ledger, R: Wait>(rt: &R, shared: &SharedZone<I, M, B>) -> Info {
+fn info<K: Shape, I: Ledger, M: Ledger, B: Ledger, R: Wait>(
+    rt: &R,
+    shared: &SharedZone<K, I, M, B>,
+) -> Info {
     shared.lock(rt).zone().info()
 }
 
 /// What two copiers reserve, of blocks of an order and in so many rounds.
 fn reserved<
+    K: Shape + Send + Sync,
     I: Ledger + Send + Sync,
     N: Ledger,
     M: Ledger + Send + Sync,
@@ -68,7 +74,7 @@ fn reserved<
 >(
     rt: &R,
     alloc: Global,
-    opening: &mut Opening<I, N, M, B>,
+    opening: &mut Opening<K, I, N, M, B>,
     rounds: u32,
     order: u32,
     n: usize,

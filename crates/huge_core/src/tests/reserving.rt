@@ -1,8 +1,9 @@
+ghost use Rattle.std.specs.Prelude.{◌≡◌};
 ghost use Rattle.zone_core.specs.Books.{AreFor};
 
 use super::{Opening, frames_of, info, map_at, opened, reserved};
 use crate::Stop;
-use round_core::RoundError;
+use round_core::{RoundError, Shape};
 use std::alloc::Global;
 use std::marker::Brand;
 use std::process::Abort;
@@ -125,15 +126,17 @@ const CASES: [Case; 8] = [
 ];
 
 fn reserves<
+    K: Shape + Send + Sync,
     I: Ledger + Send + Sync,
     N: Ledger,
     M: Ledger + Send + Sync,
     B: Ledger + Send + Sync,
     R: Threads + Wait + Abort + Sync,
 >(rt: &R, alloc: Global, case: &Case, blanks: Blanks)
+    requires shape { (K.number ≡ 1) × (K.blocks ≡ case.now.blocks) }
     requires blanks { AreFor blanks I.name I.parts N.name N.parts M.name M.parts B.name B.parts }
 {
-    let mut opening = opened::<I, N, M, B, R>(rt, alloc, case.blocks, case.places, blanks);
+    let mut opening = opened::<K, I, N, M, B, R>(rt, alloc, case.blocks, case.places, blanks);
     for frame in case.pages.iter() {
         assert_eq!(rt;
             map_at(rt, &opening.shared, *frame),
@@ -153,21 +156,28 @@ fn reserves<
 #[test]
 fn a_collector_reports_what_it_reserved(rt: HostRuntime) {
     for case in CASES.iter() {
-        reserves::<Brand, Brand, Brand, Brand, HostRuntime>(&rt, rt.alloc(), case, Blanks::new());
+        reserves::<Brand, Brand, Brand, Brand, Brand, HostRuntime>(
+            &rt,
+            rt.alloc(),
+            case,
+            Blanks::new(),
+        );
     }
 }
 
 /// A round is refused while a part of the end seat is missing, and isn't counted.
 fn is_refused_with_a_part_missing<
+    K: Shape + Send + Sync,
     I: Ledger + Send + Sync,
     N: Ledger,
     M: Ledger + Send + Sync,
     B: Ledger + Send + Sync,
     R: Threads + Wait + Abort + Sync,
 >(rt: &R, alloc: Global, blanks: Blanks)
+    requires shape { (K.number ≡ 1) × (K.blocks ≡ 1) }
     requires blanks { AreFor blanks I.name I.parts N.name N.parts M.name M.parts B.name B.parts }
 {
-    let mut opening = opened::<I, N, M, B, R>(rt, alloc, 1, 65536, blanks);
+    let mut opening = opened::<K, I, N, M, B, R>(rt, alloc, 1, 65536, blanks);
     assert_eq!(rt; map_at(rt, &opening.shared, 0), Ok(()));
     let part = opening.seats.ends.split();
     assert!(rt; part.is_some());
@@ -179,7 +189,7 @@ fn is_refused_with_a_part_missing<
 
 #[test]
 fn a_refused_round_is_not_counted(rt: HostRuntime) {
-    is_refused_with_a_part_missing::<Brand, Brand, Brand, Brand, HostRuntime>(
+    is_refused_with_a_part_missing::<Brand, Brand, Brand, Brand, Brand, HostRuntime>(
         &rt,
         rt.alloc(),
         Blanks::new(),

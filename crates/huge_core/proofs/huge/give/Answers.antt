@@ -10,5 +10,5 @@ returns-clause-ok g c =
 pub returns-clause-refused : goal.returns-clause-refused
 returns-clause-refused g c =
     IfErr-weaker c.give.result _ _
-    (λ back is. record { zone = c.behind-room.inside.zone; lawful = c.behind-room.invariant; refused = is })
+    (λ back is. record { zone = c.behind-room.inside.zone; lawful = c.behind-room.invariant.0; refused = is })
     c.give.ensures.refused

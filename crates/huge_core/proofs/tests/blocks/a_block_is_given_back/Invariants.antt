@@ -1,5 +1,8 @@
 use Rattle.huge_core.proofs.tests.blocks.a_block_is_given_back.Given as goal
 
+abbrev pub ghosts-gives_back-K-Shape : goal.ghosts-gives_back-K-Shape
+ghosts-gives_back-K-Shape g a = record { number = 1; blocks = 2 }
+
 abbrev pub ghosts-gives_back-I-Ledger : goal.ghosts-gives_back-I-Ledger
 ghosts-gives_back-I-Ledger g a = record { name = a.blanks.isolated.name; parts = a.blanks.isolated.parts }
 

@@ -1,5 +1,8 @@
 use Rattle.huge_core.proofs.tests.blocks.a_refused_block_is_handed_back.Given as goal
 
+abbrev pub ghosts-hands_back_what_is_refused-K-Shape : goal.ghosts-hands_back_what_is_refused-K-Shape
+ghosts-hands_back_what_is_refused-K-Shape g a = record { number = 1; blocks = 2 }
+
 abbrev pub ghosts-hands_back_what_is_refused-I-Ledger : goal.ghosts-hands_back_what_is_refused-I-Ledger
 ghosts-hands_back_what_is_refused-I-Ledger g a = record { name = a.blanks.isolated.name; parts = a.blanks.isolated.parts }
 

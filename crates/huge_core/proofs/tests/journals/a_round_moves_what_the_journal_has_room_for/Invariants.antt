@@ -1,5 +1,8 @@
 use Rattle.huge_core.proofs.tests.journals.a_round_moves_what_the_journal_has_room_for.Given as goal
 
+abbrev pub ghosts-moves_what_the_journal_has_room_for-K-Shape : goal.ghosts-moves_what_the_journal_has_room_for-K-Shape
+ghosts-moves_what_the_journal_has_room_for-K-Shape g a = record { number = 1; blocks = 1 }
+
 abbrev pub ghosts-moves_what_the_journal_has_room_for-I-Ledger : goal.ghosts-moves_what_the_journal_has_room_for-I-Ledger
 ghosts-moves_what_the_journal_has_room_for-I-Ledger g a = record { name = a.blanks.isolated.name; parts = a.blanks.isolated.parts }
 

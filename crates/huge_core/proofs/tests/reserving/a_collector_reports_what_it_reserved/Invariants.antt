@@ -1,5 +1,8 @@
 use Rattle.huge_core.proofs.tests.reserving.a_collector_reports_what_it_reserved.Given as goal
 
+abbrev pub ghosts-reserves-K-Shape : goal.ghosts-reserves-K-Shape
+ghosts-reserves-K-Shape g a = record { number = 1; blocks = a.case.now.blocks }
+
 abbrev pub ghosts-reserves-I-Ledger : goal.ghosts-reserves-I-Ledger
 ghosts-reserves-I-Ledger g a = record { name = a.blanks.isolated.name; parts = a.blanks.isolated.parts }
 

@@ -1,5 +1,8 @@
 use Rattle.huge_core.proofs.tests.reserving.a_refused_round_is_not_counted.Given as goal
 
+abbrev pub ghosts-is_refused_with_a_part_missing-K-Shape : goal.ghosts-is_refused_with_a_part_missing-K-Shape
+ghosts-is_refused_with_a_part_missing-K-Shape g a = record { number = 1; blocks = 1 }
+
 abbrev pub ghosts-is_refused_with_a_part_missing-I-Ledger : goal.ghosts-is_refused_with_a_part_missing-I-Ledger
 ghosts-is_refused_with_a_part_missing-I-Ledger g a = record { name = a.blanks.isolated.name; parts = a.blanks.isolated.parts }
 
