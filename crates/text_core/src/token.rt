@@ -1,6 +1,9 @@
-ghost use Rattle.std.specs.Prelude.{◌≡◌, ◌<◌, ◌≤◌, bytes_eq, nat_eq, false, codes, IfNone, IfSome, IsTrue, length, map, position, [], ◌∷◌, ◌+◌, MatchOption, Some};
+ghost use Rattle.std.specs.Prelude.{◌≡◌, ℕ, ◌<◌, ◌≤◌, ◌↔◌, bytes_eq, nat_eq, false, codes, IfNone, IfSome, IsFalse, IsTrue, length, List, position, [], ◌∷◌, ◌+◌, MatchOption, None, Some};
+ghost use Rattle.std.specs.Char.{is_ascii_digit};
+ghost use Rattle.text_core.specs.Arguments.{number_first};
+ghost use Rattle.text_core.specs.declared.token.Token.TheVariants.{Number};
 ghost use Rattle.std.specs.List.{starts_with};
-ghost use Rattle.text_core.specs.Token.{behind_word, first_word, keyword_of, lexemes, number_of, token_of};
+ghost use Rattle.text_core.specs.Token.{behind_word, first_word, keyword_of, lexemes, number_of, token_of, tokens};
 
 /// What a lexeme means: a number, a keyword, or nothing of the language.
 #[derive(Clone, Copy, Debug, Default, PartialEq, Eq)]
@@ -133,23 +136,23 @@ fn number(digits: &[u8]) -> Option<u64>
 
 /// The first token of a text, and what stands behind its lexeme.
 pub(crate) fn first_token(text: &[u8]) -> Option<(Token, &[u8])>
-    ensures token { MatchOption result (lexemes text.now ≡ []) (λ found. map token_of (lexemes text.now) ≡ found.0 ∷ map token_of (lexemes found.1.now)) }
-    ensures less { IfSome result (λ found. length found.1.now < length text.now) }
+    ensures token { MatchOption result (tokens text.now ≡ []) (λ found. tokens text.now ≡ found.0 ∷ tokens found.1.now) }
 {
-    let text = without_spaces(text);
-    if let Some((number, behind)) = leading_number(text) {
-        return Some((Token::Number(number), behind));
-    }
     let (lexeme, behind) = first_lexeme(text)?;
     Some((Token::from_bytes(lexeme), behind))
 }
 
-/// The number that a text without leading spaces begins with, and what stands behind it. None says nothing: most numbers are read
-/// here, in one pass.
+/// The number that a text begins with, and what stands behind it.
+pub(crate) fn first_number(text: &[u8]) -> Option<(u64, &[u8])>
+    ensures { MatchOption result (number_first (tokens text.now) ≡ None) (λ found. tokens text.now ≡ Number found.0 ∷ tokens found.1.now) }
+{
+    leading_number(without_spaces(text))
+}
+
+/// The number that a text without leading spaces begins with, and what stands behind it.
 fn leading_number(text: &[u8]) -> Option<(u64, &[u8])>
-    ensures number { IfSome result (λ found. number_of (first_word text.now) ≡ Some found.0) }
+    ensures number { MatchOption result (number_of (first_word text.now) ≡ None) (λ found. number_of (first_word text.now) ≡ Some found.0) }
     ensures behind { IfSome result (λ found. found.1.now ≡ behind_word text.now) }
-    ensures some { IfSome result (λ found. length found.1.now < length text.now) }
 {
     let mut value: u64 = 0;
     let mut rest = text;
@@ -158,7 +161,7 @@ fn leading_number(text: &[u8]) -> Option<(u64, &[u8])>
         rest = behind;
     }
     let count = text.len() - rest.len();
-    if 0 < count && count <= 20 && ends_word(rest) {
+    if ends_word(rest) && 0 < count && count <= 20 {
         Some((value, rest))
     } else {
         None
@@ -169,19 +172,31 @@ fn leading_number(text: &[u8]) -> Option<(u64, &[u8])>
 fn ends_word(text: &[u8]) -> bool
     ensures word { IsTrue result → first_word text.now ≡ [] }
     ensures behind { IsTrue result → behind_word text.now ≡ text.now }
+    ensures more { IsFalse result → (byte : ℕ) × (behind : List ℕ) × (text.now ≡ byte ∷ behind) × IsFalse (nat_eq byte 32) }
 {
-    text.is_empty() || text.starts_with(b" ")
+    match text {
+        [] | [b' ', ..] => true,
+        _ => false,
+    }
 }
 
 /// The digit that a text begins with, and what stands behind it.
 fn leading_digit(text: &[u8]) -> Option<(u8, &[u8])>
     ensures digit { IfSome result (λ found. text.now ≡ (48 + found.0) ∷ found.1.now) }
     ensures small { IfSome result (λ found. found.0 < 10) }
+    ensures none { IfNone result ((byte : ℕ) (behind : List ℕ) → text.now ≡ byte ∷ behind → is_ascii_digit byte ≡ false) }
 {
     match text {
         [byte @ b'0'..=b'9', behind @ ..] => Some((*byte - b'0', behind)),
         _ => None,
     }
+}
+
+/// Whether no token is left in a text.
+pub(crate) fn is_end(text: &[u8]) -> bool
+    ensures { IsTrue result ↔ (tokens text.now ≡ []) }
+{
+    without_spaces(text).is_empty()
 }
 
 /// The first lexeme of a text, and what stands behind it.
