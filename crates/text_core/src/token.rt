@@ -54,65 +54,40 @@ impl Token {
 fn keyword(bytes: &[u8]) -> Token
     ensures { result ≡ keyword_of bytes.now }
 {
-    if is_word(bytes, b"zone") {
-        Token::Zone
-    } else if is_word(bytes, b"map") {
-        Token::Map
-    } else if is_word(bytes, b"mapat") {
-        Token::MapAt
-    } else if is_word(bytes, b"store") {
-        Token::Store
-    } else if is_word(bytes, b"load") {
-        Token::Load
-    } else if is_word(bytes, b"info") {
-        Token::Info
-    } else if is_word(bytes, b"unmovable") {
-        Token::Unmovable
-    } else if is_word(bytes, b"scan") {
-        Token::Scan
-    } else if is_word(bytes, b"take") {
-        Token::Take
-    } else if is_word(bytes, b"copy") {
-        Token::Copy
-    } else if is_word(bytes, b"finish") {
-        Token::Finish
-    } else if is_word(bytes, b"shut") {
-        Token::Shut
-    } else if is_word(bytes, b"look") {
-        Token::Look
-    } else if is_word(bytes, b"share") {
-        Token::Share
-    } else if is_word(bytes, b"unmap") {
-        Token::Unmap
-    } else if is_word(bytes, b"pin") {
-        Token::Pin
-    } else if is_word(bytes, b"unpin") {
-        Token::Unpin
-    } else if is_word(bytes, b"huge") {
-        Token::Huge
-    } else if is_word(bytes, b"give") {
-        Token::Give
-    } else if is_word(bytes, b"fill") {
-        Token::Fill
-    } else if is_word(bytes, b"thin") {
-        Token::Thin
-    } else if is_word(bytes, b"mark") {
-        Token::Mark
-    } else if is_word(bytes, b"unmark") {
-        Token::Unmark
-    } else if is_word(bytes, b"compact") {
-        Token::Compact
-    } else {
-        Token::Other
+    match bytes {
+        b"zone" => Token::Zone,
+        b"map" => Token::Map,
+        b"mapat" => Token::MapAt,
+        b"store" => Token::Store,
+        b"load" => Token::Load,
+        b"info" => Token::Info,
+        b"unmovable" => Token::Unmovable,
+        b"scan" => Token::Scan,
+        b"take" => Token::Take,
+        b"copy" => Token::Copy,
+        b"finish" => Token::Finish,
+        b"shut" => Token::Shut,
+        b"look" => Token::Look,
+        b"share" => Token::Share,
+        b"unmap" => Token::Unmap,
+        b"pin" => Token::Pin,
+        b"unpin" => Token::Unpin,
+        b"huge" => Token::Huge,
+        b"give" => Token::Give,
+        b"fill" => Token::Fill,
+        b"thin" => Token::Thin,
+        b"mark" => Token::Mark,
+        b"unmark" => Token::Unmark,
+        b"compact" => Token::Compact,
+        _ => Token::Other,
     }
 }
 
-/// Whether bytes are a word. The first byte tells most words apart.
-#[inline(always)]
+/// Whether bytes are a word.
 pub(crate) fn is_word(bytes: &[u8], word: &[u8]) -> bool
     ensures { result ≡ bytes_eq bytes.now word.now }
 {
-    bytes.first() == word.first() && bytes == word
+    bytes == word
 }
 
 /// The number of 1 to 20 digits that fits 64 bits.
