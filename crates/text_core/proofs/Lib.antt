@@ -1,7 +1,6 @@
 pub mod Numbers
 pub mod Lexemes
 pub mod Newlines
-pub mod LongLines
 pub mod Tokens
 pub mod Profiles
 pub mod Ranges

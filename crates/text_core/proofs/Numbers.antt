@@ -38,6 +38,16 @@ inner_false false b c e = refl
 pub number_of_none : (bytes : List ℕ) → all_ascii_digits bytes ≡ false → number_of bytes ≡ None
 number_of_none bytes e = chosen false bytes (inner_false (nat_le 1 (length bytes) && nat_le (length bytes) 20) _ _ e)
 
+pub number_of_short : (bytes : List ℕ) → length bytes ≡ 0 → number_of bytes ≡ None
+number_of_short bytes h =
+    let short : nat_le 1 (length bytes) ≡ false = grind (arith, nat_tests) in
+    chosen false bytes (ap (λ (b : Bool). b && nat_le (length bytes) 20 && all_ascii_digits bytes && nat_lt (digits_value 10 bytes) (2 ^ 64)) short)
+
+pub number_of_long : (bytes : List ℕ) → 20 < length bytes → number_of bytes ≡ None
+number_of_long bytes h =
+    let long : nat_le (length bytes) 20 ≡ false = grind (arith, nat_tests) in
+    chosen false bytes (ap (λ (b : Bool). b && all_ascii_digits bytes && nat_lt (digits_value 10 bytes) (2 ^ 64)) (last_false (nat_le 1 (length bytes)) (nat_le (length bytes) 20) long))
+
 pub number_of_large : (bytes : List ℕ) → 2 ^ 64 ≤ digits_value 10 bytes → number_of bytes ≡ None
 number_of_large bytes h =
     let large : nat_lt (digits_value 10 bytes) (2 ^ 64) ≡ false = grind (arith, nat_tests) in

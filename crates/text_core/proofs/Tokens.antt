@@ -1,13 +1,36 @@
 -- The first token of a text.
-use Rattle.std.proofs.Common.{◌≡◌, ℕ, ◌<◌, false, List, ◌∷◌, length, map, ap, Some, Option}
-use Rattle.std.specs.Prelude.{nat_eq, codes}
+use Rattle.std.proofs.Common.{◌≡◌, ◌∙◌, ℕ, ◌<◌, Bool, true, false, List, [], ◌∷◌, length, map, ap, refl, Some, None, Option, arith, rules}
+use Rattle.std.specs.Prelude.{nat_eq, codes, if◌then◌else◌}
 use Rattle.std.specs.List.{starts_with}
+use Rattle.text_core.specs.declared.token.Token.{Token}
 use Rattle.text_core.specs.declared.token.Token.TheVariants.{Number}
-use Rattle.text_core.specs.Token.{lexemes, first_word, behind_word, number_of, number_or_keyword, token_of}
+use Rattle.text_core.specs.Arguments.{number_first}
+use Rattle.text_core.specs.Token.{first_word, behind_word, keyword_of, number_of, number_or_keyword, token_of, tokens}
 use Rattle.text_core.proofs.Lexemes.{lexemes_first}
 
-pub tokens_first : (xs : List ℕ) → 0 < length xs → starts_with nat_eq xs (codes " ") ≡ false → map token_of (lexemes xs) ≡ token_of (first_word xs) ∷ map token_of (lexemes (behind_word xs))
+tokens_first : (xs : List ℕ) → 0 < length xs → starts_with nat_eq xs (codes " ") ≡ false → tokens xs ≡ token_of (first_word xs) ∷ tokens (behind_word xs)
 tokens_first xs some e = ap (map token_of) (lexemes_first xs some e)
 
-pub token_of_number : (word : List ℕ) (n : ℕ) → number_of word ≡ Some n → token_of word ≡ Number n
-token_of_number word n e = ap (λ (o : Option ℕ). number_or_keyword o word) e
+-- a keyword is no number
+either_word : (b : Bool) (t u : Token) (more : List Token)
+    → number_first (t ∷ more) ≡ None → number_first (u ∷ more) ≡ None → number_first ((if b then t else u) ∷ more) ≡ None
+either_word true t u more e f = e
+either_word false t u more e f = f
+
+keyword_is_no_number : (word : List ℕ) (more : List Token) → number_first (keyword_of word ∷ more) ≡ None
+keyword_is_no_number word more = search (either_word, rules)
+
+-- where the first word of a text is a number
+pub number_comes : (xs : List ℕ) (n : ℕ) → starts_with nat_eq xs (codes " ") ≡ false → number_of (first_word xs) ≡ Some n
+    → tokens xs ≡ Number n ∷ tokens (behind_word xs)
+number_comes [] n e f = absurd cc
+number_comes (x ∷ xs) n e f =
+    tokens_first (x ∷ xs) (omega arith) e ∙ ap (λ (o : Option ℕ). number_or_keyword o (first_word (x ∷ xs)) ∷ tokens (behind_word (x ∷ xs))) f
+
+-- and where it is none
+pub no_number_comes : (xs : List ℕ) → starts_with nat_eq xs (codes " ") ≡ false → number_of (first_word xs) ≡ None → number_first (tokens xs) ≡ None
+no_number_comes [] e f = refl
+no_number_comes (x ∷ xs) e f =
+    ap number_first (tokens_first (x ∷ xs) (omega arith) e)
+    ∙ ap (λ (o : Option ℕ). number_first (number_or_keyword o (first_word (x ∷ xs)) ∷ tokens (behind_word (x ∷ xs)))) f
+    ∙ keyword_is_no_number (first_word (x ∷ xs)) (tokens (behind_word (x ∷ xs)))

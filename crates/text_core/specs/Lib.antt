@@ -1,4 +1,5 @@
 pub mod Token
+pub mod Arguments
 pub mod Profile
 pub mod Grammar
 pub mod Line

@@ -1,5 +1,5 @@
 -- The tokens of a line.
-use Rattle.std.specs.Prelude.{ℕ, ◌^◌, Bool, ◌&&◌, List, length, take, drop, filter, codes, bytes_eq, nat_eq, nat_lt, nat_le, Option, Some, None, if◌then◌else◌}
+use Rattle.std.specs.Prelude.{ℕ, ◌^◌, Bool, ◌&&◌, List, map, length, take, drop, filter, codes, bytes_eq, nat_eq, nat_lt, nat_le, Option, Some, None, if◌then◌else◌}
 use Rattle.std.specs.List.{position_or_len, slice_split}
 use Rattle.std.specs.Str.{all_ascii_digits}
 use Rattle.std.specs.Str.Parse.{digits_value}
@@ -64,3 +64,7 @@ number_or_keyword (Some n) lexeme = Number n
 -- what a lexeme means
 abbrev pub token_of : List ℕ → Token
 token_of lexeme = number_or_keyword (number_of lexeme) lexeme
+
+-- the tokens of a text
+abbrev pub tokens : List ℕ → List Token
+tokens text = map token_of (lexemes text)

@@ -1,28 +1,24 @@
 //! The rows of the language, as `specs/Grammar.antt` has them. That an argument is in its range is tested here, by its type.
 
 ghost use Rattle.std.specs.Prelude.{◌≡◌};
+ghost use Rattle.text_core.specs.Token.{tokens};
 ghost use Rattle.text_core.specs.Grammar.{address_of, blocks_of, command_of, compacting, frame_of, give_order_call, order_of, row_in, own_row, hand_of, load_call, map_at_call, map_call, call_on, calls_on, opening, page_count_of, pageblock_of, row_of, series_of, series_on, share_call, space_of, store_call, word_of, zone_of};
 
+use crate::arguments::{four, one, three, three_and_flag, two, two_and_flag};
 use crate::blocks::BlockCount;
 use crate::command::{Call, Calls, Command, Repeated, Series};
 use crate::pages::PageCount;
 use crate::profile::Profile;
-use crate::token::Token;
+use crate::token::{Token, first_number, first_token, is_end};
 use frame_core::{Address, BlockNo, FrameNo, HandNo, Order, SpaceNo, VPage, WordNo, ZoneNo};
 
-/// The command that these tokens are, if they are one.
-pub(crate) fn command(profile: Profile, tokens: &[Token]) -> Option<Command>
-    ensures { result ≡ command_of profile tokens.now }
+/// The command that a text is, if it is one.
+pub(crate) fn command(profile: Profile, text: &[u8]) -> Option<Command>
+    ensures { result ≡ command_of profile (tokens text.now) }
 {
-    match *tokens {
-        [keyword, Token::Number(number), ref arguments @ ..] => row_in(
-            profile,
-            keyword,
-            zone(number),
-            arguments,
-        ),
-        _ => None,
-    }
+    let (keyword, behind) = first_token(text)?;
+    let (number, arguments) = first_number(behind)?;
+    row_in(profile, keyword, zone(number), arguments)
 }
 
 /// What a keyword, a zone and the arguments behind it make, if there is such a row in a profile.
@@ -30,9 +26,9 @@ fn row_in(
     profile: Profile,
     keyword: Token,
     zone: Option<ZoneNo>,
-    arguments: &[Token],
+    arguments: &[u8],
 ) -> Option<Command>
-    ensures { result ≡ row_in profile keyword zone arguments.now }
+    ensures { result ≡ row_in profile keyword zone (tokens arguments.now) }
 {
     match own_row(profile, keyword, arguments) {
         Some(call) => Some(on(zone, call)),
@@ -41,72 +37,92 @@ fn row_in(
 }
 
 /// The call on a zone that a keyword and the arguments make by a row that a profile has besides, if there is one.
-fn own_row(profile: Profile, keyword: Token, arguments: &[Token]) -> Option<Option<Call>>
-    ensures { result ≡ own_row profile keyword arguments.now }
+fn own_row(profile: Profile, keyword: Token, arguments: &[u8]) -> Option<Option<Call>>
+    ensures { result ≡ own_row profile keyword (tokens arguments.now) }
 {
-    use Token::{Give, Huge, Info, Mark, Number, Unmark};
+    use Token::{Give, Huge, Info, Mark, Unmark};
     if !matches!(profile, Profile::Two) {
         return None;
     }
-    match (keyword, arguments) {
-        (Info, []) => Some(Some(Call::InfoWithHeld)),
-        (Huge, &[Number(k)]) => Some(order(k).map(Call::TakeOrder)),
-        (Give, &[Number(f), Number(k)]) => Some(give_order(frame(f), order(k))),
-        (Mark, &[Number(b)]) => Some(pageblock(b).map(Call::Mark)),
-        (Unmark, &[Number(b)]) => Some(pageblock(b).map(Call::Unmark)),
+    match keyword {
+        Info if is_end(arguments) => Some(Some(Call::InfoWithHeld)),
+        Huge => Some(order(one(arguments)?).map(Call::TakeOrder)),
+        Give => {
+            let (f, k) = two(arguments)?;
+            Some(give_order(frame(f), order(k)))
+        }
+        Mark => Some(pageblock(one(arguments)?).map(Call::Mark)),
+        Unmark => Some(pageblock(one(arguments)?).map(Call::Unmark)),
         _ => None,
     }
 }
 
 /// The command by the rows of both profiles.
-fn row(keyword: Token, zone: Option<ZoneNo>, arguments: &[Token]) -> Option<Command>
-    ensures { result ≡ row_of keyword zone arguments.now }
+fn row(keyword: Token, zone: Option<ZoneNo>, arguments: &[u8]) -> Option<Command>
+    ensures { result ≡ row_of keyword zone (tokens arguments.now) }
 {
     use Token::{
-        Compact, Copy, Fill, Finish, Give, Huge, Info, Load, Look, Map, MapAt, Number, Pin, Scan,
-        Share, Shut, Store, Take, Thin, Unmap, Unmovable, Unpin, Zone,
+        Compact, Copy, Fill, Finish, Give, Huge, Info, Load, Look, Map, MapAt, Pin, Scan, Share,
+        Shut, Store, Take, Thin, Unmap, Unpin, Zone,
     };
-    match (keyword, arguments) {
-        (Zone, &[Number(b)]) => Some(open(zone, blocks(b))),
-        (Map, &[Number(s), Number(v)]) => Some(on(zone, map(address(s, v), false))),
-        (Map, &[Number(s), Number(v), Unmovable]) => Some(on(zone, map(address(s, v), true))),
-        (MapAt, &[Number(s), Number(v), Number(f)]) => {
-            Some(on(zone, map_at(address(s, v), frame(f), false)))
+    match keyword {
+        Zone => Some(open(zone, blocks(one(arguments)?))),
+        Map => {
+            let (s, v, unmovable) = two_and_flag(arguments)?;
+            Some(on(zone, map(address(s, v), unmovable)))
         }
-        (MapAt, &[Number(s), Number(v), Number(f), Unmovable]) => {
-            Some(on(zone, map_at(address(s, v), frame(f), true)))
+        MapAt => {
+            let (s, v, f, unmovable) = three_and_flag(arguments)?;
+            Some(on(zone, map_at(address(s, v), frame(f), unmovable)))
         }
-        (Store, &[Number(s), Number(v), Number(w), Number(x)]) => {
+        Store => {
+            let (s, v, w, x) = four(arguments)?;
             Some(on(zone, store(address(s, v), word(w), x)))
         }
-        (Load, &[Number(s), Number(v), Number(w)]) => {
+        Load => {
+            let (s, v, w) = three(arguments)?;
             Some(on(zone, load(address(s, v), word(w))))
         }
-        (Info, []) => Some(on(zone, Some(Call::Info))),
-        (Scan, []) => Some(on(zone, Some(Call::Scan))),
-        (Take, &[Number(k)]) => Some(on(zone, hand(k).map(Call::Take))),
-        (Copy, &[Number(k)]) => Some(on(zone, hand(k).map(Call::Copy))),
-        (Finish, &[Number(k)]) => Some(on(zone, hand(k).map(Call::Finish))),
-        (Shut, []) => Some(on(zone, Some(Call::Shut))),
-        (Look, &[Number(s), Number(v)]) => Some(on(zone, address(s, v).map(Call::Look))),
-        (Share, &[Number(s), Number(v), Number(s2), Number(v2)]) => {
+        Info if is_end(arguments) => Some(on(zone, Some(Call::Info))),
+        Scan if is_end(arguments) => Some(on(zone, Some(Call::Scan))),
+        Take => Some(on(zone, hand(one(arguments)?).map(Call::Take))),
+        Copy => Some(on(zone, hand(one(arguments)?).map(Call::Copy))),
+        Finish => Some(on(zone, hand(one(arguments)?).map(Call::Finish))),
+        Shut if is_end(arguments) => Some(on(zone, Some(Call::Shut))),
+        Look => {
+            let (s, v) = two(arguments)?;
+            Some(on(zone, address(s, v).map(Call::Look)))
+        }
+        Share => {
+            let (s, v, s2, v2) = four(arguments)?;
             Some(on(zone, share(address(s, v), address(s2, v2))))
         }
-        (Unmap, &[Number(s), Number(v)]) => Some(on(zone, address(s, v).map(Call::Unmap))),
-        (Pin, &[Number(s), Number(v)]) => Some(on(zone, address(s, v).map(Call::Pin))),
-        (Unpin, &[Number(s), Number(v)]) => Some(on(zone, address(s, v).map(Call::Unpin))),
-        (Huge, []) => Some(on(zone, Some(Call::Huge))),
-        (Give, &[Number(b)]) => Some(on(zone, pageblock(b).map(Call::Give))),
-        (Fill, &[Number(s), Number(v), Number(n)]) => {
+        Unmap => {
+            let (s, v) = two(arguments)?;
+            Some(on(zone, address(s, v).map(Call::Unmap)))
+        }
+        Pin => {
+            let (s, v) = two(arguments)?;
+            Some(on(zone, address(s, v).map(Call::Pin)))
+        }
+        Unpin => {
+            let (s, v) = two(arguments)?;
+            Some(on(zone, address(s, v).map(Call::Unpin)))
+        }
+        Huge if is_end(arguments) => Some(on(zone, Some(Call::Huge))),
+        Give => Some(on(zone, pageblock(one(arguments)?).map(Call::Give))),
+        Fill => {
+            let (s, v, n) = three(arguments)?;
             Some(series_on(zone, series(Repeated::Map, space(s), v, page_count(n), 1)))
         }
-        (Thin, &[Number(s), Number(v), Number(n), Number(step)]) => {
+        Thin => {
+            let (s, v, n, step) = four(arguments)?;
             Some(series_on(
                 zone,
                 series(Repeated::Unmap, space(s), v, page_count(n), step),
             ))
         }
-        (Compact, []) => Some(compact(zone)),
+        Compact if is_end(arguments) => Some(compact(zone)),
         _ => None,
     }
 }

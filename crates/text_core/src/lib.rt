@@ -4,6 +4,7 @@
 //! reply reads.
 #![tactic(auto)]
 
+mod arguments;
 mod blocks;
 mod command;
 mod error;

@@ -1,5 +1,5 @@
-ghost use Rattle.std.specs.Prelude.{◌≡◌, IfSome, length, map, ◌<◌, IfNone};
-ghost use Rattle.text_core.specs.Token.{lexemes, token_of};
+ghost use Rattle.std.specs.Prelude.{◌≡◌};
+ghost use Rattle.text_core.specs.Token.{lexemes};
 ghost use Rattle.text_core.specs.Line.{command_in, line_of};
 ghost use Rattle.text_core.specs.Profile.{is_profile_2};
 
@@ -7,24 +7,7 @@ use crate::command::Command;
 use crate::error::ScriptError;
 use crate::grammar;
 use crate::profile::Profile;
-use crate::token::{Token, first_lexeme, first_token, is_word, without_spaces};
-use arrayvec::ArrayVec;
-
-/// The tokens of a line; None where there are more than 7.
-fn tokens_of(text: &[u8]) -> Option<ArrayVec<Token, 7>>
-    ensures all { IfSome result (λ found. found.items ≡ map token_of (lexemes text.now)) }
-    ensures many { IfNone result (7 < length (lexemes text.now)) }
-{
-    let mut found = ArrayVec::new();
-    let mut rest = text;
-    while let Some((token, behind)) = first_token(rest) {
-        if found.try_push(token).is_err() {
-            return None;
-        }
-        rest = behind;
-    }
-    Some(found)
-}
+use crate::token::{first_lexeme, is_word, without_spaces};
 
 /// Whether a line is `profile 2`.
 fn is_profile_2(text: &[u8]) -> bool
@@ -50,8 +33,7 @@ fn command(profile: Profile, text: &[u8]) -> Option<Command>
     if matches!(profile, Profile::Untold) && is_profile_2(text) {
         return Some(Command::Profile2);
     }
-    let tokens = tokens_of(text)?;
-    grammar::command(profile, &tokens)
+    grammar::command(profile, text)
 }
 
 /// The command of a line that is read by this profile; None where the line is empty or a comment.

@@ -208,7 +208,8 @@ fn push_field<const N: usize>(text: &mut ArrayVec<u8, N>, name: &[u8], number: u
     push_number(text, number);
 }
 
-/// Appends a number.
+/// Appends a number. Most have one digit.
+#[inline(always)]
 fn push_number<const N: usize>(text: &mut ArrayVec<u8, N>, number: u64)
     requires { array_vec_len text.old + 20 ≤ N }
     ensures text { text.new.items ≡ text.old.items ++ decimal number }
@@ -217,8 +218,18 @@ fn push_number<const N: usize>(text: &mut ArrayVec<u8, N>, number: u64)
 {
     if number < 10 {
         text.push(b'0' + number as u8);
-        return;
+    } else {
+        push_digits(text, number);
     }
+}
+
+/// Appends a number, however many digits it has.
+fn push_digits<const N: usize>(text: &mut ArrayVec<u8, N>, number: u64)
+    requires { array_vec_len text.old + 20 ≤ N }
+    ensures text { text.new.items ≡ text.old.items ++ decimal number }
+    ensures lines { newlines text.new.items ≡ newlines text.old.items }
+    ensures len { array_vec_len text.new ≤ array_vec_len text.old + 20 }
+{
     let mut digits = Buffer::new();
     push(text, digits.format(number).as_bytes());
 }

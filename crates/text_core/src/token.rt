@@ -1,6 +1,9 @@
-ghost use Rattle.std.specs.Prelude.{◌≡◌, ◌<◌, ◌≤◌, bytes_eq, nat_eq, false, codes, IfNone, IfSome, IsTrue, length, map, position, [], ◌∷◌, ◌+◌, MatchOption, Some};
+ghost use Rattle.std.specs.Prelude.{◌≡◌, ℕ, ◌<◌, ◌≤◌, ◌↔◌, bytes_eq, nat_eq, false, codes, IfNone, IfSome, IsFalse, IsTrue, length, List, position, [], ◌∷◌, ◌+◌, MatchOption, None, Some};
+ghost use Rattle.std.specs.Char.{is_ascii_digit};
+ghost use Rattle.text_core.specs.Arguments.{number_first};
+ghost use Rattle.text_core.specs.declared.token.Token.TheVariants.{Number};
 ghost use Rattle.std.specs.List.{starts_with};
-ghost use Rattle.text_core.specs.Token.{behind_word, first_word, keyword_of, lexemes, number_of, token_of};
+ghost use Rattle.text_core.specs.Token.{behind_word, first_word, keyword_of, lexemes, number_of, token_of, tokens};
 
 /// What a lexeme means: a number, a keyword, or nothing of the language.
 #[derive(Clone, Copy, Debug, Default, PartialEq, Eq)]
@@ -51,65 +54,40 @@ impl Token {
 fn keyword(bytes: &[u8]) -> Token
     ensures { result ≡ keyword_of bytes.now }
 {
-    if is_word(bytes, b"zone") {
-        Token::Zone
-    } else if is_word(bytes, b"map") {
-        Token::Map
-    } else if is_word(bytes, b"mapat") {
-        Token::MapAt
-    } else if is_word(bytes, b"store") {
-        Token::Store
-    } else if is_word(bytes, b"load") {
-        Token::Load
-    } else if is_word(bytes, b"info") {
-        Token::Info
-    } else if is_word(bytes, b"unmovable") {
-        Token::Unmovable
-    } else if is_word(bytes, b"scan") {
-        Token::Scan
-    } else if is_word(bytes, b"take") {
-        Token::Take
-    } else if is_word(bytes, b"copy") {
-        Token::Copy
-    } else if is_word(bytes, b"finish") {
-        Token::Finish
-    } else if is_word(bytes, b"shut") {
-        Token::Shut
-    } else if is_word(bytes, b"look") {
-        Token::Look
-    } else if is_word(bytes, b"share") {
-        Token::Share
-    } else if is_word(bytes, b"unmap") {
-        Token::Unmap
-    } else if is_word(bytes, b"pin") {
-        Token::Pin
-    } else if is_word(bytes, b"unpin") {
-        Token::Unpin
-    } else if is_word(bytes, b"huge") {
-        Token::Huge
-    } else if is_word(bytes, b"give") {
-        Token::Give
-    } else if is_word(bytes, b"fill") {
-        Token::Fill
-    } else if is_word(bytes, b"thin") {
-        Token::Thin
-    } else if is_word(bytes, b"mark") {
-        Token::Mark
-    } else if is_word(bytes, b"unmark") {
-        Token::Unmark
-    } else if is_word(bytes, b"compact") {
-        Token::Compact
-    } else {
-        Token::Other
+    match bytes {
+        b"zone" => Token::Zone,
+        b"map" => Token::Map,
+        b"mapat" => Token::MapAt,
+        b"store" => Token::Store,
+        b"load" => Token::Load,
+        b"info" => Token::Info,
+        b"unmovable" => Token::Unmovable,
+        b"scan" => Token::Scan,
+        b"take" => Token::Take,
+        b"copy" => Token::Copy,
+        b"finish" => Token::Finish,
+        b"shut" => Token::Shut,
+        b"look" => Token::Look,
+        b"share" => Token::Share,
+        b"unmap" => Token::Unmap,
+        b"pin" => Token::Pin,
+        b"unpin" => Token::Unpin,
+        b"huge" => Token::Huge,
+        b"give" => Token::Give,
+        b"fill" => Token::Fill,
+        b"thin" => Token::Thin,
+        b"mark" => Token::Mark,
+        b"unmark" => Token::Unmark,
+        b"compact" => Token::Compact,
+        _ => Token::Other,
     }
 }
 
-/// Whether bytes are a word. The first byte tells most words apart.
-#[inline(always)]
+/// Whether bytes are a word.
 pub(crate) fn is_word(bytes: &[u8], word: &[u8]) -> bool
     ensures { result ≡ bytes_eq bytes.now word.now }
 {
-    bytes.first() == word.first() && bytes == word
+    bytes == word
 }
 
 /// The number of 1 to 20 digits that fits 64 bits.
@@ -133,23 +111,23 @@ fn number(digits: &[u8]) -> Option<u64>
 
 /// The first token of a text, and what stands behind its lexeme.
 pub(crate) fn first_token(text: &[u8]) -> Option<(Token, &[u8])>
-    ensures token { MatchOption result (lexemes text.now ≡ []) (λ found. map token_of (lexemes text.now) ≡ found.0 ∷ map token_of (lexemes found.1.now)) }
-    ensures less { IfSome result (λ found. length found.1.now < length text.now) }
+    ensures token { MatchOption result (tokens text.now ≡ []) (λ found. tokens text.now ≡ found.0 ∷ tokens found.1.now) }
 {
-    let text = without_spaces(text);
-    if let Some((number, behind)) = leading_number(text) {
-        return Some((Token::Number(number), behind));
-    }
     let (lexeme, behind) = first_lexeme(text)?;
     Some((Token::from_bytes(lexeme), behind))
 }
 
-/// The number that a text without leading spaces begins with, and what stands behind it. None says nothing: most numbers are read
-/// here, in one pass.
+/// The number that a text begins with, and what stands behind it.
+pub(crate) fn first_number(text: &[u8]) -> Option<(u64, &[u8])>
+    ensures { MatchOption result (number_first (tokens text.now) ≡ None) (λ found. tokens text.now ≡ Number found.0 ∷ tokens found.1.now) }
+{
+    leading_number(without_spaces(text))
+}
+
+/// The number that a text without leading spaces begins with, and what stands behind it.
 fn leading_number(text: &[u8]) -> Option<(u64, &[u8])>
-    ensures number { IfSome result (λ found. number_of (first_word text.now) ≡ Some found.0) }
+    ensures number { MatchOption result (number_of (first_word text.now) ≡ None) (λ found. number_of (first_word text.now) ≡ Some found.0) }
     ensures behind { IfSome result (λ found. found.1.now ≡ behind_word text.now) }
-    ensures some { IfSome result (λ found. length found.1.now < length text.now) }
 {
     let mut value: u64 = 0;
     let mut rest = text;
@@ -158,7 +136,7 @@ fn leading_number(text: &[u8]) -> Option<(u64, &[u8])>
         rest = behind;
     }
     let count = text.len() - rest.len();
-    if 0 < count && count <= 20 && ends_word(rest) {
+    if ends_word(rest) && 0 < count && count <= 20 {
         Some((value, rest))
     } else {
         None
@@ -169,19 +147,31 @@ fn leading_number(text: &[u8]) -> Option<(u64, &[u8])>
 fn ends_word(text: &[u8]) -> bool
     ensures word { IsTrue result → first_word text.now ≡ [] }
     ensures behind { IsTrue result → behind_word text.now ≡ text.now }
+    ensures more { IsFalse result → (byte : ℕ) × (behind : List ℕ) × (text.now ≡ byte ∷ behind) × IsFalse (nat_eq byte 32) }
 {
-    text.is_empty() || text.starts_with(b" ")
+    match text {
+        [] | [b' ', ..] => true,
+        _ => false,
+    }
 }
 
 /// The digit that a text begins with, and what stands behind it.
 fn leading_digit(text: &[u8]) -> Option<(u8, &[u8])>
     ensures digit { IfSome result (λ found. text.now ≡ (48 + found.0) ∷ found.1.now) }
     ensures small { IfSome result (λ found. found.0 < 10) }
+    ensures none { IfNone result ((byte : ℕ) (behind : List ℕ) → text.now ≡ byte ∷ behind → is_ascii_digit byte ≡ false) }
 {
     match text {
         [byte @ b'0'..=b'9', behind @ ..] => Some((*byte - b'0', behind)),
         _ => None,
     }
+}
+
+/// Whether no token is left in a text.
+pub(crate) fn is_end(text: &[u8]) -> bool
+    ensures { IsTrue result ↔ (tokens text.now ≡ []) }
+{
+    without_spaces(text).is_empty()
 }
 
 /// The first lexeme of a text, and what stands behind it.

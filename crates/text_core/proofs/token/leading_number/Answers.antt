@@ -1,4 +1,4 @@
-use Rattle.std.proofs.Common.{◌≡◌, ◌+◌, ◌*◌, ◌-◌, ◌<◌, ◌∙◌, ℕ, [], ◌∷◌, length, true, false, refl, sym, ap, arith, Some}
+use Rattle.std.proofs.Common.{◌≡◌, ◌+◌, ◌*◌, ◌-◌, ◌^◌, ◌<◌, ◌≤◌, ◌∙◌, ℕ, List, ◌∷◌, length, true, false, refl, sym, ap, arith}
 use Rattle.std.specs.Prelude.{nat_eq}
 use Rattle.std.specs.Char.{is_ascii_digit}
 use Rattle.std.specs.Str.{all_ascii_digits}
@@ -6,8 +6,9 @@ use Rattle.std.specs.Str.Parse.{digits_value, digits_value_after}
 use Rattle.std.proofs.lemmas.Bool.Decides.{nat_tests}
 use Rattle.text_core.specs.Token.{behind_word, first_word}
 use Rattle.text_core.proofs.Lexemes.{behind_word_step, first_word_step}
-use Rattle.text_core.proofs.Numbers.{digits_after, number_of_fits, value_after}
+use Rattle.text_core.proofs.Numbers.{digits_after, digits_stop, number_of_long, number_of_none, number_of_over, number_of_short, value_after}
 use Rattle.text_core.proofs.token.leading_number.Goals as goal
+use Rattle.text_core.proofs.token.leading_number.Goals.{else-ends_word-via-then-ends_word+then-count-gt0+else-count-le20, else-ends_word-via-then-ends_word+else-count-gt0, else-ends_word-via-else-ends_word}
 
 is_digit : (d : ℕ) → d < 10 → is_ascii_digit (48 + d) ≡ true
 is_digit d small = grind (arith, nat_tests)
@@ -36,13 +37,44 @@ loop-digit-preserved c =
       shorter = omega (arith, more, c.loop-digit.invariant.shorter);
     }
 
-pub returns-then-ends_word-clause-number : goal.returns-then-ends_word-clause-number
-returns-then-ends_word-clause-number c =
+-- the digits that are left, from the one that is read
+value_at : (v d : ℕ) (rest behind : List ℕ) (whole : ℕ) → rest ≡ (48 + d) ∷ behind → digits_value_after 10 v (first_word rest) ≡ whole
+    → digits_value_after 10 v ((48 + d) ∷ first_word behind) ≡ whole
+value_at v d rest behind whole e f = ap (digits_value_after 10 v) (sym (ap first_word e ∙ first_word_step (48 + d) behind (is_apart d))) ∙ f
+
+pub returns-in_err-checked_mul-clause-number : goal.returns-in_err-checked_mul-clause-number
+returns-in_err-checked_mul-clause-number c =
+    let d = c.in-Some.digit in
     let v = c.loop-digit.value in
+    let behind = c.in-Some.behind.now in
     let whole = first_word c.args.text.now in
-    let none : first_word c.loop-digit.rest.now ≡ [] = c.if-ends_word.ensures.word refl in
-    let left : length (first_word c.loop-digit.rest.now) ≡ 0 = ap length none in
-    let count : length whole + length c.loop-digit.rest.now ≡ length c.args.text.now = omega (arith, left, c.loop-digit.invariant.count) in
-    let all : all_ascii_digits whole ≡ true = sym c.loop-digit.invariant.digits ∙ ap all_ascii_digits none in
-    let same : v ≡ digits_value 10 whole = sym (ap (digits_value_after 10 v) none) ∙ c.loop-digit.invariant.value in
-    number_of_fits whole (omega (arith, count, c.if-count-gt0.true)) (omega (arith, count, c.if-count-le20.true)) all (omega (arith, same, c.loop-digit.invariant.fits)) ∙ ap Some (sym same)
+    let large : 2 ^ 64 ≤ v * 10 + ((48 + d) - 48) = omega (arith, c.in_err-checked_mul.ensures) in
+    rw c.from_residual.ensures (number_of_over v (48 + d) (first_word behind) whole (is_digit d c.in-Some.ensures.small)
+    (value_at v d c.loop-digit.rest.now behind (digits_value 10 whole) c.in-Some.ensures.digit c.loop-digit.invariant.value) large)
+
+pub returns-in_err-value-clause-number : goal.returns-in_err-value-clause-number
+returns-in_err-value-clause-number c =
+    let d = c.in-Some.digit in
+    let v = c.loop-digit.value in
+    let behind = c.in-Some.behind.now in
+    let whole = first_word c.args.text.now in
+    let large : 2 ^ 64 ≤ v * 10 + ((48 + d) - 48) = omega (arith, c.in_err-value.ensures, c.in_ok-checked_mul.ensures, c.from.ensures) in
+    rw c.from_residual-in_err-value.ensures (number_of_over v (48 + d) (first_word behind) whole (is_digit d c.in-Some.ensures.small)
+    (value_at v d c.loop-digit.rest.now behind (digits_value 10 whole) c.in-Some.ensures.digit c.loop-digit.invariant.value) large)
+
+pub returns-else-ends_word-clause-number : goal.returns-else-ends_word-clause-number
+returns-else-ends_word-clause-number c =
+    let rest = c.loop-digit.rest.now in
+    let whole = first_word c.args.text.now in
+    let none : c.ends_word.result ≡ true → length (first_word rest) ≡ 0 = λ ends. ap length (c.ends_word.ensures.word ends) in
+    elim c.else-ends_word.branch [
+      | else-ends_word-via-then-ends_word+then-count-gt0+else-count-le20 w ↦
+          number_of_long whole (omega (arith, none w.if-ends_word.true, c.loop-digit.invariant.count, w.if-count-le20.false))
+      | else-ends_word-via-then-ends_word+else-count-gt0 w ↦
+          number_of_short whole (omega (arith, none w.if-ends_word.true, c.loop-digit.invariant.count, c.loop-digit.invariant.shorter, w.if-count-gt0.false))
+      | else-ends_word-via-else-ends_word w ↦
+          let more = c.ends_word.ensures.more w.if-ends_word.false in
+          let word : first_word rest ≡ more.0 ∷ first_word more.1 = ap first_word more.2 ∙ first_word_step more.0 more.1 more.3 in
+          number_of_none whole (sym c.loop-digit.invariant.digits ∙ ap all_ascii_digits word
+          ∙ digits_stop more.0 (first_word more.1) _ (c.in_default.ensures.none more.0 more.1 more.2) refl)
+    ]

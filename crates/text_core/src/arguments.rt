@@ -1,0 +1,70 @@
+//! The arguments of a line, read from its text.
+
+ghost use Rattle.std.specs.Prelude.{◌≡◌};
+ghost use Rattle.text_core.specs.Arguments.{flag_of, four_of, one_of, three_and_flag_of, three_of, two_and_flag_of, two_of};
+ghost use Rattle.text_core.specs.Token.{tokens};
+
+use crate::token::{Token, first_number, first_token, is_end};
+
+/// The number that is all of a text.
+pub(crate) fn one(text: &[u8]) -> Option<u64>
+    ensures { result ≡ one_of (tokens text.now) }
+{
+    let (a, behind) = first_number(text)?;
+    if is_end(behind) { Some(a) } else { None }
+}
+
+/// The two numbers that are all of a text.
+pub(crate) fn two(text: &[u8]) -> Option<(u64, u64)>
+    ensures { result ≡ two_of (tokens text.now) }
+{
+    let (a, behind) = first_number(text)?;
+    Some((a, one(behind)?))
+}
+
+/// The three numbers that are all of a text.
+pub(crate) fn three(text: &[u8]) -> Option<(u64, u64, u64)>
+    ensures { result ≡ three_of (tokens text.now) }
+{
+    let (a, behind) = first_number(text)?;
+    let (b, c) = two(behind)?;
+    Some((a, b, c))
+}
+
+/// The four numbers that are all of a text.
+pub(crate) fn four(text: &[u8]) -> Option<(u64, u64, u64, u64)>
+    ensures { result ≡ four_of (tokens text.now) }
+{
+    let (a, behind) = first_number(text)?;
+    let (b, c, d) = three(behind)?;
+    Some((a, b, c, d))
+}
+
+/// Whether a text is the word `unmovable`; None where it is anything else but empty.
+fn flag(text: &[u8]) -> Option<bool>
+    ensures { result ≡ flag_of (tokens text.now) }
+{
+    match first_token(text) {
+        None => Some(false),
+        Some((Token::Unmovable, behind)) if is_end(behind) => Some(true),
+        _ => None,
+    }
+}
+
+/// The two numbers and the flag that are all of a text.
+pub(crate) fn two_and_flag(text: &[u8]) -> Option<(u64, u64, bool)>
+    ensures { result ≡ two_and_flag_of (tokens text.now) }
+{
+    let (a, behind) = first_number(text)?;
+    let (b, behind) = first_number(behind)?;
+    Some((a, b, flag(behind)?))
+}
+
+/// The three numbers and the flag that are all of a text.
+pub(crate) fn three_and_flag(text: &[u8]) -> Option<(u64, u64, u64, bool)>
+    ensures { result ≡ three_and_flag_of (tokens text.now) }
+{
+    let (a, behind) = first_number(text)?;
+    let (b, c, unmovable) = two_and_flag(behind)?;
+    Some((a, b, c, unmovable))
+}
