@@ -1,0 +1,114 @@
+//! The small pages of a host, which stand between its huge ones.
+
+use bitflags::Flags;
+use frame_core::{Address, ClientNo, PageFlags, SpaceNo, VPage, WordNo};
+use rand_core::Rng;
+use rand_pcg::Pcg32;
+use round_core::{Shape, SharedZone};
+use std::sync::Wait;
+use std::sync::ledger::Ledger;
+
+/// The virtual pages of the space that they stand in.
+const VPAGES: u32 = 4096;
+
+/// Small pages that are mapped one after the other, each at the next virtual page, and most of which are unmapped soon.
+#[derive(Drop)]
+pub struct SmallPages {
+    draws: Pcg32,
+    next: u32,
+}
+
+impl SmallPages {
+    pub fn new() -> Self {
+        SmallPages {
+            draws: Pcg32::new(1, 5),
+            next: 0,
+        }
+    }
+
+    /// Maps so many pages, and unmaps all of them but about one in sixteen.
+    pub fn churn<K: Shape, I: Ledger, M: Ledger, B: Ledger, R: Wait>(
+        &mut self,
+        rt: &R,
+        shared: &SharedZone<K, I, M, B>,
+        count: u32,
+    ) {
+        let first = self.next;
+        for page in 0..count {
+            let _ = map(rt, shared, first.saturating_add(page) % VPAGES);
+        }
+        for page in 0..count {
+            if self.draws.next_u32() % 16 != 0 {
+                let _ = unmap(rt, shared, first.saturating_add(page) % VPAGES);
+            }
+        }
+        self.next = first.saturating_add(count) % VPAGES;
+    }
+}
+
+/// How many pages there are, and how many of them hold what was stored in them.
+pub fn count_kept<K: Shape, I: Ledger, M: Ledger, B: Ledger, R: Wait>(
+    rt: &R,
+    shared: &SharedZone<K, I, M, B>,
+) -> (u32, u32) {
+    let (mut pages, mut kept) = (0u32, 0u32);
+    for page in 0..VPAGES {
+        if let Some(value) = load(rt, shared, page) {
+            pages = pages.saturating_add(1);
+            kept = kept.saturating_add(u32::from(value == stored_in(page)));
+        }
+    }
+    (pages, kept)
+}
+
+/// What is stored in a page.
+fn stored_in(page: u32) -> u64 {
+    u64::from(page) + 1
+}
+
+/// Binds a virtual page to a fresh page, and stores its number there. A virtual page that is bound is left alone.
+fn map<K: Shape, I: Ledger, M: Ledger, B: Ledger, R: Wait>(
+    rt: &R,
+    shared: &SharedZone<K, I, M, B>,
+    page: u32,
+) -> Option<()> {
+    let (client, address, word) = (host()?, address(page)?, first_word()?);
+    let mut room = shared.lock(rt);
+    let _frame = room.zone.map(client, address, PageFlags::empty()).ok()?;
+    room.zone.store(client, address, word, stored_in(page)).ok()
+}
+
+/// Lets a virtual page name no page any more.
+fn unmap<K: Shape, I: Ledger, M: Ledger, B: Ledger, R: Wait>(
+    rt: &R,
+    shared: &SharedZone<K, I, M, B>,
+    page: u32,
+) -> Option<()> {
+    let (client, address) = (host()?, address(page)?);
+    shared.lock(rt).zone.unmap(client, address).ok()
+}
+
+/// What stands in a virtual page, if it is bound.
+fn load<K: Shape, I: Ledger, M: Ledger, B: Ledger, R: Wait>(
+    rt: &R,
+    shared: &SharedZone<K, I, M, B>,
+    page: u32,
+) -> Option<u64> {
+    let (client, address, word) = (host()?, address(page)?, first_word()?);
+    shared.lock(rt).zone.load(client, address, word).ok()
+}
+
+fn host() -> Option<ClientNo> {
+    ClientNo::new(0)
+}
+
+fn first_word() -> Option<WordNo> {
+    WordNo::new(0)
+}
+
+fn address(page: u32) -> Option<Address> {
+    Some(Address {
+        space: SpaceNo::new(0)?,
+        vpage: VPage::new(page)?,
+    })
+}
