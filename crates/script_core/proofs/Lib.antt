@@ -7,3 +7,7 @@ pub mod Closing
 pub mod Endings
 pub mod SerialRuns
 pub mod SeriesOfCalls
+pub mod Rounds
+pub mod Beginnings
+pub mod ThreadedRuns
+pub mod Carried

@@ -42,12 +42,12 @@ module _ (places : ℕ) where
   serial_begins : (commands : List Numbered) → (b : Begins IsStep (serial_at_first places) commands) → AreSteps places None commands b.answers b.after
   serial_begins commands b = serial_steps places None (serial_at_first places) b.after commands b.answers refl refl b.replied
 
-  serial_output : (input : List ℕ) (old new : Option (List ℕ)) → IsAnswered IsStep (serial_at_first places) input old new → Appends old new (output_of places input)
+  pub serial_output : (input : List ℕ) (old new : Option (List ℕ)) → IsAnswered IsStep (serial_at_first places) input old new → Appends old new (output_of places input)
   serial_output input old new h =
       let A : List Answer → Type 0 = λ list. Appends old new (texts list) in
       subst A (serial_begins (commands_of input) h.begins).answers_are h.written
 
-  serial_totals : (input : List ℕ) (old new : Option (List ℕ)) (totals : Totals) → IsTotal IsStep (serial_at_first places) input old new totals → totals ≡ totals_of places input
+  pub serial_totals : (input : List ℕ) (old new : Option (List ℕ)) (totals : Totals) → IsTotal IsStep (serial_at_first places) input old new totals → totals ≡ totals_of places input
   serial_totals input old new totals h =
       h.totals_are ∙ ap (λ (list : List Answer). record { lines = newlines input; replies = length list }) (serial_begins (commands_of input) h.answered.begins).answers_are
 
@@ -73,7 +73,7 @@ module _ (places : ℕ) where
       ap (answers_from places None) h.order ∙ answers_from-append places None h.before h.behind in
       subst S (sym all) (stops_more _ _ old new line (subst S (serial_begins h.before h.begins).answers_are h.stops))
 
-  serial_ends : (f : Fault) (input : List ℕ) (e : RunError) (left left_new old new : Option (List ℕ)) → IsEnded IsStep Opens (serial_at_first places) f input e left left_new old new → EndsIn f places input e left left_new old new
+  pub serial_ends : (f : Fault) (input : List ℕ) (e : RunError) (left left_new old new : Option (List ℕ)) → IsEnded IsStep Opens (serial_at_first places) f input e left left_new old new → EndsIn f places input e left left_new old new
   serial_ends Syntax input e left left_new old new h = (h.0, serial_output input old new h.1)
   serial_ends LongLine input e left left_new old new h = (h.0, serial_output input old new h.1)
   serial_ends Read input e left left_new old new h = record { past = h.past; read = h.read; clean = h.clean; written = serial_output h.past old new h.answered; at = h.at }

@@ -4,6 +4,7 @@ pub mod Script
 pub mod Ends
 pub mod Runs
 pub mod Serial
+pub mod Threaded
 pub mod Outbox
 pub mod Player
 pub mod Streams

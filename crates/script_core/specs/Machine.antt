@@ -1,4 +1,4 @@
--- The machine of a script: it has no zone yet, or one in a world.
+-- The machine of a script on one thread: it has no zone yet, or one in a world.
 use Rattle.std.specs.Prelude.{ℕ, zero, suc, ◌+◌, ◌*◌, ◌/◌, Bool, true, false, nat_eq, if◌then◌else◌, Option, Some, None}
 use Rattle.frame_core.specs.declared.place.Address.{Address}
 use Rattle.state_core.specs.declared.error.ZoneError.{ZoneError}
@@ -29,7 +29,7 @@ use Rattle.text_core.specs.declared.command.Repeated.{Repeated}
 use Rattle.text_core.specs.declared.command.Repeated.TheVariants as repeated
 use Rattle.text_core.specs.Grammar.{address_of}
 use Rattle.text_core.specs.declared.command.Command.{Command}
-use Rattle.text_core.specs.declared.command.Command.TheVariants.{Open, On, Profile2, OutOfRange}
+use Rattle.text_core.specs.declared.command.Command.TheVariants.{Open, On, Compact, Profile2, OutOfRange}
 use Rattle.text_core.specs.declared.reply.Reply.{Reply}
 use Rattle.text_core.specs.declared.reply.Reply.TheVariants as reply
 
@@ -174,12 +174,22 @@ abbrev pub step_on : ℕ → Calls → Option WorldState → Step
 step_on zone calls None = declined 43 None
 step_on zone calls (Some w) = if nat_eq zone w.zone.number then answered (calls_step w calls) else declined 43 (Some w)
 
+-- the number by which a round is refused where no worker can be had for it
+abbrev pub round_refusal : ℕ → WorldState → ℕ
+round_refusal zone w = if nat_eq zone w.zone.number then (if w.is_open then 45 else 32) else 43
+
+-- a round over the zone with this number, without threads
+abbrev pub compact_on : ℕ → Option WorldState → Step
+compact_on zone None = declined 43 None
+compact_on zone (Some w) = declined (round_refusal zone w) (Some w)
+
 -- any command, where a zone is opened with these places in its journal
 abbrev pub step : ℕ → Option WorldState → Command → Step
 step places world OutOfRange = declined 1 world
 step places world Profile2 = record { reply = reply.Done; world = world }
 step places world (Open zone blocks) = open_step zone blocks places world
 step places world (On zone calls) = step_on zone calls world
+step places world (Compact zone) = compact_on zone world
 
 -- whether a command opens a zone
 abbrev pub opens : Option WorldState → Command → Bool

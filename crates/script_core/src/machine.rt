@@ -1,6 +1,7 @@
-ghost use Rattle.std.specs.Prelude.{◌≡◌, ◌<◌, ◌≤◌, bit_and, Some, None, IfOk, OnErr, OnOk};
-ghost use Rattle.script_core.specs.Machine.{call_at, call_step, calls_step, ending, found, open_step, page_step, series_step, step_on};
+ghost use Rattle.std.specs.Prelude.{◌≡◌, ◌<◌, ◌≤◌, bit_and, true, false, ⊤, Some, None, IfNone, IfOk, IfSome, OnErr, OnOk};
+ghost use Rattle.script_core.specs.Machine.{call_at, call_step, calls_step, compact_on, ending, found, open_step, page_step, series_step, step_on};
 ghost use Rattle.script_core.specs.Serial.{IsStep, Opens, serial_at_first};
+ghost use Rattle.script_core.specs.Threaded.{runs_round};
 ghost use Rattle.text_core.specs.Grammar.{address_of};
 ghost use Rattle.text_core.specs.declared.reply.Reply.TheVariants as reply;
 ghost use Rattle.zone_core.specs.Books.{AreFor};
@@ -21,6 +22,7 @@ use zone_core::{Blanks, Finished, Scanned, World, WorldError};
 /// What a script works on: no zone yet, with the blanks to open one, or the world of the one zone that it opened.
 #[derive(Drop)]
 pub(crate) struct Machine<I: Ledger, N: Ledger, M: Ledger, B: Ledger> {
+    alloc: Global,
     places: u32,
     blanks: Option<Blanks>,
     world: Option<World<I, N, M, B>>,
@@ -48,24 +50,28 @@ impl<I: Ledger, N: Ledger, M: Ledger, B: Ledger> Respond for Machine<I, N, M, B>
 
     ghost asks = { Opens };
 
-    fn respond(&mut self, alloc: Global, command: Command) -> Result<Reply, AllocError> {
+    ghost ready = { λ _. ⊤ };
+
+    fn respond(&mut self, command: Command) -> Result<Reply, AllocError> {
         match command {
             Command::OutOfRange => Ok(Reply::Refused(1)),
             Command::Profile2 => Ok(Reply::Done),
-            Command::Open { zone, blocks } => self.open(alloc, zone, blocks),
+            Command::Open { zone, blocks } => self.open(zone, blocks),
             Command::On { zone, calls } => Ok(self.call(zone, calls)),
+            Command::Compact { zone } => Ok(self.compact(zone)),
         }
     }
 }
 
 impl<I: Ledger, N: Ledger, M: Ledger, B: Ledger> Machine<I, N, M, B> {
     /// No zone yet. One that is opened has so many places in its journal.
-    pub(crate) fn new(places: u32, blanks: Blanks) -> Self
+    pub(crate) fn new(alloc: Global, places: u32, blanks: Blanks) -> Self
         requires places { (0 < places) × (places ≤ 65536) }
         requires blanks { AreFor blanks I.name I.parts N.name N.parts M.name M.parts B.name B.parts }
         ensures { result ≡ serial_at_first places }
     {
         Machine {
+            alloc,
             places,
             blanks: Some(blanks),
             world: None,
@@ -73,7 +79,7 @@ impl<I: Ledger, N: Ledger, M: Ledger, B: Ledger> Machine<I, N, M, B> {
     }
 
     /// Opens a zone, where none is open yet.
-    fn open(&mut self, alloc: Global, zone: ZoneNo, blocks: BlockCount) -> Result<Reply, AllocError>
+    fn open(&mut self, zone: ZoneNo, blocks: BlockCount) -> Result<Reply, AllocError>
         ensures ok { IfOk result (λ reply. record { reply = reply; world = self.new.world } ≡ open_step zone blocks self.old.places self.old.world) }
         ensures places { OnOk result (self.new.places ≡ self.old.places) }
         ensures memory { OnErr result (self.old.world ≡ None) }
@@ -84,11 +90,59 @@ impl<I: Ledger, N: Ledger, M: Ledger, B: Ledger> Machine<I, N, M, B> {
         let Some(blanks) = self.blanks.take() else {
             return Err(AllocError);
         };
-        let Ok(world) = World::open(alloc, zone, blocks.get(), self.places, blanks) else {
+        let Ok(world) = World::open(self.alloc, zone, blocks.get(), self.places, blanks) else {
             return Err(AllocError);
         };
         self.world = Some(world);
         Ok(Reply::Done)
+    }
+
+    /// A round over the zone with this number, where that is the one that is open: without threads no worker can be had.
+    fn compact(&self, zone: ZoneNo) -> Reply
+        ensures { record { reply = result; world = self.now.world } ≡ compact_on zone self.now.world }
+    {
+        match &self.world {
+            Some(world) if world.zone().number() == zone => {
+                Reply::Refused(if world.is_open() { 45 } else { 32 })
+            }
+            _ => Reply::Refused(43),
+        }
+    }
+
+    /// Gives the world away, where the command runs a round over its zone.
+    pub(crate) fn take_for_round(&mut self, command: &Command) -> Option<World<I, N, M, B>>
+        ensures given { IfSome result (λ world. (self.old.world ≡ Some world) × (runs_round command.now self.old.world ≡ true)) }
+        ensures closed { IfSome result (λ world. world.is_open ≡ false) }
+        ensures left { IfSome result (λ _. self.new ≡ serial_at_first self.old.places) }
+        ensures none { IfNone result ((self.new ≡ self.old) × (runs_round command.now self.old.world ≡ false)) }
+    {
+        match *command {
+            Command::Compact { zone } => self.take_closed(zone),
+            Command::Open { .. } | Command::On { .. } | Command::Profile2 | Command::OutOfRange =>
+                None,
+        }
+    }
+
+    /// Gives the world of the zone with this number away, where no round is open by hand.
+    fn take_closed(&mut self, zone: ZoneNo) -> Option<World<I, N, M, B>>
+        ensures given { IfSome result (λ world. (self.old.world ≡ Some world) × (runs_round (Command.Compact zone) self.old.world ≡ true)) }
+        ensures closed { IfSome result (λ world. world.is_open ≡ false) }
+        ensures left { IfSome result (λ _. self.new ≡ serial_at_first self.old.places) }
+        ensures none { IfNone result ((self.new ≡ self.old) × (runs_round (Command.Compact zone) self.old.world ≡ false)) }
+    {
+        let world = self.world.take()?;
+        if world.zone().number() == zone && !world.is_open() {
+            return Some(world);
+        }
+        self.world = Some(world);
+        None
+    }
+
+    /// Takes a world, where there is none.
+    pub(crate) fn put_back(&mut self, world: World<I, N, M, B>)
+        ensures { self.new ≡ record self.old { world = Some world } }
+    {
+        self.world = Some(world);
     }
 
     /// Answers calls on the zone with this number, where that is the one that is open.

@@ -17,15 +17,13 @@ use crate::respond::Respond;
 use crate::script::Totals;
 use arrayvec::ArrayVec;
 use memchr::memchr;
-use std::alloc::Global;
 use std::marker::Model;
 use std::mem;
 use text_core::{Command, Profile, ScriptError, read_line};
 
 /// Plays a script: the machine that answers it, the line that has begun, and the replies that wait.
 #[derive(Drop)]
-pub(crate) struct Player<A> {
-    alloc: Global,
+pub(crate) struct Player<A: Respond> {
     profile: Profile,
     machine: A,
     held: ArrayVec<u8, 200>,
@@ -34,7 +32,7 @@ pub(crate) struct Player<A> {
     outbox: Outbox,
 }
 
-impl<A> Model for Player<A> {
+impl<A: Respond> Model for Player<A> {
     ghost use Rattle.std.specs.Prelude.{◌<◌};
     ghost use Rattle.script_core.specs.Player.{Player as Seen};
 
@@ -42,16 +40,16 @@ impl<A> Model for Player<A> {
 
     ghost view = { λ s. record { profile = s.profile; machine = s.machine; held = s.held.items; line = s.line; replies = s.replies; box = s.outbox } };
 
-    ghost invariant = { λ s. s.replies < s.line };
+    ghost invariant = { λ s. (s.replies < s.line) × A.ready s.machine };
 }
 
 impl<A: Respond> Player<A> {
     /// At the first byte of a script.
-    pub(crate) fn new(alloc: Global, machine: A) -> Self
+    fn new(machine: A) -> Self
+        requires { A.ready machine }
         ensures { result ≡ begun machine }
     {
         Player {
-            alloc,
             profile: Profile::Untold,
             machine,
             held: ArrayVec::new(),
@@ -105,7 +103,7 @@ impl<A: Respond> Player<A> {
     {
         let line = self.line;
         let profile = self.profile.behind(&command);
-        let Ok(reply) = self.machine.respond(self.alloc, command) else {
+        let Ok(reply) = self.machine.respond(command) else {
             return Err(RunError {
                 fault: Fault::Memory,
                 line,
@@ -214,7 +212,7 @@ impl<A: Respond> Player<A> {
     }
 
     /// Takes a whole input. Before it reads on, the replies to what was read are written.
-    pub(crate) fn run<R: Input, W: Output>(
+    fn run<R: Input, W: Output>(
         &mut self,
         reader: &mut R,
         writer: &mut W,
@@ -291,6 +289,28 @@ impl<A: Respond> Player<A> {
             line,
         })
     }
+}
+
+/// Plays the script that a reader gives on a machine, and writes its replies.
+pub(crate) fn play<A: Respond + Drop, R: Input, W: Output>(
+    machine: A,
+    reader: &mut R,
+    writer: &mut W,
+) -> Result<Totals, RunError>
+    requires { A.ready machine }
+    ensures ok { OnOk result (IfSome (R.remaining reader.old) (λ input. fault_of input ≡ None)) }
+    ensures answered { IfOk result (λ totals. IfSome (R.remaining reader.old) (λ input.
+        IsTotal A.may machine input (W.contents writer.old) (W.contents writer.new) totals)) }
+    ensures err { IfErr result (λ error. IfSome (R.remaining reader.old) (λ input.
+        IsEnded A.may A.asks machine error.fault input error (R.remaining reader.old) (R.remaining reader.new)
+        (W.contents writer.old) (W.contents writer.new))) }
+    ensures heard { OnOk result (R.failed reader.new ≡ false) }
+    ensures unread { IfErr result (λ error. error.fault ≡ Fault.Read → CannotReadOn (R.failed reader.new)
+        (R.reads reader.old) (R.reads reader.new) (R.remaining reader.old)) }
+    ensures stuck { IfErr result (λ error. error.fault ≡ Fault.Write → IsTrue (W.stuck writer.new)) }
+{
+    let mut player = Player::new(machine);
+    player.run(reader, writer)
 }
 
 /// What stands before the first newline, and what stands behind it.

@@ -11,7 +11,7 @@ use crate::input::Input;
 use crate::machine::Machine;
 use crate::options::Options;
 use crate::output::Output;
-use crate::player::Player;
+use crate::player::play;
 use crate::text::Text;
 use std::alloc::Global;
 use std::marker::Brand;
@@ -27,8 +27,9 @@ pub struct Totals {
     pub replies: u64,
 }
 
-/// Runs a script: reads its lines, answers its commands and writes the replies, up to its end or to the first fault. The
-/// clauses speak of a reader and a writer that tell their bytes, in whatever pieces they give and take them.
+/// Runs a script: reads its lines, answers its commands and writes the replies, up to its end or to the first fault. A round is
+/// refused, since there are no threads. The clauses speak of a reader and a writer that tell their bytes, in whatever pieces they
+/// give and take them.
 pub fn run<R: Input, W: Output>(
     alloc: Global,
     reader: &mut R,
@@ -109,7 +110,6 @@ fn run_with<I: Ledger, N: Ledger, M: Ledger, B: Ledger, R: Input, W: Output>(
         (R.reads reader.old) (R.reads reader.new) (R.remaining reader.old)) }
     ensures stuck { IfErr result (λ error. error.fault ≡ Fault.Write → IsTrue (W.stuck writer.new)) }
 {
-    let machine = Machine::<I, N, M, B>::new(options.journal, blanks);
-    let mut player = Player::new(alloc, machine);
-    player.run(reader, writer)
+    let machine = Machine::<I, N, M, B>::new(alloc, options.journal, blanks);
+    play(machine, reader, writer)
 }

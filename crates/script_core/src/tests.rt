@@ -1,7 +1,10 @@
-use crate::{Fault, Options, RunError, Sink, Source, Totals, run, run_text};
+use crate::{Fault, Options, RunError, Sink, Source, Text, Totals, run, run_on_threads, run_text};
+use std::alloc::Global;
 use std::io;
 use std::io::{ErrorKind, Read, Write};
+use std::sync::Wait;
 use std::test::Fail;
+use std::thread::Threads;
 
 const OPTIONS: Options = Options {
     copiers: 2,
@@ -14,6 +17,38 @@ fn played(rt: &HostRuntime, script: &[u8]) -> Result<(Vec<u8>, Result<Totals, Ru
     let mut sink = Sink::new(Vec::new(rt.alloc()));
     let ended = run_text(rt.alloc(), script, &mut sink, OPTIONS);
     Ok((sink.into_inner(), ended))
+}
+
+/// The same, with rounds on threads.
+fn played_on_threads<H: Threads + Wait + Sync>(
+    rt: &H,
+    alloc: Global,
+    script: &[u8],
+) -> (Vec<u8>, Result<Totals, RunError>) {
+    let mut sink = Sink::new(Vec::new(alloc));
+    let ended = run_on_threads(rt, alloc, &mut Text::new(script), &mut sink, OPTIONS);
+    (sink.into_inner(), ended)
+}
+
+#[test]
+fn runs_rounds_where_there_are_threads(rt: HostRuntime) -> Result<(), Fail> {
+    let script: &[u8] = b"zone 0 2\nmap 0 0 0\ncompact 0\nscan 0\ncompact 0\nlook 0 0 0\n";
+    let (written, ended) = played(&rt, script)?;
+    let expected = b"ok\nok\nrefused 32\nserial=0\nrefused 45\nmoving serial=0 pins=0 maps=1\n";
+    assert_eq!(rt; written.as_slice(), expected.as_slice());
+    assert!(rt; ended.is_ok());
+    let (written, ended) = played_on_threads(&rt, rt.alloc(), script);
+    let expected =
+        b"ok\nok\nisolated=1 moved=1 back=0 stopped=met\nmet\nrefused 45\nframe=1023 dirty=0 unmovable=0 pins=0 maps=1\n";
+    assert_eq!(rt; written.as_slice(), expected.as_slice());
+    assert_eq!(rt;
+        ended,
+        Ok(Totals {
+            lines: 6,
+            replies: 6
+        })
+    );
+    Ok(())
 }
 
 #[test]

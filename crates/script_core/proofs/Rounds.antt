@@ -1,0 +1,120 @@
+-- The steps of a machine with threads.
+use Rattle.std.proofs.Common.{◌≡◌, ℕ, ◌+◌, ◌≤◌, Bool, true, false, refl, sym, ap, subst, ◌∙◌, inr, arith, Option, Some, None, Result, Ok, Err}
+use Rattle.std.specs.Prelude.{IfOk, nat_eq}
+use Rattle.std.proofs.lemmas.Bool.Decides.{nat_tests}
+use Rattle.state_core.specs.declared.error.ZoneError.{ZoneError}
+use Rattle.state_core.specs.ZoneState.{ZoneState}
+use Rattle.zone_core.specs.Seats.{ScanSeat, EndSeat, audit_refusal}
+use Rattle.zone_core.specs.Shape.{HasShape}
+use Rattle.zone_core.specs.World.{WorldState, world_closed}
+use Rattle.round_core.specs.declared.error.RoundError.{RoundError}
+use Rattle.round_core.specs.declared.error.RoundError.TheVariants.{Memory, NoWorker, Broken, Stranger}
+use Rattle.round_core.specs.declared.round.Round.{Round}
+use Rattle.round_core.specs.Kept.{IsKept}
+use Rattle.round_core.specs.Rounds.{IsBroken, IsRefusedEarly, IsRound}
+use Rattle.text_core.specs.declared.command.Command.{Command}
+use Rattle.text_core.specs.declared.reply.Reply.{Reply}
+use Rattle.script_core.specs.Serial.{IsStep, Serial}
+use Rattle.script_core.specs.Threaded.{IsRoundOn, IsRoundStep, IsStepAt, IsStepBy, IsThreadedStep, Settles, Threaded, broken_reply, left_by, round_reply, runs_round}
+
+-- a command that runs a round
+pub round_step : (old : Threaded) (command : Command) (answer : Reply) (new : Threaded) (w : WorldState) (places : ℕ)
+    → old.serial.world ≡ Some w → runs_round command old.serial.world ≡ true → places ≡ old.serial.places → IsRoundOn w places answer new
+    → IsStepBy (runs_round command old.serial.world) old command answer new
+round_step old command answer new w places is runs same on =
+    let P : ℕ → Type 0 = λ n. IsRoundOn w n answer new in
+    let R : Option WorldState → Type 0 = λ o. IsRoundStep o old.serial.places answer new in
+    let S : Bool → Type 0 = λ b. IsStepBy b old command answer new in
+    subst S (sym runs) (subst R (sym is) (subst P same on))
+
+-- any other command, which the machine answers as on one thread
+pub other_step : (old : Threaded) (command : Command) (answer : Reply) (new : Threaded) (machine : Serial)
+    → machine ≡ old.serial → runs_round command old.serial.world ≡ false → IsStep machine command answer new.serial → new.broken ≡ None
+    → IsStepBy (runs_round command old.serial.world) old command answer new
+other_step old command answer new machine same runs step none =
+    let M : Serial → Type 0 = λ m. IsStep m command answer new.serial in
+    let S : Bool → Type 0 = λ b. IsStepBy b old command answer new in
+    subst S (sym runs) (subst M same step, none)
+
+-- where a zone is broken, and where none is
+pub broken_step : (old : Threaded) (command : Command) (answer : Reply) (new : Threaded) (number : ℕ)
+    → old.broken ≡ Some number → answer ≡ broken_reply number command → new ≡ old → IsThreadedStep old command answer new
+broken_step old command answer new number is told same =
+    let S : Option ℕ → Type 0 = λ o. IsStepAt o old command answer new in
+    subst S (sym is) (told, same)
+
+pub whole_step : (old : Threaded) (command : Command) (answer : Reply) (new : Threaded)
+    → old.broken ≡ None → IsStepBy (runs_round command old.serial.world) old command answer new → IsThreadedStep old command answer new
+whole_step old command answer new is step =
+    let S : Option ℕ → Type 0 = λ o. IsStepAt o old command answer new in
+    subst S (sym is) step
+
+-- what a machine is whose zone passes its audit, and one whose zone doesn't
+pub left_whole : (places : ℕ) (zone zone_new : ZoneState) (scan scan_new : ScanSeat) (ends ends_new : EndSeat) (refusal : Option ZoneError) (new : Threaded)
+    → refusal ≡ None → zone_new ≡ zone → scan_new ≡ scan → ends_new ≡ ends → new.serial.places ≡ places
+    → new.serial.world ≡ Some (world_closed zone_new scan_new ends_new) → new.broken ≡ None → new ≡ left_by places zone scan ends refusal
+left_whole places zone zone_new scan scan_new ends ends_new refusal new passes same_zone same_scan same_ends same_places world none =
+    let is : world_closed zone_new scan_new ends_new ≡ world_closed zone scan ends = λ i. world_closed (same_zone i) (same_scan i) (same_ends i) in
+    let there : new.serial.world ≡ Some (world_closed zone scan ends) = world ∙ ap Some is in
+    let here : new ≡ left_by places zone scan ends None = λ i. record { serial = record { places = same_places i; world = there i }; broken = none i } in
+    here ∙ ap (left_by places zone scan ends) (sym passes)
+
+pub left_broken : (places : ℕ) (zone : ZoneState) (scan : ScanSeat) (ends : EndSeat) (error : ZoneError) (refusal : Option ZoneError) (new : Threaded)
+    → refusal ≡ Some error → new.serial.places ≡ places → new.serial.world ≡ None → new.broken ≡ Some zone.number → new ≡ left_by places zone scan ends refusal
+left_broken places zone scan ends error refusal new refused same_places none number =
+    let here : new ≡ left_by places zone scan ends (Some error) = λ i. record { serial = record { places = same_places i; world = none i }; broken = number i } in
+    here ∙ ap (left_by places zone scan ends) (sym refused)
+
+-- numbers that don't differ
+stable : (n m : ℕ) → ((n ≡ m → ⊥) → ⊥) → n ≡ m
+stable n m twice = by_test (nat_eq n m) refl where
+  by_test : (t : Bool) → nat_eq n m ≡ t → n ≡ m
+  by_test true e = (let same : n ≡ m = grind (arith, nat_tests) in same)
+  by_test false e = absurd (twice (λ same. grind (arith, nat_tests, same)))
+
+memory_isnt_broken : ◌≡◌ {A = Result Round RoundError} (Err Memory) (Err Broken) → ⊥
+memory_isnt_broken e = cc
+
+no_worker_isnt_broken : ◌≡◌ {A = Result Round RoundError} (Err NoWorker) (Err Broken) → ⊥
+no_worker_isnt_broken e = cc
+
+-- seats that weren't broken before a round that wasn't begun pass an audit behind it
+module _ (scan_old scan : ScanSeat) (ends_old ends : EndSeat) (refusal : Option ZoneError) (whole : ends_old.parts ≡ 64)
+    (passes : 64 ≤ ends.parts → ends.moved + ends.back ≡ scan.count → refusal ≡ None) where
+  unbegun_passes : (IsBroken scan_old ends_old → ⊥) → (scan ≡ scan_old) × (ends ≡ ends_old) → refusal ≡ None
+  unbegun_passes unbroken same =
+      let settled : ends_old.moved + ends_old.back ≡ scan_old.count = stable _ _ (λ differs. unbroken (inr differs)) in
+      passes (omega (arith, ap (λ (e : EndSeat). e.parts) same.1, whole))
+      (ap (λ (e : EndSeat). e.moved + e.back) same.1 ∙ settled ∙ ap (λ (s : ScanSeat). s.count) (sym same.0))
+
+  settles : (result : Result Round RoundError) → IfOk result (λ r. IsRound scan_old scan ends_old ends r) → IsRefusedEarly scan_old scan ends_old ends result
+      → Settles result → refusal ≡ None
+  settles (Ok r) round early is = (let parts = round.whole in passes (omega (arith, parts)) round.settled)
+  settles (Err Memory) round early is = unbegun_passes (λ broken. memory_isnt_broken (early.broken.1 broken).0) (early.same (early.want tt))
+  settles (Err NoWorker) round early is = unbegun_passes (λ broken. no_worker_isnt_broken (early.broken.1 broken).0) (early.same (early.want tt))
+  settles (Err Broken) round early is = absurd is
+  settles (Err (Stranger serial)) round early is = absurd is
+
+-- a round over the zone and the seats that a world was split into
+pub round_on : (w : WorldState) (places : ℕ) (zone_old zone : ZoneState) (scan_old scan : ScanSeat) (ends_old ends : EndSeat) (result : Result Round RoundError)
+    (answer : Reply) (new : Threaded) → zone_old ≡ w.zone → scan_old ≡ w.scan → ends_old ≡ w.ends → ends_old.parts ≡ 64
+    → IsKept zone → HasShape zone_old.number zone_old.blocks zone
+    → IfOk result (λ r. IsRound scan_old scan ends_old ends r) → IsRefusedEarly scan_old scan ends_old ends result
+    → (64 ≤ ends.parts → ends.moved + ends.back ≡ scan.count → audit_refusal zone ends ≡ None)
+    → answer ≡ round_reply result → new ≡ left_by places zone scan ends (audit_refusal zone ends) → IsRoundOn w places answer new
+round_on w places zone_old zone scan_old scan ends_old ends result answer new same_zone same_scan same_ends whole kept shape round early passes told left =
+    let R : ScanSeat → EndSeat → Type 0 = λ s e. IfOk result (λ r. IsRound s scan e ends r) in
+    let E : ScanSeat → EndSeat → Type 0 = λ s e. IsRefusedEarly s scan e ends result in
+    record {
+      zone = zone;
+      kept = kept;
+      shape = (shape.0 ∙ ap (λ (z : ZoneState). z.number) same_zone, shape.1 ∙ ap (λ (z : ZoneState). z.blocks) same_zone);
+      scan = scan;
+      ends = ends;
+      result = result;
+      round = subst (λ s. R s w.ends) same_scan (subst (λ e. R scan_old e) same_ends round);
+      early = subst (λ s. E s w.ends) same_scan (subst (λ e. E scan_old e) same_ends early);
+      settled = settles scan_old scan ends_old ends (audit_refusal zone ends) whole passes result round early;
+      answer_is = told;
+      left = left;
+    }

@@ -1,0 +1,108 @@
+ghost use Rattle.std.specs.Prelude.{◌≡◌, IfErr, IfOk, IfSome, IsTrue, OnErr, OnOk, None, false};
+ghost use Rattle.std.specs.Io.KnownBytes.{Appends};
+ghost use Rattle.zone_core.specs.Books.{AreFor};
+ghost use Rattle.script_core.specs.declared.error.Fault.{Fault};
+ghost use Rattle.script_core.specs.Ends.{EndsIn};
+ghost use Rattle.script_core.specs.Runs.{IsAnswered, IsEnded, IsTotal};
+ghost use Rattle.script_core.specs.Script.{fault_of, output_of, totals_of};
+ghost use Rattle.script_core.specs.Streams.{CannotReadOn};
+ghost use Rattle.script_core.specs.Threaded.{AsksMemory, IsThreadedStep, RunsNoRound, threaded_at_first};
+
+use crate::answering::Answering;
+use crate::error::RunError;
+use crate::input::Input;
+use crate::options::Options;
+use crate::output::Output;
+use crate::player::play;
+use crate::script::Totals;
+use crate::threaded::Threaded;
+use std::alloc::Global;
+use std::marker::Brand;
+use std::sync::Wait;
+use std::sync::ledger::Ledger;
+use std::thread::Threads;
+use text_core::Command;
+use zone_core::Blanks;
+
+/// Runs a script as `run` does, and its rounds on threads. A round may be answered in more than one way, so that a script is answered
+/// by replies that its machine may give; one that runs no round has just the replies that it has by `run`.
+pub fn run_on_threads<R: Input, W: Output, H: Threads + Wait + Sync>(
+    rt: &H,
+    alloc: Global,
+    reader: &mut R,
+    writer: &mut W,
+    options: Options,
+) -> Result<Totals, RunError>
+    // The script has no fault, and is answered.
+    ensures ok { OnOk result (IfSome (R.remaining reader.old) (λ input. fault_of input ≡ None)) }
+    ensures answered { OnOk result (IfSome (R.remaining reader.old) (λ input.
+        IsAnswered IsThreadedStep (threaded_at_first options.journal) input (W.contents writer.old) (W.contents writer.new))) }
+    ensures total { IfOk result (λ totals. IfSome (R.remaining reader.old) (λ input.
+        IsTotal IsThreadedStep (threaded_at_first options.journal) input (W.contents writer.old) (W.contents writer.new) totals)) }
+
+    // Whatever else ends the run, the replies before it are written, but where it is that they can't be.
+    ensures err { IfErr result (λ error. IfSome (R.remaining reader.old) (λ input.
+        IsEnded IsThreadedStep AsksMemory (threaded_at_first options.journal) error.fault input error
+        (R.remaining reader.old) (R.remaining reader.new) (W.contents writer.old) (W.contents writer.new))) }
+
+    // A read failed, or ten million saw no end; a write failed, or took no byte.
+    ensures heard { OnOk result (R.failed reader.new ≡ false) }
+    ensures unread { IfErr result (λ error. error.fault ≡ Fault.Read → CannotReadOn (R.failed reader.new)
+        (R.reads reader.old) (R.reads reader.new) (R.remaining reader.old)) }
+    ensures stuck { IfErr result (λ error. error.fault ≡ Fault.Write → IsTrue (W.stuck writer.new)) }
+
+    // Of a script that runs no round all holds that does on one thread.
+    ensures totals { IfOk result (λ totals. IfSome (R.remaining reader.old) (λ input.
+        RunsNoRound input → totals ≡ totals_of options.journal input)) }
+    ensures output { OnOk result (IfSome (R.remaining reader.old) (λ input.
+        RunsNoRound input → Appends (W.contents writer.old) (W.contents writer.new) (output_of options.journal input))) }
+    ensures ends { IfErr result (λ error. IfSome (R.remaining reader.old) (λ input.
+        RunsNoRound input → EndsIn error.fault options.journal input error
+        (R.remaining reader.old) (R.remaining reader.new) (W.contents writer.old) (W.contents writer.new))) }
+{
+    run_threaded::<Brand, Brand, Brand, Brand, R, W, H>(
+        rt,
+        alloc,
+        reader,
+        writer,
+        options,
+        Blanks::new(),
+    )
+}
+
+/// Runs a script on threads. Its zone, if it opens one, is named by the ledgers.
+fn run_threaded<
+    I: Ledger + Send + Sync,
+    N: Ledger,
+    M: Ledger + Send + Sync,
+    B: Ledger + Send + Sync,
+    R: Input,
+    W: Output,
+    H: Threads + Wait + Sync,
+>(
+    rt: &H,
+    alloc: Global,
+    reader: &mut R,
+    writer: &mut W,
+    options: Options,
+    blanks: Blanks,
+) -> Result<Totals, RunError>
+    requires blanks { AreFor blanks I.name I.parts N.name N.parts M.name M.parts B.name B.parts }
+    ensures ok { OnOk result (IfSome (R.remaining reader.old) (λ input. fault_of input ≡ None)) }
+    ensures total { IfOk result (λ totals. IfSome (R.remaining reader.old) (λ input.
+        IsTotal IsThreadedStep (threaded_at_first options.journal) input (W.contents writer.old) (W.contents writer.new) totals)) }
+    ensures err { IfErr result (λ error. IfSome (R.remaining reader.old) (λ input.
+        IsEnded IsThreadedStep AsksMemory (threaded_at_first options.journal) error.fault input error
+        (R.remaining reader.old) (R.remaining reader.new) (W.contents writer.old) (W.contents writer.new))) }
+    ensures heard { OnOk result (R.failed reader.new ≡ false) }
+    ensures unread { IfErr result (λ error. error.fault ≡ Fault.Read → CannotReadOn (R.failed reader.new)
+        (R.reads reader.old) (R.reads reader.new) (R.remaining reader.old)) }
+    ensures stuck { IfErr result (λ error. error.fault ≡ Fault.Write → IsTrue (W.stuck writer.new)) }
+{
+    let mut machine = Threaded::<I, N, M, B>::new(alloc, options, blanks);
+    let answer = move |command: Command|
+        ensures ok { IfOk result (λ reply. IsThreadedStep machine.entry command reply machine.exit) }
+        ensures memory { OnErr result (AsksMemory machine.entry command) }
+    { machine.respond(rt, command) };
+    play(Answering { answer }, reader, writer)
+}

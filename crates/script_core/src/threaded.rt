@@ -1,0 +1,214 @@
+ghost use Rattle.std.specs.Prelude.{◌≡◌, ◌+◌, ◌≤◌, ◌↔◌, false, None, IsOk, IfOk, OnErr};
+ghost use Rattle.std.specs.Result.{result_err};
+ghost use Rattle.round_core.specs.Kept.{IsKept};
+ghost use Rattle.round_core.specs.Rounds.{IsRefusedEarly, IsRound};
+ghost use Rattle.zone_core.specs.Books.{AreFor};
+ghost use Rattle.zone_core.specs.Seats.{audit_refusal};
+ghost use Rattle.zone_core.specs.Shape.{HasShape};
+ghost use Rattle.script_core.specs.Serial.{Opens};
+ghost use Rattle.script_core.specs.Threaded.{AsksMemory, IsRoundOn, IsStepBy, IsThreadedStep, broken_refusal, broken_reply, left_by, round_reply, runs_round, stopped_as, threaded_at_first};
+
+use crate::machine::Machine;
+use crate::options::Options;
+use crate::respond::Respond;
+use frame_core::ZoneNo;
+use round_core::{NoGate, Round, RoundError, Stop, compact_alone};
+use std::alloc::{AllocError, Global};
+use std::marker::Model;
+use std::sync::Wait;
+use std::sync::ledger::Ledger;
+use std::thread::Threads;
+use text_core::{Command, Reply, Stopped};
+use zone_core::{Audit, Blanks, Rest, Seats, World, Zone, ZoneError};
+
+/// What a script works on where there are threads: the machine as on one thread, and the number of the zone that a round left
+/// with pages on their way.
+#[derive(Drop)]
+pub(crate) struct Threaded<I: Ledger, N: Ledger, M: Ledger, B: Ledger> {
+    alloc: Global,
+    options: Options,
+    machine: Machine<I, N, M, B>,
+    broken: Option<ZoneNo>,
+}
+
+impl<I: Ledger, N: Ledger, M: Ledger, B: Ledger> Model for Threaded<I, N, M, B> {
+    ghost use Rattle.std.specs.Coded.{codes};
+    ghost use Rattle.plain_core.specs.contracts.plain.PlainZone as plain_zone;
+    ghost use Rattle.script_core.specs.Threaded.{Threaded as Seen};
+
+    ghost Value = { Seen };
+
+    ghost coded = { Prim.hlevel (codes, plain_zone.the_row.coded) };
+
+    ghost view = { λ t. record { serial = t.machine; broken = t.broken } };
+}
+
+impl<I: Ledger + Send + Sync, N: Ledger, M: Ledger + Send + Sync, B: Ledger + Send + Sync> Threaded<
+    I,
+    N,
+    M,
+    B,
+> {
+    /// No zone yet. One that is opened has as many places in its journal as the options say, and its rounds as many copiers and as
+    /// much room in their queues.
+    pub(crate) fn new(alloc: Global, options: Options, blanks: Blanks) -> Self
+        requires blanks { AreFor blanks I.name I.parts N.name N.parts M.name M.parts B.name B.parts }
+        ensures { result ≡ threaded_at_first options.journal }
+    {
+        Threaded {
+            alloc,
+            options,
+            machine: Machine::new(alloc, options.journal, blanks),
+            broken: None,
+        }
+    }
+
+    /// Answers a command. It fails only for want of memory.
+    pub(crate) fn respond<H: Threads + Wait + Sync>(
+        &mut self,
+        rt: &H,
+        command: Command,
+    ) -> Result<Reply, AllocError>
+        ensures ok { IfOk result (λ reply. IsThreadedStep self.old command reply self.new) }
+        ensures memory { OnErr result (AsksMemory self.old command) }
+    {
+        match self.broken_zone() {
+            Some(number) => Ok(broken_reply(number, command)),
+            None => self.answer(rt, command),
+        }
+    }
+
+    /// The number of the zone that a round left broken, if one did.
+    fn broken_zone(&self) -> Option<ZoneNo>
+        ensures { result ≡ self.now.broken }
+    {
+        self.broken
+    }
+
+    /// Answers a command where no zone is broken.
+    fn answer<H: Threads + Wait + Sync>(
+        &mut self,
+        rt: &H,
+        command: Command,
+    ) -> Result<Reply, AllocError>
+        requires whole { self.old.broken ≡ None }
+        ensures ok { IfOk result (λ reply. IsStepBy (runs_round command self.old.serial.world) self.old command reply self.new) }
+        ensures memory { OnErr result (Opens self.old.serial command) }
+    {
+        let Some(world) = self.machine.take_for_round(&command) else {
+            return self.machine.respond(command);
+        };
+        Ok(self.run_round(rt, world))
+    }
+
+    /// Runs a round over the zone of a world, which the machine gives for it.
+    fn run_round<H: Threads + Wait + Sync>(&mut self, rt: &H, world: World<I, N, M, B>) -> Reply
+        requires given { self.old.serial.world ≡ None }
+        requires whole { self.old.broken ≡ None }
+        requires closed { world.is_open ≡ false }
+        ensures { IsRoundOn world self.old.serial.places result self.new }
+    {
+        let Ok((zone, mut seats, rest)) = world.split() else {
+            unreachable!()
+        };
+        let (zone, round) = self.compact(rt, zone, &mut seats);
+        self.take_back(zone, seats, rest);
+        reply_to(round)
+    }
+
+    /// Runs a round over a zone, with as many copiers and as much room in their queues as the options say.
+    fn compact<H: Threads + Wait + Sync>(
+        &self,
+        rt: &H,
+        zone: Zone<I, M, B>,
+        seats: &mut Seats<I, N, M, B>,
+    ) -> (Zone<I, M, B>, Result<Round, RoundError>)
+        ensures kept { IsKept result.0 }
+        ensures shape { HasShape zone.number zone.blocks result.0 }
+        ensures round { IfOk result.1 (λ r. IsRound seats.old.scan seats.new.scan seats.old.ends seats.new.ends r) }
+        ensures early { IsRefusedEarly seats.old.scan seats.new.scan seats.old.ends seats.new.ends result.1 }
+    {
+        compact_alone(
+            rt,
+            self.alloc,
+            zone,
+            seats,
+            self.options.copiers,
+            self.options.capacity,
+            &NoGate,
+        )
+    }
+
+    /// Takes a zone back with its seats. Where its audit fails it is dropped, and its number is kept.
+    fn take_back(&mut self, mut zone: Zone<I, M, B>, mut seats: Seats<I, N, M, B>, rest: Rest)
+        requires given { self.old.serial.world ≡ None }
+        requires whole { self.old.broken ≡ None }
+        requires rest { rest ≡ zone.blocks }
+        ensures left { self.new ≡ left_by self.old.serial.places zone seats.scan seats.ends (audit_refusal zone seats.ends) }
+        ensures exact { 64 ≤ seats.ends.parts → seats.ends.moved + seats.ends.back ≡ seats.scan.count → audit_refusal zone seats.ends ≡ None }
+    {
+        let number = zone.number();
+        match audit(&mut zone, &mut seats) {
+            Ok(_) => self.machine.put_back(World::join(zone, seats, rest)),
+            Err(_) => self.broken = Some(number),
+        }
+    }
+}
+
+/// Audits a zone with its seats.
+fn audit<I: Ledger, N: Ledger, M: Ledger, B: Ledger>(
+    zone: &mut Zone<I, M, B>,
+    seats: &mut Seats<I, N, M, B>,
+) -> Result<Audit, ZoneError>
+    ensures refused { result_err result ≡ audit_refusal zone.old seats.old.ends }
+    ensures exact { 64 ≤ seats.old.ends.parts → (IsOk result ↔ (seats.old.ends.moved + seats.old.ends.back ≡ seats.old.scan.count)) }
+    ensures same { (zone.new ≡ zone.old) × (seats.new.scan ≡ seats.old.scan) × (seats.new.ends ≡ seats.old.ends) }
+{
+    zone.audit(&mut seats.scan, &mut seats.ends)
+}
+
+/// The reply to a round.
+fn reply_to(round: Result<Round, RoundError>) -> Reply
+    ensures { result ≡ round_reply round }
+{
+    match round {
+        Ok(round) => Reply::Round {
+            isolated: round.count,
+            moved: round.moved,
+            back: round.back,
+            stopped: stopped(round.stopped),
+        },
+        Err(error) => Reply::Refused(error.number()),
+    }
+}
+
+/// Why a round stopped, for its reply.
+fn stopped(stop: Stop) -> Stopped
+    ensures { result ≡ stopped_as stop }
+{
+    match stop {
+        Stop::Met => Stopped::Met,
+        Stop::JournalFull => Stopped::JournalFull,
+    }
+}
+
+/// The reply to a command where the zone with this number is broken: it isn't there for any call.
+fn broken_reply(number: ZoneNo, command: Command) -> Reply
+    ensures { result ≡ broken_reply number command }
+{
+    match command {
+        Command::OutOfRange => Reply::Refused(1),
+        Command::Profile2 => Reply::Done,
+        Command::Open { .. } => Reply::Refused(44),
+        Command::On { zone, .. } | Command::Compact { zone } => {
+            Reply::Refused(broken_refusal(number, zone))
+        }
+    }
+}
+
+/// The number by which a command on a zone is refused then.
+fn broken_refusal(number: ZoneNo, zone: ZoneNo) -> u16
+    ensures { result ≡ broken_refusal number zone }
+{
+    if zone == number { 33 } else { 43 }
+}
