@@ -1,3 +1,4 @@
+pub mod Calls
 pub mod Errors
 pub mod Receipts
 pub mod Settling

@@ -1,8 +1,16 @@
 //! The calls of a client that need a page at an address, and how to wait for the page.
 
-ghost use Rattle.std.specs.Prelude.{◌≢◌, IfErr};
+ghost use Rattle.std.specs.Prelude.{◌≡◌, ◌≢◌, Option, IfOk, IfErr, OnErr};
+ghost use Rattle.std.specs.Result.{result_err};
+ghost use Rattle.state_core.specs.declared.error.ZoneError.{ZoneError};
+ghost use Rattle.state_core.specs.Access.{access_refusal, stored};
 ghost use Rattle.state_core.specs.Lawful.{IsLawful};
+ghost use Rattle.state_core.specs.Pinning.{pin_refusal, unpin_refusal, pinned, unpinned};
+ghost use Rattle.state_core.specs.Sharing.{share_refusal, shared};
+ghost use Rattle.state_core.specs.Unmapping.{unmap_refusal, unmapped};
+ghost use Rattle.state_core.specs.ZoneState.{ZoneState};
 ghost use Rattle.zone_core.specs.Shape.{HasShape};
+ghost use Rattle.client_core.specs.Calls.{IsAccepted, IsRefused, leaving, loading};
 
 use frame_core::{Address, ClientNo, WordNo};
 use round_core::{Shape, SharedZone};
@@ -14,10 +22,19 @@ use zone_core::{Zone, ZoneError};
 pub(crate) trait Access {
     type Answer: Drop;
 
+    /// Why a zone refuses it.
+    ghost refusal: { Self → ZoneState → Option ZoneError };
+
+    /// What it answers of a zone that accepts it, and what the zone is then.
+    ghost leaves: { Self → ZoneState → Self.Answer → ZoneState → Type 0 };
+
     fn make<I: Ledger, M: Ledger, B: Ledger>(
         &self,
         zone: &mut Zone<I, M, B>,
     ) -> Result<Self::Answer, ZoneError>
+        ensures refused { result_err result ≡ refusal self.now zone.old }
+        ensures err { OnErr result (zone.new ≡ zone.old) }
+        ensures accepted { IfOk result (λ answer. leaves self.now zone.old answer zone.new) }
         ensures shape { HasShape zone.old.number zone.old.blocks zone.new }
         ensures lawful { IsLawful zone.new };
 }
@@ -29,6 +46,8 @@ pub(crate) fn once_there<A: Access, K: Shape, I: Ledger, M: Ledger, B: Ledger, R
     shared: &SharedZone<K, I, M, B>,
     access: &A,
 ) -> Result<A::Answer, ZoneError>
+    ensures accepted { IfOk result (IsAccepted (A.refusal access.now) (A.leaves access.now)) }
+    ensures refused { IfErr result (IsRefused (A.refusal access.now)) }
     ensures there { IfErr result (λ refusal. refusal ≢ ZoneError.Moving) }
 {
     let mut room = shared.lock(rt);
@@ -41,6 +60,19 @@ pub(crate) fn once_there<A: Access, K: Shape, I: Ledger, M: Ledger, B: Ledger, R
     unreachable!()
 }
 
+/// Makes a call under the lock of a zone, wherever the page is.
+pub(crate) fn at_once<A: Access, K: Shape, I: Ledger, M: Ledger, B: Ledger, R: Wait>(
+    rt: &R,
+    shared: &SharedZone<K, I, M, B>,
+    access: &A,
+) -> Result<A::Answer, ZoneError>
+    ensures accepted { IfOk result (IsAccepted (A.refusal access.now) (A.leaves access.now)) }
+    ensures refused { IfErr result (IsRefused (A.refusal access.now)) }
+{
+    let mut room = shared.lock(rt);
+    access.make(&mut room.zone)
+}
+
 #[derive(Clone, Copy)]
 pub(crate) struct Share {
     pub client: ClientNo,
@@ -50,6 +82,10 @@ pub(crate) struct Share {
 
 impl Access for Share {
     type Answer = ();
+
+    ghost refusal = { λ call zone. share_refusal zone call.address call.alias };
+
+    ghost leaves = { λ call. leaving (λ zone. shared zone call.client call.address call.alias) };
 
     fn make<I: Ledger, M: Ledger, B: Ledger>(
         &self,
@@ -68,6 +104,10 @@ pub(crate) struct Unmap {
 impl Access for Unmap {
     type Answer = ();
 
+    ghost refusal = { λ call zone. unmap_refusal zone call.address };
+
+    ghost leaves = { λ call. leaving (λ zone. unmapped zone call.client call.address) };
+
     fn make<I: Ledger, M: Ledger, B: Ledger>(
         &self,
         zone: &mut Zone<I, M, B>,
@@ -85,6 +125,10 @@ pub(crate) struct Load {
 
 impl Access for Load {
     type Answer = u64;
+
+    ghost refusal = { λ call zone. access_refusal zone call.address };
+
+    ghost leaves = { λ call. loading call.client call.address call.word };
 
     fn make<I: Ledger, M: Ledger, B: Ledger>(
         &self,
@@ -105,6 +149,10 @@ pub(crate) struct Store {
 impl Access for Store {
     type Answer = ();
 
+    ghost refusal = { λ call zone. access_refusal zone call.address };
+
+    ghost leaves = { λ call. leaving (λ zone. stored zone call.client call.address call.word call.value) };
+
     fn make<I: Ledger, M: Ledger, B: Ledger>(
         &self,
         zone: &mut Zone<I, M, B>,
@@ -122,6 +170,10 @@ pub(crate) struct Pin {
 impl Access for Pin {
     type Answer = ();
 
+    ghost refusal = { λ call zone. pin_refusal zone call.address };
+
+    ghost leaves = { λ call. leaving (λ zone. pinned zone call.client call.address) };
+
     fn make<I: Ledger, M: Ledger, B: Ledger>(
         &self,
         zone: &mut Zone<I, M, B>,
@@ -138,6 +190,10 @@ pub(crate) struct Unpin {
 
 impl Access for Unpin {
     type Answer = ();
+
+    ghost refusal = { λ call zone. unpin_refusal zone call.address };
+
+    ghost leaves = { λ call. leaving (λ zone. unpinned zone call.client call.address) };
 
     fn make<I: Ledger, M: Ledger, B: Ledger>(
         &self,

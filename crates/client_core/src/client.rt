@@ -1,10 +1,17 @@
 ghost use Rattle.std.specs.Prelude.{◌≡◌, ◌≢◌, ℕ, [], Some, slice_get, IsSome, IfOk, IfErr, OnOk, OnErr};
 ghost use Rattle.std.specs.Int.RustNames.{bit_and};
 ghost use Rattle.journal_core.specs.declared.record.Record.TheVariants.{Map, Share, Unmap, Store, Load, Pin, Unpin};
+ghost use Rattle.frame_core.specs.PageFlags.{is_unmovable};
+ghost use Rattle.state_core.specs.Access.{access_refusal, stored};
+ghost use Rattle.state_core.specs.Mapping.{map_refusal, map_at_refusal};
+ghost use Rattle.state_core.specs.Pinning.{pin_refusal, unpin_refusal, pinned, unpinned};
+ghost use Rattle.state_core.specs.Sharing.{share_refusal, shared as shared_by};
+ghost use Rattle.state_core.specs.Unmapping.{unmap_refusal, unmapped};
+ghost use Rattle.client_core.specs.Calls.{IsAccepted, IsFailed, leaving, loading, mapping, mapping_lowest};
 ghost use Rattle.client_core.specs.Receipts.{with_receipt};
 
 use crate::access;
-use crate::access::{Access, once_there};
+use crate::access::{at_once, once_there};
 use crate::error::ClientError;
 use frame_core::{Address, ClientNo, FrameNo, PageFlags, WordNo};
 use journal_core::{Journal, Record};
@@ -66,8 +73,10 @@ impl Client {
         flags: PageFlags,
     ) -> Result<FrameNo, ClientError>
         requires clean { bit_and flags.0 2 ≡ 0 }
-        ensures ok { OnOk result ((page : ℕ) × (self.new ≡ with_receipt self.old (Map self.old.number address page))) }
+        ensures ok { IfOk result (λ frame. (page : ℕ) × (self.new ≡ with_receipt self.old (Map self.old.number address page))
+            × IsAccepted (λ zone. map_refusal zone address) (mapping_lowest self.old.number address (is_unmovable flags) frame) page) }
         ensures err { OnErr result (self.new ≡ self.old) }
+        ensures refused { IfErr result (IsFailed (λ zone. map_refusal zone address)) }
     {
         self.receipts.reserve(1)?;
         let mut room = shared.lock(rt);
@@ -86,8 +95,10 @@ impl Client {
         frame: FrameNo,
     ) -> Result<(), ClientError>
         requires clean { bit_and flags.0 2 ≡ 0 }
-        ensures ok { OnOk result ((page : ℕ) × (self.new ≡ with_receipt self.old (Map self.old.number address page))) }
+        ensures ok { OnOk result ((page : ℕ) × (self.new ≡ with_receipt self.old (Map self.old.number address page))
+            × IsAccepted (λ zone. map_at_refusal zone address frame) (mapping self.old.number address (is_unmovable flags) frame) page) }
         ensures err { OnErr result (self.new ≡ self.old) }
+        ensures refused { IfErr result (IsFailed (λ zone. map_at_refusal zone address frame)) }
     {
         self.receipts.reserve(1)?;
         let mut room = shared.lock(rt);
@@ -105,7 +116,9 @@ impl Client {
         alias: Address,
     ) -> Result<(), ClientError>
         ensures ok { OnOk result (self.new ≡ with_receipt self.old (Share self.old.number address alias)) }
+        ensures accepted { IfOk result (IsAccepted (λ zone. share_refusal zone address alias) (leaving (λ zone. shared_by zone self.old.number address alias))) }
         ensures err { OnErr result (self.new ≡ self.old) }
+        ensures refused { IfErr result (IsFailed (λ zone. share_refusal zone address alias)) }
         ensures there { IfErr result (λ error. error ≢ ClientError.Zone ZoneError.Moving) }
     {
         self.receipts.reserve(1)?;
@@ -131,7 +144,9 @@ impl Client {
         address: Address,
     ) -> Result<(), ClientError>
         ensures ok { OnOk result (self.new ≡ with_receipt self.old (Unmap self.old.number address)) }
+        ensures accepted { IfOk result (IsAccepted (λ zone. unmap_refusal zone address) (leaving (λ zone. unmapped zone self.old.number address))) }
         ensures err { OnErr result (self.new ≡ self.old) }
+        ensures refused { IfErr result (IsFailed (λ zone. unmap_refusal zone address)) }
         ensures there { IfErr result (λ error. error ≢ ClientError.Zone ZoneError.Moving) }
     {
         self.receipts.reserve(1)?;
@@ -156,7 +171,9 @@ impl Client {
         word: WordNo,
     ) -> Result<u64, ClientError>
         ensures ok { IfOk result (λ value. self.new ≡ with_receipt self.old (Load self.old.number address word value)) }
+        ensures accepted { IfOk result (IsAccepted (λ zone. access_refusal zone address) (loading self.old.number address word)) }
         ensures err { OnErr result (self.new ≡ self.old) }
+        ensures refused { IfErr result (IsFailed (λ zone. access_refusal zone address)) }
         ensures there { IfErr result (λ error. error ≢ ClientError.Zone ZoneError.Moving) }
     {
         self.receipts.reserve(1)?;
@@ -185,7 +202,9 @@ impl Client {
         value: u64,
     ) -> Result<(), ClientError>
         ensures ok { OnOk result (self.new ≡ with_receipt self.old (Store self.old.number address word value)) }
+        ensures accepted { IfOk result (IsAccepted (λ zone. access_refusal zone address) (leaving (λ zone. stored zone self.old.number address word value))) }
         ensures err { OnErr result (self.new ≡ self.old) }
+        ensures refused { IfErr result (IsFailed (λ zone. access_refusal zone address)) }
         ensures there { IfErr result (λ error. error ≢ ClientError.Zone ZoneError.Moving) }
     {
         self.receipts.reserve(1)?;
@@ -213,14 +232,16 @@ impl Client {
         address: Address,
     ) -> Result<(), ClientError>
         ensures ok { OnOk result (self.new ≡ with_receipt self.old (Pin self.old.number address)) }
+        ensures accepted { IfOk result (IsAccepted (λ zone. pin_refusal zone address) (leaving (λ zone. pinned zone self.old.number address))) }
         ensures err { OnErr result (self.new ≡ self.old) }
+        ensures refused { IfErr result (IsFailed (λ zone. pin_refusal zone address)) }
     {
         self.receipts.reserve(1)?;
         let call = access::Pin {
             client: self.number,
             address,
         };
-        call.make(&mut shared.lock(rt).zone)?;
+        at_once(rt, shared, &call)?;
         self.receipts.push_reserved(Record::Pin {
             client: call.client,
             address: call.address,
@@ -236,14 +257,16 @@ impl Client {
         address: Address,
     ) -> Result<(), ClientError>
         ensures ok { OnOk result (self.new ≡ with_receipt self.old (Unpin self.old.number address)) }
+        ensures accepted { IfOk result (IsAccepted (λ zone. unpin_refusal zone address) (leaving (λ zone. unpinned zone self.old.number address))) }
         ensures err { OnErr result (self.new ≡ self.old) }
+        ensures refused { IfErr result (IsFailed (λ zone. unpin_refusal zone address)) }
     {
         self.receipts.reserve(1)?;
         let call = access::Unpin {
             client: self.number,
             address,
         };
-        call.make(&mut shared.lock(rt).zone)?;
+        at_once(rt, shared, &call)?;
         self.receipts.push_reserved(Record::Unpin {
             client: call.client,
             address: call.address,

@@ -1,7 +1,24 @@
 use Rattle.std.proofs.Common.{rules}
 use Rattle.std.specs.Prelude.{unwrap_or}
+use Rattle.state_core.specs.Mapping.{map_at_refusal}
 use Rattle.state_core.specs.ZoneState.{lowest_unused_page}
+use Rattle.client_core.proofs.Calls.{refused}
 use Rattle.client_core.proofs.client.Client.map_at.Goals as goal
 
+pub returns-in_err-map_at-clause-refused : goal.returns-in_err-map_at-clause-refused
+returns-in_err-map_at-clause-refused g c =
+    let is = refused (λ zone. map_at_refusal zone c.args.address c.args.frame) c.behind-room.inside.zone c.behind-room.invariant.0 c.map_at.result c.map_at.ensures.refused in
+    search (rules, is)
+
 pub returns-clause-ok : goal.returns-clause-ok
-returns-clause-ok g c = (unwrap_or (lowest_unused_page c.behind-room.inside.zone) 0, search rules)
+returns-clause-ok g c = (
+  unwrap_or (lowest_unused_page c.behind-room.inside.zone) 0,
+  search rules,
+  record {
+    zone = c.behind-room.inside.zone;
+    lawful = c.behind-room.invariant.0;
+    accepted = search rules;
+    zone_new = c.map_at.new.self;
+    left = search rules;
+  },
+)

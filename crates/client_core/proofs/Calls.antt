@@ -1,0 +1,25 @@
+-- What the answer of a zone under its lock tells.
+use Rattle.std.proofs.Common.{◌≡◌, sym, Option}
+use Rattle.std.specs.Prelude.{Result, Ok, Err, IfOk, IfErr}
+use Rattle.std.specs.Result.{result_err}
+use Rattle.state_core.specs.declared.error.ZoneError.{ZoneError}
+use Rattle.state_core.specs.Lawful.{IsLawful}
+use Rattle.state_core.specs.ZoneState.{ZoneState}
+use Rattle.client_core.specs.Calls.{IsAccepted, IsRefused}
+
+pub accepted : {X : Type 0} (refusal : ZoneState → Option ZoneError) (leaves : ZoneState → X → ZoneState → Type 0) (zone zone_new : ZoneState)
+    → IsLawful zone → (result : Result X ZoneError) → result_err result ≡ refusal zone
+    → IfOk result (λ answer. leaves zone answer zone_new) → IfOk result (IsAccepted refusal leaves)
+accepted refusal leaves zone zone_new lawful (Ok answer) is left = record {
+  zone = zone;
+  lawful = lawful;
+  accepted = sym is;
+  zone_new = zone_new;
+  left = left;
+}
+accepted refusal leaves zone zone_new lawful (Err error) is left = tt
+
+pub refused : {X : Type 0} (refusal : ZoneState → Option ZoneError) (zone : ZoneState)
+    → IsLawful zone → (result : Result X ZoneError) → result_err result ≡ refusal zone → IfErr result (IsRefused refusal)
+refused refusal zone lawful (Ok answer) is = tt
+refused refusal zone lawful (Err error) is = record { zone = zone; lawful = lawful; refused = sym is }

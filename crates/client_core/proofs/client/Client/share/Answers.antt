@@ -1,0 +1,10 @@
+use Rattle.std.proofs.Common.{◌≡◌, ℕ, subst, rules}
+use Rattle.state_core.specs.Sharing.{share_refusal, shared}
+use Rattle.client_core.specs.Calls.{IsAccepted, leaving}
+use Rattle.client_core.proofs.client.Client.share.Goals as goal
+
+pub returns-clause-accepted : goal.returns-clause-accepted
+returns-clause-accepted g c =
+    let is : c.self.inside.number ≡ c.args.self.now.number = search rules in
+    subst (λ (number : ℕ). IsAccepted (λ zone. share_refusal zone c.args.address c.args.alias) (leaving (λ zone. shared zone number c.args.address c.args.alias)) tt) is
+    c.in_ok-once_there.ensures.accepted

@@ -1,0 +1,47 @@
+-- What a call tells of a zone as it stood under its lock: what it was at that moment, and what it was then.
+use Rattle.std.specs.Prelude.{◌≡◌, ℕ, Bool, Option, Some, None, unwrap_or}
+use Rattle.frame_core.specs.declared.place.Address.{Address}
+use Rattle.state_core.specs.declared.error.ZoneError.{ZoneError}
+use Rattle.state_core.specs.Access.{value_at, loaded}
+use Rattle.state_core.specs.Lawful.{IsLawful}
+use Rattle.state_core.specs.Mapping.{mapped}
+use Rattle.state_core.specs.ZoneState.{ZoneState, lowest_free_frame, lowest_unused_page}
+use Rattle.client_core.specs.declared.error.ClientError.{ClientError}
+use Rattle.client_core.specs.declared.error.ClientError.TheVariants.{Memory, Zone}
+
+-- a zone accepted a call, which is refused by the first and leaves what the second says of its answer
+pub record IsAccepted {X : Type 0} (refusal : ZoneState → Option ZoneError) (leaves : ZoneState → X → ZoneState → Type 0) (answer : X) : Type 0 where
+  pub zone : ZoneState
+  pub lawful : IsLawful zone
+  pub accepted : refusal zone ≡ None
+  pub zone_new : ZoneState
+  pub left : leaves zone answer zone_new
+
+-- a zone refused a call
+pub record IsRefused (refusal : ZoneState → Option ZoneError) (error : ZoneError) : Type 0 where
+  pub zone : ZoneState
+  pub lawful : IsLawful zone
+  pub refused : refusal zone ≡ Some error
+
+-- a call failed for want of memory, or because a zone refused it
+abbrev pub IsFailed : (ZoneState → Option ZoneError) → ClientError → Type 0
+IsFailed refusal Memory = Unit {0}
+IsFailed refusal (Zone error) = IsRefused refusal error
+
+-- a call that answers nothing leaves one zone
+abbrev pub leaving : (ZoneState → ZoneState) → ZoneState → Unit {0} → ZoneState → Type 0
+leaving left zone done zone_new = zone_new ≡ left zone
+
+-- a load answers the value of the word
+abbrev pub loading : ℕ → Address → ℕ → ZoneState → ℕ → ZoneState → Type 0
+loading client address word zone value zone_new = (value ≡ value_at zone address word) × (zone_new ≡ loaded zone client address word)
+
+-- a map at this frame, of the page that is fresh
+abbrev pub mapping : ℕ → Address → Bool → ℕ → ZoneState → ℕ → ZoneState → Type 0
+mapping client address unmovable frame zone page zone_new =
+    (page ≡ unwrap_or (lowest_unused_page zone) 0) × (zone_new ≡ mapped zone client address unmovable frame)
+
+-- the same where the frame is the lowest free one
+abbrev pub mapping_lowest : ℕ → Address → Bool → ℕ → ZoneState → ℕ → ZoneState → Type 0
+mapping_lowest client address unmovable frame zone page zone_new =
+    (lowest_free_frame zone ≡ Some frame) × mapping client address unmovable frame zone page zone_new
