@@ -8,7 +8,7 @@ use Rattle.text_core.specs.declared.command.Call.TheVariants.{Info, InfoWithHeld
 use Rattle.text_core.specs.declared.command.Calls.{Calls}
 use Rattle.text_core.specs.declared.command.Calls.TheVariants.{One, Series as SeriesOf}
 use Rattle.text_core.specs.declared.command.Command.{Command}
-use Rattle.text_core.specs.declared.command.Command.TheVariants.{Open, On, Profile2, OutOfRange}
+use Rattle.text_core.specs.declared.command.Command.TheVariants.{Open, On, Compact, Profile2, OutOfRange}
 use Rattle.text_core.specs.declared.reply.Reply.{Reply}
 use Rattle.text_core.specs.declared.reply.Reply.TheVariants as reply
 use Rattle.text_core.proofs.Ranges.{IsInRange}
@@ -38,6 +38,7 @@ adds_step : (places : ℕ) (w : WorldState) → IsOrderly w → (c : Command) �
 adds_step places w o OutOfRange = tt
 adds_step places w o Profile2 = tt
 adds_step places w o (Open zone blocks) = tt
+adds_step places w o (Compact zone) = tt
 adds_step places w o (On zone calls) = by_number (nat_eq zone w.zone.number) where
   by_number : (b : Bool) → AddsUpTo (Some (512 * w.zone.blocks)) (if b then answered (calls_step w calls) else declined 43 (Some w)).reply
   by_number true = adds_calls w o calls
@@ -59,6 +60,7 @@ adds_first : (places : ℕ) → (0 < places) × (places ≤ 65536) → (line : �
 adds_first places range line OutOfRange commands r ranged rest = (tt, rest)
 adds_first places range line Profile2 commands r ranged rest = (tt, rest)
 adds_first places range line (On zone calls) commands r ranged rest = (tt, rest)
+adds_first places range line (Compact zone) commands r ranged rest = (tt, rest)
 adds_first places range line (Open zone blocks) commands r ranged rest = (tt, open_adds places (Some (512 * blocks)) commands ranged _ (opened_orderly zone blocks places r range) refl)
 
 adds : (places : ℕ) → (0 < places) × (places ≤ 65536) → (commands : List Numbered) → AreInRange commands → CountsAddUp commands (answers_from places None commands)

@@ -7,7 +7,7 @@ use Rattle.text_core.specs.declared.command.Call.{Call}
 use Rattle.text_core.specs.declared.command.Call.TheVariants as call
 use Rattle.text_core.specs.declared.command.Calls.TheVariants.{One, Series as SeriesOf}
 use Rattle.text_core.specs.declared.command.Command.{Command}
-use Rattle.text_core.specs.declared.command.Command.TheVariants.{Open, On, Profile2, OutOfRange}
+use Rattle.text_core.specs.declared.command.Command.TheVariants.{Open, On, Compact, Profile2, OutOfRange}
 use Rattle.text_core.specs.declared.error.ScriptError.{ScriptError}
 use Rattle.text_core.specs.declared.profile.Profile.{Profile}
 use Rattle.text_core.specs.declared.profile.Profile.TheVariants.{Untold, One as Profile1, Two}
@@ -53,6 +53,8 @@ step_told places w OutOfRange = refl
 step_told places w Profile2 = refl
 step_told places None (Open zone blocks) = refl
 step_told places (Some w) (Open zone blocks) = refl
+step_told places None (Compact zone) = refl
+step_told places (Some w) (Compact zone) = refl
 step_told places None (On zone (One c)) = refl
 step_told places None (On zone (SeriesOf s)) = refl
 step_told places (Some w) (On zone (One c)) = by_number (nat_eq zone w.zone.number) where

@@ -32,7 +32,7 @@ use Rattle.text_core.specs.declared.command.Calls.{Calls}
 use Rattle.text_core.specs.declared.command.Calls.TheVariants.{One, Series as SeriesOf}
 use Rattle.text_core.specs.declared.command.Repeated.{Repeated}
 use Rattle.text_core.specs.declared.command.Command.{Command}
-use Rattle.text_core.specs.declared.command.Command.TheVariants.{Open, On, Profile2, OutOfRange}
+use Rattle.text_core.specs.declared.command.Command.TheVariants.{Open, On, Compact, Profile2, OutOfRange}
 use Rattle.text_core.specs.declared.profile.Profile.TheVariants.{Untold}
 use Rattle.text_core.specs.declared.reply.Reply.{Reply}
 use Rattle.text_core.specs.declared.reply.Reply.TheVariants as reply
@@ -231,6 +231,7 @@ refused_nothing older Profile2 number = refl
 refused_nothing older (Open zone blocks) number = refl
 refused_nothing older (On zone (One c)) number = refl
 refused_nothing older (On zone (SeriesOf s)) number = refl
+refused_nothing older (Compact zone) number = refl
 
 moved_to : (v after : WorldState) (history : List Record) → Some v ≡ Some after → Match v.zone.records history → Match after.zone.records history
 moved_to v after history e m = subst (λ (x : WorldState). Match x.zone.records history) (same_Some v after e) m
@@ -248,6 +249,7 @@ tells_step : (places : ℕ) (older : List Record) (w : WorldState) → IsOrderly
 tells_step places older w o m OutOfRange = record { match = λ after e. moved_to w after older e m; value = tt }
 tells_step places older w o m Profile2 = record { match = λ after e. moved_to w after older e m; value = tt }
 tells_step places older w o m (Open zone blocks) = record { match = λ after e. moved_to w after older e m; value = tt }
+tells_step places older w o m (Compact zone) = record { match = λ after e. moved_to w after older e m; value = tt }
 tells_step places older w o m (On zone calls) = record { match = (by_number (nat_eq zone w.zone.number)).0; value = (by_number (nat_eq zone w.zone.number)).1 } where
   by_number : (b : Bool)
       → ((after : WorldState) → (if b then answered (calls_step w calls) else declined 43 (Some w)).world ≡ Some after → Match after.zone.records (told older (On zone calls) (if b then answered (calls_step w calls) else declined 43 (Some w)).reply))
@@ -275,6 +277,7 @@ first_values : (places : ℕ) → (0 < places) × (places ≤ 65536) → (line :
     → ValuesAreStored [] (record { line = line; command = command } ∷ commands) (answers_from places None (record { line = line; command = command } ∷ commands))
 first_values places range line OutOfRange commands r ranged rest = (tt, rest)
 first_values places range line Profile2 commands r ranged rest = (tt, rest)
+first_values places range line (Compact zone) commands r ranged rest = (tt, rest)
 first_values places range line (On zone calls) commands r ranged rest = (
   no_value [] (On zone calls) (reply.Refused 43) refl,
   subst (λ (history : List Record). ValuesAreStored history commands (answers_from places None commands)) (sym (refused_nothing [] (On zone calls) 43)) rest,
