@@ -1,6 +1,6 @@
 -- What the answer of a zone under its lock tells.
 use Rattle.std.proofs.Common.{◌≡◌, ℕ, Bool, true, false, not, sym, subst, Some, None}
-use Rattle.std.specs.Prelude.{Result, Ok, Err, IfErr, OnOk, Option, IfSome, is_none, if◌then◌else◌}
+use Rattle.std.specs.Prelude.{Result, Ok, Err, IfErr, OnOk, IfSome, is_none, if◌then◌else◌}
 use Rattle.std.specs.Result.{result_err}
 use Rattle.state_core.specs.declared.error.ZoneError.{ZoneError}
 use Rattle.state_core.specs.declared.error.ZoneError.TheVariants.{JournalFull, NoBlock}

@@ -1,4 +1,4 @@
-use Rattle.std.proofs.Common.{◌≡◌, ◌∙◌, refl, sym, subst, inr, rules}
+use Rattle.std.proofs.Common.{◌∙◌, refl, sym, subst, inr, rules}
 use Rattle.huge_core.specs.Huge.{IsRefused}
 use Rattle.huge_core.proofs.Refused.{no_block}
 use Rattle.huge_core.proofs.Running.{run_on, stopped, idled}
