@@ -11,10 +11,13 @@ item_at() {
     awk -v at="$2" '
         NR > at { exit }
         /^}/ { type = "" }
-        /^impl/ {
-            while (gsub(/<[^<>]*>/, "")) { }
-            sub(/ *\{.*/, "")
-            type = $NF "::"
+        /^impl/ { header = ""; in_header = 1 }
+        in_header { header = header " " $0 }
+        in_header && /\{/ {
+            in_header = 0
+            while (gsub(/<[^<>]*>/, "", header)) { }
+            sub(/ *\{.*/, "", header)
+            type = words[split(header, words, " ")] "::"
         }
         match($0, /^ *(pub(\(crate\))? )?fn [a-z_0-9]+/) { item = type substr($0, RSTART, RLENGTH) }
         match($0, /^ *(pub(\(crate\))? )?const [A-Z_]+/) { item = substr($0, RSTART, RLENGTH) }

@@ -1,17 +1,19 @@
 // Rounds on threads.
 ghost use Rattle.std.specs.Prelude.{◌<◌, ◌≤◌};
 ghost use Rattle.zone_core.specs.Books.{AreFor};
+ghost use Rattle.zone_core.specs.Shape.{HasShape};
 
 use crate::opening::{Opening, half_full};
 use crate::times::{Times, nanos_since};
-use round_core::{NoGate, SharedZone, compact};
+use round_core::{NoGate, Shape, SharedZone, compact};
 use std::alloc::Global;
 use std::io;
+use std::marker::Brand;
 use std::sync::Wait;
 use std::sync::ledger::Ledger;
 use std::thread::Threads;
 use std::time::{Clock, Instant};
-use zone_core::{Blanks, Seats};
+use zone_core::{Blanks, Seats, Zone};
 
 /// How long a round takes that moves the pages of the lower half up, and one behind it.
 pub fn run_round<
@@ -26,10 +28,33 @@ pub fn run_round<
     if copiers == 0 || copiers > 4 || cap == 0 || cap > 64 {
         return Ok(Times::NONE);
     }
-    let Some(Opening { zone, mut seats }) = half_full::<I, N, M, B>(alloc, blanks) else {
+    let Some(Opening { zone, seats }) = half_full::<I, N, M, B>(alloc, blanks) else {
         return Ok(Times::NONE);
     };
-    let shared = SharedZone::new(zone);
+    time_rounds::<Brand, I, N, M, B, R>(rt, alloc, zone, seats, copiers, cap)
+}
+
+/// The same over a zone of the shape that the type names.
+fn time_rounds<
+    K: Shape + Send + Sync,
+    I: Ledger + Send + Sync,
+    N: Ledger,
+    M: Ledger + Send + Sync,
+    B: Ledger + Send + Sync,
+    R: Threads + Wait + Clock + Sync,
+>(
+    rt: &R,
+    alloc: Global,
+    zone: Zone<I, M, B>,
+    mut seats: Seats<I, N, M, B>,
+    copiers: usize,
+    cap: usize,
+) -> io::Result<Times>
+    requires copiers { (0 < copiers) × (copiers ≤ 4) }
+    requires cap { (0 < cap) × (cap ≤ 64) }
+    requires shape { HasShape K.number K.blocks zone }
+{
+    let shared = SharedZone::<K, I, M, B>::new(zone);
     let start = Instant::now(rt)?;
     let moved = moved_by(rt, alloc, &shared, &mut seats, copiers, cap);
     let whole = nanos_since(rt, &start)?;
@@ -45,6 +70,7 @@ pub fn run_round<
 
 /// How many pages a round moves.
 fn moved_by<
+    K: Shape + Send + Sync,
     I: Ledger + Send + Sync,
     N: Ledger,
     M: Ledger + Send + Sync,
@@ -53,7 +79,7 @@ fn moved_by<
 >(
     rt: &R,
     alloc: Global,
-    shared: &SharedZone<I, M, B>,
+    shared: &SharedZone<K, I, M, B>,
     seats: &mut Seats<I, N, M, B>,
     copiers: usize,
     cap: usize,
