@@ -1,9 +1,10 @@
 #!/usr/bin/env bash
-# No command but `zone` takes memory, and no request that is refused goes wrong. One script has every command, answers each, gets
-# each refusal, and fills the zone's lists. Its run has to make as many requests for memory as one that only opens the zone,
-# those that are made in vain included. Then each of these requests is refused in turn: the run has to end with the script's
-# own replies, or with fault 48: at line 0 and no reply, or at the line of `zone` behind the reply to the line before. Ends with
-# status 1 where it isn't so.
+# No command but `zone` and `compact` takes memory, and no request that is refused goes wrong. One script has every other command,
+# answers each, gets each refusal, and fills the zone's lists. Its run has to make as many requests for memory as one that only opens
+# the zone, those that are made in vain included. Then each of these requests is refused in turn: the run has to end with the
+# script's own replies, or with fault 48: at line 0 and no reply, or at the line of `zone` behind the reply to the line before. Another
+# script runs a round, and each of its requests is refused in turn: besides, the round may be refused 31 or 32, and the zone is
+# then as before it. Ends with status 1 where it isn't so.
 set -euo pipefail
 
 source "$(dirname -- "${BASH_SOURCE[0]}")/built.sh"
@@ -26,8 +27,8 @@ static int requests;
 static int is_refused(void)
 {
     const char *which = getenv("REFUSED_REQUEST");
-    ++requests;
-    return which && requests == atoi(which);
+    int request = __atomic_add_fetch(&requests, 1, __ATOMIC_SEQ_CST);
+    return which && request == atoi(which);
 }
 
 void *malloc(unsigned long size)
@@ -102,6 +103,7 @@ every_command() {
     echo 'load 0 7 0 0'
     sharing
     again 'scan 0' 2047
+    echo 'compact 0'
     echo 'store 0 0 0 3 8'
     each 'look 0 0 %.0f' 2045 2048
     hands
@@ -118,6 +120,22 @@ every_command() {
     again 'load 0 0 0 3' 60000
     echo 'scan 0'
     echo 'info 0'
+}
+
+# A round moves two pages, and what is known of the zone is asked for before and behind it.
+a_round() {
+    echo 'profile 2'
+    echo 'zone 0 2'
+    echo 'mapat 0 0 0 0'
+    echo 'mapat 0 0 1 512'
+    info_and_look
+    echo 'compact 0'
+    info_and_look
+}
+
+info_and_look() {
+    echo 'info 0'
+    each 'look 0 0 %.0f' 0 1
 }
 
 # All pageblocks are handed out, and taken back, and then a smaller block is.
@@ -159,22 +177,30 @@ hands() {
     each 'finish 0 %.0f' 1 4
 }
 
-# Runs a script and prints how many requests for memory it made. Its replies are in `replies`.
+# Runs a script, writes its replies to a file and prints how many requests for memory it made.
 requests_of() {
     rm -f "$work/requests"
-    REQUESTS=$work/requests LD_PRELOAD=$work/count.so "$program" <"$1" >"$work/replies" ||
+    REQUESTS=$work/requests LD_PRELOAD=$work/count.so "$program" <"$1" >"$2" ||
         fail "a script with no fault ended with status $?" >&2
     cat "$work/requests"
 }
 
-# The words of the script's calls that were answered, and the refusals that were given, against those of docs/SCRIPT.md.
+# The words of the calls of a script that were answered.
+answered() {
+    paste -d ' ' "$1" "$2" | grep -v 'refused\|^profile' | cut -d ' ' -f 1
+}
+
+# The words of the scripts' calls that were answered, and the refusals that were given, against those of docs/SCRIPT.md. The refusals of
+# a round are left out: none comes where no request is refused.
 has_everything() {
     {
-        paste -d ' ' "$work/script" "$work/replies" | grep -v 'refused\|^profile' | cut -d ' ' -f 1
+        answered "$work/script" "$work/replies"
+        answered "$work/round" "$work/moved"
         grep refused "$work/replies"
     } | sort -u >"$work/found"
     # shellcheck disable=SC2016
-    sed -n 's/^| `\([a-z]*\) Z.*/\1/p; s/^| `\(refused [0-9]*\)`.*/\1/p' "$root/docs/SCRIPT.md" | sort -u | diff - "$work/found"
+    sed -n 's/^| `\([a-z]*\) Z.*/\1/p; s/^| `\(refused [0-9]*\)`.*/\1/p' "$root/docs/SCRIPT.md" | grep -vx 'refused 3[1-4]' |
+        sort -u | diff - "$work/found"
 }
 
 # Whether a run that wrote these to standard error and standard output ended where memory was asked for: in reading its words, or at
@@ -183,18 +209,34 @@ is_fault_48() {
     [[ "$1/$2" == 'compactd: fault 48 at line 0/' || "$1/$2" == 'compactd: fault 48 at line 2/ok' ]]
 }
 
+# Whether the round was refused for want of memory or of a thread, and the zone is then as before it.
+is_without_round() {
+    local number
+    for number in 31 32; do
+        { head -n 7 "$work/moved" && echo "refused $number" && sed -n 5,7p "$work/moved"; } | cmp -s - "$work/out" && return
+    done
+    return 1
+}
+
+# Runs a script with one of its requests refused. What it writes is in `out` and `err`, and its status in `status`.
+refuse() {
+    status=0
+    REFUSED_REQUEST=$2 LD_PRELOAD=$work/count.so "$program" <"$1" >"$work/out" 2>"$work/err" || status=$?
+}
+
 build_counter
 printf 'profile 2\nzone 0 8\n' >"$work/opening"
 every_command >"$work/script"
-wanted=$(requests_of "$work/opening")
-found=$(requests_of "$work/script")
-has_everything || fail 'the script of this check lacks a command or a refusal of docs/SCRIPT.md, or has one more'
+a_round >"$work/round"
+wanted=$(requests_of "$work/opening" "$work/opened")
+found=$(requests_of "$work/script" "$work/replies")
+in_round=$(requests_of "$work/round" "$work/moved")
+has_everything || fail 'the scripts of this check lack a command or a refusal of docs/SCRIPT.md, or have one more'
 ((wanted > 0 && found == wanted)) || fail "$found requests for memory, and $wanted for the zone alone"
 
 faults=0
 for ((request = 1; request <= wanted; request++)); do
-    status=0
-    REFUSED_REQUEST=$request LD_PRELOAD=$work/count.so "$program" <"$work/script" >"$work/out" 2>"$work/err" || status=$?
+    refuse "$work/script" "$request"
     if ((status == 1)) && is_fault_48 "$(<"$work/err")" "$(<"$work/out")"; then
         faults=$((faults + 1))
     elif ((status != 0)) || [[ -s $work/err ]] || ! cmp -s "$work/out" "$work/replies"; then
@@ -202,4 +244,20 @@ for ((request = 1; request <= wanted; request++)); do
     fi
 done
 ((faults > 0)) || fail 'no refused request ends in fault 48'
-echo "$(wc -l <"$work/script") commands make $wanted requests for memory, as the first alone; refused in turn, $faults end in fault 48"
+
+refused=0
+for ((request = 1; request <= in_round; request++)); do
+    refuse "$work/round" "$request"
+    if ((status == 1)) && is_fault_48 "$(<"$work/err")" "$(<"$work/out")"; then
+        continue
+    elif ((status != 0)) || [[ -s $work/err ]]; then
+        fail "request $request of a round refused: status $status, $(<"$work/err")"
+    elif is_without_round; then
+        refused=$((refused + 1))
+    elif ! cmp -s "$work/out" "$work/moved"; then
+        fail "request $request of a round refused: it answers $(<"$work/out")"
+    fi
+done
+((refused > 0)) || fail 'no refused request is told in place of a round'
+echo "$(wc -l <"$work/script") commands make $wanted requests for memory, as the first alone; refused in turn, $faults end in fault 48," \
+    "and of $in_round of a round $refused are told in its place"

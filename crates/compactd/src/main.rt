@@ -14,6 +14,7 @@ use std::{env, io};
 
 fn main(rt: HostRuntime) -> ExitCode {
     ExitCode::from(program(
+        &rt,
         rt.alloc(),
         env::args(&rt),
         &mut Source::new(rt.reader()),

@@ -4,17 +4,21 @@ ghost use Rattle.clap.specs.Words.{kind_of};
 ghost use Rattle.compactd.specs.CommandLine.{texts_of, refusal_of, journal_of, asks_help, asks_only_help};
 ghost use Rattle.compactd.specs.Status.{status_of, is_help};
 ghost use Rattle.compactd.specs.Stops.{LacksMemory, Stops};
+ghost use Rattle.script_core.specs.Runs.{IsAnswered};
 ghost use Rattle.script_core.specs.Script.{fault_of, output_of};
+ghost use Rattle.script_core.specs.Threaded.{IsThreadedStep, RunsNoRound, threaded_at_first};
 
 use crate::options::given_options;
 use crate::report::report;
 use clap::Error;
 use clap::error::ErrorKind;
-use script_core::{Fault, Input, Options, Output, RunError, run};
+use script_core::{Fault, Input, Options, Output, RunError, run_on_threads};
 use std::alloc::Global;
 use std::env::Args;
 use std::io;
 use std::io::Write;
+use std::sync::Wait;
+use std::thread::Threads;
 
 /// The exit statuses.
 const DONE: u8 = 0;
@@ -23,10 +27,11 @@ const FAULT: u8 = 1;
 
 const REFUSED: u8 = 2;
 
-/// Runs the script that the reader gives, as the words of the command line say. The result is the exit status: 0 where the
-/// whole script was read, 1 for a fault of the run and 2 where the words were refused. What the clauses say of bytes holds
-/// for a reader and a writer that tell theirs.
-pub fn program<R: Input, W: Output, F: Output>(
+/// Runs the script that the reader gives, as the words of the command line say, and its rounds on threads. The result is the exit
+/// status: 0 where the whole script was read, 1 for a fault of the run and 2 where the words were refused. What the clauses say of
+/// bytes holds for a reader and a writer that tell theirs.
+pub fn program<R: Input, W: Output, F: Output, H: Threads + Wait + Sync>(
+    rt: &H,
     alloc: Global,
     words: io::Result<Args>,
     reader: &mut R,
@@ -46,11 +51,14 @@ pub fn program<R: Input, W: Output, F: Output>(
         → (result ≡ 0) ⊎ LacksMemory result (W.contents writer.old) (W.contents writer.new)
         (F.contents faults.old) (F.contents faults.new) (F.stuck faults.new)) }
     ensures quiet { result ≡ 2 → Keeps (W.contents writer.old) (W.contents writer.new) }
-    // The script has no fault, and was answered.
+    // The script has no fault, and was answered, and one that runs no round as on one thread.
     ensures whole { IfOk words (λ args. refusal_of (texts_of args) ≡ [] → result ≡ 0
         → IfSome (R.remaining reader.old) (λ input. fault_of input ≡ None)) }
+    ensures answered { IfOk words (λ args. refusal_of (texts_of args) ≡ [] → result ≡ 0
+        → IfSome (R.remaining reader.old) (λ input. IsAnswered IsThreadedStep (threaded_at_first (journal_of (texts_of args))) input
+        (W.contents writer.old) (W.contents writer.new))) }
     ensures replies { IfOk words (λ args. refusal_of (texts_of args) ≡ [] → result ≡ 0
-        → IfSome (R.remaining reader.old) (λ input. Appends (W.contents writer.old) (W.contents writer.new)
+        → IfSome (R.remaining reader.old) (λ input. RunsNoRound input → Appends (W.contents writer.old) (W.contents writer.new)
         (output_of (journal_of (texts_of args)) input))) }
     // There was no memory to read the words, or the run stopped.
     ensures fault { IfOk words (λ args. result ≡ 1 → LacksMemory result (W.contents writer.old) (W.contents writer.new)
@@ -60,13 +68,14 @@ pub fn program<R: Input, W: Output, F: Output>(
         (F.contents faults.old) (F.contents faults.new) (F.stuck faults.new)) }
 {
     match given_options(alloc, words) {
-        Ok(options) => play(alloc, reader, writer, faults, options),
+        Ok(options) => play(rt, alloc, reader, writer, faults, options),
         Err(error) => answer(&error, writer, faults),
     }
 }
 
 /// Runs the script with these options.
-fn play<R: Input, W: Output, F: Output>(
+fn play<R: Input, W: Output, F: Output, H: Threads + Wait + Sync>(
+    rt: &H,
     alloc: Global,
     reader: &mut R,
     writer: &mut W,
@@ -75,14 +84,16 @@ fn play<R: Input, W: Output, F: Output>(
 ) -> u8
     ensures status { result ≤ 1 }
     ensures whole { result ≡ 0 → IfSome (R.remaining reader.old) (λ input. fault_of input ≡ None) }
+    ensures answered { result ≡ 0 → IfSome (R.remaining reader.old) (λ input.
+        IsAnswered IsThreadedStep (threaded_at_first options.journal) input (W.contents writer.old) (W.contents writer.new)) }
     ensures replies { result ≡ 0 → IfSome (R.remaining reader.old) (λ input.
-        Appends (W.contents writer.old) (W.contents writer.new) (output_of options.journal input)) }
+        RunsNoRound input → Appends (W.contents writer.old) (W.contents writer.new) (output_of options.journal input)) }
     ensures fault { result ≡ 1 → Stops options.journal
         (R.remaining reader.old) (R.remaining reader.new) (W.contents writer.old) (W.contents writer.new)
         (R.reads reader.old) (R.reads reader.new) (R.failed reader.new) (W.stuck writer.new)
         (F.contents faults.old) (F.contents faults.new) (F.stuck faults.new) }
 {
-    match run(alloc, reader, writer, options) {
+    match run_on_threads(rt, alloc, reader, writer, options) {
         Ok(_) => DONE,
         Err(error) => {
             report(faults, error);

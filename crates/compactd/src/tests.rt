@@ -6,7 +6,10 @@ use script_core::{Sink, Source, Text};
 use std::alloc::{AllocError, Global};
 use std::env::Args;
 use std::io::Read;
+use std::process::Abort;
+use std::sync::Wait;
 use std::test::Fail;
+use std::thread::Threads;
 
 /// A run of the program: its arguments and its script, and what comes of them.
 #[derive(Clone, Copy)]
@@ -322,6 +325,90 @@ const CASES: [Case; 37] = [
     },
 ];
 
+/// Runs with rounds on threads.
+const ROUNDS: [Case; 10] = [
+    Case {
+        name: "a round moves two pages up, and a pageblock is whole",
+        arguments: &[],
+        script: "zone 0 2\nmapat 0 0 0 0\nmapat 0 0 1 512\ninfo 0\ncompact 0\nlook 0 0 0\nlook 0 0 1\ninfo 0\n",
+        replies: "ok\nok\nok\nfree=1022 pages=2 moving=0 huge=0 whole=0\nisolated=2 moved=2 back=0 stopped=met\nframe=1023 dirty=0 unmovable=0 pins=0 maps=1\nframe=1022 dirty=0 unmovable=0 pins=0 maps=1\nfree=1022 pages=2 moving=0 huge=0 whole=1\n",
+        faults: "",
+        status: 0,
+    },
+    Case {
+        name: "a round over a full zone",
+        arguments: &[],
+        script: "zone 0 1\nfill 0 0 0 512\nmap 0 0 512\ncompact 0\n",
+        replies: "ok\ndone=512\nrefused 6\nisolated=0 moved=0 back=0 stopped=met\n",
+        faults: "",
+        status: 0,
+    },
+    Case {
+        name: "a round where the one free frame is the lowest",
+        arguments: &[],
+        script: "zone 0 1\nfill 0 0 0 512\nunmap 0 0 0\ncompact 0\n",
+        replies: "ok\ndone=512\nok\nisolated=0 moved=0 back=0 stopped=met\n",
+        faults: "",
+        status: 0,
+    },
+    Case {
+        name: "an unmovable page at the top of each pageblock",
+        arguments: &[],
+        script: "zone 0 8\nmapat 0 0 0 511 unmovable\nmapat 0 0 1 1023 unmovable\nmapat 0 0 2 1535 unmovable\nmapat 0 0 3 2047 unmovable\nmapat 0 0 4 2559 unmovable\nmapat 0 0 5 3071 unmovable\nmapat 0 0 6 3583 unmovable\nmapat 0 0 7 4095 unmovable\nhuge 0\ncompact 0\ninfo 0\n",
+        replies: "ok\nok\nok\nok\nok\nok\nok\nok\nok\nrefused 11\nisolated=0 moved=0 back=0 stopped=met\nfree=4088 pages=8 moving=0 huge=0 whole=0\n",
+        faults: "",
+        status: 0,
+    },
+    Case {
+        name: "one copier carries 512 pages up",
+        arguments: &["--copiers", "1"],
+        script: "zone 0 4\nfill 0 0 0 1024\nthin 0 0 0 512 2\ninfo 0\ncompact 0\ninfo 0\n",
+        replies: "ok\ndone=1024\ndone=512\nfree=1536 pages=512 moving=0 huge=0 whole=2\nisolated=512 moved=512 back=0 stopped=met\nfree=1536 pages=512 moving=0 huge=0 whole=3\n",
+        faults: "",
+        status: 0,
+    },
+    Case {
+        name: "four copiers carry 512 pages up",
+        arguments: &["--copiers", "4"],
+        script: "zone 0 4\nfill 0 0 0 1024\nthin 0 0 0 512 2\ninfo 0\ncompact 0\ninfo 0\n",
+        replies: "ok\ndone=1024\ndone=512\nfree=1536 pages=512 moving=0 huge=0 whole=2\nisolated=512 moved=512 back=0 stopped=met\nfree=1536 pages=512 moving=0 huge=0 whole=3\n",
+        faults: "",
+        status: 0,
+    },
+    Case {
+        name: "a round stops where the journal is full",
+        arguments: &["--journal", "5"],
+        script: "zone 0 1\nmap 0 0 0\nmap 0 0 1\nmap 0 0 2\ncompact 0\nload 0 0 1 0\ninfo 0\n",
+        replies: "ok\nok\nok\nok\nisolated=1 moved=1 back=0 stopped=journalfull\nrefused 2\nfree=509 pages=3 moving=0 huge=0 whole=0\n",
+        faults: "",
+        status: 0,
+    },
+    Case {
+        name: "rounds leave a marked pageblock alone",
+        arguments: &[],
+        script: "profile 2\nzone 0 3\nmapat 0 0 0 0\nmapat 0 0 1 512\nmark 0 2\nmark 0 2\ncompact 0\nlook 0 0 0\nunmark 0 2\nunmark 0 2\ncompact 0\nlook 0 0 1\ninfo 0\n",
+        replies: "ok\nok\nok\nok\nok\nrefused 17\nisolated=2 moved=2 back=0 stopped=met\nframe=1023 dirty=0 unmovable=0 pins=0 maps=1\nok\nrefused 18\nisolated=2 moved=2 back=0 stopped=met\nframe=1535 dirty=0 unmovable=0 pins=0 maps=1\nfree=1534 pages=2 moving=0 huge=0 whole=2 held=0\n",
+        faults: "",
+        status: 0,
+    },
+    Case {
+        name: "no round while one is open by hand, nor without its zone",
+        arguments: &[],
+        script: "compact 0\nzone 0 1\nmap 0 0 0\nscan 0\ncompact 0\ncompact 1\ncompact 4\nshut 0\ncompact 0\nlook 0 0 0\n",
+        replies: "refused 43\nok\nok\nserial=0\nrefused 45\nrefused 43\nrefused 1\nback=1\nisolated=1 moved=1 back=0 stopped=met\nframe=511 dirty=0 unmovable=0 pins=0 maps=1\n",
+        faults: "",
+        status: 0,
+    },
+    Case {
+        name: "a pinned page stays where it is, and is moved once its pin is off",
+        arguments: &["--copiers", "3", "--capacity", "1"],
+        script: "zone 0 1\nmap 0 0 0\nstore 0 0 0 7 9\npin 0 0 0\ncompact 0\nunpin 0 0 0\ncompact 0\nload 0 0 0 7\nscan 0\nshut 0\n",
+        replies: "ok\nok\nok\nok\nisolated=0 moved=0 back=0 stopped=met\nok\nisolated=1 moved=1 back=0 stopped=met\nvalue=9\nmet\nback=0\n",
+        faults: "",
+        status: 0,
+    },
+];
+
 #[derive(Drop)]
 struct Outcome {
     replies: Vec<u8>,
@@ -338,7 +425,8 @@ fn words(alloc: Global, arguments: &[&str]) -> Result<Args, AllocError> {
     Ok(words.into_iter())
 }
 
-fn played<R: Read + Drop>(
+fn played<R: Read + Drop, H: Threads + Wait + Sync>(
+    rt: &H,
     alloc: Global,
     arguments: &[&str],
     reader: R,
@@ -346,6 +434,7 @@ fn played<R: Read + Drop>(
     let mut replies = Sink::new(Vec::with_capacity(alloc, 4096)?);
     let mut faults = Sink::new(Vec::with_capacity(alloc, 4096)?);
     let status = program(
+        rt,
         alloc,
         Ok(words(alloc, arguments)?),
         &mut Source::new(reader),
@@ -359,23 +448,41 @@ fn played<R: Read + Drop>(
     })
 }
 
+/// Runs a case, and compares what comes of it with what is wanted.
+fn assert_answered<H: Threads + Wait + Abort + Sync>(
+    rt: &H,
+    alloc: Global,
+    case: &Case,
+) -> Result<(), Fail> {
+    let found = played(rt, alloc, case.arguments, case.script.as_bytes())?;
+    assert_eq!(rt;
+        found.replies.as_slice(),
+        case.replies.as_bytes(),
+        "{}",
+        case.name
+    );
+    assert_eq!(rt;
+        found.faults.as_slice(),
+        case.faults.as_bytes(),
+        "{}",
+        case.name
+    );
+    assert_eq!(rt; found.status, case.status, "{}", case.name);
+    Ok(())
+}
+
 #[test]
 fn answers_each_script(rt: HostRuntime) -> Result<(), Fail> {
     for case in CASES.iter() {
-        let found = played(rt.alloc(), case.arguments, case.script.as_bytes())?;
-        assert_eq!(rt;
-            found.replies.as_slice(),
-            case.replies.as_bytes(),
-            "{}",
-            case.name
-        );
-        assert_eq!(rt;
-            found.faults.as_slice(),
-            case.faults.as_bytes(),
-            "{}",
-            case.name
-        );
-        assert_eq!(rt; found.status, case.status, "{}", case.name);
+        assert_answered(&rt, rt.alloc(), case)?;
+    }
+    Ok(())
+}
+
+#[test]
+fn answers_each_round(rt: HostRuntime) -> Result<(), Fail> {
+    for case in ROUNDS.iter() {
+        assert_answered(&rt, rt.alloc(), case)?;
     }
     Ok(())
 }
@@ -389,7 +496,7 @@ fn reads_a_few_bytes_at_a_time(rt: HostRuntime) -> Result<(), Fail> {
                 size,
                 calls: usize::MAX,
             };
-            let found = played(rt.alloc(), case.arguments, reader)?;
+            let found = played(&rt, rt.alloc(), case.arguments, reader)?;
             assert_eq!(rt;
                 found.replies.as_slice(),
                 case.replies.as_bytes(),
@@ -440,7 +547,7 @@ fn refuses_lines_of_more_than_200_bytes(rt: HostRuntime) -> Result<(), Fail> {
             size,
             calls: usize::MAX,
         };
-        let found = played(rt.alloc(), &[], reader)?;
+        let found = played(&rt, rt.alloc(), &[], reader)?;
         assert_eq!(rt;
             found.replies.as_slice(),
             replies.as_bytes(),
@@ -485,7 +592,7 @@ fn ends_where_a_read_fails(rt: HostRuntime) -> Result<(), Fail> {
             size: 1,
             calls,
         };
-        let found = played(rt.alloc(), &[], reader)?;
+        let found = played(&rt, rt.alloc(), &[], reader)?;
         let line = line_of_byte(script, calls);
         let faults = format!(in rt.alloc(); "compactd: fault 46 at line {line}\n")?;
         assert_eq!(rt;
@@ -507,7 +614,7 @@ fn ends_where_a_script_is_cut(rt: HostRuntime) -> Result<(), Fail> {
         }
         let script = case.script.as_bytes();
         for size in 0..script.len() {
-            let found = played(rt.alloc(), &[], &script[..size])?;
+            let found = played(&rt, rt.alloc(), &[], &script[..size])?;
             let line = line_of_byte(script, size);
             let is_whole = size == 0 || script[size - 1] == b'\n';
             let faults = format!(in rt.alloc(); "compactd: fault 41 at line {line}\n")?;
@@ -541,6 +648,7 @@ fn ends_where_a_write_fails(rt: HostRuntime) -> Result<(), Fail> {
                 });
                 let mut faults = Sink::new(Vec::new(rt.alloc()));
                 let status = program(
+                    &rt,
                     rt.alloc(),
                     Ok(words(rt.alloc(), &[])?),
                     &mut Text::new(FIRST_PAGE.script.as_bytes()),
@@ -580,6 +688,7 @@ fn keeps_its_status_where_a_fault_is_not_written(rt: HostRuntime) -> Result<(), 
         let mut writer = no_room(rt.alloc());
         let mut faults = no_room(rt.alloc());
         let found = program(
+            &rt,
             rt.alloc(),
             Ok(words(rt.alloc(), arguments)?),
             &mut Text::new(script.as_bytes()),
@@ -612,7 +721,7 @@ fn refuses_arguments(rt: HostRuntime) -> Result<(), Fail> {
         &["script"][..],
         &["--other"][..],
     ] {
-        let found = played(rt.alloc(), arguments, FIRST_PAGE.script.as_bytes())?;
+        let found = played(&rt, rt.alloc(), arguments, FIRST_PAGE.script.as_bytes())?;
         assert!(rt; found.replies.is_empty(), "{arguments:?}");
         assert!(rt; found.faults.starts_with(b"error: "), "{arguments:?}");
         assert_eq!(rt; found.status, 2, "{arguments:?}");
@@ -622,7 +731,7 @@ fn refuses_arguments(rt: HostRuntime) -> Result<(), Fail> {
 
 #[test]
 fn shows_help(rt: HostRuntime) -> Result<(), Fail> {
-    let found = played(rt.alloc(), &["--help"], FIRST_PAGE.script.as_bytes())?;
+    let found = played(&rt, rt.alloc(), &["--help"], FIRST_PAGE.script.as_bytes())?;
     let text = std::str::from_utf8(found.replies.as_slice())?;
     assert!(rt; text.contains("Usage: compactd [OPTIONS]"));
     assert!(rt; text.contains("--copiers <N>"));
@@ -634,7 +743,7 @@ fn shows_help(rt: HostRuntime) -> Result<(), Fail> {
 /// Passes also where any one request for memory is refused, which `rt try --test --fail-alloc` does.
 #[test]
 fn says_where_memory_is_short(rt: HostRuntime) -> Result<(), Fail> {
-    let Ok(found) = played(rt.alloc(), &[], FIRST_PAGE.script.as_bytes()) else {
+    let Ok(found) = played(&rt, rt.alloc(), &[], FIRST_PAGE.script.as_bytes()) else {
         return Ok(());
     };
     if found.status == 1 {

@@ -18,6 +18,7 @@ fn kept_whole<I: Ledger, N: Ledger, M: Ledger, B: Ledger, R: Abort>(
     let Err(world) = world.split() else {
         panic!(rt; "an open world is split");
     };
+    assert!(rt; world.is_open());
     WorldOpening { world }
 }
 
@@ -27,6 +28,7 @@ fn joined_again<I: Ledger, N: Ledger, M: Ledger, B: Ledger, R: Abort>(
     opening: WorldOpening<I, N, M, B>,
 ) -> WorldOpening<I, N, M, B> {
     let WorldOpening { world } = opening;
+    assert!(rt; !world.is_open());
     let Ok((zone, seats, rest)) = world.split() else {
         panic!(rt; "a closed world is not split");
     };
