@@ -73,7 +73,7 @@ standing() {
 # The edits and tests that the first part names and that aren't there.
 missing_above() {
     local name
-    sed '/^## Every edit/,$d' "$document" | grep -o '`[a-z_0-9]*\(/\|::\)[a-z_0-9]*`' | tr -d '`' | sort -u | while IFS= read -r name; do
+    sed '/^## Every edit/,$d' "$document" | grep -o '`[a-z_0-9]*\(/\|::\)[a-z_0-9-]*`' | tr -d '`' | sort -u | while IFS= read -r name; do
         case $name in
         */*) [[ -e crates/${name%/*}/must-fail/${name#*/}.edit ]] || echo "$name" ;;
         *) grep -rqs "fn ${name#*::}(" "crates/${name%%::*}/src/tests.rt" "crates/${name%%::*}/src/tests" || echo "$name" ;;
