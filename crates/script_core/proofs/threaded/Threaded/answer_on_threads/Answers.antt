@@ -2,7 +2,7 @@ use Rattle.std.proofs.Common.{ap, sym, ◌∙◌}
 use Rattle.script_core.specs.Serial.{Serial}
 use Rattle.script_core.specs.Threaded.{Threaded, runs_round}
 use Rattle.script_core.proofs.Rounds.{round_step}
-use Rattle.script_core.proofs.threaded.Threaded.answer.Goals as goal
+use Rattle.script_core.proofs.threaded.Threaded.answer_on_threads.Goals as goal
 
 pub returns-clause-ok : goal.returns-clause-ok
 returns-clause-ok g c =
