@@ -50,6 +50,7 @@ impl PlainZone {
 }
 
 /// Says at the frame of a page, where it stands in one, whether it may be taken from there.
+#[inline(always)]
 fn say_movable(frames: &mut Frames, note: &Note)
     requires { (frame : ℕ) → note.now.placement ≡ Some (At frame) → frame < length frames.old.states }
     ensures { frames.new ≡ record frames.old { movable = movable_by frames.old.movable note.now } }

@@ -78,7 +78,8 @@ impl<I: Ledger, N: Ledger, M: Ledger, B: Ledger> Machine<I, N, M, B> {
         }
     }
 
-    /// Opens a zone, where none is open yet.
+    /// Opens a zone, where none is open yet. It is apart, since it has room for a whole world, which other commands do without.
+    #[inline(never)]
     fn open(&mut self, zone: ZoneNo, blocks: BlockCount) -> Result<Reply, AllocError>
         ensures ok { IfOk result (λ reply. record { reply = reply; world = self.new.world } ≡ open_step zone blocks self.old.places self.old.world) }
         ensures places { OnOk result (self.new.places ≡ self.old.places) }
@@ -98,7 +99,7 @@ impl<I: Ledger, N: Ledger, M: Ledger, B: Ledger> Machine<I, N, M, B> {
     }
 
     /// A round over the zone with this number, where that is the one that is open: without threads no worker can be had.
-    fn compact(&self, zone: ZoneNo) -> Reply
+    pub(crate) fn compact(&self, zone: ZoneNo) -> Reply
         ensures { record { reply = result; world = self.now.world } ≡ compact_on zone self.now.world }
     {
         match &self.world {
@@ -109,22 +110,8 @@ impl<I: Ledger, N: Ledger, M: Ledger, B: Ledger> Machine<I, N, M, B> {
         }
     }
 
-    /// Gives the world away, where the command runs a round over its zone.
-    pub(crate) fn take_for_round(&mut self, command: &Command) -> Option<World<I, N, M, B>>
-        ensures given { IfSome result (λ world. (self.old.world ≡ Some world) × (runs_round command.now self.old.world ≡ true)) }
-        ensures closed { IfSome result (λ world. world.is_open ≡ false) }
-        ensures left { IfSome result (λ _. self.new ≡ serial_at_first self.old.places) }
-        ensures none { IfNone result ((self.new ≡ self.old) × (runs_round command.now self.old.world ≡ false)) }
-    {
-        match *command {
-            Command::Compact { zone } => self.take_closed(zone),
-            Command::Open { .. } | Command::On { .. } | Command::Profile2 | Command::OutOfRange =>
-                None,
-        }
-    }
-
     /// Gives the world of the zone with this number away, where no round is open by hand.
-    fn take_closed(&mut self, zone: ZoneNo) -> Option<World<I, N, M, B>>
+    pub(crate) fn take_closed(&mut self, zone: ZoneNo) -> Option<World<I, N, M, B>>
         ensures given { IfSome result (λ world. (self.old.world ≡ Some world) × (runs_round (Command.Compact zone) self.old.world ≡ true)) }
         ensures closed { IfSome result (λ world. world.is_open ≡ false) }
         ensures left { IfSome result (λ _. self.new ≡ serial_at_first self.old.places) }

@@ -1,11 +1,10 @@
-ghost use Rattle.std.specs.Prelude.{◌≡◌, ◌+◌, ◌≤◌, ◌↔◌, false, None, Option, IsTrue, IsOk, IfOk, OnErr};
+ghost use Rattle.std.specs.Prelude.{◌≡◌, ◌+◌, ◌≤◌, ◌↔◌, false, None, IsOk, IfOk, OnErr};
 ghost use Rattle.std.specs.Result.{result_err};
 ghost use Rattle.round_core.specs.Kept.{IsKept};
 ghost use Rattle.round_core.specs.Rounds.{IsRefusedEarly, IsRound};
 ghost use Rattle.zone_core.specs.Books.{AreFor};
 ghost use Rattle.zone_core.specs.Seats.{audit_refusal};
 ghost use Rattle.zone_core.specs.Shape.{HasShape};
-ghost use Rattle.zone_core.specs.World.{WorldState};
 ghost use Rattle.script_core.specs.Serial.{Opens};
 ghost use Rattle.script_core.specs.Threaded.{AsksMemory, IsRoundOn, IsStepBy, IsThreadedStep, broken_refusal, broken_reply, left_by, round_reply, runs_round, stopped_as, threaded_at_first};
 
@@ -96,27 +95,25 @@ impl<I: Ledger + Send + Sync, N: Ledger, M: Ledger + Send + Sync, B: Ledger + Se
         ensures ok { IfOk result (λ reply. IsStepBy (runs_round command self.old.serial.world) self.old command reply self.new) }
         ensures memory { OnErr result (Opens self.old.serial command) }
     {
-        if is_serial(&command) {
-            return self.machine.respond(command);
+        match command {
+            Command::Compact { zone } => Ok(self.answer_compact(rt, zone)),
+            Command::Open { .. } | Command::On { .. } | Command::Profile2 | Command::OutOfRange => {
+                self.machine.respond(command)
+            }
         }
-        self.answer_on_threads(rt, command)
     }
 
-    /// Answers a command that may be for a round. It is apart, since it has room for a whole world, which other commands do without.
+    /// Answers the command for a round over a zone. It is apart, since it has room for a whole world, which other commands do
+    /// without.
     #[inline(never)]
-    fn answer_on_threads<H: Threads + Wait + Sync>(
-        &mut self,
-        rt: &H,
-        command: Command,
-    ) -> Result<Reply, AllocError>
+    fn answer_compact<H: Threads + Wait + Sync>(&mut self, rt: &H, zone: ZoneNo) -> Reply
         requires whole { self.old.broken ≡ None }
-        ensures ok { IfOk result (λ reply. IsStepBy (runs_round command self.old.serial.world) self.old command reply self.new) }
-        ensures memory { OnErr result (Opens self.old.serial command) }
+        ensures { IsStepBy (runs_round (Command.Compact zone) self.old.serial.world) self.old (Command.Compact zone) result self.new }
     {
-        let Some(world) = self.machine.take_for_round(&command) else {
-            return self.machine.respond(command);
+        let Some(world) = self.machine.take_closed(zone) else {
+            return self.machine.compact(zone);
         };
-        Ok(self.run_round(rt, world))
+        self.run_round(rt, world)
     }
 
     /// Runs a round over the zone of a world, which the machine gives for it.
@@ -170,16 +167,6 @@ impl<I: Ledger + Send + Sync, N: Ledger, M: Ledger + Send + Sync, B: Ledger + Se
             Ok(_) => self.machine.put_back(World::join(zone, seats, rest)),
             Err(_) => self.broken = Some(number),
         }
-    }
-}
-
-/// Whether a command is for no round, whatever there is.
-fn is_serial(command: &Command) -> bool
-    ensures { IsTrue result → (world : Option WorldState) → runs_round command.now world ≡ false }
-{
-    match command {
-        Command::Compact { .. } => false,
-        Command::Open { .. } | Command::On { .. } | Command::Profile2 | Command::OutOfRange => true,
     }
 }
 

@@ -88,3 +88,7 @@ first_word_none (b ∷ xs) e = ap (λ (t : Bool). take (cond (not t) (1 + lexeme
 pub behind_word_none : (xs : List ℕ) → starts_with nat_eq xs (codes " ") ≡ true → behind_word xs ≡ xs
 behind_word_none [] e = refl
 behind_word_none (b ∷ xs) e = ap (λ (t : Bool). drop (cond (not t) (1 + lexeme_len xs) 0) (b ∷ xs)) (space_first b xs e)
+
+-- a digit is no space
+pub is_apart : (d : ℕ) → nat_eq (48 + d) 32 ≡ false
+is_apart d = grind (arith, nat_tests)

@@ -66,3 +66,14 @@ value_after v d ds whole h e = ap (λ (n : ℕ). digits_value_after 10 (v * 10 +
 pub number_of_over : (v d : ℕ) (ds bytes : List ℕ) → is_ascii_digit d ≡ true → digits_value_after 10 v (d ∷ ds) ≡ digits_value 10 bytes → 2 ^ 64 ≤ v * 10 + (d - 48) → number_of bytes ≡ None
 number_of_over v d ds bytes h e large =
     number_of_large bytes (omega (arith, value_after v d ds (digits_value 10 bytes) h e, digits_value_after-le (v * 10 + (d - 48)) ds))
+
+pub is_digit : (d : ℕ) → d < 10 → is_ascii_digit (48 + d) ≡ true
+is_digit d small = grind (arith, nat_tests)
+
+-- one digit
+pub number_of_digit : (d : ℕ) → d < 10 → number_of ((48 + d) ∷ []) ≡ Some d
+number_of_digit d small =
+    let digit = is_digit d small in
+    let same : 0 * 10 + ((48 + d) - 48) ≡ digits_value 10 ((48 + d) ∷ []) = value_after 0 (48 + d) [] (digits_value 10 ((48 + d) ∷ [])) digit refl in
+    let value : digits_value 10 ((48 + d) ∷ []) ≡ d = omega (arith, same) in
+    number_of_fits ((48 + d) ∷ []) (omega arith) (omega arith) (ap (λ (b : Bool). b && true) digit) (omega (arith, value, small)) ∙ ap Some value

@@ -15,6 +15,7 @@ pub(crate) fn one(text: &[u8]) -> Option<u64>
 }
 
 /// The two numbers that are all of a text.
+#[inline(always)]
 pub(crate) fn two(text: &[u8]) -> Option<(u64, u64)>
     ensures { result ≡ two_of (tokens text.now) }
 {

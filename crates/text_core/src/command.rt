@@ -30,8 +30,8 @@ pub enum Calls {
 pub struct Series {
     pub call: Repeated,
     pub space: SpaceNo,
-    pub first: u64,
     pub count: PageCount,
+    pub first: u64,
     pub step: u64,
 }
 

@@ -2,7 +2,7 @@
 
 ghost use Rattle.std.specs.Prelude.{◌≡◌};
 ghost use Rattle.text_core.specs.Token.{tokens};
-ghost use Rattle.text_core.specs.Grammar.{address_of, blocks_of, command_of, compacting, frame_of, give_order_call, order_of, row_in, own_row, hand_of, load_call, map_at_call, map_call, call_on, calls_on, opening, page_count_of, pageblock_of, row_of, series_of, series_on, share_call, space_of, store_call, word_of, zone_of};
+ghost use Rattle.text_core.specs.Grammar.{address_of, blocks_of, command_of, compacting, frame_of, give_order_call, order_of, row_in, row_of_profile_2, own_row, hand_of, load_call, map_at_call, map_call, call_on, calls_on, opening, page_count_of, pageblock_of, row_of, series_of, series_on, share_call, space_of, store_call, word_of, zone_of};
 
 use crate::arguments::{four, one, three, three_and_flag, two, two_and_flag};
 use crate::blocks::BlockCount;
@@ -40,10 +40,17 @@ fn row_in(
 fn own_row(profile: Profile, keyword: Token, arguments: &[u8]) -> Option<Option<Call>>
     ensures { result ≡ own_row profile keyword (tokens arguments.now) }
 {
-    use Token::{Give, Huge, Info, Mark, Unmark};
-    if !matches!(profile, Profile::Two) {
-        return None;
+    match profile {
+        Profile::Two => row_of_profile_2(keyword, arguments),
+        Profile::Untold | Profile::One => None,
     }
+}
+
+/// The call on a zone by the rows that profile 2 has besides.
+fn row_of_profile_2(keyword: Token, arguments: &[u8]) -> Option<Option<Call>>
+    ensures { result ≡ row_of_profile_2 keyword (tokens arguments.now) }
+{
+    use Token::{Give, Huge, Info, Mark, Unmark};
     match keyword {
         Info if is_end(arguments) => Some(Some(Call::InfoWithHeld)),
         Huge => Some(order(one(arguments)?).map(Call::TakeOrder)),
@@ -57,7 +64,7 @@ fn own_row(profile: Profile, keyword: Token, arguments: &[u8]) -> Option<Option<
     }
 }
 
-/// The command by the rows of both profiles.
+/// The command by the rows of both profiles. A row with two arguments or more is a function of its own.
 fn row(keyword: Token, zone: Option<ZoneNo>, arguments: &[u8]) -> Option<Command>
     ensures { result ≡ row_of keyword zone (tokens arguments.now) }
 {
@@ -67,64 +74,119 @@ fn row(keyword: Token, zone: Option<ZoneNo>, arguments: &[u8]) -> Option<Command
     };
     match keyword {
         Zone => Some(open(zone, blocks(one(arguments)?))),
-        Map => {
-            let (s, v, unmovable) = two_and_flag(arguments)?;
-            Some(on(zone, map(address(s, v), unmovable)))
-        }
-        MapAt => {
-            let (s, v, f, unmovable) = three_and_flag(arguments)?;
-            Some(on(zone, map_at(address(s, v), frame(f), unmovable)))
-        }
-        Store => {
-            let (s, v, w, x) = four(arguments)?;
-            Some(on(zone, store(address(s, v), word(w), x)))
-        }
-        Load => {
-            let (s, v, w) = three(arguments)?;
-            Some(on(zone, load(address(s, v), word(w))))
-        }
+        Map => map_row(zone, arguments),
+        MapAt => map_at_row(zone, arguments),
+        Store => store_row(zone, arguments),
+        Load => load_row(zone, arguments),
         Info if is_end(arguments) => Some(on(zone, Some(Call::Info))),
         Scan if is_end(arguments) => Some(on(zone, Some(Call::Scan))),
         Take => Some(on(zone, hand(one(arguments)?).map(Call::Take))),
         Copy => Some(on(zone, hand(one(arguments)?).map(Call::Copy))),
         Finish => Some(on(zone, hand(one(arguments)?).map(Call::Finish))),
         Shut if is_end(arguments) => Some(on(zone, Some(Call::Shut))),
-        Look => {
-            let (s, v) = two(arguments)?;
-            Some(on(zone, address(s, v).map(Call::Look)))
-        }
-        Share => {
-            let (s, v, s2, v2) = four(arguments)?;
-            Some(on(zone, share(address(s, v), address(s2, v2))))
-        }
-        Unmap => {
-            let (s, v) = two(arguments)?;
-            Some(on(zone, address(s, v).map(Call::Unmap)))
-        }
-        Pin => {
-            let (s, v) = two(arguments)?;
-            Some(on(zone, address(s, v).map(Call::Pin)))
-        }
-        Unpin => {
-            let (s, v) = two(arguments)?;
-            Some(on(zone, address(s, v).map(Call::Unpin)))
-        }
+        Look => look_row(zone, arguments),
+        Share => share_row(zone, arguments),
+        Unmap => unmap_row(zone, arguments),
+        Pin => pin_row(zone, arguments),
+        Unpin => unpin_row(zone, arguments),
         Huge if is_end(arguments) => Some(on(zone, Some(Call::Huge))),
         Give => Some(on(zone, pageblock(one(arguments)?).map(Call::Give))),
-        Fill => {
-            let (s, v, n) = three(arguments)?;
-            Some(series_on(zone, series(Repeated::Map, space(s), v, page_count(n), 1)))
-        }
-        Thin => {
-            let (s, v, n, step) = four(arguments)?;
-            Some(series_on(
-                zone,
-                series(Repeated::Unmap, space(s), v, page_count(n), step),
-            ))
-        }
+        Fill => fill_row(zone, arguments),
+        Thin => thin_row(zone, arguments),
         Compact if is_end(arguments) => Some(compact(zone)),
         _ => None,
     }
+}
+
+/// `map Z S V`, with or without `unmovable`.
+fn map_row(zone: Option<ZoneNo>, arguments: &[u8]) -> Option<Command>
+    ensures { result ≡ row_of Token.Map zone (tokens arguments.now) }
+{
+    let (s, v, unmovable) = two_and_flag(arguments)?;
+    Some(on(zone, map(address(s, v), unmovable)))
+}
+
+/// `mapat Z S V F`, with or without `unmovable`.
+fn map_at_row(zone: Option<ZoneNo>, arguments: &[u8]) -> Option<Command>
+    ensures { result ≡ row_of Token.MapAt zone (tokens arguments.now) }
+{
+    let (s, v, f, unmovable) = three_and_flag(arguments)?;
+    Some(on(zone, map_at(address(s, v), frame(f), unmovable)))
+}
+
+/// `store Z S V W X`.
+fn store_row(zone: Option<ZoneNo>, arguments: &[u8]) -> Option<Command>
+    ensures { result ≡ row_of Token.Store zone (tokens arguments.now) }
+{
+    let (s, v, w, x) = four(arguments)?;
+    Some(on(zone, store(address(s, v), word(w), x)))
+}
+
+/// `load Z S V W`.
+fn load_row(zone: Option<ZoneNo>, arguments: &[u8]) -> Option<Command>
+    ensures { result ≡ row_of Token.Load zone (tokens arguments.now) }
+{
+    let (s, v, w) = three(arguments)?;
+    Some(on(zone, load(address(s, v), word(w))))
+}
+
+/// `look Z S V`.
+fn look_row(zone: Option<ZoneNo>, arguments: &[u8]) -> Option<Command>
+    ensures { result ≡ row_of Token.Look zone (tokens arguments.now) }
+{
+    let (s, v) = two(arguments)?;
+    Some(on(zone, address(s, v).map(Call::Look)))
+}
+
+/// `share Z S V S2 V2`.
+fn share_row(zone: Option<ZoneNo>, arguments: &[u8]) -> Option<Command>
+    ensures { result ≡ row_of Token.Share zone (tokens arguments.now) }
+{
+    let (s, v, s2, v2) = four(arguments)?;
+    Some(on(zone, share(address(s, v), address(s2, v2))))
+}
+
+/// `unmap Z S V`.
+fn unmap_row(zone: Option<ZoneNo>, arguments: &[u8]) -> Option<Command>
+    ensures { result ≡ row_of Token.Unmap zone (tokens arguments.now) }
+{
+    let (s, v) = two(arguments)?;
+    Some(on(zone, address(s, v).map(Call::Unmap)))
+}
+
+/// `pin Z S V`.
+fn pin_row(zone: Option<ZoneNo>, arguments: &[u8]) -> Option<Command>
+    ensures { result ≡ row_of Token.Pin zone (tokens arguments.now) }
+{
+    let (s, v) = two(arguments)?;
+    Some(on(zone, address(s, v).map(Call::Pin)))
+}
+
+/// `unpin Z S V`.
+fn unpin_row(zone: Option<ZoneNo>, arguments: &[u8]) -> Option<Command>
+    ensures { result ≡ row_of Token.Unpin zone (tokens arguments.now) }
+{
+    let (s, v) = two(arguments)?;
+    Some(on(zone, address(s, v).map(Call::Unpin)))
+}
+
+/// `fill Z S V N`.
+fn fill_row(zone: Option<ZoneNo>, arguments: &[u8]) -> Option<Command>
+    ensures { result ≡ row_of Token.Fill zone (tokens arguments.now) }
+{
+    let (s, v, n) = three(arguments)?;
+    Some(series_on(zone, series(Repeated::Map, space(s), v, page_count(n), 1)))
+}
+
+/// `thin Z S V N STEP`.
+fn thin_row(zone: Option<ZoneNo>, arguments: &[u8]) -> Option<Command>
+    ensures { result ≡ row_of Token.Thin zone (tokens arguments.now) }
+{
+    let (s, v, n, step) = four(arguments)?;
+    Some(series_on(
+        zone,
+        series(Repeated::Unmap, space(s), v, page_count(n), step),
+    ))
 }
 
 /// The opening of a zone, where each argument is in its range.

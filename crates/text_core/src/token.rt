@@ -110,6 +110,7 @@ fn number(digits: &[u8]) -> Option<u64>
 }
 
 /// The first token of a text, and what stands behind its lexeme.
+#[inline(always)]
 pub(crate) fn first_token(text: &[u8]) -> Option<(Token, &[u8])>
     ensures token { MatchOption result (tokens text.now ≡ []) (λ found. tokens text.now ≡ found.0 ∷ tokens found.1.now) }
 {
@@ -124,8 +125,32 @@ pub(crate) fn first_number(text: &[u8]) -> Option<(u64, &[u8])>
     leading_number(without_spaces(text))
 }
 
-/// The number that a text without leading spaces begins with, and what stands behind it.
+/// The number that a text without leading spaces begins with, and what stands behind it. Most have one digit.
 fn leading_number(text: &[u8]) -> Option<(u64, &[u8])>
+    ensures number { MatchOption result (number_of (first_word text.now) ≡ None) (λ found. number_of (first_word text.now) ≡ Some found.0) }
+    ensures behind { IfSome result (λ found. found.1.now ≡ behind_word text.now) }
+{
+    match lone_digit(text) {
+        Some((digit, behind)) => Some((u64::from(digit), behind)),
+        None => leading_digits(text),
+    }
+}
+
+/// The digit that is all of the word that a text begins with, and what stands behind it.
+fn lone_digit(text: &[u8]) -> Option<(u8, &[u8])>
+    ensures number { IfSome result (λ found. number_of (first_word text.now) ≡ Some found.0) }
+    ensures behind { IfSome result (λ found. found.1.now ≡ behind_word text.now) }
+{
+    let (digit, behind) = leading_digit(text)?;
+    if ends_word(behind) {
+        Some((digit, behind))
+    } else {
+        None
+    }
+}
+
+/// The number that a text begins with, however many digits it has, and what stands behind it.
+fn leading_digits(text: &[u8]) -> Option<(u64, &[u8])>
     ensures number { MatchOption result (number_of (first_word text.now) ≡ None) (λ found. number_of (first_word text.now) ≡ Some found.0) }
     ensures behind { IfSome result (λ found. found.1.now ≡ behind_word text.now) }
 {

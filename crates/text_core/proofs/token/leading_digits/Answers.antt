@@ -1,20 +1,11 @@
 use Rattle.std.proofs.Common.{◌≡◌, ◌+◌, ◌*◌, ◌-◌, ◌^◌, ◌<◌, ◌≤◌, ◌∙◌, ℕ, List, ◌∷◌, length, true, false, refl, sym, ap, arith}
-use Rattle.std.specs.Prelude.{nat_eq}
-use Rattle.std.specs.Char.{is_ascii_digit}
 use Rattle.std.specs.Str.{all_ascii_digits}
 use Rattle.std.specs.Str.Parse.{digits_value, digits_value_after}
-use Rattle.std.proofs.lemmas.Bool.Decides.{nat_tests}
 use Rattle.text_core.specs.Token.{behind_word, first_word}
-use Rattle.text_core.proofs.Lexemes.{behind_word_step, first_word_step}
-use Rattle.text_core.proofs.Numbers.{digits_after, digits_stop, number_of_long, number_of_none, number_of_over, number_of_short, value_after}
-use Rattle.text_core.proofs.token.leading_number.Goals as goal
-use Rattle.text_core.proofs.token.leading_number.Goals.{else-ends_word-via-then-ends_word+then-count-gt0+else-count-le20, else-ends_word-via-then-ends_word+else-count-gt0, else-ends_word-via-else-ends_word}
-
-is_digit : (d : ℕ) → d < 10 → is_ascii_digit (48 + d) ≡ true
-is_digit d small = grind (arith, nat_tests)
-
-is_apart : (d : ℕ) → nat_eq (48 + d) 32 ≡ false
-is_apart d = grind (arith, nat_tests)
+use Rattle.text_core.proofs.Lexemes.{behind_word_step, first_word_step, is_apart}
+use Rattle.text_core.proofs.Numbers.{digits_after, digits_stop, is_digit, number_of_long, number_of_none, number_of_over, number_of_short, value_after}
+use Rattle.text_core.proofs.token.leading_digits.Goals as goal
+use Rattle.text_core.proofs.token.leading_digits.Goals.{else-ends_word-via-then-ends_word+then-count-gt0+else-count-le20, else-ends_word-via-then-ends_word+else-count-gt0, else-ends_word-via-else-ends_word}
 
 pub loop-digit-preserved : goal.loop-digit-preserved
 loop-digit-preserved c =

@@ -2,7 +2,7 @@ use Rattle.std.proofs.Common.{◌≡◌, ◌+◌, ◌^◌, ◌<◌, ◌≤◌, l
 use Rattle.std.specs.Str.{all_ascii_digits}
 use Rattle.std.specs.Str.Parse.{digits_value, digits_value_after}
 use Rattle.text_core.specs.Token.{behind_word, first_word}
-use Rattle.text_core.proofs.token.leading_number.Given as goal
+use Rattle.text_core.proofs.token.leading_digits.Given as goal
 
 -- the value so far, followed by the digits that are left, is the whole
 abbrev pub invariant-loop-digit : goal.invariant-loop-digit
