@@ -1,14 +1,14 @@
 -- Sets of frames: what a call adds to them or takes from them, and what is read off their counts.
-use Rattle.std.proofs.Common.{◌≡◌, ◌≢◌, ℕ, zero, suc, ◌+◌, ◌-◌, ◌*◌, ◌/◌, ◌%◌, ◌^◌, ◌<◌, ◌≤◌, Bool, true, false, not, List, length, inl, inr, refl, sym, ap, ◌∙◌, subst, slice_index, eq-eqb, arith}
-use Rattle.std.specs.Prelude.{Some, Option, None, nat_eq, nat_le, nat_lt, slice_get, slice_set, if◌then◌else◌, ◌&&◌, ◌||◌}
+use Rattle.std.proofs.Common.{◌≡◌, ℕ, zero, suc, ◌+◌, ◌-◌, ◌*◌, ◌/◌, ◌%◌, ◌^◌, ◌<◌, ◌≤◌, Bool, true, false, not, List, length, inl, inr, refl, sym, ap, ◌∙◌, subst, slice_index, eq-eqb, arith}
+use Rattle.std.specs.Prelude.{Some, None, nat_eq, nat_lt, slice_get, slice_set, if◌then◌else◌, ◌&&◌, ◌||◌}
 use Rattle.std.specs.FinSet as set
 use Rattle.std.specs.Ordering.{nat_cmp}
-use Rattle.std.proofs.lemmas.Bool.{ne_eqb, lt-ltb, le-ltb, ltb-true, le-leb, leb-true, eqb-true}
+use Rattle.std.proofs.lemmas.Bool.{ne_eqb, lt-ltb, le-ltb, ltb-true, eqb-true}
 use Rattle.std.proofs.lemmas.Bool.Decides.{eqb_tells, leb_tells}
 use Rattle.std.proofs.lemmas.Option.{get_or_from_slice_get}
 use Rattle.frame_core.specs.Below.{count_below, count_from, lowest, one_if, some_below}
 use Rattle.frame_core.specs.Order.{is_aligned}
-use Rattle.frame_core.proofs.Searches.{count_none, count_some, count_from_all, some_at, some_none, some_one, none_some, lowest_is, lowest_same, lowest_none}
+use Rattle.frame_core.proofs.Searches.{count_none, count_some, some_at, some_one, lowest_is, lowest_none}
 use Rattle.scan_core.specs.BlockCounts.{is_full}
 use Rattle.scan_core.specs.FrameSet.{Counts, all_of_block, count_in_block, is_run_of}
 use Rattle.frame_core.specs.declared.state.FrameState.{FrameState}
@@ -17,11 +17,10 @@ use Rattle.scan_core.specs.NumberSet.{all_from, capacity, in_run}
 use Rattle.scan_core.specs.Pairs.{is_marked}
 use Rattle.scan_core.proofs.Bounds.{count_from_short}
 use Rattle.scan_core.proofs.Counting.{not_free_past}
-use Rattle.scan_core.proofs.Masking.{clash}
 use Rattle.scan_core.proofs.Numbering.{capacity_is, member_insert, member_remove}
 use Rattle.scan_core.proofs.Orders.{run_aligned, run_within, first_of_run, runs_end}
-use Rattle.scan_core.proofs.RunCounts.{Adds, counts_more, counts_fewer}
-use Rattle.scan_core.proofs.Spanning.{same_by, both, in_run_is, is_in_run}
+use Rattle.scan_core.proofs.RunCounts.{Adds, block_more, counts_more, counts_fewer}
+use Rattle.scan_core.proofs.Spanning.{all_members, same_by, both, in_run_is, is_in_run}
 
 pub insert_if : (b x m : Bool) → m ≡ true → (b || x) ≡ (if b then m else x)
 insert_if true x m e = sym e
@@ -159,6 +158,22 @@ no_counts s blocks none len each = record {
 no_run_here : (p : ℕ → Bool) (order at k : ℕ) (aligned : Bool) → is_aligned order k ≡ aligned → (is_aligned order k ≡ true → k ≡ at) → all_from p at (2 ^ order) ≡ false → is_run_of p order k ≡ false
 no_run_here p order at k true e only fails = ap (λ b. b && all_from p k (2 ^ order)) e ∙ ap (λ f. all_from p f (2 ^ order)) (only e) ∙ fails
 no_run_here p order at k false e only fails = ap (λ b. b && all_from p k (2 ^ order)) e
+
+-- what the count of its pageblock tells of a run
+module _ (p : ℕ → Bool) (first m total count : ℕ) (blocks : List ℕ) (low : first < 4096) (within : first % 512 + m ≤ 512) (counts : Counts total blocks p) (is : count ≡ slice_index blocks (first / 512)) where
+  counted : count ≡ count_in_block p (first / 512)
+  counted = is ∙ get_or_from_slice_get blocks (first / 512) _ 0 (counts.each (first / 512) (omega arith))
+
+  pub run_of_all : count ≡ 512 → all_from p first m ≡ true
+  run_of_all all =
+      sym (all_members p first m (λ k inside. let at = in_run_is first m k inside in all_pass p (512 * (first / 512)) 512 (eq-eqb _ 512 (sym counted ∙ all)) k (is_in_run (512 * (first / 512)) 512 k (omega (arith, at.0)) (omega (arith, at.1)))))
+
+  pub no_run_of_few : count < m → all_from p first m ≡ false
+  no_run_of_few few = same_by (all_from p first m) false
+      (λ e. let rest = λ (k : ℕ). not (in_run first m k) && p k in
+      let more = block_more rest p first m low within (takes_run p rest first m (all_pass p first m e) (λ k. refl)) in
+      absurd (omega (arith, more, counted, few)))
+      (λ e. cc)
 
 -- the search for a run, a multiple after another
 module _ (p : ℕ → Bool) (order frames : ℕ) (low : 3 ≤ order) (high : order ≤ 9) (is : frames ≡ 2 ^ order) where

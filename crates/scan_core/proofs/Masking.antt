@@ -1,7 +1,7 @@
 -- Bits of words, and masks.
-use Rattle.std.proofs.Common.{◌≡◌, ◌≢◌, ℕ, zero, suc, ◌+◌, ◌-◌, ◌*◌, ◌/◌, ◌%◌, ◌^◌, ◌<◌, ◌≤◌, max, min, Bool, true, false, not, inl, inr, refl, sym, ap, ◌∙◌, List, length, replicate, slice_index, eq-eqb, arith, w64}
-use Rattle.std.specs.Prelude.{nat_eq, nat_lt, ◌&&◌, ◌||◌, bit_and, bit_or}
-use Rattle.std.specs.Int.{bit_at, bit_not, trailing_zeros}
+use Rattle.std.proofs.Common.{◌≡◌, ℕ, zero, suc, ◌-◌, ◌*◌, ◌%◌, ◌^◌, ◌<◌, max, min, Bool, true, false, not, inl, inr, refl, sym, ap, ◌∙◌, List, length, replicate, slice_index, slice_set, eq-eqb, get_or-set_same, get_or-set_other, arith, w64}
+use Rattle.std.specs.Prelude.{nat_eq, nat_lt, ◌&&◌, ◌||◌, bit_and, bit_or, if◌then◌else◌}
+use Rattle.std.specs.Int.{bit_at, trailing_zeros}
 use Rattle.std.proofs.lemmas.Bool.{ne_eqb, ltb-true, lt-ltb}
 use Rattle.std.proofs.lemmas.Bool.Decides.{eqb_tells, leb_tells}
 use Rattle.std.proofs.lemmas.Nat.Bits.{bit_at-zero, bit_at_and, bit_at_or, bit_at_not, bit_at-lt, bit_at-pow_same, bit_at-pow_other, bit_at-trailing_zeros}
@@ -80,26 +80,35 @@ pub and_false : (a : Bool) → (a && false) ≡ false
 and_false true = refl
 and_false false = refl
 
--- the summary where a word got bits or lost them
-pub marked_same : (summary k bits : ℕ) → k < 64 → 0 < bits → has_bit (bit_or summary (1 * 2 ^ k % 2 ^ 64)) k ≡ nat_lt 0 bits
-marked_same summary k bits h some =
-    has_bit_or summary (1 * 2 ^ k % 2 ^ 64) k ∙ ap (λ b. has_bit summary k || b) (has_bit_pow k k h ∙ eq-eqb k k refl) ∙ or_true (has_bit summary k) ∙ sym (lt-ltb 0 bits some)
+-- the summary where the words of a mask lost their bits
+pub unmarked : (summary words bits i : ℕ) → words < 2 ^ 64 → i < 64 → bits ≡ 0 → has_bit (bit_and summary (2 ^ 64 - 1 - words)) i ≡ (if has_bit words i then nat_lt 0 bits else has_bit summary i)
+unmarked summary words bits i fits low none =
+    has_bit_and summary (2 ^ 64 - 1 - words) i ∙ ap (λ b. has_bit summary i && b) (has_bit_not words i fits low) ∙ lost (has_bit summary i) (has_bit words i)
+  where
+    lost : (s m : Bool) → (s && not m) ≡ (if m then nat_lt 0 bits else s)
+    lost s true = and_false s ∙ ap (nat_lt 0) (sym none)
+    lost s false = and_true s
 
-pub marked_other : (summary k i : ℕ) → k < 64 → i ≢ k → has_bit (bit_or summary (1 * 2 ^ k % 2 ^ 64)) i ≡ has_bit summary i
-marked_other summary k i h ne =
-    has_bit_or summary (1 * 2 ^ k % 2 ^ 64) i ∙ ap (λ b. has_bit summary i || b) (has_bit_pow k i h ∙ ne_eqb i k ne) ∙ or_false (has_bit summary i)
+-- the summary where they got bits
+pub marked : (summary words bits i : ℕ) → 0 < bits → has_bit (bit_or summary words) i ≡ (if has_bit words i then nat_lt 0 bits else has_bit summary i)
+marked summary words bits i some =
+    has_bit_or summary words i ∙ got (has_bit summary i) (has_bit words i)
+  where
+    got : (s m : Bool) → (s || m) ≡ (if m then nat_lt 0 bits else s)
+    got s true = or_true s ∙ sym (lt-ltb 0 bits some)
+    got s false = or_false s
 
-pub unmarked_same : (summary k bits : ℕ) → k < 64 → bits ≡ 0 → has_bit (bit_and summary (2 ^ 64 - 1 - 1 * 2 ^ k % 2 ^ 64)) k ≡ nat_lt 0 bits
-unmarked_same summary k bits h none =
-    has_bit_and summary (2 ^ 64 - 1 - 1 * 2 ^ k % 2 ^ 64) k
-    ∙ ap (λ b. has_bit summary k && b) (has_bit_not (1 * 2 ^ k % 2 ^ 64) k (pow_below k h) h ∙ ap not (has_bit_pow k k h ∙ eq-eqb k k refl))
-    ∙ and_false (has_bit summary k) ∙ ap (nat_lt 0) (sym none)
+-- a summary follows its words, where those of a mask got new bits
+pub summed : (words new : List ℕ) (summary now bits i : ℕ) (m : Bool) → has_bit summary i ≡ nat_lt 0 (slice_index words i) → slice_index new i ≡ (if m then bits else slice_index words i) → has_bit now i ≡ (if m then nat_lt 0 bits else has_bit summary i) → has_bit now i ≡ nat_lt 0 (slice_index new i)
+summed words new summary now bits i true each word is = is ∙ ap (nat_lt 0) (sym word)
+summed words new summary now bits i false each word is = is ∙ each ∙ ap (nat_lt 0) (sym word)
 
-pub unmarked_other : (summary k i : ℕ) → k < 64 → i < 64 → i ≢ k → has_bit (bit_and summary (2 ^ 64 - 1 - 1 * 2 ^ k % 2 ^ 64)) i ≡ has_bit summary i
-unmarked_other summary k i h l ne =
-    has_bit_and summary (2 ^ 64 - 1 - 1 * 2 ^ k % 2 ^ 64) i
-    ∙ ap (λ b. has_bit summary i && b) (has_bit_not (1 * 2 ^ k % 2 ^ 64) i (pow_below k h) l ∙ ap not (has_bit_pow k i h ∙ ne_eqb i k ne))
-    ∙ and_true (has_bit summary i)
+-- one word got new bits
+pub one_word : (words : List ℕ) (word bits i : ℕ) → word < length words → slice_index (slice_set words word bits) i ≡ (if nat_eq i word then bits else slice_index words i)
+one_word words word bits i within = elim (eqb_tells i word) [
+  | inl at ↦ (ap (slice_index (slice_set words word bits)) at.1 ∙ get_or-set_same words word bits 0 within ∙ sym (ap (λ b. if b then bits else slice_index words i) (eq-eqb i word at.1)))
+  | inr away ↦ (get_or-set_other words word i bits 0 away.1 ∙ sym (ap (λ b. if b then bits else slice_index words i) (ne_eqb i word away.1)))
+]
 
 -- zeros are zero, past the end too
 pub zeros : (n i : ℕ) → slice_index (replicate n 0) i ≡ 0

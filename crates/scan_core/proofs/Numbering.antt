@@ -1,7 +1,7 @@
 -- The numbers whose bits are set.
 use Rattle.std.proofs.Common.{◌≡◌, ◌≢◌, ℕ, zero, suc, ◌+◌, ◌-◌, ◌*◌, ◌/◌, ◌%◌, ◌^◌, ◌<◌, ◌≤◌, Bool, true, false, not, List, length, inl, inr, refl, sym, ap, ◌∙◌, slice_index, eq-eqb, get_or-set_same, get_or-set_other, arith, w64}
-use Rattle.std.specs.Prelude.{nat_eq, nat_lt, ◌&&◌, ◌||◌, bit_and, bit_or, slice_set, if◌then◌else◌, Option, Some, None}
-use Rattle.std.specs.Int.{bit_at, trailing_zeros}
+use Rattle.std.specs.Prelude.{nat_eq, ◌&&◌, ◌||◌, bit_and, bit_or, slice_set, if◌then◌else◌, Some, None}
+use Rattle.std.specs.Int.{trailing_zeros}
 use Rattle.std.specs.Ordering.{nat_cmp}
 use Rattle.std.specs.Cmp.{nat_cmp_total, unsigned_tied}
 use Rattle.std.specs.FinSet as set
@@ -10,10 +10,10 @@ use Rattle.std.proofs.lemmas.Bool.Decides.{eqb_tells, leb_tells}
 use Rattle.std.proofs.lemmas.List.{get_or_past}
 use Rattle.std.proofs.lemmas.Nat.Bits.{shr_and_one, bit_at-trailing_zeros}
 use Rattle.frame_core.specs.Below.{lowest}
-use Rattle.frame_core.proofs.Searches.{lowest_is, lowest_none, lowest_same, lowest_some}
+use Rattle.frame_core.proofs.Searches.{lowest_is, lowest_none, lowest_same}
 use Rattle.scan_core.specs.Bits.{has_bit, has_number, IsFirstWord}
 use Rattle.scan_core.specs.NumberSet.{capacity, gathered, numbers_of}
-use Rattle.scan_core.proofs.Masking.{has_bit_or, has_bit_and, has_bit_not, has_bit_pow, has_bit_zero, pow_below}
+use Rattle.scan_core.proofs.Masking.{has_bit_or, has_bit_and, has_bit_not, has_bit_pow, has_bit_zero}
 
 pub capacity_is : capacity ≡ 4096
 unfolding capacity

@@ -1,6 +1,6 @@
 -- The words in which a run of numbers stands.
 use Rattle.std.proofs.Common.{◌≡◌, ◌≢◌, ℕ, zero, suc, ◌+◌, ◌-◌, ◌*◌, ◌/◌, ◌%◌, ◌^◌, ◌<◌, ◌≤◌, ◌⊎◌, Bool, true, false, not, inl, inr, refl, sym, ap, ◌∙◌, subst, List, length, slice_index, eq-eqb, arith}
-use Rattle.std.specs.Prelude.{nat_eq, nat_le, nat_lt, ◌&&◌, ◌||◌, bit_and}
+use Rattle.std.specs.Prelude.{nat_eq, nat_le, nat_lt, ◌&&◌, ◌||◌, bit_and, if◌then◌else◌}
 use Rattle.std.specs.Int.{bit_at}
 use Rattle.std.proofs.lemmas.Bool.{ne_eqb, ltb-true, leb-true, lt-ltb, le-leb, le-ltb, lt-leb, eqb-true}
 use Rattle.std.proofs.lemmas.Bool.Decides.{eqb_tells, leb_tells}
@@ -8,9 +8,8 @@ use Rattle.std.proofs.lemmas.Nat.{pow-add, pow_pos, and_le_r}
 use Rattle.std.proofs.lemmas.Nat.Bits.{bit_at_and, bit_at_mask_inside, bit_at_mask_below, bit_at_mask_above, same_from_bits_below, bit_at-lt}
 use Rattle.std.proofs.Math.Nat.{mod-eq_of_lt, mod-lt, mul-sub}
 use Rattle.std.proofs.Math.Pow.{pow_mono}
-use Rattle.frame_core.specs.Below.{count_from}
 use Rattle.frame_core.specs.Order.{is_aligned}
-use Rattle.frame_core.proofs.Searches.{count_from_all, some_one, some_none}
+use Rattle.frame_core.proofs.Searches.{count_from_all}
 use Rattle.std.specs.Ordering.{nat_cmp}
 use Rattle.std.specs.FinSet as set
 use Rattle.scan_core.specs.Bits.{has_bit, has_number}
@@ -18,7 +17,7 @@ use Rattle.scan_core.specs.NumberSet.{all_from, in_run, numbers_of}
 use Rattle.scan_core.specs.Spans.{in_words, Spans}
 use Rattle.scan_core.specs.declared.numbers.Span.{Span}
 use Rattle.scan_core.proofs.Bounds.{count_from_short}
-use Rattle.scan_core.proofs.Masking.{clash, has_bit_and}
+use Rattle.scan_core.proofs.Masking.{has_bit_and, has_bit_zero, pow_fits}
 use Rattle.scan_core.proofs.Numbering.{member}
 
 -- a run is a part of one word, which has so many bits of it, or whole words
@@ -38,6 +37,10 @@ ones_shifted k s i fits =
       ]
       | inr before ↦ (ap (λ n. nat_eq n 1) (bit_at_mask_below s (s + k) i before.1) ∙ sym (ap (λ b. b && nat_lt i (s + k)) (lt-leb s i before.1)))
     ]
+
+-- the same as the code writes it
+pub ones_from : (count start i : ℕ) → count < 64 → start + count ≤ 64 → has_bit ((1 * 2 ^ count % 2 ^ 64 - 1) * 2 ^ start % 2 ^ 64) i ≡ in_run start count i
+ones_from count start i few fits = ap (λ n. has_bit ((n - 1) * 2 ^ start % 2 ^ 64) i) (pow_fits count few) ∙ ones_shifted count start i fits
 
 pub same_by : (a b : Bool) → (a ≡ true → b ≡ true) → (b ≡ true → a ≡ true) → a ≡ b
 same_by true b to from = sym (to refl)
@@ -130,6 +133,45 @@ span_of_words first order at words bits ones pair is parts low aligned fits ones
     let spans : Spans (record { start = first / 64; end = first / 64 + pair.0; mask = pair.1 * 2 ^ (first % 64) % 2 ^ 64 }) first (2 ^ at) =
     spanned _ first (2 ^ at) words bits low facts.0 facts.1 refl (λ i. first / 64 + (parts i).0) (λ i. ((λ j. (parts j).1) ∙ ones_are) i * 2 ^ (first % 64) % 2 ^ 64) in
     subst (λ (o : ℕ). Spans (record { start = first / 64; end = first / 64 + pair.0; mask = pair.1 * 2 ^ (first % 64) % 2 ^ 64 }) first (2 ^ o)) (sym is) spans
+
+-- the numbers of a pageblock, by their words
+block_words : (first n : ℕ) → first / 512 * 512 ≡ first → in_run (first / 64) 8 (n / 64) ≡ in_run first 512 n
+block_words first n aligned =
+    same_by (in_run (first / 64) 8 (n / 64)) (in_run first 512 n)
+    (λ e. let is = in_run_is (first / 64) 8 (n / 64) e in is_in_run first 512 n (omega (arith, is.0)) (omega (arith, is.1)))
+    (λ e. let is = in_run_is first 512 n e in is_in_run (first / 64) 8 (n / 64) (omega (arith, is.0)) (omega (arith, is.1)))
+
+-- the eight words of a pageblock got new bits, all of them alike
+block_members : (words new : List ℕ) (s : set.FinSet nat_cmp) (first bits : ℕ) (b : Bool) → numbers_of words ≡ s → length words ≡ 64 → length new ≡ length words → first / 512 * 512 ≡ first → ((word : ℕ) → slice_index new word ≡ (if in_run (first / 64) 8 word then bits else slice_index words word)) → ((i : ℕ) → i < 64 → has_bit bits i ≡ b) → (n : ℕ) → set.contains (numbers_of new) n ≡ (if in_run first 512 n then b else set.contains s n)
+block_members words new s first bits b view len same aligned each alike n =
+    member new (same ∙ len) n ∙ ap (λ w. has_bit w (n % 64)) (each (n / 64)) ∙ by_word (in_run (first / 64) 8 (n / 64))
+    ∙ ap (λ m. if m then b else set.contains s n) (block_words first n aligned)
+  where
+    by_word : (m : Bool) → has_bit (if m then bits else slice_index words (n / 64)) (n % 64) ≡ (if m then b else set.contains s n)
+    by_word true = alike (n % 64) (omega arith)
+    by_word false = sym (member words len n) ∙ ap (λ t. set.contains t n) view
+
+module _ (words new : List ℕ) (s : set.FinSet nat_cmp) (first order : ℕ) (view : numbers_of words ≡ s) (len : length words ≡ 64) (same : length new ≡ length words) (last : order ≡ 9) (aligned : is_aligned order first ≡ true) where
+  in_block : first / 512 * 512 ≡ first
+  in_block = subst (λ (o : ℕ). first / 2 ^ o * 2 ^ o ≡ first) last (eqb-true (first / 2 ^ order * 2 ^ order) first aligned)
+
+  pub block_in : ((word : ℕ) → slice_index new word ≡ (if in_run (first / 64) 8 word then 18446744073709551615 else slice_index words word)) → (n : ℕ) → set.contains (numbers_of new) n ≡ (in_run first (2 ^ order) n || set.contains s n)
+  block_in each n =
+      block_members words new s first 18446744073709551615 true view len same in_block each (λ i low. ap (λ b. nat_eq b 1) (bit_at_mask_inside 0 64 i (omega arith) low)) n
+      ∙ put_in (in_run first 512 n) ∙ ap (λ o. in_run first (2 ^ o) n || set.contains s n) (sym last)
+    where
+      put_in : (m : Bool) → (if m then true else set.contains s n) ≡ (m || set.contains s n)
+      put_in true = refl
+      put_in false = refl
+
+  pub block_out : ((word : ℕ) → slice_index new word ≡ (if in_run (first / 64) 8 word then 0 else slice_index words word)) → (n : ℕ) → set.contains (numbers_of new) n ≡ (not (in_run first (2 ^ order) n) && set.contains s n)
+  block_out each n =
+      block_members words new s first 0 false view len same in_block each (λ i low. has_bit_zero i) n
+      ∙ take_out (in_run first 512 n) ∙ ap (λ o. not (in_run first (2 ^ o) n) && set.contains s n) (sym last)
+    where
+      take_out : (m : Bool) → (if m then false else set.contains s n) ≡ (not m && set.contains s n)
+      take_out true = refl
+      take_out false = refl
 
 -- a bit of the mask that a word hasn't
 module _ (word mask : ℕ) where

@@ -1,7 +1,8 @@
 //! 4,096 bits.
 
-ghost use Rattle.std.specs.Prelude.{◌≡◌, ◌≢◌, ℕ, ◌<◌, length, nat_lt, slice_index, slice_set, MatchOption};
+ghost use Rattle.std.specs.Prelude.{◌≡◌, ℕ, ◌+◌, ◌<◌, ◌≤◌, length, nat_lt, slice_index, slice_set, MatchOption, if◌then◌else◌};
 ghost use Rattle.scan_core.specs.Bits.{has_bit, IsFirstWord};
+ghost use Rattle.scan_core.specs.NumberSet.{in_run};
 
 use std::marker::Model;
 
@@ -49,7 +50,22 @@ impl Bits {
         ensures len { length self.new ≡ length self.old }
     {
         self.words[word as usize] = bits;
-        self.summary = summarized(self.summary, word, bits);
+        self.summary = summarized(self.summary, 1 << word, bits);
+    }
+
+    /// Writes the same bits to each of so many words from a first one on.
+    #[inline(always)]
+    pub fn fill(&mut self, start: u32, count: u32, bits: u64)
+        requires some { 0 < count }
+        requires few { count < 64 }
+        requires within { start + count ≤ 64 }
+        ensures filled { (word : ℕ) → slice_index self.new word ≡ (if in_run start count word then bits else slice_index self.old word) }
+        ensures len { length self.new ≡ length self.old }
+    {
+        for at in start..start + count {
+            self.words[at as usize] = bits;
+        }
+        self.summary = summarized(self.summary, ((1 << count) - 1) << start, bits);
     }
 
     /// The first word that isn't empty.
@@ -63,15 +79,13 @@ impl Bits {
     }
 }
 
-/// The summary where a word has these bits.
-fn summarized(summary: u64, word: u32, bits: u64) -> u64
-    requires { word < 64 }
-    ensures same { has_bit result word ≡ nat_lt 0 bits }
-    ensures others { (i : ℕ) → i < 64 → i ≢ word → has_bit result i ≡ has_bit summary i }
+/// The summary where each of these words, the bits of a mask, has these bits.
+fn summarized(summary: u64, words: u64, bits: u64) -> u64
+    ensures { (i : ℕ) → i < 64 → has_bit result i ≡ (if has_bit words i then nat_lt 0 bits else has_bit summary i) }
 {
     if bits == 0 {
-        summary & !(1 << word)
+        summary & !words
     } else {
-        summary | 1 << word
+        summary | words
     }
 }

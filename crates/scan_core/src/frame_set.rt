@@ -159,13 +159,23 @@ impl FrameSet {
     pub fn first_run(&self, order: Order) -> Option<FrameNo>
         ensures { result ≡ lowest (is_run_of (set.contains self.now) order) capacity }
     {
-        let frames = 1_u32 << order.get();
+        let frames = order.frames();
         for run in 0..4096 / frames {
-            if self.numbers.has_run(run * frames, order) {
-                return FrameNo::new(run * frames);
+            let first = FrameNo::new(run * frames)?;
+            if self.has_run(first, order) {
+                return Some(first);
             }
         }
         None
+    }
+
+    /// Whether the frames of a run are all of the set. The count of its pageblock mostly tells.
+    fn has_run(&self, first: FrameNo, order: Order) -> bool
+        requires { is_aligned order first ≡ true }
+        ensures { result ≡ all_from (set.contains self.now) first (2 ^ order) }
+    {
+        let count = self.blocks.get(block_of(first));
+        count == 512 || (count >= order.frames() && self.numbers.has_run(first.get(), order))
     }
 }
 

@@ -96,6 +96,10 @@ impl NumberSet {
         requires aligned { is_aligned order first ≡ true }
         ensures { (number : ℕ) → set.contains self.new number ≡ (in_run first (2 ^ order) number || set.contains self.old number) }
     {
+        if order == Order::of_pageblock() {
+            self.bits.fill(first / 64, 8, u64::MAX);
+            return;
+        }
         let span = span_of(first, order);
         for word in span.start..span.end {
             self.fill(word, span.mask);
@@ -108,6 +112,10 @@ impl NumberSet {
         requires aligned { is_aligned order first ≡ true }
         ensures { (number : ℕ) → set.contains self.new number ≡ (not (in_run first (2 ^ order) number) && set.contains self.old number) }
     {
+        if order == Order::of_pageblock() {
+            self.bits.fill(first / 64, 8, 0);
+            return;
+        }
         let span = span_of(first, order);
         for word in span.start..span.end {
             self.clear(word, span.mask);

@@ -1,10 +1,16 @@
 use Rattle.std.proofs.Common.{◌≡◌, ◌%◌, ◌/◌, sym, ap, ◌∙◌, arith}
 use Rattle.std.specs.Prelude.{nat_eq, ◌&&◌, ◌||◌}
 use Rattle.std.specs.FinSet as set
+use Rattle.std.proofs.lemmas.Bool.{eqb-true}
 use Rattle.scan_core.specs.Bits.{has_bit}
 use Rattle.scan_core.specs.Spans.{in_words}
-use Rattle.scan_core.proofs.Spanning.{no_words, filled_more}
+use Rattle.scan_core.proofs.Spanning.{block_in, no_words, filled_more}
 use Rattle.scan_core.proofs.numbers.NumberSet.insert_run.Goals as goal
+
+pub returns-then-eq : goal.returns-then-eq
+returns-then-eq c =
+    let last = eqb-true c.args.order c.of_pageblock.result (sym c.eq.ensures ∙ c.if-eq.true) ∙ c.of_pageblock.ensures in
+    block_in c.self.inside.bits c.fill.new.self c.args.self.now c.args.first c.args.order c.self.view_is c.self.invariant c.fill.ensures.len last c.requires.aligned c.fill.ensures.filled
 
 pub loop-word-init : goal.loop-word-init
 loop-word-init c = λ n.
@@ -13,7 +19,7 @@ loop-word-init c = λ n.
 pub loop-word-preserved : goal.loop-word-preserved
 loop-word-preserved c = λ n.
     let span = c.span_of-span.result in
-    c.fill.ensures n
+    c.fill-in-loop-word.ensures n
     ∙ ap (λ b. (nat_eq (n / 64) c.loop-word.word && has_bit span.mask (n % 64)) || b) (c.loop-word.invariant n)
     ∙ filled_more span.start c.loop-word.word n (has_bit span.mask (n % 64)) (set.contains c.args.self.now n) c.loop-word.auto.word
 

@@ -1,10 +1,16 @@
 use Rattle.std.proofs.Common.{◌≡◌, ◌%◌, ◌/◌, not, sym, ap, ◌∙◌, arith}
 use Rattle.std.specs.Prelude.{nat_eq, ◌&&◌}
 use Rattle.std.specs.FinSet as set
+use Rattle.std.proofs.lemmas.Bool.{eqb-true}
 use Rattle.scan_core.specs.Bits.{has_bit}
 use Rattle.scan_core.specs.Spans.{in_words}
-use Rattle.scan_core.proofs.Spanning.{no_words, cleared_more}
+use Rattle.scan_core.proofs.Spanning.{block_out, no_words, cleared_more}
 use Rattle.scan_core.proofs.numbers.NumberSet.remove_run.Goals as goal
+
+pub returns-then-eq : goal.returns-then-eq
+returns-then-eq c =
+    let last = eqb-true c.args.order c.of_pageblock.result (sym c.eq.ensures ∙ c.if-eq.true) ∙ c.of_pageblock.ensures in
+    block_out c.self.inside.bits c.fill.new.self c.args.self.now c.args.first c.args.order c.self.view_is c.self.invariant c.fill.ensures.len last c.requires.aligned c.fill.ensures.filled
 
 pub loop-word-init : goal.loop-word-init
 loop-word-init c = λ n.
