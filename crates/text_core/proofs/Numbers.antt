@@ -1,11 +1,13 @@
 -- Numbers that are read digit by digit.
-use Rattle.std.proofs.Common.{◌≡◌, ℕ, ◌+◌, ◌*◌, ◌-◌, ◌^◌, ◌<◌, ◌≤◌, Bool, true, false, ◌&&◌, List, [], ◌∷◌, length, drop, get_or, refl, sym, ap, ◌∙◌, add-one, drop-cons, arith, None, Some}
+use Rattle.std.proofs.Common.{◌≡◌, ◌⊎◌, inl, inr, ℕ, ◌+◌, ◌*◌, ◌-◌, ◌^◌, ◌<◌, ◌≤◌, Bool, true, false, ◌&&◌, List, [], ◌∷◌, length, drop, get_or, refl, sym, ap, ◌∙◌, add-one, drop-cons, arith, None, Some}
 use Rattle.std.specs.Prelude.{nat_le, nat_lt, if◌then◌else◌}
 use Rattle.std.specs.Char.{digit_value, is_ascii_digit}
 use Rattle.std.specs.Str.{all_ascii_digits}
 use Rattle.std.specs.Str.Parse.{digits_value, digits_value_after}
 use Rattle.std.proofs.lemmas.Bool.Decides.{nat_tests}
-use Rattle.text_core.specs.Token.{is_number, number_of}
+use Rattle.std.proofs.lemmas.Bool.{ne_eqb}
+use Rattle.text_core.specs.declared.token.Token.TheVariants.{Other}
+use Rattle.text_core.specs.Token.{is_number, keyword_of, number_of}
 
 pub drop-ahead : (xs : List ℕ) (i : ℕ) → i < length xs → drop i xs ≡ get_or xs i 0 ∷ drop (i + 1) xs
 drop-ahead xs i h = rw (add-one, drop-cons xs i 0) refl
@@ -77,3 +79,17 @@ number_of_digit d small =
     let same : 0 * 10 + ((48 + d) - 48) ≡ digits_value 10 ((48 + d) ∷ []) = value_after 0 (48 + d) [] (digits_value 10 ((48 + d) ∷ [])) digit refl in
     let value : digits_value 10 ((48 + d) ∷ []) ≡ d = omega (arith, same) in
     number_of_fits ((48 + d) ∷ []) (omega arith) (omega arith) (ap (λ (b : Bool). b && true) digit) (omega (arith, value, small)) ∙ ap Some value
+
+-- a word that begins with a digit is no keyword
+digit_no_keyword : (d : ℕ) (ds : List ℕ) → is_ascii_digit d ≡ true → keyword_of (d ∷ ds) ≡ Other
+digit_no_keyword d ds digit =
+    let low : d < 97 = grind (arith, nat_tests) in
+    rw (ne_eqb d 122 (omega arith), ne_eqb d 109 (omega arith), ne_eqb d 115 (omega arith), ne_eqb d 108 (omega arith), ne_eqb d 105 (omega arith), ne_eqb d 117 (omega arith), ne_eqb d 116 (omega arith), ne_eqb d 99 (omega arith), ne_eqb d 102 (omega arith), ne_eqb d 112 (omega arith), ne_eqb d 104 (omega arith), ne_eqb d 103 (omega arith)) refl
+
+-- no word is a number and a keyword
+pub one_of_both : (bytes : List ℕ) → (number_of bytes ≡ None) ⊎ (keyword_of bytes ≡ Other)
+one_of_both [] = inl (number_of_short [] refl)
+one_of_both (d ∷ ds) = by_digit (is_ascii_digit d) refl where
+  by_digit : (b : Bool) → is_ascii_digit d ≡ b → (number_of (d ∷ ds) ≡ None) ⊎ (keyword_of (d ∷ ds) ≡ Other)
+  by_digit true digit = inr (digit_no_keyword d ds digit)
+  by_digit false other = inl (number_of_none (d ∷ ds) (ap (λ (b : Bool). b && all_ascii_digits ds) other))

@@ -78,7 +78,7 @@ pub fn push_reply<const N: usize>(text: &mut ArrayVec<u8, N>, reply: &Reply)
     ensures line { IsOneLine (text_of reply.now) }
 {
     match reply {
-        Reply::Done => push(text, b"ok"),
+        Reply::Done => return push(text, b"ok\n"),
         Reply::Value(value) => push_field(text, b"value=", *value),
         Reply::Info(info) => push_counts(text, info),
         Reply::InfoWithHeld(info) => {

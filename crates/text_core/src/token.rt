@@ -43,9 +43,9 @@ impl Token {
     pub(crate) fn from_bytes(bytes: &[u8]) -> Token
         ensures { result ≡ token_of bytes.now }
     {
-        match number(bytes) {
-            Some(number) => Token::Number(number),
-            None => keyword(bytes),
+        match keyword(bytes) {
+            Token::Other => number(bytes).map_or(Token::Other, Token::Number),
+            keyword => keyword,
         }
     }
 }

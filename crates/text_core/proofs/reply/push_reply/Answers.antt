@@ -1,10 +1,11 @@
-use Rattle.std.proofs.Common.{◌≡◌, ◌∙◌, ◌≤◌, ◌++◌, ◌∷◌, [], List, ℕ, length, length-append, append_assoc, append-nil, sym, ap, decimal, arith}
+use Rattle.std.proofs.Common.{◌≡◌, ◌∙◌, ◌≤◌, ◌++◌, ◌∷◌, [], List, ℕ, length, length-append, append_assoc, append-nil, refl, subst, sym, ap, decimal, arith}
 use Rattle.std.proofs.lemmas.Grind.{common_steps}
 use Rattle.std.specs.Prelude.{codes}
-use Rattle.text_core.specs.Reply.{counts_text, newlines, round_text, text_of}
+use Rattle.text_core.specs.Reply.{IsOneLine, counts_text, newlines, round_text, text_of}
+use Rattle.text_core.specs.declared.reply.Reply.{Reply}
 use Rattle.text_core.proofs.Newlines.{newlines-append, one_line_behind, text_of-some}
 use Rattle.text_core.proofs.reply.push_reply.Goals as goal
-use Rattle.text_core.proofs.reply.push_reply.Goals.{in-Done, in-Value, in-Info, in-InfoWithHeld, in-Serial, in-Met, in-Moved, in-PutBack, in-Shut, in-Looked, in-Block, in-HandedOut, in-AllDone, in-DoneUntil, in-Round, in-Refused}
+use Rattle.text_core.proofs.reply.push_reply.Goals.{in-Value, in-Info, in-InfoWithHeld, in-Serial, in-Met, in-Moved, in-PutBack, in-Shut, in-Looked, in-Block, in-HandedOut, in-AllDone, in-DoneUntil, in-Round, in-Refused}
 
 -- a field more of what is appended
 field_more : (old text before after name : List ℕ) (n m : ℕ) → before ≡ old ++ text → after ≡ before ++ name ++ decimal n → n ≡ m → after ≡ old ++ (text ++ name ++ decimal m)
@@ -17,12 +18,15 @@ one_field : (old after name rest : List ℕ) (n m : ℕ) → after ≡ old ++ na
 one_field old after name rest n m more same =
     ap (λ (r : List ℕ). r ++ rest) (field_more old [] old after name n m (sym (append-nil old)) more same) ∙ append_assoc old (name ++ decimal m) rest
 
+-- ok is one line
+pub returns-in-Done-clause-line : goal.returns-in-Done-clause-line
+returns-in-Done-clause-line g c = subst (λ (r : Reply). IsOneLine (text_of r)) (sym c.in-Done.is) (record { body = codes "ok"; ends = refl; one = refl })
+
 pub returns-clause-text : goal.returns-clause-text
 returns-clause-text g c =
     let old = c.args.text.now.items in
     let all = c.push-2.ensures.text in
     elim c.match-reply.branch [
-      | in-Done w ↦ let t0 = w.push.ensures.text in let is = w.text-is in grind (arith, common_steps, all, is, t0)
       | in-Value w ↦ let t0 = w.push_field.ensures.text in let is = w.text-is in grind (arith, common_steps, all, is, t0)
       | in-Info w ↦ let t0 = w.push_counts.ensures.text in let is = w.text-is in grind (arith, common_steps, all, is, t0)
       | in-InfoWithHeld w ↦
@@ -72,7 +76,6 @@ returns-clause-line g c =
     let all : old ++ text ≡ mid ++ 10 ∷ [] = sym (returns-clause-text g c) ∙ c.push-2.ensures.text in
     let longer : length old ≤ length mid = omega (arith, ap length all, length-append old text, length-append mid (10 ∷ []), text_of-some c.args.reply.now) in
     let same : newlines mid ≡ newlines old = elim c.match-reply.branch [
-      | in-Done w ↦ omega (arith, ap newlines w.push.ensures.text, newlines-append old (codes "ok"), ap (λ t. newlines t.items) w.text-is)
       | in-Value w ↦ omega (arith, w.push_field.ensures.lines, ap (λ t. newlines t.items) w.text-is)
       | in-Info w ↦ omega (arith, w.push_counts.ensures.lines, ap (λ t. newlines t.items) w.text-is)
       | in-InfoWithHeld w ↦ omega (arith, w.push_counts-in-InfoWithHeld.ensures.lines, w.push_field-in-InfoWithHeld.ensures.lines, ap (λ t. newlines t.items) w.text-is)
