@@ -19,35 +19,25 @@ pub(crate) fn command(profile: Profile, text: &[u8]) -> Option<Command>
 {
     let (keyword, behind) = first_token(text)?;
     let (number, arguments) = first_number(behind)?;
-    row_in(profile, keyword, zone(number), arguments)
+    row_in(profile, keyword, number, arguments)
 }
 
-/// What a keyword, a zone and the arguments behind it make, if there is such a row in a profile.
-fn row_in(
-    profile: Profile,
-    keyword: Token,
-    zone: Option<ZoneNo>,
-    arguments: &[u8],
-) -> Option<Command>
-    ensures { result ≡ row_in profile keyword zone (tokens arguments.now) }
+/// What a keyword, the number of a zone and the arguments behind it make, if there is such a row in a profile.
+fn row_in(profile: Profile, keyword: Token, number: u64, arguments: &[u8]) -> Option<Command>
+    ensures { result ≡ row_in profile keyword (zone_of number) (tokens arguments.now) }
 {
-    match own_row(profile, keyword, zone, arguments) {
+    match own_row(profile, keyword, number, arguments) {
         Some(command) => Some(command),
-        None => row(keyword, zone, arguments),
+        None => row(keyword, zone(number), arguments),
     }
 }
 
 /// The command by a row that a profile has besides, if there is one.
-fn own_row(
-    profile: Profile,
-    keyword: Token,
-    zone: Option<ZoneNo>,
-    arguments: &[u8],
-) -> Option<Command>
-    ensures { result ≡ own_row profile keyword zone (tokens arguments.now) }
+fn own_row(profile: Profile, keyword: Token, number: u64, arguments: &[u8]) -> Option<Command>
+    ensures { result ≡ own_row profile keyword (zone_of number) (tokens arguments.now) }
 {
     match profile {
-        Profile::Two => row_of_profile_2(keyword, zone, arguments),
+        Profile::Two => row_of_profile_2(keyword, zone(number), arguments),
         Profile::Untold | Profile::One => None,
     }
 }
