@@ -14,18 +14,18 @@ pub enum PoolBlocks {
 
 impl PoolBlocks {
     /// Their order.
-    pub fn order(self) -> Order
-        ensures { result ≡ pool_order self }
+    pub fn order(&self) -> Order
+        ensures { result ≡ pool_order self.now }
     {
         match self {
             PoolBlocks::Pageblocks => Order::of_pageblock(),
-            PoolBlocks::OfOrder(order) => order,
+            PoolBlocks::OfOrder(order) => *order,
         }
     }
 
     /// The number that tells the block with this first frame.
-    pub fn told_as(self, first: FrameNo) -> u16
-        ensures { result ≡ told_as self first }
+    pub fn told_as(&self, first: FrameNo) -> u16
+        ensures { result ≡ told_as self.now first }
     {
         match self {
             PoolBlocks::Pageblocks => block_of(first).get() as u16,
