@@ -17,9 +17,9 @@ impl PoolBlocks {
     pub fn order(&self) -> Order
         ensures { result ≡ pool_order self.now }
     {
-        match *self {
+        match self {
             PoolBlocks::Pageblocks => Order::of_pageblock(),
-            PoolBlocks::OfOrder(order) => order,
+            PoolBlocks::OfOrder(order) => *order,
         }
     }
 
