@@ -1,10 +1,11 @@
 #!/usr/bin/env bash
-# No command but `zone` and `compact` takes memory, and no request that is refused goes wrong. One script has every other command,
+# No command but `zone`, `compact` and `pool` takes memory, and no request that is refused goes wrong. One script has every other command,
 # answers each, gets each refusal, and fills the zone's lists. Its run has to make as many requests for memory as one that only opens
 # the zone, those that are made in vain included. Then each of these requests is refused in turn: the run has to end with the
 # script's own replies, or with fault 48: at line 0 and no reply, or at the line of `zone` behind the reply to the line before. Another
 # script runs a round, and each of its requests is refused in turn: besides, the round may be refused 31 or 32, and the zone is
-# then as before it. Ends with status 1 where it isn't so.
+# then as before it. A third runs a pool, which may tell 31 or 32 in place of its first round or its second. Ends with status 1 where it
+# isn't so.
 set -euo pipefail
 
 source "$(dirname -- "${BASH_SOURCE[0]}")/built.sh"
@@ -122,6 +123,7 @@ every_command() {
     sharing
     again 'scan 0' 2047
     echo 'compact 0'
+    echo 'pool 0 1'
     echo 'store 0 0 0 3 8'
     each 'look 0 0 %.0f' 2045 2048
     hands
@@ -149,6 +151,17 @@ a_round() {
     info_and_look
     echo 'compact 0'
     info_and_look
+}
+
+# A pool gets a pageblock behind its first round, and its second moves no page.
+a_pool() {
+    echo 'profile 2'
+    echo 'zone 0 2'
+    echo 'mapat 0 0 0 0'
+    echo 'mapat 0 0 1 512'
+    echo 'pool 0 2'
+    echo 'give 0 0'
+    echo 'info 0'
 }
 
 info_and_look() {
@@ -214,6 +227,7 @@ has_everything() {
     {
         answered "$work/script" "$work/replies"
         answered "$work/round" "$work/moved"
+        answered "$work/pool" "$work/pooled"
         grep refused "$work/replies"
     } | sort -u >"$work/found"
     # shellcheck disable=SC2016
@@ -236,6 +250,25 @@ is_without_round() {
     return 1
 }
 
+# Whether the pool's first round, or its second, was refused for want of memory or of a thread.
+is_without_pool_round() {
+    local number
+    for number in 31 32; do
+        {
+            head -n 4 "$work/pooled"
+            echo "got=0 rounds=0 stopped=$number blocks=-"
+            echo 'refused 12'
+            echo 'free=1022 pages=2 moving=0 huge=0 whole=0 held=0'
+        } | cmp -s - "$work/out" && return
+        {
+            head -n 4 "$work/pooled"
+            echo "got=1 rounds=1 stopped=$number blocks=0"
+            tail -n 2 "$work/pooled"
+        } | cmp -s - "$work/out" && return
+    done
+    return 1
+}
+
 # Runs a script with one of its requests refused. What it writes is in `out` and `err`, and its status in `status`.
 refuse() {
     status=0
@@ -246,9 +279,11 @@ build_counter
 printf 'profile 2\nzone 0 8\n' >"$work/opening"
 every_command >"$work/script"
 a_round >"$work/round"
+a_pool >"$work/pool"
 wanted=$(requests_of "$work/opening" "$work/opened")
 found=$(requests_of "$work/script" "$work/replies")
 in_round=$(requests_of "$work/round" "$work/moved")
+in_pool=$(requests_of "$work/pool" "$work/pooled")
 has_everything || fail 'the scripts of this check lack a command or a refusal of docs/SCRIPT.md, or have one more'
 ((wanted > 0 && found == wanted)) || fail "$found requests for memory, and $wanted for the zone alone"
 
@@ -263,19 +298,28 @@ for ((request = 1; request <= wanted; request++)); do
 done
 ((faults > 0)) || fail 'no refused request ends in fault 48'
 
-refused=0
-for ((request = 1; request <= in_round; request++)); do
-    refuse "$work/round" "$request"
-    if ((status == 1)) && is_fault_48 "$(<"$work/err")" "$(<"$work/out")"; then
-        continue
-    elif ((status != 0)) || [[ -s $work/err ]]; then
-        fail "request $request of a round refused: status $status, $(<"$work/err")"
-    elif is_without_round; then
-        refused=$((refused + 1))
-    elif ! cmp -s "$work/out" "$work/moved"; then
-        fail "request $request of a round refused: it answers $(<"$work/out")"
-    fi
-done
-((refused > 0)) || fail 'no refused request is told in place of a round'
+# Refuses so many requests of a script in turn, whose own replies are in a file, and counts in `refused` those that are told in place of
+# a round, as the last argument says of the replies.
+refuse_each() {
+    local request
+    refused=0
+    for ((request = 1; request <= $3; request++)); do
+        refuse "$1" "$request"
+        if ((status == 1)) && is_fault_48 "$(<"$work/err")" "$(<"$work/out")"; then
+            continue
+        elif ((status != 0)) || [[ -s $work/err ]]; then
+            fail "request $request of a $4 refused: status $status, $(<"$work/err")"
+        elif "$5"; then
+            refused=$((refused + 1))
+        elif ! cmp -s "$work/out" "$2"; then
+            fail "request $request of a $4 refused: it answers $(<"$work/out")"
+        fi
+    done
+    ((refused > 0)) || fail "no refused request is told in place of a $4"
+}
+
+refuse_each "$work/round" "$work/moved" "$in_round" round is_without_round
+of_round=$refused
+refuse_each "$work/pool" "$work/pooled" "$in_pool" pool is_without_pool_round
 echo "$(wc -l <"$work/script") commands make $wanted requests for memory, as the first alone; refused in turn, $faults end in fault 48," \
-    "and of $in_round of a round $refused are told in its place"
+    "of $in_round of a round $of_round are told in its place, and of $in_pool of a pool $refused"

@@ -7,7 +7,7 @@ use Rattle.script_core.specs.Ends.{EndsIn}
 use Rattle.script_core.specs.Runs.{IsEnded}
 use Rattle.script_core.specs.ErrorNumber.{fault_number}
 use Rattle.script_core.specs.Streams.{CannotReadOn}
-use Rattle.script_core.specs.Threaded.{AsksMemory, IsThreadedStep, RunsNoRound, threaded_at_first}
+use Rattle.script_core.specs.Threaded.{AsksMemory, IsThreadedStep, IsUnthreadedScript, threaded_at_first}
 
 -- the line that tells of an error
 abbrev pub fault_line : RunError → List ℕ
@@ -34,8 +34,8 @@ pub record Stops (places : ℕ) (left left_new old new : Option (List ℕ)) (rea
     (told told_new : Option (List ℕ)) (told_stuck : Bool) : Type 0 where
   pub error : RunError
   pub ends : IfSome left (λ input. IsEnded IsThreadedStep AsksMemory (threaded_at_first places) error.fault input error left left_new old new)
-  -- a script that runs no round as on one thread
-  pub alone : IfSome left (λ input. RunsNoRound input → EndsIn error.fault places input error left left_new old new)
+  -- a script without rounds and pools as on one thread
+  pub alone : IfSome left (λ input. IsUnthreadedScript input → EndsIn error.fault places input error left left_new old new)
   pub unread : error.fault ≡ Read → CannotReadOn failed reads reads_new left
   pub unwritten : error.fault ≡ Write → IsTrue stuck
   pub tells : Tells error told told_new told_stuck

@@ -6,7 +6,7 @@ ghost use Rattle.compactd.specs.Status.{status_of, is_help};
 ghost use Rattle.compactd.specs.Stops.{LacksMemory, Stops};
 ghost use Rattle.script_core.specs.Runs.{IsAnswered};
 ghost use Rattle.script_core.specs.Script.{fault_of, output_of};
-ghost use Rattle.script_core.specs.Threaded.{IsThreadedStep, RunsNoRound, threaded_at_first};
+ghost use Rattle.script_core.specs.Threaded.{IsThreadedStep, IsUnthreadedScript, threaded_at_first};
 
 use crate::options::given_options;
 use crate::report::report;
@@ -51,14 +51,14 @@ pub fn program<R: Input, W: Output, F: Output, H: Threads + Wait + Sync>(
         → (result ≡ 0) ⊎ LacksMemory result (W.contents writer.old) (W.contents writer.new)
         (F.contents faults.old) (F.contents faults.new) (F.stuck faults.new)) }
     ensures quiet { result ≡ 2 → Keeps (W.contents writer.old) (W.contents writer.new) }
-    // The script has no fault, and was answered, and one that runs no round as on one thread.
+    // The script has no fault, and was answered, and one without rounds and pools as on one thread.
     ensures whole { IfOk words (λ args. refusal_of (texts_of args) ≡ [] → result ≡ 0
         → IfSome (R.remaining reader.old) (λ input. fault_of input ≡ None)) }
     ensures answered { IfOk words (λ args. refusal_of (texts_of args) ≡ [] → result ≡ 0
         → IfSome (R.remaining reader.old) (λ input. IsAnswered IsThreadedStep (threaded_at_first (journal_of (texts_of args))) input
         (W.contents writer.old) (W.contents writer.new))) }
     ensures replies { IfOk words (λ args. refusal_of (texts_of args) ≡ [] → result ≡ 0
-        → IfSome (R.remaining reader.old) (λ input. RunsNoRound input → Appends (W.contents writer.old) (W.contents writer.new)
+        → IfSome (R.remaining reader.old) (λ input. IsUnthreadedScript input → Appends (W.contents writer.old) (W.contents writer.new)
         (output_of (journal_of (texts_of args)) input))) }
     // There was no memory to read the words, or the run stopped.
     ensures fault { IfOk words (λ args. result ≡ 1 → LacksMemory result (W.contents writer.old) (W.contents writer.new)
@@ -87,7 +87,7 @@ fn play<R: Input, W: Output, F: Output, H: Threads + Wait + Sync>(
     ensures answered { result ≡ 0 → IfSome (R.remaining reader.old) (λ input.
         IsAnswered IsThreadedStep (threaded_at_first options.journal) input (W.contents writer.old) (W.contents writer.new)) }
     ensures replies { result ≡ 0 → IfSome (R.remaining reader.old) (λ input.
-        RunsNoRound input → Appends (W.contents writer.old) (W.contents writer.new) (output_of options.journal input)) }
+        IsUnthreadedScript input → Appends (W.contents writer.old) (W.contents writer.new) (output_of options.journal input)) }
     ensures fault { result ≡ 1 → Stops options.journal
         (R.remaining reader.old) (R.remaining reader.new) (W.contents writer.old) (W.contents writer.new)
         (R.reads reader.old) (R.reads reader.new) (R.failed reader.new) (W.stuck writer.new)

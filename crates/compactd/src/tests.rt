@@ -326,7 +326,7 @@ const CASES: [Case; 37] = [
 ];
 
 /// Runs with rounds on threads.
-const ROUNDS: [Case; 10] = [
+const ROUNDS: [Case; 18] = [
     Case {
         name: "a round moves two pages up, and a pageblock is whole",
         arguments: &[],
@@ -407,6 +407,70 @@ const ROUNDS: [Case; 10] = [
         faults: "",
         status: 0,
     },
+    Case {
+        name: "a pool runs a round for its first block, and one in vain for its second",
+        arguments: &[],
+        script: "zone 0 2\nmapat 0 0 0 0\nmapat 0 0 1 512\npool 0 2\ngive 0 0\ninfo 0\n",
+        replies: "ok\nok\nok\ngot=1 rounds=2 stopped=noblock blocks=0\nok\nfree=1022 pages=2 moving=0 huge=0 whole=1\n",
+        faults: "",
+        status: 0,
+    },
+    Case {
+        name: "a pool takes the whole pageblock, and the next finds none",
+        arguments: &[],
+        script: "zone 0 1\npool 0 1\npool 0 1\ninfo 0\n",
+        replies: "ok\ngot=1 rounds=0 stopped=enough blocks=0\ngot=0 rounds=1 stopped=noblock blocks=-\nfree=0 pages=0 moving=0 huge=1 whole=0\n",
+        faults: "",
+        status: 0,
+    },
+    Case {
+        name: "a pool without a place in the journal",
+        arguments: &["--journal", "1"],
+        script: "zone 0 1\npool 0 1\ngive 0 0\npool 0 1\n",
+        replies: "ok\ngot=1 rounds=0 stopped=enough blocks=0\nrefused 2\ngot=0 rounds=0 stopped=journalfull blocks=-\n",
+        faults: "",
+        status: 0,
+    },
+    Case {
+        name: "a pool of smaller blocks needs no round",
+        arguments: &[],
+        script: "profile 2\nzone 0 2\nmapat 0 0 0 0\nmapat 0 0 1 512\npool 0 2 8\ngive 0 768 8\ninfo 0\n",
+        replies: "ok\nok\nok\nok\ngot=2 rounds=0 stopped=enough frames=256,768\nok\nfree=766 pages=2 moving=0 huge=1 whole=0 held=256\n",
+        faults: "",
+        status: 0,
+    },
+    Case {
+        name: "a pool has enough blocks behind a round",
+        arguments: &["--copiers", "4"],
+        script: "zone 0 3\nmapat 0 0 0 0\nmapat 0 0 1 512\nstore 0 0 1 0 7\npool 0 2\nload 0 0 1 0\ninfo 0\n",
+        replies: "ok\nok\nok\nok\ngot=2 rounds=1 stopped=enough blocks=2,0\nvalue=7\nfree=510 pages=2 moving=0 huge=2 whole=0\n",
+        faults: "",
+        status: 0,
+    },
+    Case {
+        name: "a pool of eight pageblocks, and of eight blocks",
+        arguments: &[],
+        script: "profile 2\nzone 0 8\npool 0 8\npool 0 1\ngive 0 7\npool 0 8 6\n",
+        replies: "ok\nok\ngot=8 rounds=0 stopped=enough blocks=0,1,2,3,4,5,6,7\ngot=0 rounds=1 stopped=noblock blocks=-\nok\ngot=8 rounds=0 stopped=enough frames=3584,3648,3712,3776,3840,3904,3968,4032\n",
+        faults: "",
+        status: 0,
+    },
+    Case {
+        name: "no pool while a round is open by hand, nor without its zone",
+        arguments: &[],
+        script: "pool 0 1\nzone 0 1\nscan 0\npool 0 1\npool 1 1\npool 4 1\npool 0 0\npool 0 9\nshut 0\npool 0 1\n",
+        replies: "refused 43\nok\nmet\nrefused 45\nrefused 43\nrefused 1\nrefused 1\nrefused 1\nback=0\ngot=1 rounds=0 stopped=enough blocks=0\n",
+        faults: "",
+        status: 0,
+    },
+    Case {
+        name: "a pool of an order in profile 1",
+        arguments: &[],
+        script: "zone 0 1\npool 0 1 9\n",
+        replies: "ok\n",
+        faults: "compactd: fault 41 at line 2\n",
+        status: 1,
+    },
 ];
 
 #[derive(Drop)]
@@ -480,7 +544,7 @@ fn answers_each_script(rt: HostRuntime) -> Result<(), Fail> {
 }
 
 #[test]
-fn answers_each_round(rt: HostRuntime) -> Result<(), Fail> {
+fn answers_rounds_and_pools(rt: HostRuntime) -> Result<(), Fail> {
     for case in ROUNDS.iter() {
         assert_answered(&rt, rt.alloc(), case)?;
     }

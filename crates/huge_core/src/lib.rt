@@ -3,12 +3,14 @@
 //! A block that a zone handed out is a `Huge`; contracts see it as its first frame and its order.
 #![tactic(auto)]
 
+mod alone;
 mod collector;
 mod huge;
 mod report;
 #[cfg(test)]
 mod tests;
 
+pub use alone::reserve_alone;
 pub use collector::Collector;
 pub use huge::{Huge, give};
 pub use report::{Report, Stop};

@@ -8,6 +8,7 @@ pub mod Endings
 pub mod SerialRuns
 pub mod SeriesOfCalls
 pub mod Rounds
+pub mod Pools
 pub mod Beginnings
 pub mod ThreadedRuns
 pub mod Carried

@@ -15,22 +15,22 @@ use Rattle.round_core.specs.Rounds.{IsBroken, IsRefusedEarly, IsRound}
 use Rattle.text_core.specs.declared.command.Command.{Command}
 use Rattle.text_core.specs.declared.reply.Reply.{Reply}
 use Rattle.script_core.specs.Serial.{IsStep, Serial}
-use Rattle.script_core.specs.Threaded.{IsRoundOn, IsRoundStep, IsStepAt, IsStepBy, IsThreadedStep, Settles, Threaded, broken_reply, left_by, round_reply, runs_round}
+use Rattle.script_core.specs.Threaded.{IsRoundOn, IsStepAt, IsStepBy, IsThreadedStep, IsWorkOn, IsWorkStep, Settles, Threaded, broken_reply, is_threaded, left_by, round_reply}
 
--- a command that runs a round
-pub round_step : (old : Threaded) (command : Command) (answer : Reply) (new : Threaded) (w : WorldState) (places : ℕ)
-    → old.serial.world ≡ Some w → runs_round command old.serial.world ≡ true → places ≡ old.serial.places → IsRoundOn w places answer new
-    → IsStepBy (runs_round command old.serial.world) old command answer new
-round_step old command answer new w places is runs same on =
-    let P : ℕ → Type 0 = λ n. IsRoundOn w n answer new in
-    let R : Option WorldState → Type 0 = λ o. IsRoundStep o old.serial.places answer new in
+-- a command that works by threads
+pub threaded_step : (old : Threaded) (command : Command) (answer : Reply) (new : Threaded) (w : WorldState) (places : ℕ)
+    → old.serial.world ≡ Some w → is_threaded command (Some w) ≡ true → places ≡ old.serial.places → IsWorkOn command w places answer new
+    → IsStepBy (is_threaded command old.serial.world) old command answer new
+threaded_step old command answer new w places is threaded same on =
+    let P : ℕ → Type 0 = λ n. IsWorkOn command w n answer new in
+    let W : Option WorldState → Type 0 = λ o. IsWorkStep command o old.serial.places answer new in
     let S : Bool → Type 0 = λ b. IsStepBy b old command answer new in
-    subst S (sym runs) (subst R (sym is) (subst P same on))
+    subst S (sym (ap (is_threaded command) is ∙ threaded)) (subst W (sym is) (subst P same on))
 
 -- any other command, which the machine answers as on one thread
 pub other_step : (old : Threaded) (command : Command) (answer : Reply) (new : Threaded) (machine : Serial)
-    → machine ≡ old.serial → runs_round command old.serial.world ≡ false → IsStep machine command answer new.serial → new.broken ≡ None
-    → IsStepBy (runs_round command old.serial.world) old command answer new
+    → machine ≡ old.serial → is_threaded command old.serial.world ≡ false → IsStep machine command answer new.serial → new.broken ≡ None
+    → IsStepBy (is_threaded command old.serial.world) old command answer new
 other_step old command answer new machine same runs step none =
     let M : Serial → Type 0 = λ m. IsStep m command answer new.serial in
     let S : Bool → Type 0 = λ b. IsStepBy b old command answer new in
@@ -44,7 +44,7 @@ broken_step old command answer new number is told same =
     subst S (sym is) (told, same)
 
 pub whole_step : (old : Threaded) (command : Command) (answer : Reply) (new : Threaded)
-    → old.broken ≡ None → IsStepBy (runs_round command old.serial.world) old command answer new → IsThreadedStep old command answer new
+    → old.broken ≡ None → IsStepBy (is_threaded command old.serial.world) old command answer new → IsThreadedStep old command answer new
 whole_step old command answer new is step =
     let S : Option ℕ → Type 0 = λ o. IsStepAt o old command answer new in
     subst S (sym is) step
@@ -87,7 +87,7 @@ module _ (scan_old scan : ScanSeat) (ends_old ends : EndSeat) (refusal : Option 
       passes (omega (arith, ap (λ (e : EndSeat). e.parts) same.1, whole))
       (ap (λ (e : EndSeat). e.moved + e.back) same.1 ∙ settled ∙ ap (λ (s : ScanSeat). s.count) (sym same.0))
 
-  settles : (result : Result Round RoundError) → IfOk result (λ r. IsRound scan_old scan ends_old ends r) → IsRefusedEarly scan_old scan ends_old ends result
+  pub settles : (result : Result Round RoundError) → IfOk result (λ r. IsRound scan_old scan ends_old ends r) → IsRefusedEarly scan_old scan ends_old ends result
       → Settles result → refusal ≡ None
   settles (Ok r) round early is = (let parts = round.whole in passes (omega (arith, parts)) round.settled)
   settles (Err Memory) round early is = unbegun_passes (λ broken. memory_isnt_broken (early.broken.1 broken).0) (early.same (early.want tt))

@@ -23,6 +23,7 @@ goes_on (reply.HandedOut f k) done w rest accepted = refl
 goes_on (reply.AllDone m) done w rest accepted = refl
 goes_on (reply.DoneUntil m k) done w rest accepted = refl
 goes_on (reply.Round i m b s) done w rest accepted = refl
+goes_on (reply.Pool blocks got rounds s) done w rest accepted = refl
 goes_on (reply.Refused k) done w rest accepted = absurd (accepted k refl)
 
 module _ (c : Repeated) (s v further done n m : ℕ) (w after : WorldState) (left : n ≡ suc m) where

@@ -1,11 +1,11 @@
--- What the run of a machine with threads says of a script that runs no round: what a serial run says.
+-- What the run of a machine with threads says of a script without rounds and pools: what a serial run says.
 use Rattle.std.proofs.Common.{◌≡◌, ℕ, List, [], ◌∷◌, ◌++◌, refl, ap, subst, ◌∙◌, Option, Some, None}
 use Rattle.std.specs.Prelude.{IfErr, IfOk, IfSome, OnOk, Result}
 use Rattle.std.specs.List.{AllByRecursion}
 use Rattle.std.specs.Io.KnownBytes.{Appends, Consumes}
 use Rattle.std.proofs.lemmas.Result.{MatchResult-weaker}
 use Rattle.text_core.specs.declared.command.Command.{Command}
-use Rattle.text_core.specs.declared.command.Command.TheVariants.{Open, On, Compact, Profile2, OutOfRange}
+use Rattle.text_core.specs.declared.command.Command.TheVariants.{Open, On, Compact, Pool, Profile2, OutOfRange}
 use Rattle.text_core.specs.declared.reply.Reply.{Reply}
 use Rattle.script_core.specs.declared.error.Fault.{Fault}
 use Rattle.script_core.specs.declared.error.Fault.TheVariants.{Syntax, LongLine, Read, Write, Memory}
@@ -15,32 +15,33 @@ use Rattle.script_core.specs.Ends.{EndsIn}
 use Rattle.script_core.specs.Runs.{Begins, IsAnswered, IsEnded, IsTotal, Replied}
 use Rattle.script_core.specs.Script.{Answer, Numbered, commands_of, output_of, totals_of}
 use Rattle.script_core.specs.Serial.{IsStep, Opens, serial_at_first}
-use Rattle.script_core.specs.Threaded.{AsksMemory, IsNoRound, IsStepAt, IsThreadedStep, RunsNoRound, Threaded, threaded_at_first}
+use Rattle.script_core.specs.Threaded.{AsksMemory, IsUnthreaded, IsStepAt, IsThreadedStep, IsUnthreadedScript, Threaded, threaded_at_first}
 use Rattle.script_core.proofs.Beginnings.{all_before, all_of_beginning}
 use Rattle.script_core.proofs.SerialRuns.{serial_ends, serial_output, serial_totals}
 use Rattle.script_core.proofs.Variants.{known_weaker}
 
--- no command among these runs a round
-abbrev AreNoRounds : List Numbered → Type 0
-AreNoRounds commands = AllByRecursion (λ c. IsNoRound c.command) commands
+-- no command among these is a round or a pool
+abbrev AreUnthreaded : List Numbered → Type 0
+AreUnthreaded commands = AllByRecursion (λ c. IsUnthreaded c.command) commands
 
--- a command that runs no round is answered as on one thread
+-- any other command is answered as on one thread
 abbrev IsAlone : Threaded → Command → Reply → Threaded → Type 0
 IsAlone old c answer new = IsStep old.serial c answer new.serial × (new.broken ≡ None)
 
-alone_step : (old : Threaded) (c : Command) (answer : Reply) (new : Threaded) → old.broken ≡ None → IsNoRound c → IsStepAt None old c answer new → IsAlone old c answer new
+alone_step : (old : Threaded) (c : Command) (answer : Reply) (new : Threaded) → old.broken ≡ None → IsUnthreaded c → IsStepAt None old c answer new → IsAlone old c answer new
 alone_step old (Open zone blocks) answer new unbroken none step = step
 alone_step old (On zone calls) answer new unbroken none step = step
 alone_step old (Compact zone) answer new unbroken none step = absurd none
+alone_step old (Pool zone count blocks) answer new unbroken none step = absurd none
 alone_step old Profile2 answer new unbroken none step = step
 alone_step old OutOfRange answer new unbroken none step = step
 
-unbroken_step : (old : Threaded) (c : Command) (answer : Reply) (new : Threaded) → old.broken ≡ None → IsNoRound c → IsThreadedStep old c answer new → IsAlone old c answer new
+unbroken_step : (old : Threaded) (c : Command) (answer : Reply) (new : Threaded) → old.broken ≡ None → IsUnthreaded c → IsThreadedStep old c answer new → IsAlone old c answer new
 unbroken_step old c answer new unbroken none step =
     let S : Option ℕ → Type 0 = λ o. IsStepAt o old c answer new in
     alone_step old c answer new unbroken none (subst S unbroken step)
 
-alone_replied : (old new : Threaded) (commands : List Numbered) (answers : List Answer) → old.broken ≡ None → AreNoRounds commands → Replied IsThreadedStep old commands answers new
+alone_replied : (old new : Threaded) (commands : List Numbered) (answers : List Answer) → old.broken ≡ None → AreUnthreaded commands → Replied IsThreadedStep old commands answers new
     → Replied IsStep old.serial commands answers new.serial × (new.broken ≡ None)
 alone_replied old new [] [] unbroken none told = (ap (λ (t : Threaded). t.serial) told, ap (λ (t : Threaded). t.broken) told ∙ unbroken)
 alone_replied old new [] (a ∷ answers) unbroken none told = absurd told
@@ -51,29 +52,29 @@ alone_replied old new (c ∷ commands) (a ∷ answers) unbroken none told =
     ((told.0.serial, told.1, here.0, rest.0), rest.1)
 
 module _ (places : ℕ) where
-  abbrev alone_begins : (commands : List Numbered) → AreNoRounds commands → Begins IsThreadedStep (threaded_at_first places) commands → Begins IsStep (serial_at_first places) commands
+  abbrev alone_begins : (commands : List Numbered) → AreUnthreaded commands → Begins IsThreadedStep (threaded_at_first places) commands → Begins IsStep (serial_at_first places) commands
   alone_begins commands none b = record {
     answers = b.answers;
     after = b.after.serial;
     replied = (alone_replied (threaded_at_first places) b.after commands b.answers refl none b.replied).0;
   }
 
-  abbrev alone_answered : (input : List ℕ) (old new : Option (List ℕ)) → RunsNoRound input → IsAnswered IsThreadedStep (threaded_at_first places) input old new → IsAnswered IsStep (serial_at_first places) input old new
+  abbrev alone_answered : (input : List ℕ) (old new : Option (List ℕ)) → IsUnthreadedScript input → IsAnswered IsThreadedStep (threaded_at_first places) input old new → IsAnswered IsStep (serial_at_first places) input old new
   alone_answered input old new none h = record { begins = alone_begins (commands_of input) none h.begins; written = h.written }
 
-  alone_total : (input : List ℕ) (old new : Option (List ℕ)) (totals : Totals) → RunsNoRound input → IsTotal IsThreadedStep (threaded_at_first places) input old new totals → IsTotal IsStep (serial_at_first places) input old new totals
+  alone_total : (input : List ℕ) (old new : Option (List ℕ)) (totals : Totals) → IsUnthreadedScript input → IsTotal IsThreadedStep (threaded_at_first places) input old new totals → IsTotal IsStep (serial_at_first places) input old new totals
   alone_total input old new totals none h = record { answered = alone_answered input old new none h.answered; totals_are = h.totals_are }
 
   -- those before a place are none either
-  none_before : (input : List ℕ) (before behind : List Numbered) → commands_of input ≡ before ++ behind → RunsNoRound input → AreNoRounds before
-  none_before input before behind order none = all_before (λ (c : Numbered). IsNoRound c.command) before behind (subst AreNoRounds order none)
+  none_before : (input : List ℕ) (before behind : List Numbered) → commands_of input ≡ before ++ behind → IsUnthreadedScript input → AreUnthreaded before
+  none_before input before behind order none = all_before (λ (c : Numbered). IsUnthreaded c.command) before behind (subst AreUnthreaded order none)
 
   -- nor those of what was read
-  none_read : (left_new : Option (List ℕ)) (input past : List ℕ) → Consumes (Some input) left_new past → RunsNoRound input → RunsNoRound past
+  none_read : (left_new : Option (List ℕ)) (input past : List ℕ) → Consumes (Some input) left_new past → IsUnthreadedScript input → IsUnthreadedScript past
   none_read None input past read none = absurd read
-  none_read (Some rest) input past read none = all_of_beginning (λ (c : Numbered). IsNoRound c.command) past rest (subst (λ bytes. AreNoRounds (commands_of bytes)) read none)
+  none_read (Some rest) input past read none = all_of_beginning (λ (c : Numbered). IsUnthreaded c.command) past rest (subst (λ bytes. AreUnthreaded (commands_of bytes)) read none)
 
-  alone_ends : (f : Fault) (input : List ℕ) (e : RunError) (left left_new old new : Option (List ℕ)) → left ≡ Some input → RunsNoRound input
+  alone_ends : (f : Fault) (input : List ℕ) (e : RunError) (left left_new old new : Option (List ℕ)) → left ≡ Some input → IsUnthreadedScript input
       → IsEnded IsThreadedStep AsksMemory (threaded_at_first places) f input e left left_new old new → IsEnded IsStep Opens (serial_at_first places) f input e left left_new old new
   alone_ends Syntax input e left left_new old new known none h = (h.0, alone_answered input old new none h.1)
   alone_ends LongLine input e left left_new old new known none h = (h.0, alone_answered input old new none h.1)
@@ -109,8 +110,8 @@ module _ (places : ℕ) where
 -- a run of a machine with threads
 module _ (places : ℕ) (left left_new old new : Option (List ℕ)) where
   pub totals_alone : (r : Result Totals RunError) → IfOk r (λ totals. IfSome left (λ input. IsTotal IsThreadedStep (threaded_at_first places) input old new totals))
-      → IfOk r (λ totals. IfSome left (λ input. RunsNoRound input → totals ≡ totals_of places input))
-  totals_alone r h = MatchResult-weaker r h (λ totals said. known_weaker left (λ input. IsTotal IsThreadedStep (threaded_at_first places) input old new totals) (λ input. RunsNoRound input → totals ≡ totals_of places input)
+      → IfOk r (λ totals. IfSome left (λ input. IsUnthreadedScript input → totals ≡ totals_of places input))
+  totals_alone r h = MatchResult-weaker r h (λ totals said. known_weaker left (λ input. IsTotal IsThreadedStep (threaded_at_first places) input old new totals) (λ input. IsUnthreadedScript input → totals ≡ totals_of places input)
       (λ input known total none. serial_totals places input old new totals (alone_total places input old new totals none total)) said) (λ _ u. u)
 
   pub answered_of_total : (r : Result Totals RunError) → IfOk r (λ totals. IfSome left (λ input. IsTotal IsThreadedStep (threaded_at_first places) input old new totals))
@@ -119,13 +120,13 @@ module _ (places : ℕ) (left left_new old new : Option (List ℕ)) where
       (λ input known total. total.answered) said) (λ _ u. u)
 
   pub written_alone : (r : Result Totals RunError) → IfOk r (λ totals. IfSome left (λ input. IsTotal IsThreadedStep (threaded_at_first places) input old new totals))
-      → OnOk r (IfSome left (λ input. RunsNoRound input → Appends old new (output_of places input)))
-  written_alone r h = MatchResult-weaker r h (λ totals said. known_weaker left (λ input. IsTotal IsThreadedStep (threaded_at_first places) input old new totals) (λ input. RunsNoRound input → Appends old new (output_of places input))
+      → OnOk r (IfSome left (λ input. IsUnthreadedScript input → Appends old new (output_of places input)))
+  written_alone r h = MatchResult-weaker r h (λ totals said. known_weaker left (λ input. IsTotal IsThreadedStep (threaded_at_first places) input old new totals) (λ input. IsUnthreadedScript input → Appends old new (output_of places input))
       (λ input known total none. serial_output places input old new (alone_answered places input old new none total.answered)) said) (λ _ u. u)
 
   pub ended_alone : (r : Result Totals RunError) → IfErr r (λ e. IfSome left (λ input. IsEnded IsThreadedStep AsksMemory (threaded_at_first places) e.fault input e left left_new old new))
-      → IfErr r (λ e. IfSome left (λ input. RunsNoRound input → EndsIn e.fault places input e left left_new old new))
+      → IfErr r (λ e. IfSome left (λ input. IsUnthreadedScript input → EndsIn e.fault places input e left left_new old new))
   ended_alone r h = MatchResult-weaker r h (λ _ u. u) (λ e said. known_weaker left
       (λ input. IsEnded IsThreadedStep AsksMemory (threaded_at_first places) e.fault input e left left_new old new)
-      (λ input. RunsNoRound input → EndsIn e.fault places input e left left_new old new)
+      (λ input. IsUnthreadedScript input → EndsIn e.fault places input e left left_new old new)
       (λ input known end none. serial_ends places e.fault input e left left_new old new (alone_ends places e.fault input e left left_new old new known none end)) said)

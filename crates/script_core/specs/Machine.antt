@@ -1,8 +1,8 @@
 -- The machine of a script on one thread: it has no zone yet, or one in a world.
-use Rattle.std.specs.Prelude.{ℕ, zero, suc, ◌+◌, ◌*◌, ◌/◌, Bool, true, false, nat_eq, if◌then◌else◌, Option, Some, None}
+use Rattle.std.specs.Prelude.{ℕ, zero, suc, ◌+◌, ◌*◌, ◌/◌, Bool, true, false, nat_eq, if◌then◌else◌, List, [], ◌∷◌, ◌++◌, Option, Some, None, unwrap_or}
 use Rattle.frame_core.specs.declared.place.Address.{Address}
 use Rattle.state_core.specs.declared.error.ZoneError.{ZoneError}
-use Rattle.state_core.specs.declared.error.ZoneError.TheVariants.{NoFrame, NoBlock}
+use Rattle.state_core.specs.declared.error.ZoneError.TheVariants.{JournalFull, NoFrame, NoBlock}
 use Rattle.zone_core.specs.declared.hand.Finished.{Finished}
 use Rattle.zone_core.specs.declared.hand.Scanned.{Scanned}
 use Rattle.zone_core.specs.declared.hand.Scanned.TheVariants as scan
@@ -29,7 +29,11 @@ use Rattle.text_core.specs.declared.command.Repeated.{Repeated}
 use Rattle.text_core.specs.declared.command.Repeated.TheVariants as repeated
 use Rattle.text_core.specs.Grammar.{address_of}
 use Rattle.text_core.specs.declared.command.Command.{Command}
-use Rattle.text_core.specs.declared.command.Command.TheVariants.{Open, On, Compact, Profile2, OutOfRange}
+use Rattle.text_core.specs.declared.command.Command.TheVariants.{Open, On, Compact, Pool, Profile2, OutOfRange}
+use Rattle.text_core.specs.declared.pool.PoolBlocks.{PoolBlocks}
+use Rattle.text_core.specs.declared.pool.PoolStopped.{PoolStopped}
+use Rattle.text_core.specs.declared.pool.PoolStopped.TheVariants as stopped
+use Rattle.text_core.specs.Pool.{pool_order, told_as}
 use Rattle.text_core.specs.declared.reply.Reply.{Reply}
 use Rattle.text_core.specs.declared.reply.Reply.TheVariants as reply
 
@@ -151,6 +155,35 @@ abbrev pub calls_step : WorldState → Calls → Answered
 calls_step w (One call) = call_step w call
 calls_step w (SeriesOf series) = series_step w series
 
+-- why a pool stops where a block is refused it: where none is free it needs a round, for which no worker can be had
+abbrev pub stopped_by : ZoneError → PoolStopped
+stopped_by JournalFull = stopped.JournalFull
+stopped_by _ = stopped.Refused 32
+
+-- the reply to a pool that ran no round and got the blocks that these numbers tell
+abbrev pub pooled : PoolBlocks → List ℕ → PoolStopped → Reply
+pooled blocks got why = reply.Pool blocks (record { items = got }) 0 why
+
+-- the first frame of the lowest free block of an order
+abbrev pub next_first : WorldState → ℕ → ℕ
+next_first w order = unwrap_or (lowest_run w.zone order) 0
+
+-- a refusal ends a pool behind these blocks, and else it goes on
+abbrev pub unless_stopped : Option ZoneError → PoolBlocks → List ℕ → WorldState → Answered → Answered
+unless_stopped None blocks got w rest = rest
+unless_stopped (Some error) blocks got w rest = says (pooled blocks got (stopped_by error)) w
+
+-- n more blocks behind these: the lowest that is free, one after the other, up to the first that is refused
+abbrev pub pool_from : PoolBlocks → List ℕ → ℕ → WorldState → Answered
+pool_from blocks got zero w = says (pooled blocks got stopped.Enough) w
+pool_from blocks got (suc n) w = let order = pool_order blocks in let first = next_first w order in
+    unless_stopped (take_order_refusal w.zone order) blocks got w
+    (pool_from blocks (got ++ told_as blocks first ∷ []) n (with_zone w (block_taken w.zone first order)))
+
+-- a pool of so many blocks, where no round is open by hand
+abbrev pub pool_step : WorldState → ℕ → PoolBlocks → Answered
+pool_step w count blocks = if w.is_open then refused 45 w else pool_from blocks [] count w
+
 -- the reply to a command, and the world after it, if there is one
 pub record Step : Type 0 where
   pub reply : Reply
@@ -183,6 +216,12 @@ abbrev pub compact_on : ℕ → Option WorldState → Step
 compact_on zone None = declined 43 None
 compact_on zone (Some w) = declined (round_refusal zone w) (Some w)
 
+-- a pool of blocks of the zone with this number, where that is the one that is open
+abbrev pub pool_on : ℕ → ℕ → PoolBlocks → Option WorldState → Step
+pool_on zone count blocks None = declined 43 None
+pool_on zone count blocks (Some w) =
+    if nat_eq zone w.zone.number then answered (pool_step w count blocks) else declined 43 (Some w)
+
 -- any command, where a zone is opened with these places in its journal
 abbrev pub step : ℕ → Option WorldState → Command → Step
 step places world OutOfRange = declined 1 world
@@ -190,6 +229,7 @@ step places world Profile2 = record { reply = reply.Done; world = world }
 step places world (Open zone blocks) = open_step zone blocks places world
 step places world (On zone calls) = step_on zone calls world
 step places world (Compact zone) = compact_on zone world
+step places world (Pool zone count blocks) = pool_on zone count blocks world
 
 -- whether a command opens a zone
 abbrev pub opens : Option WorldState → Command → Bool

@@ -33,6 +33,6 @@ pub use sink::Sink;
 pub use source::Source;
 pub use text::Text;
 pub use text_core::{
-    BlockCount, Call, Calls, Command, PageCount, Repeated, Reply, ScriptError, Series, Stopped,
-    read_line, reply_text,
+    BlockCount, Call, Calls, Command, PageCount, PoolBlocks, PoolStopped, Repeated, Reply,
+    ScriptError, Series, Stopped, read_line, reply_text,
 };

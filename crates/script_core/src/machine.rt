@@ -1,7 +1,7 @@
-ghost use Rattle.std.specs.Prelude.{◌≡◌, ◌<◌, ◌≤◌, bit_and, true, false, ⊤, Some, None, IfNone, IfOk, IfSome, OnErr, OnOk};
-ghost use Rattle.script_core.specs.Machine.{call_at, call_step, calls_step, compact_on, ending, found, open_step, page_step, series_step, step_on};
+ghost use Rattle.std.specs.Prelude.{◌≡◌, ◌<◌, ◌≤◌, [], bit_and, true, false, ⊤, Some, None, IfNone, IfOk, IfSome, OnErr, OnOk};
+ghost use Rattle.script_core.specs.Machine.{call_at, call_step, calls_step, compact_on, ending, found, open_step, page_step, pool_from, pool_on, pool_step, series_step, step_on, stopped_by};
 ghost use Rattle.script_core.specs.Serial.{IsStep, Opens, serial_at_first};
-ghost use Rattle.script_core.specs.Threaded.{runs_round};
+ghost use Rattle.script_core.specs.Threaded.{stands_closed};
 ghost use Rattle.text_core.specs.Grammar.{address_of};
 ghost use Rattle.text_core.specs.declared.reply.Reply.TheVariants as reply;
 ghost use Rattle.zone_core.specs.Books.{AreFor};
@@ -10,13 +10,16 @@ ghost use Rattle.state_core.specs.ErrorNumber.{number_of};
 ghost use Rattle.frame_core.specs.PageFlags.{is_unmovable};
 
 use crate::respond::Respond;
+use arrayvec::ArrayVec;
 use bitflags::Flags;
 use frame_core::{Address, ClientNo, PageFlags, SpaceNo, VPage, ZoneNo};
 use state_core::{Ended, ZoneError};
 use std::alloc::{AllocError, Global};
 use std::marker::Model;
 use std::sync::ledger::Ledger;
-use text_core::{BlockCount, Call, Calls, Command, Repeated, Reply, Series};
+use text_core::{
+    BlockCount, Call, Calls, Command, PoolBlocks, PoolStopped, Repeated, Reply, Series,
+};
 use zone_core::{Blanks, Finished, Scanned, World, WorldError};
 
 /// What a script works on: no zone yet, with the blanks to open one, or the world of the one zone that it opened.
@@ -59,6 +62,11 @@ impl<I: Ledger, N: Ledger, M: Ledger, B: Ledger> Respond for Machine<I, N, M, B>
             Command::Open { zone, blocks } => self.open(zone, blocks),
             Command::On { zone, calls } => Ok(self.call(zone, calls)),
             Command::Compact { zone } => Ok(self.compact(zone)),
+            Command::Pool {
+                zone,
+                count,
+                blocks,
+            } => Ok(self.pool(zone, count, blocks)),
         }
     }
 }
@@ -110,12 +118,23 @@ impl<I: Ledger, N: Ledger, M: Ledger, B: Ledger> Machine<I, N, M, B> {
         }
     }
 
+    /// A pool of blocks of the zone with this number, where that is the one that is open.
+    pub(crate) fn pool(&mut self, zone: ZoneNo, count: BlockCount, blocks: PoolBlocks) -> Reply
+        ensures answer { record { reply = result; world = self.new.world } ≡ pool_on zone count blocks self.old.world }
+        ensures places { self.new.places ≡ self.old.places }
+    {
+        match &mut self.world {
+            Some(world) if world.zone().number() == zone => answer_pool(world, count, blocks),
+            _ => Reply::Refused(43),
+        }
+    }
+
     /// Gives the world of the zone with this number away, where no round is open by hand.
     pub(crate) fn take_closed(&mut self, zone: ZoneNo) -> Option<World<I, N, M, B>>
-        ensures given { IfSome result (λ world. (self.old.world ≡ Some world) × (runs_round (Command.Compact zone) self.old.world ≡ true)) }
+        ensures given { IfSome result (λ world. (self.old.world ≡ Some world) × (stands_closed zone (Some world) ≡ true)) }
         ensures closed { IfSome result (λ world. world.is_open ≡ false) }
         ensures left { IfSome result (λ _. self.new ≡ serial_at_first self.old.places) }
-        ensures none { IfNone result ((self.new ≡ self.old) × (runs_round (Command.Compact zone) self.old.world ≡ false)) }
+        ensures none { IfNone result ((self.new ≡ self.old) × (stands_closed zone self.old.world ≡ false)) }
     {
         let world = self.world.take()?;
         if world.zone().number() == zone && !world.is_open() {
@@ -141,6 +160,62 @@ impl<I: Ledger, N: Ledger, M: Ledger, B: Ledger> Machine<I, N, M, B> {
             Some(world) if world.zone().number() == zone => answer_all(world, calls),
             _ => Reply::Refused(43),
         }
+    }
+}
+
+/// Answers a pool of blocks of the zone of a world, where no round is open by hand.
+fn answer_pool<I: Ledger, N: Ledger, M: Ledger, B: Ledger>(
+    world: &mut World<I, N, M, B>,
+    count: BlockCount,
+    blocks: PoolBlocks,
+) -> Reply
+    ensures { record { reply = result; world = world.new } ≡ pool_step world.old count blocks }
+{
+    if world.is_open() {
+        Reply::Refused(45)
+    } else {
+        reserve(world, count, blocks)
+    }
+}
+
+/// Takes the lowest free blocks, up to so many. Where none is free a round is needed, and without threads no worker can be had.
+fn reserve<I: Ledger, N: Ledger, M: Ledger, B: Ledger>(
+    world: &mut World<I, N, M, B>,
+    count: BlockCount,
+    blocks: PoolBlocks,
+) -> Reply
+    ensures { record { reply = result; world = world.new } ≡ pool_from blocks [] count world.old }
+{
+    let wanted = count.get() as usize;
+    let mut got = ArrayVec::new();
+    while got.len() < wanted {
+        match world.take_order(blocks.order()) {
+            Ok(first) => got.push(blocks.told_as(first)),
+            Err(error) => {
+                return Reply::Pool {
+                    blocks,
+                    got,
+                    rounds: 0,
+                    stopped: stopped_by(error),
+                };
+            }
+        }
+    }
+    Reply::Pool {
+        blocks,
+        got,
+        rounds: 0,
+        stopped: PoolStopped::Enough,
+    }
+}
+
+/// Why a pool without threads stops where a block is refused it.
+fn stopped_by(error: ZoneError) -> PoolStopped
+    ensures { result ≡ stopped_by error }
+{
+    match error {
+        ZoneError::JournalFull => PoolStopped::JournalFull,
+        _ => PoolStopped::Refused(32),
     }
 }
 

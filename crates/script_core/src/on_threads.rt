@@ -6,7 +6,7 @@ ghost use Rattle.script_core.specs.Ends.{EndsIn};
 ghost use Rattle.script_core.specs.Runs.{IsAnswered, IsEnded, IsTotal};
 ghost use Rattle.script_core.specs.Script.{fault_of, output_of, totals_of};
 ghost use Rattle.script_core.specs.Streams.{CannotReadOn};
-ghost use Rattle.script_core.specs.Threaded.{AsksMemory, IsThreadedStep, RunsNoRound, threaded_at_first};
+ghost use Rattle.script_core.specs.Threaded.{AsksMemory, IsThreadedStep, IsUnthreadedScript, threaded_at_first};
 
 use crate::answering::Answering;
 use crate::error::RunError;
@@ -24,8 +24,8 @@ use std::thread::Threads;
 use text_core::Command;
 use zone_core::Blanks;
 
-/// Runs a script as `run` does, and its rounds on threads. A round may be answered in more than one way, so that a script is answered
-/// by replies that its machine may give; one that runs no round has just the replies that it has by `run`.
+/// Runs a script as `run` does, and its rounds and pools on threads. These may be answered in more than one way, so that a script is
+/// answered by replies that its machine may give; one without them has just the replies that it has by `run`.
 pub fn run_on_threads<R: Input, W: Output, H: Threads + Wait + Sync>(
     rt: &H,
     alloc: Global,
@@ -51,13 +51,13 @@ pub fn run_on_threads<R: Input, W: Output, H: Threads + Wait + Sync>(
         (R.reads reader.old) (R.reads reader.new) (R.remaining reader.old)) }
     ensures stuck { IfErr result (λ error. error.fault ≡ Fault.Write → IsTrue (W.stuck writer.new)) }
 
-    // Of a script that runs no round all holds that does on one thread.
+    // Of a script without rounds and pools all holds that does on one thread.
     ensures totals { IfOk result (λ totals. IfSome (R.remaining reader.old) (λ input.
-        RunsNoRound input → totals ≡ totals_of options.journal input)) }
+        IsUnthreadedScript input → totals ≡ totals_of options.journal input)) }
     ensures output { OnOk result (IfSome (R.remaining reader.old) (λ input.
-        RunsNoRound input → Appends (W.contents writer.old) (W.contents writer.new) (output_of options.journal input))) }
+        IsUnthreadedScript input → Appends (W.contents writer.old) (W.contents writer.new) (output_of options.journal input))) }
     ensures ends { IfErr result (λ error. IfSome (R.remaining reader.old) (λ input.
-        RunsNoRound input → EndsIn error.fault options.journal input error
+        IsUnthreadedScript input → EndsIn error.fault options.journal input error
         (R.remaining reader.old) (R.remaining reader.new) (W.contents writer.old) (W.contents writer.new))) }
 {
     run_threaded::<Brand, Brand, Brand, Brand, R, W, H>(

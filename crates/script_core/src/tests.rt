@@ -52,6 +52,47 @@ fn runs_rounds_where_there_are_threads(rt: HostRuntime) -> Result<(), Fail> {
 }
 
 #[test]
+fn pools_where_there_are_threads(rt: HostRuntime) -> Result<(), Fail> {
+    let script: &[u8] =
+        b"pool 0 1\nzone 0 2\npool 1 1\nscan 0\npool 0 1\nshut 0\nmapat 0 0 0 0\npool 0 2\n";
+    let (written, ended) = played(&rt, script)?;
+    let expected =
+        b"refused 43\nok\nrefused 43\nmet\nrefused 45\nback=0\nok\ngot=1 rounds=0 stopped=32 blocks=1\n";
+    assert_eq!(rt; written.as_slice(), expected.as_slice());
+    assert!(rt; ended.is_ok());
+    let (written, ended) = played_on_threads(&rt, rt.alloc(), script);
+    let expected =
+        b"refused 43\nok\nrefused 43\nmet\nrefused 45\nback=0\nok\ngot=1 rounds=2 stopped=noblock blocks=1\n";
+    assert_eq!(rt; written.as_slice(), expected.as_slice());
+    assert!(rt; ended.is_ok());
+    Ok(())
+}
+
+#[test]
+fn pools_without_a_round(rt: HostRuntime) -> Result<(), Fail> {
+    let rows: [(&[u8], &[u8]); 3] = [
+        (
+            b"zone 0 3\npool 0 2\npool 0 2\npool 0 9\n",
+            b"ok\ngot=2 rounds=0 stopped=enough blocks=0,1\ngot=1 rounds=0 stopped=32 blocks=2\nrefused 1\n",
+        ),
+        (
+            b"profile 2\nzone 0 2\nmapat 0 0 0 0\nmapat 0 0 1 512\npool 0 2 8\npool 0 1\ngive 0 768 8\n",
+            b"ok\nok\nok\nok\ngot=2 rounds=0 stopped=enough frames=256,768\ngot=0 rounds=0 stopped=32 blocks=-\nok\n",
+        ),
+        (
+            b"profile 2\nzone 0 1\npool 0 8 9\npool 0 1 2\n",
+            b"ok\nok\ngot=1 rounds=0 stopped=32 frames=0\nrefused 1\n",
+        ),
+    ];
+    for (script, expected) in rows {
+        let (written, ended) = played(&rt, script)?;
+        assert_eq!(rt; written.as_slice(), expected);
+        assert!(rt; ended.is_ok());
+    }
+    Ok(())
+}
+
+#[test]
 fn runs_a_script(rt: HostRuntime) -> Result<(), Fail> {
     let script =
         b"zone 0 1\n# a page\nmap 0 0 0\nload 0 0 0 3\n\nstore 0 0 0 3 7\nload 0 0 0 3\ninfo 0\n";

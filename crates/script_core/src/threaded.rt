@@ -1,4 +1,4 @@
-ghost use Rattle.std.specs.Prelude.{◌≡◌, ◌+◌, ◌≤◌, ◌↔◌, false, None, IsOk, IfOk, OnErr};
+ghost use Rattle.std.specs.Prelude.{◌≡◌, ◌+◌, ◌≤◌, ◌↔◌, false, length, None, IsOk, IfOk, OnErr};
 ghost use Rattle.std.specs.Result.{result_err};
 ghost use Rattle.round_core.specs.Kept.{IsKept};
 ghost use Rattle.round_core.specs.Rounds.{IsRefusedEarly, IsRound};
@@ -6,20 +6,25 @@ ghost use Rattle.zone_core.specs.Books.{AreFor};
 ghost use Rattle.zone_core.specs.Seats.{audit_refusal};
 ghost use Rattle.zone_core.specs.Shape.{HasShape};
 ghost use Rattle.script_core.specs.Serial.{Opens};
-ghost use Rattle.script_core.specs.Threaded.{AsksMemory, IsRoundOn, IsStepBy, IsThreadedStep, broken_refusal, broken_reply, left_by, round_reply, runs_round, stopped_as, threaded_at_first};
+ghost use Rattle.script_core.specs.Threaded.{AsksMemory, IsPoolOn, IsRoundOn, IsStepBy, IsThreadedStep, broken_refusal, broken_reply, is_threaded, left_by, pool_reply, pool_stopped_as, round_reply, stopped_as, threaded_at_first, told_of};
 
 use crate::machine::Machine;
 use crate::options::Options;
 use crate::respond::Respond;
-use frame_core::ZoneNo;
+use arrayvec::ArrayVec;
+use frame_core::{Order, ZoneNo};
+use huge_core::{Collector, Huge, Report, Stop as PoolStop, reserve_alone};
 use round_core::{NoGate, Round, RoundError, Stop, compact_alone};
 use std::alloc::{AllocError, Global};
 use std::marker::Model;
 use std::sync::Wait;
 use std::sync::ledger::Ledger;
 use std::thread::Threads;
-use text_core::{Command, Reply, Stopped};
+use text_core::{BlockCount, Command, PoolBlocks, PoolStopped, Reply, Stopped};
 use zone_core::{Audit, Blanks, Rest, Seats, World, Zone, ZoneError};
+
+/// How many rounds a pool may run.
+const POOL_ROUNDS: u32 = 4;
 
 /// What a script works on where there are threads: the machine as on one thread, and the number of the zone that a round left
 /// with pages on their way.
@@ -92,11 +97,16 @@ impl<I: Ledger + Send + Sync, N: Ledger, M: Ledger + Send + Sync, B: Ledger + Se
         command: Command,
     ) -> Result<Reply, AllocError>
         requires whole { self.old.broken ≡ None }
-        ensures ok { IfOk result (λ reply. IsStepBy (runs_round command self.old.serial.world) self.old command reply self.new) }
+        ensures ok { IfOk result (λ reply. IsStepBy (is_threaded command self.old.serial.world) self.old command reply self.new) }
         ensures memory { OnErr result (Opens self.old.serial command) }
     {
         match command {
             Command::Compact { zone } => Ok(self.answer_compact(rt, zone)),
+            Command::Pool {
+                zone,
+                count,
+                blocks,
+            } => Ok(self.answer_pool(rt, zone, count, blocks)),
             Command::Open { .. } | Command::On { .. } | Command::Profile2 | Command::OutOfRange => {
                 self.machine.respond(command)
             }
@@ -108,12 +118,30 @@ impl<I: Ledger + Send + Sync, N: Ledger, M: Ledger + Send + Sync, B: Ledger + Se
     #[inline(never)]
     fn answer_compact<H: Threads + Wait + Sync>(&mut self, rt: &H, zone: ZoneNo) -> Reply
         requires whole { self.old.broken ≡ None }
-        ensures { IsStepBy (runs_round (Command.Compact zone) self.old.serial.world) self.old (Command.Compact zone) result self.new }
+        ensures { IsStepBy (is_threaded (Command.Compact zone) self.old.serial.world) self.old (Command.Compact zone) result self.new }
     {
         let Some(world) = self.machine.take_closed(zone) else {
             return self.machine.compact(zone);
         };
         self.run_round(rt, world)
+    }
+
+    /// Answers the command for a pool of blocks of a zone, apart as that for a round.
+    #[inline(never)]
+    fn answer_pool<H: Threads + Wait + Sync>(
+        &mut self,
+        rt: &H,
+        zone: ZoneNo,
+        count: BlockCount,
+        blocks: PoolBlocks,
+    ) -> Reply
+        requires whole { self.old.broken ≡ None }
+        ensures { IsStepBy (is_threaded (Command.Pool zone count blocks) self.old.serial.world) self.old (Command.Pool zone count blocks) result self.new }
+    {
+        let Some(world) = self.machine.take_closed(zone) else {
+            return self.machine.pool(zone, count, blocks);
+        };
+        self.run_pool(rt, world, count, blocks)
     }
 
     /// Runs a round over the zone of a world, which the machine gives for it.
@@ -152,6 +180,44 @@ impl<I: Ledger + Send + Sync, N: Ledger, M: Ledger + Send + Sync, B: Ledger + Se
             self.options.capacity,
             &NoGate,
         )
+    }
+
+    /// Reserves blocks of the zone of a world, which the machine gives for it.
+    fn run_pool<H: Threads + Wait + Sync>(
+        &mut self,
+        rt: &H,
+        world: World<I, N, M, B>,
+        count: BlockCount,
+        blocks: PoolBlocks,
+    ) -> Reply
+        requires given { self.old.serial.world ≡ None }
+        requires whole { self.old.broken ≡ None }
+        requires closed { world.is_open ≡ false }
+        ensures { IsPoolOn count blocks world self.old.serial.places result self.new }
+    {
+        let Ok((zone, mut seats, rest)) = world.split() else {
+            unreachable!()
+        };
+        let collector = self.collector(blocks.order());
+        let n = count.get() as usize;
+        let (zone, report) = reserve_alone(
+            rt, self.alloc, &collector, zone, &mut seats, n, &NoGate,
+        );
+        self.take_back(zone, seats, rest);
+        pool_reply(blocks, &report)
+    }
+
+    /// What reserves blocks of an order for a pool, with as many copiers and as much room in their queues as the options say.
+    fn collector(&self, order: Order) -> Collector
+        ensures rounds { result.rounds ≡ 4 }
+        ensures order { result.order ≡ order }
+    {
+        Collector {
+            copiers: self.options.copiers,
+            cap: self.options.capacity,
+            rounds: POOL_ROUNDS,
+            order,
+        }
     }
 
     /// Takes a zone back with its seats. Where its audit fails it is dropped, and its number is kept.
@@ -207,6 +273,45 @@ fn stopped(stop: Stop) -> Stopped
     }
 }
 
+/// The reply to a pool.
+fn pool_reply(blocks: PoolBlocks, report: &Report) -> Reply
+    ensures { result ≡ pool_reply blocks report.now }
+{
+    Reply::Pool {
+        blocks,
+        got: told_of(blocks, report.got.as_slice()),
+        rounds: report.rounds,
+        stopped: pool_stopped(report.stop),
+    }
+}
+
+/// The numbers that tell at most eight blocks.
+fn told_of(blocks: PoolBlocks, got: &[Option<Huge>]) -> ArrayVec<u16, 8>
+    requires few { length got.now ≤ 8 }
+    ensures { result.items ≡ told_of blocks got.now }
+{
+    let mut told = ArrayVec::new();
+    for block in got {
+        if let Some(huge) = block {
+            told.push(blocks.told_as(huge.frame()));
+        }
+    }
+    told
+}
+
+/// Why a pool stopped, for its reply.
+fn pool_stopped(stop: PoolStop) -> PoolStopped
+    ensures { result ≡ pool_stopped_as stop }
+{
+    match stop {
+        PoolStop::Enough => PoolStopped::Enough,
+        PoolStop::NoBlock => PoolStopped::NoBlock,
+        PoolStop::Rounds => PoolStopped::Rounds,
+        PoolStop::JournalFull => PoolStopped::JournalFull,
+        PoolStop::Refused(error) => PoolStopped::Refused(error.number()),
+    }
+}
+
 /// The reply to a command where the zone with this number is broken: it isn't there for any call.
 fn broken_reply(number: ZoneNo, command: Command) -> Reply
     ensures { result ≡ broken_reply number command }
@@ -215,7 +320,7 @@ fn broken_reply(number: ZoneNo, command: Command) -> Reply
         Command::OutOfRange => Reply::Refused(1),
         Command::Profile2 => Reply::Done,
         Command::Open { .. } => Reply::Refused(44),
-        Command::On { zone, .. } | Command::Compact { zone } => {
+        Command::On { zone, .. } | Command::Compact { zone } | Command::Pool { zone, .. } => {
             Reply::Refused(broken_refusal(number, zone))
         }
     }

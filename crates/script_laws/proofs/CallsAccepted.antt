@@ -10,7 +10,7 @@ use Rattle.frame_core.specs.Address.{InRange}
 use Rattle.frame_core.specs.declared.place.Address.{Address}
 use Rattle.journal_core.specs.History.{page_at, maps, pins}
 use Rattle.state_core.specs.declared.error.ZoneError.{ZoneError}
-use Rattle.state_core.specs.declared.error.ZoneError.TheVariants.{Range, JournalFull, Unmapped, Occupied, NoFrame, ShareFull, PinFull, NotHuge}
+use Rattle.state_core.specs.declared.error.ZoneError.TheVariants.{Range, JournalFull, Unmapped, Occupied, NoFrame, ShareFull, PinFull, NoBlock, NotHuge}
 use Rattle.state_core.specs.declared.placement.Placement.{Placement}
 use Rattle.state_core.specs.declared.placement.Placement.TheVariants.{At, Moving}
 use Rattle.state_core.specs.Access.{access_refusal, placement_refusal, loaded, stored}
@@ -190,6 +190,12 @@ pub take_order_lawful : (z : ZoneState) (order first : ℕ) → IsLawful z → 3
 take_order_lawful z order first law low high accepted lowest =
     let room = room_then (has_room z) _ accepted in
     lawful_block_taken z first order (lowest_some (is_run z order) (frame_count z) first lowest).1 law (spare z room.0) low high
+
+-- a block that isn't refused is there
+pub some_run : (z : ZoneState) (order : ℕ) → take_order_refusal z order ≡ None → (first : ℕ) × (lowest_run z order ≡ Some first)
+some_run z order accepted =
+    let none = passes (is_none (lowest_run z order)) NoBlock None (room_then (has_room z) _ accepted).1 in
+    some_if_not_none (lowest_run z order) none.0
 
 order_is : (o : Option ℕ) (order : ℕ) → is_order o order ≡ true → o ≡ Some order
 order_is None order e = cc

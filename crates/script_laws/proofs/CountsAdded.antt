@@ -8,14 +8,15 @@ use Rattle.text_core.specs.declared.command.Call.TheVariants.{Info, InfoWithHeld
 use Rattle.text_core.specs.declared.command.Calls.{Calls}
 use Rattle.text_core.specs.declared.command.Calls.TheVariants.{One, Series as SeriesOf}
 use Rattle.text_core.specs.declared.command.Command.{Command}
-use Rattle.text_core.specs.declared.command.Command.TheVariants.{Open, On, Compact, Profile2, OutOfRange}
+use Rattle.text_core.specs.declared.command.Command.TheVariants.{Open, On, Compact, Pool, Profile2, OutOfRange}
 use Rattle.text_core.specs.declared.reply.Reply.{Reply}
 use Rattle.text_core.specs.declared.reply.Reply.TheVariants as reply
 use Rattle.text_core.proofs.Ranges.{IsInRange}
-use Rattle.script_core.specs.Machine.{answered, call_step, calls_step, declined, step}
+use Rattle.script_core.specs.Machine.{answered, call_step, calls_step, declined, pool_step, step}
 use Rattle.script_core.specs.Script.{Numbered, answers_from, answers_of, commands_of, parts_of}
 use Rattle.script_laws.specs.Counts.{AddsUpTo, CountsAddUp}
 use Rattle.script_laws.proofs.CommandsInRange.{AreInRange, commands_ranged}
+use Rattle.script_laws.proofs.Pools.{pool_tells}
 use Rattle.script_laws.proofs.Replies.{has_counts, plain_call, plain_series}
 use Rattle.script_laws.proofs.Runs.{Goes, goes, opened_orderly}
 use Rattle.text_core.specs.declared.profile.Profile.TheVariants.{Untold}
@@ -39,6 +40,10 @@ adds_step places w o OutOfRange = tt
 adds_step places w o Profile2 = tt
 adds_step places w o (Open zone blocks) = tt
 adds_step places w o (Compact zone) = tt
+adds_step places w o (Pool zone count blocks) = by_number (nat_eq zone w.zone.number) where
+  by_number : (b : Bool) → AddsUpTo (Some (512 * w.zone.blocks)) (if b then answered (pool_step w count blocks) else declined 43 (Some w)).reply
+  by_number true = adds_plain (Some (512 * w.zone.blocks)) (pool_step w count blocks).reply (pool_tells blocks has_counts (λ got why. refl) refl w count)
+  by_number false = tt
 adds_step places w o (On zone calls) = by_number (nat_eq zone w.zone.number) where
   by_number : (b : Bool) → AddsUpTo (Some (512 * w.zone.blocks)) (if b then answered (calls_step w calls) else declined 43 (Some w)).reply
   by_number true = adds_calls w o calls
@@ -61,6 +66,7 @@ adds_first places range line OutOfRange commands r ranged rest = (tt, rest)
 adds_first places range line Profile2 commands r ranged rest = (tt, rest)
 adds_first places range line (On zone calls) commands r ranged rest = (tt, rest)
 adds_first places range line (Compact zone) commands r ranged rest = (tt, rest)
+adds_first places range line (Pool zone count blocks) commands r ranged rest = (tt, rest)
 adds_first places range line (Open zone blocks) commands r ranged rest = (tt, open_adds places (Some (512 * blocks)) commands ranged _ (opened_orderly zone blocks places r range) refl)
 
 adds : (places : ℕ) → (0 < places) × (places ≤ 65536) → (commands : List Numbered) → AreInRange commands → CountsAddUp commands (answers_from places None commands)

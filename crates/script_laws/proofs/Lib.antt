@@ -4,6 +4,7 @@ pub mod CountsAdded
 pub mod LockStep
 pub mod Matching
 pub mod PagesMoved
+pub mod Pools
 pub mod Replies
 pub mod Runs
 pub mod Steps

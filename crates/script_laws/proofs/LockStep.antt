@@ -7,7 +7,7 @@ use Rattle.text_core.specs.declared.command.Call.{Call}
 use Rattle.text_core.specs.declared.command.Call.TheVariants as call
 use Rattle.text_core.specs.declared.command.Calls.TheVariants.{One, Series as SeriesOf}
 use Rattle.text_core.specs.declared.command.Command.{Command}
-use Rattle.text_core.specs.declared.command.Command.TheVariants.{Open, On, Compact, Profile2, OutOfRange}
+use Rattle.text_core.specs.declared.command.Command.TheVariants.{Open, On, Compact, Pool, Profile2, OutOfRange}
 use Rattle.text_core.specs.declared.error.ScriptError.{ScriptError}
 use Rattle.text_core.specs.declared.profile.Profile.{Profile}
 use Rattle.text_core.specs.declared.profile.Profile.TheVariants.{Untold, One as Profile1, Two}
@@ -17,11 +17,12 @@ use Rattle.text_core.specs.Line.{line_of}
 use Rattle.text_core.specs.Profile.{profile_behind, profile_told}
 use Rattle.text_core.proofs.Profiles as rows
 use Rattle.text_core.proofs.Profiles.{SayAlike, call_in_profile_2, lines_alike}
-use Rattle.script_core.specs.Machine.{Step, answered, call_step, calls_step, declined, step}
+use Rattle.script_core.specs.Machine.{Step, answered, call_step, calls_step, declined, pool_step, step}
 use Rattle.script_core.specs.Script.{Answer, Numbered, answers_from, commands_from, cut_fault, fault_from, line_fault, onto_commands, parts_of}
 use Rattle.script_core.specs.declared.error.RunError.{RunError}
 use Rattle.script_core.proofs.Lines.{Parts, parts-line, parts_are}
 use Rattle.script_laws.specs.Profile2.{IsSameInProfile2, behind_profile_2, fault_in_profile_1, with_held}
+use Rattle.script_laws.proofs.Pools.{pool_tells}
 use Rattle.script_laws.proofs.Replies.{has_counts, plain_call, plain_series}
 
 abbrev further : Answer → Answer
@@ -55,6 +56,11 @@ step_told places None (Open zone blocks) = refl
 step_told places (Some w) (Open zone blocks) = refl
 step_told places None (Compact zone) = refl
 step_told places (Some w) (Compact zone) = refl
+step_told places None (Pool zone count blocks) = refl
+step_told places (Some w) (Pool zone count blocks) = by_number (nat_eq zone w.zone.number) where
+  by_number : (b : Bool) → (if b then answered (pool_step w count blocks) else declined 43 (Some w)) ≡ told (if b then answered (pool_step w count blocks) else declined 43 (Some w))
+  by_number true = told_plain (answered (pool_step w count blocks)) (pool_tells blocks has_counts (λ got why. refl) refl w count)
+  by_number false = refl
 step_told places None (On zone (One c)) = refl
 step_told places None (On zone (SeriesOf s)) = refl
 step_told places (Some w) (On zone (One c)) = by_number (nat_eq zone w.zone.number) where

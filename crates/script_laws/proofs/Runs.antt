@@ -9,9 +9,10 @@ use Rattle.zone_core.proofs.Closing.{carried_closed}
 use Rattle.text_core.specs.declared.command.Calls.{Calls}
 use Rattle.text_core.specs.declared.command.Calls.TheVariants.{One, Series as SeriesOf}
 use Rattle.text_core.specs.declared.command.Command.{Command}
-use Rattle.text_core.specs.declared.command.Command.TheVariants.{Open, On, Compact, Profile2, OutOfRange}
+use Rattle.text_core.specs.declared.command.Command.TheVariants.{Open, On, Compact, Pool, Profile2, OutOfRange}
 use Rattle.text_core.proofs.Ranges.{IsInRange}
-use Rattle.script_core.specs.Machine.{answered, calls_step, declined, step}
+use Rattle.script_core.specs.Machine.{answered, calls_step, declined, pool_step, step}
+use Rattle.script_laws.proofs.Pools.{keeps_pool}
 use Rattle.script_laws.proofs.Steps.{Keeps, keeps_all, keeps_call, keeps_series}
 
 -- the world behind a command
@@ -29,6 +30,10 @@ goes places w o OutOfRange r = record { after = w; world = refl; keeps = keeps_a
 goes places w o Profile2 r = record { after = w; world = refl; keeps = keeps_all w o }
 goes places w o (Open zone blocks) r = record { after = w; world = refl; keeps = keeps_all w o }
 goes places w o (Compact zone) r = record { after = w; world = refl; keeps = keeps_all w o }
+goes places w o (Pool zone count blocks) r = by_number (nat_eq zone w.zone.number) refl where
+  by_number : (b : Bool) → nat_eq zone w.zone.number ≡ b → Goes places w (Pool zone count blocks)
+  by_number true e = record { after = (pool_step w count blocks).world; world = λ i. (if e i then answered (pool_step w count blocks) else declined 43 (Some w)).world; keeps = keeps_pool blocks r w count o }
+  by_number false e = record { after = w; world = λ i. (if e i then answered (pool_step w count blocks) else declined 43 (Some w)).world; keeps = keeps_all w o }
 goes places w o (On zone calls) r = by_number (nat_eq zone w.zone.number) refl where
   by_number : (b : Bool) → nat_eq zone w.zone.number ≡ b → Goes places w (On zone calls)
   by_number true e = record { after = (calls_step w calls).world; world = λ i. (if e i then answered (calls_step w calls) else declined 43 (Some w)).world; keeps = keeps_calls w o zone calls r }

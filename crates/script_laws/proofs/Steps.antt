@@ -87,13 +87,16 @@ keeps_page : (w : WorldState) (a : Address) (unmovable : Bool) (p : Option ℕ) 
 keeps_page w a unmovable None o law = keeps_all w o
 keeps_page w a unmovable (Some frame) o law = keeps_zone w _ o (law frame refl) (record { same_out = refl; migrate = refl; free = refl; blocks = refl })
 
+pub keeps_taken : (w : WorldState) (first order : ℕ) → IsOrderly w → IsLawful (block_taken w.zone first order) → Keeps w (with_zone w (block_taken w.zone first order))
+keeps_taken w first order o law = keeps_zone w _ o law (record { same_out = refl; migrate = refl; free = refl; blocks = refl })
+
 keeps_huge : (w : WorldState) (p : Option ℕ) → IsOrderly w → ((first : ℕ) → p ≡ Some first → IsLawful (block_taken w.zone first 9)) → Keeps w (handed_out w p).world
 keeps_huge w None o law = keeps_all w o
-keeps_huge w (Some first) o law = keeps_zone w _ o (law first refl) (record { same_out = refl; migrate = refl; free = refl; blocks = refl })
+keeps_huge w (Some first) o law = keeps_taken w first 9 o (law first refl)
 
 keeps_order : (w : WorldState) (order : ℕ) (p : Option ℕ) → IsOrderly w → ((first : ℕ) → p ≡ Some first → IsLawful (block_taken w.zone first order)) → Keeps w (order_handed_out w order p).world
 keeps_order w order None o law = keeps_all w o
-keeps_order w order (Some first) o law = keeps_zone w _ o (law first refl) (record { same_out = refl; migrate = refl; free = refl; blocks = refl })
+keeps_order w order (Some first) o law = keeps_taken w first order o (law first refl)
 
 pub keeps_call : (w : WorldState) → IsOrderly w → (c : Call) → IsCallInRange c → Keeps w (call_step w c).world
 keeps_call w o (Map a unmovable) r = keeps_unless w w (map_refusal w.zone a) (fresh_page w a unmovable (lowest_free_frame w.zone)) (keeps_all w o)

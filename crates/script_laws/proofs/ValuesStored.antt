@@ -32,19 +32,20 @@ use Rattle.text_core.specs.declared.command.Calls.{Calls}
 use Rattle.text_core.specs.declared.command.Calls.TheVariants.{One, Series as SeriesOf}
 use Rattle.text_core.specs.declared.command.Repeated.{Repeated}
 use Rattle.text_core.specs.declared.command.Command.{Command}
-use Rattle.text_core.specs.declared.command.Command.TheVariants.{Open, On, Compact, Profile2, OutOfRange}
+use Rattle.text_core.specs.declared.command.Command.TheVariants.{Open, On, Compact, Pool, Profile2, OutOfRange}
 use Rattle.text_core.specs.declared.profile.Profile.TheVariants.{Untold}
 use Rattle.text_core.specs.declared.reply.Reply.{Reply}
 use Rattle.text_core.specs.declared.reply.Reply.TheVariants as reply
 use Rattle.text_core.specs.Grammar.{address_of}
 use Rattle.text_core.proofs.Ranges.{IsInRange}
-use Rattle.script_core.specs.Machine.{Answered, answered, by_hand, call_at, call_step, calls_step, copied, declined, ending, found, fresh_page, handed_out, looked, order_handed_out, page_step, says, series_from, step, unless, unless_refused}
+use Rattle.script_core.specs.Machine.{Answered, answered, by_hand, call_at, call_step, calls_step, copied, declined, ending, found, fresh_page, handed_out, looked, order_handed_out, page_step, pool_step, says, series_from, step, unless, unless_refused}
 use Rattle.script_core.specs.Script.{Numbered, answers_from, answers_of, commands_of, parts_of}
 use Rattle.script_laws.specs.Values.{IsLastStored, ValuesAreStored, accepted, accepted_count, called, repeated, told}
 use Rattle.script_laws.proofs.CallsAccepted.{CanMap, can_map, can_map_at, fresh_number, mapped_is, rests_for_access}
 use Rattle.script_laws.proofs.CommandsInRange.{AreInRange, commands_ranged}
 use Rattle.script_laws.proofs.Matching.{Match, match_empty, match_mapped, match_same, match_shared, match_stored, match_unmapped}
 use Rattle.script_laws.proofs.PagesMoved.{LeavesCells, copied_leaves, finished_leaves, leaves_all, opened_leaves, scanned_leaves, shut_leaves, taken_leaves}
+use Rattle.script_laws.proofs.Pools.{pool_leaves, pool_tells}
 use Rattle.script_laws.proofs.Runs.{Goes, goes, opened_orderly}
 use Rattle.script_laws.proofs.Steps.{keeps_page_step}
 
@@ -232,6 +233,7 @@ refused_nothing older (Open zone blocks) number = refl
 refused_nothing older (On zone (One c)) number = refl
 refused_nothing older (On zone (SeriesOf s)) number = refl
 refused_nothing older (Compact zone) number = refl
+refused_nothing older (Pool zone count blocks) number = refl
 
 moved_to : (v after : WorldState) (history : List Record) → Some v ≡ Some after → Match v.zone.records history → Match after.zone.records history
 moved_to v after history e m = subst (λ (x : WorldState). Match x.zone.records history) (same_Some v after e) m
@@ -250,6 +252,15 @@ tells_step places older w o m OutOfRange = record { match = λ after e. moved_to
 tells_step places older w o m Profile2 = record { match = λ after e. moved_to w after older e m; value = tt }
 tells_step places older w o m (Open zone blocks) = record { match = λ after e. moved_to w after older e m; value = tt }
 tells_step places older w o m (Compact zone) = record { match = λ after e. moved_to w after older e m; value = tt }
+tells_step places older w o m (Pool zone count blocks) = record { match = (by_number (nat_eq zone w.zone.number)).0; value = (by_number (nat_eq zone w.zone.number)).1 } where
+  by_number : (b : Bool)
+      → ((after : WorldState) → (if b then answered (pool_step w count blocks) else declined 43 (Some w)).world ≡ Some after → Match after.zone.records older)
+      × IsLastStored older (Pool zone count blocks) (if b then answered (pool_step w count blocks) else declined 43 (Some w)).reply
+  by_number true = (
+    λ after e. moved_to (pool_step w count blocks).world after older e (leaves older w.zone (pool_step w count blocks).world.zone (pool_leaves blocks w count) m),
+    no_value older (Pool zone count blocks) (pool_step w count blocks).reply (pool_tells blocks has_value (λ got why. refl) refl w count),
+  )
+  by_number false = (λ after e. moved_to w after older e m, tt)
 tells_step places older w o m (On zone calls) = record { match = (by_number (nat_eq zone w.zone.number)).0; value = (by_number (nat_eq zone w.zone.number)).1 } where
   by_number : (b : Bool)
       → ((after : WorldState) → (if b then answered (calls_step w calls) else declined 43 (Some w)).world ≡ Some after → Match after.zone.records (told older (On zone calls) (if b then answered (calls_step w calls) else declined 43 (Some w)).reply))
@@ -278,6 +289,7 @@ first_values : (places : ℕ) → (0 < places) × (places ≤ 65536) → (line :
 first_values places range line OutOfRange commands r ranged rest = (tt, rest)
 first_values places range line Profile2 commands r ranged rest = (tt, rest)
 first_values places range line (Compact zone) commands r ranged rest = (tt, rest)
+first_values places range line (Pool zone count blocks) commands r ranged rest = (tt, rest)
 first_values places range line (On zone calls) commands r ranged rest = (
   no_value [] (On zone calls) (reply.Refused 43) refl,
   subst (λ (history : List Record). ValuesAreStored history commands (answers_from places None commands)) (sym (refused_nothing [] (On zone calls) 43)) rest,

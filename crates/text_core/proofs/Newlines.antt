@@ -57,4 +57,5 @@ text_of-some (reply.HandedOut f k) = omega arith
 text_of-some (reply.AllDone m) = omega arith
 text_of-some (reply.DoneUntil m k) = omega arith
 text_of-some (reply.Round i m b s) = omega arith
+text_of-some (reply.Pool blocks got rounds s) = omega arith
 text_of-some (reply.Refused k) = omega arith

@@ -1,12 +1,13 @@
 -- A line of profile 1 says the same where no line told the profile yet, and in profile 2 but for the held frames of an info.
 use Rattle.std.proofs.Common.{◌≡◌, ℕ, Bool, true, false, List, [], ◌∷◌, length, refl, sym, ap, Option, Some, None, Result, Ok, Err}
 use Rattle.std.specs.Prelude.{bytes_eq, codes, map, nat_lt, if◌then◌else◌, IfSome, ⊤, option_map}
+use Rattle.std.specs.Option.{option_or}
 use Rattle.std.proofs.lemmas.Bool.{and_parts}
 use Rattle.std.proofs.lemmas.Option.{same_Some}
 use Rattle.std.proofs.lemmas.Slice.Eq.{bytes_eq-Decides}
 use Rattle.frame_core.specs.declared.place.Address.{Address}
 use Rattle.text_core.specs.declared.token.Token.{Token}
-use Rattle.text_core.specs.declared.token.Token.TheVariants.{Number, Zone, Map, MapAt, Store, Load, Info, Unmovable, Scan, Take, Copy, Finish, Shut, Look, Share, Unmap, Pin, Unpin, Huge, Give, Fill, Thin, Compact}
+use Rattle.text_core.specs.declared.token.Token.TheVariants.{Number, Zone, Map, MapAt, Store, Load, Info, Unmovable, Scan, Take, Copy, Finish, Shut, Look, Share, Unmap, Pin, Unpin, Huge, Give, Fill, Thin, Compact, Pool}
 use Rattle.text_core.specs.declared.command.Call.{Call}
 use Rattle.text_core.specs.declared.command.Call.TheVariants as call
 use Rattle.text_core.specs.declared.command.Calls.TheVariants.{One}
@@ -15,8 +16,10 @@ use Rattle.text_core.specs.declared.command.Command.{Command}
 use Rattle.text_core.specs.declared.command.Command.TheVariants.{On, Profile2}
 use Rattle.text_core.specs.declared.error.ScriptError.{ScriptError}
 use Rattle.text_core.specs.declared.error.ScriptError.TheVariants.{LongLine}
+use Rattle.text_core.specs.declared.pool.PoolBlocks.{PoolBlocks}
+use Rattle.text_core.specs.declared.pool.PoolBlocks.TheVariants.{Pageblocks}
 use Rattle.text_core.specs.declared.profile.Profile.TheVariants.{Untold, One as Profile1, Two}
-use Rattle.text_core.specs.Grammar.{address_of, blocks_of, call_on, command_of, compacting, frame_of, hand_of, load_call, map_at_call, map_call, opening, pageblock_of, row_of, row_of_profile_2, row_or, series_on, share_call, store_call, word_of, zone_of}
+use Rattle.text_core.specs.Grammar.{address_of, blocks_of, call_on, command_of, compacting, frame_of, hand_of, load_call, map_at_call, map_call, opening, pageblock_of, pooling, row_of, row_of_profile_2, series_on, share_call, store_call, word_of, zone_of}
 use Rattle.text_core.specs.Line.{command_in, command_or_fault, is_comment, lexemes_say, line_of}
 use Rattle.text_core.specs.Profile.{is_profile_2}
 use Rattle.text_core.specs.Token.{lexemes, token_of}
@@ -45,6 +48,12 @@ kept_opening None b = (refl, λ e. cc)
 kept_compacting : (z : Option ℕ) → IsKept (compacting z)
 kept_compacting (Some z) = (refl, λ e. cc)
 kept_compacting None = (refl, λ e. cc)
+
+kept_pooling : (z n : Option ℕ) (b : Option PoolBlocks) → IsKept (pooling z n b)
+kept_pooling (Some z) (Some n) (Some b) = (refl, λ e. cc)
+kept_pooling (Some z) (Some n) None = (refl, λ e. cc)
+kept_pooling (Some z) None b = (refl, λ e. cc)
+kept_pooling None n b = (refl, λ e. cc)
 
 kept_call : (z : Option ℕ) (o : Option Call) → IfSome o IsKeptCall → IsKept (call_on z o)
 kept_call (Some z) (Some c) e = (ap (λ d. On z (One d)) e, λ e. cc)
@@ -98,7 +107,7 @@ alike_info : (z : Option ℕ) → AreAlike (Some (call_on z (Some call.Info))) (
 alike_info (Some z) = (refl, refl, λ e. cc)
 alike_info None = (refl, refl, λ e. cc)
 
-alike_row : (keyword : Token) (z : Option ℕ) (arguments : List Token) → AreAlike (row_of keyword z arguments) (row_of keyword z arguments) (row_or z (row_of_profile_2 keyword arguments) (row_of keyword z arguments))
+alike_row : (keyword : Token) (z : Option ℕ) (arguments : List Token) → AreAlike (row_of keyword z arguments) (row_of keyword z arguments) (option_or (row_of_profile_2 keyword z arguments) (row_of keyword z arguments))
 alike_row Zone z (Number b ∷ []) = alike _ (kept_opening z (blocks_of b))
 alike_row Map z (Number s ∷ Number v ∷ []) = alike _ (kept_call z _ (kept_map (address_of s v) false))
 alike_row Map z (Number s ∷ Number v ∷ Unmovable ∷ []) = alike _ (kept_call z _ (kept_map (address_of s v) true))
@@ -122,6 +131,7 @@ alike_row Give z (Number b ∷ []) = alike _ (kept_call z _ (kept_with call.Give
 alike_row Fill z (Number s ∷ Number v ∷ Number n ∷ []) = alike _ (kept_series z _)
 alike_row Thin z (Number s ∷ Number v ∷ Number n ∷ Number step ∷ []) = alike _ (kept_series z _)
 alike_row Compact z [] = alike _ (kept_compacting z)
+alike_row Pool z (Number n ∷ []) = alike _ (kept_pooling z (blocks_of n) (Some Pageblocks))
 alike_row _ z _ = tt
 
 alike_tokens : (tokens : List Token) → AreAlike (command_of Profile1 tokens) (command_of Untold tokens) (command_of Two tokens)

@@ -1,23 +1,27 @@
 -- The arguments of what a line says are in their ranges.
-use Rattle.std.proofs.Common.{◌≡◌, ℕ, ◌<◌, ◌≤◌, Bool, true, false, List, [], ◌∷◌, length, refl, Option, Some, None, Result, Ok, Err}
+use Rattle.std.proofs.Common.{◌≡◌, ℕ, ◌<◌, ◌≤◌, Bool, true, false, List, [], ◌∷◌, length, refl, arith, Option, Some, None, Result, Ok, Err}
 use Rattle.std.specs.Prelude.{◌&&◌, nat_le, nat_lt, map, if◌then◌else◌, IfSome, ⊤, option_map}
+use Rattle.std.specs.Option.{option_or}
 use Rattle.std.proofs.lemmas.Bool.{and_parts, leb-true, ltb-true}
 use Rattle.frame_core.specs.Address.{InRange}
 use Rattle.frame_core.specs.declared.place.Address.{Address}
 use Rattle.text_core.specs.declared.token.Token.{Token}
-use Rattle.text_core.specs.declared.token.Token.TheVariants.{Number, Zone, Map, MapAt, Store, Load, Info, Unmovable, Scan, Take, Copy, Finish, Shut, Look, Share, Unmap, Pin, Unpin, Huge, Give, Fill, Thin, Mark, Unmark, Compact}
+use Rattle.text_core.specs.declared.token.Token.TheVariants.{Number, Zone, Map, MapAt, Store, Load, Info, Unmovable, Scan, Take, Copy, Finish, Shut, Look, Share, Unmap, Pin, Unpin, Huge, Give, Fill, Thin, Mark, Unmark, Compact, Pool}
 use Rattle.text_core.specs.declared.command.Call.{Call}
 use Rattle.text_core.specs.declared.command.Call.TheVariants as call
 use Rattle.text_core.specs.declared.command.Calls.TheVariants.{One}
 use Rattle.text_core.specs.declared.command.Series.{Series}
 use Rattle.text_core.specs.declared.command.Command.{Command}
-use Rattle.text_core.specs.declared.command.Command.TheVariants.{Open, On, Profile2}
+use Rattle.text_core.specs.declared.command.Command.TheVariants.{Open, On, Pool as PoolOn, Profile2}
+use Rattle.text_core.specs.declared.pool.PoolBlocks.{PoolBlocks}
+use Rattle.text_core.specs.declared.pool.PoolBlocks.TheVariants.{Pageblocks, OfOrder}
 use Rattle.text_core.specs.declared.error.ScriptError.{ScriptError}
 use Rattle.text_core.specs.declared.error.ScriptError.TheVariants.{LongLine}
 use Rattle.text_core.specs.declared.profile.Profile.{Profile}
 use Rattle.text_core.specs.declared.profile.Profile.TheVariants.{Untold, One as Profile1, Two}
-use Rattle.text_core.specs.Grammar.{address_of, blocks_of, call_on, command_of, compacting, frame_of, give_order_call, hand_of, load_call, map_at_call, map_call, opening, order_of, own_row, pageblock_of, row_in, row_of, row_of_profile_2, row_or, series_on, share_call, store_call, word_of, zone_of}
+use Rattle.text_core.specs.Grammar.{address_of, blocks_of, call_on, command_of, compacting, frame_of, give_order_call, hand_of, load_call, map_at_call, map_call, opening, order_of, own_row, pageblock_of, pooling, row_in, row_of, row_of_profile_2, series_on, share_call, store_call, word_of, zone_of}
 use Rattle.text_core.specs.Line.{command_in, command_or_fault, is_comment, lexemes_say, line_of}
+use Rattle.text_core.specs.Pool.{pool_order}
 use Rattle.text_core.specs.Profile.{is_profile_2}
 use Rattle.text_core.specs.Token.{lexemes, token_of}
 
@@ -32,10 +36,15 @@ IsCallInRange (call.Finish hand) = (0 < hand) × (hand ≤ 4)
 IsCallInRange (call.TakeOrder order) = (3 ≤ order) × (order ≤ 9)
 IsCallInRange _ = ⊤
 
+-- the order of the blocks of a pool is
+abbrev pub HasOrder : PoolBlocks → Type 0
+HasOrder blocks = (3 ≤ pool_order blocks) × (pool_order blocks ≤ 9)
+
 -- and so are those of a command
 abbrev pub IsInRange : Command → Type 0
 IsInRange (Open zone blocks) = (0 < blocks) × (blocks ≤ 8)
 IsInRange (On zone (One c)) = IsCallInRange c
+IsInRange (PoolOn zone count blocks) = HasOrder blocks
 IsInRange _ = ⊤
 
 -- a number below a bound, a number between bounds
@@ -49,7 +58,7 @@ in_space s v = by_test (nat_lt s 8 && nat_lt v 4096) refl where
   by_test true e = let both = and_parts (nat_lt s 8) _ e in record { space = ltb-true s 8 both.0; vpage = ltb-true v 4096 both.1 }
   by_test false e = tt
 
--- an opening, a round, and a call
+-- an opening, a round, a pool, and a call
 opening_ranged : (z b : Option ℕ) → IfSome b (λ n. (1 ≤ n) × (n ≤ 8)) → IsInRange (opening z b)
 opening_ranged (Some z) (Some b) r = r
 opening_ranged (Some z) None r = tt
@@ -58,6 +67,19 @@ opening_ranged None b r = tt
 compacting_ranged : (z : Option ℕ) → IsInRange (compacting z)
 compacting_ranged (Some z) = tt
 compacting_ranged None = tt
+
+pooling_ranged : (z n : Option ℕ) (b : Option PoolBlocks) → IfSome b HasOrder → IsInRange (pooling z n b)
+pooling_ranged (Some z) (Some n) (Some b) r = r
+pooling_ranged (Some z) (Some n) None r = tt
+pooling_ranged (Some z) None b r = tt
+pooling_ranged None n b r = tt
+
+pageblocks_ranged : HasOrder Pageblocks
+pageblocks_ranged = (omega arith, omega arith)
+
+of_order_ranged : (o : Option ℕ) → IfSome o (λ k. (3 ≤ k) × (k ≤ 9)) → IfSome (option_map OfOrder o) HasOrder
+of_order_ranged (Some k) r = r
+of_order_ranged None r = tt
 
 call_ranged : (z : Option ℕ) (c : Option Call) → IfSome c IsCallInRange → IsInRange (call_on z c)
 call_ranged (Some z) (Some c) r = r
@@ -140,32 +162,31 @@ row_ranged Give z (Number b ∷ []) = call_ranged z _ (mapped_ranged (λ n. ⊤)
 row_ranged Fill z (Number s ∷ Number v ∷ Number n ∷ []) = series_ranged z _
 row_ranged Thin z (Number s ∷ Number v ∷ Number n ∷ Number step ∷ []) = series_ranged z _
 row_ranged Compact z [] = compacting_ranged z
+row_ranged Pool z (Number n ∷ []) = pooling_ranged z (blocks_of n) (Some Pageblocks) pageblocks_ranged
 row_ranged _ z _ = tt
 
 -- a profile's own rows
-abbrev AreInRange : Option (Option Call) → Type 0
-AreInRange own = IfSome own (λ c. IfSome c IsCallInRange)
+row_of_profile_2_ranged : (keyword : Token) (z : Option ℕ) (arguments : List Token) → IfSome (row_of_profile_2 keyword z arguments) IsInRange
+row_of_profile_2_ranged Info z [] = call_ranged z (Some call.InfoWithHeld) tt
+row_of_profile_2_ranged Huge z (Number k ∷ []) = call_ranged z _ (mapped_ranged (λ n. (3 ≤ n) × (n ≤ 9)) call.TakeOrder (λ n r. r) (order_of k) (between 3 9 k (nat_le 3 k && nat_le k 9) refl))
+row_of_profile_2_ranged Give z (Number f ∷ Number k ∷ []) = call_ranged z _ (give_ranged (frame_of f) (order_of k))
+row_of_profile_2_ranged Mark z (Number b ∷ []) = call_ranged z _ (mapped_ranged (λ n. ⊤) call.Mark (λ n r. tt) (pageblock_of b) (any (pageblock_of b)))
+row_of_profile_2_ranged Unmark z (Number b ∷ []) = call_ranged z _ (mapped_ranged (λ n. ⊤) call.Unmark (λ n r. tt) (pageblock_of b) (any (pageblock_of b)))
+row_of_profile_2_ranged Pool z (Number n ∷ Number k ∷ []) = pooling_ranged z (blocks_of n) _ (of_order_ranged (order_of k) (between 3 9 k (nat_le 3 k && nat_le k 9) refl))
+row_of_profile_2_ranged _ z _ = tt
 
-row_of_profile_2_ranged : (keyword : Token) (arguments : List Token) → AreInRange (row_of_profile_2 keyword arguments)
-row_of_profile_2_ranged Info [] = tt
-row_of_profile_2_ranged Huge (Number k ∷ []) = mapped_ranged (λ n. (3 ≤ n) × (n ≤ 9)) call.TakeOrder (λ n r. r) (order_of k) (between 3 9 k (nat_le 3 k && nat_le k 9) refl)
-row_of_profile_2_ranged Give (Number f ∷ Number k ∷ []) = give_ranged (frame_of f) (order_of k)
-row_of_profile_2_ranged Mark (Number b ∷ []) = mapped_ranged (λ n. ⊤) call.Mark (λ n r. tt) (pageblock_of b) (any (pageblock_of b))
-row_of_profile_2_ranged Unmark (Number b ∷ []) = mapped_ranged (λ n. ⊤) call.Unmark (λ n r. tt) (pageblock_of b) (any (pageblock_of b))
-row_of_profile_2_ranged _ _ = tt
+own_row_ranged : (profile : Profile) (keyword : Token) (z : Option ℕ) (arguments : List Token) → IfSome (own_row profile keyword z arguments) IsInRange
+own_row_ranged Two keyword z arguments = row_of_profile_2_ranged keyword z arguments
+own_row_ranged Untold keyword z arguments = tt
+own_row_ranged Profile1 keyword z arguments = tt
 
-own_row_ranged : (profile : Profile) (keyword : Token) (arguments : List Token) → AreInRange (own_row profile keyword arguments)
-own_row_ranged Two keyword arguments = row_of_profile_2_ranged keyword arguments
-own_row_ranged Untold keyword arguments = tt
-own_row_ranged Profile1 keyword arguments = tt
-
-either_ranged : (z : Option ℕ) (own : Option (Option Call)) (row : Option Command) → AreInRange own → IfSome row IsInRange → IfSome (row_or z own row) IsInRange
-either_ranged z (Some c) row r s = call_ranged z c r
-either_ranged z None row r s = s
+either_ranged : (own row : Option Command) → IfSome own IsInRange → IfSome row IsInRange → IfSome (option_or own row) IsInRange
+either_ranged (Some c) row r s = r
+either_ranged None row r s = s
 
 row_in_ranged : (profile : Profile) (keyword : Token) (z : Option ℕ) (arguments : List Token) → IfSome (row_in profile keyword z arguments) IsInRange
 row_in_ranged profile keyword z arguments =
-    either_ranged z (own_row profile keyword arguments) (row_of keyword z arguments) (own_row_ranged profile keyword arguments) (row_ranged keyword z arguments)
+    either_ranged (own_row profile keyword z arguments) (row_of keyword z arguments) (own_row_ranged profile keyword z arguments) (row_ranged keyword z arguments)
 
 command_ranged : (profile : Profile) (tokens : List Token) → IfSome (command_of profile tokens) IsInRange
 command_ranged profile (keyword ∷ Number z ∷ arguments) = row_in_ranged profile keyword (zone_of z) arguments

@@ -1,8 +1,9 @@
 -- The commands of the language: the row of each says what stands in its line, and what that makes.
 use Rattle.std.specs.Prelude.{ℕ, Bool, true, false, ◌&&◌, List, [], ◌∷◌, nat_lt, nat_le, Option, Some, None, option_map, if◌then◌else◌}
+use Rattle.std.specs.Option.{option_or}
 use Rattle.frame_core.specs.declared.place.Address.{Address}
 use Rattle.text_core.specs.declared.token.Token.{Token}
-use Rattle.text_core.specs.declared.token.Token.TheVariants.{Number, Zone, Map, MapAt, Store, Load, Info, Unmovable, Scan, Take, Copy, Finish, Shut, Look, Share, Unmap, Pin, Unpin, Huge, Give, Fill, Thin, Mark, Unmark, Compact}
+use Rattle.text_core.specs.declared.token.Token.TheVariants.{Number, Zone, Map, MapAt, Store, Load, Info, Unmovable, Scan, Take, Copy, Finish, Shut, Look, Share, Unmap, Pin, Unpin, Huge, Give, Fill, Thin, Mark, Unmark, Compact, Pool}
 use Rattle.text_core.specs.declared.command.Call.{Call}
 use Rattle.text_core.specs.declared.command.Call.TheVariants as call
 use Rattle.text_core.specs.declared.command.Calls.{Calls}
@@ -11,7 +12,9 @@ use Rattle.text_core.specs.declared.command.Series.{Series}
 use Rattle.text_core.specs.declared.command.Repeated.{Repeated}
 use Rattle.text_core.specs.declared.command.Repeated.TheVariants as repeated
 use Rattle.text_core.specs.declared.command.Command.{Command}
-use Rattle.text_core.specs.declared.command.Command.TheVariants.{Open, On, Compact as RoundOn, OutOfRange}
+use Rattle.text_core.specs.declared.command.Command.TheVariants.{Open, On, Compact as RoundOn, Pool as PoolOn, OutOfRange}
+use Rattle.text_core.specs.declared.pool.PoolBlocks.{PoolBlocks}
+use Rattle.text_core.specs.declared.pool.PoolBlocks.TheVariants.{Pageblocks, OfOrder}
 use Rattle.text_core.specs.declared.profile.Profile.{Profile}
 use Rattle.text_core.specs.declared.profile.Profile.TheVariants.{Two}
 
@@ -35,7 +38,7 @@ frame_of n = below 4096 n
 abbrev pub word_of : ℕ → Option ℕ
 word_of n = below 8 n
 
--- how many pageblocks a zone has
+-- how many pageblocks a zone has, and how many blocks a pool is asked for
 abbrev pub blocks_of : ℕ → Option ℕ
 blocks_of n = up_to 8 n
 
@@ -108,6 +111,11 @@ abbrev pub compacting : Option ℕ → Command
 compacting (Some z) = RoundOn z
 compacting None = OutOfRange
 
+-- a pool of blocks of a zone, or else an argument is out of its range
+abbrev pub pooling : Option ℕ → Option ℕ → Option PoolBlocks → Command
+pooling (Some z) (Some n) (Some blocks) = PoolOn z n blocks
+pooling _ _ _ = OutOfRange
+
 -- calls on a zone, or else an argument is out of its range
 abbrev pub calls_on : Option ℕ → Option Calls → Command
 calls_on (Some z) (Some c) = On z c
@@ -151,30 +159,27 @@ row_of Fill z (Number s ∷ Number v ∷ Number n ∷ []) =
 row_of Thin z (Number s ∷ Number v ∷ Number n ∷ Number step ∷ []) =
     Some (series_on z (series_of repeated.Unmap (space_of s) v (page_count_of n) step))
 row_of Compact z [] = Some (compacting z)
+row_of Pool z (Number n ∷ []) = Some (pooling z (blocks_of n) (Some Pageblocks))
 row_of _ z _ = None
 
--- the calls on a zone by the rows that profile 2 has besides; one whose argument is out of its range is None
-abbrev pub row_of_profile_2 : Token → List Token → Option (Option Call)
-row_of_profile_2 Info [] = Some (Some call.InfoWithHeld)
-row_of_profile_2 Huge (Number k ∷ []) = Some (option_map call.TakeOrder (order_of k))
-row_of_profile_2 Give (Number f ∷ Number k ∷ []) = Some (give_order_call (frame_of f) (order_of k))
-row_of_profile_2 Mark (Number b ∷ []) = Some (option_map call.Mark (pageblock_of b))
-row_of_profile_2 Unmark (Number b ∷ []) = Some (option_map call.Unmark (pageblock_of b))
-row_of_profile_2 _ _ = None
+-- the same by the rows that profile 2 has besides
+abbrev pub row_of_profile_2 : Token → Option ℕ → List Token → Option Command
+row_of_profile_2 Info z [] = Some (call_on z (Some call.InfoWithHeld))
+row_of_profile_2 Huge z (Number k ∷ []) = Some (call_on z (option_map call.TakeOrder (order_of k)))
+row_of_profile_2 Give z (Number f ∷ Number k ∷ []) = Some (call_on z (give_order_call (frame_of f) (order_of k)))
+row_of_profile_2 Mark z (Number b ∷ []) = Some (call_on z (option_map call.Mark (pageblock_of b)))
+row_of_profile_2 Unmark z (Number b ∷ []) = Some (call_on z (option_map call.Unmark (pageblock_of b)))
+row_of_profile_2 Pool z (Number n ∷ Number k ∷ []) = Some (pooling z (blocks_of n) (option_map OfOrder (order_of k)))
+row_of_profile_2 _ z _ = None
 
 -- the same of any profile
-abbrev pub own_row : Profile → Token → List Token → Option (Option Call)
-own_row Two keyword arguments = row_of_profile_2 keyword arguments
-own_row _ keyword arguments = None
-
--- the call that a profile's own row makes on a zone, if there is one, or else a row of both profiles
-abbrev pub row_or : Option ℕ → Option (Option Call) → Option Command → Option Command
-row_or z (Some call) row = Some (call_on z call)
-row_or z None row = row
+abbrev pub own_row : Profile → Token → Option ℕ → List Token → Option Command
+own_row Two keyword z arguments = row_of_profile_2 keyword z arguments
+own_row _ keyword z arguments = None
 
 -- a profile's own rows come first
 abbrev pub row_in : Profile → Token → Option ℕ → List Token → Option Command
-row_in profile keyword z arguments = row_or z (own_row profile keyword arguments) (row_of keyword z arguments)
+row_in profile keyword z arguments = option_or (own_row profile keyword z arguments) (row_of keyword z arguments)
 
 -- the command that tokens are, if they are one
 abbrev pub command_of : Profile → List Token → Option Command

@@ -1,11 +1,15 @@
 -- The line of a reply.
-use Rattle.std.specs.Prelude.{◌≡◌, ℕ, Bool, ◌==◌, List, [], ◌∷◌, ◌++◌, codes, decimal, count_by, nat_eq, if◌then◌else◌}
+use Rattle.std.specs.Prelude.{◌≡◌, ℕ, Bool, ◌==◌, List, [], ◌∷◌, ◌++◌, length, flat_map, codes, decimal, count_by, nat_eq, if◌then◌else◌}
 use Rattle.std.specs.Int.RustNames.{bit_and}
 use Rattle.frame_core.specs.declared.flags.PageFlags.{PageFlags}
 use Rattle.state_core.specs.declared.information.Look.{Look}
 use Rattle.state_core.specs.declared.information.Look.TheVariants.{At, Moving}
 use Rattle.frame_core.specs.PageFlags.{is_unmovable}
 use Rattle.state_core.specs.declared.information.Info.{Info}
+use Rattle.text_core.specs.declared.pool.PoolBlocks.{PoolBlocks}
+use Rattle.text_core.specs.declared.pool.PoolBlocks.TheVariants.{Pageblocks, OfOrder}
+use Rattle.text_core.specs.declared.pool.PoolStopped.{PoolStopped}
+use Rattle.text_core.specs.declared.pool.PoolStopped.TheVariants as pool
 use Rattle.text_core.specs.declared.reply.Reply.{Reply}
 use Rattle.text_core.specs.declared.reply.Reply.TheVariants as reply
 use Rattle.text_core.specs.declared.reply.Stopped.{Stopped}
@@ -49,6 +53,34 @@ abbrev pub round_text : ℕ → ℕ → ℕ → Stopped → List ℕ
 round_text isolated moved back why =
     codes "isolated=" ++ decimal isolated ++ codes " moved=" ++ decimal moved ++ codes " back=" ++ decimal back ++ stopped_text why
 
+-- why a pool stopped
+abbrev pub pool_stopped_text : PoolStopped → List ℕ
+pool_stopped_text pool.Enough = codes " stopped=enough"
+pool_stopped_text pool.NoBlock = codes " stopped=noblock"
+pool_stopped_text pool.Rounds = codes " stopped=rounds"
+pool_stopped_text pool.JournalFull = codes " stopped=journalfull"
+pool_stopped_text (pool.Refused k) = codes " stopped=" ++ decimal k
+
+-- what the numbers of its blocks are: those of pageblocks, or first frames
+abbrev pub pool_name : PoolBlocks → List ℕ
+pool_name Pageblocks = codes " blocks="
+pool_name (OfOrder order) = codes " frames="
+
+-- numbers, each behind a comma
+abbrev pub behind_commas : List ℕ → List ℕ
+behind_commas numbers = flat_map (λ n. codes "," ++ decimal n) numbers
+
+-- numbers with commas between them, or a dash where there is none
+abbrev pub numbers_text : List ℕ → List ℕ
+numbers_text [] = codes "-"
+numbers_text (first ∷ more) = decimal first ++ behind_commas more
+
+-- how many blocks a pool got, its rounds, why it stopped, and its blocks in the order that it got them, without a newline
+abbrev pub pool_text : PoolBlocks → List ℕ → ℕ → PoolStopped → List ℕ
+pool_text blocks got rounds why =
+    codes "got=" ++ decimal (length got) ++ codes " rounds=" ++ decimal rounds ++ pool_stopped_text why
+    ++ pool_name blocks ++ numbers_text got
+
 -- the line of a reply, with its newline; cause 1 is that the page has a pin
 abbrev pub text_of : Reply → List ℕ
 text_of reply.Done = codes "ok\n"
@@ -66,6 +98,7 @@ text_of (reply.HandedOut f k) = codes "frame=" ++ decimal f ++ codes " order=" +
 text_of (reply.AllDone m) = codes "done=" ++ decimal m ++ codes "\n"
 text_of (reply.DoneUntil m k) = codes "done=" ++ decimal m ++ codes " refused=" ++ decimal k ++ codes "\n"
 text_of (reply.Round i m b s) = round_text i m b s ++ codes "\n"
+text_of (reply.Pool blocks got rounds s) = pool_text blocks got.items rounds s ++ codes "\n"
 text_of (reply.Refused k) = codes "refused " ++ decimal k ++ codes "\n"
 
 -- one newline, and it stands at the end

@@ -1,16 +1,31 @@
 use crate::blocks::BlockCount;
 use crate::pages::PageCount;
+use crate::pool::PoolBlocks;
 use frame_core::{Address, BlockNo, FrameNo, HandNo, Order, SpaceNo, WordNo, ZoneNo};
 
 /// A command.
 #[derive(Clone, Copy, Debug, PartialEq, Eq)]
 pub enum Command {
     /// Opens a zone with so many pageblocks.
-    Open { zone: ZoneNo, blocks: BlockCount },
+    Open {
+        zone: ZoneNo,
+        blocks: BlockCount,
+    },
     /// Calls on the zone with this number.
-    On { zone: ZoneNo, calls: Calls },
+    On {
+        zone: ZoneNo,
+        calls: Calls,
+    },
     /// A round over the zone with this number.
-    Compact { zone: ZoneNo },
+    Compact {
+        zone: ZoneNo,
+    },
+    /// Reserves so many blocks of the zone with this number, with rounds as they are needed.
+    Pool {
+        zone: ZoneNo,
+        count: BlockCount,
+        blocks: PoolBlocks,
+    },
     /// The script is read by profile 2.
     Profile2,
     /// An argument is out of its range.

@@ -2,12 +2,13 @@
 
 ghost use Rattle.std.specs.Prelude.{◌≡◌};
 ghost use Rattle.text_core.specs.Token.{tokens};
-ghost use Rattle.text_core.specs.Grammar.{address_of, blocks_of, command_of, compacting, frame_of, give_order_call, order_of, row_in, row_of_profile_2, own_row, hand_of, load_call, map_at_call, map_call, call_on, calls_on, opening, page_count_of, pageblock_of, row_of, series_of, series_on, share_call, space_of, store_call, word_of, zone_of};
+ghost use Rattle.text_core.specs.Grammar.{address_of, blocks_of, command_of, compacting, frame_of, give_order_call, order_of, row_in, row_of_profile_2, own_row, hand_of, load_call, map_at_call, map_call, call_on, calls_on, opening, page_count_of, pageblock_of, pooling, row_of, series_of, series_on, share_call, space_of, store_call, word_of, zone_of};
 
 use crate::arguments::{four, one, three, three_and_flag, two, two_and_flag};
 use crate::blocks::BlockCount;
 use crate::command::{Call, Calls, Command, Repeated, Series};
 use crate::pages::PageCount;
+use crate::pool::PoolBlocks;
 use crate::profile::Profile;
 use crate::token::{Token, first_number, first_token, is_end};
 use frame_core::{Address, BlockNo, FrameNo, HandNo, Order, SpaceNo, VPage, WordNo, ZoneNo};
@@ -18,48 +19,47 @@ pub(crate) fn command(profile: Profile, text: &[u8]) -> Option<Command>
 {
     let (keyword, behind) = first_token(text)?;
     let (number, arguments) = first_number(behind)?;
-    row_in(profile, keyword, zone(number), arguments)
+    row_in(profile, keyword, number, arguments)
 }
 
-/// What a keyword, a zone and the arguments behind it make, if there is such a row in a profile.
-fn row_in(
-    profile: Profile,
-    keyword: Token,
-    zone: Option<ZoneNo>,
-    arguments: &[u8],
-) -> Option<Command>
-    ensures { result ≡ row_in profile keyword zone (tokens arguments.now) }
+/// What a keyword, the number of a zone and the arguments behind it make, if there is such a row in a profile.
+fn row_in(profile: Profile, keyword: Token, number: u64, arguments: &[u8]) -> Option<Command>
+    ensures { result ≡ row_in profile keyword (zone_of number) (tokens arguments.now) }
 {
-    match own_row(profile, keyword, arguments) {
-        Some(call) => Some(on(zone, call)),
-        None => row(keyword, zone, arguments),
+    match own_row(profile, keyword, number, arguments) {
+        Some(command) => Some(command),
+        None => row(keyword, zone(number), arguments),
     }
 }
 
-/// The call on a zone that a keyword and the arguments make by a row that a profile has besides, if there is one.
-fn own_row(profile: Profile, keyword: Token, arguments: &[u8]) -> Option<Option<Call>>
-    ensures { result ≡ own_row profile keyword (tokens arguments.now) }
+/// The command by a row that a profile has besides, if there is one.
+fn own_row(profile: Profile, keyword: Token, number: u64, arguments: &[u8]) -> Option<Command>
+    ensures { result ≡ own_row profile keyword (zone_of number) (tokens arguments.now) }
 {
     match profile {
-        Profile::Two => row_of_profile_2(keyword, arguments),
+        Profile::Two => row_of_profile_2(keyword, zone(number), arguments),
         Profile::Untold | Profile::One => None,
     }
 }
 
-/// The call on a zone by the rows that profile 2 has besides.
-fn row_of_profile_2(keyword: Token, arguments: &[u8]) -> Option<Option<Call>>
-    ensures { result ≡ row_of_profile_2 keyword (tokens arguments.now) }
+/// The command by the rows that profile 2 has besides.
+fn row_of_profile_2(keyword: Token, zone: Option<ZoneNo>, arguments: &[u8]) -> Option<Command>
+    ensures { result ≡ row_of_profile_2 keyword zone (tokens arguments.now) }
 {
-    use Token::{Give, Huge, Info, Mark, Unmark};
+    use Token::{Give, Huge, Info, Mark, Pool, Unmark};
     match keyword {
-        Info if is_end(arguments) => Some(Some(Call::InfoWithHeld)),
-        Huge => Some(order(one(arguments)?).map(Call::TakeOrder)),
+        Info if is_end(arguments) => Some(on(zone, Some(Call::InfoWithHeld))),
+        Huge => Some(on(zone, order(one(arguments)?).map(Call::TakeOrder))),
         Give => {
             let (f, k) = two(arguments)?;
-            Some(give_order(frame(f), order(k)))
+            Some(on(zone, give_order(frame(f), order(k))))
         }
-        Mark => Some(pageblock(one(arguments)?).map(Call::Mark)),
-        Unmark => Some(pageblock(one(arguments)?).map(Call::Unmark)),
+        Mark => Some(on(zone, pageblock(one(arguments)?).map(Call::Mark))),
+        Unmark => Some(on(zone, pageblock(one(arguments)?).map(Call::Unmark))),
+        Pool => {
+            let (n, k) = two(arguments)?;
+            Some(pool(zone, blocks(n), order(k).map(PoolBlocks::OfOrder)))
+        }
         _ => None,
     }
 }
@@ -69,8 +69,8 @@ fn row(keyword: Token, zone: Option<ZoneNo>, arguments: &[u8]) -> Option<Command
     ensures { result ≡ row_of keyword zone (tokens arguments.now) }
 {
     use Token::{
-        Compact, Copy, Fill, Finish, Give, Huge, Info, Load, Look, Map, MapAt, Pin, Scan, Share,
-        Shut, Store, Take, Thin, Unmap, Unpin, Zone,
+        Compact, Copy, Fill, Finish, Give, Huge, Info, Load, Look, Map, MapAt, Pin, Pool, Scan,
+        Share, Shut, Store, Take, Thin, Unmap, Unpin, Zone,
     };
     match keyword {
         Zone => Some(open(zone, blocks(one(arguments)?))),
@@ -94,6 +94,7 @@ fn row(keyword: Token, zone: Option<ZoneNo>, arguments: &[u8]) -> Option<Command
         Fill => fill_row(zone, arguments),
         Thin => thin_row(zone, arguments),
         Compact if is_end(arguments) => Some(compact(zone)),
+        Pool => Some(pool(zone, blocks(one(arguments)?), Some(PoolBlocks::Pageblocks))),
         _ => None,
     }
 }
@@ -207,6 +208,20 @@ fn compact(zone: Option<ZoneNo>) -> Command
     match zone {
         Some(zone) => Command::Compact { zone },
         None => Command::OutOfRange,
+    }
+}
+
+/// A pool of so many blocks of a zone, where the zone and each argument is in its range.
+fn pool(zone: Option<ZoneNo>, count: Option<BlockCount>, blocks: Option<PoolBlocks>) -> Command
+    ensures { result ≡ pooling zone count blocks }
+{
+    match (zone, count, blocks) {
+        (Some(zone), Some(count), Some(blocks)) => Command::Pool {
+            zone,
+            count,
+            blocks,
+        },
+        _ => Command::OutOfRange,
     }
 }
 

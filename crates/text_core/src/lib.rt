@@ -11,6 +11,7 @@ mod error;
 mod grammar;
 mod line;
 mod pages;
+mod pool;
 mod profile;
 mod reply;
 #[cfg(test)]
@@ -22,5 +23,6 @@ pub use command::{Call, Calls, Command, Repeated, Series};
 pub use error::ScriptError;
 pub use line::read_line;
 pub use pages::PageCount;
+pub use pool::{PoolBlocks, PoolStopped};
 pub use profile::Profile;
 pub use reply::{Reply, Stopped, push_reply, reply_text};

@@ -1,7 +1,8 @@
-ghost use Rattle.std.specs.Prelude.{◌≡◌, ◌+◌, ◌≤◌, ◌++◌, length, decimal};
+ghost use Rattle.std.specs.Prelude.{◌≡◌, ◌+◌, ◌*◌, ◌≤◌, ◌++◌, length, decimal};
 ghost use Rattle.arrayvec.specs.ArrayVec.{array_vec_len};
-ghost use Rattle.text_core.specs.Reply.{IsOneLine, counts_text, look_text, newlines, round_text, text_of, uses_text};
+ghost use Rattle.text_core.specs.Reply.{IsOneLine, behind_commas, counts_text, look_text, newlines, numbers_text, pool_name, pool_stopped_text, pool_text, round_text, text_of, uses_text};
 
+use crate::pool::{PoolBlocks, PoolStopped};
 use arrayvec::ArrayVec;
 use bitflags::Flags;
 use frame_core::{BlockNo, FrameNo, Order, PageFlags, Serial};
@@ -9,7 +10,7 @@ use itoa::Buffer;
 use state_core::{Info, Look};
 
 /// The answer to a command.
-#[derive(Clone, Copy, Debug, PartialEq, Eq)]
+#[derive(Debug, Drop, PartialEq, Eq)]
 pub enum Reply {
     Done,
     /// The value of a word.
@@ -48,6 +49,13 @@ pub enum Reply {
         moved: u32,
         back: u32,
         stopped: Stopped,
+    },
+    /// A pool: the numbers that tell its blocks, in the order that it got them, its rounds, and why it stopped.
+    Pool {
+        blocks: PoolBlocks,
+        got: ArrayVec<u16, 8>,
+        rounds: u32,
+        stopped: PoolStopped,
     },
     /// The number of a refusal.
     Refused(u16),
@@ -110,6 +118,12 @@ pub fn push_reply<const N: usize>(text: &mut ArrayVec<u8, N>, reply: &Reply)
             back,
             stopped,
         } => push_round(text, *isolated, *moved, *back, *stopped),
+        Reply::Pool {
+            blocks,
+            got,
+            rounds,
+            stopped,
+        } => push_pool(text, *blocks, got.as_slice(), *rounds, *stopped),
         Reply::Refused(number) => push_field(text, b"refused ", u64::from(*number)),
     }
     push(text, b"\n");
@@ -194,6 +208,95 @@ fn push_round<const N: usize>(
         Stopped::Met => push_word(text, b" stopped=met"),
         Stopped::JournalFull => push_word(text, b" stopped=journalfull"),
     }
+}
+
+/// Appends what a pool got.
+fn push_pool<const N: usize>(
+    text: &mut ArrayVec<u8, N>,
+    blocks: PoolBlocks,
+    got: &[u16],
+    rounds: u32,
+    stopped: PoolStopped,
+)
+    requires few { length got.now ≤ 8 }
+    requires room { array_vec_len text.old + 137 ≤ N }
+    ensures text { text.new.items ≡ text.old.items ++ pool_text blocks got.now rounds stopped }
+    ensures lines { newlines text.new.items ≡ newlines text.old.items }
+    ensures len { array_vec_len text.new ≤ array_vec_len text.old + 137 }
+{
+    push_field(text, b"got=", got.len() as u64);
+    push_field(text, b" rounds=", u64::from(rounds));
+    push_pool_stopped(text, stopped);
+    push_pool_name(text, blocks);
+    push_numbers(text, got);
+}
+
+/// Appends why a pool stopped.
+fn push_pool_stopped<const N: usize>(text: &mut ArrayVec<u8, N>, stopped: PoolStopped)
+    requires { array_vec_len text.old + 29 ≤ N }
+    ensures text { text.new.items ≡ text.old.items ++ pool_stopped_text stopped }
+    ensures lines { newlines text.new.items ≡ newlines text.old.items }
+    ensures len { array_vec_len text.new ≤ array_vec_len text.old + 29 }
+{
+    match stopped {
+        PoolStopped::Enough => push_word(text, b" stopped=enough"),
+        PoolStopped::NoBlock => push_word(text, b" stopped=noblock"),
+        PoolStopped::Rounds => push_word(text, b" stopped=rounds"),
+        PoolStopped::JournalFull => push_word(text, b" stopped=journalfull"),
+        PoolStopped::Refused(number) => push_field(text, b" stopped=", u64::from(number)),
+    }
+}
+
+/// Appends what the numbers of a pool's blocks are.
+fn push_pool_name<const N: usize>(text: &mut ArrayVec<u8, N>, blocks: PoolBlocks)
+    requires { array_vec_len text.old + 8 ≤ N }
+    ensures text { text.new.items ≡ text.old.items ++ pool_name blocks }
+    ensures lines { newlines text.new.items ≡ newlines text.old.items }
+    ensures len { array_vec_len text.new ≡ array_vec_len text.old + 8 }
+{
+    match blocks {
+        PoolBlocks::Pageblocks => push_word(text, b" blocks="),
+        PoolBlocks::OfOrder(_) => push_word(text, b" frames="),
+    }
+}
+
+/// Appends numbers with commas between them, or a dash where there is none.
+fn push_numbers<const N: usize>(text: &mut ArrayVec<u8, N>, numbers: &[u16])
+    requires few { length numbers.now ≤ 8 }
+    requires room { array_vec_len text.old + 48 ≤ N }
+    ensures text { text.new.items ≡ text.old.items ++ numbers_text numbers.now }
+    ensures lines { newlines text.new.items ≡ newlines text.old.items }
+    ensures len { array_vec_len text.new ≤ array_vec_len text.old + 48 }
+{
+    let [first, more @ ..] = numbers else {
+        push_word(text, b"-");
+        return;
+    };
+    push_short(text, *first);
+    push_behind_commas(text, more);
+}
+
+/// Appends numbers, each behind a comma.
+fn push_behind_commas<const N: usize>(text: &mut ArrayVec<u8, N>, numbers: &[u16])
+    requires { array_vec_len text.old + 6 * length numbers.now ≤ N }
+    ensures text { text.new.items ≡ text.old.items ++ behind_commas numbers.now }
+    ensures lines { newlines text.new.items ≡ newlines text.old.items }
+    ensures len { array_vec_len text.new ≤ array_vec_len text.old + 6 * length numbers.now }
+{
+    for number in numbers {
+        push_word(text, b",");
+        push_short(text, *number);
+    }
+}
+
+/// Appends a number of at most five digits.
+fn push_short<const N: usize>(text: &mut ArrayVec<u8, N>, number: u16)
+    requires { array_vec_len text.old + 5 ≤ N }
+    ensures text { text.new.items ≡ text.old.items ++ decimal number }
+    ensures lines { newlines text.new.items ≡ newlines text.old.items }
+    ensures len { array_vec_len text.new ≤ array_vec_len text.old + 5 }
+{
+    push(text, Buffer::new().format(number).as_bytes());
 }
 
 /// Appends a name and a number.

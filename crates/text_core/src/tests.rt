@@ -1,7 +1,8 @@
 use crate::{
-    BlockCount, Call, Calls, Command, PageCount, Profile, Repeated, Reply, ScriptError, Series,
-    Stopped, read_line, reply_text,
+    BlockCount, Call, Calls, Command, PageCount, PoolBlocks, PoolStopped, Profile, Repeated, Reply,
+    ScriptError, Series, Stopped, read_line, reply_text,
 };
+use arrayvec::ArrayVec;
 use frame_core::{
     Address, BlockNo, FrameNo, HandNo, Order, PageFlags, SpaceNo, VPage, WordNo, ZoneNo,
 };
@@ -194,7 +195,10 @@ fn reads_the_calls_of_profile_2(rt: HostRuntime) {
             }))
         );
     }
-    let wrong: [&[u8]; 6] = [
+    let wrong: [&[u8]; 9] = [
+        b"pool 0 9 3",
+        b"pool 0 1 2",
+        b"pool 0 1 10",
         b"huge 0 2",
         b"huge 0 10",
         b"give 0 4096 3",
@@ -208,11 +212,39 @@ fn reads_the_calls_of_profile_2(rt: HostRuntime) {
             Ok(Some(Command::OutOfRange))
         );
     }
-    let absent: [&[u8]; 4] = [b"huge 0 3", b"give 0 0 3", b"mark 0 0", b"unmark 0 0"];
+    let absent: [&[u8]; 5] = [
+        b"huge 0 3",
+        b"give 0 0 3",
+        b"mark 0 0",
+        b"unmark 0 0",
+        b"pool 0 1 3",
+    ];
     for line in absent {
         for profile in [Profile::Untold, Profile::One] {
             assert_eq!(rt; read_line(profile, line), Err(ScriptError::Syntax));
         }
+    }
+}
+
+#[test]
+fn reads_pools(rt: HostRuntime) {
+    let zone = ZoneNo::new(3).unwrap();
+    let count = BlockCount::new(8).unwrap();
+    let of_order = PoolBlocks::OfOrder(Order::new(9).unwrap());
+    let rows: [(Profile, &[u8], PoolBlocks); 3] = [
+        (Profile::One, b"pool 3 8", PoolBlocks::Pageblocks),
+        (Profile::Two, b"pool 3 8", PoolBlocks::Pageblocks),
+        (Profile::Two, b"pool 3 8 9", of_order),
+    ];
+    for (profile, line, blocks) in rows {
+        assert_eq!(rt;
+            read_line(profile, line),
+            Ok(Some(Command::Pool {
+                zone,
+                count,
+                blocks
+            }))
+        );
     }
 }
 
@@ -244,7 +276,7 @@ fn is_told_its_profile_once(rt: HostRuntime) {
 fn reads_lines(rt: HostRuntime) {
     let zone = ZoneNo::new(3).unwrap();
     let blocks = BlockCount::new(8).unwrap();
-    let rows: [(&str, &[u8], Result<Option<Command>, ScriptError>); 16] = [
+    let rows: [(&str, &[u8], Result<Option<Command>, ScriptError>); 17] = [
         ("nothing", b"", Ok(None)),
         ("spaces", b"   ", Ok(None)),
         ("a comment", b"  #zone 0 1", Ok(None)),
@@ -267,6 +299,11 @@ fn reads_lines(rt: HostRuntime) {
         (
             "21 digits",
             b"load 0 1 2 000000000000000000007",
+            Err(ScriptError::Syntax),
+        ),
+        (
+            "a pool without a number",
+            b"pool 3",
             Err(ScriptError::Syntax),
         ),
         ("no hand", b"take 3", Err(ScriptError::Syntax)),
@@ -297,7 +334,7 @@ fn reads_lines(rt: HostRuntime) {
 
 #[test]
 fn tests_each_range(rt: HostRuntime) {
-    let lines: [&[u8]; 31] = [
+    let lines: [&[u8]; 34] = [
         b"zone 4 1",
         b"zone 0 0",
         b"zone 0 9",
@@ -329,6 +366,9 @@ fn tests_each_range(rt: HostRuntime) {
         b"thin 0 8 0 1 1",
         b"thin 0 0 0 4097 1",
         b"compact 4",
+        b"pool 4 1",
+        b"pool 0 0",
+        b"pool 0 9",
     ];
     for line in lines {
         assert_eq!(rt;
@@ -349,6 +389,62 @@ fn reads_no_more_than_200_bytes(rt: HostRuntime) {
         read_line(Profile::One, &[b' '; 201]),
         Err(ScriptError::LongLine)
     );
+}
+
+/// The reply to a pool.
+fn pooled(blocks: PoolBlocks, got: &[u16], rounds: u32, stopped: PoolStopped) -> Reply {
+    let mut numbers = ArrayVec::new();
+    let _ = numbers.try_extend_from_slice(got);
+    Reply::Pool {
+        blocks,
+        got: numbers,
+        rounds,
+        stopped,
+    }
+}
+
+/// The blocks of order 3.
+fn of_order_3() -> PoolBlocks {
+    PoolBlocks::OfOrder(Order::new(3).unwrap())
+}
+
+#[test]
+fn prints_pools(rt: HostRuntime) {
+    let eight = [3584, 3592, 3600, 3608, 4000, 4008, 4016, 4088];
+    let rows: [(Reply, &[u8]); 6] = [
+        (
+            pooled(PoolBlocks::Pageblocks, &[0], 2, PoolStopped::NoBlock),
+            b"got=1 rounds=2 stopped=noblock blocks=0\n",
+        ),
+        (
+            pooled(PoolBlocks::Pageblocks, &[7, 0], 0, PoolStopped::Enough),
+            b"got=2 rounds=0 stopped=enough blocks=7,0\n",
+        ),
+        (
+            pooled(PoolBlocks::Pageblocks, &[], 0, PoolStopped::Refused(32)),
+            b"got=0 rounds=0 stopped=32 blocks=-\n",
+        ),
+        (
+            pooled(of_order_3(), &[], 4, PoolStopped::Rounds),
+            b"got=0 rounds=4 stopped=rounds frames=-\n",
+        ),
+        (
+            pooled(of_order_3(), &eight, 4, PoolStopped::JournalFull),
+            b"got=8 rounds=4 stopped=journalfull frames=3584,3592,3600,3608,4000,4008,4016,4088\n",
+        ),
+        (
+            pooled(
+                of_order_3(),
+                &[65535; 8],
+                4294967295,
+                PoolStopped::Refused(65535),
+            ),
+            b"got=8 rounds=4294967295 stopped=65535 frames=65535,65535,65535,65535,65535,65535,65535,65535\n",
+        ),
+    ];
+    for (reply, expected) in rows {
+        assert_eq!(rt; reply_text(&reply).as_slice(), expected);
+    }
 }
 
 #[test]

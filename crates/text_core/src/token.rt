@@ -33,6 +33,7 @@ pub(crate) enum Token {
     Mark,
     Unmark,
     Compact,
+    Pool,
     /// Anything else.
     #[default]
     Other,
@@ -79,6 +80,7 @@ fn keyword(bytes: &[u8]) -> Token
         b"mark" => Token::Mark,
         b"unmark" => Token::Unmark,
         b"compact" => Token::Compact,
+        b"pool" => Token::Pool,
         _ => Token::Other,
     }
 }

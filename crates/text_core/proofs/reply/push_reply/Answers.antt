@@ -1,11 +1,11 @@
 use Rattle.std.proofs.Common.{◌≡◌, ◌∙◌, ◌≤◌, ◌++◌, ◌∷◌, [], List, ℕ, length, length-append, append_assoc, append-nil, refl, subst, sym, ap, decimal, arith}
 use Rattle.std.proofs.lemmas.Grind.{common_steps}
 use Rattle.std.specs.Prelude.{codes}
-use Rattle.text_core.specs.Reply.{IsOneLine, counts_text, newlines, round_text, text_of}
+use Rattle.text_core.specs.Reply.{IsOneLine, counts_text, newlines, pool_text, round_text, text_of}
 use Rattle.text_core.specs.declared.reply.Reply.{Reply}
 use Rattle.text_core.proofs.Newlines.{newlines-append, one_line_behind, text_of-some}
 use Rattle.text_core.proofs.reply.push_reply.Goals as goal
-use Rattle.text_core.proofs.reply.push_reply.Goals.{in-Value, in-Info, in-InfoWithHeld, in-Serial, in-Met, in-Moved, in-PutBack, in-Shut, in-Looked, in-Block, in-HandedOut, in-AllDone, in-DoneUntil, in-Round, in-Refused}
+use Rattle.text_core.proofs.reply.push_reply.Goals.{in-Value, in-Info, in-InfoWithHeld, in-Serial, in-Met, in-Moved, in-PutBack, in-Shut, in-Looked, in-Block, in-HandedOut, in-AllDone, in-DoneUntil, in-Round, in-Pool, in-Refused}
 
 -- a field more of what is appended
 field_more : (old text before after name : List ℕ) (n m : ℕ) → before ≡ old ++ text → after ≡ before ++ name ++ decimal n → n ≡ m → after ≡ old ++ (text ++ name ++ decimal m)
@@ -65,6 +65,10 @@ returns-clause-text g c =
       | in-Round w ↦
           let told : List ℕ = round_text w.in-Round.isolated w.in-Round.moved w.in-Round.back w.in-Round.stopped in
           all ∙ ap (λ t. t.items ++ codes "\n") w.text-is ∙ ap (λ (r : List ℕ). r ++ codes "\n") w.push_round.ensures.text ∙ append_assoc old told (codes "\n") ∙ ap (λ r. old ++ text_of r) (sym w.in-Round.is)
+      | in-Pool w ↦
+          let told : List ℕ = pool_text w.in-Pool.blocks w.in-Pool.got.items w.in-Pool.rounds w.in-Pool.stopped in
+          all ∙ ap (λ t. t.items ++ codes "\n") w.text-is ∙ ap (λ (r : List ℕ). r ++ codes "\n") (w.push_pool.ensures.text ∙ ap (λ (got : List ℕ). old ++ pool_text w.in-Pool.blocks got w.in-Pool.rounds w.in-Pool.stopped) w.as_slice.ensures.value)
+          ∙ append_assoc old told (codes "\n") ∙ ap (λ r. old ++ text_of r) (sym w.in-Pool.is)
       | in-Refused w ↦ let t0 = w.push_field-in-Refused.ensures.text in let is = w.text-is in grind (arith, common_steps, all, is, t0)
     ]
 
@@ -90,6 +94,7 @@ returns-clause-line g c =
       | in-AllDone w ↦ omega (arith, w.push_field-in-AllDone.ensures.lines, ap (λ t. newlines t.items) w.text-is)
       | in-DoneUntil w ↦ omega (arith, w.push_field-in-DoneUntil.ensures.lines, w.push_field-in-DoneUntil-2.ensures.lines, ap (λ t. newlines t.items) w.text-is)
       | in-Round w ↦ omega (arith, w.push_round.ensures.lines, ap (λ t. newlines t.items) w.text-is)
+      | in-Pool w ↦ omega (arith, w.push_pool.ensures.lines, ap (λ t. newlines t.items) w.text-is)
       | in-Refused w ↦ omega (arith, w.push_field-in-Refused.ensures.lines, ap (λ t. newlines t.items) w.text-is)
     ] in
     one_line_behind old mid text all same longer

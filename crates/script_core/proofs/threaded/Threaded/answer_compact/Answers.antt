@@ -1,15 +1,15 @@
 use Rattle.std.proofs.Common.{ap, sym, ◌∙◌}
 use Rattle.text_core.specs.declared.command.Command.TheVariants.{Compact}
 use Rattle.script_core.specs.Serial.{Serial}
-use Rattle.script_core.specs.Threaded.{Threaded, runs_round}
-use Rattle.script_core.proofs.Rounds.{round_step}
+use Rattle.script_core.specs.Threaded.{Threaded}
+use Rattle.script_core.proofs.Rounds.{threaded_step}
 use Rattle.script_core.proofs.threaded.Threaded.answer_compact.Goals as goal
 
 pub returns : goal.returns
 returns g c =
     let given = c.in-Some.ensures.given in
-    round_step c.args.self.now (Compact c.args.zone) c.run_round.result c.run_round.new.self c.in-Some.world _
+    threaded_step c.args.self.now (Compact c.args.zone) c.run_round.result c.run_round.new.self c.in-Some.world _
     (ap (λ (t : Threaded). t.serial.world) (sym c.self.view_is) ∙ given.0)
-    (ap (λ (t : Threaded). runs_round (Compact c.args.zone) t.serial.world) (sym c.self.view_is) ∙ given.1)
+    given.1
     (ap (λ (s : Serial). s.places) c.in-Some.ensures.left ∙ ap (λ (t : Threaded). t.serial.places) c.self.view_is)
     c.run_round.ensures

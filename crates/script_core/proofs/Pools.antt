@@ -1,0 +1,121 @@
+-- Pools: on one thread, and over the zone and the seats that a world was split into.
+use Rattle.std.proofs.Common.{◌≡◌, ◌∙◌, ℕ, suc, ◌+◌, ◌<◌, ◌≤◌, All, List, [], ◌∷◌, ◌++◌, length, drop, get_or, refl, sym, ap, subst, add-one, append_assoc, drop-cons, arith, Option, Some, None, Result, Ok, Err}
+use Rattle.std.specs.Prelude.{◌↔◌, unwrap_or}
+use Rattle.state_core.specs.declared.error.ZoneError.{ZoneError}
+use Rattle.state_core.specs.HandingOut.{block_taken, lowest_run, take_order_refusal}
+use Rattle.state_core.specs.ZoneState.{ZoneState}
+use Rattle.zone_core.specs.Seats.{ScanSeat, EndSeat, audit_refusal}
+use Rattle.zone_core.specs.Shape.{HasShape}
+use Rattle.zone_core.specs.World.{WorldState, with_zone}
+use Rattle.round_core.specs.declared.error.RoundError.{RoundError}
+use Rattle.round_core.specs.declared.round.Round.{Round}
+use Rattle.round_core.specs.Kept.{IsKept}
+use Rattle.round_core.specs.Rounds.{IsRefusedEarly, IsRound, IsWant}
+use Rattle.huge_core.specs.declared.collector.Collector.{Collector}
+use Rattle.huge_core.specs.declared.report.Report.{Report}
+use Rattle.huge_core.specs.declared.report.Stop.{Stop}
+use Rattle.huge_core.specs.declared.report.Stop.TheVariants as stop
+use Rattle.huge_core.specs.Huge.{Huge}
+use Rattle.huge_core.specs.Reserving.{AreLeft, AreRounds, HasRun, IsGot}
+use Rattle.text_core.specs.declared.pool.PoolBlocks.{PoolBlocks}
+use Rattle.text_core.specs.declared.reply.Reply.{Reply}
+use Rattle.text_core.specs.Pool.{pool_order, told_as}
+use Rattle.script_core.specs.Machine.{next_first, pool_from, pooled, says, stopped_by, unless_stopped}
+use Rattle.script_core.specs.Threaded.{IsPoolOn, SettlesAt, Threaded, left_by, pool_reply, told_of}
+use Rattle.script_core.proofs.Rounds.{settles}
+
+-- a block more, where n are left
+module _ (blocks : PoolBlocks) (got : List ℕ) (n : ℕ) (w : WorldState) where
+  abbrev order : ℕ
+  order = pool_order blocks
+
+  pub pool_from-on : (m first : ℕ) (after : WorldState) → n ≡ suc m → take_order_refusal w.zone order ≡ None → lowest_run w.zone order ≡ Some first
+      → after ≡ with_zone w (block_taken w.zone first order) → pool_from blocks got n w ≡ pool_from blocks (got ++ told_as blocks first ∷ []) m after
+  pool_from-on m first after left accepted lowest is =
+      ap (λ (k : ℕ). pool_from blocks got k w) left
+      ∙ ap (λ (o : Option ZoneError). unless_stopped o blocks got w (pool_from blocks (got ++ told_as blocks (next_first w order) ∷ []) m (with_zone w (block_taken w.zone (next_first w order) order)))) accepted
+      ∙ ap (λ (o : Option ℕ). pool_from blocks (got ++ told_as blocks (unwrap_or o 0) ∷ []) m (with_zone w (block_taken w.zone (unwrap_or o 0) order))) lowest
+      ∙ ap (pool_from blocks (got ++ told_as blocks first ∷ []) m) (sym is)
+
+  -- and one that is refused
+  pub pool_from-ends : (m : ℕ) (error : ZoneError) → n ≡ suc m → take_order_refusal w.zone order ≡ Some error
+      → pool_from blocks got n w ≡ says (pooled blocks got (stopped_by error)) w
+  pool_from-ends m error left refused =
+      ap (λ (k : ℕ). pool_from blocks got k w) left
+      ∙ ap (λ (o : Option ZoneError). unless_stopped o blocks got w (pool_from blocks (got ++ told_as blocks (next_first w order) ∷ []) m (with_zone w (block_taken w.zone (next_first w order) order)))) refused
+
+-- the block at an index, and those behind it
+pub told_at : (blocks : PoolBlocks) (xs : List (Option Huge)) (i : ℕ) (x : Option Huge) → i < length xs → x ≡ get_or xs i x
+    → told_of blocks (drop i xs) ≡ told_of blocks (x ∷ drop (i + 1) xs)
+told_at blocks xs i x within is =
+    let ahead : drop i xs ≡ get_or xs i x ∷ drop (i + 1) xs = rw (add-one, drop-cons xs i x) refl in
+    ap (told_of blocks) ahead ∙ ap (λ (y : Option Huge). told_of blocks (y ∷ drop (i + 1) xs)) (sym is)
+
+-- the blocks so far, and one more that is there
+pub told_more : (blocks : PoolBlocks) (told told_new : List ℕ) (block : Huge) (rest : List (Option Huge)) → told_new ≡ told ++ told_as blocks block.frame ∷ []
+    → told_new ++ told_of blocks rest ≡ told ++ told_of blocks (Some block ∷ rest)
+told_more blocks told told_new block rest is =
+    ap (λ (list : List ℕ). list ++ told_of blocks rest) is ∙ append_assoc told (told_as blocks block.frame ∷ []) (told_of blocks rest)
+
+-- the end seat behind rounds is whole, where it was before them
+whole_behind : (rounds : List Round) (scan scan_new : ScanSeat) (ends ends_new : EndSeat) → ends.parts ≡ 64 → AreRounds rounds scan scan_new ends ends_new → ends_new.parts ≡ 64
+whole_behind [] scan scan_new ends ends_new whole ran = ap (λ (e : EndSeat). e.parts) ran.1 ∙ whole
+whole_behind (latest ∷ earlier) scan scan_new ends ends_new whole ran = ran.3.whole
+
+-- and settled, where there was a round
+settled_behind : (rounds : List Round) (scan scan_new : ScanSeat) (ends ends_new : EndSeat) → 0 < length rounds → AreRounds rounds scan scan_new ends ends_new
+    → (64 ≤ ends_new.parts) × (ends_new.moved + ends_new.back ≡ scan_new.count)
+settled_behind [] scan scan_new ends ends_new some ran = absurd (omega (arith, some))
+settled_behind (latest ∷ earlier) scan scan_new ends ends_new some ran = let parts = ran.3.whole in (omega (arith, parts), ran.3.settled)
+
+module _ (scan_old scan : ScanSeat) (ends_old ends : EndSeat) (refusal : Option ZoneError) (whole : ends_old.parts ≡ 64)
+    (passes : 64 ≤ ends.parts → ends.moved + ends.back ≡ scan.count → refusal ≡ None) where
+  -- where a collector stopped for no refused round
+  kept_on : (c : Collector) (report : Report) (run : HasRun c scan_old scan ends_old ends report) → (scan ≡ run.scan_behind) × (ends ≡ run.ends_behind)
+      → 0 < report.rounds → refusal ≡ None
+  kept_on c report run same some =
+      let count = run.count in
+      let behind = settled_behind run.rounds scan_old run.scan_behind ends_old run.ends_behind (omega (arith, some, count)) run.ran in
+      passes (omega (arith, behind.0, ap (λ (e : EndSeat). e.parts) same.1))
+      (ap (λ (e : EndSeat). e.moved + e.back) same.1 ∙ behind.1 ∙ sym (ap (λ (s : ScanSeat). s.count) same.0))
+
+  pub pool_settles : (c : Collector) (report : Report) → HasRun c scan_old scan ends_old ends report → SettlesAt report.stop report.rounds → refusal ≡ None
+  pool_settles c report run = by_stop report.stop refl where
+    by_stop : (why : Stop) → report.stop ≡ why → SettlesAt why report.rounds → refusal ≡ None
+    by_stop stop.Enough is some = kept_on c report run (subst (λ s. AreLeft s run.scan_behind scan run.ends_behind ends) is run.left) some
+    by_stop stop.NoBlock is some = kept_on c report run (subst (λ s. AreLeft s run.scan_behind scan run.ends_behind ends) is run.left) some
+    by_stop stop.Rounds is some = kept_on c report run (subst (λ s. AreLeft s run.scan_behind scan run.ends_behind ends) is run.left) some
+    by_stop stop.JournalFull is some = kept_on c report run (subst (λ s. AreLeft s run.scan_behind scan run.ends_behind ends) is run.left) some
+    by_stop (stop.Refused error) is want =
+        let early : IsRefusedEarly run.scan_behind scan run.ends_behind ends (Err error) = subst (λ s. AreLeft s run.scan_behind scan run.ends_behind ends) is run.left in
+        settles run.scan_behind scan run.ends_behind ends refusal (whole_behind run.rounds scan_old run.scan_behind ends_old run.ends_behind whole run.ran) passes
+        (Err error) tt early want
+
+-- a pool over the zone and the seats that a world was split into
+pub pool_done : (w : WorldState) (places count : ℕ) (blocks : PoolBlocks) (zone_old zone : ZoneState) (scan_old scan : ScanSeat) (ends_old ends : EndSeat)
+    (collector : Collector) (report : Report) (answer : Reply) (new : Threaded) → zone_old ≡ w.zone → scan_old ≡ w.scan → ends_old ≡ w.ends → ends_old.parts ≡ 64
+    → collector.rounds ≡ 4 → collector.order ≡ pool_order blocks → IsKept zone → HasShape zone_old.number zone_old.blocks zone
+    → All (IsGot collector.order) report.got.items → length report.got.items ≤ count
+    → (report.stop ≡ stop.Enough) ↔ (length report.got.items ≡ count)
+    → HasRun collector scan_old scan ends_old ends report
+    → (64 ≤ ends.parts → ends.moved + ends.back ≡ scan.count → audit_refusal zone ends ≡ None)
+    → answer ≡ pool_reply blocks report → new ≡ left_by places zone scan ends (audit_refusal zone ends) → IsPoolOn count blocks w places answer new
+pool_done w places count blocks zone_old zone scan_old scan ends_old ends collector report answer new same_zone same_scan same_ends whole four order kept shape got most enough ran passes told left =
+    record {
+      zone = zone;
+      kept = kept;
+      shape = (shape.0 ∙ ap (λ (z : ZoneState). z.number) same_zone, shape.1 ∙ ap (λ (z : ZoneState). z.blocks) same_zone);
+      scan = scan;
+      ends = ends;
+      report = report;
+      collector = collector;
+      rounds = four;
+      ran = subst (λ s. HasRun collector s scan w.ends ends report) same_scan (subst (λ e. HasRun collector scan_old scan e ends report) same_ends ran);
+      order = order;
+      got = got;
+      most = most;
+      enough = enough;
+      settled = pool_settles scan_old scan ends_old ends (audit_refusal zone ends) whole passes collector report ran;
+      answer_is = told;
+      left = left;
+    }

@@ -1,0 +1,20 @@
+use Rattle.std.proofs.Common.{◌≡◌, ◌∙◌, ℕ, length, subst, arith}
+use Rattle.std.specs.Prelude.{◌↔◌}
+use Rattle.huge_core.specs.declared.report.Stop.TheVariants as stop
+use Rattle.script_core.proofs.Pools.{pool_done}
+use Rattle.script_core.proofs.threaded.Threaded.run_pool.Goals as goal
+
+pub returns : goal.returns
+returns g c =
+    let seats = c.reserve_alone-zone.new.seats in
+    let report = c.reserve_alone-zone.result.1 in
+    let collector = c.collector-collector in
+    let reserved = c.reserve_alone-zone.ensures in
+    pool_done c.args.world c.args.self.now.serial.places c.args.count c.args.blocks
+    c.in-Ok.zone c.reserve_alone-zone.result.0 c.in-Ok.seats.scan seats.scan c.in-Ok.seats.ends seats.ends
+    collector.result report c.pool_reply.result c.take_back.new.self
+    c.in-Ok.ensures.zone c.in-Ok.ensures.scan c.in-Ok.ensures.ends c.in-Ok.ensures.whole
+    collector.ensures.rounds (collector.ensures.order ∙ c.order.ensures)
+    reserved.kept reserved.shape reserved.got (omega (arith, reserved.most, c.get.ensures.value))
+    (subst (λ (k : ℕ). (report.stop ≡ stop.Enough) ↔ (length report.got.items ≡ k)) c.get.ensures.value reserved.enough)
+    reserved.rounds c.take_back.ensures.exact c.pool_reply.ensures c.take_back.ensures.left

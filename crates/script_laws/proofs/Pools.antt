@@ -1,0 +1,78 @@
+-- A pool on one thread keeps a world orderly, changes no address and no word, and tells no counts and no value.
+use Rattle.std.proofs.Common.{◌≡◌, ℕ, zero, suc, Bool, true, false, List, [], ◌∷◌, ◌++◌, refl, sym, ap, subst, Option, Some, None}
+use Rattle.std.specs.Prelude.{if◌then◌else◌, unwrap_or}
+use Rattle.state_core.specs.declared.error.ZoneError.{ZoneError}
+use Rattle.state_core.specs.HandingOut.{take_order_refusal, block_taken}
+use Rattle.zone_core.specs.World.{IsOrderly, WorldState, with_zone}
+use Rattle.text_core.specs.declared.pool.PoolBlocks.{PoolBlocks}
+use Rattle.text_core.specs.declared.pool.PoolStopped.{PoolStopped}
+use Rattle.text_core.specs.declared.pool.PoolStopped.TheVariants as stopped
+use Rattle.text_core.specs.declared.reply.Reply.{Reply}
+use Rattle.text_core.specs.declared.reply.Reply.TheVariants as reply
+use Rattle.text_core.specs.Pool.{pool_order, told_as}
+use Rattle.text_core.proofs.Ranges.{HasOrder}
+use Rattle.script_core.specs.Machine.{Answered, next_first, pool_from, pool_step, pooled, refused, stopped_by, unless_stopped}
+use Rattle.script_laws.proofs.CallsAccepted.{some_run, take_order_lawful}
+use Rattle.script_laws.proofs.PagesMoved.{LeavesCells, leaves_all, leaves_then}
+use Rattle.script_laws.proofs.Steps.{Keeps, keeps_all, keeps_taken, keeps_then}
+
+module _ (blocks : PoolBlocks) where
+  abbrev order : ℕ
+  order = pool_order blocks
+
+  -- the world behind one block more
+  abbrev taken : WorldState → WorldState
+  taken w = with_zone w (block_taken w.zone (next_first w order) order)
+
+  abbrev more : List ℕ → WorldState → List ℕ
+  more got w = got ++ told_as blocks (next_first w order) ∷ []
+
+  -- what holds of an answer that a refusal ends, and of one that goes on
+  either : (P : Answered → Type 0) (o : Option ZoneError) (got : List ℕ) (w : WorldState) (rest : Answered)
+      → ((error : ZoneError) → P (unless_stopped (Some error) blocks got w rest)) → (o ≡ None → P rest) → P (unless_stopped o blocks got w rest)
+  either P None got w rest ends goes = goes refl
+  either P (Some error) got w rest ends goes = ends error
+
+  keeps_next : HasOrder blocks → (w : WorldState) → IsOrderly w → take_order_refusal w.zone order ≡ None → Keeps w (taken w)
+  keeps_next range w o accepted =
+      let run = some_run w.zone order accepted in
+      let law = take_order_lawful w.zone order run.0 o.lawful range.0 range.1 accepted run.1 in
+      subst (λ (first : ℕ). Keeps w (with_zone w (block_taken w.zone first order))) (sym (ap (λ (p : Option ℕ). unwrap_or p 0) run.1)) (keeps_taken w run.0 order o law)
+
+  keeps_from : HasOrder blocks → (got : List ℕ) (n : ℕ) (w : WorldState) → IsOrderly w → Keeps w (pool_from blocks got n w).world
+  keeps_from range got zero w o = keeps_all w o
+  keeps_from range got (suc n) w o =
+      either (λ a. Keeps w a.world) (take_order_refusal w.zone order) got w (pool_from blocks (more got w) n (taken w)) (λ error. keeps_all w o)
+      (λ accepted. (let next = keeps_next range w o accepted in keeps_then w (taken w) (pool_from blocks (more got w) n (taken w)).world next (keeps_from range (more got w) n (taken w) next.orderly)))
+
+  pub keeps_pool : HasOrder blocks → (w : WorldState) (count : ℕ) → IsOrderly w → Keeps w (pool_step w count blocks).world
+  keeps_pool range w count o = by_open w.is_open where
+    by_open : (b : Bool) → Keeps w (if b then refused 45 w else pool_from blocks [] count w).world
+    by_open true = keeps_all w o
+    by_open false = keeps_from range [] count w o
+
+  leaves_from : (got : List ℕ) (n : ℕ) (w : WorldState) → LeavesCells w.zone (pool_from blocks got n w).world.zone
+  leaves_from got zero w = leaves_all w.zone
+  leaves_from got (suc n) w =
+      either (λ a. LeavesCells w.zone a.world.zone) (take_order_refusal w.zone order) got w (pool_from blocks (more got w) n (taken w)) (λ error. leaves_all w.zone)
+      (λ accepted. leaves_then w.zone (taken w).zone (pool_from blocks (more got w) n (taken w)).world.zone (record { blocks = refl; names = λ a. refl; words = λ page word. refl }) (leaves_from (more got w) n (taken w)))
+
+  pub pool_leaves : (w : WorldState) (count : ℕ) → LeavesCells w.zone (pool_step w count blocks).world.zone
+  pool_leaves w count = by_open w.is_open where
+    by_open : (b : Bool) → LeavesCells w.zone (if b then refused 45 w else pool_from blocks [] count w).world.zone
+    by_open true = leaves_all w.zone
+    by_open false = leaves_from [] count w
+
+  -- the reply is that of a pool, or a refusal
+  from_tells : (tells : Reply → Bool) → ((got : List ℕ) (why : PoolStopped) → tells (pooled blocks got why) ≡ false) → (got : List ℕ) (n : ℕ) (w : WorldState) → tells (pool_from blocks got n w).reply ≡ false
+  from_tells tells none got zero w = none got stopped.Enough
+  from_tells tells none got (suc n) w =
+      either (λ a. tells a.reply ≡ false) (take_order_refusal w.zone order) got w (pool_from blocks (more got w) n (taken w)) (λ error. none got (stopped_by error))
+      (λ accepted. from_tells tells none (more got w) n (taken w))
+
+  pub pool_tells : (tells : Reply → Bool) → ((got : List ℕ) (why : PoolStopped) → tells (pooled blocks got why) ≡ false) → tells (reply.Refused 45) ≡ false
+      → (w : WorldState) (count : ℕ) → tells (pool_step w count blocks).reply ≡ false
+  pool_tells tells none refusal w count = by_open w.is_open where
+    by_open : (b : Bool) → tells (if b then refused 45 w else pool_from blocks [] count w).reply ≡ false
+    by_open true = refusal
+    by_open false = from_tells tells none [] count w
