@@ -59,6 +59,8 @@ class Author:
             self.say("profile 2")
         self.say(f"zone 0 {self.blocks}")
         self.some_pages()
+        if self.draw.random() < 0.1:
+            self.crowded_page()
         for _ in range(COMMANDS):
             self.say(self.command())
         for hand in range(1, 5):
@@ -77,6 +79,14 @@ class Author:
         count = self.draw.choice([0, 5, 100, 512 * self.blocks // 2, 512 * self.blocks])
         self.say(f"fill 0 0 0 {min(count, 4096)}")
         self.say(f"thin 0 0 {self.draw.randrange(3)} {count // 3} {self.draw.randrange(1, 4)}")
+
+    def crowded_page(self):
+        """A page is asked for one more address and one more pin than a page may have."""
+        self.say("map 0 2 0")
+        for address in range(1, machine.MOST_ADDRESSES + 1):
+            self.say(f"share 0 2 0 2 {address}")
+        for _ in range(machine.MOST_PINS + 1):
+            self.say("pin 0 2 0")
 
     def zone(self):
         return self.machine.zone
@@ -237,7 +247,7 @@ def kinds_of(replies):
 
 
 ROUND = "rounds that moved a page"
-WANTED = {f"refused {number}" for number in [*range(1, 8), *range(9, 13), 17, 18, 43, 44, 45]} | {ROUND}
+WANTED = {f"refused {number}" for number in [*range(1, 13), 17, 18, 43, 44, 45]} | {ROUND}
 
 kinds = collections.Counter()
 with concurrent.futures.ProcessPoolExecutor(PROCESSORS, multiprocessing.get_context("fork")) as pool:
