@@ -382,7 +382,8 @@ CALLS = {
     "give Z BLOCK": lambda zone, block: zone.give(block * FRAMES_OF_A_PAGEBLOCK, PAGEBLOCK),
     "info Z": Zone.info,
 }
-CALLS_OF_PROFILE_2 = CALLS | {
+CALLS_OF_PROFILE_2 = {
+    **CALLS,
     "huge Z ORDER": Zone.huge_of_order,
     "give Z F ORDER": Zone.give,
     "mark Z BLOCK": Zone.mark,
@@ -441,7 +442,7 @@ class Machine:
 
     def call(self, form, numbers):
         names = [name for name in form.split() if name.isupper()]
-        for name, number in zip(names, numbers, strict=True):
+        for name, number in zip(names, numbers):
             if not RANGES[name][0] <= number <= RANGES[name][1]:
                 raise Refused(1)
         if form == OPENING:

@@ -218,7 +218,7 @@ def has_frames_of_their_own(author, replies):
 
 
 def first_difference(author, replies):
-    for at, (command, found, right) in enumerate(zip(author.lines, replies, author.replies, strict=True)):
+    for at, (command, found, right) in enumerate(zip(author.lines, replies, author.replies)):
         if found != right:
             return f"`{command}` at line {at + 1} is answered `{found}` and not `{right}`"
     return None
