@@ -3,8 +3,8 @@
 # answers each, gets each refusal, and fills the zone's lists. Its run has to make as many requests for memory as one that only opens
 # the zone, those that are made in vain included. Then each of these requests is refused in turn: the run has to end with the
 # script's own replies, or with fault 48: at line 0 and no reply, or at the line of `zone` behind the reply to the line before. Another
-# script runs a round, and each of its requests is refused in turn: besides, the round may be refused 31 or 32, and the zone is
-# then as before it. Ends with status 1 where it isn't so.
+# script runs two rounds, and each of its requests is refused in turn: besides, a round may be refused 31 or 32, and the zone is
+# then as before it, so that the next round does its work. Ends with status 1 where it isn't so.
 set -euo pipefail
 
 source "$(dirname -- "${BASH_SOURCE[0]}")/built.sh"
@@ -140,12 +140,14 @@ every_command() {
     echo 'info 0'
 }
 
-# A round moves two pages, and what is known of the zone is asked for before and behind it.
-a_round() {
+# A round moves two pages, and another finds nothing to move. What is known of the zone is asked for before and behind each.
+rounds() {
     echo 'profile 2'
     echo 'zone 0 2'
     echo 'mapat 0 0 0 0'
     echo 'mapat 0 0 1 512'
+    info_and_look
+    echo 'compact 0'
     info_and_look
     echo 'compact 0'
     info_and_look
@@ -227,11 +229,26 @@ is_fault_48() {
     [[ "$1/$2" == 'compactd: fault 48 at line 0/' || "$1/$2" == 'compactd: fault 48 at line 2/ok' ]]
 }
 
-# Whether the round was refused for want of memory or of a thread, and the zone is then as before it.
+# What is written where the first round is refused: it left the zone as before, so the second one does its work.
+without_first() {
+    head -n 7 "$work/moved"
+    echo "refused $1"
+    sed -n 5,11p "$work/moved"
+}
+
+# The same of the second round.
+without_second() {
+    head -n 11 "$work/moved"
+    echo "refused $1"
+    sed -n 13,15p "$work/moved"
+}
+
+# Whether one of the rounds was refused for want of memory or of a thread, and the zone is then as before it.
 is_without_round() {
     local number
     for number in 31 32; do
-        { head -n 7 "$work/moved" && echo "refused $number" && sed -n 5,7p "$work/moved"; } | cmp -s - "$work/out" && return
+        without_first "$number" | cmp -s - "$work/out" && return
+        without_second "$number" | cmp -s - "$work/out" && return
     done
     return 1
 }
@@ -245,7 +262,7 @@ refuse() {
 build_counter
 printf 'profile 2\nzone 0 8\n' >"$work/opening"
 every_command >"$work/script"
-a_round >"$work/round"
+rounds >"$work/round"
 wanted=$(requests_of "$work/opening" "$work/opened")
 found=$(requests_of "$work/script" "$work/replies")
 in_round=$(requests_of "$work/round" "$work/moved")
@@ -269,13 +286,13 @@ for ((request = 1; request <= in_round; request++)); do
     if ((status == 1)) && is_fault_48 "$(<"$work/err")" "$(<"$work/out")"; then
         continue
     elif ((status != 0)) || [[ -s $work/err ]]; then
-        fail "request $request of a round refused: status $status, $(<"$work/err")"
+        fail "request $request of the rounds refused: status $status, $(<"$work/err")"
     elif is_without_round; then
         refused=$((refused + 1))
     elif ! cmp -s "$work/out" "$work/moved"; then
-        fail "request $request of a round refused: it answers $(<"$work/out")"
+        fail "request $request of the rounds refused: it answers $(<"$work/out")"
     fi
 done
 ((refused > 0)) || fail 'no refused request is told in place of a round'
 echo "$(wc -l <"$work/script") commands make $wanted requests for memory, as the first alone; refused in turn, $faults end in fault 48," \
-    "and of $in_round of a round $refused are told in its place"
+    "and of $in_round of two rounds $refused are told in the place of one"
