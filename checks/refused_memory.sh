@@ -3,9 +3,9 @@
 # answers each, gets each refusal, and fills the zone's lists. Its run has to make as many requests for memory as one that only opens
 # the zone, those that are made in vain included. Then each of these requests is refused in turn: the run has to end with the
 # script's own replies, or with fault 48: at line 0 and no reply, or at the line of `zone` behind the reply to the line before. Another
-# script runs a round, and each of its requests is refused in turn: besides, the round may be refused 31 or 32, and the zone is
-# then as before it. A third runs a pool, which may tell 31 or 32 in place of its first round or its second. Ends with status 1 where it
-# isn't so.
+# script runs two rounds, and each of its requests is refused in turn: besides, a round may be refused 31 or 32, and the zone is
+# then as before it, so that the next round does its work. A third runs a pool, which may tell 31 or 32 in place of its first round or
+# its second. Ends with status 1 where it isn't so.
 set -euo pipefail
 
 source "$(dirname -- "${BASH_SOURCE[0]}")/built.sh"
@@ -142,12 +142,14 @@ every_command() {
     echo 'info 0'
 }
 
-# A round moves two pages, and what is known of the zone is asked for before and behind it.
-a_round() {
+# A round moves two pages, and another finds nothing to move. What is known of the zone is asked for before and behind each.
+rounds() {
     echo 'profile 2'
     echo 'zone 0 2'
     echo 'mapat 0 0 0 0'
     echo 'mapat 0 0 1 512'
+    info_and_look
+    echo 'compact 0'
     info_and_look
     echo 'compact 0'
     info_and_look
@@ -241,11 +243,26 @@ is_fault_48() {
     [[ "$1/$2" == 'compactd: fault 48 at line 0/' || "$1/$2" == 'compactd: fault 48 at line 2/ok' ]]
 }
 
-# Whether the round was refused for want of memory or of a thread, and the zone is then as before it.
+# What is written where the first round is refused: it left the zone as before, so the second one does its work.
+without_first() {
+    head -n 7 "$work/moved"
+    echo "refused $1"
+    sed -n 5,11p "$work/moved"
+}
+
+# The same of the second round.
+without_second() {
+    head -n 11 "$work/moved"
+    echo "refused $1"
+    sed -n 13,15p "$work/moved"
+}
+
+# Whether one of the rounds was refused for want of memory or of a thread, and the zone is then as before it.
 is_without_round() {
     local number
     for number in 31 32; do
-        { head -n 7 "$work/moved" && echo "refused $number" && sed -n 5,7p "$work/moved"; } | cmp -s - "$work/out" && return
+        without_first "$number" | cmp -s - "$work/out" && return
+        without_second "$number" | cmp -s - "$work/out" && return
     done
     return 1
 }
@@ -278,7 +295,7 @@ refuse() {
 build_counter
 printf 'profile 2\nzone 0 8\n' >"$work/opening"
 every_command >"$work/script"
-a_round >"$work/round"
+rounds >"$work/round"
 a_pool >"$work/pool"
 wanted=$(requests_of "$work/opening" "$work/opened")
 found=$(requests_of "$work/script" "$work/replies")
@@ -322,4 +339,4 @@ refuse_each "$work/round" "$work/moved" "$in_round" round is_without_round
 of_round=$refused
 refuse_each "$work/pool" "$work/pooled" "$in_pool" pool is_without_pool_round
 echo "$(wc -l <"$work/script") commands make $wanted requests for memory, as the first alone; refused in turn, $faults end in fault 48," \
-    "of $in_round of a round $of_round are told in its place, and of $in_pool of a pool $refused"
+    "of $in_round of two rounds $of_round are told in the place of one, and of $in_pool of a pool $refused"

@@ -1,0 +1,477 @@
+"""A machine for scripts of compactd that is small and slow, written from docs/SCRIPT.md alone: which command a line is, what the zone
+does at it, and the reply. The checks compare what the program writes with what this machine writes. Rounds on threads are made
+one page after the other here, since no reply tells the order in which copiers carry pages."""
+
+LARGEST_NUMBER = 2**64 - 1
+LONGEST_LINE = 200
+MOST_DIGITS = 20
+PAGES_OF_A_SPACE = 4096
+FRAMES_OF_A_PAGEBLOCK = 512
+PAGEBLOCK = 9  # the order of a pageblock
+MOST_ADDRESSES = 4
+MOST_PINS = 255
+
+# What stands in the place of a number: its least and its largest value.
+RANGES = {
+    "Z": (0, 3),
+    "S": (0, 7),
+    "V": (0, PAGES_OF_A_SPACE - 1),
+    "W": (0, 7),
+    "X": (0, LARGEST_NUMBER),
+    "F": (0, 4095),
+    "BLOCKS": (1, 8),
+    "BLOCK": (0, 7),
+    "ORDER": (3, 9),
+    "HAND": (1, 4),
+    "START": (0, LARGEST_NUMBER),
+    "N": (0, 4096),
+    "STEP": (0, LARGEST_NUMBER),
+}
+
+
+class Fault(Exception):
+    """The run ends at a line."""
+
+    def __init__(self, number):
+        self.number = number
+
+
+class Refused(Exception):
+    """A command changes nothing, and its reply is this number."""
+
+    def __init__(self, number):
+        self.number = number
+
+
+class Page:
+    """A page in use. While it is on its way it has a serial, and the frame that it is to move to."""
+
+    def __init__(self, frame, address, unmovable):
+        self.frame = frame
+        self.words = [0] * 8
+        self.dirty = 0
+        self.unmovable = int(unmovable)
+        self.pins = 0
+        self.addresses = {address}
+        self.serial = None
+        self.target = None
+
+
+class Zone:
+    """A zone, the pages of it that are on their way, and four hands. A frame is free where it is None, or it has a page, the page that
+    is to come, or the block that was handed out."""
+
+    def __init__(self, number, blocks, places):
+        self.number = number
+        self.frames = [None] * (blocks * FRAMES_OF_A_PAGEBLOCK)
+        self.pages = {}  # by address
+        self.places = places
+        self.on_their_way = {}  # by serial
+        self.serials = 0
+        self.is_open = False
+        self.low, self.high = 0, len(self.frames)
+        self.waiting = []
+        self.pages_in_hand, self.copies_in_hand = {}, {}
+        self.handed_out = set()  # the first frame and the order of each block
+        self.marks = set()
+
+    # What each call asks of the zone.
+
+    def need_places(self, count):
+        if self.places < count + len(self.on_their_way):
+            raise Refused(2)
+
+    def need_page(self, address):
+        if address not in self.pages:
+            raise Refused(3)
+        return self.pages[address]
+
+    def need_still_page(self, address):
+        page = self.need_page(address)
+        if page.serial is not None:
+            raise Refused(4)
+        return page
+
+    def need_frames(self, first, count):
+        if first % count != 0 or first + count > len(self.frames):
+            raise Refused(1)
+
+    def need_pageblock(self, block):
+        self.need_frames(block * FRAMES_OF_A_PAGEBLOCK, FRAMES_OF_A_PAGEBLOCK)
+
+    def lowest_free_frame(self):
+        if None not in self.frames:
+            raise Refused(6)
+        return self.frames.index(None)
+
+    # Pages and addresses.
+
+    def map(self, address, unmovable=False, frame=None):
+        if frame is not None:
+            self.need_frames(frame, 1)
+        self.need_places(1)
+        if address in self.pages:
+            raise Refused(5)
+        if frame is None:
+            frame = self.lowest_free_frame()
+        if self.frames[frame] is not None:
+            raise Refused(6)
+        self.places -= 1
+        self.frames[frame] = self.pages[address] = Page(frame, address, unmovable)
+        return "ok"
+
+    def share(self, address, alias):
+        self.need_places(1)
+        page = self.need_still_page(address)
+        if alias in self.pages:
+            raise Refused(5)
+        if len(page.addresses) == MOST_ADDRESSES:
+            raise Refused(7)
+        self.places -= 1
+        page.addresses.add(alias)
+        self.pages[alias] = page
+        return "ok"
+
+    def unmap(self, address):
+        self.need_places(1)
+        page = self.need_still_page(address)
+        if len(page.addresses) == 1 and page.pins > 0:
+            raise Refused(10)
+        self.places -= 1
+        page.addresses.remove(address)
+        del self.pages[address]
+        if not page.addresses:
+            self.frames[page.frame] = None
+        return "ok"
+
+    def store(self, address, word, value):
+        self.need_places(1)
+        page = self.need_still_page(address)
+        self.places -= 1
+        page.words[word] = value
+        page.dirty = 1
+        return "ok"
+
+    def load(self, address, word):
+        self.need_places(1)
+        page = self.need_still_page(address)
+        self.places -= 1
+        return f"value={page.words[word]}"
+
+    def look(self, address):
+        page = self.need_page(address)
+        uses = f"pins={page.pins} maps={len(page.addresses)}"
+        if page.serial is not None:
+            return f"moving serial={page.serial} {uses}"
+        return f"frame={page.frame} dirty={page.dirty} unmovable={page.unmovable} {uses}"
+
+    def pin(self, address):
+        self.need_places(1)
+        page = self.need_page(address)
+        if page.pins == MOST_PINS:
+            raise Refused(8)
+        self.places -= 1
+        page.pins += 1
+        return "ok"
+
+    def unpin(self, address):
+        self.need_places(1)
+        page = self.need_page(address)
+        if page.pins == 0:
+            raise Refused(9)
+        self.places -= 1
+        page.pins -= 1
+        return "ok"
+
+    def series(self, call, space, start, count, step):
+        for done in range(count):
+            page = start + done * step
+            try:
+                if page >= PAGES_OF_A_SPACE:
+                    raise Refused(1)
+                call((space, page))
+            except Refused as refused:
+                return f"done={done} refused={refused.number}"
+        return f"done={count}"
+
+    # Moves.
+
+    def is_marked(self, frame):
+        return frame // FRAMES_OF_A_PAGEBLOCK in self.marks
+
+    def can_move(self, frame):
+        page = self.frames[frame]
+        return (
+            isinstance(page, Page)
+            and page.frame == frame
+            and page.serial is None
+            and not page.unmovable
+            and not page.pins
+            and not self.is_marked(frame)
+        )
+
+    def can_take(self, frame):
+        return self.frames[frame] is None and not self.is_marked(frame)
+
+    def next_pair(self):
+        source = next((frame for frame in range(self.low, self.high) if self.can_move(frame)), None)
+        if source is None:
+            return None
+        target = next((frame for frame in range(self.high - 1, source, -1) if self.can_take(frame)), None)
+        return None if target is None else (source, target)
+
+    def begin_round(self):
+        self.low, self.high = 0, len(self.frames)
+
+    def take_next(self):
+        """The next page on its way, or None where there is no pair."""
+        self.need_places(2)
+        pair = self.next_pair()
+        if pair is None:
+            return None
+        source, target = pair
+        page = self.frames[source]
+        page.serial, page.target = self.serials, target
+        self.frames[target] = page
+        self.on_their_way[page.serial] = page
+        self.serials += 1
+        self.places -= 1
+        self.low, self.high = source + 1, target
+        return page
+
+    def end_move(self, page, is_moved):
+        self.places -= 1
+        old, new = (page.frame, page.target) if is_moved else (page.target, page.frame)
+        del self.on_their_way[page.serial]
+        self.frames[old] = None
+        page.frame, page.serial, page.target = new, None, None
+
+    def scan(self):
+        if not self.is_open:
+            self.begin_round()
+            self.is_open = True
+        page = self.take_next()
+        if page is None:
+            return "met"
+        self.waiting.append(page)
+        return f"serial={page.serial}"
+
+    def take(self, hand):
+        if hand in self.pages_in_hand or hand in self.copies_in_hand or not self.waiting:
+            raise Refused(45)
+        page = self.pages_in_hand[hand] = self.waiting.pop(0)
+        return f"serial={page.serial}"
+
+    def copy(self, hand):
+        if hand not in self.pages_in_hand:
+            raise Refused(45)
+        self.copies_in_hand[hand] = self.pages_in_hand.pop(hand)
+        return "ok"
+
+    def finish(self, hand):
+        if hand not in self.copies_in_hand:
+            raise Refused(45)
+        page = self.copies_in_hand.pop(hand)
+        serial, is_moved = page.serial, page.pins == 0
+        self.end_move(page, is_moved)
+        return f"moved serial={serial}" if is_moved else f"back serial={serial} cause=1"
+
+    def shut(self):
+        if self.pages_in_hand or self.copies_in_hand:
+            raise Refused(45)
+        waiting, self.waiting, self.is_open = self.waiting, [], False
+        for page in waiting:
+            self.end_move(page, False)
+        return f"back={len(waiting)}"
+
+    def compact(self):
+        if self.is_open:
+            raise Refused(45)
+        moved, stopped = 0, "met"
+        self.begin_round()
+        try:
+            while page := self.take_next():
+                self.end_move(page, True)
+                moved += 1
+        except Refused:
+            stopped = "journalfull"
+        return f"isolated={moved} moved={moved} back=0 stopped={stopped}"
+
+    # Blocks, marks and counts.
+
+    def hand_out(self, order):
+        self.need_places(1)
+        count = 2**order
+        for first in range(0, len(self.frames), count):
+            if self.frames[first : first + count] == [None] * count:
+                self.places -= 1
+                self.frames[first : first + count] = [(first, order)] * count
+                self.handed_out.add((first, order))
+                return first
+        raise Refused(11)
+
+    def huge(self):
+        return f"block={self.hand_out(PAGEBLOCK) // FRAMES_OF_A_PAGEBLOCK}"
+
+    def huge_of_order(self, order):
+        return f"frame={self.hand_out(order)} order={order}"
+
+    def give(self, first, order):
+        self.need_frames(first, 2**order)
+        self.need_places(1)
+        if (first, order) not in self.handed_out:
+            raise Refused(12)
+        self.places -= 1
+        self.handed_out.remove((first, order))
+        self.frames[first : first + 2**order] = [None] * 2**order
+        return "ok"
+
+    def mark(self, block):
+        self.need_pageblock(block)
+        self.need_places(1)
+        if block in self.marks:
+            raise Refused(17)
+        self.places -= 1
+        self.marks.add(block)
+        return "ok"
+
+    def unmark(self, block):
+        self.need_pageblock(block)
+        self.need_places(1)
+        if block not in self.marks:
+            raise Refused(18)
+        self.places -= 1
+        self.marks.remove(block)
+        return "ok"
+
+    def info(self):
+        pageblocks = range(0, len(self.frames), FRAMES_OF_A_PAGEBLOCK)
+        free_pageblock = [None] * FRAMES_OF_A_PAGEBLOCK
+        whole = sum(self.frames[first : first + FRAMES_OF_A_PAGEBLOCK] == free_pageblock for first in pageblocks)
+        return (
+            f"free={self.frames.count(None)} pages={len(set(self.pages.values()))} moving={len(self.on_their_way)}"
+            f" huge={len(self.handed_out)} whole={whole}"
+        )
+
+    def info_with_held(self):
+        return f"{self.info()} held={sum(2**order for _, order in self.handed_out)}"
+
+
+# The forms of the commands of both profiles, and their calls of the zone. Capital letters stand for numbers; Z is the zone.
+CALLS = {
+    "map Z S V": lambda zone, s, v: zone.map((s, v)),
+    "map Z S V unmovable": lambda zone, s, v: zone.map((s, v), unmovable=True),
+    "mapat Z S V F": lambda zone, s, v, f: zone.map((s, v), frame=f),
+    "mapat Z S V F unmovable": lambda zone, s, v, f: zone.map((s, v), unmovable=True, frame=f),
+    "fill Z S START N": lambda zone, s, v, n: zone.series(zone.map, s, v, n, 1),
+    "share Z S V S V": lambda zone, s, v, s2, v2: zone.share((s, v), (s2, v2)),
+    "unmap Z S V": lambda zone, s, v: zone.unmap((s, v)),
+    "thin Z S START N STEP": lambda zone, s, v, n, step: zone.series(zone.unmap, s, v, n, step),
+    "store Z S V W X": lambda zone, s, v, w, x: zone.store((s, v), w, x),
+    "load Z S V W": lambda zone, s, v, w: zone.load((s, v), w),
+    "look Z S V": lambda zone, s, v: zone.look((s, v)),
+    "pin Z S V": lambda zone, s, v: zone.pin((s, v)),
+    "unpin Z S V": lambda zone, s, v: zone.unpin((s, v)),
+    "scan Z": Zone.scan,
+    "take Z HAND": Zone.take,
+    "copy Z HAND": Zone.copy,
+    "finish Z HAND": Zone.finish,
+    "shut Z": Zone.shut,
+    "compact Z": Zone.compact,
+    "huge Z": Zone.huge,
+    "give Z BLOCK": lambda zone, block: zone.give(block * FRAMES_OF_A_PAGEBLOCK, PAGEBLOCK),
+    "info Z": Zone.info,
+}
+CALLS_OF_PROFILE_2 = {
+    **CALLS,
+    "huge Z ORDER": Zone.huge_of_order,
+    "give Z F ORDER": Zone.give,
+    "mark Z BLOCK": Zone.mark,
+    "unmark Z BLOCK": Zone.unmark,
+    "info Z": Zone.info_with_held,
+}
+OPENING = "zone Z BLOCKS"
+
+
+def by_shape(forms):
+    """Forms by their words other than numbers and by the number of their words."""
+    return {(form.split()[0], len(form.split()), "unmovable" in form): form for form in forms}
+
+
+SHAPES = {1: by_shape([OPENING, *CALLS]), 2: by_shape([OPENING, *CALLS_OF_PROFILE_2])}
+
+
+def number_of(word):
+    if not 1 <= len(word) <= MOST_DIGITS or any(digit not in b"0123456789" for digit in word) or int(word) > LARGEST_NUMBER:
+        raise Fault(41)
+    return int(word)
+
+
+class Machine:
+    """A run of a script: its profile, which the first line that isn't skipped tells, and its zone."""
+
+    def __init__(self, places=65536):
+        self.places = places
+        self.profile = None
+        self.zone = None
+
+    def answer(self, line):
+        """The reply to a line, without its newline, or None for a line that is skipped."""
+        if len(line) > LONGEST_LINE:
+            raise Fault(42)
+        words = [word for word in line.split(b" ") if word]
+        if not words or words[0].startswith(b"#"):
+            return None
+        if self.profile is None:
+            self.profile = 2 if words == [b"profile", b"2"] else 1
+            if self.profile == 2:
+                return "ok"
+        form, numbers = self.read(words)
+        try:
+            return self.call(form, numbers)
+        except Refused as refused:
+            return f"refused {refused.number}"
+
+    def read(self, words):
+        """The form of a line of these words, and its numbers."""
+        is_unmovable = words[-1] == b"unmovable"
+        shape = (words[0].decode("latin-1"), len(words), is_unmovable)
+        if shape not in SHAPES[self.profile]:
+            raise Fault(41)
+        return SHAPES[self.profile][shape], [number_of(word) for word in words[1 : len(words) - is_unmovable]]
+
+    def call(self, form, numbers):
+        names = [name for name in form.split() if name.isupper()]
+        for name, number in zip(names, numbers):
+            if not RANGES[name][0] <= number <= RANGES[name][1]:
+                raise Refused(1)
+        if form == OPENING:
+            return self.open(*numbers)
+        if self.zone is None or self.zone.number != numbers[0]:
+            raise Refused(43)
+        return (CALLS if self.profile == 1 else CALLS_OF_PROFILE_2)[form](self.zone, *numbers[1:])
+
+    def open(self, number, blocks):
+        if self.zone is not None:
+            raise Refused(44)
+        self.zone = Zone(number, blocks, self.places)
+        return "ok"
+
+
+def text_of(replies):
+    return "".join(f"{reply}\n" for reply in replies if reply is not None)
+
+
+def run(script, places=65536):
+    """What a script, given as bytes, writes to standard output and to standard error."""
+    machine, replies = Machine(places), []
+    *lines, cut = script.split(b"\n")
+    for at, line in enumerate(lines, 1):
+        try:
+            replies.append(machine.answer(line))
+        except Fault as fault:
+            return text_of(replies), f"compactd: fault {fault.number} at line {at}\n"
+    if cut:
+        number = 42 if len(cut) > LONGEST_LINE else 41
+        return text_of(replies), f"compactd: fault {number} at line {len(lines) + 1}\n"
+    return text_of(replies), ""

@@ -1,0 +1,261 @@
+#!/usr/bin/env bash
+# 500 random scripts, with rounds of 1, 2 and 4 copiers and capacities 1, 8 and 64, are answered as docs/SCRIPT.md says: each reply is
+# that of checks/machine.py, for no reply of a round leaves anything open. Besides, and without that machine: the counts of each info
+# line are together the frames of the zone, each page of a round was moved or put back, and at the end no two pages have one frame.
+# The scripts are drawn from a fixed seed. Ends with status 1 where it isn't so.
+set -euo pipefail
+
+source "$(dirname -- "${BASH_SOURCE[0]}")/built.sh"
+
+PYTHONPATH=$root/checks python3 -B - "$program" <<'PYTHON'
+import collections
+import concurrent.futures
+import multiprocessing
+import random
+import subprocess
+import sys
+
+import machine
+
+SCRIPTS = 500
+COMMANDS = 200
+SEED = 500_823
+PROCESSORS = 4
+COPIERS = [1, 2, 4]
+CAPACITIES = [1, 8, 64]
+
+# How often each command is drawn.
+COMMON = [
+    *["map", "store", "load"] * 6,
+    *["mapat", "share", "unmap", "pin", "unpin", "scan", "take", "copy", "finish", "look"] * 3,
+    *["fill", "thin", "huge", "give", "compact", "shut", "mark", "unmark"] * 2,
+    *["info", "zone"],
+]
+
+program = sys.argv[1]
+
+
+class Author:
+    """Draws a script, of which it follows the pages and blocks by a machine of its own."""
+
+    def __init__(self, number):
+        self.draw = random.Random(SEED * SCRIPTS + number)
+        self.options = {
+            "copiers": COPIERS[number % 3],
+            "capacity": CAPACITIES[number // 3 % 3],
+            "journal": self.draw.choice([65536, 65536, 65536, self.draw.randrange(1, 2000)]),
+        }
+        self.machine = machine.Machine(self.options["journal"])
+        self.lines, self.replies = [], []
+        self.blocks = self.draw.randrange(1, 9)
+        self.end = 0  # where the last lines begin, which tell all that is left
+
+    def say(self, line):
+        self.lines.append(line)
+        self.replies.append(self.machine.answer(line.encode()))
+
+    def script(self):
+        if self.draw.random() < 0.5:
+            self.say("profile 2")
+        self.say(f"zone 0 {self.blocks}")
+        self.some_pages()
+        if self.draw.random() < 0.1:
+            self.crowded_page()
+        for _ in range(COMMANDS):
+            self.say(self.command())
+        for hand in range(1, 5):
+            self.say(f"copy 0 {hand}")
+            self.say(f"finish 0 {hand}")
+        self.say("shut 0")
+        self.say("compact 0")
+        self.end = len(self.lines)
+        for space, page in sorted(self.zone().pages):
+            self.say(f"look 0 {space} {page}")
+            self.say(f"load 0 {space} {page} {self.draw.randrange(8)}")
+        self.say("info 0")
+        return "".join(f"{line}\n" for line in self.lines).encode()
+
+    def some_pages(self):
+        count = self.draw.choice([0, 5, 100, 512 * self.blocks // 2, 512 * self.blocks])
+        self.say(f"fill 0 0 0 {min(count, 4096)}")
+        self.say(f"thin 0 0 {self.draw.randrange(3)} {count // 3} {self.draw.randrange(1, 4)}")
+
+    def crowded_page(self):
+        """A page is asked for one more address and one more pin than a page may have."""
+        self.say("map 0 2 0")
+        for address in range(1, machine.MOST_ADDRESSES + 1):
+            self.say(f"share 0 2 0 2 {address}")
+        for _ in range(machine.MOST_PINS + 1):
+            self.say("pin 0 2 0")
+
+    def zone(self):
+        return self.machine.zone
+
+    def one_of(self, many):
+        return self.draw.choice(sorted(many))
+
+    def address(self):
+        """Most times that of a page, else any one of a few, and now and then one that no zone has."""
+        kind = self.draw.random()
+        if kind < 0.7 and self.zone().pages:
+            return "{} {}".format(*self.one_of(self.zone().pages))
+        if kind < 0.98:
+            return f"{self.draw.randrange(3)} {self.draw.choice([self.draw.randrange(40), self.draw.randrange(4096)])}"
+        return self.draw.choice(["8 0", "0 4096", "7 4095", "18446744073709551615 0"])
+
+    def frame(self):
+        return self.draw.choice([self.draw.randrange(512 * self.blocks), 512 * self.blocks - 1, 512 * self.blocks, 4096])
+
+    def block(self):
+        return self.draw.choice([self.draw.randrange(self.blocks), self.draw.randrange(9)])
+
+    def order(self):
+        return self.draw.choice([3, 4, 5, 6, 7, 8, 9, 9, 2, 10])
+
+    def number(self):
+        return self.draw.choice([0, 1, 2**64 - 1, self.draw.getrandbits(64), self.draw.randrange(1000)])
+
+    def command(self):
+        word = self.draw.choice(COMMON)
+        while self.machine.profile == 1 and word in ("mark", "unmark"):
+            word = self.draw.choice(COMMON)
+        zone = self.draw.choice([0] * 60 + [1, 4])
+        arguments = getattr(self, f"behind_{word}", lambda: "")()
+        return f"{word} {zone} {arguments}".rstrip()
+
+    def unmovable(self):
+        return self.draw.choice(["", "", "", " unmovable"])
+
+    def behind_zone(self):
+        return str(self.draw.randrange(10))
+
+    def behind_map(self):
+        return self.address() + self.unmovable()
+
+    def behind_mapat(self):
+        return f"{self.address()} {self.frame()}{self.unmovable()}"
+
+    def behind_fill(self):
+        return f"{self.address()} {self.draw.choice([0, 1, 30, 300, 4096, 4097])}"
+
+    def behind_thin(self):
+        return f"{self.address()} {self.draw.choice([0, 1, 10, 100])} {self.draw.choice([0, 1, 2, 7, 2**64 - 1])}"
+
+    def behind_share(self):
+        return f"{self.address()} {self.address()}"
+
+    def behind_store(self):
+        return f"{self.address()} {self.draw.randrange(9)} {self.number()}"
+
+    def behind_load(self):
+        return f"{self.address()} {self.draw.randrange(9)}"
+
+    def behind_take(self):
+        return str(self.draw.choice([1, 2, 3, 4, 1, 2, 3, 4, 0, 5]))
+
+    def behind_give(self):
+        if self.machine.profile == 1 or self.draw.random() < 0.3:
+            return str(self.block())
+        if self.zone().handed_out and self.draw.random() < 0.6:
+            return "{} {}".format(*self.one_of(self.zone().handed_out))
+        return f"{self.frame()} {self.order()}"
+
+    def behind_huge(self):
+        return "" if self.machine.profile == 1 or self.draw.random() < 0.3 else str(self.order())
+
+    def behind_mark(self):
+        return str(self.block())
+
+    behind_unmap = behind_look = behind_pin = behind_unpin = address
+    behind_copy = behind_finish = behind_take
+    behind_unmark = behind_mark
+
+
+def written_for(author, script):
+    options = [f"--{name}={value}" for name, value in author.options.items()]
+    ran = subprocess.run([program, *options], input=script, capture_output=True)
+    return ran.returncode, ran.stdout.decode(), ran.stderr.decode()
+
+
+def fields(reply):
+    return {name: value for name, _, value in (word.partition("=") for word in reply.split())}
+
+
+def held_behind(held, command, reply):
+    """How many frames are handed out behind a command."""
+    words = command.split()
+    if words[0] == "huge" and "refused" not in reply:
+        return held + 2 ** int(fields(reply).get("order", 9))
+    if words[0] == "give" and reply == "ok":
+        return held - 2 ** (int(words[3]) if len(words) == 4 else 9)
+    return held
+
+
+def adds_up(told, held, frames):
+    """Whether the counts of an info line are together the frames of the zone, and those of a round are its pages."""
+    if "free" in told:
+        counted = sum(int(told[name]) for name in ("free", "pages", "moving"))
+        return counted + held == frames and int(told.get("held", held)) == held
+    return "isolated" not in told or int(told["isolated"]) == int(told["moved"]) + int(told["back"])
+
+
+def wrong_count(author, replies):
+    """A reply whose counts don't add up, if there is one."""
+    held = 0
+    for command, reply in zip(author.lines, replies):
+        held = held_behind(held, command, reply)
+        if not adds_up(fields(reply), held, 512 * author.blocks):
+            return f"`{command}` is answered `{reply}` where {held} frames are handed out"
+    return None
+
+
+def has_frames_of_their_own(author, replies):
+    """Whether the pages that the last lines look at, each at all of its addresses, have as many frames as there are pages."""
+    looks = [fields(reply) for reply in replies[author.end : -1 : 2]]
+    addresses = collections.Counter(look["frame"] for look in looks)
+    is_one_page = all(addresses[look["frame"]] == int(look["maps"]) for look in looks)
+    return is_one_page and len(addresses) == int(fields(replies[-1])["pages"])
+
+
+def first_difference(author, replies):
+    for at, (command, found, right) in enumerate(zip(author.lines, replies, author.replies)):
+        if found != right:
+            return f"`{command}` at line {at + 1} is answered `{found}` and not `{right}`"
+    return None
+
+
+def try_script(number):
+    """Runs a script, and says what is wrong with it, if anything is, and the words of its replies."""
+    author = Author(number)
+    script = author.script()
+    status, text, fault = written_for(author, script)
+    replies = text.splitlines()
+    if status != 0 or fault or len(replies) != len(author.lines):
+        wrong = f"status {status}, {fault}, {len(replies)} replies to {len(author.lines)} lines"
+    else:
+        wrong = first_difference(author, replies) or wrong_count(author, replies)
+        if not wrong and not has_frames_of_their_own(author, replies):
+            wrong = "two pages have one frame"
+    return wrong and f"script {number} with {author.options}: {wrong}", kinds_of(replies)
+
+
+def kinds_of(replies):
+    """How often each refusal came, and how many rounds moved a page."""
+    refusals = [reply for reply in replies if reply.startswith("refused ")]
+    rounds = [ROUND for reply in replies if reply.startswith("isolated=") and not reply.startswith("isolated=0")]
+    return collections.Counter(refusals + rounds)
+
+
+ROUND = "rounds that moved a page"
+WANTED = {f"refused {number}" for number in [*range(1, 13), 17, 18, 43, 44, 45]} | {ROUND}
+
+kinds = collections.Counter()
+with concurrent.futures.ProcessPoolExecutor(PROCESSORS, multiprocessing.get_context("fork")) as pool:
+    for wrong, found in pool.map(try_script, range(SCRIPTS)):
+        if wrong:
+            sys.exit(wrong)
+        kinds += found
+if set(kinds) != WANTED:
+    sys.exit(f"the scripts have other kinds of replies than they should: {sorted(WANTED ^ set(kinds))}")
+print(f"{SCRIPTS} random scripts, {kinds[ROUND]} {ROUND}, have the replies of checks/machine.py, and their counts add up")
+PYTHON
