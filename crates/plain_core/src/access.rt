@@ -80,7 +80,7 @@ impl PlainZone {
         };
         self.words.store(frame, word, value);
         let note = self.notes.get(page);
-        self.notes.put(page, note.stored());
+        self.notes.revise(page, note.stored());
         self.history.note(Record::Store {
             client,
             address,

@@ -1,6 +1,6 @@
 //! What a zone notes of its pages.
 
-ghost use Rattle.std.specs.Prelude.{◌≡◌, ℕ, ◌<◌, ◌≤◌, true, nat_lt, length, replicate, slice_get, slice_set, is_none, Some, IfOk};
+ghost use Rattle.std.specs.Prelude.{◌≡◌, ℕ, ◌<◌, ◌≤◌, true, nat_lt, length, replicate, slice_get, slice_set, is_none, Some, IsSome, IfOk};
 ghost use Rattle.std.specs.FinSet as set;
 ghost use Rattle.frame_core.specs.Below.{count_below, lowest};
 ghost use Rattle.plain_core.specs.Notes.{placement_of, is_in_use, unused_note};
@@ -89,6 +89,15 @@ impl Notes {
         } else if is {
             self.in_use += 1;
         }
+    }
+
+    /// Notes something else of a page that is in use and stays so.
+    pub fn revise(&mut self, page: PageNo, note: Note)
+        requires used { is_in_use self.old page ≡ true }
+        requires stays { IsSome note.placement }
+        ensures { self.new ≡ slice_set self.old page note }
+    {
+        self.notes[page.get() as usize] = note;
     }
 
     /// Places a page in use elsewhere.

@@ -28,7 +28,7 @@ impl PlainZone {
         let page = self.page_at(&named);
         let note = self.notes.get(page).with_pin();
         say_movable(&mut self.frames, &note);
-        self.notes.put(page, note);
+        self.notes.revise(page, note);
         self.history.note(Record::Pin { client, address });
     }
 
@@ -44,7 +44,7 @@ impl PlainZone {
         let page = self.page_at(&named);
         let note = self.notes.get(page).without_pin();
         say_movable(&mut self.frames, &note);
-        self.notes.put(page, note);
+        self.notes.revise(page, note);
         self.history.note(Record::Unpin { client, address });
     }
 }

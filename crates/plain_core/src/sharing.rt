@@ -25,7 +25,7 @@ impl PlainZone {
         let page = self.page_at(&named);
         self.tables.set(second, frame);
         let note = self.notes.get(page);
-        self.notes.put(page, note.with_address());
+        self.notes.revise(page, note.with_address());
         self.history.note(Record::Share {
             client,
             address,

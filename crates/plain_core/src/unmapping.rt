@@ -43,7 +43,7 @@ impl PlainZone {
         let named = address;
         self.tables.clear(named);
         let note = self.notes.get(page);
-        self.notes.put(page, note.without_address());
+        self.notes.revise(page, note.without_address());
         self.history.note(Record::Unmap { client, address });
     }
 

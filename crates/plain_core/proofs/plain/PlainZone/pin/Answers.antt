@@ -1,5 +1,5 @@
 use Rattle.std.proofs.Common.{◌∙◌, ℕ, ◌+◌, ap, subst, sym, arith}
-use Rattle.std.specs.Prelude.{Option, slice_set, unwrap_or}
+use Rattle.std.specs.Prelude.{Option, slice_set, unwrap_or, is_some}
 use Rattle.journal_core.specs.declared.record.Record.TheVariants.{Pin}
 use Rattle.journal_core.specs.History.{pins}
 use Rattle.state_core.specs.declared.placement.Placement.TheVariants.{At}
@@ -9,7 +9,7 @@ use Rattle.plain_core.specs.Notes.{movable_by}
 use Rattle.plain_core.specs.Sound.{IsSound}
 use Rattle.plain_core.proofs.Noting.{Noting, noting_holds}
 use Rattle.plain_core.proofs.Pinned.{pinning}
-use Rattle.plain_core.proofs.Tables.{note_seen}
+use Rattle.plain_core.proofs.Tables.{note_seen, placement_seen}
 use Rattle.plain_core.proofs.plain.PlainZone.pin.Goals as goal
 use Rattle.plain_core.proofs.plain.PlainZone.pin.Goals.{After-note}
 
@@ -35,10 +35,20 @@ known c =
     c.note.ensures
 
 pub invariant_of-self : goal.invariant_of-self
-invariant_of-self c = (noting_holds _ _ _ _ _ _ _ _ _ (known c) c.put.new.self (c.put.ensures ∙ ap (slice_set c.self.inside.notes c.page_at-page.result) c.with_pin-note.ensures)).0
+invariant_of-self c = (noting_holds _ _ _ _ _ _ _ _ _ (known c) c.revise.new.self (c.revise.ensures ∙ ap (slice_set c.self.inside.notes c.page_at-page.result) c.with_pin-note.ensures)).0
 
 pub returns-clause-step : goal.returns-clause-step
-returns-clause-step c = (noting_holds _ _ _ _ _ _ _ _ _ (known c) c.put.new.self (c.put.ensures ∙ ap (slice_set c.self.inside.notes c.page_at-page.result) c.with_pin-note.ensures)).1
+returns-clause-step c = (noting_holds _ _ _ _ _ _ _ _ _ (known c) c.revise.new.self (c.revise.ensures ∙ ap (slice_set c.self.inside.notes c.page_at-page.result) c.with_pin-note.ensures)).1
 
 pub returns-clause-lawful : goal.returns-clause-lawful
 returns-clause-lawful c = (invariant_of-self c).lawful
+
+pub revise-requires-clause-used : goal.revise-requires-clause-used
+revise-requires-clause-used c =
+    ap is_some (placement_seen c.self.inside c.args.self.now c.self.view_is c.page_at-page.result) ∙ c.page_at-page.ensures.in_use
+
+pub revise-requires-clause-stays : goal.revise-requires-clause-stays
+revise-requires-clause-stays c =
+    let sound : IsSound c.self.inside c.args.self.now = subst (IsSound c.self.inside) c.self.view_is c.self.invariant in
+    let seen = note_seen c.self.inside c.args.self.now c.self.view_is sound c.page_at-page.result c.page_at-page.ensures.in_use c.get.result c.get.ensures in
+    ap (λ (n : Note). is_some n.placement) c.with_pin-note.ensures ∙ ap is_some seen.placement ∙ c.page_at-page.ensures.in_use

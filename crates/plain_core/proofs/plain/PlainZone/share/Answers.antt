@@ -1,5 +1,5 @@
 use Rattle.std.proofs.Common.{◌∙◌, ℕ, ◌+◌, ap, subst, arith}
-use Rattle.std.specs.Prelude.{Option, slice_set, unwrap_or}
+use Rattle.std.specs.Prelude.{Option, slice_set, unwrap_or, is_some}
 use Rattle.journal_core.specs.declared.record.Record.TheVariants.{Share}
 use Rattle.journal_core.specs.History.{maps}
 use Rattle.state_core.specs.declared.placement.Placement.TheVariants.{At}
@@ -9,7 +9,8 @@ use Rattle.plain_core.specs.Sound.{IsSound}
 use Rattle.plain_core.proofs.ListedAddresses.{count_names}
 use Rattle.plain_core.proofs.Noting.{Noting, noting_holds}
 use Rattle.plain_core.proofs.Shared.{sharing}
-use Rattle.plain_core.proofs.Tables.{note_seen}
+use Rattle.plain_core.proofs.Tables.{note_seen, placement_seen}
+use Rattle.plain_core.specs.declared.note.Note.{Note}
 use Rattle.plain_core.proofs.plain.PlainZone.share.Goals as goal
 use Rattle.plain_core.proofs.plain.PlainZone.share.Goals.{After-note}
 
@@ -38,10 +39,10 @@ known c =
     c.get-note.result c.set.new.self c.note.new.self c.get-note.ensures c.set.ensures.set c.set.ensures.frames c.note.ensures
 
 pub invariant_of-self : goal.invariant_of-self
-invariant_of-self c = (noting_holds _ _ _ _ _ _ _ _ _ (known c) c.put.new.self (c.put.ensures ∙ ap (slice_set c.self.inside.notes c.page_at-page.result) c.with_address.ensures)).0
+invariant_of-self c = (noting_holds _ _ _ _ _ _ _ _ _ (known c) c.revise.new.self (c.revise.ensures ∙ ap (slice_set c.self.inside.notes c.page_at-page.result) c.with_address.ensures)).0
 
 pub returns-clause-step : goal.returns-clause-step
-returns-clause-step c = (noting_holds _ _ _ _ _ _ _ _ _ (known c) c.put.new.self (c.put.ensures ∙ ap (slice_set c.self.inside.notes c.page_at-page.result) c.with_address.ensures)).1
+returns-clause-step c = (noting_holds _ _ _ _ _ _ _ _ _ (known c) c.revise.new.self (c.revise.ensures ∙ ap (slice_set c.self.inside.notes c.page_at-page.result) c.with_address.ensures)).1
 
 pub returns-clause-lawful : goal.returns-clause-lawful
 returns-clause-lawful c = (invariant_of-self c).lawful
@@ -57,3 +58,13 @@ set-requires-clause-room c =
     let sound : IsSound c.self.inside c.args.self.now = subst (IsSound c.self.inside) c.self.view_is c.self.invariant in
     let at = page_stands c.args.self.now c.args.address (At c.args.frame) c.page_at-page.result c.page_at-page.ensures.named c.requires.frame in
     omega (arith, c.requires.few, ap (λ (o : Option ℕ). maps c.args.self.now.records (unwrap_or o 0)) c.page_at-page.ensures.named, count_names c.self.inside.tables.entries c.args.self.now sound.entries sound.lawful c.page_at-page.result c.args.frame at)
+
+pub revise-requires-clause-used : goal.revise-requires-clause-used
+revise-requires-clause-used c =
+    ap is_some (placement_seen c.self.inside c.args.self.now c.self.view_is c.page_at-page.result) ∙ c.page_at-page.ensures.in_use
+
+pub revise-requires-clause-stays : goal.revise-requires-clause-stays
+revise-requires-clause-stays c =
+    let sound : IsSound c.self.inside c.args.self.now = subst (IsSound c.self.inside) c.self.view_is c.self.invariant in
+    let seen = note_seen c.self.inside c.args.self.now c.self.view_is sound c.page_at-page.result c.page_at-page.ensures.in_use c.get-note.result c.get-note.ensures in
+    ap (λ (n : Note). is_some n.placement) c.with_address.ensures ∙ ap is_some seen.placement ∙ c.page_at-page.ensures.in_use

@@ -1,12 +1,13 @@
 use Rattle.std.proofs.Common.{◌∙◌, ◌-◌, ap, subst, arith}
-use Rattle.std.specs.Prelude.{slice_set}
+use Rattle.std.specs.Prelude.{slice_set, is_some}
 use Rattle.journal_core.specs.declared.record.Record.TheVariants.{Unmap}
 use Rattle.state_core.specs.declared.placement.Placement.TheVariants.{At}
 use Rattle.state_core.proofs.Facts.{not_none, spare}
 use Rattle.plain_core.specs.Sound.{IsSound}
 use Rattle.plain_core.proofs.Noting.{Noting, noting_holds}
 use Rattle.plain_core.proofs.Unmapped.{Unmapping, unmapping_one}
-use Rattle.plain_core.proofs.Tables.{note_seen}
+use Rattle.plain_core.proofs.Tables.{note_seen, placement_seen}
+use Rattle.plain_core.specs.declared.note.Note.{Note}
 use Rattle.plain_core.proofs.plain.PlainZone.unmap_one.Goals as goal
 use Rattle.plain_core.proofs.plain.PlainZone.unmap_one.Goals.{After-note}
 
@@ -33,10 +34,22 @@ known : (c : After-note) → Noting c.self.inside c.args.self.now c.args.page (U
 known c = unmapping_one _ _ _ _ _ _ _ _ (unmapping c) c.requires.more c.get-note.result c.get-note.ensures
 
 pub invariant_of-self : goal.invariant_of-self
-invariant_of-self c = (noting_holds _ _ _ _ _ _ _ _ _ (known c) c.put.new.self (c.put.ensures ∙ ap (slice_set c.self.inside.notes c.args.page) c.without_address.ensures)).0
+invariant_of-self c = (noting_holds _ _ _ _ _ _ _ _ _ (known c) c.revise.new.self (c.revise.ensures ∙ ap (slice_set c.self.inside.notes c.args.page) c.without_address.ensures)).0
 
 pub returns-clause-step : goal.returns-clause-step
-returns-clause-step c = (noting_holds _ _ _ _ _ _ _ _ _ (known c) c.put.new.self (c.put.ensures ∙ ap (slice_set c.self.inside.notes c.args.page) c.without_address.ensures)).1
+returns-clause-step c = (noting_holds _ _ _ _ _ _ _ _ _ (known c) c.revise.new.self (c.revise.ensures ∙ ap (slice_set c.self.inside.notes c.args.page) c.without_address.ensures)).1
 
 pub returns-clause-lawful : goal.returns-clause-lawful
 returns-clause-lawful c = (invariant_of-self c).lawful
+
+pub revise-requires-clause-used : goal.revise-requires-clause-used
+revise-requires-clause-used c =
+    let used = not_none _ (At c.requires.here.0) c.requires.here.1 in
+    ap is_some (placement_seen c.self.inside c.args.self.now c.self.view_is c.args.page) ∙ used
+
+pub revise-requires-clause-stays : goal.revise-requires-clause-stays
+revise-requires-clause-stays c =
+    let sound : IsSound c.self.inside c.args.self.now = subst (IsSound c.self.inside) c.self.view_is c.self.invariant in
+    let used = not_none _ (At c.requires.here.0) c.requires.here.1 in
+    let seen = note_seen c.self.inside c.args.self.now c.self.view_is sound c.args.page used c.get-note.result c.get-note.ensures in
+    ap (λ (n : Note). is_some n.placement) c.without_address.ensures ∙ ap is_some seen.placement ∙ used

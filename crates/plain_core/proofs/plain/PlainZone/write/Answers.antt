@@ -1,14 +1,15 @@
 use Rattle.std.proofs.Common.{◌≡◌, ◌∙◌, ℕ, ap, subst, sym, arith, List, true}
-use Rattle.std.specs.Prelude.{Option, Some, slice_set}
+use Rattle.std.specs.Prelude.{Option, Some, slice_set, is_some}
 use Rattle.std.specs.FinMap as map
 use Rattle.plain_core.specs.declared.note.Note.{Note}
 use Rattle.plain_core.specs.declared.plain.PlainZone.TheInside.{Inside}
 use Rattle.plain_core.specs.Sound.{IsSound, state_of}
 use Rattle.state_core.specs.Access.{stored}
 use Rattle.plain_core.proofs.LoadsAndStores.{Storing, resident, store_view, store_sound}
-use Rattle.state_core.proofs.Facts.{spare, frame_within}
+use Rattle.state_core.proofs.Facts.{spare, frame_within, not_none}
 use Rattle.state_core.proofs.Holding.{holder_at}
 use Rattle.state_core.specs.declared.placement.Placement.TheVariants.{At}
+use Rattle.plain_core.proofs.Tables.{placement_seen, note_seen}
 use Rattle.plain_core.proofs.plain.PlainZone.write.Goals as goal
 use Rattle.plain_core.proofs.plain.PlainZone.write.Goals.{After-note}
 
@@ -58,10 +59,10 @@ storing c =
 abbrev after : After-note → List (List ℕ) → List Note → Inside
 after c rows notes = record c.self.inside { words = rows; notes = notes; history = c.note.new.self }
 
-notes_are : (c : After-note) → c.put.new.self ≡ slice_set c.self.inside.notes c.in-Some.page (record c.get-note.result { dirty = true })
-notes_are c = c.put.ensures ∙ ap (slice_set c.self.inside.notes c.in-Some.page) c.stored.ensures
+notes_are : (c : After-note) → c.revise.new.self ≡ slice_set c.self.inside.notes c.in-Some.page (record c.get-note.result { dirty = true })
+notes_are c = c.revise.ensures ∙ ap (slice_set c.self.inside.notes c.in-Some.page) c.stored.ensures
 
-view : (c : After-note) → state_of (after c c.store.new.self c.put.new.self) ≡ stored c.args.self.now c.args.client c.args.address c.args.word c.args.value
+view : (c : After-note) → state_of (after c c.store.new.self c.revise.new.self) ≡ stored c.args.self.now c.args.client c.args.address c.args.word c.args.value
 view c = ap (λ (notes : List Note). state_of (after c c.store.new.self notes)) (notes_are c)
     ∙ store_view c.self.inside c.args.self.now c.args.client c.args.address c.in-Some.page c.args.frame c.args.word c.args.value c.get-note.result c.note.new.self (storing c)
 
@@ -69,7 +70,7 @@ pub invariant_of-self : goal.invariant_of-self
 invariant_of-self c =
     let next = stored c.args.self.now c.args.client c.args.address c.args.word c.args.value in
     let ideal = store_sound c.self.inside c.args.self.now c.args.client c.args.address c.in-Some.page c.args.frame c.args.word c.args.value c.get-note.result c.note.new.self (storing c) in
-    subst (IsSound (after c c.store.new.self c.put.new.self)) (sym (view c))
+    subst (IsSound (after c c.store.new.self c.revise.new.self)) (sym (view c))
     (subst (λ (notes : List Note). IsSound (after c c.store.new.self notes) next) (sym (notes_are c))
     (subst (λ (rows : List (List ℕ)). IsSound (after c rows (slice_set c.self.inside.notes c.in-Some.page (record c.get-note.result { dirty = true }))) next) (sym c.store.ensures.stored) ideal))
 
@@ -78,3 +79,20 @@ returns-clause-step c = view c
 
 pub returns-clause-lawful : goal.returns-clause-lawful
 returns-clause-lawful c = (invariant_of-self c).lawful
+
+pub revise-requires-clause-used : goal.revise-requires-clause-used
+revise-requires-clause-used c =
+    let is = resident c.self.inside c.args.self.now (subst (IsSound c.self.inside) c.self.view_is c.self.invariant) c.args.address c.args.frame c.requires.frame in
+    let sound : IsSound c.self.inside c.args.self.now = subst (IsSound c.self.inside) c.self.view_is c.self.invariant in
+    let page : is.page ≡ c.in-Some.page = same_page _ _ _ (holder_at c.args.self.now sound.lawful is.page c.args.frame is.at) (sym c.holder.ensures.holder ∙ c.in-Some.is) in
+    let used = not_none _ (At c.args.frame) (ap (map.get c.args.self.now.placement) (sym page) ∙ is.at) in
+    ap is_some (placement_seen c.self.inside c.args.self.now c.self.view_is c.in-Some.page) ∙ used
+
+pub revise-requires-clause-stays : goal.revise-requires-clause-stays
+revise-requires-clause-stays c =
+    let is = resident c.self.inside c.args.self.now (subst (IsSound c.self.inside) c.self.view_is c.self.invariant) c.args.address c.args.frame c.requires.frame in
+    let sound : IsSound c.self.inside c.args.self.now = subst (IsSound c.self.inside) c.self.view_is c.self.invariant in
+    let page : is.page ≡ c.in-Some.page = same_page _ _ _ (holder_at c.args.self.now sound.lawful is.page c.args.frame is.at) (sym c.holder.ensures.holder ∙ c.in-Some.is) in
+    let used = not_none _ (At c.args.frame) (ap (map.get c.args.self.now.placement) (sym page) ∙ is.at) in
+    let seen = note_seen c.self.inside c.args.self.now c.self.view_is sound c.in-Some.page used c.get-note.result c.get-note.ensures in
+    ap (λ (n : Note). is_some n.placement) c.stored.ensures ∙ ap is_some seen.placement ∙ used
