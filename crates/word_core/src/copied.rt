@@ -7,8 +7,8 @@ use std::marker::Model;
 /// An isolated page that was copied: ready for its new frame.
 #[derive(Drop, Debug)]
 pub struct Copied {
-    pub(crate) serial: Serial,
     pub(crate) page: Page,
+    pub(crate) serial: Serial,
 }
 
 impl Model for Copied {

@@ -8,8 +8,8 @@ use std::marker::Model;
 /// A page that was taken from its frame, under the serial that its zone gave it.
 #[derive(Drop, Debug)]
 pub struct Isolated {
-    serial: Serial,
     page: Page,
+    serial: Serial,
 }
 
 impl Model for Isolated {

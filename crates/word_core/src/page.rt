@@ -5,10 +5,10 @@ use std::marker::Model;
 /// A page of a zone: its number, its flags and its eight words.
 #[derive(Drop, Debug)]
 pub struct Page {
-    zone: ZoneNo,
-    number: PageNo,
-    flags: PageFlags,
     words: [u64; 8],
+    number: PageNo,
+    zone: ZoneNo,
+    flags: PageFlags,
 }
 
 impl Model for Page {
