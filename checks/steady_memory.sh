@@ -1,7 +1,8 @@
 #!/usr/bin/env bash
-# No round keeps memory, and no line does. One process makes 1,000 rounds that move pages, with the pages unmapped and mapped between
-# them, and its peak of memory is at most a little above that behind the first ten. Another answers a million lines of `look` and
-# `info`, with a peak as behind the first thousand, and of at most 4 MiB. Ends with status 1 where it isn't so.
+# No round keeps memory, and no line does. Behind 1,000 rounds that move pages, with the pages unmapped and mapped between them, a
+# process has at most a little more memory than one has behind ten; behind a million lines of `look` and `info` it has as much as
+# behind a thousand. Its peak is at most 4 MiB each time. The room of the journal is asked for at `zone`, but the system gives it as records are
+# written, so runs that are compared write as many records. Ends with status 1 where it isn't so.
 set -euo pipefail
 
 source "$(dirname -- "${BASH_SOURCE[0]}")/built.sh"
@@ -14,7 +15,7 @@ import threading
 PAGES = 12
 FEW_ROUNDS, MANY_ROUNDS = 10, 1_000
 FEW_LINES, MANY_LINES = 1_000, 1_000_000
-SLACK_KB = 256
+SLACK_KB = 128
 MOST_KB = 4096
 
 OPENING = b"zone 0 1\n"
@@ -22,10 +23,16 @@ FILLING = b"fill 0 0 0 %d\n" % PAGES
 FILLED = b"done=%d\n" % PAGES
 MOVING = b"compact 0\nthin 0 0 0 %d 1\n" % PAGES + FILLING
 MOVED = b"isolated=%d moved=%d back=0 stopped=met\n" % (PAGES, PAGES) + 2 * FILLED
+RECORDS_OF_A_ROUND = 4 * PAGES
+LOADING, LOADED = b"load 0 0 0 0\n", b"value=0\n"
 ASKING = b"look 0 0 0\ninfo 0\n"
 ASKED = b"frame=0 dirty=0 unmovable=0 pins=0 maps=1\nfree=%d pages=%d moving=0 huge=0 whole=0\n" % (512 - PAGES, PAGES)
 
 program = sys.argv[1]
+
+
+def kb_of(lines, name):
+    return next(int(line.split()[1]) for line in lines if line.startswith(name))
 
 
 class Run:
@@ -50,10 +57,10 @@ class Run:
                 sys.exit(f"a reply is {found}, and not {reply}")
         sender.join()
 
-    def peak_kb(self):
-        """The peak of the process's memory since it started."""
-        with open(f"/proc/{self.process.pid}/status") as status:
-            return next(int(line.split()[1]) for line in status if line.startswith("VmHWM:"))
+    def memory_kb(self):
+        """What the process has of its own at the moment, without the files that it stands on, and the peak with these."""
+        with open(f"/proc/{self.process.pid}/smaps_rollup") as memory, open(f"/proc/{self.process.pid}/status") as status:
+            return kb_of(memory, "Anonymous:"), kb_of(status, "VmHWM:")
 
     def end(self):
         self.process.stdin.close()
@@ -61,24 +68,29 @@ class Run:
             sys.exit(f"status {self.process.returncode}")
 
 
-def peaks(commands, replies, few, many, *options):
-    """The peak behind few repetitions of commands, and that behind many."""
+def memory_kb(parts, *options):
+    """The memory of a run over parts of a script: what is typed, what is answered, and how many times."""
     run = Run(*options)
-    run.answer(commands * few, replies * few)
-    first = run.peak_kb()
-    run.answer(commands * (many - few), replies * (many - few))
-    last = run.peak_kb()
+    for commands, replies, times in parts:
+        run.answer(commands * times, replies * times)
+    memory = run.memory_kb()
     run.end()
-    if last > first + SLACK_KB:
-        sys.exit(f"{many} times {commands} with {options}: {first} kB behind the first {few}, and {last} kB in the end")
-    return first, last
+    return memory
+
+
+def compare(what, few, many):
+    """The memory of two runs, of which the second may have a little more than the first."""
+    print(f"{what}: {few[0]} kB and {many[0]} kB, with a peak of {many[1]} kB")
+    if many[0] > few[0] + SLACK_KB or many[1] > MOST_KB:
+        sys.exit(f"more than {SLACK_KB} kB apart, or a peak above {MOST_KB} kB")
 
 
 for copiers in (1, 4):
-    first, last = peaks(MOVING, MOVED, FEW_ROUNDS, MANY_ROUNDS, f"--copiers={copiers}")
-    print(f"{MANY_ROUNDS} rounds of {PAGES} pages, copiers: {copiers}: {first} kB behind the first {FEW_ROUNDS}, {last} kB in the end")
-first, last = peaks(ASKING, ASKED, FEW_LINES // 2, MANY_LINES // 2)
-print(f"{MANY_LINES} lines: {first} kB behind the first {FEW_LINES}, {last} kB in the end")
-if last > MOST_KB:
-    sys.exit(f"more than {MOST_KB} kB")
+    records = (MANY_ROUNDS - FEW_ROUNDS) * RECORDS_OF_A_ROUND
+    few = memory_kb([(MOVING, MOVED, FEW_ROUNDS), (LOADING, LOADED, records)], f"--copiers={copiers}")
+    many = memory_kb([(MOVING, MOVED, MANY_ROUNDS)], f"--copiers={copiers}")
+    compare(f"memory behind {FEW_ROUNDS} rounds of {PAGES} pages and behind {MANY_ROUNDS}, copiers: {copiers}", few, many)
+few = memory_kb([(ASKING, ASKED, FEW_LINES // 2)])
+many = memory_kb([(ASKING, ASKED, MANY_LINES // 2)])
+compare(f"memory behind {FEW_LINES} lines and behind {MANY_LINES}", few, many)
 PYTHON
