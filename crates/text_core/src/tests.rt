@@ -403,9 +403,13 @@ fn pooled(blocks: PoolBlocks, got: &[u16], rounds: u32, stopped: PoolStopped) ->
     }
 }
 
+/// The blocks of order 3.
+fn of_order_3() -> PoolBlocks {
+    PoolBlocks::OfOrder(Order::new(3).unwrap())
+}
+
 #[test]
 fn prints_pools(rt: HostRuntime) {
-    let of_order = PoolBlocks::OfOrder(Order::new(3).unwrap());
     let eight = [3584, 3592, 3600, 3608, 4000, 4008, 4016, 4088];
     let rows: [(Reply, &[u8]); 6] = [
         (
@@ -421,16 +425,16 @@ fn prints_pools(rt: HostRuntime) {
             b"got=0 rounds=0 stopped=32 blocks=-\n",
         ),
         (
-            pooled(of_order, &[], 4, PoolStopped::Rounds),
+            pooled(of_order_3(), &[], 4, PoolStopped::Rounds),
             b"got=0 rounds=4 stopped=rounds frames=-\n",
         ),
         (
-            pooled(of_order, &eight, 4, PoolStopped::JournalFull),
+            pooled(of_order_3(), &eight, 4, PoolStopped::JournalFull),
             b"got=8 rounds=4 stopped=journalfull frames=3584,3592,3600,3608,4000,4008,4016,4088\n",
         ),
         (
             pooled(
-                of_order,
+                of_order_3(),
                 &[65535; 8],
                 4294967295,
                 PoolStopped::Refused(65535),

@@ -1,4 +1,4 @@
-use Rattle.std.proofs.Common.{◌≡◌, ◌∙◌, ◌-◌, ◌++◌, List, ℕ, length, length-take, length-drop, take, drop, get_or, ap, append_assoc, decimal, arith}
+use Rattle.std.proofs.Common.{◌∙◌, ◌-◌, ◌++◌, List, ℕ, length, length-take, length-drop, take, drop, get_or, ap, append_assoc, decimal, arith}
 use Rattle.text_core.specs.Reply.{behind_commas}
 use Rattle.text_core.proofs.Commas.{numbers_text-front}
 use Rattle.text_core.proofs.reply.push_numbers.Goals as goal
