@@ -277,18 +277,19 @@ fn stopped(stop: Stop) -> Stopped
 fn pool_reply(blocks: PoolBlocks, report: &Report) -> Reply
     ensures { result ≡ pool_reply blocks report.now }
 {
+    let got = told_of(&blocks, report.got.as_slice());
     Reply::Pool {
         blocks,
-        got: told_of(blocks, report.got.as_slice()),
+        got,
         rounds: report.rounds,
         stopped: pool_stopped(report.stop),
     }
 }
 
 /// The numbers that tell at most eight blocks.
-fn told_of(blocks: PoolBlocks, got: &[Option<Huge>]) -> ArrayVec<u16, 8>
+fn told_of(blocks: &PoolBlocks, got: &[Option<Huge>]) -> ArrayVec<u16, 8>
     requires few { length got.now ≤ 8 }
-    ensures { result.items ≡ told_of blocks got.now }
+    ensures { result.items ≡ told_of blocks.now got.now }
 {
     let mut told = ArrayVec::new();
     for block in got {

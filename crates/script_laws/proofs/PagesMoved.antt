@@ -27,7 +27,7 @@ pub record LeavesCells (z after : ZoneState) : Type 0 where
 pub leaves_all : (z : ZoneState) → LeavesCells z z
 leaves_all z = record { blocks = refl; names = λ address. refl; words = λ page word. refl }
 
-leaves_then : (a b c : ZoneState) → LeavesCells a b → LeavesCells b c → LeavesCells a c
+pub leaves_then : (a b c : ZoneState) → LeavesCells a b → LeavesCells b c → LeavesCells a c
 leaves_then a b c first second = record {
   blocks = second.blocks ∙ first.blocks;
   names = λ address. second.names address ∙ first.names address;

@@ -1,4 +1,4 @@
-use Rattle.std.proofs.Common.{◌≡◌, ◌∙◌, ◌++◌, ◌∷◌, [], ℕ, List, ap, sym, append-nil, drop, length, arith}
+use Rattle.std.proofs.Common.{◌≡◌, ◌∙◌, ◌+◌, ◌++◌, ◌∷◌, [], ℕ, List, ap, sym, append-nil, drop, length, arith}
 use Rattle.std.proofs.lemmas.List.{at_drop_all, length_push}
 use Rattle.arrayvec.specs.ArrayVec.{ArrayVec}
 use Rattle.text_core.specs.Pool.{told_as}
@@ -9,7 +9,7 @@ use Rattle.script_core.proofs.threaded.told_of.Goals.{in-Some, in_default}
 
 pub loop-block-preserved : goal.loop-block-preserved
 loop-block-preserved c =
-    let blocks = c.args.blocks in
+    let blocks = c.args.blocks.now in
     let got = c.args.got.now in
     let l = c.loop-block in
     let rest = drop (l.block-index + 1) got in
@@ -36,5 +36,5 @@ pub returns : goal.returns
 returns c =
     let l = c.loop-block in
     sym (append-nil l.told.items)
-    ∙ ap (λ (r : List ℕ). l.told.items ++ r) (sym (at_drop_all (told_of c.args.blocks) c.args.got.now l.block-index c.loop-block-test.false))
+    ∙ ap (λ (r : List ℕ). l.told.items ++ r) (sym (at_drop_all (told_of c.args.blocks.now) c.args.got.now l.block-index c.loop-block-test.false))
     ∙ l.invariant.told

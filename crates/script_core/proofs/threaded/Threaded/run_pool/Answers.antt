@@ -15,6 +15,6 @@ returns g c =
     collector.result report c.pool_reply.result c.take_back.new.self
     c.in-Ok.ensures.zone c.in-Ok.ensures.scan c.in-Ok.ensures.ends c.in-Ok.ensures.whole
     collector.ensures.rounds (collector.ensures.order ∙ c.order.ensures)
-    reserved.kept reserved.shape reserved.got (omega (arith, reserved.most, c.get.ensures.value))
-    (subst (λ (k : ℕ). (report.stop ≡ stop.Enough) ↔ (length report.got.items ≡ k)) c.get.ensures.value reserved.enough)
+    reserved.kept reserved.shape reserved.got (omega (arith, reserved.most, c.get-n.ensures.value))
+    (subst (λ (k : ℕ). (report.stop ≡ stop.Enough) ↔ (length report.got.items ≡ k)) c.get-n.ensures.value reserved.enough)
     reserved.rounds c.take_back.ensures.exact c.pool_reply.ensures c.take_back.ensures.left
