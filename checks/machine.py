@@ -10,6 +10,7 @@ FRAMES_OF_A_PAGEBLOCK = 512
 PAGEBLOCK = 9  # the order of a pageblock
 MOST_ADDRESSES = 4
 MOST_PINS = 255
+MOST_ROUNDS = 4  # of a pool
 
 # What stands in the place of a number: its least and its largest value.
 RANGES = {
@@ -284,17 +285,22 @@ class Zone:
             self.end_move(page, False)
         return f"back={len(waiting)}"
 
-    def compact(self):
-        if self.is_open:
-            raise Refused(45)
-        moved, stopped = 0, "met"
+    def move_all(self):
+        """A round: how many pages it moves, and why it stops."""
+        moved = 0
         self.begin_round()
         try:
             while page := self.take_next():
                 self.end_move(page, True)
                 moved += 1
         except Refused:
-            stopped = "journalfull"
+            return moved, "journalfull"
+        return moved, "met"
+
+    def compact(self):
+        if self.is_open:
+            raise Refused(45)
+        moved, stopped = self.move_all()
         return f"isolated={moved} moved={moved} back=0 stopped={stopped}"
 
     # Blocks, marks and counts.
@@ -315,6 +321,38 @@ class Zone:
 
     def huge_of_order(self, order):
         return f"frame={self.hand_out(order)} order={order}"
+
+    def reserve(self, count, order):
+        """Hands out so many blocks, with rounds as needed: their first frames, how many rounds, and why it stops."""
+        firsts, rounds = [], 0
+        while True:
+            try:
+                while len(firsts) < count:
+                    firsts.append(self.hand_out(order))
+                return firsts, rounds, "enough"
+            except Refused as refused:
+                if refused.number == 2:
+                    return firsts, rounds, "journalfull"
+            if rounds == MOST_ROUNDS:
+                return firsts, rounds, "rounds"
+            moved, stopped = self.move_all()
+            rounds += 1
+            if moved == 0:
+                return firsts, rounds, "noblock" if stopped == "met" else stopped
+
+    def pool(self, count):
+        firsts, told = self.pool_of(count, PAGEBLOCK)
+        return f"{told} blocks={listed(first // FRAMES_OF_A_PAGEBLOCK for first in firsts)}"
+
+    def pool_of_order(self, count, order):
+        firsts, told = self.pool_of(count, order)
+        return f"{told} frames={listed(firsts)}"
+
+    def pool_of(self, count, order):
+        if self.is_open:
+            raise Refused(45)
+        firsts, rounds, stopped = self.reserve(count, order)
+        return firsts, f"got={len(firsts)} rounds={rounds} stopped={stopped}"
 
     def give(self, first, order):
         self.need_frames(first, 2**order)
@@ -357,6 +395,10 @@ class Zone:
         return f"{self.info()} held={sum(2**order for _, order in self.handed_out)}"
 
 
+def listed(numbers):
+    return ",".join(str(number) for number in numbers) or "-"
+
+
 # The forms of the commands of both profiles, and their calls of the zone. Capital letters stand for numbers; Z is the zone.
 CALLS = {
     "map Z S V": lambda zone, s, v: zone.map((s, v)),
@@ -379,12 +421,14 @@ CALLS = {
     "shut Z": Zone.shut,
     "compact Z": Zone.compact,
     "huge Z": Zone.huge,
+    "pool Z BLOCKS": Zone.pool,
     "give Z BLOCK": lambda zone, block: zone.give(block * FRAMES_OF_A_PAGEBLOCK, PAGEBLOCK),
     "info Z": Zone.info,
 }
 CALLS_OF_PROFILE_2 = {
     **CALLS,
     "huge Z ORDER": Zone.huge_of_order,
+    "pool Z BLOCKS ORDER": Zone.pool_of_order,
     "give Z F ORDER": Zone.give,
     "mark Z BLOCK": Zone.mark,
     "unmark Z BLOCK": Zone.unmark,

@@ -28,7 +28,7 @@ CAPACITIES = [1, 8, 64]
 COMMON = [
     *["map", "store", "load"] * 6,
     *["mapat", "share", "unmap", "pin", "unpin", "scan", "take", "copy", "finish", "look"] * 3,
-    *["fill", "thin", "huge", "give", "compact", "shut", "mark", "unmark"] * 2,
+    *["fill", "thin", "huge", "give", "compact", "pool", "shut", "mark", "unmark"] * 2,
     *["info", "zone"],
 ]
 
@@ -163,6 +163,10 @@ class Author:
     def behind_huge(self):
         return "" if self.machine.profile == 1 or self.draw.random() < 0.3 else str(self.order())
 
+    def behind_pool(self):
+        count = self.draw.choice([1, 1, 2, 3, 8, 0, 9])
+        return f"{count} {self.behind_huge()}"
+
     def behind_mark(self):
         return str(self.block())
 
@@ -186,6 +190,8 @@ def held_behind(held, command, reply):
     words = command.split()
     if words[0] == "huge" and "refused" not in reply:
         return held + 2 ** int(fields(reply).get("order", 9))
+    if words[0] == "pool" and "refused" not in reply:
+        return held + int(fields(reply)["got"]) * 2 ** (int(words[3]) if len(words) == 4 else 9)
     if words[0] == "give" and reply == "ok":
         return held - 2 ** (int(words[3]) if len(words) == 4 else 9)
     return held
@@ -240,14 +246,16 @@ def try_script(number):
 
 
 def kinds_of(replies):
-    """How often each refusal came, and how many rounds moved a page."""
+    """How often each refusal came, how many rounds moved a page, and how often pools stopped for each reason."""
     refusals = [reply for reply in replies if reply.startswith("refused ")]
     rounds = [ROUND for reply in replies if reply.startswith("isolated=") and not reply.startswith("isolated=0")]
-    return collections.Counter(refusals + rounds)
+    pools = [f"pool stopped={fields(reply)['stopped']}" for reply in replies if reply.startswith("got=")]
+    return collections.Counter(refusals + rounds + pools)
 
 
 ROUND = "rounds that moved a page"
 WANTED = {f"refused {number}" for number in [*range(1, 13), 17, 18, 43, 44, 45]} | {ROUND}
+WANTED |= {f"pool stopped={reason}" for reason in ("enough", "noblock", "journalfull")}
 
 kinds = collections.Counter()
 with concurrent.futures.ProcessPoolExecutor(PROCESSORS, multiprocessing.get_context("fork")) as pool:
