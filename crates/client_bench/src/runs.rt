@@ -1,0 +1,156 @@
+// Runs of clients, each over a zone that is opened for it.
+ghost use Rattle.std.specs.Prelude.{◌≡◌};
+ghost use Rattle.zone_core.specs.Books.{AreFor};
+
+use crate::clients::{CALLS, clients, time_loads, use_all};
+use crate::opening::{Opening, open};
+use crate::rounds::run_rounds;
+use crate::times::{nanos_since, thousands};
+use client_core::{Client, settle_clients};
+use round_core::{Shape, SharedZone};
+use std::alloc::Global;
+use std::sync::Wait;
+use std::sync::atomic::{AtomicBool, Ordering};
+use std::sync::ledger::Ledger;
+use std::thread::{Threads, join};
+use std::time::{Clock, Instant};
+use zone_core::Blanks;
+
+/// Loads whose times are taken.
+const LOADS: u32 = 10_000;
+
+/// What clients did beside rounds.
+#[derive(Clone, Copy, Default)]
+pub struct Outcome {
+    /// Thousands of calls in a second.
+    pub rate: u64,
+    /// Calls that stand in the journal as they were answered.
+    pub settled: usize,
+    /// Pages that the rounds moved.
+    pub moved: u32,
+}
+
+/// Of times in nanoseconds: the one in the middle, the one that a hundredth is above, and the greatest.
+#[derive(Clone, Copy, Default)]
+pub struct Waits {
+    pub median: u64,
+    pub high: u64,
+    pub greatest: u64,
+}
+
+impl Waits {
+    fn of(mut nanos: Vec<u64>) -> Option<Waits> {
+        nanos.sort_unstable();
+        let last = nanos.len().checked_sub(1)?;
+        Some(Waits {
+            median: *nanos.get(last / 2)?,
+            high: *nanos.get(last - last / 100)?,
+            greatest: *nanos.get(last)?,
+        })
+    }
+}
+
+/// How many thousands of calls clients make in a second, of a zone at rest.
+pub fn rate_at_rest<
+    K: Shape + Send + Sync,
+    I: Ledger + Send + Sync,
+    N: Ledger,
+    M: Ledger + Send + Sync,
+    B: Ledger + Send + Sync,
+    R: Threads + Wait + Clock + Sync,
+>(rt: &R, alloc: Global, count: u32, blanks: Blanks) -> Option<u64>
+    requires shape { (K.number ≡ 0) × (K.blocks ≡ 8) }
+    requires blanks { AreFor blanks I.name I.parts N.name N.parts M.name M.parts B.name B.parts }
+{
+    let opening = open::<K, I, N, M, B, R>(rt, alloc, blanks)?;
+    let mut crowd = clients(alloc, count)?;
+    rate(rt, &opening.shared, &mut crowd)
+}
+
+/// How many thousands of calls clients make in a second.
+fn rate<
+    K: Shape + Send + Sync,
+    I: Ledger + Send + Sync,
+    M: Ledger + Send + Sync,
+    B: Ledger + Send + Sync,
+    R: Threads + Wait + Clock + Sync,
+>(rt: &R, shared: &SharedZone<K, I, M, B>, clients: &mut [Client]) -> Option<u64> {
+    let calls = CALLS.saturating_mul(u32::try_from(clients.len()).ok()?);
+    let start = Instant::now(rt).ok()?;
+    use_all(rt, shared, clients)?;
+    Some(thousands(calls, nanos_since(rt, &start).ok()?))
+}
+
+/// Clients beside rounds, and the comparison of their receipts with the journal.
+pub fn beside_rounds<
+    K: Shape + Send + Sync,
+    I: Ledger + Send + Sync,
+    N: Ledger + Send,
+    M: Ledger + Send + Sync,
+    B: Ledger + Send + Sync,
+    R: Threads + Wait + Clock + Sync,
+>(rt: &R, alloc: Global, count: u32, blanks: Blanks) -> Option<Outcome>
+    requires shape { (K.number ≡ 0) × (K.blocks ≡ 8) }
+    requires blanks { AreFor blanks I.name I.parts N.name N.parts M.name M.parts B.name B.parts }
+{
+    let Opening {
+        shared,
+        mut seats,
+        mut keeper,
+    } = open::<K, I, N, M, B, R>(rt, alloc, blanks)?;
+    let mut crowd = clients(alloc, count)?;
+    let ended = AtomicBool::new(false);
+    let (lock, flag) = (&shared, &ended);
+    let (rate, moved) = join(
+        rt,
+        || -> Option<u64> {
+            let rate = rate(rt, lock, &mut crowd);
+            flag.store(true, Ordering::SeqCst);
+            rate
+        },
+        || -> Option<u32> { run_rounds(rt, alloc, lock, &mut seats, &mut keeper, 8, flag) },
+    );
+    let settled = crowd.iter().map(|client| client.receipts().len()).sum();
+    crowd.push(keeper).ok()?;
+    settle_clients(&shared.into_zone(), &crowd).ok()?;
+    Some(Outcome {
+        rate: rate?,
+        settled,
+        moved: moved?,
+    })
+}
+
+/// How long a load of one client takes beside rounds whose queues have so much room.
+pub fn wait_beside_rounds<
+    K: Shape + Send + Sync,
+    I: Ledger + Send + Sync,
+    N: Ledger + Send,
+    M: Ledger + Send + Sync,
+    B: Ledger + Send + Sync,
+    R: Threads + Wait + Clock + Sync,
+>(rt: &R, alloc: Global, cap: usize, blanks: Blanks) -> Option<Waits>
+    requires shape { (K.number ≡ 0) × (K.blocks ≡ 8) }
+    requires blanks { AreFor blanks I.name I.parts N.name N.parts M.name M.parts B.name B.parts }
+{
+    let Opening {
+        shared,
+        mut seats,
+        mut keeper,
+    } = open::<K, I, N, M, B, R>(rt, alloc, blanks)?;
+    let mut crowd = clients(alloc, 1)?;
+    let ended = AtomicBool::new(false);
+    let (lock, flag) = (&shared, &ended);
+    let (nanos, moved) = join(
+        rt,
+        || -> Option<Vec<u64>> {
+            let nanos = crowd
+                .first_mut()
+                .and_then(|client| time_loads(rt, alloc, lock, client, LOADS));
+            flag.store(true, Ordering::SeqCst);
+            nanos
+        },
+        || -> Option<u32> { run_rounds(rt, alloc, lock, &mut seats, &mut keeper, cap, flag) },
+    );
+    moved?;
+    Waits::of(nanos?)
+}
