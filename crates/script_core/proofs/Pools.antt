@@ -1,5 +1,5 @@
 -- Pools: on one thread, and over the zone and the seats that a world was split into.
-use Rattle.std.proofs.Common.{◌≡◌, ◌∙◌, ℕ, suc, ◌+◌, ◌<◌, ◌≤◌, All, List, [], ◌∷◌, ◌++◌, length, drop, get_or, refl, sym, ap, subst, add-one, append_assoc, drop-cons, arith, Option, Some, None, Result, Ok, Err}
+use Rattle.std.proofs.Common.{◌≡◌, ◌∙◌, ℕ, suc, ◌+◌, ◌<◌, ◌≤◌, All, List, [], ◌∷◌, ◌++◌, length, drop, get_or, refl, sym, ap, subst, add-one, append_assoc, drop-cons, arith, Option, Some, None, Err}
 use Rattle.std.specs.Prelude.{◌↔◌, unwrap_or}
 use Rattle.state_core.specs.declared.error.ZoneError.{ZoneError}
 use Rattle.state_core.specs.HandingOut.{block_taken, lowest_run, take_order_refusal}
@@ -7,10 +7,9 @@ use Rattle.state_core.specs.ZoneState.{ZoneState}
 use Rattle.zone_core.specs.Seats.{ScanSeat, EndSeat, audit_refusal}
 use Rattle.zone_core.specs.Shape.{HasShape}
 use Rattle.zone_core.specs.World.{WorldState, with_zone}
-use Rattle.round_core.specs.declared.error.RoundError.{RoundError}
 use Rattle.round_core.specs.declared.round.Round.{Round}
 use Rattle.round_core.specs.Kept.{IsKept}
-use Rattle.round_core.specs.Rounds.{IsRefusedEarly, IsRound, IsWant}
+use Rattle.round_core.specs.Rounds.{IsRefusedEarly}
 use Rattle.huge_core.specs.declared.collector.Collector.{Collector}
 use Rattle.huge_core.specs.declared.report.Report.{Report}
 use Rattle.huge_core.specs.declared.report.Stop.{Stop}

@@ -1,4 +1,4 @@
-use Rattle.std.proofs.Common.{◌≡◌, ◌∙◌, ◌+◌, ◌++◌, ◌∷◌, [], ℕ, List, ap, sym, append-nil, drop, length, arith}
+use Rattle.std.proofs.Common.{◌∙◌, ◌+◌, ◌++◌, ◌∷◌, [], ℕ, List, ap, sym, append-nil, drop, length, arith}
 use Rattle.std.proofs.lemmas.List.{at_drop_all, length_push}
 use Rattle.arrayvec.specs.ArrayVec.{ArrayVec}
 use Rattle.text_core.specs.Pool.{told_as}
