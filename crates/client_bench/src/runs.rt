@@ -110,7 +110,7 @@ pub fn beside_rounds<
         },
         || -> Option<u32> { run_rounds(rt, alloc, lock, &mut seats, &mut keeper, 8, flag) },
     );
-    let settled = crowd.iter().map(|client| client.receipts().len()).sum();
+    let settled = receipts_of(&crowd);
     crowd.push(keeper).ok()?;
     settle_clients(&shared.into_zone(), &crowd).ok()?;
     Some(Outcome {
@@ -118,6 +118,15 @@ pub fn beside_rounds<
         settled,
         moved: moved?,
     })
+}
+
+/// How many receipts clients have together.
+fn receipts_of(clients: &[Client]) -> usize {
+    let mut receipts = 0usize;
+    for client in clients {
+        receipts = receipts.saturating_add(client.receipts().len());
+    }
+    receipts
 }
 
 /// How long a load of one client takes beside rounds whose queues have so much room.
