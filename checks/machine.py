@@ -1,4 +1,4 @@
-"""A machine for scripts of compactd that is small and slow, written from docs/SCRIPT.md alone: which command a line is, what the zone
+"""A machine for scripts of compactd that is small and slow, written after docs/SCRIPT.md: which command a line is, what the zone
 does at it, and the reply. The checks compare what the program writes with what this machine writes. Rounds on threads are made
 one page after the other here, since no reply tells the order in which copiers carry pages."""
 

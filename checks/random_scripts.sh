@@ -1,8 +1,8 @@
 #!/usr/bin/env bash
-# 500 random scripts, with rounds of 1, 2 and 4 copiers and capacities 1, 8 and 64, are answered as docs/SCRIPT.md says: each reply is
-# that of checks/machine.py, for no reply of a round leaves anything open. Besides, and without that machine: the counts of each info
-# line are together the frames of the zone, each page of a round was moved or put back, and at the end no two pages have one frame.
-# The scripts are drawn from a fixed seed. Ends with status 1 where it isn't so.
+# 500 random scripts, with rounds and pools of 1, 2 and 4 copiers and capacities 1, 8 and 64, are answered as docs/SCRIPT.md says: each
+# reply is that of checks/machine.py, for no reply of a round leaves anything open. Besides, and without that machine: the counts of
+# each info line are together the frames of the zone, each page of a round was moved or put back, and at the end no two pages have one
+# frame. The scripts are drawn from a fixed seed. Ends with status 1 where it isn't so.
 set -euo pipefail
 
 source "$(dirname -- "${BASH_SOURCE[0]}")/built.sh"

@@ -2,7 +2,7 @@
 //!
 //! `text_core` says which command a line is and how a reply reads. `specs/Machine.antt` says what a command does, and
 //! `specs/Script.antt` what is written for a whole input. `run` does just that, in whatever pieces the input comes. On threads
-//! a round may be answered in more than one way, and `specs/Threaded.antt` says in which: `run_on_threads`.
+//! a round or a pool may be answered in more than one way, and `specs/Threaded.antt` says in which: `run_on_threads`.
 #![tactic(auto)]
 
 mod answering;
