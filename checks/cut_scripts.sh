@@ -1,7 +1,7 @@
 #!/usr/bin/env bash
 # A script that is cut off is seen. Each worked example of docs/SCRIPT.md, which has its replies below it, is cut behind each of its
 # bytes: the program has to answer the whole lines that are left as the manual says, and to end with fault 41 at the next line where
-# bytes are left of it, and else with status 0. Ends with status 1 where it isn't so.
+# bytes are left of it, or at the line of a block that isn't ended, and else with status 0. Ends with status 1 where it isn't so.
 set -euo pipefail
 
 source "$(dirname -- "${BASH_SOURCE[0]}")/built.sh"
@@ -25,12 +25,23 @@ def examples():
 
 
 def cut(script, replies, size):
-    """What the first bytes of a script have to come to: the status, the replies and the fault."""
-    left = script[:size]
-    *lines, cut_line = left.split(b"\n")
-    answered = sum(line.strip(b" ") != b"" and not line.strip(b" ").startswith(b"#") for line in lines)
-    fault = b"compactd: fault 41 at line %d\n" % (len(lines) + 1) if cut_line else b""
-    return int(cut_line != b""), b"".join(replies.splitlines(True)[:answered]), fault
+    """What the first bytes of a script have to come to: the status, the replies and the fault. A block has all its replies at its end."""
+    *lines, cut_line = script[:size].split(b"\n")
+    answered = clients = block = 0
+    for number, line in enumerate(lines, 1):
+        word = line.strip(b" ").split(b" ")[0]
+        if word == b"" or word.startswith(b"#"):
+            continue
+        if word == b"during":
+            block, clients = number, 0
+        elif word == b"end":
+            answered, block = answered + clients + 1, 0
+        elif block:
+            clients += 1
+        else:
+            answered += 1
+    fault = len(lines) + 1 if cut_line else block
+    return int(fault > 0), b"".join(replies.splitlines(True)[:answered]), b"compactd: fault 41 at line %d\n" % fault if fault else b""
 
 
 def written_for(options, text):

@@ -1,11 +1,12 @@
 #!/usr/bin/env bash
-# No command but `zone`, `compact` and `pool` takes memory, and no request that is refused goes wrong. One script has every other command,
-# answers each, gets each refusal, and fills the zone's lists. Its run has to make as many requests for memory as one that only opens
+# No command but `zone`, `compact`, `pool` and `during` takes memory, and no request that is refused goes wrong. One script has every other
+# command, answers each, gets each refusal, and fills the zone's lists. Its run has to make as many requests for memory as one that only opens
 # the zone, those that are made in vain included. Then each of these requests is refused in turn: the run has to end with the
 # script's own replies, or with fault 48: at line 0 and no reply, or at the line of `zone` behind the reply to the line before. Another
 # script runs two rounds, and each of its requests is refused in turn: besides, a round may be refused 31 or 32, and the zone is
 # then as before it, so that the next round does its work. A third runs a pool, which may tell 31 or 32 in place of its first round or
-# its second. Ends with status 1 where it isn't so.
+# its second. A fourth has a block, where besides that the fault may be at its line `during`, a client line may be refused 31, and the
+# whole block 32. Ends with status 1 where it isn't so.
 set -euo pipefail
 
 source "$(dirname -- "${BASH_SOURCE[0]}")/built.sh"
@@ -166,6 +167,17 @@ a_pool() {
     echo 'info 0'
 }
 
+# A client loads from a page beside a round that moves it.
+a_block() {
+    echo 'profile 2'
+    echo 'zone 0 1'
+    echo 'map 0 0 0'
+    echo 'during 0'
+    each 'load 0 0 0 %.0f' 3 4
+    echo 'end'
+    echo 'look 0 0 0'
+}
+
 info_and_look() {
     echo 'info 0'
     each 'look 0 0 %.0f' 0 1
@@ -230,10 +242,11 @@ has_everything() {
         answered "$work/script" "$work/replies"
         answered "$work/round" "$work/moved"
         answered "$work/pool" "$work/pooled"
+        grep -q '^isolated=1 moved=1 ' "$work/played" && echo during
         grep refused "$work/replies"
     } | sort -u >"$work/found"
     # shellcheck disable=SC2016
-    sed -n 's/^| `\([a-z]*\) Z.*/\1/p; s/^| `\(refused [0-9]*\)`.*/\1/p' "$root/docs/SCRIPT.md" | grep -vx 'refused 3[1-4]' |
+    sed -n 's/^| `\([a-z]*\) Z.*/\1/p; s/^| `\(refused [0-9]*\)`.*/\1/p' "$root/docs/SCRIPT.md" | grep -vx 'refused 3[1-5]' |
         sort -u | diff - "$work/found"
 }
 
@@ -286,6 +299,20 @@ is_without_pool_round() {
     return 1
 }
 
+# Whether a client line of the block was refused for want of memory, or its round for that or for a thread, or the whole block for a thread;
+# then the page is where it was.
+is_without_part() {
+    local line number
+    local unmoved='frame=0 dirty=0 unmovable=0 pins=0 maps=1'
+    for line in 4 5; do
+        sed "${line}s/.*/refused 31/" "$work/played" | cmp -s - "$work/out" && return
+    done
+    for number in 31 32; do
+        { head -n 5 "$work/played" && echo "refused $number" && echo "$unmoved"; } | cmp -s - "$work/out" && return
+    done
+    { head -n 3 "$work/played" && echo 'refused 32' && echo "$unmoved"; } | cmp -s - "$work/out"
+}
+
 # Runs a script with one of its requests refused. What it writes is in `out` and `err`, and its status in `status`.
 refuse() {
     status=0
@@ -297,10 +324,12 @@ printf 'profile 2\nzone 0 8\n' >"$work/opening"
 every_command >"$work/script"
 rounds >"$work/round"
 a_pool >"$work/pool"
+a_block >"$work/block"
 wanted=$(requests_of "$work/opening" "$work/opened")
 found=$(requests_of "$work/script" "$work/replies")
 in_round=$(requests_of "$work/round" "$work/moved")
 in_pool=$(requests_of "$work/pool" "$work/pooled")
+in_block=$(requests_of "$work/block" "$work/played")
 has_everything || fail 'the scripts of this check lack a command or a refusal of docs/SCRIPT.md, or have one more'
 ((wanted > 0 && found == wanted)) || fail "$found requests for memory, and $wanted for the zone alone"
 
@@ -338,5 +367,25 @@ refuse_each() {
 refuse_each "$work/round" "$work/moved" "$in_round" round is_without_round
 of_round=$refused
 refuse_each "$work/pool" "$work/pooled" "$in_pool" pool is_without_pool_round
+of_pool=$refused
+
+unbegun=0
+without=0
+for ((request = 1; request <= in_block; request++)); do
+    refuse "$work/block" "$request"
+    if ((status == 1)) && is_fault_48 "$(<"$work/err")" "$(<"$work/out")"; then
+        continue
+    elif ((status == 1)) && [[ $(<"$work/err") == 'compactd: fault 48 at line 4' ]] && head -n 3 "$work/played" | cmp -s - "$work/out"; then
+        unbegun=$((unbegun + 1))
+    elif ((status != 0)) || [[ -s $work/err ]]; then
+        fail "request $request of a block refused: status $status, $(<"$work/err")"
+    elif is_without_part; then
+        without=$((without + 1))
+    elif ! cmp -s "$work/out" "$work/played"; then
+        fail "request $request of a block refused: it answers $(<"$work/out")"
+    fi
+done
+((unbegun > 0 && without > 0)) || fail 'no refused request ends at the line of a block, or none is told in one'
 echo "$(wc -l <"$work/script") commands make $wanted requests for memory, as the first alone; refused in turn, $faults end in fault 48," \
-    "of $in_round of two rounds $of_round are told in the place of one, and of $in_pool of a pool $refused"
+    "of $in_round of two rounds $of_round are told in the place of one, of $in_pool of a pool $of_pool, and of $in_block of a block $unbegun" \
+    "end at its line and $without are told in it"

@@ -16,7 +16,7 @@ use crate::error::ClientError;
 use frame_core::{Address, ClientNo, FrameNo, PageFlags, WordNo};
 use journal_core::{Journal, Record};
 use round_core::{Shape, SharedZone};
-use std::alloc::Global;
+use std::alloc::{AllocError, Global};
 use std::marker::Model;
 use std::sync::Wait;
 use std::sync::ledger::Ledger;
@@ -55,6 +55,16 @@ impl Client {
         ensures { result ≡ self.now.number }
     {
         self.number
+    }
+
+    /// The same client once more, with the same receipts.
+    pub fn try_clone(&self) -> Result<Client, AllocError>
+        ensures { IfOk result (λ client. client ≡ self.now) }
+    {
+        Ok(Client {
+            number: self.number,
+            receipts: self.receipts.clone()?,
+        })
     }
 
     /// The record of each accepted call, the oldest first.

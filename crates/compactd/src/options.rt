@@ -24,6 +24,7 @@ Commands of a script, one a line:
   share Z S V S2 V2, unmap Z S V, thin Z S V N STEP
   store Z S V W X, load Z S V W, look Z S V, pin Z S V, unpin Z S V
   scan Z, take Z K, copy Z K, finish Z K, shut Z, compact Z
+  during Z, then lines of a client as above, then end
   huge Z, give Z B, pool Z N
 and in profile 2, where the first line is `profile 2`:
   huge Z K, give Z F K, pool Z N K, mark Z B, unmark Z B

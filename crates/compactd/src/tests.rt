@@ -325,6 +325,66 @@ const CASES: [Case; 37] = [
     },
 ];
 
+/// Runs with clients beside rounds.
+const CLIENTS: [Case; 7] = [
+    Case {
+        name: "a client stores and loads in a page that is moved",
+        arguments: &[],
+        script: "zone 0 1\nmap 0 0 0\nduring 0\nstore 0 0 0 3 5\nload 0 0 0 3\nstore 0 0 0 3 6\nload 0 0 0 3\nend\nlook 0 0 0\n",
+        replies: "ok\nok\nok\nvalue=5\nok\nvalue=6\nisolated=1 moved=1 back=0 stopped=met\nframe=511 dirty=1 unmovable=0 pins=0 maps=1\n",
+        faults: "",
+        status: 0,
+    },
+    Case {
+        name: "another command in a block",
+        arguments: &[],
+        script: "zone 0 1\nduring 0\ninfo 0\n",
+        replies: "ok\n",
+        faults: "compactd: fault 41 at line 3\n",
+        status: 1,
+    },
+    Case {
+        name: "a block without an end",
+        arguments: &[],
+        script: "zone 0 1\nduring 0\nload 0 0 0 0\n",
+        replies: "ok\n",
+        faults: "compactd: fault 41 at line 2\n",
+        status: 1,
+    },
+    Case {
+        name: "a block without a zone",
+        arguments: &[],
+        script: "during 1\nload 1 0 0 0\nend\n",
+        replies: "refused 43\n",
+        faults: "",
+        status: 0,
+    },
+    Case {
+        name: "an end without a block",
+        arguments: &[],
+        script: "zone 0 1\nend\n",
+        replies: "ok\n",
+        faults: "compactd: fault 41 at line 2\n",
+        status: 1,
+    },
+    Case {
+        name: "a block within a block",
+        arguments: &[],
+        script: "zone 0 1\nduring 0\nduring 0\nend\nend\n",
+        replies: "ok\n",
+        faults: "compactd: fault 41 at line 3\n",
+        status: 1,
+    },
+    Case {
+        name: "a line that is too long in a block that is refused",
+        arguments: &[],
+        script: "during 0\n#########################################################################################################################################################################################################\nend\n",
+        replies: "",
+        faults: "compactd: fault 42 at line 2\n",
+        status: 1,
+    },
+];
+
 /// Runs with rounds on threads.
 const ROUNDS: [Case; 18] = [
     Case {
@@ -552,8 +612,16 @@ fn answers_rounds_and_pools(rt: HostRuntime) -> Result<(), Fail> {
 }
 
 #[test]
+fn answers_each_block(rt: HostRuntime) -> Result<(), Fail> {
+    for case in CLIENTS.iter() {
+        assert_answered(&rt, rt.alloc(), case)?;
+    }
+    Ok(())
+}
+
+#[test]
 fn reads_a_few_bytes_at_a_time(rt: HostRuntime) -> Result<(), Fail> {
-    for case in [FIRST_PAGE, CUT_LINE].iter() {
+    for case in [FIRST_PAGE, CUT_LINE].iter().chain(CLIENTS.iter()) {
         for size in [1, 2, 7] {
             let reader = Pieces {
                 rest: case.script.as_bytes(),

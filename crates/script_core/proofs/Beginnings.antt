@@ -2,13 +2,9 @@
 use Rattle.std.proofs.Common.{◌≡◌, ℕ, ◌+◌, Bool, true, false, cond, List, [], ◌∷◌, ◌++◌, refl, sym, ap, subst, Option, Some, None, Result, Ok, Err}
 use Rattle.std.specs.Prelude.{nat_eq, ⊤}
 use Rattle.std.specs.List.{AllByRecursion, onto_first}
-use Rattle.text_core.specs.declared.command.Command.{Command}
-use Rattle.text_core.specs.declared.error.ScriptError.{ScriptError}
-use Rattle.text_core.specs.declared.profile.Profile.{Profile}
+use Rattle.script_core.specs.declared.error.Fault.{Fault}
 use Rattle.text_core.specs.declared.profile.Profile.TheVariants.{Untold}
-use Rattle.text_core.specs.Line.{line_of}
-use Rattle.text_core.specs.Profile.{profile_behind}
-use Rattle.script_core.specs.Script.{Numbered, commands_from, commands_of, onto_commands, parts_of}
+use Rattle.script_core.specs.Script.{Came, Numbered, Reading, by, commands_from, commands_of, line_comes, onto, onto_commands, parts_of, reading_behind}
 use Rattle.script_core.proofs.Lines.{commands_by, parts_are}
 
 -- what all of a list are is what those before a place in it are
@@ -48,26 +44,33 @@ begins (b ∷ past) rest = by_test (begins past rest) (nat_eq b 10) where
   by_test begin false = begin_onto b (parts_of past) (parts_of (past ++ rest)) begin
 
 -- the one list, and then more
-abbrev IsMore : List Numbered → List Numbered → Type 0
+abbrev pub IsMore : List Numbered → List Numbered → Type 0
 IsMore few many = (more : List Numbered) × (many ≡ few ++ more)
 
-onto_more : (n : ℕ) (says : Result (Option Command) ScriptError) (few many : List Numbered) → IsMore few many → IsMore (onto_commands n says few) (onto_commands n says many)
-onto_more n (Ok (Some c)) few many more = (more.0, ap (λ (r : List Numbered). record { line = n; command = c } ∷ r) more.1)
-onto_more n (Ok None) few many more = more
-onto_more n (Err fault) few many more = ([], refl)
+onto_one : (o : Option Numbered) (few many : List Numbered) → IsMore few many → IsMore (onto o few) (onto o many)
+onto_one (Some c) few many more = (more.0, ap (λ (r : List Numbered). c ∷ r) more.1)
+onto_one None few many more = more
 
-more_commands : (q : Profile) (n : ℕ) (parts all : List (List ℕ)) → Begin parts all → IsMore (commands_from q n parts) (commands_from q n all)
+onto_more : (came : Result Came Fault) (few many : List Numbered) → IsMore few many → IsMore (onto_commands came few) (onto_commands came many)
+onto_more (Ok came) few many more = onto_one came.ended few many more
+onto_more (Err fault) few many more = ([], refl)
+
+more_commands : (q : Reading) (n : ℕ) (parts all : List (List ℕ)) → Begin parts all → IsMore (commands_from q n parts) (commands_from q n all)
 more_commands q n [] all begin = (commands_from q n all, refl)
 more_commands q n (cut ∷ []) all begin = (commands_from q n all, refl)
 more_commands q n (text ∷ next ∷ parts) [] begin = absurd begin
 more_commands q n (text ∷ next ∷ parts) (line ∷ []) begin = absurd begin
 more_commands q n (text ∷ next ∷ parts) (line ∷ other ∷ all) begin =
-    let says = line_of q text in
-    let M : List ℕ → Type 0 = λ t. IsMore (commands_from q n (text ∷ next ∷ parts)) (commands_by q n (line_of q t) (other ∷ all)) in
-    subst M begin.0 (onto_more n says _ _ (more_commands (profile_behind says q) (n + 1) (next ∷ parts) (other ∷ all) begin.1))
+    let came = line_comes q n text in
+    let M : List ℕ → Type 0 = λ t. IsMore (commands_from q n (text ∷ next ∷ parts)) (commands_by q n (line_comes q n t) (other ∷ all)) in
+    subst M begin.0 (onto_more came _ _ (more_commands (reading_behind q came) (n + 1) (next ∷ parts) (other ∷ all) begin.1))
+
+-- the commands of an input are those of its beginning, and then more
+pub commands_begin : (past rest : List ℕ) → IsMore (commands_of past) (commands_of (past ++ rest))
+commands_begin past rest = more_commands (by Untold) 1 (parts_of past) (parts_of (past ++ rest)) (begins past rest)
 
 -- what all commands of an input are is what those of its beginning are
 pub all_of_beginning : (P : Numbered → Type 0) (past rest : List ℕ) → AllByRecursion P (commands_of (past ++ rest)) → AllByRecursion P (commands_of past)
 all_of_beginning P past rest all =
-    let more = more_commands Untold 1 (parts_of past) (parts_of (past ++ rest)) (begins past rest) in
+    let more = commands_begin past rest in
     all_before P (commands_of past) more.0 (subst (AllByRecursion P) more.1 all)

@@ -1,25 +1,22 @@
 -- What a run says of what its machine stands for.
-use Rattle.std.proofs.Common.{◌≡◌, ℕ, List, [], ◌∷◌, ap, subst, Option}
+use Rattle.std.proofs.Common.{◌≡◌, ◌⊎◌, ℕ, List, [], ◌∷◌, ap, subst, inl, inr, Option}
 use Rattle.std.specs.Prelude.{IfErr, IfOk, IfSome, Result}
 use Rattle.std.proofs.lemmas.Result.{MatchResult-weaker}
 use Rattle.text_core.specs.declared.command.Command.{Command}
-use Rattle.text_core.specs.declared.reply.Reply.{Reply}
 use Rattle.script_core.specs.declared.error.Fault.{Fault}
 use Rattle.script_core.specs.declared.error.Fault.TheVariants.{Syntax, LongLine, Read, Write, Memory}
 use Rattle.script_core.specs.declared.error.RunError.{RunError}
 use Rattle.script_core.specs.declared.script.Totals.{Totals}
-use Rattle.script_core.specs.Runs.{Asking, Begins, IsAnswered, IsEnded, IsTotal, Replied, Rule}
-use Rattle.script_core.specs.Script.{Answer, Numbered, commands_of}
+use Rattle.script_core.specs.Runs.{Asking, Begins, IsAnswered, IsAsking, IsEnded, IsTotal, Replied, Rule}
+use Rattle.script_core.specs.Script.{Answer, IsBeginning, Numbered, commands_of}
 use Rattle.script_core.proofs.Variants.{known_weaker}
 
 module _ {S T : Type 0} (may : Rule S) (rule : Rule T) (seen : S → T)
-    (steps : (old : S) (c : Command) (answer : Reply) (new : S) → may old c answer new → rule (seen old) c answer (seen new)) where
+    (steps : (old : S) (c : Numbered) (answers : List Answer) (new : S) → may old c answers new → rule (seen old) c answers (seen new)) where
   carried_replied : (old new : S) (commands : List Numbered) (answers : List Answer) → Replied may old commands answers new → Replied rule (seen old) commands answers (seen new)
-  carried_replied old new [] [] told = ap seen told
-  carried_replied old new [] (a ∷ answers) told = absurd told
-  carried_replied old new (c ∷ commands) [] told = absurd told
-  carried_replied old new (c ∷ commands) (a ∷ answers) told =
-      (seen told.0, told.1, steps old c.command a.reply told.0 told.2, carried_replied told.0 new commands answers told.3)
+  carried_replied old new [] answers told = (told.0, ap seen told.1)
+  carried_replied old new (c ∷ commands) answers told =
+      (seen told.0, told.1, told.2, told.3, steps old c told.1 told.0 told.4, carried_replied told.0 new commands told.2 told.5)
 
   abbrev carried_begins : (start : S) (before : List Numbered) → Begins may start before → Begins rule (seen start) before
   carried_begins start before b = record { answers = b.answers; after = seen b.after; replied = carried_replied start b.after before b.answers b.replied }
@@ -31,6 +28,17 @@ module _ {S T : Type 0} (may : Rule S) (rule : Rule T) (seen : S → T)
   carried_total start input old new totals h = record { answered = carried_answered start input old new h.answered; totals_are = h.totals_are }
 
   module _ (asks : Asking S) (asks_by : Asking T) (asking : (old : S) (c : Command) → asks old c → asks_by (seen old) c) where
+    carried_asking : (after : S) (input : List ℕ) (before : List Numbered) (line : ℕ) → IsAsking asks input before after line ⊎ IsBeginning input before line
+        → IsAsking asks_by input before (seen after) line ⊎ IsBeginning input before line
+    carried_asking after input before line (inl a) = inl (record {
+      command = a.command;
+      behind = a.behind;
+      order = a.order;
+      asking = asking after a.command.command a.asking;
+      at = a.at;
+    })
+    carried_asking after input before line (inr b) = inr b
+
     carried_end : (start : S) (f : Fault) (input : List ℕ) (e : RunError) (left left_new old new : Option (List ℕ)) → IsEnded may asks start f input e left left_new old new
         → IsEnded rule asks_by (seen start) f input e left left_new old new
     carried_end start Syntax input e left left_new old new h = (h.0, carried_answered start input old new h.1)
@@ -40,13 +48,7 @@ module _ {S T : Type 0} (may : Rule S) (rule : Rule T) (seen : S → T)
     carried_end start Memory input e left left_new old new h = record {
       before = h.before;
       begins = carried_begins start h.before h.begins;
-      asking = record {
-        command = h.asking.command;
-        behind = h.asking.behind;
-        order = h.asking.order;
-        asking = asking h.begins.after h.asking.command.command h.asking.asking;
-        at = h.asking.at;
-      };
+      asking = carried_asking h.begins.after input h.before e.line h.asking;
       written = h.written;
     }
 

@@ -1,5 +1,5 @@
 -- The end of a run: what waits is written.
-use Rattle.std.proofs.Common.{◌≡◌, ◌≢◌, ℕ, ◌+◌, List, [], ◌∷◌, ◌++◌, refl, sym, ap, subst, ◌∙◌, append_assoc, append-nil, arith, Option, Some}
+use Rattle.std.proofs.Common.{◌≡◌, ◌≢◌, ℕ, ◌+◌, List, [], ◌∷◌, ◌++◌, refl, sym, ap, subst, ◌∙◌, append_assoc, append-nil, inl, inr, ◌⊎◌, arith, Option, Some}
 use Rattle.std.specs.Prelude.{IfSome}
 use Rattle.std.specs.Io.KnownBytes.{Appends, Consumes}
 use Rattle.std.proofs.KnownBytes.{Appends-nil}
@@ -7,13 +7,14 @@ use Rattle.script_core.specs.declared.error.RunError.{RunError}
 use Rattle.script_core.specs.declared.error.Fault.{Fault}
 use Rattle.script_core.specs.declared.error.Fault.TheVariants.{Syntax, LongLine, Read, Write, Memory}
 use Rattle.script_core.specs.Ends.{StopsIn}
-use Rattle.script_core.specs.Runs.{Rule, Asking, IsEnded, IsStopped, IsUnread}
+use Rattle.script_core.specs.Runs.{Rule, Asking, IsAsking, IsEnded, IsStopped, IsUnread}
 use Rattle.script_core.specs.Outbox.{Outbox, Owes, empty}
 use Rattle.text_core.specs.Reply.{newlines}
-use Rattle.script_core.specs.Script.{Answer, commands_from, commands_of, fault_of, parts_of, texts}
+use Rattle.script_core.specs.Script.{Answer, IsBeginning, Numbered, commands_from, commands_of, fault_of, parts_of, texts}
 use Rattle.script_core.specs.Player.{Player, BreaksOff, EndsBy, Finishes, HasClosed, HasEnded, StopsBy, HasFault, HasRead, begun}
 use Rattle.script_core.proofs.Waiting.{owes_empty, owes_none}
 use Rattle.text_core.proofs.Newlines.{newlines-append}
+use Rattle.script_core.proofs.Beginnings.{commands_begin}
 use Rattle.script_core.proofs.Reading.{begins_of}
 use Rattle.script_core.proofs.Inputs.{begins_end, ends_stop, read_clean}
 
@@ -29,8 +30,9 @@ begun_read {S} may start s first is =
       before = [];
       commands = λ rest. refl;
       fault = λ rest. refl;
+      reading = λ rest. refl;
       answers = [];
-      replied = refl;
+      replied = (refl, refl);
       replies = refl;
       owes = owes_empty [] first first (Appends-nil first);
     })
@@ -49,7 +51,7 @@ breaks_off may start s left left_new first mid after line h flushes =
     record {
       past = h.past;
       read = h.read;
-      clean = (let C : ℕ → Type 0 = λ n. IfSome (fault_of h.past) (λ e. e ≡ record { fault = Syntax; line = n }) in subst C (sym h.at) (read_clean may start s h.past first mid r));
+      clean = read_clean may start s h.past first mid r;
       answered = record { begins = begins_end may start s h.past first mid r; written = flushes r.answers first r.owes };
       at = h.at ∙ r.line ∙ (let n : newlines r.whole + 1 ≡ newlines h.past + 1 = omega (arith, ap newlines r.split, newlines-append r.whole s.held, r.unbroken) in n);
     }
@@ -65,7 +67,7 @@ flushed may asks start Memory s input e left left_new first mid after other h fl
 pub read_stops : {S : Type 0} (may : Rule S) (start : S) (s : Player S) (past : List ℕ) (first mid after : Option (List ℕ)) (at : ℕ) → HasRead may start s past first mid → FlushStops s mid after at → (rest : List ℕ) → IsStopped may start (past ++ rest) first after at
 read_stops may start s past first mid after at r stops rest = record {
   before = r.before;
-  behind = commands_from s.profile s.line (parts_of (s.held ++ rest));
+  behind = commands_from s.reading s.line (parts_of (s.held ++ rest));
   order = ap (λ (p : List ℕ). commands_of (p ++ rest)) r.split ∙ ap commands_of (append_assoc r.whole s.held rest) ∙ r.commands (s.held ++ rest);
   begins = begins_of may start s past first mid r;
   stops = stops r.answers first r.owes;
@@ -86,9 +88,15 @@ ended_stops may asks start Syntax s past e first mid after at other h stops rest
 ended_stops may asks start LongLine s past e first mid after at other h stops rest = fault_stopped may start s past e first mid after at h stops rest
 ended_stops may asks start Read s past e first mid after at other h stops rest = absurd h
 ended_stops may asks start Write s past e first mid after at other h stops rest = absurd (other refl)
-ended_stops may asks start Memory s past e first mid after at other h stops rest =
-    let asking = h.asking rest in
-    record { before = h.before; behind = asking.command ∷ asking.behind; order = asking.order; begins = h.begins; stops = stops h.begins.answers first h.owes }
+ended_stops may asks start Memory s past e first mid after at other h stops rest = by_asking (h.asking rest) where
+  stopped : (behind : List Numbered) → commands_of (past ++ rest) ≡ h.before ++ behind → IsStopped may start (past ++ rest) first after at
+  stopped behind order = record { before = h.before; behind = behind; order = order; begins = h.begins; stops = stops h.begins.answers first h.owes }
+
+  by_asking : IsAsking asks (past ++ rest) h.before h.begins.after e.line ⊎ IsBeginning (past ++ rest) h.before e.line → IsStopped may start (past ++ rest) first after at
+  by_asking (inl a) = stopped (a.command ∷ a.behind) a.order
+  by_asking (inr b) =
+      let more = commands_begin b.past (b.text ++ 10 ∷ b.rest) in
+      stopped more.0 (ap commands_of b.order ∙ more.1 ∙ ap (λ (list : List Numbered). list ++ more.0) b.commands)
 
 -- nothing waits: all was written
 pub written_out : {S : Type 0} (s : Player S) (now : Option (List ℕ)) → s.box ≡ empty → Flushes s now now
@@ -107,6 +115,7 @@ read_flushed may start s past first mid after r flushes = record {
   before = r.before;
   commands = r.commands;
   fault = r.fault;
+  reading = r.reading;
   answers = r.answers;
   replied = r.replied;
   replies = r.replies;

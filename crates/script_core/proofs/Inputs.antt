@@ -1,5 +1,5 @@
 -- What was read, and the whole input.
-use Rattle.std.proofs.Common.{◌≡◌, ℕ, ◌-◌, ◌<◌, ◌≤◌, Bool, false, List, [], ◌∷◌, ◌++◌, length, take, refl, sym, ap, subst, ◌∙◌, append-nil, arith, Option, Some, None}
+use Rattle.std.proofs.Common.{◌≡◌, ℕ, ◌-◌, ◌<◌, ◌≤◌, Bool, false, List, [], ◌∷◌, ◌++◌, length, take, refl, sym, ap, subst, inl, inr, ◌∙◌, ◌+◌, ◌⊎◌, append-nil, arith, Option, Some, None}
 use Rattle.std.specs.Prelude.{IfSome, nat_lt, if◌then◌else◌}
 use Rattle.std.proofs.lemmas.Bool.Decides.{nat_tests}
 use Rattle.std.specs.Io.KnownBytes.{Consumes, IsAtEnd}
@@ -10,17 +10,23 @@ use Rattle.script_core.specs.declared.error.Fault.TheVariants.{Syntax, LongLine,
 use Rattle.script_core.specs.declared.script.Totals.{Totals}
 use Rattle.script_core.specs.Runs.{Rule, Asking, Begins, IsAsking, IsStopped, Replied}
 use Rattle.text_core.specs.Reply.{newlines}
-use Rattle.script_core.specs.Script.{Numbered, commands_from, commands_of, cut_fault, fault_from, fault_of}
+use Rattle.script_core.specs.Script.{Block, IsBeginning, IsOfEnd, Numbered, Reading, commands_from, commands_of, cut_fault, fault_from, fault_of, open_fault, reading_of}
 use Rattle.script_core.specs.Player.{Player, EndsBy, Finishes, StopsBy, HasRead, HasFault}
-use Rattle.script_core.proofs.Lines.{parts-end}
+use Rattle.script_core.proofs.Lines.{parts-end, reading-end}
+use Rattle.text_core.proofs.Newlines.{newlines-append}
+use Rattle.std.specs.Option.{option_or}
 use Rattle.script_core.proofs.Reading.{begins_of, whole_is}
 
 pub commands_end : {S : Type 0} (may : Rule S) (start : S) (s : Player S) (input : List ℕ) (first now : Option (List ℕ)) → (r : HasRead may start s input first now) → commands_of input ≡ r.before
 commands_end may start s input first now r =
-    ap commands_of r.split ∙ r.commands s.held ∙ ap (λ (ps : List (List ℕ)). r.before ++ commands_from s.profile s.line ps) (parts-end s.held r.unbroken) ∙ append-nil r.before
+    ap commands_of r.split ∙ r.commands s.held ∙ ap (λ (ps : List (List ℕ)). r.before ++ commands_from s.reading s.line ps) (parts-end s.held r.unbroken) ∙ append-nil r.before
 
-pub fault_end : {S : Type 0} (may : Rule S) (start : S) (s : Player S) (input : List ℕ) (first now : Option (List ℕ)) → (r : HasRead may start s input first now) → fault_of input ≡ cut_fault s.line s.held
-fault_end may start s input first now r = ap fault_of r.split ∙ r.fault s.held ∙ ap (fault_from s.profile s.line) (parts-end s.held r.unbroken)
+pub fault_end : {S : Type 0} (may : Rule S) (start : S) (s : Player S) (input : List ℕ) (first now : Option (List ℕ)) → (r : HasRead may start s input first now) → fault_of input ≡ option_or (cut_fault s.line s.held) (open_fault s.reading.block)
+fault_end may start s input first now r = ap fault_of r.split ∙ r.fault s.held ∙ ap (fault_from s.reading s.line) (parts-end s.held r.unbroken)
+
+-- and how it is read on
+pub reading_end : {S : Type 0} (may : Rule S) (start : S) (s : Player S) (input : List ℕ) (first now : Option (List ℕ)) → (r : HasRead may start s input first now) → reading_of input ≡ s.reading
+reading_end may start s input first now r = ap reading_of r.split ∙ r.reading s.held ∙ reading-end s.reading s.line s.held r.unbroken
 
 -- the same replies, to the same commands
 abbrev begins_same : {S : Type 0} (may : Rule S) (start : S) (commands same : List Numbered) → commands ≡ same → Begins may start commands → Begins may start same
@@ -35,10 +41,10 @@ abbrev pub begins_end : {S : Type 0} (may : Rule S) (start : S) (s : Player S) (
 begins_end may start s input first now r =
     begins_same may start r.before (commands_of input) (sym (commands_end may start s input first now r)) (begins_of may start s input first now r)
 
--- an input that ends where no line has begun
-abbrev pub read_end : {S : Type 0} (may : Rule S) (start : S) (s : Player S) (input : List ℕ) (first now : Option (List ℕ)) → HasRead may start s input first now → s.held ≡ [] → Finishes may start s input None first now
-read_end may start s input first now r none = record {
-  fault = fault_end may start s input first now r ∙ ap (cut_fault s.line) none;
+-- an input that ends where no line and no block has begun
+abbrev pub read_end : {S : Type 0} (may : Rule S) (start : S) (s : Player S) (input : List ℕ) (first now : Option (List ℕ)) → HasRead may start s input first now → s.held ≡ [] → s.reading.block ≡ None → Finishes may start s input None first now
+read_end may start s input first now r none outside = record {
+  fault = fault_end may start s input first now r ∙ ap (λ h. option_or (cut_fault s.line h) (open_fault s.reading.block)) none ∙ ap open_fault outside;
   begins = begins_end may start s input first now r;
   owes = r.owes;
 }
@@ -55,17 +61,36 @@ cut_is line (b ∷ bytes) some short =
 -- an input that ends within a line
 pub read_cut : {S : Type 0} (may : Rule S) (start : S) (s : Player S) (input : List ℕ) (first now : Option (List ℕ)) → HasRead may start s input first now → 0 < length s.held → Finishes may start s input (Some (record { fault = Syntax; line = s.line })) first now
 read_cut may start s input first now r some = record {
-  fault = fault_end may start s input first now r ∙ cut_is s.line s.held some r.short;
+  fault = fault_end may start s input first now r ∙ ap (λ o. option_or o (open_fault s.reading.block)) (cut_is s.line s.held some r.short);
   begins = begins_end may start s input first now r;
   owes = r.owes;
 }
 
--- what was read has no fault but that its last line is cut
-pub read_clean : {S : Type 0} (may : Rule S) (start : S) (s : Player S) (past : List ℕ) (first now : Option (List ℕ)) → HasRead may start s past first now → IfSome (fault_of past) (λ e. e ≡ record { fault = Syntax; line = s.line })
+-- an input that ends in a block
+pub read_unended : {S : Type 0} (may : Rule S) (start : S) (s : Player S) (input : List ℕ) (block : Block) (first now : Option (List ℕ)) → HasRead may start s input first now → s.held ≡ [] → s.reading.block ≡ Some block → Finishes may start s input (Some (record { fault = Syntax; line = block.line })) first now
+read_unended may start s input block first now r none inside = record {
+  fault = fault_end may start s input first now r ∙ ap (λ h. option_or (cut_fault s.line h) (open_fault s.reading.block)) none ∙ ap open_fault inside;
+  begins = begins_end may start s input first now r;
+  owes = r.owes;
+}
+
+-- what was read has no fault but those of an end there
+pub read_clean : {S : Type 0} (may : Rule S) (start : S) (s : Player S) (past : List ℕ) (first now : Option (List ℕ)) → HasRead may start s past first now → IfSome (fault_of past) (IsOfEnd past)
 read_clean may start s past first now r = by_held s.held refl where
-  by_held : (held : List ℕ) → s.held ≡ held → IfSome (fault_of past) (λ e. e ≡ record { fault = Syntax; line = s.line })
-  by_held [] is = rw (fault_end may start s past first now r ∙ ap (cut_fault s.line) is) tt
-  by_held (b ∷ bytes) is = rw (fault_end may start s past first now r ∙ cut_is s.line s.held (omega (arith, ap length is)) r.short) refl
+  open_is : open_fault (reading_of past).block ≡ open_fault s.reading.block
+  open_is = ap (λ (q : Reading). open_fault q.block) (reading_end may start s past first now r)
+
+  line_is : s.line ≡ newlines past + 1
+  line_is = omega (arith, r.line, ap newlines r.split, newlines-append r.whole s.held, r.unbroken)
+
+  by_open : (o : Option RunError) → open_fault (reading_of past).block ≡ o → IfSome o (IsOfEnd past)
+  by_open None is = tt
+  by_open (Some e) is = inr is
+
+  by_held : (held : List ℕ) → s.held ≡ held → IfSome (fault_of past) (IsOfEnd past)
+  by_held [] is = rw (fault_end may start s past first now r ∙ ap (λ h. option_or (cut_fault s.line h) (open_fault s.reading.block)) is) (by_open (open_fault s.reading.block) open_is)
+  by_held (b ∷ bytes) is = rw (fault_end may start s past first now r ∙ ap (λ o. option_or o (open_fault s.reading.block)) (cut_is s.line s.held (omega (arith, ap length is)) r.short))
+      (inl (ap (λ (n : ℕ). record { fault = Syntax; line = n }) line_is))
 
 pub consumed : (left left_new : Option (List ℕ)) (input past : List ℕ) → left ≡ Some input → Consumes left left_new past → (rest : List ℕ) × (left_new ≡ Some rest) × (input ≡ past ++ rest)
 consumed None left_new input past e took = cc
@@ -92,7 +117,7 @@ ends_stop may asks start Write s past rest input e left left_new first now split
 ends_stop may asks start Memory s past rest input e left left_new first now split h = record {
   before = h.before;
   begins = h.begins;
-  asking = (let O : List ℕ → Type 0 = λ i. IsAsking asks i h.before h.begins.after e.line in subst O (sym split) (h.asking rest));
+  asking = (let O : List ℕ → Type 0 = λ i. IsAsking asks i h.before h.begins.after e.line ⊎ IsBeginning i h.before e.line in subst O (sym split) (h.asking rest));
   owes = h.owes;
 }
 

@@ -12,3 +12,5 @@ pub mod Pools
 pub mod Beginnings
 pub mod ThreadedRuns
 pub mod Carried
+pub mod ClientAnswers
+pub mod ClientCalls

@@ -9,18 +9,15 @@ use Rattle.std.proofs.lemmas.List.Elements.{All-from_recursion}
 use Rattle.std.proofs.lemmas.List.Splits.{slice_split_at, slice_split_none}
 use Rattle.memchr.specs.Find.{IsFirstByte, is_byte}
 use Rattle.zone_core.specs.World.{WorldState}
-use Rattle.text_core.specs.declared.command.Command.{Command}
-use Rattle.text_core.specs.declared.error.ScriptError.{ScriptError}
 use Rattle.text_core.specs.declared.error.ScriptError.TheVariants as of_line
 use Rattle.script_core.specs.declared.error.RunError.{RunError}
+use Rattle.script_core.specs.declared.error.Fault.{Fault}
 use Rattle.script_core.specs.declared.error.Fault.TheVariants.{Syntax, LongLine}
-use Rattle.text_core.specs.declared.profile.Profile.{Profile}
-use Rattle.text_core.specs.Line.{line_of, lexemes_say}
-use Rattle.text_core.specs.Profile.{profile_behind}
+use Rattle.text_core.specs.Line.{block_lexemes_say, line_within, lexemes_say, line_of}
 use Rattle.text_core.specs.Token.{lexemes}
 use Rattle.script_core.specs.Machine.{step}
 use Rattle.text_core.specs.Reply.{newlines}
-use Rattle.script_core.specs.Script.{Answer, Numbered, answers_from, commands_from, fault_from, line_fault, onto_commands, parts_of, world_behind}
+use Rattle.script_core.specs.Script.{Answer, Block, Came, Numbered, Reading, answers_from, comes_in, comes_outside, comes_within, commands_from, fault_from, line_comes, line_fault, onto_commands, open_fault, parts_of, reading_behind, reading_from, world_behind}
 use Rattle.text_core.proofs.Newlines.{newlines-append}
 
 newline_first : (b : ℕ) (bytes : List ℕ) → newlines (b ∷ bytes) ≡ 0 → (nat_eq b 10 ≡ false) × (newlines bytes ≡ 0)
@@ -67,51 +64,77 @@ parts-more (b ∷ text) rest p e =
     ap (λ (t : Bool). cond t ([] ∷ parts_of (text ++ rest)) (onto_first b (parts_of (text ++ rest)))) first.0
     ∙ onto_first_is b (parts_of (text ++ rest)) (text ++ p.first) p.others (parts-more text rest p first.1)
 
--- the commands from a line on, by what it says
-abbrev pub commands_by : Profile → ℕ → Result (Option Command) ScriptError → List (List ℕ) → List Numbered
-commands_by q n says parts = onto_commands n says (commands_from (profile_behind says q) (n + 1) parts)
+-- a line outside of a block, and one in a block
+pub outside-line : (q : Reading) (n : ℕ) (text : List ℕ) → q.block ≡ None → line_comes q n text ≡ comes_outside q.profile n (line_of q.profile text)
+outside-line q n text outside = ap (λ o. comes_in o q.profile n text) outside
 
--- the first fault from a line on, by what it says
-abbrev pub fault_by : Profile → ℕ → Result (Option Command) ScriptError → List (List ℕ) → Option RunError
-fault_by q n says parts = option_or (line_fault n says) (fault_from (profile_behind says q) (n + 1) parts)
+pub within-line : (q : Reading) (block : Block) (n : ℕ) (text : List ℕ) → q.block ≡ Some block → line_comes q n text ≡ comes_within q.profile block n (line_within block.zone text)
+within-line q block n text inside = ap (λ o. comes_in o q.profile n text) inside
 
-commands_at : (q : Profile) (n : ℕ) (text : List ℕ) (parts : List (List ℕ)) (first : List ℕ) (others : List (List ℕ)) → parts ≡ first ∷ others → commands_from q n (text ∷ parts) ≡ commands_by q n (line_of q text) parts
+-- the commands from a line on, by what it comes to
+abbrev pub commands_by : Reading → ℕ → Result Came Fault → List (List ℕ) → List Numbered
+commands_by q n came parts = onto_commands came (commands_from (reading_behind q came) (n + 1) parts)
+
+-- the first fault from a line on, by what it comes to
+abbrev pub fault_by : Reading → ℕ → Result Came Fault → List (List ℕ) → Option RunError
+fault_by q n came parts = option_or (line_fault n came) (fault_from (reading_behind q came) (n + 1) parts)
+
+-- how the lines behind a line are read, by what it comes to
+abbrev pub reading_by : Reading → ℕ → Result Came Fault → List (List ℕ) → Reading
+reading_by q n came parts = reading_from (reading_behind q came) (n + 1) parts
+
+commands_at : (q : Reading) (n : ℕ) (text : List ℕ) (parts : List (List ℕ)) (first : List ℕ) (others : List (List ℕ)) → parts ≡ first ∷ others → commands_from q n (text ∷ parts) ≡ commands_by q n (line_comes q n text) parts
 commands_at q n text parts first others e =
-    ap (λ (ps : List (List ℕ)). commands_from q n (text ∷ ps)) e ∙ ap (λ (ps : List (List ℕ)). commands_by q n (line_of q text) ps) (sym e)
+    ap (λ (ps : List (List ℕ)). commands_from q n (text ∷ ps)) e ∙ ap (λ (ps : List (List ℕ)). commands_by q n (line_comes q n text) ps) (sym e)
 
-fault_at : (q : Profile) (n : ℕ) (text : List ℕ) (parts : List (List ℕ)) (first : List ℕ) (others : List (List ℕ)) → parts ≡ first ∷ others → fault_from q n (text ∷ parts) ≡ fault_by q n (line_of q text) parts
+fault_at : (q : Reading) (n : ℕ) (text : List ℕ) (parts : List (List ℕ)) (first : List ℕ) (others : List (List ℕ)) → parts ≡ first ∷ others → fault_from q n (text ∷ parts) ≡ fault_by q n (line_comes q n text) parts
 fault_at q n text parts first others e =
-    ap (λ (ps : List (List ℕ)). fault_from q n (text ∷ ps)) e ∙ ap (λ (ps : List (List ℕ)). fault_by q n (line_of q text) ps) (sym e)
+    ap (λ (ps : List (List ℕ)). fault_from q n (text ∷ ps)) e ∙ ap (λ (ps : List (List ℕ)). fault_by q n (line_comes q n text) ps) (sym e)
 
-pub commands-line : (q : Profile) (n : ℕ) (text rest : List ℕ) → newlines text ≡ 0 → commands_from q n (parts_of (text ++ 10 ∷ rest)) ≡ commands_by q n (line_of q text) (parts_of rest)
+pub commands-line : (q : Reading) (n : ℕ) (text rest : List ℕ) → newlines text ≡ 0 → commands_from q n (parts_of (text ++ 10 ∷ rest)) ≡ commands_by q n (line_comes q n text) (parts_of rest)
 commands-line q n text rest e = let p = parts_are rest in ap (commands_from q n) (parts-line text rest e) ∙ commands_at q n text (parts_of rest) p.first p.others p.are
 
-pub fault-line : (q : Profile) (n : ℕ) (text rest : List ℕ) → newlines text ≡ 0 → fault_from q n (parts_of (text ++ 10 ∷ rest)) ≡ fault_by q n (line_of q text) (parts_of rest)
+pub fault-line : (q : Reading) (n : ℕ) (text rest : List ℕ) → newlines text ≡ 0 → fault_from q n (parts_of (text ++ 10 ∷ rest)) ≡ fault_by q n (line_comes q n text) (parts_of rest)
 fault-line q n text rest e = let p = parts_are rest in ap (fault_from q n) (parts-line text rest e) ∙ fault_at q n text (parts_of rest) p.first p.others p.are
 
+reading_at : (q : Reading) (n : ℕ) (text : List ℕ) (parts : List (List ℕ)) (first : List ℕ) (others : List (List ℕ)) → parts ≡ first ∷ others → reading_from q n (text ∷ parts) ≡ reading_by q n (line_comes q n text) parts
+reading_at q n text parts first others e =
+    ap (λ (ps : List (List ℕ)). reading_from q n (text ∷ ps)) e ∙ ap (λ (ps : List (List ℕ)). reading_by q n (line_comes q n text) ps) (sym e)
+
+pub reading-line : (q : Reading) (n : ℕ) (text rest : List ℕ) → newlines text ≡ 0 → reading_from q n (parts_of (text ++ 10 ∷ rest)) ≡ reading_by q n (line_comes q n text) (parts_of rest)
+reading-line q n text rest e = let p = parts_are rest in ap (reading_from q n) (parts-line text rest e) ∙ reading_at q n text (parts_of rest) p.first p.others p.are
+
+-- what stands behind the last newline changes nothing
+pub reading-end : (q : Reading) (n : ℕ) (cut : List ℕ) → newlines cut ≡ 0 → reading_from q n (parts_of cut) ≡ q
+reading-end q n cut e = ap (reading_from q n) (parts-end cut e)
+
 -- more than 200 bytes are a fault however they go on
-line_of-long : (q : Profile) (text : List ℕ) → 200 < length text → line_of q text ≡ Err of_line.LongLine
-line_of-long q text h =
-    let long : nat_lt 200 (length text) ≡ true = grind (arith, nat_tests) in
-    ap (λ (t : Bool). if t then Err of_line.LongLine else lexemes_say q (lexemes text)) long
+line_comes-long : (q : Reading) (n : ℕ) (text : List ℕ) → 200 < length text → line_comes q n text ≡ Err LongLine
+line_comes-long q n text h = in_block q.block where
+  long : nat_lt 200 (length text) ≡ true
+  long = grind (arith, nat_tests)
 
-commands_long : (q : Profile) (n : ℕ) (text : List ℕ) (others : List (List ℕ)) → 200 < length text → commands_from q n (text ∷ others) ≡ []
+  in_block : (o : Option Block) → comes_in o q.profile n text ≡ Err LongLine
+  in_block None = ap (λ (t : Bool). comes_outside q.profile n (if t then Err of_line.LongLine else lexemes_say q.profile (lexemes text))) long
+  in_block (Some block) = ap (λ (t : Bool). comes_within q.profile block n (if t then Err of_line.LongLine else block_lexemes_say block.zone (lexemes text))) long
+
+commands_long : (q : Reading) (n : ℕ) (text : List ℕ) (others : List (List ℕ)) → 200 < length text → commands_from q n (text ∷ others) ≡ []
 commands_long q n text [] h = refl
-commands_long q n text (next ∷ parts) h = ap (λ l. commands_by q n l (next ∷ parts)) (line_of-long q text h)
+commands_long q n text (next ∷ parts) h = ap (λ l. commands_by q n l (next ∷ parts)) (line_comes-long q n text h)
 
-fault_long : (q : Profile) (n : ℕ) (text : List ℕ) (others : List (List ℕ)) → 200 < length text → fault_from q n (text ∷ others) ≡ Some (record { fault = LongLine; line = n })
+fault_long : (q : Reading) (n : ℕ) (text : List ℕ) (others : List (List ℕ)) → 200 < length text → fault_from q n (text ∷ others) ≡ Some (record { fault = LongLine; line = n })
 fault_long q n [] others h = absurd (omega arith)
 fault_long q n (b ∷ bytes) [] h =
     let long : nat_lt 200 (length (b ∷ bytes)) ≡ true = grind (arith, nat_tests) in
-    ap (λ (t : Bool). Some (record { fault = if t then LongLine else Syntax; line = n })) long
-fault_long q n (b ∷ bytes) (next ∷ parts) h = ap (λ l. fault_by q n l (next ∷ parts)) (line_of-long q (b ∷ bytes) h)
+    ap (λ (t : Bool). option_or (Some (record { fault = if t then LongLine else Syntax; line = n })) (open_fault q.block)) long
+fault_long q n (b ∷ bytes) (next ∷ parts) h = ap (λ l. fault_by q n l (next ∷ parts)) (line_comes-long q n (b ∷ bytes) h)
 
 -- a line that begins with more than 200 bytes is the first fault
-pub commands-long : (q : Profile) (n : ℕ) (text rest : List ℕ) → newlines text ≡ 0 → 200 < length text → commands_from q n (parts_of (text ++ rest)) ≡ []
+pub commands-long : (q : Reading) (n : ℕ) (text rest : List ℕ) → newlines text ≡ 0 → 200 < length text → commands_from q n (parts_of (text ++ rest)) ≡ []
 commands-long q n text rest e h = let p = parts_are rest in
     ap (commands_from q n) (parts-more text rest p e) ∙ commands_long q n (text ++ p.first) p.others (omega (arith, length-append text p.first))
 
-pub fault-long : (q : Profile) (n : ℕ) (text rest : List ℕ) → newlines text ≡ 0 → 200 < length text → fault_from q n (parts_of (text ++ rest)) ≡ Some (record { fault = LongLine; line = n })
+pub fault-long : (q : Reading) (n : ℕ) (text rest : List ℕ) → newlines text ≡ 0 → 200 < length text → fault_from q n (parts_of (text ++ rest)) ≡ Some (record { fault = LongLine; line = n })
 fault-long q n text rest e h = let p = parts_are rest in
     ap (fault_from q n) (parts-more text rest p e) ∙ fault_long q n (text ++ p.first) p.others (omega (arith, length-append text p.first))
 

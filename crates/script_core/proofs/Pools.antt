@@ -20,6 +20,7 @@ use Rattle.text_core.specs.declared.pool.PoolBlocks.{PoolBlocks}
 use Rattle.text_core.specs.declared.reply.Reply.{Reply}
 use Rattle.text_core.specs.Pool.{pool_order, told_as}
 use Rattle.script_core.specs.Machine.{next_first, pool_from, pooled, says, stopped_by, unless_stopped}
+use Rattle.client_core.specs.Receipts.{Client}
 use Rattle.script_core.specs.Threaded.{IsPoolOn, SettlesAt, Threaded, left_by, pool_reply, told_of}
 use Rattle.script_core.proofs.Rounds.{settles}
 
@@ -91,15 +92,15 @@ module _ (scan_old scan : ScanSeat) (ends_old ends : EndSeat) (refusal : Option 
         (Err error) tt early want
 
 -- a pool over the zone and the seats that a world was split into
-pub pool_done : (w : WorldState) (places count : ℕ) (blocks : PoolBlocks) (zone_old zone : ZoneState) (scan_old scan : ScanSeat) (ends_old ends : EndSeat)
+pub pool_done : (w : WorldState) (client : Client) (places count : ℕ) (blocks : PoolBlocks) (zone_old zone : ZoneState) (scan_old scan : ScanSeat) (ends_old ends : EndSeat)
     (collector : Collector) (report : Report) (answer : Reply) (new : Threaded) → zone_old ≡ w.zone → scan_old ≡ w.scan → ends_old ≡ w.ends → ends_old.parts ≡ 64
     → collector.rounds ≡ 4 → collector.order ≡ pool_order blocks → IsKept zone → HasShape zone_old.number zone_old.blocks zone
     → All (IsGot collector.order) report.got.items → length report.got.items ≤ count
     → (report.stop ≡ stop.Enough) ↔ (length report.got.items ≡ count)
     → HasRun collector scan_old scan ends_old ends report
     → (64 ≤ ends.parts → ends.moved + ends.back ≡ scan.count → audit_refusal zone ends ≡ None)
-    → answer ≡ pool_reply blocks report → new ≡ left_by places zone scan ends (audit_refusal zone ends) → IsPoolOn count blocks w places answer new
-pool_done w places count blocks zone_old zone scan_old scan ends_old ends collector report answer new same_zone same_scan same_ends whole four order kept shape got most enough ran passes told left =
+    → answer ≡ pool_reply blocks report → new ≡ left_by places client zone scan ends (audit_refusal zone ends) → IsPoolOn count blocks w places client answer new
+pool_done w client places count blocks zone_old zone scan_old scan ends_old ends collector report answer new same_zone same_scan same_ends whole four order kept shape got most enough ran passes told left =
     record {
       zone = zone;
       kept = kept;

@@ -1,31 +1,28 @@
 -- A script that is read line by line.
-use Rattle.std.proofs.Common.{◌≡◌, ℕ, ◌+◌, ◌<◌, ◌≤◌, List, [], ◌∷◌, ◌++◌, length, length-append, refl, sym, ap, subst, ◌∙◌, append_assoc, append-nil, arith, Option, Some, None, Ok, Err}
-use Rattle.text_core.specs.declared.command.Command.{Command}
+use Rattle.std.proofs.Common.{◌≡◌, ℕ, ◌+◌, ◌<◌, ◌≤◌, List, [], ◌∷◌, ◌++◌, length, length-append, refl, sym, ap, subst, ◌∙◌, append_assoc, append-nil, inl, inr, arith, ◌⊎◌, Option, Some, None, Result, Ok, Err}
 use Rattle.script_core.specs.declared.error.RunError.{RunError}
 use Rattle.script_core.specs.declared.error.Fault.{Fault}
 use Rattle.script_core.specs.declared.error.Fault.TheVariants.{Syntax, LongLine, Read, Write, Memory}
 use Rattle.text_core.specs.declared.error.ScriptError.{ScriptError}
 use Rattle.text_core.specs.declared.error.ScriptError.TheVariants as of_line
-use Rattle.text_core.specs.declared.reply.Reply.{Reply}
 use Rattle.script_core.specs.Ends.{StopsIn}
 use Rattle.script_core.specs.Runs.{Rule, Asking, Begins, IsAsking, IsStopped, Replied}
 use Rattle.script_core.specs.ErrorNumber.{fault_of_line}
-use Rattle.text_core.specs.declared.profile.Profile.{Profile}
 use Rattle.text_core.specs.Line.{line_of}
-use Rattle.text_core.specs.Profile.{profile_told}
 use Rattle.script_core.specs.Outbox.{Outbox, Owes}
 use Rattle.text_core.specs.Reply.{newlines}
-use Rattle.script_core.specs.Script.{Answer, Numbered, commands_from, commands_of, fault_from, fault_of, parts_of}
+use Rattle.script_core.specs.Script.{Answer, BeginsBlock, Came, IsBeginning, Numbered, Reading, commands_from, commands_of, fault_from, fault_of, line_comes, open_fault, parts_of, reading_from, reading_of}
 use Rattle.script_core.specs.Player.{Player, EndsBy, HasEnded, HasRead, HasFault, HasNoMemory}
-use Rattle.script_core.proofs.Lines.{commands_by, fault_by, commands-line, commands-long, fault-line, fault-long}
+use Rattle.script_core.proofs.Lines.{commands_by, fault_by, reading_by, commands-line, commands-long, fault-line, fault-long, reading-line}
 use Rattle.text_core.proofs.Newlines.{newlines-append}
 
--- one more reply
-pub replied_more : {S : Type 0} (may : Rule S) (old mid new : S) (commands : List Numbered) (answers : List Answer) (c : Numbered) (a : Answer) → Replied may old commands answers mid → a.line ≡ c.line → may mid c.command a.reply new → Replied may old (commands ++ c ∷ []) (answers ++ a ∷ []) new
-replied_more {S} may old mid new [] [] c a told at here = (new, at, (let M : S → Type 0 = λ s. may s c.command a.reply new in subst M told here), refl)
-replied_more may old mid new [] (b ∷ answers) c a told at here = absurd told
-replied_more may old mid new (d ∷ commands) [] c a told at here = absurd told
-replied_more may old mid new (d ∷ commands) (b ∷ answers) c a told at here = (told.0, told.1, told.2, replied_more may told.0 mid new commands answers c a told.3 at here)
+-- one more command, and its replies
+pub replied_more : {S : Type 0} (may : Rule S) (old mid new : S) (commands : List Numbered) (answers : List Answer) (c : Numbered) (here : List Answer) → Replied may old commands answers mid → may mid c here new → Replied may old (commands ++ c ∷ []) (answers ++ here) new
+replied_more {S} may old mid new [] answers c here told says =
+    let M : S → Type 0 = λ s. may s c here new in
+    (new, here, [], ap (λ (r : List Answer). r ++ here) told.0 ∙ sym (append-nil here), subst M told.1 says, (refl, refl))
+replied_more may old mid new (d ∷ commands) answers c here told says =
+    (told.0, told.1, told.2 ++ here, ap (λ (r : List Answer). r ++ here) told.3 ∙ append_assoc told.1 told.2 here, told.4, replied_more may told.0 mid new commands told.2 c here told.5 says)
 
 -- what was read was answered
 abbrev pub begins_of : {S : Type 0} (may : Rule S) (start : S) (s : Player S) (past : List ℕ) (first now : Option (List ℕ)) → (r : HasRead may start s past first now) → Begins may start r.before
@@ -35,11 +32,14 @@ begins_of may start s past first now r = record { answers = r.answers; after = s
 pub whole_is : {S : Type 0} (may : Rule S) (start : S) (s : Player S) (past : List ℕ) (first now : Option (List ℕ)) → (r : HasRead may start s past first now) → s.held ≡ [] → r.whole ≡ past
 whole_is may start s past first now r e = sym (append-nil r.whole) ∙ ap (λ (h : List ℕ). r.whole ++ h) (sym e) ∙ sym r.split
 
-commands_next : {S : Type 0} (may : Rule S) (start : S) (s : Player S) (past : List ℕ) (first now : Option (List ℕ)) → (r : HasRead may start s past first now) → s.held ≡ [] → (rest : List ℕ) → commands_of (past ++ rest) ≡ r.before ++ commands_from s.profile s.line (parts_of rest)
+commands_next : {S : Type 0} (may : Rule S) (start : S) (s : Player S) (past : List ℕ) (first now : Option (List ℕ)) → (r : HasRead may start s past first now) → s.held ≡ [] → (rest : List ℕ) → commands_of (past ++ rest) ≡ r.before ++ commands_from s.reading s.line (parts_of rest)
 commands_next may start s past first now r e rest = ap (λ (w : List ℕ). commands_of (w ++ rest)) (sym (whole_is may start s past first now r e)) ∙ r.commands rest
 
-fault_next : {S : Type 0} (may : Rule S) (start : S) (s : Player S) (past : List ℕ) (first now : Option (List ℕ)) → (r : HasRead may start s past first now) → s.held ≡ [] → (rest : List ℕ) → fault_of (past ++ rest) ≡ fault_from s.profile s.line (parts_of rest)
+fault_next : {S : Type 0} (may : Rule S) (start : S) (s : Player S) (past : List ℕ) (first now : Option (List ℕ)) → (r : HasRead may start s past first now) → s.held ≡ [] → (rest : List ℕ) → fault_of (past ++ rest) ≡ fault_from s.reading s.line (parts_of rest)
 fault_next may start s past first now r e rest = ap (λ (w : List ℕ). fault_of (w ++ rest)) (sym (whole_is may start s past first now r e)) ∙ r.fault rest
+
+reading_next : {S : Type 0} (may : Rule S) (start : S) (s : Player S) (past : List ℕ) (first now : Option (List ℕ)) → (r : HasRead may start s past first now) → s.held ≡ [] → (rest : List ℕ) → reading_of (past ++ rest) ≡ reading_from s.reading s.line (parts_of rest)
+reading_next may start s past first now r e rest = ap (λ (w : List ℕ). reading_of (w ++ rest)) (sym (whole_is may start s past first now r e)) ∙ r.reading rest
 
 pub joined : (past text rest : List ℕ) → (past ++ (text ++ 10 ∷ [])) ++ rest ≡ past ++ (text ++ 10 ∷ rest)
 joined past text rest = append_assoc past (text ++ 10 ∷ []) rest ∙ ap (λ (r : List ℕ). past ++ r) (append_assoc text (10 ∷ []) rest)
@@ -49,88 +49,120 @@ line_next may start s past text first now r e none =
     omega (arith, r.line, ap newlines (whole_is may start s past first now r e), newlines-append past (text ++ 10 ∷ []), newlines-append text (10 ∷ []), none)
 
 module _ {S : Type 0} (may : Rule S) (start : S) (s : Player S) (past text : List ℕ) (first now : Option (List ℕ)) (r : HasRead may start s past first now) (begins : s.held ≡ []) (none : newlines text ≡ 0) where
-  commands_line : (rest : List ℕ) → commands_of ((past ++ (text ++ 10 ∷ [])) ++ rest) ≡ r.before ++ commands_by s.profile s.line (line_of s.profile text) (parts_of rest)
+  abbrev here : Result Came Fault
+  here = line_comes s.reading s.line text
+
+  commands_line : (rest : List ℕ) → commands_of ((past ++ (text ++ 10 ∷ [])) ++ rest) ≡ r.before ++ commands_by s.reading s.line here (parts_of rest)
   commands_line rest =
       ap commands_of (joined past text rest) ∙ commands_next may start s past first now r begins (text ++ 10 ∷ rest)
-      ∙ ap (λ (cs : List Numbered). r.before ++ cs) (commands-line s.profile s.line text rest none)
+      ∙ ap (λ (cs : List Numbered). r.before ++ cs) (commands-line s.reading s.line text rest none)
 
-  fault_line : (rest : List ℕ) → fault_of ((past ++ (text ++ 10 ∷ [])) ++ rest) ≡ fault_by s.profile s.line (line_of s.profile text) (parts_of rest)
-  fault_line rest = ap fault_of (joined past text rest) ∙ fault_next may start s past first now r begins (text ++ 10 ∷ rest) ∙ fault-line s.profile s.line text rest none
+  fault_line : (rest : List ℕ) → fault_of ((past ++ (text ++ 10 ∷ [])) ++ rest) ≡ fault_by s.reading s.line here (parts_of rest)
+  fault_line rest = ap fault_of (joined past text rest) ∙ fault_next may start s past first now r begins (text ++ 10 ∷ rest) ∙ fault-line s.reading s.line text rest none
 
-  -- a line that is skipped
-  pub read_skipped : line_of s.profile text ≡ Ok None → HasRead may start (record s { line = s.line + 1 }) (past ++ (text ++ 10 ∷ [])) first now
-  read_skipped is = record {
+  reading_line : (rest : List ℕ) → reading_of ((past ++ (text ++ 10 ∷ [])) ++ rest) ≡ reading_by s.reading s.line here (parts_of rest)
+  reading_line rest = ap reading_of (joined past text rest) ∙ reading_next may start s past first now r begins (text ++ 10 ∷ rest) ∙ reading-line s.reading s.line text rest none
+
+  -- a line that ends no command: it is skipped, begins a block or is one of a client
+  pub read_on : (reading : Reading) → here ≡ Ok (record { ended = None; reading = reading }) → HasRead may start (record s { reading = reading; line = s.line + 1 }) (past ++ (text ++ 10 ∷ [])) first now
+  read_on reading is = record {
     whole = past ++ (text ++ 10 ∷ []);
     split = sym (append-nil _) ∙ ap (λ (h : List ℕ). (past ++ (text ++ 10 ∷ [])) ++ h) (sym begins);
     unbroken = r.unbroken;
     short = r.short;
     line = line_next may start s past text first now r begins none;
     before = r.before;
-    commands = λ rest. commands_line rest ∙ ap (λ l. r.before ++ commands_by s.profile s.line l (parts_of rest)) is;
-    fault = λ rest. fault_line rest ∙ ap (λ l. fault_by s.profile s.line l (parts_of rest)) is;
+    commands = λ rest. commands_line rest ∙ ap (λ l. r.before ++ commands_by s.reading s.line l (parts_of rest)) is;
+    fault = λ rest. fault_line rest ∙ ap (λ l. fault_by s.reading s.line l (parts_of rest)) is;
+    reading = λ rest. reading_line rest ∙ ap (λ l. reading_by s.reading s.line l (parts_of rest)) is;
     answers = r.answers;
     replied = r.replied;
     replies = r.replies;
     owes = r.owes;
   }
 
-  -- a line that is answered
-  pub read_answered : (command : Command) (reply : Reply) (profile : Profile) (machine : S) (box : Outbox) (after : Option (List ℕ)) → line_of s.profile text ≡ Ok (Some command) → profile ≡ profile_told command s.profile → may s.machine command reply machine
-      → ((answers : List Answer) (first : Option (List ℕ)) → Owes s.box answers first now → Owes box (answers ++ record { line = s.line; reply = reply } ∷ []) first after)
-      → HasRead may start (record { profile = profile; machine = machine; held = s.held; line = s.line + 1; replies = s.replies + 1; box = box }) (past ++ (text ++ 10 ∷ [])) first after
-  read_answered command reply profile machine box after is behind told posts =
-      let entry : Numbered = record { line = s.line; command = command } in
-      let answer : Answer = record { line = s.line; reply = reply } in
-      record {
-        whole = past ++ (text ++ 10 ∷ []);
-        split = sym (append-nil _) ∙ ap (λ (h : List ℕ). (past ++ (text ++ 10 ∷ [])) ++ h) (sym begins);
-        unbroken = r.unbroken;
-        short = r.short;
-        line = line_next may start s past text first now r begins none;
-        before = r.before ++ entry ∷ [];
-        commands = λ rest. commands_line rest ∙ ap (λ l. r.before ++ commands_by s.profile s.line l (parts_of rest)) is
-            ∙ ap (λ q. r.before ++ entry ∷ commands_from q (s.line + 1) (parts_of rest)) (sym behind) ∙ sym (append_assoc r.before (entry ∷ []) _);
-        fault = λ rest. fault_line rest ∙ ap (λ l. fault_by s.profile s.line l (parts_of rest)) is ∙ ap (λ q. fault_from q (s.line + 1) (parts_of rest)) (sym behind);
-        answers = r.answers ++ answer ∷ [];
-        replied = replied_more may start s.machine machine r.before r.answers entry answer r.replied refl told;
-        replies = omega (arith, r.replies, length-append r.answers (answer ∷ []));
-        owes = posts r.answers first r.owes;
-      }
+  -- a line that ends a command, which is answered
+  module _ (command : Numbered) (reading : Reading) (is : here ≡ Ok (record { ended = Some command; reading = reading })) where
+    commands_ended : (rest : List ℕ) → commands_of ((past ++ (text ++ 10 ∷ [])) ++ rest) ≡ r.before ++ command ∷ commands_from reading (s.line + 1) (parts_of rest)
+    commands_ended rest = commands_line rest ∙ ap (λ l. r.before ++ commands_by s.reading s.line l (parts_of rest)) is
+
+    pub read_answered : (answers : List Answer) (machine : S) (box : Outbox) (after : Option (List ℕ)) → may s.machine command answers machine
+        → ((before : List Answer) (first : Option (List ℕ)) → Owes s.box before first now → Owes box (before ++ answers) first after)
+        → HasRead may start (record { reading = reading; machine = machine; held = s.held; line = s.line + 1; replies = s.replies + length answers; box = box }) (past ++ (text ++ 10 ∷ [])) first after
+    read_answered answers machine box after told posts = record {
+      whole = past ++ (text ++ 10 ∷ []);
+      split = sym (append-nil _) ∙ ap (λ (h : List ℕ). (past ++ (text ++ 10 ∷ [])) ++ h) (sym begins);
+      unbroken = r.unbroken;
+      short = r.short;
+      line = line_next may start s past text first now r begins none;
+      before = r.before ++ command ∷ [];
+      commands = λ rest. commands_ended rest ∙ sym (append_assoc r.before (command ∷ []) _);
+      fault = λ rest. fault_line rest ∙ ap (λ l. fault_by s.reading s.line l (parts_of rest)) is;
+      reading = λ rest. reading_line rest ∙ ap (λ l. reading_by s.reading s.line l (parts_of rest)) is;
+      answers = r.answers ++ answers;
+      replied = replied_more may start s.machine machine r.before r.answers command answers r.replied told;
+      replies = omega (arith, r.replies, length-append r.answers answers);
+      owes = posts r.answers first r.owes;
+    }
+
+    -- there is no memory for it
+    pub read_lacking : (asks : Asking S) (t : Player S) (line : ℕ) → line ≡ command.line → t.box ≡ s.box → asks s.machine command.command → HasNoMemory may asks start t (past ++ (text ++ 10 ∷ [])) line first now
+    read_lacking asks t line at box asking = record {
+      before = r.before;
+      begins = begins_of may start s past first now r;
+      asking = λ rest. inl (record {
+        command = command;
+        behind = commands_from reading (s.line + 1) (parts_of rest);
+        order = commands_ended rest;
+        asking = asking;
+        at = at;
+      });
+      owes = (let O : Outbox → Type 0 = λ b. Owes b r.answers first now in subst O (sym box) r.owes);
+    }
+
+    -- a writer stopped in its answers, or in those before
+    pub read_stopped : (answers : List Answer) (machine : S) (after : Option (List ℕ)) (at : ℕ) (rest : List ℕ) → may s.machine command answers machine → StopsIn (r.answers ++ answers) first after at → IsStopped may start ((past ++ (text ++ 10 ∷ [])) ++ rest) first after at
+    read_stopped answers machine after at rest told stops = record {
+      before = r.before ++ command ∷ [];
+      behind = commands_from reading (s.line + 1) (parts_of rest);
+      order = commands_ended rest ∙ sym (append_assoc r.before (command ∷ []) _);
+      begins = record { answers = r.answers ++ answers; after = machine; replied = replied_more may start s.machine machine r.before r.answers command answers r.replied told };
+      stops = stops;
+    }
 
   -- a line that is wrong
-  pub read_wrong : (error : ScriptError) → line_of s.profile text ≡ Err error → HasFault may start s (past ++ (text ++ 10 ∷ [])) (record { fault = fault_of_line error; line = s.line }) first now
-  read_wrong error is = record {
+  pub read_wrong : (t : Player S) (fault : Fault) → t.box ≡ s.box → here ≡ Err fault → HasFault may start t (past ++ (text ++ 10 ∷ [])) (record { fault = fault; line = s.line }) first now
+  read_wrong t fault box is = record {
     before = r.before;
-    commands = λ rest. commands_line rest ∙ ap (λ l. r.before ++ commands_by s.profile s.line l (parts_of rest)) is ∙ append-nil r.before;
-    fault = λ rest. fault_line rest ∙ ap (λ l. fault_by s.profile s.line l (parts_of rest)) is;
+    commands = λ rest. commands_line rest ∙ ap (λ l. r.before ++ commands_by s.reading s.line l (parts_of rest)) is ∙ append-nil r.before;
+    fault = λ rest. fault_line rest ∙ ap (λ l. fault_by s.reading s.line l (parts_of rest)) is;
     begins = begins_of may start s past first now r;
-    owes = r.owes;
+    owes = (let O : Outbox → Type 0 = λ b. Owes b r.answers first now in subst O (sym box) r.owes);
   }
 
-  -- a line that asks for memory, of which there is none
-  pub read_lacking : (asks : Asking S) (command : Command) (machine : S) → line_of s.profile text ≡ Ok (Some command) → asks s.machine command → HasNoMemory may asks start (record s { machine = machine }) (past ++ (text ++ 10 ∷ [])) s.line first now
-  read_lacking asks command machine is asking = record {
-    before = r.before;
-    begins = begins_of may start s past first now r;
-    asking = λ rest. record {
-      command = record { line = s.line; command = command };
-      behind = commands_from (profile_told command s.profile) (s.line + 1) (parts_of rest);
-      order = commands_line rest ∙ ap (λ l. r.before ++ commands_by s.profile s.line l (parts_of rest)) is;
-      asking = asking;
-      at = refl;
-    };
-    owes = r.owes;
-  }
-
-  -- a line at which a writer stopped
-  pub read_stopped : (after : Option (List ℕ)) (at : ℕ) (rest : List ℕ) → StopsIn r.answers first after at → IsStopped may start ((past ++ (text ++ 10 ∷ [])) ++ rest) first after at
-  read_stopped after at rest stops = record {
-    before = r.before;
-    behind = commands_by s.profile s.line (line_of s.profile text) (parts_of rest);
-    order = commands_line rest;
-    begins = begins_of may start s past first now r;
-    stops = stops;
-  }
+  -- a line that begins a block, for which there is no memory
+  pub read_unbegun : (asks : Asking S) (t : Player S) (line : ℕ) → line ≡ s.line → t.box ≡ s.box → s.reading.block ≡ None → BeginsBlock (line_of s.reading.profile text) → HasNoMemory may asks start t (past ++ (text ++ 10 ∷ [])) line first now
+  read_unbegun asks t line at box outside during =
+      let at_end : past ++ [] ≡ past = append-nil past in
+      let read : reading_of past ≡ s.reading = ap reading_of (sym at_end) ∙ reading_next may start s past first now r begins [] in
+      let D : Reading → Type 0 = λ q. BeginsBlock (line_of q.profile text) in
+      let O : Outbox → Type 0 = λ b. Owes b r.answers first now in
+      record {
+        before = r.before;
+        begins = begins_of may start s past first now r;
+        asking = λ rest. inr (record {
+          past = past;
+          text = text;
+          rest = rest;
+          order = joined past text rest;
+          clean = ap fault_of (sym at_end) ∙ fault_next may start s past first now r begins [] ∙ ap open_fault outside;
+          commands = ap commands_of (sym at_end) ∙ commands_next may start s past first now r begins [] ∙ append-nil r.before;
+          one_line = none;
+          during = subst D (sym read) during;
+          at = (let n : line ≡ newlines past + 1 = omega (arith, at, r.line, ap newlines (whole_is may start s past first now r begins)) in n);
+        });
+        owes = subst O (sym box) r.owes;
+      }
 
 pub ended_wrong : {S : Type 0} (may : Rule S) (asks : Asking S) (start : S) (s : Player S) (past : List ℕ) (error : ScriptError) (fault : Fault) (line : ℕ) (first now : Option (List ℕ)) → fault ≡ fault_of_line error → HasFault may start s past (record { fault = fault_of_line error; line = line }) first now → HasEnded may asks start s past (record { fault = fault; line = line }) first now
 ended_wrong may asks start s past of_line.Syntax fault line first now is h = let E : Fault → Type 0 = λ f. HasEnded may asks start s past (record { fault = f; line = line }) first now in subst E (sym is) h
@@ -147,6 +179,7 @@ read_taken_out may start s past first now r = record {
   before = r.before;
   commands = r.commands;
   fault = r.fault;
+  reading = r.reading;
   answers = r.answers;
   replied = r.replied;
   replies = r.replies;
@@ -170,6 +203,7 @@ read_held may start s past text first now r none short = record {
   before = r.before;
   commands = r.commands;
   fault = r.fault;
+  reading = r.reading;
   answers = r.answers;
   replied = r.replied;
   replies = r.replies;
@@ -186,8 +220,8 @@ read_long may start s past text first now r none long =
     record {
       before = r.before;
       commands = λ rest. ap commands_of (at rest) ∙ r.commands ((s.held ++ text) ++ rest)
-          ∙ ap (λ (cs : List Numbered). r.before ++ cs) (commands-long s.profile s.line (s.held ++ text) rest unbroken long) ∙ append-nil r.before;
-      fault = λ rest. ap fault_of (at rest) ∙ r.fault ((s.held ++ text) ++ rest) ∙ fault-long s.profile s.line (s.held ++ text) rest unbroken long;
+          ∙ ap (λ (cs : List Numbered). r.before ++ cs) (commands-long s.reading s.line (s.held ++ text) rest unbroken long) ∙ append-nil r.before;
+      fault = λ rest. ap fault_of (at rest) ∙ r.fault ((s.held ++ text) ++ rest) ∙ fault-long s.reading s.line (s.held ++ text) rest unbroken long;
       begins = begins_of may start s past first now r;
       owes = r.owes;
     }
@@ -209,7 +243,7 @@ ends_more may asks start Write s past more e first now h = λ rest. let W : List
 ends_more may asks start Memory s past more e first now h = record {
   before = h.before;
   begins = h.begins;
-  asking = (λ rest. let O : List ℕ → Type 0 = λ input. IsAsking asks input h.before h.begins.after e.line in subst O (sym (append_assoc past more rest)) (h.asking (more ++ rest)));
+  asking = (λ rest. let O : List ℕ → Type 0 = λ input. IsAsking asks input h.before h.begins.after e.line ⊎ IsBeginning input h.before e.line in subst O (sym (append_assoc past more rest)) (h.asking (more ++ rest)));
   owes = h.owes;
 }
 

@@ -1,5 +1,5 @@
 -- The steps of a machine with threads.
-use Rattle.std.proofs.Common.{◌≡◌, ℕ, ◌+◌, ◌≤◌, Bool, true, false, refl, sym, ap, subst, ◌∙◌, inr, arith, Option, Some, None, Result, Ok, Err}
+use Rattle.std.proofs.Common.{◌≡◌, ℕ, ◌+◌, ◌≤◌, ◌⊎◌, Bool, true, false, List, [], ◌∷◌, ◌++◌, refl, sym, ap, subst, ◌∙◌, inl, inr, arith, Option, Some, None, Result, Ok, Err}
 use Rattle.std.specs.Prelude.{IfOk, nat_eq}
 use Rattle.std.proofs.lemmas.Bool.Decides.{nat_tests}
 use Rattle.state_core.specs.declared.error.ZoneError.{ZoneError}
@@ -13,57 +13,64 @@ use Rattle.round_core.specs.declared.round.Round.{Round}
 use Rattle.round_core.specs.Kept.{IsKept}
 use Rattle.round_core.specs.Rounds.{IsBroken, IsRefusedEarly, IsRound}
 use Rattle.text_core.specs.declared.command.Command.{Command}
+use Rattle.text_core.specs.declared.command.Command.TheVariants.{During}
 use Rattle.text_core.specs.declared.reply.Reply.{Reply}
+use Rattle.text_core.specs.declared.reply.Reply.TheVariants as reply
+use Rattle.text_core.specs.Grammar.{zone_of}
+use Rattle.client_core.specs.Receipts.{Client}
+use Rattle.script_core.specs.Clients.{AreClientAnswers}
+use Rattle.script_core.specs.Script.{Answer, ClientLine, Numbered}
 use Rattle.script_core.specs.Serial.{IsStep, Serial}
-use Rattle.script_core.specs.Threaded.{IsRoundOn, IsStepAt, IsStepBy, IsThreadedStep, IsWorkOn, IsWorkStep, Settles, Threaded, broken_reply, is_threaded, left_by, round_reply}
+use Rattle.script_core.specs.Threaded.{IsBlockFor, IsReplyStep, IsRoundBeside, IsRoundOver, IsSettledReply, IsStepAt, IsStepBy, IsThreadedStep, IsUnstarted, IsWorkOn, IsWorkStep, Settles, Threaded, broken_reply, is_threaded, left_behind, left_by, stands_closed, stands_closed_at}
 
 -- a command that works by threads
-pub threaded_step : (old : Threaded) (command : Command) (answer : Reply) (new : Threaded) (w : WorldState) (places : ℕ)
-    → old.serial.world ≡ Some w → is_threaded command (Some w) ≡ true → places ≡ old.serial.places → IsWorkOn command w places answer new
-    → IsStepBy (is_threaded command old.serial.world) old command answer new
-threaded_step old command answer new w places is threaded same on =
-    let P : ℕ → Type 0 = λ n. IsWorkOn command w n answer new in
-    let W : Option WorldState → Type 0 = λ o. IsWorkStep command o old.serial.places answer new in
+pub threaded_step : (old : Threaded) (command : Command) (answer : Reply) (new : Threaded) (w : WorldState) (places : ℕ) (client : Client)
+    → old.serial.world ≡ Some w → is_threaded command (Some w) ≡ true → places ≡ old.serial.places → client ≡ old.client
+    → IsWorkOn command w places client answer new → IsStepBy (is_threaded command old.serial.world) old command answer new
+threaded_step old command answer new w places client is threaded same_places same_client on =
+    let P : ℕ → Type 0 = λ n. IsWorkOn command w n client answer new in
+    let C : Client → Type 0 = λ k. IsWorkOn command w old.serial.places k answer new in
+    let W : Option WorldState → Type 0 = λ o. IsWorkStep command o old.serial.places old.client answer new in
     let S : Bool → Type 0 = λ b. IsStepBy b old command answer new in
-    subst S (sym (ap (is_threaded command) is ∙ threaded)) (subst W (sym is) (subst P same on))
+    subst S (sym (ap (is_threaded command) is ∙ threaded)) (subst W (sym is) (subst C same_client (subst P same_places on)))
 
 -- any other command, which the machine answers as on one thread
 pub other_step : (old : Threaded) (command : Command) (answer : Reply) (new : Threaded) (machine : Serial)
-    → machine ≡ old.serial → is_threaded command old.serial.world ≡ false → IsStep machine command answer new.serial → new.broken ≡ None
+    → machine ≡ old.serial → is_threaded command old.serial.world ≡ false → IsStep machine command answer new.serial → new.broken ≡ None → new.client ≡ old.client
     → IsStepBy (is_threaded command old.serial.world) old command answer new
-other_step old command answer new machine same runs step none =
+other_step old command answer new machine same runs step none client =
     let M : Serial → Type 0 = λ m. IsStep m command answer new.serial in
     let S : Bool → Type 0 = λ b. IsStepBy b old command answer new in
-    subst S (sym runs) (subst M same step, none)
+    subst S (sym runs) (subst M same step, none, client)
 
 -- where a zone is broken, and where none is
 pub broken_step : (old : Threaded) (command : Command) (answer : Reply) (new : Threaded) (number : ℕ)
-    → old.broken ≡ Some number → answer ≡ broken_reply number command → new ≡ old → IsThreadedStep old command answer new
+    → old.broken ≡ Some number → answer ≡ broken_reply number command → new ≡ old → IsReplyStep old command answer new
 broken_step old command answer new number is told same =
     let S : Option ℕ → Type 0 = λ o. IsStepAt o old command answer new in
     subst S (sym is) (told, same)
 
 pub whole_step : (old : Threaded) (command : Command) (answer : Reply) (new : Threaded)
-    → old.broken ≡ None → IsStepBy (is_threaded command old.serial.world) old command answer new → IsThreadedStep old command answer new
+    → old.broken ≡ None → IsStepBy (is_threaded command old.serial.world) old command answer new → IsReplyStep old command answer new
 whole_step old command answer new is step =
     let S : Option ℕ → Type 0 = λ o. IsStepAt o old command answer new in
     subst S (sym is) step
 
 -- what a machine is whose zone passes its audit, and one whose zone doesn't
-pub left_whole : (places : ℕ) (zone zone_new : ZoneState) (scan scan_new : ScanSeat) (ends ends_new : EndSeat) (refusal : Option ZoneError) (new : Threaded)
+pub left_whole : (places : ℕ) (client : Client) (zone zone_new : ZoneState) (scan scan_new : ScanSeat) (ends ends_new : EndSeat) (refusal : Option ZoneError) (new : Threaded)
     → refusal ≡ None → zone_new ≡ zone → scan_new ≡ scan → ends_new ≡ ends → new.serial.places ≡ places
-    → new.serial.world ≡ Some (world_closed zone_new scan_new ends_new) → new.broken ≡ None → new ≡ left_by places zone scan ends refusal
-left_whole places zone zone_new scan scan_new ends ends_new refusal new passes same_zone same_scan same_ends same_places world none =
+    → new.serial.world ≡ Some (world_closed zone_new scan_new ends_new) → new.broken ≡ None → new.client ≡ client → new ≡ left_by places client zone scan ends refusal
+left_whole places client zone zone_new scan scan_new ends ends_new refusal new passes same_zone same_scan same_ends same_places world none same_client =
     let is : world_closed zone_new scan_new ends_new ≡ world_closed zone scan ends = λ i. world_closed (same_zone i) (same_scan i) (same_ends i) in
     let there : new.serial.world ≡ Some (world_closed zone scan ends) = world ∙ ap Some is in
-    let here : new ≡ left_by places zone scan ends None = λ i. record { serial = record { places = same_places i; world = there i }; broken = none i } in
-    here ∙ ap (left_by places zone scan ends) (sym passes)
+    let here : new ≡ left_by places client zone scan ends None = λ i. record { serial = record { places = same_places i; world = there i }; broken = none i; client = same_client i } in
+    here ∙ ap (left_by places client zone scan ends) (sym passes)
 
-pub left_broken : (places : ℕ) (zone : ZoneState) (scan : ScanSeat) (ends : EndSeat) (error : ZoneError) (refusal : Option ZoneError) (new : Threaded)
-    → refusal ≡ Some error → new.serial.places ≡ places → new.serial.world ≡ None → new.broken ≡ Some zone.number → new ≡ left_by places zone scan ends refusal
-left_broken places zone scan ends error refusal new refused same_places none number =
-    let here : new ≡ left_by places zone scan ends (Some error) = λ i. record { serial = record { places = same_places i; world = none i }; broken = number i } in
-    here ∙ ap (left_by places zone scan ends) (sym refused)
+pub left_broken : (places : ℕ) (client : Client) (zone : ZoneState) (scan : ScanSeat) (ends : EndSeat) (error : ZoneError) (refusal : Option ZoneError) (new : Threaded)
+    → refusal ≡ Some error → new.serial.places ≡ places → new.serial.world ≡ None → new.broken ≡ Some zone.number → new.client ≡ client → new ≡ left_by places client zone scan ends refusal
+left_broken places client zone scan ends error refusal new refused same_places none number same_client =
+    let here : new ≡ left_by places client zone scan ends (Some error) = λ i. record { serial = record { places = same_places i; world = none i }; broken = number i; client = same_client i } in
+    here ∙ ap (left_by places client zone scan ends) (sym refused)
 
 -- numbers that don't differ
 stable : (n m : ℕ) → ((n ≡ m → ⊥) → ⊥) → n ≡ m
@@ -96,13 +103,12 @@ module _ (scan_old scan : ScanSeat) (ends_old ends : EndSeat) (refusal : Option 
   settles (Err (Stranger serial)) round early is = absurd is
 
 -- a round over the zone and the seats that a world was split into
-pub round_on : (w : WorldState) (places : ℕ) (zone_old zone : ZoneState) (scan_old scan : ScanSeat) (ends_old ends : EndSeat) (result : Result Round RoundError)
-    (answer : Reply) (new : Threaded) → zone_old ≡ w.zone → scan_old ≡ w.scan → ends_old ≡ w.ends → ends_old.parts ≡ 64
+abbrev pub round_over : (w : WorldState) (zone_old zone : ZoneState) (scan_old scan : ScanSeat) (ends_old ends : EndSeat) (result : Result Round RoundError)
+    → zone_old ≡ w.zone → scan_old ≡ w.scan → ends_old ≡ w.ends → ends_old.parts ≡ 64
     → IsKept zone → HasShape zone_old.number zone_old.blocks zone
     → IfOk result (λ r. IsRound scan_old scan ends_old ends r) → IsRefusedEarly scan_old scan ends_old ends result
-    → (64 ≤ ends.parts → ends.moved + ends.back ≡ scan.count → audit_refusal zone ends ≡ None)
-    → answer ≡ round_reply result → new ≡ left_by places zone scan ends (audit_refusal zone ends) → IsRoundOn w places answer new
-round_on w places zone_old zone scan_old scan ends_old ends result answer new same_zone same_scan same_ends whole kept shape round early passes told left =
+    → (64 ≤ ends.parts → ends.moved + ends.back ≡ scan.count → audit_refusal zone ends ≡ None) → IsRoundOver w
+round_over w zone_old zone scan_old scan ends_old ends result same_zone same_scan same_ends whole kept shape round early passes =
     let R : ScanSeat → EndSeat → Type 0 = λ s e. IfOk result (λ r. IsRound s scan e ends r) in
     let E : ScanSeat → EndSeat → Type 0 = λ s e. IsRefusedEarly s scan e ends result in
     record {
@@ -115,6 +121,71 @@ round_on w places zone_old zone scan_old scan ends_old ends result answer new sa
       round = subst (λ s. R s w.ends) same_scan (subst (λ e. R scan_old e) same_ends round);
       early = subst (λ s. E s w.ends) same_scan (subst (λ e. E scan_old e) same_ends early);
       settled = settles scan_old scan ends_old ends (audit_refusal zone ends) whole passes result round early;
-      answer_is = told;
-      left = left;
     }
+
+-- a block is for the zone that is open
+pub block_for : (number zone : ℕ) (world : Option WorldState) (w : WorldState)
+    → zone_of number ≡ Some zone → world ≡ Some w → stands_closed zone (Some w) ≡ true → IsBlockFor (During number) world
+block_for number zone world w is there closed =
+    ap (λ (z : Option ℕ). stands_closed_at z world) is ∙ ap (stands_closed zone) there ∙ closed
+
+-- what ran is the same of the machine that gave its world
+module _ (w : WorldState) (old given : Threaded) (c : Numbered) (answers : List Answer) (new : Threaded)
+    (places : given.serial.places ≡ old.serial.places) (client : given.client ≡ old.client) where
+  round_beside : IsRoundBeside w given c answers new → IsRoundBeside w old c answers new
+  round_beside b = record {
+    over = b.over;
+    client = b.client;
+    told = b.told;
+    own = b.own;
+    answers_are = b.answers_are;
+    clients = subst (λ (k : Client). AreClientAnswers k c.clients b.told b.client) client b.clients;
+    settled = b.settled;
+    left = b.left ∙ ap (λ (n : ℕ). left_behind n b.client b.over) places;
+  }
+
+  unstarted : IsUnstarted w given c answers new → IsUnstarted w old c answers new
+  unstarted u = record {
+    zone = u.zone;
+    kept = u.kept;
+    shape = u.shape;
+    one = u.one;
+    left = u.left ∙ (λ i. left_by (places i) (client i) u.zone w.scan w.ends (audit_refusal u.zone w.ends));
+  }
+
+  pub block_step : old.serial.world ≡ Some w → old.broken ≡ None → IsBlockFor c.command old.serial.world
+      → IsRoundBeside w given c answers new ⊎ IsUnstarted w given c answers new → IsThreadedStep old c answers new
+  block_step there whole block (inl b) = inr (record { world = w; there = there; whole = whole; block = block; ran = inl (round_beside b) })
+  block_step there whole block (inr u) = inr (record { world = w; there = there; whole = whole; block = block; ran = inr (unstarted u) })
+
+-- nothing ran over the zone and the seats that a world was split into
+pub nothing_ran : (w : WorldState) (old : Threaded) (c : Numbered) (answers : List Answer) (new : Threaded) (zone_old zone : ZoneState) (scan_old scan : ScanSeat) (ends_old ends : EndSeat)
+    (places : ℕ) (client : Client) → zone_old ≡ w.zone → scan_old ≡ w.scan → ends_old ≡ w.ends → (scan ≡ scan_old) × (ends ≡ ends_old)
+    → places ≡ old.serial.places → client ≡ old.client → IsKept zone → HasShape zone_old.number zone_old.blocks zone
+    → answers ≡ record { line = c.line; reply = reply.Refused 32 } ∷ [] → new ≡ left_by places client zone scan ends (audit_refusal zone ends) → IsUnstarted w old c answers new
+nothing_ran w old c answers new zone_old zone scan_old scan ends_old ends places client same_zone same_scan same_ends same same_places same_client kept shape one left =
+    let scans : scan ≡ w.scan = same.0 ∙ same_scan in
+    let ends_are : ends ≡ w.ends = same.1 ∙ same_ends in
+    record {
+      zone = zone;
+      kept = kept;
+      shape = (shape.0 ∙ ap (λ (z : ZoneState). z.number) same_zone, shape.1 ∙ ap (λ (z : ZoneState). z.blocks) same_zone);
+      one = one;
+      left = left ∙ (λ i. left_by (same_places i) (same_client i) zone (scans i) (ends_are i) (audit_refusal zone (ends_are i)));
+    }
+
+-- a round over that zone and those seats, with the client of a machine beside it
+pub beside_client : (w : WorldState) (old : Threaded) (c : Numbered) (answers : List Answer) (new : Threaded) (over : IsRoundOver w)
+    (client_old client : Client) (lines : List ClientLine) (told : List Answer) (own : Reply) (places : ℕ)
+    → client_old ≡ old.client → lines ≡ c.clients → places ≡ old.serial.places → answers ≡ told ++ record { line = c.line; reply = own } ∷ []
+    → AreClientAnswers client_old lines told client → IsSettledReply over.zone client over.result own → new ≡ left_behind places client over → IsRoundBeside w old c answers new
+beside_client w old c answers new over client_old client lines told own places same_client same_lines same_places answers_are clients settled left = record {
+  over = over;
+  client = client;
+  told = told;
+  own = own;
+  answers_are = answers_are;
+  clients = subst (λ (k : Client). AreClientAnswers k c.clients told client) same_client (subst (λ (ls : List ClientLine). AreClientAnswers client_old ls told client) same_lines clients);
+  settled = settled;
+  left = left ∙ ap (λ (n : ℕ). left_behind n client over) same_places;
+}

@@ -1,21 +1,22 @@
 -- What the run of a machine with threads says of a script without rounds and pools: what a serial run says.
-use Rattle.std.proofs.Common.{◌≡◌, ℕ, List, [], ◌∷◌, ◌++◌, refl, ap, subst, ◌∙◌, Option, Some, None}
+use Rattle.std.proofs.Common.{◌≡◌, ◌⊎◌, ℕ, List, [], ◌∷◌, ◌++◌, refl, ap, subst, inl, inr, ◌∙◌, Option, Some, None}
 use Rattle.std.specs.Prelude.{IfErr, IfOk, IfSome, OnOk, Result}
 use Rattle.std.specs.List.{AllByRecursion}
 use Rattle.std.specs.Io.KnownBytes.{Appends, Consumes}
 use Rattle.std.proofs.lemmas.Result.{MatchResult-weaker}
 use Rattle.text_core.specs.declared.command.Command.{Command}
-use Rattle.text_core.specs.declared.command.Command.TheVariants.{Open, On, Compact, Pool, Profile2, OutOfRange}
+use Rattle.text_core.specs.declared.command.Command.TheVariants.{Open, On, Compact, Pool, During, Profile2, OutOfRange}
+use Rattle.zone_core.specs.World.{WorldState}
 use Rattle.text_core.specs.declared.reply.Reply.{Reply}
 use Rattle.script_core.specs.declared.error.Fault.{Fault}
 use Rattle.script_core.specs.declared.error.Fault.TheVariants.{Syntax, LongLine, Read, Write, Memory}
 use Rattle.script_core.specs.declared.error.RunError.{RunError}
 use Rattle.script_core.specs.declared.script.Totals.{Totals}
 use Rattle.script_core.specs.Ends.{EndsIn}
-use Rattle.script_core.specs.Runs.{Begins, IsAnswered, IsEnded, IsTotal, Replied}
-use Rattle.script_core.specs.Script.{Answer, Numbered, commands_of, output_of, totals_of}
-use Rattle.script_core.specs.Serial.{IsStep, Opens, serial_at_first}
-use Rattle.script_core.specs.Threaded.{AsksMemory, IsUnthreaded, IsStepAt, IsThreadedStep, IsUnthreadedScript, Threaded, threaded_at_first}
+use Rattle.script_core.specs.Runs.{Begins, IsAnswered, IsAsking, IsEnded, IsTotal, Replied}
+use Rattle.script_core.specs.Script.{Answer, IsBeginning, Numbered, commands_of, output_of, totals_of}
+use Rattle.script_core.specs.Serial.{IsSerialStep, IsStep, Opens, serial_at_first}
+use Rattle.script_core.specs.Threaded.{AsksMemory, IsBlockFor, IsUnthreaded, IsStepAt, IsThreadedStep, IsUnthreadedScript, Threaded, threaded_at_first}
 use Rattle.script_core.proofs.Beginnings.{all_before, all_of_beginning}
 use Rattle.script_core.proofs.SerialRuns.{serial_ends, serial_output, serial_totals}
 use Rattle.script_core.proofs.Variants.{known_weaker}
@@ -25,44 +26,63 @@ abbrev AreUnthreaded : List Numbered → Type 0
 AreUnthreaded commands = AllByRecursion (λ c. IsUnthreaded c.command) commands
 
 -- any other command is answered as on one thread
-abbrev IsAlone : Threaded → Command → Reply → Threaded → Type 0
-IsAlone old c answer new = IsStep old.serial c answer new.serial × (new.broken ≡ None)
+abbrev IsAlone : Threaded → Numbered → List Answer → Threaded → Type 0
+IsAlone old c answers new = IsSerialStep old.serial c answers new.serial × (new.broken ≡ None)
 
-alone_step : (old : Threaded) (c : Command) (answer : Reply) (new : Threaded) → old.broken ≡ None → IsUnthreaded c → IsStepAt None old c answer new → IsAlone old c answer new
-alone_step old (Open zone blocks) answer new unbroken none step = step
-alone_step old (On zone calls) answer new unbroken none step = step
-alone_step old (Compact zone) answer new unbroken none step = absurd none
-alone_step old (Pool zone count blocks) answer new unbroken none step = absurd none
-alone_step old Profile2 answer new unbroken none step = step
-alone_step old OutOfRange answer new unbroken none step = step
+abbrev IsAloneReply : Threaded → Command → Reply → Threaded → Type 0
+IsAloneReply old c answer new = IsStep old.serial c answer new.serial × (new.broken ≡ None)
 
-unbroken_step : (old : Threaded) (c : Command) (answer : Reply) (new : Threaded) → old.broken ≡ None → IsUnthreaded c → IsThreadedStep old c answer new → IsAlone old c answer new
-unbroken_step old c answer new unbroken none step =
-    let S : Option ℕ → Type 0 = λ o. IsStepAt o old c answer new in
-    alone_step old c answer new unbroken none (subst S unbroken step)
+alone_step : (old : Threaded) (c : Command) (answer : Reply) (new : Threaded) → IsUnthreaded c → IsStepAt None old c answer new → IsAloneReply old c answer new
+alone_step old (Open zone blocks) answer new none step = (step.0, step.1)
+alone_step old (On zone calls) answer new none step = (step.0, step.1)
+alone_step old (Compact zone) answer new none step = absurd none
+alone_step old (Pool zone count blocks) answer new none step = absurd none
+alone_step old (During zone) answer new none step = absurd none
+alone_step old Profile2 answer new none step = (step.0, step.1)
+alone_step old OutOfRange answer new none step = (step.0, step.1)
+
+-- no such command is a block
+no_block : (c : Command) (world : Option WorldState) → IsUnthreaded c → IsBlockFor c world → ⊥
+no_block (During zone) world none block = none
+no_block (Open zone blocks) world none block = block
+no_block (On zone calls) world none block = block
+no_block (Compact zone) world none block = block
+no_block (Pool zone count blocks) world none block = block
+no_block Profile2 world none block = block
+no_block OutOfRange world none block = block
+
+unbroken_step : (old : Threaded) (c : Numbered) (answers : List Answer) (new : Threaded) → old.broken ≡ None → IsUnthreaded c.command → IsThreadedStep old c answers new → IsAlone old c answers new
+unbroken_step old c answers new unbroken none (inl one) =
+    let S : Option ℕ → Type 0 = λ o. IsStepAt o old c.command one.reply new in
+    let alone = alone_step old c.command one.reply new none (subst S unbroken one.step) in
+    (record { reply = one.reply; one = one.one; step = alone.0 }, alone.1)
+unbroken_step old c answers new unbroken none (inr block) = absurd (no_block c.command old.serial.world none block.block)
 
 alone_replied : (old new : Threaded) (commands : List Numbered) (answers : List Answer) → old.broken ≡ None → AreUnthreaded commands → Replied IsThreadedStep old commands answers new
-    → Replied IsStep old.serial commands answers new.serial × (new.broken ≡ None)
-alone_replied old new [] [] unbroken none told = (ap (λ (t : Threaded). t.serial) told, ap (λ (t : Threaded). t.broken) told ∙ unbroken)
-alone_replied old new [] (a ∷ answers) unbroken none told = absurd told
-alone_replied old new (c ∷ commands) [] unbroken none told = absurd told
-alone_replied old new (c ∷ commands) (a ∷ answers) unbroken none told =
-    let here = unbroken_step old c.command a.reply told.0 unbroken none.0 told.2 in
-    let rest = alone_replied told.0 new commands answers here.1 none.1 told.3 in
-    ((told.0.serial, told.1, here.0, rest.0), rest.1)
+    → Replied IsSerialStep old.serial commands answers new.serial × (new.broken ≡ None)
+alone_replied old new [] answers unbroken none told = ((told.0, ap (λ (t : Threaded). t.serial) told.1), ap (λ (t : Threaded). t.broken) told.1 ∙ unbroken)
+alone_replied old new (c ∷ commands) answers unbroken none told =
+    let here = unbroken_step old c told.1 told.0 unbroken none.0 told.4 in
+    let rest = alone_replied told.0 new commands told.2 here.1 none.1 told.5 in
+    ((told.0.serial, told.1, told.2, told.3, here.0, rest.0), rest.1)
+
+-- the command behind some is none
+none_behind : (before : List Numbered) (c : Numbered) (behind : List Numbered) → AreUnthreaded (before ++ c ∷ behind) → IsUnthreaded c.command
+none_behind [] c behind all = all.0
+none_behind (d ∷ before) c behind all = none_behind before c behind all.1
 
 module _ (places : ℕ) where
-  abbrev alone_begins : (commands : List Numbered) → AreUnthreaded commands → Begins IsThreadedStep (threaded_at_first places) commands → Begins IsStep (serial_at_first places) commands
+  abbrev alone_begins : (commands : List Numbered) → AreUnthreaded commands → Begins IsThreadedStep (threaded_at_first places) commands → Begins IsSerialStep (serial_at_first places) commands
   alone_begins commands none b = record {
     answers = b.answers;
     after = b.after.serial;
     replied = (alone_replied (threaded_at_first places) b.after commands b.answers refl none b.replied).0;
   }
 
-  abbrev alone_answered : (input : List ℕ) (old new : Option (List ℕ)) → IsUnthreadedScript input → IsAnswered IsThreadedStep (threaded_at_first places) input old new → IsAnswered IsStep (serial_at_first places) input old new
+  abbrev alone_answered : (input : List ℕ) (old new : Option (List ℕ)) → IsUnthreadedScript input → IsAnswered IsThreadedStep (threaded_at_first places) input old new → IsAnswered IsSerialStep (serial_at_first places) input old new
   alone_answered input old new none h = record { begins = alone_begins (commands_of input) none h.begins; written = h.written }
 
-  alone_total : (input : List ℕ) (old new : Option (List ℕ)) (totals : Totals) → IsUnthreadedScript input → IsTotal IsThreadedStep (threaded_at_first places) input old new totals → IsTotal IsStep (serial_at_first places) input old new totals
+  alone_total : (input : List ℕ) (old new : Option (List ℕ)) (totals : Totals) → IsUnthreadedScript input → IsTotal IsThreadedStep (threaded_at_first places) input old new totals → IsTotal IsSerialStep (serial_at_first places) input old new totals
   alone_total input old new totals none h = record { answered = alone_answered input old new none h.answered; totals_are = h.totals_are }
 
   -- those before a place are none either
@@ -74,8 +94,30 @@ module _ (places : ℕ) where
   none_read None input past read none = absurd read
   none_read (Some rest) input past read none = all_of_beginning (λ (c : Numbered). IsUnthreaded c.command) past rest (subst (λ bytes. AreUnthreaded (commands_of bytes)) read none)
 
+  -- nor those before a command or a block that asks for memory
+  none_asking : (input : List ℕ) (before : List Numbered) (after : Threaded) (line : ℕ) → IsUnthreadedScript input → IsAsking AsksMemory input before after line ⊎ IsBeginning input before line → AreUnthreaded before
+  none_asking input before after line none (inl a) = none_before input before (a.command ∷ a.behind) a.order none
+  none_asking input before after line none (inr b) =
+      subst AreUnthreaded b.commands (all_of_beginning (λ (c : Numbered). IsUnthreaded c.command) b.past (b.text ++ 10 ∷ b.rest) (subst (λ bytes. AreUnthreaded (commands_of bytes)) b.order none))
+
+  alone_opens : (c : Command) (old : Threaded) → IsUnthreaded c → AsksMemory old c → Opens old.serial c
+  alone_opens (During zone) old none asks = absurd none
+  alone_opens c old none (whole, inl opens) = opens
+  alone_opens c old none (whole, inr block) = absurd (no_block c old.serial.world none block)
+
+  alone_asking : (input : List ℕ) (before : List Numbered) (after : Threaded) (line : ℕ) → IsUnthreadedScript input
+      → IsAsking AsksMemory input before after line ⊎ IsBeginning input before line → IsAsking Opens input before after.serial line ⊎ IsBeginning input before line
+  alone_asking input before after line none (inl a) = inl (record {
+    command = a.command;
+    behind = a.behind;
+    order = a.order;
+    asking = alone_opens a.command.command after (none_behind before a.command a.behind (subst AreUnthreaded a.order none)) a.asking;
+    at = a.at;
+  })
+  alone_asking input before after line none (inr b) = inr b
+
   alone_ends : (f : Fault) (input : List ℕ) (e : RunError) (left left_new old new : Option (List ℕ)) → left ≡ Some input → IsUnthreadedScript input
-      → IsEnded IsThreadedStep AsksMemory (threaded_at_first places) f input e left left_new old new → IsEnded IsStep Opens (serial_at_first places) f input e left left_new old new
+      → IsEnded IsThreadedStep AsksMemory (threaded_at_first places) f input e left left_new old new → IsEnded IsSerialStep Opens (serial_at_first places) f input e left left_new old new
   alone_ends Syntax input e left left_new old new known none h = (h.0, alone_answered input old new none h.1)
   alone_ends LongLine input e left left_new old new known none h = (h.0, alone_answered input old new none h.1)
   alone_ends Read input e left left_new old new known none h =
@@ -96,14 +138,8 @@ module _ (places : ℕ) where
   }
   alone_ends Memory input e left left_new old new known none h = record {
     before = h.before;
-    begins = alone_begins h.before (none_before input h.before (h.asking.command ∷ h.asking.behind) h.asking.order none) h.begins;
-    asking = record {
-      command = h.asking.command;
-      behind = h.asking.behind;
-      order = h.asking.order;
-      asking = h.asking.asking.1;
-      at = h.asking.at;
-    };
+    begins = alone_begins h.before (none_asking input h.before h.begins.after e.line none h.asking) h.begins;
+    asking = alone_asking input h.before h.begins.after e.line none h.asking;
     written = h.written;
   }
 

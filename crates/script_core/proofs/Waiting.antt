@@ -165,3 +165,18 @@ marked_more bytes lines text line m one =
           let is : length bytes + k ≡ n = omega arith in
           let part : take n (bytes ++ text) ≡ bytes ++ take k text = ap (λ (j : ℕ). take j (bytes ++ text)) (sym is) ∙ take-append-add bytes text k in
           omega (arith, ap newlines part, newlines-append bytes (take k text), newlines-part text k one (omega (arith, length-append bytes text)), m.counted, length-append lines (line ∷ []))
+
+-- a writer that stopped in some answers stopped in them and more
+pub stops_more : (answers more : List Answer) (old new : Option (List ℕ)) (line : ℕ) → StopsIn answers old new line → StopsIn (answers ++ more) old new line
+stops_more answers more old new line stops = record {
+  before = stops.before;
+  answer = stops.answer;
+  behind = stops.behind ++ more;
+  order = ap (λ (a : List Answer). a ++ more) stops.order ∙ append_assoc stops.before (stops.answer ∷ stops.behind) more;
+  taken = stops.taken;
+  left = stops.left;
+  text = stops.text;
+  some = stops.some;
+  written = stops.written;
+  at = stops.at;
+}

@@ -1,5 +1,5 @@
 -- How a run can end.
-use Rattle.std.specs.Prelude.{◌≡◌, ℕ, ◌+◌, ◌<◌, Bool, true, false, IsTrue, List, ◌∷◌, ◌++◌, length, Option, Some, None, IfSome, Result, Ok, Err}
+use Rattle.std.specs.Prelude.{◌≡◌, ℕ, ◌+◌, ◌<◌, ◌⊎◌, Bool, true, false, IsTrue, List, ◌∷◌, ◌++◌, length, Option, Some, None, IfSome, Result, Ok, Err}
 use Rattle.std.specs.Io.KnownBytes.{Appends, Consumes}
 use Rattle.script_core.specs.declared.error.Fault.{Fault}
 use Rattle.script_core.specs.declared.error.Fault.TheVariants.{Syntax, LongLine, Read, Write, Memory}
@@ -7,7 +7,7 @@ use Rattle.script_core.specs.declared.error.RunError.{RunError}
 use Rattle.script_core.specs.declared.script.Totals.{Totals}
 use Rattle.script_core.specs.Machine.{opens}
 use Rattle.text_core.specs.Reply.{newlines, text_of}
-use Rattle.script_core.specs.Script.{Answer, Numbered, answers_from, answers_of, commands_of, fault_of, output_of, texts, world_behind}
+use Rattle.script_core.specs.Script.{Answer, IsBeginning, IsOfEnd, Numbered, answers_from, answers_of, commands_of, fault_of, output_of, texts, world_behind}
 
 -- whether a fault is one of the script itself
 abbrev pub is_of_script : Fault → Bool
@@ -35,11 +35,11 @@ pub record StopsIn (answers : List Answer) (old new : Option (List ℕ)) (line :
   pub written : Appends old new (texts before ++ taken)
   pub at : line ≡ answer.line
 
--- a reader failed behind lines that have no fault, but that the last is cut, and these are answered
+-- a reader failed behind lines that have no fault but those of an end there, and these are answered
 pub record FailsBehind (places : ℕ) (left left_new old new : Option (List ℕ)) (line : ℕ) : Type 0 where
   pub past : List ℕ
   pub read : Consumes left left_new past
-  pub clean : IfSome (fault_of past) (λ e. e ≡ record { fault = Syntax; line = line })
+  pub clean : IfSome (fault_of past) (IsOfEnd past)
   pub written : Appends old new (output_of places past)
   pub at : line ≡ newlines past + 1
 
@@ -51,10 +51,11 @@ pub record IsOpening (places : ℕ) (input : List ℕ) (before : List Numbered) 
   pub opening : IsTrue (opens (world_behind places None before) command.command)
   pub at : line ≡ command.line
 
--- there was no memory for the zone that the command at this line opens, and the commands before it are answered
+-- there was no memory for the zone that the command at this line opens, or for the block that the line begins, and the commands before it
+-- are answered
 pub record LacksMemory (places : ℕ) (input : List ℕ) (old new : Option (List ℕ)) (line : ℕ) : Type 0 where
   pub before : List Numbered
-  pub opening : IsOpening places input before line
+  pub opening : IsOpening places input before line ⊎ IsBeginning input before line
   pub written : Appends old new (texts (answers_from places None before))
 
 -- what each fault that ends a run says

@@ -1,10 +1,12 @@
+pub mod Clients
+pub mod Ends
 pub mod ErrorNumber
 pub mod Machine
-pub mod Script
-pub mod Ends
-pub mod Runs
-pub mod Serial
-pub mod Threaded
 pub mod Outbox
 pub mod Player
+pub mod Requests
+pub mod Runs
+pub mod Script
+pub mod Serial
 pub mod Streams
+pub mod Threaded

@@ -27,9 +27,9 @@ use Rattle.text_core.specs.declared.command.Calls.TheVariants.{One, Series as Se
 use Rattle.text_core.specs.declared.command.Series.{Series}
 use Rattle.text_core.specs.declared.command.Repeated.{Repeated}
 use Rattle.text_core.specs.declared.command.Repeated.TheVariants as repeated
-use Rattle.text_core.specs.Grammar.{address_of}
+use Rattle.text_core.specs.Grammar.{address_of, zone_of}
 use Rattle.text_core.specs.declared.command.Command.{Command}
-use Rattle.text_core.specs.declared.command.Command.TheVariants.{Open, On, Compact, Pool, Profile2, OutOfRange}
+use Rattle.text_core.specs.declared.command.Command.TheVariants.{Open, On, Compact, Pool, Profile2, OutOfRange, During}
 use Rattle.text_core.specs.declared.pool.PoolBlocks.{PoolBlocks}
 use Rattle.text_core.specs.declared.pool.PoolStopped.{PoolStopped}
 use Rattle.text_core.specs.declared.pool.PoolStopped.TheVariants as stopped
@@ -222,6 +222,11 @@ pool_on zone count blocks None = declined 43 None
 pool_on zone count blocks (Some w) =
     if nat_eq zone w.zone.number then answered (pool_step w count blocks) else declined 43 (Some w)
 
+-- a round with a client's calls beside it, without threads: nothing of it is done
+abbrev pub during_on : Option ℕ → Option WorldState → Step
+during_on None world = declined 1 world
+during_on (Some zone) world = compact_on zone world
+
 -- any command, where a zone is opened with these places in its journal
 abbrev pub step : ℕ → Option WorldState → Command → Step
 step places world OutOfRange = declined 1 world
@@ -230,6 +235,7 @@ step places world (Open zone blocks) = open_step zone blocks places world
 step places world (On zone calls) = step_on zone calls world
 step places world (Compact zone) = compact_on zone world
 step places world (Pool zone count blocks) = pool_on zone count blocks world
+step places world (During number) = during_on (zone_of number) world
 
 -- whether a command opens a zone
 abbrev pub opens : Option WorldState → Command → Bool

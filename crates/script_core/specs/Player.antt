@@ -1,7 +1,7 @@
 -- What contracts see of a script that is being read.
-use Rattle.std.specs.Prelude.{◌≡◌, ◌≢◌, ℕ, ◌+◌, ◌≤◌, List, [], ◌++◌, length, Option, Some}
+use Rattle.std.specs.Prelude.{◌≡◌, ◌≢◌, ℕ, ◌+◌, ◌≤◌, ◌⊎◌, List, [], ◌∷◌, ◌++◌, length, Option, Some}
 use Rattle.std.specs.Io.KnownBytes.{Consumes}
-use Rattle.text_core.specs.declared.profile.Profile.{Profile}
+use Rattle.text_core.specs.declared.command.ClientCall.{ClientCall}
 use Rattle.text_core.specs.declared.profile.Profile.TheVariants.{Untold}
 use Rattle.text_core.specs.Reply.{newlines}
 use Rattle.script_core.specs.declared.error.Fault.{Fault}
@@ -9,11 +9,11 @@ use Rattle.script_core.specs.declared.error.Fault.TheVariants.{Syntax, LongLine,
 use Rattle.script_core.specs.declared.error.RunError.{RunError}
 use Rattle.script_core.specs.Outbox.{Outbox, Owes, empty}
 use Rattle.script_core.specs.Runs.{Rule, Asking, Begins, IsAsking, IsEnded, IsStopped, Replied}
-use Rattle.script_core.specs.Script.{Answer, Numbered, commands_from, commands_of, fault_from, fault_of, parts_of}
+use Rattle.script_core.specs.Script.{Answer, Block, IsBeginning, Numbered, Reading, by, commands_from, commands_of, fault_from, fault_of, parts_of, reading_from, reading_of, within}
 
--- the profile, the machine, the line that has begun and its number, how many replies there were, and those that wait
+-- how the next line is read, the machine, the line that has begun and its number, how many replies there were, and those that wait
 pub record Player (S : Type 0) : Type 0 where
-  pub profile : Profile
+  pub reading : Reading
   pub machine : S
   pub held : List ℕ
   pub line : ℕ
@@ -22,7 +22,20 @@ pub record Player (S : Type 0) : Type 0 where
 
 -- a script at its first byte
 abbrev pub begun : {S : Type 0} → S → Player S
-begun machine = record { profile = Untold; machine = machine; held = []; line = 1; replies = 0; box = empty }
+begun machine = record { reading = by Untold; machine = machine; held = []; line = 1; replies = 0; box = empty }
+
+-- the same script, read in a block
+abbrev pub in_block : {S : Type 0} → Block → Player S → Player S
+in_block block s = record s { reading = within s.reading.profile block }
+
+-- a block for the zone with this number began at the line
+abbrev pub block_begun : {S : Type 0} → ℕ → Player S → Player S
+block_begun zone s = record (in_block (record { line = s.line; zone = zone; clients = [] }) s) { line = s.line + 1 }
+
+-- the line was one more of a client in a block
+abbrev pub noted : {S : Type 0} → Block → Option ClientCall → Player S → Player S
+noted block call s =
+    record (in_block (record block { clients = block.clients ++ record { line = s.line; call = call } ∷ [] }) s) { line = s.line + 1 }
 
 -- these bytes were read without a fault, and the replies to their lines were written or wait
 pub record HasRead {S : Type 0} (may : Rule S) (start : S) (s : Player S) (past : List ℕ) (first now : Option (List ℕ)) : Type 0 where
@@ -32,8 +45,9 @@ pub record HasRead {S : Type 0} (may : Rule S) (start : S) (s : Player S) (past 
   pub short : length s.held ≤ 200
   pub line : s.line ≡ newlines whole + 1
   pub before : List Numbered
-  pub commands : (rest : List ℕ) → commands_of (whole ++ rest) ≡ before ++ commands_from s.profile s.line (parts_of rest)
-  pub fault : (rest : List ℕ) → fault_of (whole ++ rest) ≡ fault_from s.profile s.line (parts_of rest)
+  pub commands : (rest : List ℕ) → commands_of (whole ++ rest) ≡ before ++ commands_from s.reading s.line (parts_of rest)
+  pub fault : (rest : List ℕ) → fault_of (whole ++ rest) ≡ fault_from s.reading s.line (parts_of rest)
+  pub reading : (rest : List ℕ) → reading_of (whole ++ rest) ≡ reading_from s.reading s.line (parts_of rest)
   pub answers : List Answer
   pub replied : Replied may start before answers s.machine
   pub replies : s.replies ≡ length answers
@@ -47,11 +61,11 @@ pub record HasFault {S : Type 0} (may : Rule S) (start : S) (s : Player S) (past
   pub begins : Begins may start before
   pub owes : Owes s.box begins.answers first now
 
--- there was no memory for the command of a line within these bytes, and the replies before it were written or wait
+-- there was no memory for the command or the block of a line within these bytes, and the replies before it were written or wait
 pub record HasNoMemory {S : Type 0} (may : Rule S) (asks : Asking S) (start : S) (s : Player S) (past : List ℕ) (line : ℕ) (first now : Option (List ℕ)) : Type 0 where
   pub before : List Numbered
   pub begins : Begins may start before
-  pub asking : (rest : List ℕ) → IsAsking asks (past ++ rest) before begins.after line
+  pub asking : (rest : List ℕ) → IsAsking asks (past ++ rest) before begins.after line ⊎ IsBeginning (past ++ rest) before line
   pub owes : Owes s.box begins.answers first now
 
 -- what each fault says of these bytes
@@ -79,11 +93,11 @@ pub record BreaksOff {S : Type 0} (may : Rule S) (start : S) (s : Player S) (lef
   pub has_read : HasRead may start s past first now
   pub at : line ≡ s.line
 
--- there was no memory for the command of this line of the input
+-- there was no memory for the command of this line of the input, or for the block that it begins
 pub record FindsNoMemory {S : Type 0} (may : Rule S) (asks : Asking S) (start : S) (s : Player S) (input : List ℕ) (line : ℕ) (first now : Option (List ℕ)) : Type 0 where
   pub before : List Numbered
   pub begins : Begins may start before
-  pub asking : IsAsking asks input before begins.after line
+  pub asking : IsAsking asks input before begins.after line ⊎ IsBeginning input before line
   pub owes : Owes s.box begins.answers first now
 
 -- what each fault says of a whole input

@@ -1,32 +1,29 @@
 -- How the run of a script ends, whatever machine answers its commands.
-use Rattle.std.specs.Prelude.{◌≡◌, ℕ, ◌+◌, List, [], ◌∷◌, ◌++◌, length, Option, Some, IfSome}
+use Rattle.std.specs.Prelude.{◌≡◌, ℕ, ◌+◌, ◌⊎◌, List, [], ◌∷◌, ◌++◌, length, Option, Some, IfSome}
 use Rattle.std.specs.Io.KnownBytes.{Appends, Consumes}
 use Rattle.text_core.specs.declared.command.Command.{Command}
-use Rattle.text_core.specs.declared.reply.Reply.{Reply}
 use Rattle.text_core.specs.Reply.{newlines}
 use Rattle.script_core.specs.declared.error.Fault.{Fault}
 use Rattle.script_core.specs.declared.error.Fault.TheVariants.{Syntax, LongLine, Read, Write, Memory}
 use Rattle.script_core.specs.declared.error.RunError.{RunError}
 use Rattle.script_core.specs.declared.script.Totals.{Totals}
 use Rattle.script_core.specs.Ends.{StopsIn}
-use Rattle.script_core.specs.Script.{Answer, Numbered, commands_of, fault_of, texts}
+use Rattle.script_core.specs.Script.{Answer, IsBeginning, IsOfEnd, Numbered, commands_of, fault_of, texts}
 
--- which reply a machine may give to a command, and what it is then
+-- which replies a machine may give to a command and to the client lines of its block, in their order, and what it is then
 abbrev pub Rule : Type 0 → Type 1
-Rule S = S → Command → Reply → S → Type 0
+Rule S = S → Numbered → List Answer → S → Type 0
 
 -- to which commands a machine may find no memory
 abbrev pub Asking : Type 0 → Type 1
 Asking S = S → Command → Type 0
 
--- These are replies to these commands, one to each: each reply is one that the machine may give, and leads from what the one before
--- left.
+-- These are the replies to these commands, those to one behind those to the other: those to each are such that the machine may give, and
+-- lead from what those before left.
 abbrev pub Replied : {S : Type 0} → Rule S → S → List Numbered → List Answer → S → Type 0
-Replied may old [] [] new = new ≡ old
-Replied {S} may old (c ∷ commands) (a ∷ answers) new =
-    (next : S) × (a.line ≡ c.line) × may old c.command a.reply next × Replied may next commands answers new
-Replied may old [] (a ∷ answers) new = ⊥
-Replied may old (c ∷ commands) [] new = ⊥
+Replied may old [] answers new = (answers ≡ []) × (new ≡ old)
+Replied {S} may old (c ∷ commands) answers new =
+    (next : S) × (here : List Answer) × (behind : List Answer) × (answers ≡ here ++ behind) × may old c here next × Replied may next commands behind new
 
 -- the replies to the first commands of an input
 pub record Begins {S : Type 0} (may : Rule S) (start : S) (before : List Numbered) : Type 0 where
@@ -52,11 +49,11 @@ pub record IsStopped {S : Type 0} (may : Rule S) (start : S) (input : List ℕ) 
   pub begins : Begins may start before
   pub stops : StopsIn begins.answers old new line
 
--- a reader failed behind lines that have no fault, but that the last is cut, and these are answered
+-- a reader failed behind lines that have no fault but those of an end there, and these are answered
 pub record IsUnread {S : Type 0} (may : Rule S) (start : S) (left left_new old new : Option (List ℕ)) (line : ℕ) : Type 0 where
   pub past : List ℕ
   pub read : Consumes left left_new past
-  pub clean : IfSome (fault_of past) (λ e. e ≡ record { fault = Syntax; line = line })
+  pub clean : IfSome (fault_of past) (IsOfEnd past)
   pub answered : IsAnswered may start past old new
   pub at : line ≡ newlines past + 1
 
@@ -68,11 +65,11 @@ pub record IsAsking {S : Type 0} (asks : Asking S) (input : List ℕ) (before : 
   pub asking : asks after command.command
   pub at : line ≡ command.line
 
--- there was no memory for the command at this line, and those before it are answered
+-- there was no memory for the command at this line, or for the block that the line begins, and the commands before it are answered
 pub record IsLacking {S : Type 0} (may : Rule S) (asks : Asking S) (start : S) (input : List ℕ) (old new : Option (List ℕ)) (line : ℕ) : Type 0 where
   pub before : List Numbered
   pub begins : Begins may start before
-  pub asking : IsAsking asks input before begins.after line
+  pub asking : IsAsking asks input before begins.after line ⊎ IsBeginning input before line
   pub written : Appends old new (texts begins.answers)
 
 -- what each fault that ends a run says

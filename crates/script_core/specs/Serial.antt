@@ -1,9 +1,10 @@
 -- A machine on one thread: what it answers to a command is what the machine's step says.
-use Rattle.std.specs.Prelude.{◌≡◌, ℕ, IsTrue, Option, None}
+use Rattle.std.specs.Prelude.{◌≡◌, ℕ, IsTrue, List, [], ◌∷◌, Option, None}
 use Rattle.zone_core.specs.World.{WorldState}
 use Rattle.text_core.specs.declared.command.Command.{Command}
 use Rattle.text_core.specs.declared.reply.Reply.{Reply}
 use Rattle.script_core.specs.Machine.{opens, step}
+use Rattle.script_core.specs.Script.{Answer, Numbered}
 
 -- the places of a journal, and the world of its zone, if one was opened
 pub record Serial : Type 0 where
@@ -22,3 +23,9 @@ pub record IsStep (old : Serial) (command : Command) (reply : Reply) (new : Seri
 -- a command that opens a zone asks for memory
 abbrev pub Opens : Serial → Command → Type 0
 Opens m command = IsTrue (opens m.world command)
+
+-- the one reply to a command, whatever client lines it has
+pub record IsSerialStep (old : Serial) (c : Numbered) (answers : List Answer) (new : Serial) : Type 0 where
+  pub reply : Reply
+  pub one : answers ≡ record { line = c.line; reply = reply } ∷ []
+  pub step : IsStep old c.command reply new

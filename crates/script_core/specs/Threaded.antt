@@ -1,5 +1,5 @@
--- A machine with threads: it answers as one on one thread, but that it runs rounds, and pools with rounds.
-use Rattle.std.specs.Prelude.{◌≡◌, ◌↔◌, ℕ, ◌<◌, ◌≤◌, Bool, true, false, not, ◌&&◌, nat_eq, if◌then◌else◌, List, [], ◌∷◌, All, length, ⊤, Option, Some, None, Result, Ok, Err, IfOk}
+-- A machine with threads: it answers as one on one thread, but that it runs rounds, pools with rounds, and rounds with a client beside them.
+use Rattle.std.specs.Prelude.{◌≡◌, ◌↔◌, ◌++◌, ◌⊎◌, ℕ, ◌<◌, ◌≤◌, Bool, true, false, not, ◌&&◌, nat_eq, if◌then◌else◌, List, [], ◌∷◌, All, length, ⊤, Option, Some, None, Result, Ok, Err, IfOk}
 use Rattle.std.specs.List.{AllByRecursion}
 use Rattle.state_core.specs.declared.error.ZoneError.{ZoneError}
 use Rattle.state_core.specs.ZoneState.{ZoneState}
@@ -20,7 +20,7 @@ use Rattle.round_core.specs.Errors.{number_of}
 use Rattle.round_core.specs.Kept.{IsKept}
 use Rattle.round_core.specs.Rounds.{IsRefusedEarly, IsRound, IsWant}
 use Rattle.text_core.specs.declared.command.Command.{Command}
-use Rattle.text_core.specs.declared.command.Command.TheVariants.{Open, On, Compact, Pool, Profile2, OutOfRange}
+use Rattle.text_core.specs.declared.command.Command.TheVariants.{Open, On, Compact, Pool, During, Profile2, OutOfRange}
 use Rattle.text_core.specs.declared.pool.PoolBlocks.{PoolBlocks}
 use Rattle.text_core.specs.declared.pool.PoolStopped.{PoolStopped}
 use Rattle.text_core.specs.declared.pool.PoolStopped.TheVariants as pool_stopped
@@ -29,24 +29,37 @@ use Rattle.text_core.specs.declared.reply.Reply.{Reply}
 use Rattle.text_core.specs.declared.reply.Reply.TheVariants as reply
 use Rattle.text_core.specs.declared.reply.Stopped.{Stopped}
 use Rattle.text_core.specs.declared.reply.Stopped.TheVariants as stopped
-use Rattle.script_core.specs.Script.{commands_of}
+use Rattle.text_core.specs.Grammar.{zone_of}
+use Rattle.client_core.specs.Receipts.{Agrees, Client}
+use Rattle.script_core.specs.Clients.{AreClientAnswers}
+use Rattle.script_core.specs.Script.{Answer, Numbered, commands_of}
 use Rattle.script_core.specs.Serial.{IsStep, Opens, Serial, serial_at_first}
 
--- the machine as on one thread, and the number of the zone that a round left broken, if one did
+-- the machine as on one thread, the number of the zone that a round left broken, if one did, and the client of the blocks
 pub record Threaded : Type 0 where
   pub serial : Serial
   pub broken : Option ℕ
+  pub client : Client
+
+-- the client of the blocks before its first call
+abbrev pub client_at_first : Client
+client_at_first = record { number = 1; receipts = [] }
 
 -- before the first command
 abbrev pub threaded_at_first : ℕ → Threaded
-threaded_at_first places = record { serial = serial_at_first places; broken = None }
+threaded_at_first places = record { serial = serial_at_first places; broken = None; client = client_at_first }
 
 -- whether the zone with this number is open, and no round is open by hand
 abbrev pub stands_closed : ℕ → Option WorldState → Bool
 stands_closed zone (Some w) = nat_eq zone w.zone.number && not w.is_open
 stands_closed zone None = false
 
--- whether a command works on the zone by threads: a round and a pool do
+-- the same of a number that may be none of a zone
+abbrev pub stands_closed_at : Option ℕ → Option WorldState → Bool
+stands_closed_at None world = false
+stands_closed_at (Some zone) world = stands_closed zone world
+
+-- whether a command of one line works on the zone by threads: a round and a pool do
 abbrev pub is_threaded : Command → Option WorldState → Bool
 is_threaded (Compact zone) world = stands_closed zone world
 is_threaded (Pool zone count blocks) world = stands_closed zone world
@@ -68,13 +81,14 @@ Settles (Ok r) = ⊤
 Settles (Err error) = IsWant error
 
 -- the machine behind a round: the zone makes a world with its seats again where its audit passes, and else it is broken
-abbrev pub left_by : ℕ → ZoneState → ScanSeat → EndSeat → Option ZoneError → Threaded
-left_by places zone scan ends None =
-    record { serial = record { places = places; world = Some (world_closed zone scan ends) }; broken = None }
-left_by places zone scan ends (Some error) = record { serial = serial_at_first places; broken = Some zone.number }
+abbrev pub left_by : ℕ → Client → ZoneState → ScanSeat → EndSeat → Option ZoneError → Threaded
+left_by places client zone scan ends None =
+    record { serial = record { places = places; world = Some (world_closed zone scan ends) }; broken = None; client = client }
+left_by places client zone scan ends (Some error) =
+    record { serial = serial_at_first places; broken = Some zone.number; client = client }
 
--- a round over the zone of a world, in whatever schedule: what it may be answered, and the machine behind it
-pub record IsRoundOn (w : WorldState) (places : ℕ) (answer : Reply) (new : Threaded) : Type 0 where
+-- a round over the zone of a world, in whatever schedule: what came of it
+pub record IsRoundOver (w : WorldState) : Type 0 where
   -- the zone as its lock kept it, with the number and the pageblocks that it had
   pub zone : ZoneState
   pub kept : IsKept zone
@@ -86,8 +100,16 @@ pub record IsRoundOn (w : WorldState) (places : ℕ) (answer : Reply) (new : Thr
   pub round : IfOk result (λ r. IsRound w.scan scan w.ends ends r)
   pub early : IsRefusedEarly w.scan scan w.ends ends result
   pub settled : Settles result → audit_refusal zone ends ≡ None
-  pub answer_is : answer ≡ round_reply result
-  pub left : new ≡ left_by places zone scan ends (audit_refusal zone ends)
+
+-- the machine that a round leaves, with this client
+abbrev pub left_behind : {w : WorldState} → ℕ → Client → IsRoundOver w → Threaded
+left_behind places client over = left_by places client over.zone over.scan over.ends (audit_refusal over.zone over.ends)
+
+-- a round alone: what it may be answered, and the machine behind it
+pub record IsRoundOn (w : WorldState) (places : ℕ) (client : Client) (answer : Reply) (new : Threaded) : Type 0 where
+  pub over : IsRoundOver w
+  pub answer_is : answer ≡ round_reply over.result
+  pub left : new ≡ left_behind places client over
 
 -- why a pool stopped
 abbrev pub pool_stopped_as : PoolStop → PoolStopped
@@ -113,7 +135,7 @@ SettlesAt (pool_stop.Refused error) rounds = IsWant error
 SettlesAt why rounds = 0 < rounds
 
 -- a pool of so many blocks of the zone of a world, in whatever schedule: what it may be answered, and the machine behind it
-pub record IsPoolOn (count : ℕ) (blocks : PoolBlocks) (w : WorldState) (places : ℕ) (answer : Reply) (new : Threaded) : Type 0 where
+pub record IsPoolOn (count : ℕ) (blocks : PoolBlocks) (w : WorldState) (places : ℕ) (client : Client) (answer : Reply) (new : Threaded) : Type 0 where
   -- the zone as its lock kept it, with the number and the pageblocks that it had
   pub zone : ZoneState
   pub kept : IsKept zone
@@ -133,26 +155,31 @@ pub record IsPoolOn (count : ℕ) (blocks : PoolBlocks) (w : WorldState) (places
   pub enough : (report.stop ≡ pool_stop.Enough) ↔ (length report.got.items ≡ count)
   pub settled : SettlesAt report.stop report.rounds → audit_refusal zone ends ≡ None
   pub answer_is : answer ≡ pool_reply blocks report
-  pub left : new ≡ left_by places zone scan ends (audit_refusal zone ends)
+  pub left : new ≡ left_by places client zone scan ends (audit_refusal zone ends)
 
 -- what a command does by threads over the zone of a world
-abbrev pub IsWorkOn : Command → WorldState → ℕ → Reply → Threaded → Type 0
-IsWorkOn (Compact zone) w places answer new = IsRoundOn w places answer new
-IsWorkOn (Pool zone count blocks) w places answer new = IsPoolOn count blocks w places answer new
-IsWorkOn _ w places answer new = ⊥
+abbrev pub IsWorkOn : Command → WorldState → ℕ → Client → Reply → Threaded → Type 0
+IsWorkOn (Compact zone) w places client answer new = IsRoundOn w places client answer new
+IsWorkOn (Pool zone count blocks) w places client answer new = IsPoolOn count blocks w places client answer new
+IsWorkOn _ w places client answer new = ⊥
 
 -- a command that works by threads, and any other
-abbrev pub IsWorkStep : Command → Option WorldState → ℕ → Reply → Threaded → Type 0
-IsWorkStep command None places answer new = ⊥
-IsWorkStep command (Some w) places answer new = IsWorkOn command w places answer new
+abbrev pub IsWorkStep : Command → Option WorldState → ℕ → Client → Reply → Threaded → Type 0
+IsWorkStep command None places client answer new = ⊥
+IsWorkStep command (Some w) places client answer new = IsWorkOn command w places client answer new
 
 abbrev pub IsStepBy : Bool → Threaded → Command → Reply → Threaded → Type 0
-IsStepBy true old command answer new = IsWorkStep command old.serial.world old.serial.places answer new
-IsStepBy false old command answer new = IsStep old.serial command answer new.serial × (new.broken ≡ None)
+IsStepBy true old command answer new = IsWorkStep command old.serial.world old.serial.places old.client answer new
+IsStepBy false old command answer new = IsStep old.serial command answer new.serial × (new.broken ≡ None) × (new.client ≡ old.client)
 
 -- the number by which a command on a zone is refused where a zone with this number is broken
 abbrev pub broken_refusal : ℕ → ℕ → ℕ
 broken_refusal number zone = if nat_eq zone number then 33 else 43
+
+-- the same of a number that may be none of a zone
+abbrev pub broken_refusal_at : ℕ → Option ℕ → ℕ
+broken_refusal_at number None = 1
+broken_refusal_at number (Some zone) = broken_refusal number zone
 
 -- a broken zone isn't there for any call
 abbrev pub broken_reply : ℕ → Command → Reply
@@ -162,23 +189,72 @@ broken_reply number (Open zone blocks) = reply.Refused 44
 broken_reply number (On zone calls) = reply.Refused (broken_refusal number zone)
 broken_reply number (Compact zone) = reply.Refused (broken_refusal number zone)
 broken_reply number (Pool zone count blocks) = reply.Refused (broken_refusal number zone)
+broken_reply number (During zone) = reply.Refused (broken_refusal_at number (zone_of zone))
 
--- the reply to a command, and the machine behind it
+-- the one reply to a command, and the machine behind it
 abbrev pub IsStepAt : Option ℕ → Threaded → Command → Reply → Threaded → Type 0
 IsStepAt None old command answer new = IsStepBy (is_threaded command old.serial.world) old command answer new
 IsStepAt (Some number) old command answer new = (answer ≡ broken_reply number command) × (new ≡ old)
 
-abbrev pub IsThreadedStep : Threaded → Command → Reply → Threaded → Type 0
-IsThreadedStep old command answer new = IsStepAt old.broken old command answer new
+abbrev pub IsReplyStep : Threaded → Command → Reply → Threaded → Type 0
+IsReplyStep old command answer new = IsStepAt old.broken old command answer new
 
--- a command asks for memory as on one thread
+pub record IsOneReply (old : Threaded) (c : Numbered) (answers : List Answer) (new : Threaded) : Type 0 where
+  pub reply : Reply
+  pub one : answers ≡ record { line = c.line; reply = reply } ∷ []
+  pub step : IsReplyStep old c.command reply new
+
+-- the reply to a round beside a client: 35 stands in its place where the client's receipts aren't its records in the zone's journal
+pub record IsSettledReply (zone : ZoneState) (client : Client) (result : Result Round RoundError) (answer : Reply) : Type 0 where
+  pub agrees : Agrees zone.records client → answer ≡ round_reply result
+  pub differs : (Agrees zone.records client → ⊥) → answer ≡ reply.Refused 35
+
+-- a round with the calls of a client beside it: the answers to the client's lines, and behind them the one to the round
+pub record IsRoundBeside (w : WorldState) (old : Threaded) (c : Numbered) (answers : List Answer) (new : Threaded) : Type 0 where
+  pub over : IsRoundOver w
+  pub client : Client
+  pub told : List Answer
+  pub own : Reply
+  pub answers_are : answers ≡ told ++ record { line = c.line; reply = own } ∷ []
+  pub clients : AreClientAnswers old.client c.clients told client
+  pub settled : IsSettledReply over.zone client over.result own
+  pub left : new ≡ left_behind old.serial.places client over
+
+-- the client's thread can't be started: nothing ran, and that is the one reply
+pub record IsUnstarted (w : WorldState) (old : Threaded) (c : Numbered) (answers : List Answer) (new : Threaded) : Type 0 where
+  pub zone : ZoneState
+  pub kept : IsKept zone
+  pub shape : HasShape w.zone.number w.zone.blocks zone
+  pub one : answers ≡ record { line = c.line; reply = reply.Refused 32 } ∷ []
+  pub left : new ≡ left_by old.serial.places old.client zone w.scan w.ends (audit_refusal zone w.ends)
+
+-- whether a command is a block for the zone that is open, while no round is open by hand
+abbrev pub IsBlockFor : Command → Option WorldState → Type 0
+IsBlockFor (During number) world = stands_closed_at (zone_of number) world ≡ true
+IsBlockFor _ world = ⊥
+
+-- a block whose client lines may run
+pub record IsBlockStep (old : Threaded) (c : Numbered) (answers : List Answer) (new : Threaded) : Type 0 where
+  pub world : WorldState
+  pub there : old.serial.world ≡ Some world
+  pub whole : old.broken ≡ None
+  pub block : IsBlockFor c.command old.serial.world
+  pub ran : IsRoundBeside world old c answers new ⊎ IsUnstarted world old c answers new
+
+-- The replies to a command and its client lines, and the machine behind them. A block may always be answered by one reply, as on one thread:
+-- the client's thread may be one that can't be started.
+abbrev pub IsThreadedStep : Threaded → Numbered → List Answer → Threaded → Type 0
+IsThreadedStep old c answers new = IsOneReply old c answers new ⊎ IsBlockStep old c answers new
+
+-- a command asks for memory as on one thread, and a block for the receipts of its client besides, so that it has them where no thread is started
 abbrev pub AsksMemory : Threaded → Command → Type 0
-AsksMemory old command = (old.broken ≡ None) × Opens old.serial command
+AsksMemory old command = (old.broken ≡ None) × (Opens old.serial command ⊎ IsBlockFor command old.serial.world)
 
 -- a command is neither a round nor a pool, and no command of a script is
 abbrev pub IsUnthreaded : Command → Type 0
 IsUnthreaded (Compact zone) = ⊥
 IsUnthreaded (Pool zone count blocks) = ⊥
+IsUnthreaded (During number) = ⊥
 IsUnthreaded _ = ⊤
 
 abbrev pub IsUnthreadedScript : List ℕ → Type 0

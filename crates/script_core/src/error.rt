@@ -7,7 +7,7 @@ use thiserror::Error;
 /// What can end a run before its script does.
 #[derive(Clone, Copy, Debug, PartialEq, Eq)]
 pub enum Fault {
-    /// A line is no command, or the last line has no newline.
+    /// A line is no command, or the last line has no newline, or a block has no end.
     Syntax,
     /// A line has more than 200 bytes.
     LongLine,
@@ -15,7 +15,7 @@ pub enum Fault {
     Read,
     /// A reply can't be written.
     Write,
-    /// There is not enough memory for the zone.
+    /// There is not enough memory for the zone, or for a block.
     Memory,
 }
 

@@ -2,10 +2,14 @@
 //!
 //! `text_core` says which command a line is and how a reply reads. `specs/Machine.antt` says what a command does, and
 //! `specs/Script.antt` what is written for a whole input. `run` does just that, in whatever pieces the input comes. On threads
-//! a round or a pool may be answered in more than one way, and `specs/Threaded.antt` says in which: `run_on_threads`.
+//! a round or a pool may be answered in more than one way, and `specs/Threaded.antt` says in which, and `specs/Clients.antt` what the
+//! calls beside a round are answered: `run_on_threads`.
 #![tactic(auto)]
 
+mod answer;
 mod answering;
+mod beside;
+mod block;
 mod error;
 mod input;
 mod machine;
@@ -14,6 +18,7 @@ mod options;
 mod outbox;
 mod output;
 mod player;
+mod request;
 mod respond;
 mod script;
 mod sink;
@@ -33,6 +38,6 @@ pub use sink::Sink;
 pub use source::Source;
 pub use text::Text;
 pub use text_core::{
-    BlockCount, Call, Calls, Command, PageCount, PoolBlocks, PoolStopped, Repeated, Reply,
-    ScriptError, Series, Stopped, read_line, reply_text,
+    BlockCount, Call, Calls, ClientCall, Command, PageCount, PoolBlocks, PoolStopped, Repeated,
+    Reply, ScriptError, Series, Stopped, read_line, reply_text,
 };

@@ -1,14 +1,16 @@
 ghost use Rattle.std.specs.Prelude.{◌≡◌, ◌<◌, ◌≤◌, [], bit_and, true, false, ⊤, Some, None, IfNone, IfOk, IfSome, OnErr, OnOk};
-ghost use Rattle.script_core.specs.Machine.{call_at, call_step, calls_step, compact_on, ending, found, open_step, page_step, pool_from, pool_on, pool_step, series_step, step_on, stopped_by};
-ghost use Rattle.script_core.specs.Serial.{IsStep, Opens, serial_at_first};
+ghost use Rattle.script_core.specs.Machine.{call_at, call_step, calls_step, compact_on, ending, found, open_step, page_step, pool_from, pool_on, pool_step, series_step, step_on, stopped_by, during_on};
+ghost use Rattle.script_core.specs.Serial.{IsSerialStep, IsStep, Opens, serial_at_first};
 ghost use Rattle.script_core.specs.Threaded.{stands_closed};
-ghost use Rattle.text_core.specs.Grammar.{address_of};
+ghost use Rattle.text_core.specs.Grammar.{address_of, zone_of};
 ghost use Rattle.text_core.specs.declared.reply.Reply.TheVariants as reply;
 ghost use Rattle.zone_core.specs.Books.{AreFor};
 ghost use Rattle.zone_core.specs.ErrorNumber.{world_number_of};
 ghost use Rattle.state_core.specs.ErrorNumber.{number_of};
 ghost use Rattle.frame_core.specs.PageFlags.{is_unmovable};
 
+use crate::answer::{Answer, Answers};
+use crate::request::Request;
 use crate::respond::Respond;
 use arrayvec::ArrayVec;
 use bitflags::Flags;
@@ -18,7 +20,7 @@ use std::alloc::{AllocError, Global};
 use std::marker::Model;
 use std::sync::ledger::Ledger;
 use text_core::{
-    BlockCount, Call, Calls, Command, PoolBlocks, PoolStopped, Repeated, Reply, Series,
+    BlockCount, Call, Calls, Command, PoolBlocks, PoolStopped, Repeated, Reply, Series, zone_of,
 };
 use zone_core::{Blanks, Finished, Scanned, World, WorldError};
 
@@ -49,24 +51,21 @@ impl<I: Ledger, N: Ledger, M: Ledger, B: Ledger> Model for Machine<I, N, M, B> {
 }
 
 impl<I: Ledger, N: Ledger, M: Ledger, B: Ledger> Respond for Machine<I, N, M, B> {
-    ghost may = { IsStep };
+    ghost may = { IsSerialStep };
 
     ghost asks = { Opens };
 
     ghost ready = { λ _. ⊤ };
 
-    fn respond(&mut self, command: Command) -> Result<Reply, AllocError> {
-        match command {
-            Command::OutOfRange => Ok(Reply::Refused(1)),
-            Command::Profile2 => Ok(Reply::Done),
-            Command::Open { zone, blocks } => self.open(zone, blocks),
-            Command::On { zone, calls } => Ok(self.call(zone, calls)),
-            Command::Compact { zone } => Ok(self.compact(zone)),
-            Command::Pool {
-                zone,
-                count,
-                blocks,
-            } => Ok(self.pool(zone, count, blocks)),
+    fn respond(&mut self, request: Request) -> Result<Answers, AllocError> {
+        match request {
+            Request::Line { line, command } => {
+                Ok(Answers::One(Answer::new(line, self.reply_to(command)?)))
+            }
+            Request::Block(block) => {
+                let reply = self.during(block.zone());
+                Ok(block.answered(reply))
+            }
         }
     }
 }
@@ -83,6 +82,26 @@ impl<I: Ledger, N: Ledger, M: Ledger, B: Ledger> Machine<I, N, M, B> {
             places,
             blanks: Some(blanks),
             world: None,
+        }
+    }
+
+    /// The reply to a command of one line. It fails only for want of memory.
+    pub(crate) fn reply_to(&mut self, command: Command) -> Result<Reply, AllocError>
+        ensures ok { IfOk result (λ reply. IsStep self.old command reply self.new) }
+        ensures memory { OnErr result (Opens self.old command) }
+    {
+        match command {
+            Command::OutOfRange => Ok(Reply::Refused(1)),
+            Command::Profile2 => Ok(Reply::Done),
+            Command::Open { zone, blocks } => self.open(zone, blocks),
+            Command::On { zone, calls } => Ok(self.call(zone, calls)),
+            Command::Compact { zone } => Ok(self.compact(zone)),
+            Command::Pool {
+                zone,
+                count,
+                blocks,
+            } => Ok(self.pool(zone, count, blocks)),
+            Command::During { zone } => Ok(self.during(zone)),
         }
     }
 
@@ -115,6 +134,16 @@ impl<I: Ledger, N: Ledger, M: Ledger, B: Ledger> Machine<I, N, M, B> {
                 Reply::Refused(if world.is_open() { 45 } else { 32 })
             }
             _ => Reply::Refused(43),
+        }
+    }
+
+    /// The same with a client's calls beside it, over the zone with this number, which may be none of a zone.
+    fn during(&self, number: u64) -> Reply
+        ensures { record { reply = result; world = self.now.world } ≡ during_on (zone_of number) self.now.world }
+    {
+        match zone_of(number) {
+            Some(zone) => self.compact(zone),
+            None => Reply::Refused(1),
         }
     }
 
@@ -395,7 +424,7 @@ fn end_reply(finished: Finished) -> Reply
 }
 
 /// The flags of a page that is mapped.
-fn flags(unmovable: bool) -> PageFlags
+pub(crate) fn flags(unmovable: bool) -> PageFlags
     ensures clean { bit_and result.0 2 ≡ 0 }
     ensures unmovable { is_unmovable result ≡ unmovable }
 {

@@ -3,6 +3,7 @@ ghost use Rattle.std.specs.Io.KnownBytes.{Appends};
 ghost use Rattle.zone_core.specs.Books.{AreFor};
 ghost use Rattle.script_core.specs.declared.error.Fault.{Fault};
 ghost use Rattle.script_core.specs.Ends.{EndsIn};
+ghost use Rattle.script_core.specs.Requests.{asked, told};
 ghost use Rattle.script_core.specs.Runs.{IsAnswered, IsEnded, IsTotal};
 ghost use Rattle.script_core.specs.Script.{fault_of, output_of, totals_of};
 ghost use Rattle.script_core.specs.Streams.{CannotReadOn};
@@ -14,6 +15,7 @@ use crate::input::Input;
 use crate::options::Options;
 use crate::output::Output;
 use crate::player::play;
+use crate::request::Request;
 use crate::script::Totals;
 use crate::threaded::Threaded;
 use std::alloc::Global;
@@ -21,10 +23,9 @@ use std::marker::Brand;
 use std::sync::Wait;
 use std::sync::ledger::Ledger;
 use std::thread::Threads;
-use text_core::Command;
 use zone_core::Blanks;
 
-/// Runs a script as `run` does, and its rounds and pools on threads. These may be answered in more than one way, so that a script is
+/// Runs a script as `run` does, and its rounds and pools on threads, with the calls of a client beside a round that has a block. These may be answered in more than one way, so that a script is
 /// answered by replies that its machine may give; one without them has just the replies that it has by `run`.
 pub fn run_on_threads<R: Input, W: Output, H: Threads + Wait + Sync>(
     rt: &H,
@@ -100,9 +101,9 @@ fn run_threaded<
     ensures stuck { IfErr result (λ error. error.fault ≡ Fault.Write → IsTrue (W.stuck writer.new)) }
 {
     let mut machine = Threaded::<I, N, M, B>::new(alloc, options, blanks);
-    let answer = move |command: Command|
-        ensures ok { IfOk result (λ reply. IsThreadedStep machine.entry command reply machine.exit) }
-        ensures memory { OnErr result (AsksMemory machine.entry command) }
-    { machine.respond(rt, command) };
-    play(Answering { answer }, reader, writer)
+    let answer = move |request: Request|
+        ensures ok { IfOk result (λ answers. IsThreadedStep machine.entry (asked request) (told answers) machine.exit) }
+        ensures memory { OnErr result (AsksMemory machine.entry (asked request).command) }
+    { machine.respond(rt, request) };
+    play(alloc, Answering { answer }, reader, writer)
 }

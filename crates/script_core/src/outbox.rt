@@ -5,6 +5,7 @@ ghost use Rattle.script_core.specs.Outbox.{HasRoom, Owes, empty};
 ghost use Rattle.script_core.specs.Script.{Answer, texts};
 ghost use Rattle.text_core.specs.Reply.{IsOneLine, newlines, text_of};
 
+use crate::answer::Answer;
 use crate::output::{Output, write_out};
 use arrayvec::ArrayVec;
 use std::marker::Model;
@@ -42,11 +43,11 @@ impl Outbox {
         &mut self,
         writer: &mut W,
         line: u64,
-        reply: Reply,
+        reply: &Reply,
     ) -> Result<(), u64>
         ensures ok { OnOk result ((answers : List Answer) (first : Option (List ℕ)) →
             Owes self.old answers first (W.contents writer.old)
-            → Owes self.new (answers ++ record { line = line; reply = reply } ∷ []) first (W.contents writer.new)) }
+            → Owes self.new (answers ++ record { line = line; reply = reply.now } ∷ []) first (W.contents writer.new)) }
         // The line whose reply wasn't taken whole.
         ensures err { IfErr result (λ at. (answers : List Answer) (first : Option (List ℕ)) →
             Owes self.old answers first (W.contents writer.old) → StopsIn answers first (W.contents writer.new) at) }
@@ -55,7 +56,23 @@ impl Outbox {
         if !self.has_room() {
             self.flush(writer)?;
         }
-        self.push(line, &reply);
+        self.push(line, reply);
+        Ok(())
+    }
+
+    /// Puts answers behind the others, one after the other.
+    pub(crate) fn post_all<W: Output>(&mut self, writer: &mut W, more: &[Answer]) -> Result<(), u64>
+        ensures ok { OnOk result ((answers : List Answer) (first : Option (List ℕ)) →
+            Owes self.old answers first (W.contents writer.old)
+            → Owes self.new (answers ++ more.now) first (W.contents writer.new)) }
+        // The line whose reply wasn't taken whole, of those that waited and of these.
+        ensures err { IfErr result (λ at. (answers : List Answer) (first : Option (List ℕ)) →
+            Owes self.old answers first (W.contents writer.old) → StopsIn (answers ++ more.now) first (W.contents writer.new) at) }
+        ensures stuck { OnErr result (IsTrue (W.stuck writer.new)) }
+    {
+        for answer in more {
+            self.post(writer, answer.line(), answer.reply())?;
+        }
         Ok(())
     }
 

@@ -1,30 +1,36 @@
-ghost use Rattle.std.specs.Prelude.{◌≡◌, ℕ, ◌+◌, ◌^◌, ◌<◌, ◌≤◌, [], ◌∷◌, ◌++◌, List, Option, length, false, Some, None, Ok, IfNone, IfSome, IfErr, IfOk, IsTrue, OnErr, OnOk};
-ghost use Rattle.text_core.specs.Line.{line_of};
+ghost use Rattle.std.specs.Prelude.{◌≡◌, ℕ, ◌+◌, ◌*◌, ◌^◌, ◌<◌, ◌≤◌, [], ◌∷◌, ◌++◌, List, Option, option_map, length, false, Some, None, Ok, IfNone, IfSome, IfErr, IfOk, IsTrue, OnErr, OnOk};
 ghost use Rattle.text_core.specs.Reply.{newlines};
 ghost use Rattle.std.specs.Io.KnownBytes.{Appends};
 ghost use Rattle.script_core.specs.Ends.{StopsIn};
+ghost use Rattle.script_core.specs.Requests.{asked, told};
 ghost use Rattle.script_core.specs.Runs.{IsEnded, IsTotal};
 ghost use Rattle.script_core.specs.Outbox.{Owes, empty};
-ghost use Rattle.script_core.specs.Script.{Answer, fault_of, texts};
-ghost use Rattle.script_core.specs.Player.{Finishes, HasClosed, HasEnded, HasRead, begun};
+ghost use Rattle.script_core.specs.Script.{Answer, Reading, fault_of, line_comes, texts};
+ghost use Rattle.script_core.specs.Player.{Finishes, HasClosed, HasEnded, HasRead, begun, block_begun, in_block, noted};
 ghost use Rattle.script_core.specs.Streams.{CannotReadOn};
 
+use crate::answer::Answers;
+use crate::block::{Block, ClientLine};
 use crate::error::{Fault, RunError};
 use crate::input::Input;
 use crate::outbox::Outbox;
 use crate::output::Output;
+use crate::request::Request;
 use crate::respond::Respond;
 use crate::script::Totals;
 use arrayvec::ArrayVec;
 use memchr::memchr;
+use std::alloc::Global;
 use std::marker::Model;
 use std::mem;
-use text_core::{Command, Profile, ScriptError, read_line};
+use text_core::{BlockLine, ClientCall, Command, Profile, ScriptError, read_block_line, read_line};
 
-/// Plays a script: the machine that answers it, the line that has begun, and the replies that wait.
+/// Plays a script: the machine that answers it, the block and the line that have begun, and the replies that wait.
 #[derive(Drop)]
 pub(crate) struct Player<A: Respond> {
+    alloc: Global,
     profile: Profile,
+    block: Option<Block>,
     machine: A,
     held: ArrayVec<u8, 200>,
     line: u64,
@@ -33,24 +39,26 @@ pub(crate) struct Player<A: Respond> {
 }
 
 impl<A: Respond> Model for Player<A> {
-    ghost use Rattle.std.specs.Prelude.{◌<◌};
+    ghost use Rattle.std.specs.Prelude.{◌*◌, ◌<◌};
     ghost use Rattle.script_core.specs.Player.{Player as Seen};
 
     ghost Value = { Seen A };
 
-    ghost view = { λ s. record { profile = s.profile; machine = s.machine; held = s.held.items; line = s.line; replies = s.replies; box = s.outbox } };
+    ghost view = { λ s. record { reading = record { profile = s.profile; block = s.block }; machine = s.machine; held = s.held.items; line = s.line; replies = s.replies; box = s.outbox } };
 
-    ghost invariant = { λ s. (s.replies < s.line) × A.ready s.machine };
+    ghost invariant = { λ s. (s.replies < 1001 * s.line) × A.ready s.machine };
 }
 
 impl<A: Respond> Player<A> {
     /// At the first byte of a script.
-    fn new(machine: A) -> Self
+    fn new(alloc: Global, machine: A) -> Self
         requires { A.ready machine }
         ensures { result ≡ begun machine }
     {
         Player {
+            alloc,
             profile: Profile::Untold,
+            block: None,
             machine,
             held: ArrayVec::new(),
             line: 1,
@@ -62,7 +70,28 @@ impl<A: Respond> Player<A> {
     /// Answers a whole line.
     fn take_line<W: Output>(&mut self, writer: &mut W, text: &[u8]) -> Result<(), RunError>
         requires begins { self.old.held ≡ [] }
-        requires room { self.old.line + 1 < 2 ^ 64 }
+        requires room { self.old.line + 1 < 2 ^ 53 }
+        ensures ok { OnOk result ((start : A) (past : List ℕ) (first : Option (List ℕ))
+            → newlines text.now ≡ 0 → HasRead A.may start self.old past first (W.contents writer.old)
+            → HasRead A.may start self.new (past ++ (text.now ++ 10 ∷ [])) first (W.contents writer.new)) }
+        ensures err { IfErr result (λ error. (start : A) (past : List ℕ) (first : Option (List ℕ))
+            → newlines text.now ≡ 0 → HasRead A.may start self.old past first (W.contents writer.old)
+            → HasEnded A.may A.asks start self.new (past ++ (text.now ++ 10 ∷ [])) error first (W.contents writer.new)) }
+        ensures stuck { IfErr result (λ error. error.fault ≡ Fault.Write → IsTrue (W.stuck writer.new)) }
+        ensures line { OnOk result (self.new.line ≡ self.old.line + 1) }
+        ensures held { OnOk result (self.new.held ≡ []) }
+    {
+        match self.block.take() {
+            None => self.take_outside(writer, text),
+            Some(block) => self.take_within(writer, text, block),
+        }
+    }
+
+    /// Takes a whole line where no block has begun.
+    fn take_outside<W: Output>(&mut self, writer: &mut W, text: &[u8]) -> Result<(), RunError>
+        requires begins { self.old.held ≡ [] }
+        requires outside { self.old.reading.block ≡ None }
+        requires room { self.old.line + 1 < 2 ^ 53 }
         ensures ok { OnOk result ((start : A) (past : List ℕ) (first : Option (List ℕ))
             → newlines text.now ≡ 0 → HasRead A.may start self.old past first (W.contents writer.old)
             → HasRead A.may start self.new (past ++ (text.now ++ 10 ∷ [])) first (W.contents writer.new)) }
@@ -79,7 +108,13 @@ impl<A: Respond> Player<A> {
                 self.line = line + 1;
                 Ok(())
             }
-            Ok(Some(command)) => self.answer(writer, command),
+            Ok(Some(command)) => {
+                self.profile = self.profile.behind(&command);
+                match command {
+                    Command::During { zone } => self.begin(zone),
+                    command => self.answer(writer, Request::Line { line, command }),
+                }
+            }
             Err(error) => Err(RunError {
                 fault: Fault::from(error),
                 line,
@@ -87,44 +122,149 @@ impl<A: Respond> Player<A> {
         }
     }
 
-    /// Answers the command of a whole line.
-    fn answer<W: Output>(&mut self, writer: &mut W, command: Command) -> Result<(), RunError>
-        requires begins { self.old.held ≡ [] }
-        requires room { self.old.line + 1 < 2 ^ 64 }
-        ensures ok { OnOk result ((start : A) (text past : List ℕ) (first : Option (List ℕ))
-            → line_of self.old.profile text ≡ Ok (Some command) → newlines text ≡ 0 → HasRead A.may start self.old past first (W.contents writer.old)
-            → HasRead A.may start self.new (past ++ (text ++ 10 ∷ [])) first (W.contents writer.new)) }
-        ensures err { IfErr result (λ error. (start : A) (text past : List ℕ) (first : Option (List ℕ))
-            → line_of self.old.profile text ≡ Ok (Some command) → newlines text ≡ 0 → HasRead A.may start self.old past first (W.contents writer.old)
-            → HasEnded A.may A.asks start self.new (past ++ (text ++ 10 ∷ [])) error first (W.contents writer.new)) }
-        ensures stuck { IfErr result (λ error. error.fault ≡ Fault.Write → IsTrue (W.stuck writer.new)) }
-        ensures line { OnOk result (self.new.line ≡ self.old.line + 1) }
-        ensures held { OnOk result (self.new.held ≡ []) }
+    /// Takes a line that begins a block. The place for its client lines and their answers is taken here.
+    fn begin(&mut self, zone: u64) -> Result<(), RunError>
+        requires room { self.old.line + 1 < 2 ^ 53 }
+        requires outside { self.old.reading.block ≡ None }
+        ensures ok { OnOk result (self.new ≡ block_begun zone self.old) }
+        ensures same { OnErr result (self.new ≡ self.old) }
+        ensures err { IfErr result (λ error. error ≡ record { fault = Fault.Memory; line = self.old.line }) }
     {
         let line = self.line;
-        let profile = self.profile.behind(&command);
-        let Ok(reply) = self.machine.respond(command) else {
+        let Ok(block) = Block::begin(self.alloc, line, zone) else {
             return Err(RunError {
                 fault: Fault::Memory,
                 line,
             });
         };
-        if let Err(line) = self.outbox.post(writer, line, reply) {
+        self.block = Some(block);
+        self.line = line + 1;
+        Ok(())
+    }
+
+    /// Takes a whole line of a block that has begun.
+    fn take_within<W: Output>(
+        &mut self,
+        writer: &mut W,
+        text: &[u8],
+        block: Block,
+    ) -> Result<(), RunError>
+        requires begins { self.old.held ≡ [] }
+        requires outside { self.old.reading.block ≡ None }
+        requires room { self.old.line + 1 < 2 ^ 53 }
+        ensures ok { OnOk result ((start : A) (past : List ℕ) (first : Option (List ℕ))
+            → newlines text.now ≡ 0 → HasRead A.may start (in_block block self.old) past first (W.contents writer.old)
+            → HasRead A.may start self.new (past ++ (text.now ++ 10 ∷ [])) first (W.contents writer.new)) }
+        ensures err { IfErr result (λ error. (start : A) (past : List ℕ) (first : Option (List ℕ))
+            → newlines text.now ≡ 0 → HasRead A.may start (in_block block self.old) past first (W.contents writer.old)
+            → HasEnded A.may A.asks start self.new (past ++ (text.now ++ 10 ∷ [])) error first (W.contents writer.new)) }
+        ensures stuck { IfErr result (λ error. error.fault ≡ Fault.Write → IsTrue (W.stuck writer.new)) }
+        ensures line { OnOk result (self.new.line ≡ self.old.line + 1) }
+        ensures held { OnOk result (self.new.held ≡ []) }
+    {
+        let line = self.line;
+        match read_block_line(block.zone(), text) {
+            Ok(Some(BlockLine::End)) => self.answer(writer, Request::Block(block)),
+            Ok(Some(BlockLine::Client(call))) => self.note(block, call),
+            Ok(None) => {
+                self.block = Some(block);
+                self.line = line + 1;
+                Ok(())
+            }
+            Err(error) => Err(RunError {
+                fault: Fault::from(error),
+                line,
+            }),
+        }
+    }
+
+    /// Takes a client line, where the block that has begun may have one more.
+    fn note(&mut self, mut block: Block, call: Option<ClientCall>) -> Result<(), RunError>
+        requires room { self.old.line + 1 < 2 ^ 53 }
+        ensures ok { OnOk result (self.new ≡ noted block call self.old) }
+        ensures few { OnOk result (length block.clients < 1000) }
+        ensures same { OnErr result (self.new ≡ self.old) }
+        ensures err { IfErr result (λ error. (error ≡ record { fault = Fault.Syntax; line = self.old.line }) × (1000 ≤ length block.clients)) }
+    {
+        let line = self.line;
+        if block.is_full() {
+            return Err(RunError {
+                fault: Fault::Syntax,
+                line,
+            });
+        }
+        block.push(ClientLine::new(line, call));
+        self.block = Some(block);
+        self.line = line + 1;
+        Ok(())
+    }
+
+    /// Answers a command, at the line that ends it.
+    fn answer<W: Output>(&mut self, writer: &mut W, request: Request) -> Result<(), RunError>
+        requires begins { self.old.held ≡ [] }
+        requires outside { self.old.reading.block ≡ None }
+        requires room { self.old.line + 1 < 2 ^ 53 }
+        ensures ok { OnOk result ((start : A) (reading : Reading) (text past : List ℕ) (first : Option (List ℕ))
+            → line_comes reading self.old.line text ≡ Ok (record { ended = Some (asked request); reading = self.old.reading }) → newlines text ≡ 0
+            → HasRead A.may start (record self.old { reading = reading }) past first (W.contents writer.old)
+            → HasRead A.may start self.new (past ++ (text ++ 10 ∷ [])) first (W.contents writer.new)) }
+        ensures err { IfErr result (λ error. (start : A) (reading : Reading) (text past : List ℕ) (first : Option (List ℕ))
+            → line_comes reading self.old.line text ≡ Ok (record { ended = Some (asked request); reading = self.old.reading }) → newlines text ≡ 0
+            → HasRead A.may start (record self.old { reading = reading }) past first (W.contents writer.old)
+            → HasEnded A.may A.asks start self.new (past ++ (text ++ 10 ∷ [])) error first (W.contents writer.new)) }
+        ensures stuck { IfErr result (λ error. error.fault ≡ Fault.Write → IsTrue (W.stuck writer.new)) }
+        ensures line { OnOk result (self.new.line ≡ self.old.line + 1) }
+        ensures held { OnOk result (self.new.held ≡ []) }
+    {
+        let line = request.line();
+        let Ok(answers) = self.machine.respond(request) else {
+            return Err(RunError {
+                fault: Fault::Memory,
+                line,
+            });
+        };
+        self.line += 1;
+        if let Err(line) = self.post(writer, answers) {
             return Err(RunError {
                 fault: Fault::Write,
                 line,
             });
         }
-        self.profile = profile;
-        self.replies += 1;
-        self.line = line + 1;
+        Ok(())
+    }
+
+    /// Puts the answers to a command behind those that wait, and counts them. Its line has been counted.
+    fn post<W: Output>(&mut self, writer: &mut W, answers: Answers) -> Result<(), u64>
+        requires counted { self.old.replies + 1001 < 1001 * self.old.line }
+        requires room { self.old.line < 2 ^ 53 }
+        ensures ok { OnOk result ((before : List Answer) (first : Option (List ℕ)) →
+            Owes self.old.box before first (W.contents writer.old)
+            → Owes self.new.box (before ++ told answers) first (W.contents writer.new)) }
+        ensures replies { OnOk result (self.new.replies ≡ self.old.replies + length (told answers)) }
+        ensures err { IfErr result (λ at. (before : List Answer) (first : Option (List ℕ)) →
+            Owes self.old.box before first (W.contents writer.old) → StopsIn (before ++ told answers) first (W.contents writer.new) at) }
+        ensures stuck { OnErr result (IsTrue (W.stuck writer.new)) }
+        ensures same { self.new ≡ record self.old { box = self.new.box; replies = self.new.replies } }
+    {
+        match answers {
+            Answers::One(answer) => {
+                self.outbox.post(writer, answer.line(), answer.reply())?;
+                self.replies += 1;
+            }
+            Answers::Block(answers) => {
+                let (clients, own) = answers.into_parts();
+                self.outbox.post_all(writer, &clients)?;
+                self.outbox.post(writer, own.line(), own.reply())?;
+                self.replies += clients.len() as u64 + 1;
+            }
+        }
         Ok(())
     }
 
     /// Takes the end of a line.
     fn end_line<W: Output>(&mut self, writer: &mut W, text: &[u8]) -> Result<(), RunError>
         requires unbroken { newlines text.now ≡ 0 }
-        requires room { self.old.line + 1 < 2 ^ 64 }
+        requires room { self.old.line + 1 < 2 ^ 53 }
         ensures ok { OnOk result ((start : A) (past : List ℕ) (first : Option (List ℕ))
             → HasRead A.may start self.old past first (W.contents writer.old)
             → HasRead A.may start self.new (past ++ (text.now ++ 10 ∷ [])) first (W.contents writer.new)) }
@@ -170,7 +310,7 @@ impl<A: Respond> Player<A> {
 
     /// Takes bytes of a script.
     fn take_piece<W: Output>(&mut self, writer: &mut W, piece: &[u8]) -> Result<(), RunError>
-        requires { self.old.line + length piece.now < 2 ^ 64 }
+        requires { self.old.line + length piece.now < 2 ^ 53 }
         ensures ok { OnOk result ((start : A) (past : List ℕ) (first : Option (List ℕ))
             → HasRead A.may start self.old past first (W.contents writer.old)
             → HasRead A.may start self.new (past ++ piece.now) first (W.contents writer.new)) }
@@ -190,7 +330,7 @@ impl<A: Respond> Player<A> {
 
     /// Takes bytes of a script, and writes the replies.
     fn play<W: Output>(&mut self, writer: &mut W, piece: &[u8]) -> Result<(), RunError>
-        requires { self.old.line + length piece.now < 2 ^ 64 }
+        requires { self.old.line + length piece.now < 2 ^ 53 }
         ensures ok { OnOk result ((start : A) (past : List ℕ) (first : Option (List ℕ))
             → HasRead A.may start self.old past first (W.contents writer.old)
             → HasRead A.may start self.new (past ++ piece.now) first (W.contents writer.new)) }
@@ -250,7 +390,7 @@ impl<A: Respond> Player<A> {
         }
     }
 
-    /// What the end of the input is: the end of the script, or a cut line.
+    /// What the end of the input is: the end of the script, or a cut line, or a block that isn't ended.
     fn end(&self) -> Result<Totals, RunError>
         ensures ok { IfOk result (λ totals. (start : A) (input : List ℕ) (first now : Option (List ℕ))
             → HasRead A.may start self.now input first now
@@ -260,17 +400,27 @@ impl<A: Respond> Player<A> {
             → HasRead A.may start self.now input first now → Finishes A.may start self.now input (Some error) first now) }
         ensures syntax { IfErr result (λ error. error.fault ≡ Fault.Syntax) }
     {
-        let line = self.line;
-        if !self.held.is_empty() {
+        if let Some(line) = self.cut_line() {
             return Err(RunError {
                 fault: Fault::Syntax,
                 line,
             });
         }
         Ok(Totals {
-            lines: line - 1,
+            lines: self.line - 1,
             replies: self.replies,
         })
+    }
+
+    /// The line at which the end of the input is a fault, if it is one: a line that is cut, or that of a block that isn't ended.
+    fn cut_line(&self) -> Option<u64>
+        ensures held { 0 < length self.now.held → result ≡ Some self.now.line }
+        ensures block { self.now.held ≡ [] → result ≡ option_map (λ b. b.line) self.now.reading.block }
+    {
+        if !self.held.is_empty() {
+            return Some(self.line);
+        }
+        self.block.as_ref().map(Block::line)
     }
 
     /// Writes the replies that wait.
@@ -293,6 +443,7 @@ impl<A: Respond> Player<A> {
 
 /// Plays the script that a reader gives on a machine, and writes its replies.
 pub(crate) fn play<A: Respond + Drop, R: Input, W: Output>(
+    alloc: Global,
     machine: A,
     reader: &mut R,
     writer: &mut W,
@@ -309,7 +460,7 @@ pub(crate) fn play<A: Respond + Drop, R: Input, W: Output>(
         (R.reads reader.old) (R.reads reader.new) (R.remaining reader.old)) }
     ensures stuck { IfErr result (λ error. error.fault ≡ Fault.Write → IsTrue (W.stuck writer.new)) }
 {
-    let mut player = Player::new(machine);
+    let mut player = Player::new(alloc, machine);
     player.run(reader, writer)
 }
 

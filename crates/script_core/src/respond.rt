@@ -1,14 +1,16 @@
-ghost use Rattle.std.specs.Prelude.{IfOk, OnErr};
+ghost use Rattle.std.specs.Prelude.{List, IfOk, OnErr};
 ghost use Rattle.text_core.specs.declared.command.Command.{Command};
-ghost use Rattle.text_core.specs.declared.reply.Reply.{Reply};
+ghost use Rattle.script_core.specs.Requests.{asked, told};
+ghost use Rattle.script_core.specs.Script.{Answer, Numbered};
 
+use crate::answer::Answers;
+use crate::request::Request;
 use std::alloc::AllocError;
-use text_core::{Command, Reply};
 
 /// What answers the commands of a script.
 pub(crate) trait Respond {
-    /// Whether this may be replied to a command, and what is there then.
-    ghost may: { Self → Command → Reply → Self → Type 0 };
+    /// Whether these may be the answers to a command and its client lines, and what is there then.
+    ghost may: { Self → Numbered → List Answer → Self → Type 0 };
 
     /// Whether a command asks for memory.
     ghost asks: { Self → Command → Type 0 };
@@ -16,10 +18,10 @@ pub(crate) trait Respond {
     /// Whether it can be asked.
     ghost ready: { Self → Type 0 };
 
-    /// Answers a command. It fails only for want of memory.
-    fn respond(&mut self, command: Command) -> Result<Reply, AllocError>
+    /// Answers a command, or a block. It fails only for want of memory.
+    fn respond(&mut self, request: Request) -> Result<Answers, AllocError>
         requires ready { ready self.old }
-        ensures ok { IfOk result (λ reply. may self.old command reply self.new) }
-        ensures memory { OnErr result (asks self.old command) }
+        ensures ok { IfOk result (λ answers. may self.old (asked request) (told answers) self.new) }
+        ensures memory { OnErr result (asks self.old (asked request).command) }
         ensures still { ready self.new };
 }

@@ -111,5 +111,5 @@ fn run_with<I: Ledger, N: Ledger, M: Ledger, B: Ledger, R: Input, W: Output>(
     ensures stuck { IfErr result (λ error. error.fault ≡ Fault.Write → IsTrue (W.stuck writer.new)) }
 {
     let machine = Machine::<I, N, M, B>::new(alloc, options.journal, blanks);
-    play(machine, reader, writer)
+    play(alloc, machine, reader, writer)
 }

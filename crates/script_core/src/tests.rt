@@ -93,6 +93,97 @@ fn pools_without_a_round(rt: HostRuntime) -> Result<(), Fail> {
 }
 
 #[test]
+fn runs_clients_beside_rounds(rt: HostRuntime) -> Result<(), Fail> {
+    let rows: [(&str, &[u8], &[u8]); 7] = [
+        (
+            "stores and loads of a page that is moved",
+            b"zone 0 1\nmap 0 0 0\nduring 0\nstore 0 0 0 3 5\nload 0 0 0 3\nstore 0 0 0 3 6\nload 0 0 0 3\nend\nlook 0 0 0\n",
+            b"ok\nok\nok\nvalue=5\nok\nvalue=6\nisolated=1 moved=1 back=0 stopped=met\nframe=511 dirty=1 unmovable=0 pins=0 maps=1\n",
+        ),
+        (
+            "no client lines",
+            b"zone 0 1\nmap 0 0 0\nduring 0\n\n# none\nend\n",
+            b"ok\nok\nisolated=1 moved=1 back=0 stopped=met\n",
+        ),
+        (
+            "two blocks, of one client",
+            b"zone 0 1\nduring 0\nmap 0 0 0 unmovable\nend\nduring 0\nload 0 0 0 0\nend\ncompact 0\n",
+            b"ok\nok\nisolated=0 moved=0 back=0 stopped=met\nvalue=0\nisolated=0 moved=0 back=0 stopped=met\nisolated=0 moved=0 back=0 stopped=met\n",
+        ),
+        (
+            "each call, and refusals",
+            b"zone 0 1\nduring 0\nmap 0 0 0 unmovable\nmapat 0 0 1 7 unmovable\nmapat 0 0 2 512\nshare 0 0 0 1 0\nunmap 0 0 0\npin 0 1 0\nunpin 0 1 0\nunpin 0 1 0\nload 0 0 0 0\nload 0 0 0 8\nend\n",
+            b"ok\nok\nok\nrefused 1\nok\nok\nok\nok\nrefused 9\nrefused 3\nrefused 1\nisolated=0 moved=0 back=0 stopped=met\n",
+        ),
+        (
+            "no zone, and another",
+            b"during 1\nload 1 0 0 0\nend\nzone 0 1\nduring 1\nmap 1 0 0\nend\nlook 0 0 0\n",
+            b"refused 43\nok\nrefused 43\nrefused 3\n",
+        ),
+        (
+            "a number that is none of a zone",
+            b"during 4\nload 4 0 0 0\nend\n",
+            b"refused 1\n",
+        ),
+        (
+            "a round by hand",
+            b"zone 0 1\nmap 0 0 0\nscan 0\nduring 0\nload 0 0 0 0\nend\n",
+            b"ok\nok\nserial=0\nrefused 45\n",
+        ),
+    ];
+    for (name, script, expected) in rows {
+        let (written, ended) = played_on_threads(&rt, rt.alloc(), script);
+        assert_eq!(rt; written.as_slice(), expected, "{name}");
+        assert!(rt; ended.is_ok(), "{name}");
+    }
+    Ok(())
+}
+
+#[test]
+fn runs_no_client_without_threads(rt: HostRuntime) -> Result<(), Fail> {
+    let script = b"zone 0 1\nmap 0 0 0\nduring 0\nunmap 0 0 0\nend\nlook 0 0 0\n";
+    let (written, ended) = played(&rt, script)?;
+    let expected = b"ok\nok\nrefused 32\nframe=0 dirty=0 unmovable=0 pins=0 maps=1\n";
+    assert_eq!(rt; written.as_slice(), expected.as_slice());
+    assert_eq!(rt;
+        ended,
+        Ok(Totals {
+            lines: 6,
+            replies: 4
+        })
+    );
+    Ok(())
+}
+
+/// A block with so many client lines, and its end.
+fn block_of(alloc: Global, clients: u32) -> Result<Vec<u8>, Fail> {
+    let mut script = Vec::new(alloc);
+    script.extend_from_slice(b"during 0\n")?;
+    for _ in 0..clients {
+        script.extend_from_slice(b"load 0 0 0 0\n")?;
+    }
+    script.extend_from_slice(b"end\n")?;
+    Ok(script)
+}
+
+#[test]
+fn takes_no_more_than_1000_client_lines(rt: HostRuntime) -> Result<(), Fail> {
+    let (written, ended) = played(&rt, &block_of(rt.alloc(), 1000)?)?;
+    assert_eq!(rt; written.as_slice(), b"refused 43\n".as_slice());
+    assert!(rt; ended.is_ok());
+    let (written, ended) = played(&rt, &block_of(rt.alloc(), 1001)?)?;
+    assert!(rt; written.is_empty());
+    assert_eq!(rt;
+        ended,
+        Err(RunError {
+            fault: Fault::Syntax,
+            line: 1002
+        })
+    );
+    Ok(())
+}
+
+#[test]
 fn runs_a_script(rt: HostRuntime) -> Result<(), Fail> {
     let script =
         b"zone 0 1\n# a page\nmap 0 0 0\nload 0 0 0 3\n\nstore 0 0 0 3 7\nload 0 0 0 3\ninfo 0\n";
@@ -224,13 +315,20 @@ fn refuses_in_order(rt: HostRuntime) -> Result<(), Fail> {
 
 #[test]
 fn stops_at_a_fault(rt: HostRuntime) -> Result<(), Fail> {
-    let rows: [(&[u8], Fault, u64); 6] = [
+    let rows: [(&[u8], Fault, u64); 13] = [
         (b"zone 0 1\nprofile 2\n", Fault::Syntax, 2),
         (b"#\nprofile 02\n", Fault::Syntax, 2),
         (b"profile 2\n\nprofile 2\n", Fault::Syntax, 3),
         (b"zone 0 1\nfill\ninfo 0\n", Fault::Syntax, 2),
         (b"zone 0 1\n\n# cut", Fault::Syntax, 3),
         (&[b'0'; 201], Fault::LongLine, 1),
+        (b"zone 0 1\nduring 0\ninfo 0\n", Fault::Syntax, 3),
+        (b"zone 0 1\nduring 0\nload 0 0 0 0\n", Fault::Syntax, 2),
+        (b"during 0\nload 1 0 0 0\nend\n", Fault::Syntax, 2),
+        (b"during 5\nload 6 0 0 0\nend\n", Fault::Syntax, 2),
+        (b"during 0\nload 0 0", Fault::Syntax, 2),
+        (b"during 0\nduring 0\nend\n", Fault::Syntax, 2),
+        (b"#\nend\n", Fault::Syntax, 2),
     ];
     for (script, fault, line) in rows {
         let (_, ended) = played(&rt, script)?;
@@ -307,4 +405,37 @@ fn names_the_line_of_a_reply_that_is_not_taken(rt: HostRuntime) {
             );
         }
     }
+}
+
+#[test]
+fn names_the_line_of_during_for_a_round_that_is_not_taken(rt: HostRuntime) {
+    let rows = [(2, 1), (3, 2), (6, 4), (13, 4), (14, 3), (50, 3)];
+    for (room, line) in rows {
+        let script: &[u8] = b"zone 0 1\nmap 0 0 0\nduring 0\nload 0 0 0 0\nend\ninfo 0\n";
+        let mut sink = Sink::new(Full { room, fails: true });
+        let ended = run_on_threads(&rt, rt.alloc(), &mut Text::new(script), &mut sink, OPTIONS);
+        assert_eq!(rt;
+            ended,
+            Err(RunError {
+                fault: Fault::Write,
+                line
+            })
+        );
+    }
+}
+
+#[test]
+fn stops_where_a_read_fails_in_a_block(rt: HostRuntime) -> Result<(), Fail> {
+    let mut source = Source::new(Broken(b"zone 0 1\nduring 0\nload 0 0 0 0\n"));
+    let mut sink = Sink::new(Vec::new(rt.alloc()));
+    let ended = run(rt.alloc(), &mut source, &mut sink, OPTIONS);
+    assert_eq!(rt;
+        ended,
+        Err(RunError {
+            fault: Fault::Read,
+            line: 4
+        })
+    );
+    assert_eq!(rt; sink.into_inner().as_slice(), b"ok\n".as_slice());
+    Ok(())
 }

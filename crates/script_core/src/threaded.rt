@@ -1,39 +1,47 @@
-ghost use Rattle.std.specs.Prelude.{◌≡◌, ◌+◌, ◌≤◌, ◌↔◌, false, length, None, IsOk, IfOk, OnErr};
+ghost use Rattle.std.specs.Prelude.{◌≡◌, ◌⊎◌, ◌+◌, ◌≤◌, ◌↔◌, false, length, None, IsOk, IfOk, OnErr};
 ghost use Rattle.std.specs.Result.{result_err};
 ghost use Rattle.round_core.specs.Kept.{IsKept};
 ghost use Rattle.round_core.specs.Rounds.{IsRefusedEarly, IsRound};
 ghost use Rattle.zone_core.specs.Books.{AreFor};
 ghost use Rattle.zone_core.specs.Seats.{audit_refusal};
 ghost use Rattle.zone_core.specs.Shape.{HasShape};
+ghost use Rattle.script_core.specs.Requests.{asked, told};
+ghost use Rattle.script_core.specs.Script.{command_in_block};
 ghost use Rattle.script_core.specs.Serial.{Opens};
-ghost use Rattle.script_core.specs.Threaded.{AsksMemory, IsPoolOn, IsRoundOn, IsStepBy, IsThreadedStep, broken_refusal, broken_reply, is_threaded, left_by, pool_reply, pool_stopped_as, round_reply, stopped_as, threaded_at_first, told_of};
+ghost use Rattle.script_core.specs.Threaded.{AsksMemory, IsBlockFor, IsPoolOn, IsReplyStep, IsRoundBeside, IsRoundOn, IsSettledReply, IsStepBy, IsThreadedStep, IsUnstarted, broken_refusal, broken_reply, is_threaded, left_by, pool_reply, pool_stopped_as, round_reply, stopped_as, threaded_at_first, told_of};
 
+use crate::answer::{Answer, Answers, BlockAnswers};
+use crate::beside::{Both, Turn, compact_beside};
+use crate::block::Block;
 use crate::machine::Machine;
 use crate::options::Options;
-use crate::respond::Respond;
+use crate::request::Request;
 use arrayvec::ArrayVec;
-use frame_core::{Order, ZoneNo};
+use client_core::{Client, settle_clients};
+use frame_core::{ClientNo, Order, ZoneNo};
 use huge_core::{Collector, Huge, Report, Stop as PoolStop, reserve_alone};
 use round_core::{NoGate, Round, RoundError, Stop, compact_alone};
 use std::alloc::{AllocError, Global};
 use std::marker::Model;
+use std::slice;
 use std::sync::Wait;
 use std::sync::ledger::Ledger;
 use std::thread::Threads;
-use text_core::{BlockCount, Command, PoolBlocks, PoolStopped, Reply, Stopped};
+use text_core::{BlockCount, Command, PoolBlocks, PoolStopped, Reply, Stopped, zone_of};
 use zone_core::{Audit, Blanks, Rest, Seats, World, Zone, ZoneError};
 
 /// How many rounds a pool may run.
 const POOL_ROUNDS: u32 = 4;
 
-/// What a script works on where there are threads: the machine as on one thread, and the number of the zone that a round left
-/// with pages on their way.
+/// What a script works on where there are threads: the machine as on one thread, the number of the zone that a round left with pages on
+/// their way, and the client whose calls are made beside rounds.
 #[derive(Drop)]
 pub(crate) struct Threaded<I: Ledger, N: Ledger, M: Ledger, B: Ledger> {
     alloc: Global,
     options: Options,
     machine: Machine<I, N, M, B>,
     broken: Option<ZoneNo>,
+    client: Client,
 }
 
 impl<I: Ledger, N: Ledger, M: Ledger, B: Ledger> Model for Threaded<I, N, M, B> {
@@ -45,7 +53,7 @@ impl<I: Ledger, N: Ledger, M: Ledger, B: Ledger> Model for Threaded<I, N, M, B> 
 
     ghost coded = { Prim.hlevel (codes, plain_zone.the_row.coded) };
 
-    ghost view = { λ t. record { serial = t.machine; broken = t.broken } };
+    ghost view = { λ t. record { serial = t.machine; broken = t.broken; client = t.client } };
 }
 
 impl<I: Ledger + Send + Sync, N: Ledger, M: Ledger + Send + Sync, B: Ledger + Send + Sync> Threaded<
@@ -65,22 +73,79 @@ impl<I: Ledger + Send + Sync, N: Ledger, M: Ledger + Send + Sync, B: Ledger + Se
             options,
             machine: Machine::new(alloc, options.journal, blanks),
             broken: None,
+            client: Client::new(alloc, block_client()),
         }
     }
 
-    /// Answers a command. It fails only for want of memory.
+    /// Answers a command, or a block. It fails only for want of memory.
     pub(crate) fn respond<H: Threads + Wait + Sync>(
+        &mut self,
+        rt: &H,
+        request: Request,
+    ) -> Result<Answers, AllocError>
+        ensures ok { IfOk result (λ answers. IsThreadedStep self.old (asked request) (told answers) self.new) }
+        ensures memory { OnErr result (AsksMemory self.old (asked request).command) }
+    {
+        match request {
+            Request::Line { line, command } => {
+                Ok(Answers::One(Answer::new(line, self.reply_to(rt, command)?)))
+            }
+            Request::Block(block) => self.play(rt, block),
+        }
+    }
+
+    /// The reply to a command of one line. It fails only for want of memory.
+    fn reply_to<H: Threads + Wait + Sync>(
         &mut self,
         rt: &H,
         command: Command,
     ) -> Result<Reply, AllocError>
-        ensures ok { IfOk result (λ reply. IsThreadedStep self.old command reply self.new) }
+        ensures ok { IfOk result (λ reply. IsReplyStep self.old command reply self.new) }
         ensures memory { OnErr result (AsksMemory self.old command) }
     {
         match self.broken_zone() {
             Some(number) => Ok(broken_reply(number, command)),
             None => self.answer(rt, command),
         }
+    }
+
+    /// Answers a block.
+    fn play<H: Threads + Wait + Sync>(
+        &mut self,
+        rt: &H,
+        block: Block,
+    ) -> Result<Answers, AllocError>
+        ensures ok { IfOk result (λ answers. IsThreadedStep self.old (command_in_block block) (told answers) self.new) }
+        ensures memory { OnErr result (AsksMemory self.old (command_in_block block).command) }
+    {
+        match self.broken_zone() {
+            Some(number) => {
+                let reply = broken_reply_to_block(number, block.zone());
+                Ok(block.answered(reply))
+            }
+            None => self.play_on(rt, block),
+        }
+    }
+
+    /// Answers a block where no zone is broken. It is apart, since it has room for a whole world, which commands do without.
+    #[inline(never)]
+    fn play_on<H: Threads + Wait + Sync>(
+        &mut self,
+        rt: &H,
+        block: Block,
+    ) -> Result<Answers, AllocError>
+        requires whole { self.old.broken ≡ None }
+        ensures ok { IfOk result (λ answers. IsThreadedStep self.old (command_in_block block) (told answers) self.new) }
+        ensures memory { OnErr result (IsBlockFor (command_in_block block).command self.old.serial.world) }
+    {
+        let Some(zone) = zone_of(block.zone()) else {
+            return Ok(block.answered(Reply::Refused(1)));
+        };
+        let Some(world) = self.machine.take_closed(zone) else {
+            let reply = self.machine.compact(zone);
+            return Ok(block.answered(reply));
+        };
+        self.run_beside(rt, world, block)
     }
 
     /// The number of the zone that a round left broken, if one did.
@@ -107,9 +172,11 @@ impl<I: Ledger + Send + Sync, N: Ledger, M: Ledger + Send + Sync, B: Ledger + Se
                 count,
                 blocks,
             } => Ok(self.answer_pool(rt, zone, count, blocks)),
-            Command::Open { .. } | Command::On { .. } | Command::Profile2 | Command::OutOfRange => {
-                self.machine.respond(command)
-            }
+            Command::Open { .. }
+            | Command::On { .. }
+            | Command::During { .. }
+            | Command::Profile2
+            | Command::OutOfRange => self.machine.reply_to(command),
         }
     }
 
@@ -149,7 +216,7 @@ impl<I: Ledger + Send + Sync, N: Ledger, M: Ledger + Send + Sync, B: Ledger + Se
         requires given { self.old.serial.world ≡ None }
         requires whole { self.old.broken ≡ None }
         requires closed { world.is_open ≡ false }
-        ensures { IsRoundOn world self.old.serial.places result self.new }
+        ensures { IsRoundOn world self.old.serial.places self.old.client result self.new }
     {
         let Ok((zone, mut seats, rest)) = world.split() else {
             unreachable!()
@@ -157,6 +224,48 @@ impl<I: Ledger + Send + Sync, N: Ledger, M: Ledger + Send + Sync, B: Ledger + Se
         let (zone, round) = self.compact(rt, zone, &mut seats);
         self.take_back(zone, seats, rest);
         reply_to(round)
+    }
+
+    /// Runs a round over the zone of a world, which the machine gives for it, with the calls of the client beside it. The calls are made
+    /// with a copy of the client, so that it has its receipts still where its thread can't be started.
+    fn run_beside<H: Threads + Wait + Sync>(
+        &mut self,
+        rt: &H,
+        world: World<I, N, M, B>,
+        block: Block,
+    ) -> Result<Answers, AllocError>
+        requires given { self.old.serial.world ≡ None }
+        requires whole { self.old.broken ≡ None }
+        requires closed { world.is_open ≡ false }
+        ensures { IfOk result (λ answers. IsRoundBeside world self.old (command_in_block block) (told answers) self.new ⊎ IsUnstarted world self.old (command_in_block block) (told answers) self.new) }
+    {
+        let client = self.client.try_clone()?;
+        let Ok((zone, mut seats, rest)) = world.split() else {
+            unreachable!()
+        };
+        let line = block.line();
+        let (lines, answers) = block.into_parts();
+        let turn = Turn {
+            client,
+            lines,
+            answers,
+        };
+        let (zone, both) = compact_beside(rt, self.alloc, zone, &mut seats, self.options, turn);
+        let Some(
+            Both {
+                client,
+                answers,
+                round,
+            },
+        ) = both
+        else {
+            self.take_back(zone, seats, rest);
+            return Ok(Answers::One(Answer::new(line, Reply::Refused(32))));
+        };
+        let own = settled_reply(&zone, &client, round);
+        self.client = client;
+        self.take_back(zone, seats, rest);
+        Ok(Answers::Block(BlockAnswers::new(answers, Answer::new(line, own))))
     }
 
     /// Runs a round over a zone, with as many copiers and as much room in their queues as the options say.
@@ -193,7 +302,7 @@ impl<I: Ledger + Send + Sync, N: Ledger, M: Ledger + Send + Sync, B: Ledger + Se
         requires given { self.old.serial.world ≡ None }
         requires whole { self.old.broken ≡ None }
         requires closed { world.is_open ≡ false }
-        ensures { IsPoolOn count blocks world self.old.serial.places result self.new }
+        ensures { IsPoolOn count blocks world self.old.serial.places self.old.client result self.new }
     {
         let Ok((zone, mut seats, rest)) = world.split() else {
             unreachable!()
@@ -225,7 +334,7 @@ impl<I: Ledger + Send + Sync, N: Ledger, M: Ledger + Send + Sync, B: Ledger + Se
         requires given { self.old.serial.world ≡ None }
         requires whole { self.old.broken ≡ None }
         requires rest { rest ≡ zone.blocks }
-        ensures left { self.new ≡ left_by self.old.serial.places zone seats.scan seats.ends (audit_refusal zone seats.ends) }
+        ensures left { self.new ≡ left_by self.old.serial.places self.old.client zone seats.scan seats.ends (audit_refusal zone seats.ends) }
         ensures exact { 64 ≤ seats.ends.parts → seats.ends.moved + seats.ends.back ≡ seats.scan.count → audit_refusal zone seats.ends ≡ None }
     {
         let number = zone.number();
@@ -233,6 +342,27 @@ impl<I: Ledger + Send + Sync, N: Ledger, M: Ledger + Send + Sync, B: Ledger + Se
             Ok(_) => self.machine.put_back(World::join(zone, seats, rest)),
             Err(_) => self.broken = Some(number),
         }
+    }
+}
+
+/// The number of the client whose calls are made beside rounds.
+fn block_client() -> ClientNo
+    ensures { result ≡ 1 }
+{
+    ClientNo::new(1).unwrap()
+}
+
+/// The reply to a round beside a client: what the client has receipts of has to stand in the zone's journal.
+fn settled_reply<I: Ledger, M: Ledger, B: Ledger>(
+    zone: &Zone<I, M, B>,
+    client: &Client,
+    round: Result<Round, RoundError>,
+) -> Reply
+    ensures { IsSettledReply zone.now client.now round result }
+{
+    match settle_clients(zone, slice::from_ref(client)) {
+        Ok(()) => reply_to(round),
+        Err(mismatch) => Reply::Refused(mismatch.number()),
     }
 }
 
@@ -324,6 +454,17 @@ fn broken_reply(number: ZoneNo, command: Command) -> Reply
         Command::On { zone, .. } | Command::Compact { zone } | Command::Pool { zone, .. } => {
             Reply::Refused(broken_refusal(number, zone))
         }
+        Command::During { zone } => broken_reply_to_block(number, zone),
+    }
+}
+
+/// The reply to a block then, whose zone is told by any number.
+fn broken_reply_to_block(number: ZoneNo, zone: u64) -> Reply
+    ensures { result ≡ broken_reply number (Command.During zone) }
+{
+    match zone_of(zone) {
+        Some(zone) => Reply::Refused(broken_refusal(number, zone)),
+        None => Reply::Refused(1),
     }
 }
 

@@ -8,13 +8,14 @@ use Rattle.text_core.specs.declared.command.Call.TheVariants.{Info, InfoWithHeld
 use Rattle.text_core.specs.declared.command.Calls.{Calls}
 use Rattle.text_core.specs.declared.command.Calls.TheVariants.{One, Series as SeriesOf}
 use Rattle.text_core.specs.declared.command.Command.{Command}
-use Rattle.text_core.specs.declared.command.Command.TheVariants.{Open, On, Compact, Pool, Profile2, OutOfRange}
+use Rattle.text_core.specs.declared.command.Command.TheVariants.{Open, On, Compact, Pool, Profile2, OutOfRange, During}
 use Rattle.text_core.specs.declared.reply.Reply.{Reply}
 use Rattle.text_core.specs.declared.reply.Reply.TheVariants as reply
 use Rattle.text_core.proofs.Ranges.{IsInRange}
-use Rattle.script_core.specs.Machine.{answered, call_step, calls_step, declined, pool_step, step}
-use Rattle.script_core.specs.Script.{Numbered, answers_from, answers_of, commands_of, parts_of}
-use Rattle.script_laws.specs.Counts.{AddsUpTo, CountsAddUp}
+use Rattle.script_core.specs.Machine.{answered, call_step, calls_step, declined, pool_step, step, during_on}
+use Rattle.script_core.specs.Script.{Numbered, answers_from, answers_of, commands_of, parts_of, ClientLine, by}
+use Rattle.script_laws.specs.Counts.{AddsUpTo, CountsAddUp, frames_of}
+use Rattle.text_core.specs.Grammar.{zone_of}
 use Rattle.script_laws.proofs.CommandsInRange.{AreInRange, commands_ranged}
 use Rattle.script_laws.proofs.Pools.{pool_tells}
 use Rattle.script_laws.proofs.Replies.{has_counts, plain_call, plain_series}
@@ -44,6 +45,10 @@ adds_step places w o (Pool zone count blocks) = by_number (nat_eq zone w.zone.nu
   by_number : (b : Bool) → AddsUpTo (Some (512 * w.zone.blocks)) (if b then answered (pool_step w count blocks) else declined 43 (Some w)).reply
   by_number true = adds_plain (Some (512 * w.zone.blocks)) (pool_step w count blocks).reply (pool_tells blocks has_counts (λ got why. refl) refl w count)
   by_number false = tt
+adds_step places w o (During number) = by_zone (zone_of number) where
+  by_zone : (z : Option ℕ) → AddsUpTo (Some (512 * w.zone.blocks)) (during_on z (Some w)).reply
+  by_zone None = tt
+  by_zone (Some zone) = tt
 adds_step places w o (On zone calls) = by_number (nat_eq zone w.zone.number) where
   by_number : (b : Bool) → AddsUpTo (Some (512 * w.zone.blocks)) (if b then answered (calls_step w calls) else declined 43 (Some w)).reply
   by_number true = adds_calls w o calls
@@ -60,18 +65,22 @@ open_adds places frames (c ∷ commands) ranged w o is =
     )
 
 -- of a script from its first command on
-adds_first : (places : ℕ) → (0 < places) × (places ≤ 65536) → (line : ℕ) (command : Command) (commands : List Numbered) → IsInRange command → AreInRange commands → CountsAddUp commands (answers_from places None commands)
-    → CountsAddUp (record { line = line; command = command } ∷ commands) (answers_from places None (record { line = line; command = command } ∷ commands))
-adds_first places range line OutOfRange commands r ranged rest = (tt, rest)
-adds_first places range line Profile2 commands r ranged rest = (tt, rest)
-adds_first places range line (On zone calls) commands r ranged rest = (tt, rest)
-adds_first places range line (Compact zone) commands r ranged rest = (tt, rest)
-adds_first places range line (Pool zone count blocks) commands r ranged rest = (tt, rest)
-adds_first places range line (Open zone blocks) commands r ranged rest = (tt, open_adds places (Some (512 * blocks)) commands ranged _ (opened_orderly zone blocks places r range) refl)
+adds_first : (places : ℕ) → (0 < places) × (places ≤ 65536) → (line : ℕ) (clients : List ClientLine) (command : Command) (commands : List Numbered) → IsInRange command → AreInRange commands → CountsAddUp commands (answers_from places None commands)
+    → CountsAddUp (record { line = line; command = command; clients = clients } ∷ commands) (answers_from places None (record { line = line; command = command; clients = clients } ∷ commands))
+adds_first places range line clients OutOfRange commands r ranged rest = (tt, rest)
+adds_first places range line clients Profile2 commands r ranged rest = (tt, rest)
+adds_first places range line clients (On zone calls) commands r ranged rest = (tt, rest)
+adds_first places range line clients (Pool zone count blocks) commands r ranged rest = (tt, rest)
+adds_first places range line clients (Compact zone) commands r ranged rest = (tt, rest)
+adds_first places range line clients (During number) commands r ranged rest = by_zone (zone_of number) where
+  by_zone : (z : Option ℕ) → AddsUpTo (frames_of commands) (during_on z None).reply × AllByRecursion (λ a. AddsUpTo (frames_of commands) a.reply) (answers_from places (during_on z None).world commands)
+  by_zone None = (tt, rest)
+  by_zone (Some zone) = (tt, rest)
+adds_first places range line clients (Open zone blocks) commands r ranged rest = (tt, open_adds places (Some (512 * blocks)) commands ranged _ (opened_orderly zone blocks places r range) refl)
 
 adds : (places : ℕ) → (0 < places) × (places ≤ 65536) → (commands : List Numbered) → AreInRange commands → CountsAddUp commands (answers_from places None commands)
 adds places range [] ranged = tt
-adds places range (c ∷ commands) ranged = adds_first places range c.line c.command commands ranged.0 ranged.1 (adds places range commands ranged.1)
+adds places range (c ∷ commands) ranged = adds_first places range c.line c.clients c.command commands ranged.0 ranged.1 (adds places range commands ranged.1)
 
 pub counts_added : (places : ℕ) → (0 < places) × (places ≤ 65536) → (input : List ℕ) → CountsAddUp (commands_of input) (answers_of places input)
-counts_added places range input = adds places range (commands_of input) (commands_ranged Untold 1 (parts_of input))
+counts_added places range input = adds places range (commands_of input) (commands_ranged (by Untold) 1 (parts_of input))

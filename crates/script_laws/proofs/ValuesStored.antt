@@ -32,14 +32,14 @@ use Rattle.text_core.specs.declared.command.Calls.{Calls}
 use Rattle.text_core.specs.declared.command.Calls.TheVariants.{One, Series as SeriesOf}
 use Rattle.text_core.specs.declared.command.Repeated.{Repeated}
 use Rattle.text_core.specs.declared.command.Command.{Command}
-use Rattle.text_core.specs.declared.command.Command.TheVariants.{Open, On, Compact, Pool, Profile2, OutOfRange}
+use Rattle.text_core.specs.declared.command.Command.TheVariants.{Open, On, Compact, Pool, Profile2, OutOfRange, During}
 use Rattle.text_core.specs.declared.profile.Profile.TheVariants.{Untold}
 use Rattle.text_core.specs.declared.reply.Reply.{Reply}
 use Rattle.text_core.specs.declared.reply.Reply.TheVariants as reply
-use Rattle.text_core.specs.Grammar.{address_of}
+use Rattle.text_core.specs.Grammar.{address_of, zone_of}
 use Rattle.text_core.proofs.Ranges.{IsInRange}
-use Rattle.script_core.specs.Machine.{Answered, answered, by_hand, call_at, call_step, calls_step, copied, declined, ending, found, fresh_page, handed_out, looked, order_handed_out, page_step, pool_step, says, series_from, step, unless, unless_refused}
-use Rattle.script_core.specs.Script.{Numbered, answers_from, answers_of, commands_of, parts_of}
+use Rattle.script_core.specs.Machine.{Answered, answered, by_hand, call_at, call_step, calls_step, copied, declined, ending, found, fresh_page, handed_out, looked, order_handed_out, page_step, pool_step, says, series_from, step, unless, unless_refused, during_on}
+use Rattle.script_core.specs.Script.{Numbered, answers_from, answers_of, commands_of, parts_of, ClientLine, by}
 use Rattle.script_laws.specs.Values.{IsLastStored, ValuesAreStored, accepted, accepted_count, called, repeated, told}
 use Rattle.script_laws.proofs.CallsAccepted.{CanMap, can_map, can_map_at, fresh_number, mapped_is, rests_for_access}
 use Rattle.script_laws.proofs.CommandsInRange.{AreInRange, commands_ranged}
@@ -234,6 +234,7 @@ refused_nothing older (On zone (One c)) number = refl
 refused_nothing older (On zone (SeriesOf s)) number = refl
 refused_nothing older (Compact zone) number = refl
 refused_nothing older (Pool zone count blocks) number = refl
+refused_nothing older (During zone) number = refl
 
 moved_to : (v after : WorldState) (history : List Record) → Some v ≡ Some after → Match v.zone.records history → Match after.zone.records history
 moved_to v after history e m = subst (λ (x : WorldState). Match x.zone.records history) (same_Some v after e) m
@@ -261,6 +262,11 @@ tells_step places older w o m (Pool zone count blocks) = record { match = (by_nu
     no_value older (Pool zone count blocks) (pool_step w count blocks).reply (pool_tells blocks has_value (λ got why. refl) refl w count),
   )
   by_number false = (λ after e. moved_to w after older e m, tt)
+tells_step places older w o m (During number) = record { match = (by_zone (zone_of number)).0; value = (by_zone (zone_of number)).1 } where
+  by_zone : (z : Option ℕ) → ((after : WorldState) → (during_on z (Some w)).world ≡ Some after → Match after.zone.records (told older (During number) (during_on z (Some w)).reply))
+      × IsLastStored older (During number) (during_on z (Some w)).reply
+  by_zone None = (λ after e. moved_to w after older e m, tt)
+  by_zone (Some zone) = (λ after e. moved_to w after older e m, tt)
 tells_step places older w o m (On zone calls) = record { match = (by_number (nat_eq zone w.zone.number)).0; value = (by_number (nat_eq zone w.zone.number)).1 } where
   by_number : (b : Bool)
       → ((after : WorldState) → (if b then answered (calls_step w calls) else declined 43 (Some w)).world ≡ Some after → Match after.zone.records (told older (On zone calls) (if b then answered (calls_step w calls) else declined 43 (Some w)).reply))
@@ -284,21 +290,25 @@ open_values places (c ∷ commands) ranged older w o m =
     )
 
 -- a script from its first command on
-first_values : (places : ℕ) → (0 < places) × (places ≤ 65536) → (line : ℕ) (command : Command) (commands : List Numbered) → IsInRange command → AreInRange commands → ValuesAreStored [] commands (answers_from places None commands)
-    → ValuesAreStored [] (record { line = line; command = command } ∷ commands) (answers_from places None (record { line = line; command = command } ∷ commands))
-first_values places range line OutOfRange commands r ranged rest = (tt, rest)
-first_values places range line Profile2 commands r ranged rest = (tt, rest)
-first_values places range line (Compact zone) commands r ranged rest = (tt, rest)
-first_values places range line (Pool zone count blocks) commands r ranged rest = (tt, rest)
-first_values places range line (On zone calls) commands r ranged rest = (
+first_values : (places : ℕ) → (0 < places) × (places ≤ 65536) → (line : ℕ) (clients : List ClientLine) (command : Command) (commands : List Numbered) → IsInRange command → AreInRange commands → ValuesAreStored [] commands (answers_from places None commands)
+    → ValuesAreStored [] (record { line = line; command = command; clients = clients } ∷ commands) (answers_from places None (record { line = line; command = command; clients = clients } ∷ commands))
+first_values places range line clients OutOfRange commands r ranged rest = (tt, rest)
+first_values places range line clients Profile2 commands r ranged rest = (tt, rest)
+first_values places range line clients (Pool zone count blocks) commands r ranged rest = (tt, rest)
+first_values places range line clients (Compact zone) commands r ranged rest = (tt, rest)
+first_values places range line clients (During number) commands r ranged rest = by_zone (zone_of number) where
+  by_zone : (z : Option ℕ) → IsLastStored [] (During number) (during_on z None).reply × ValuesAreStored [] commands (answers_from places (during_on z None).world commands)
+  by_zone None = (tt, rest)
+  by_zone (Some zone) = (tt, rest)
+first_values places range line clients (On zone calls) commands r ranged rest = (
   no_value [] (On zone calls) (reply.Refused 43) refl,
   subst (λ (history : List Record). ValuesAreStored history commands (answers_from places None commands)) (sym (refused_nothing [] (On zone calls) 43)) rest,
 )
-first_values places range line (Open zone blocks) commands r ranged rest = (tt, open_values places commands ranged [] (world_opened zone blocks places) (opened_orderly zone blocks places r range) match_empty)
+first_values places range line clients (Open zone blocks) commands r ranged rest = (tt, open_values places commands ranged [] (world_opened zone blocks places) (opened_orderly zone blocks places r range) match_empty)
 
 values : (places : ℕ) → (0 < places) × (places ≤ 65536) → (commands : List Numbered) → AreInRange commands → ValuesAreStored [] commands (answers_from places None commands)
 values places range [] ranged = tt
-values places range (c ∷ commands) ranged = first_values places range c.line c.command commands ranged.0 ranged.1 (values places range commands ranged.1)
+values places range (c ∷ commands) ranged = first_values places range c.line c.clients c.command commands ranged.0 ranged.1 (values places range commands ranged.1)
 
 pub values_stored : (places : ℕ) → (0 < places) × (places ≤ 65536) → (input : List ℕ) → ValuesAreStored [] (commands_of input) (answers_of places input)
-values_stored places range input = values places range (commands_of input) (commands_ranged Untold 1 (parts_of input))
+values_stored places range input = values places range (commands_of input) (commands_ranged (by Untold) 1 (parts_of input))

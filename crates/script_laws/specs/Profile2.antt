@@ -4,11 +4,11 @@ use Rattle.text_core.specs.declared.profile.Profile.TheVariants.{One}
 use Rattle.text_core.specs.declared.reply.Reply.{Reply}
 use Rattle.text_core.specs.declared.reply.Reply.TheVariants as reply
 use Rattle.script_core.specs.declared.error.RunError.{RunError}
-use Rattle.script_core.specs.Script.{Answer, answers_of, fault_from, fault_of, parts_of}
+use Rattle.script_core.specs.Script.{Answer, answers_of, by, fault_from, fault_of, parts_of}
 
 -- the first fault where each line is read by profile 1, so that `profile 2` is one too
 abbrev pub fault_in_profile_1 : List ℕ → Option RunError
-fault_in_profile_1 input = fault_from One 1 (parts_of input)
+fault_in_profile_1 input = fault_from (by One) 1 (parts_of input)
 
 abbrev pub behind_profile_2 : List ℕ → List ℕ
 behind_profile_2 input = codes "profile 2\n" ++ input

@@ -7,20 +7,20 @@ use Rattle.std.proofs.lemmas.Option.{same_Some}
 use Rattle.std.proofs.lemmas.Slice.Eq.{bytes_eq-Decides}
 use Rattle.frame_core.specs.declared.place.Address.{Address}
 use Rattle.text_core.specs.declared.token.Token.{Token}
-use Rattle.text_core.specs.declared.token.Token.TheVariants.{Number, Zone, Map, MapAt, Store, Load, Info, Unmovable, Scan, Take, Copy, Finish, Shut, Look, Share, Unmap, Pin, Unpin, Huge, Give, Fill, Thin, Compact, Pool}
+use Rattle.text_core.specs.declared.token.Token.TheVariants.{Number, Zone, Map, MapAt, Store, Load, Info, Unmovable, Scan, Take, Copy, Finish, Shut, Look, Share, Unmap, Pin, Unpin, Huge, Give, Fill, Thin, Compact, Pool, During}
 use Rattle.text_core.specs.declared.command.Call.{Call}
 use Rattle.text_core.specs.declared.command.Call.TheVariants as call
 use Rattle.text_core.specs.declared.command.Calls.TheVariants.{One}
 use Rattle.text_core.specs.declared.command.Series.{Series}
 use Rattle.text_core.specs.declared.command.Command.{Command}
-use Rattle.text_core.specs.declared.command.Command.TheVariants.{On, Profile2}
+use Rattle.text_core.specs.declared.command.Command.TheVariants.{On, Profile2, During as RoundBeside}
 use Rattle.text_core.specs.declared.error.ScriptError.{ScriptError}
 use Rattle.text_core.specs.declared.error.ScriptError.TheVariants.{LongLine}
 use Rattle.text_core.specs.declared.pool.PoolBlocks.{PoolBlocks}
 use Rattle.text_core.specs.declared.pool.PoolBlocks.TheVariants.{Pageblocks}
 use Rattle.text_core.specs.declared.profile.Profile.TheVariants.{Untold, One as Profile1, Two}
-use Rattle.text_core.specs.Grammar.{address_of, blocks_of, call_on, command_of, compacting, frame_of, hand_of, load_call, map_at_call, map_call, opening, pageblock_of, pooling, row_of, row_of_profile_2, series_on, share_call, store_call, word_of, zone_of}
-use Rattle.text_core.specs.Line.{command_in, command_or_fault, is_comment, lexemes_say, line_of}
+use Rattle.text_core.specs.Grammar.{address_of, blocks_of, call_on, command_of, compacting, frame_of, hand_of, load_call, map_at_call, map_call, opening, pageblock_of, pooling, row_of, row_of_profile_2, series_on, share_call, store_call, word_of, zone_of, during_row, row_in}
+use Rattle.text_core.specs.Line.{command_in, said_or_fault, is_comment, lexemes_say, line_of}
 use Rattle.text_core.specs.Profile.{is_profile_2}
 use Rattle.text_core.specs.Token.{lexemes, token_of}
 
@@ -134,8 +134,18 @@ alike_row Compact z [] = alike _ (kept_compacting z)
 alike_row Pool z (Number n ∷ []) = alike _ (kept_pooling z (blocks_of n) (Some Pageblocks))
 alike_row _ z _ = tt
 
+-- only the row that begins a block has its keyword
+or_none : (one untold two during : Option Command) → during ≡ None → AreAlike one untold two → AreAlike (option_or one during) (option_or untold during) (option_or two during)
+or_none (Some c) untold two during e a = (ap (λ o. option_or o during) a.0, ap (λ o. option_or o during) a.1, a.2)
+or_none None untold two None e a = tt
+or_none None untold two (Some c) e a = cc
+
+alike_during : (keyword : Token) (z : ℕ) (arguments : List Token) → AreAlike (command_of Profile1 (keyword ∷ Number z ∷ arguments)) (command_of Untold (keyword ∷ Number z ∷ arguments)) (command_of Two (keyword ∷ Number z ∷ arguments))
+alike_during During z [] = (refl, refl, λ e. cc)
+alike_during keyword z arguments = or_none (row_in Profile1 keyword (zone_of z) arguments) (row_in Untold keyword (zone_of z) arguments) (row_in Two keyword (zone_of z) arguments) (during_row keyword z arguments) refl (alike_row keyword (zone_of z) arguments)
+
 alike_tokens : (tokens : List Token) → AreAlike (command_of Profile1 tokens) (command_of Untold tokens) (command_of Two tokens)
-alike_tokens (keyword ∷ Number z ∷ arguments) = alike_row keyword (zone_of z) arguments
+alike_tokens (keyword ∷ Number z ∷ arguments) = alike_during keyword z arguments
 alike_tokens _ = tt
 
 bytes_same : (xs ys : List ℕ) → bytes_eq xs ys ≡ true → xs ≡ ys
@@ -165,12 +175,12 @@ abbrev pub SayAlike : (one untold two : Result (Option Command) ScriptError) →
 SayAlike (Err e) untold two = ⊤
 SayAlike (Ok o) untold two = (untold ≡ Ok o) × (two ≡ Ok (option_map in_profile_2 o)) × (o ≡ Some Profile2 → ⊥)
 
-or_faults_alike : (one untold two : Option Command) → AreAlike one untold two → SayAlike (command_or_fault one) (command_or_fault untold) (command_or_fault two)
+or_faults_alike : (one untold two : Option Command) → AreAlike one untold two → SayAlike (said_or_fault one) (said_or_fault untold) (said_or_fault two)
 or_faults_alike None untold two a = tt
-or_faults_alike (Some c) untold two a = (ap command_or_fault a.0, ap command_or_fault a.1, λ e. a.2 (same_Some c Profile2 e))
+or_faults_alike (Some c) untold two a = (ap said_or_fault a.0, ap said_or_fault a.1, λ e. a.2 (same_Some c Profile2 e))
 
 or_skipped_alike : (words : List (List ℕ)) (skipped : Bool)
-    → SayAlike (if skipped then Ok None else command_or_fault (command_in Profile1 words)) (if skipped then Ok None else command_or_fault (command_in Untold words)) (if skipped then Ok None else command_or_fault (command_in Two words))
+    → SayAlike (if skipped then Ok None else said_or_fault (command_in Profile1 words)) (if skipped then Ok None else said_or_fault (command_in Untold words)) (if skipped then Ok None else said_or_fault (command_in Two words))
 or_skipped_alike words true = (refl, refl, λ e. cc)
 or_skipped_alike words false = or_faults_alike (command_in Profile1 words) (command_in Untold words) (command_in Two words) (alike_words words)
 

@@ -6,21 +6,21 @@ use Rattle.std.proofs.lemmas.Bool.{and_parts, leb-true, ltb-true}
 use Rattle.frame_core.specs.Address.{InRange}
 use Rattle.frame_core.specs.declared.place.Address.{Address}
 use Rattle.text_core.specs.declared.token.Token.{Token}
-use Rattle.text_core.specs.declared.token.Token.TheVariants.{Number, Zone, Map, MapAt, Store, Load, Info, Unmovable, Scan, Take, Copy, Finish, Shut, Look, Share, Unmap, Pin, Unpin, Huge, Give, Fill, Thin, Mark, Unmark, Compact, Pool}
+use Rattle.text_core.specs.declared.token.Token.TheVariants.{Number, Zone, Map, MapAt, Store, Load, Info, Unmovable, Scan, Take, Copy, Finish, Shut, Look, Share, Unmap, Pin, Unpin, Huge, Give, Fill, Thin, Mark, Unmark, Compact, Pool, During}
 use Rattle.text_core.specs.declared.command.Call.{Call}
 use Rattle.text_core.specs.declared.command.Call.TheVariants as call
 use Rattle.text_core.specs.declared.command.Calls.TheVariants.{One}
 use Rattle.text_core.specs.declared.command.Series.{Series}
 use Rattle.text_core.specs.declared.command.Command.{Command}
-use Rattle.text_core.specs.declared.command.Command.TheVariants.{Open, On, Pool as PoolOn, Profile2}
+use Rattle.text_core.specs.declared.command.Command.TheVariants.{Open, On, Pool as PoolOn, Profile2, During as RoundBeside}
 use Rattle.text_core.specs.declared.pool.PoolBlocks.{PoolBlocks}
 use Rattle.text_core.specs.declared.pool.PoolBlocks.TheVariants.{Pageblocks, OfOrder}
 use Rattle.text_core.specs.declared.error.ScriptError.{ScriptError}
 use Rattle.text_core.specs.declared.error.ScriptError.TheVariants.{LongLine}
 use Rattle.text_core.specs.declared.profile.Profile.{Profile}
 use Rattle.text_core.specs.declared.profile.Profile.TheVariants.{Untold, One as Profile1, Two}
-use Rattle.text_core.specs.Grammar.{address_of, blocks_of, call_on, command_of, compacting, frame_of, give_order_call, hand_of, load_call, map_at_call, map_call, opening, order_of, own_row, pageblock_of, pooling, row_in, row_of, row_of_profile_2, series_on, share_call, store_call, word_of, zone_of}
-use Rattle.text_core.specs.Line.{command_in, command_or_fault, is_comment, lexemes_say, line_of}
+use Rattle.text_core.specs.Grammar.{address_of, blocks_of, call_on, command_of, compacting, frame_of, give_order_call, hand_of, load_call, map_at_call, map_call, opening, order_of, own_row, pageblock_of, pooling, row_in, row_of, row_of_profile_2, series_on, share_call, store_call, word_of, zone_of, during_row}
+use Rattle.text_core.specs.Line.{command_in, said_or_fault, is_comment, lexemes_say, line_of}
 use Rattle.text_core.specs.Pool.{pool_order}
 use Rattle.text_core.specs.Profile.{is_profile_2}
 use Rattle.text_core.specs.Token.{lexemes, token_of}
@@ -188,8 +188,17 @@ row_in_ranged : (profile : Profile) (keyword : Token) (z : Option ℕ) (argument
 row_in_ranged profile keyword z arguments =
     either_ranged (own_row profile keyword z arguments) (row_of keyword z arguments) (own_row_ranged profile keyword z arguments) (row_ranged keyword z arguments)
 
+during_row_ranged : (keyword : Token) (z : ℕ) (arguments : List Token) → IfSome (during_row keyword z arguments) IsInRange
+during_row_ranged During z [] = tt
+during_row_ranged _ z _ = tt
+
+either_row_ranged : (row during : Option Command) → IfSome row IsInRange → IfSome during IsInRange → IfSome (option_or row during) IsInRange
+either_row_ranged (Some c) during r s = r
+either_row_ranged None during r s = s
+
 command_ranged : (profile : Profile) (tokens : List Token) → IfSome (command_of profile tokens) IsInRange
-command_ranged profile (keyword ∷ Number z ∷ arguments) = row_in_ranged profile keyword (zone_of z) arguments
+command_ranged profile (keyword ∷ Number z ∷ arguments) =
+    either_row_ranged (row_in profile keyword (zone_of z) arguments) (during_row keyword z arguments) (row_in_ranged profile keyword (zone_of z) arguments) (during_row_ranged keyword z arguments)
 command_ranged profile _ = tt
 
 -- the commands of lines
@@ -205,14 +214,14 @@ abbrev pub SaysInRange : Result (Option Command) ScriptError → Type 0
 SaysInRange (Ok (Some c)) = IsInRange c
 SaysInRange _ = ⊤
 
-or_fault_ranged : (o : Option Command) → IfSome o IsInRange → SaysInRange (command_or_fault o)
+or_fault_ranged : (o : Option Command) → IfSome o IsInRange → SaysInRange (said_or_fault o)
 or_fault_ranged (Some c) r = r
 or_fault_ranged None r = tt
 
 words_ranged : (profile : Profile) (words : List (List ℕ)) → SaysInRange (lexemes_say profile words)
 words_ranged profile [] = tt
 words_ranged profile (first ∷ more) = by_test (is_comment first) where
-  by_test : (b : Bool) → SaysInRange (if b then Ok None else command_or_fault (command_in profile (first ∷ more)))
+  by_test : (b : Bool) → SaysInRange (if b then Ok None else said_or_fault (command_in profile (first ∷ more)))
   by_test true = tt
   by_test false = or_fault_ranged (command_in profile (first ∷ more)) (command_in_ranged profile (first ∷ more))
 

@@ -1,18 +1,22 @@
 -- The commands of the language: the row of each says what stands in its line, and what that makes.
-use Rattle.std.specs.Prelude.{ℕ, Bool, true, false, ◌&&◌, List, [], ◌∷◌, nat_lt, nat_le, Option, Some, None, option_map, if◌then◌else◌}
+use Rattle.std.specs.Prelude.{ℕ, Bool, true, false, ◌&&◌, List, [], ◌∷◌, nat_lt, nat_le, Option, Some, None, option_map, if◌then◌else◌, nat_eq}
 use Rattle.std.specs.Option.{option_or}
 use Rattle.frame_core.specs.declared.place.Address.{Address}
 use Rattle.text_core.specs.declared.token.Token.{Token}
-use Rattle.text_core.specs.declared.token.Token.TheVariants.{Number, Zone, Map, MapAt, Store, Load, Info, Unmovable, Scan, Take, Copy, Finish, Shut, Look, Share, Unmap, Pin, Unpin, Huge, Give, Fill, Thin, Mark, Unmark, Compact, Pool}
+use Rattle.text_core.specs.declared.token.Token.TheVariants.{Number, Zone, Map, MapAt, Store, Load, Info, Unmovable, Scan, Take, Copy, Finish, Shut, Look, Share, Unmap, Pin, Unpin, Huge, Give, Fill, Thin, Mark, Unmark, Compact, Pool, During, End}
 use Rattle.text_core.specs.declared.command.Call.{Call}
 use Rattle.text_core.specs.declared.command.Call.TheVariants as call
+use Rattle.text_core.specs.declared.command.BlockLine.{BlockLine}
+use Rattle.text_core.specs.declared.command.BlockLine.TheVariants as block_line
 use Rattle.text_core.specs.declared.command.Calls.{Calls}
 use Rattle.text_core.specs.declared.command.Calls.TheVariants.{One, Series as SeriesOf}
+use Rattle.text_core.specs.declared.command.ClientCall.{ClientCall}
+use Rattle.text_core.specs.declared.command.ClientCall.TheVariants as client
 use Rattle.text_core.specs.declared.command.Series.{Series}
 use Rattle.text_core.specs.declared.command.Repeated.{Repeated}
 use Rattle.text_core.specs.declared.command.Repeated.TheVariants as repeated
 use Rattle.text_core.specs.declared.command.Command.{Command}
-use Rattle.text_core.specs.declared.command.Command.TheVariants.{Open, On, Compact as RoundOn, Pool as PoolOn, OutOfRange}
+use Rattle.text_core.specs.declared.command.Command.TheVariants.{Open, On, Compact as RoundOn, Pool as PoolOn, OutOfRange, During as RoundBeside}
 use Rattle.text_core.specs.declared.pool.PoolBlocks.{PoolBlocks}
 use Rattle.text_core.specs.declared.pool.PoolBlocks.TheVariants.{Pageblocks, OfOrder}
 use Rattle.text_core.specs.declared.profile.Profile.{Profile}
@@ -129,17 +133,23 @@ call_on z c = calls_on z (option_map One c)
 abbrev pub series_on : Option ℕ → Option Series → Command
 series_on z s = calls_on z (option_map SeriesOf s)
 
+-- the calls that a client may make by itself; one whose argument is out of its range is None
+abbrev pub client_row : Token → List Token → Option (Option Call)
+client_row Map (Number s ∷ Number v ∷ []) = Some (map_call (address_of s v) false)
+client_row Map (Number s ∷ Number v ∷ Unmovable ∷ []) = Some (map_call (address_of s v) true)
+client_row MapAt (Number s ∷ Number v ∷ Number f ∷ []) = Some (map_at_call (address_of s v) (frame_of f) false)
+client_row MapAt (Number s ∷ Number v ∷ Number f ∷ Unmovable ∷ []) = Some (map_at_call (address_of s v) (frame_of f) true)
+client_row Store (Number s ∷ Number v ∷ Number w ∷ Number x ∷ []) = Some (store_call (address_of s v) (word_of w) x)
+client_row Load (Number s ∷ Number v ∷ Number w ∷ []) = Some (load_call (address_of s v) (word_of w))
+client_row Share (Number s ∷ Number v ∷ Number s2 ∷ Number v2 ∷ []) = Some (share_call (address_of s v) (address_of s2 v2))
+client_row Unmap (Number s ∷ Number v ∷ []) = Some (option_map call.Unmap (address_of s v))
+client_row Pin (Number s ∷ Number v ∷ []) = Some (option_map call.Pin (address_of s v))
+client_row Unpin (Number s ∷ Number v ∷ []) = Some (option_map call.Unpin (address_of s v))
+client_row _ _ = None
+
 -- what a keyword, a zone and the arguments behind it make, if there is such a row
 abbrev pub row_of : Token → Option ℕ → List Token → Option Command
 row_of Zone z (Number b ∷ []) = Some (opening z (blocks_of b))
-row_of Map z (Number s ∷ Number v ∷ []) = Some (call_on z (map_call (address_of s v) false))
-row_of Map z (Number s ∷ Number v ∷ Unmovable ∷ []) = Some (call_on z (map_call (address_of s v) true))
-row_of MapAt z (Number s ∷ Number v ∷ Number f ∷ []) = Some (call_on z (map_at_call (address_of s v) (frame_of f) false))
-row_of MapAt z (Number s ∷ Number v ∷ Number f ∷ Unmovable ∷ []) =
-    Some (call_on z (map_at_call (address_of s v) (frame_of f) true))
-row_of Store z (Number s ∷ Number v ∷ Number w ∷ Number x ∷ []) =
-    Some (call_on z (store_call (address_of s v) (word_of w) x))
-row_of Load z (Number s ∷ Number v ∷ Number w ∷ []) = Some (call_on z (load_call (address_of s v) (word_of w)))
 row_of Info z [] = Some (call_on z (Some call.Info))
 row_of Scan z [] = Some (call_on z (Some call.Scan))
 row_of Take z (Number k ∷ []) = Some (call_on z (option_map call.Take (hand_of k)))
@@ -147,11 +157,6 @@ row_of Copy z (Number k ∷ []) = Some (call_on z (option_map call.Copy (hand_of
 row_of Finish z (Number k ∷ []) = Some (call_on z (option_map call.Finish (hand_of k)))
 row_of Shut z [] = Some (call_on z (Some call.Shut))
 row_of Look z (Number s ∷ Number v ∷ []) = Some (call_on z (option_map call.Look (address_of s v)))
-row_of Share z (Number s ∷ Number v ∷ Number s2 ∷ Number v2 ∷ []) =
-    Some (call_on z (share_call (address_of s v) (address_of s2 v2)))
-row_of Unmap z (Number s ∷ Number v ∷ []) = Some (call_on z (option_map call.Unmap (address_of s v)))
-row_of Pin z (Number s ∷ Number v ∷ []) = Some (call_on z (option_map call.Pin (address_of s v)))
-row_of Unpin z (Number s ∷ Number v ∷ []) = Some (call_on z (option_map call.Unpin (address_of s v)))
 row_of Huge z [] = Some (call_on z (Some call.Huge))
 row_of Give z (Number b ∷ []) = Some (call_on z (option_map call.Give (pageblock_of b)))
 row_of Fill z (Number s ∷ Number v ∷ Number n ∷ []) =
@@ -160,7 +165,7 @@ row_of Thin z (Number s ∷ Number v ∷ Number n ∷ Number step ∷ []) =
     Some (series_on z (series_of repeated.Unmap (space_of s) v (page_count_of n) step))
 row_of Compact z [] = Some (compacting z)
 row_of Pool z (Number n ∷ []) = Some (pooling z (blocks_of n) (Some Pageblocks))
-row_of _ z _ = None
+row_of keyword z arguments = option_map (λ c. call_on z c) (client_row keyword arguments)
 
 -- the same by the rows that profile 2 has besides
 abbrev pub row_of_profile_2 : Token → Option ℕ → List Token → Option Command
@@ -181,7 +186,35 @@ own_row _ keyword z arguments = None
 abbrev pub row_in : Profile → Token → Option ℕ → List Token → Option Command
 row_in profile keyword z arguments = option_or (own_row profile keyword z arguments) (row_of keyword z arguments)
 
--- the command that tokens are, if they are one
+-- a round with a client beside it: its zone is told by any number
+abbrev pub during_row : Token → ℕ → List Token → Option Command
+during_row During z [] = Some (RoundBeside z)
+during_row _ z _ = None
+
+-- the command that tokens are, or begin, if they do
 abbrev pub command_of : Profile → List Token → Option Command
-command_of profile (keyword ∷ Number z ∷ arguments) = row_in profile keyword (zone_of z) arguments
+command_of profile (keyword ∷ Number z ∷ arguments) = option_or (row_in profile keyword (zone_of z) arguments) (during_row keyword z arguments)
 command_of profile _ = None
+
+-- a call as that of a client, if it is one of a client
+abbrev pub as_client : Call → Option ClientCall
+as_client (call.Map a unmovable) = Some (client.Map a unmovable)
+as_client (call.MapAt a frame unmovable) = Some (client.MapAt a frame unmovable)
+as_client (call.Store a word value) = Some (client.Store a word value)
+as_client (call.Load a word) = Some (client.Load a word)
+as_client (call.Share a alias) = Some (client.Share a alias)
+as_client (call.Unmap a) = Some (client.Unmap a)
+as_client (call.Pin a) = Some (client.Pin a)
+as_client (call.Unpin a) = Some (client.Unpin a)
+as_client _ = None
+
+abbrev pub client_of : Option Call → Option ClientCall
+client_of (Some c) = as_client c
+client_of None = None
+
+-- what tokens say in a block for the zone with this number, if they say something there: its end, or a client's call on that zone
+abbrev pub block_line_of : ℕ → List Token → Option BlockLine
+block_line_of zone (End ∷ []) = Some block_line.End
+block_line_of zone (keyword ∷ Number z ∷ arguments) =
+    if nat_eq z zone then option_map block_line.Client (option_map client_of (client_row keyword arguments)) else None
+block_line_of zone _ = None

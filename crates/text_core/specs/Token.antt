@@ -4,7 +4,7 @@ use Rattle.std.specs.List.{position_or_len, slice_split}
 use Rattle.std.specs.Str.{all_ascii_digits}
 use Rattle.std.specs.Str.Parse.{digits_value}
 use Rattle.text_core.specs.declared.token.Token.{Token}
-use Rattle.text_core.specs.declared.token.Token.TheVariants.{Number, Zone, Map, MapAt, Store, Load, Info, Unmovable, Scan, Take, Copy, Finish, Shut, Look, Share, Unmap, Pin, Unpin, Huge, Give, Fill, Thin, Mark, Unmark, Compact, Pool, Other}
+use Rattle.text_core.specs.declared.token.Token.TheVariants.{Number, Zone, Map, MapAt, Store, Load, Info, Unmovable, Scan, Take, Copy, Finish, Shut, Look, Share, Unmap, Pin, Unpin, Huge, Give, Fill, Thin, Mark, Unmark, Compact, Pool, Other, During, End}
 
 -- a lexeme is what stands between spaces, and not empty
 abbrev pub lexemes : List ℕ → List (List ℕ)
@@ -55,6 +55,8 @@ keyword_of lexeme =
     else if bytes_eq lexeme (codes "unmark") then Unmark
     else if bytes_eq lexeme (codes "compact") then Compact
     else if bytes_eq lexeme (codes "pool") then Pool
+    else if bytes_eq lexeme (codes "during") then During
+    else if bytes_eq lexeme (codes "end") then End
     else Other
 
 -- a number, or else a keyword or nothing of the language

@@ -1,3 +1,6 @@
+ghost use Rattle.std.specs.Prelude.{◌≡◌};
+ghost use Rattle.text_core.specs.Grammar.{as_client};
+
 use crate::blocks::BlockCount;
 use crate::pages::PageCount;
 use crate::pool::PoolBlocks;
@@ -25,6 +28,10 @@ pub enum Command {
         zone: ZoneNo,
         count: BlockCount,
         blocks: PoolBlocks,
+    },
+    /// A round with the calls of a client beside it. The zone may be told by any number.
+    During {
+        zone: u64,
     },
     /// The script is read by profile 2.
     Profile2,
@@ -104,4 +111,78 @@ pub enum Call {
     },
     Mark(BlockNo),
     Unmark(BlockNo),
+}
+
+impl Call {
+    /// The call as that of a client, if it is one of a client.
+    pub(crate) fn as_client(self) -> Option<ClientCall>
+        ensures { result ≡ as_client self }
+    {
+        Some(match self {
+            Call::Map { address, unmovable } => ClientCall::Map { address, unmovable },
+            Call::MapAt {
+                address,
+                frame,
+                unmovable,
+            } => ClientCall::MapAt {
+                address,
+                frame,
+                unmovable,
+            },
+            Call::Store {
+                address,
+                word,
+                value,
+            } => ClientCall::Store {
+                address,
+                word,
+                value,
+            },
+            Call::Load { address, word } => ClientCall::Load { address, word },
+            Call::Share { address, alias } => ClientCall::Share { address, alias },
+            Call::Unmap(address) => ClientCall::Unmap(address),
+            Call::Pin(address) => ClientCall::Pin(address),
+            Call::Unpin(address) => ClientCall::Unpin(address),
+            _ => return None,
+        })
+    }
+}
+
+/// A call that a client makes beside a round.
+#[derive(Clone, Copy, Debug, PartialEq, Eq)]
+pub enum ClientCall {
+    Map {
+        address: Address,
+        unmovable: bool,
+    },
+    MapAt {
+        address: Address,
+        frame: FrameNo,
+        unmovable: bool,
+    },
+    Store {
+        address: Address,
+        word: WordNo,
+        value: u64,
+    },
+    Load {
+        address: Address,
+        word: WordNo,
+    },
+    Share {
+        address: Address,
+        alias: Address,
+    },
+    Unmap(Address),
+    Pin(Address),
+    Unpin(Address),
+}
+
+/// What a line of a block says.
+#[derive(Clone, Copy, Debug, PartialEq, Eq)]
+pub enum BlockLine {
+    /// A call of the client; None where an argument is out of its range.
+    Client(Option<ClientCall>),
+    /// The block's end.
+    End,
 }

@@ -1,25 +1,63 @@
 //! The rows of the language, as `specs/Grammar.antt` has them. That an argument is in its range is tested here, by its type.
 
-ghost use Rattle.std.specs.Prelude.{◌≡◌};
+ghost use Rattle.std.specs.Prelude.{◌≡◌, option_map};
 ghost use Rattle.text_core.specs.Token.{tokens};
-ghost use Rattle.text_core.specs.Grammar.{address_of, blocks_of, command_of, compacting, frame_of, give_order_call, order_of, row_in, row_of_profile_2, own_row, hand_of, load_call, map_at_call, map_call, call_on, calls_on, opening, page_count_of, pageblock_of, pooling, row_of, series_of, series_on, share_call, space_of, store_call, word_of, zone_of};
+ghost use Rattle.text_core.specs.Grammar.{client_of, client_row, address_of, blocks_of, command_of, compacting, frame_of, give_order_call, order_of, row_in, row_of_profile_2, own_row, hand_of, load_call, map_at_call, map_call, call_on, calls_on, opening, page_count_of, pageblock_of, pooling, row_of, series_of, series_on, share_call, space_of, store_call, word_of, zone_of, block_line_of, during_row};
 
 use crate::arguments::{four, one, three, three_and_flag, two, two_and_flag};
 use crate::blocks::BlockCount;
-use crate::command::{Call, Calls, Command, Repeated, Series};
+use crate::command::{BlockLine, Call, Calls, ClientCall, Command, Repeated, Series};
 use crate::pages::PageCount;
 use crate::pool::PoolBlocks;
 use crate::profile::Profile;
 use crate::token::{Token, first_number, first_token, is_end};
 use frame_core::{Address, BlockNo, FrameNo, HandNo, Order, SpaceNo, VPage, WordNo, ZoneNo};
 
-/// The command that a text is, if it is one.
+/// The command that a text is, or begins, if it does.
 pub(crate) fn command(profile: Profile, text: &[u8]) -> Option<Command>
     ensures { result ≡ command_of profile (tokens text.now) }
 {
     let (keyword, behind) = first_token(text)?;
     let (number, arguments) = first_number(behind)?;
-    row_in(profile, keyword, number, arguments)
+    match row_in(profile, keyword, number, arguments) {
+        Some(command) => Some(command),
+        None => during(keyword, number, arguments),
+    }
+}
+
+/// `during Z`, where Z is any number.
+fn during(keyword: Token, zone: u64, arguments: &[u8]) -> Option<Command>
+    ensures { result ≡ during_row keyword zone (tokens arguments.now) }
+{
+    match keyword {
+        Token::During if is_end(arguments) => Some(Command::During { zone }),
+        _ => None,
+    }
+}
+
+/// What a text says in a block for the zone with this number, if it says something there.
+pub(crate) fn block_line(zone: u64, text: &[u8]) -> Option<BlockLine>
+    ensures { result ≡ block_line_of zone (tokens text.now) }
+{
+    let (keyword, behind) = first_token(text)?;
+    if matches!(keyword, Token::End) && is_end(behind) {
+        return Some(BlockLine::End);
+    }
+    let (number, arguments) = first_number(behind)?;
+    if number == zone {
+        client_row(keyword, arguments)
+            .map(client_of)
+            .map(BlockLine::Client)
+    } else {
+        None
+    }
+}
+
+/// A call as that of a client, where it is one of a client.
+fn client_of(call: Option<Call>) -> Option<ClientCall>
+    ensures { result ≡ client_of call }
+{
+    call?.as_client()
 }
 
 /// What a keyword, the number of a zone and the arguments behind it make, if there is such a row in a profile.
@@ -99,36 +137,83 @@ fn row(keyword: Token, zone: Option<ZoneNo>, arguments: &[u8]) -> Option<Command
     }
 }
 
+/// A call on a zone, by a row that there is.
+#[inline(always)]
+fn on_row(zone: Option<ZoneNo>, row: Option<Option<Call>>) -> Option<Command>
+    ensures { result ≡ option_map (λ c. call_on zone c) row }
+{
+    Some(on(zone, row?))
+}
+
+/// The call that a keyword of a client and the arguments behind its zone make, if there is such a row.
+#[inline(always)]
+fn client_row(keyword: Token, arguments: &[u8]) -> Option<Option<Call>>
+    ensures { result ≡ client_row keyword (tokens arguments.now) }
+{
+    use Token::{Load, Map, MapAt, Pin, Share, Store, Unmap, Unpin};
+    match keyword {
+        Map => {
+            let (s, v, unmovable) = two_and_flag(arguments)?;
+            Some(map(address(s, v), unmovable))
+        }
+        MapAt => {
+            let (s, v, f, unmovable) = three_and_flag(arguments)?;
+            Some(map_at(address(s, v), frame(f), unmovable))
+        }
+        Store => {
+            let (s, v, w, x) = four(arguments)?;
+            Some(store(address(s, v), word(w), x))
+        }
+        Load => {
+            let (s, v, w) = three(arguments)?;
+            Some(load(address(s, v), word(w)))
+        }
+        Share => {
+            let (s, v, s2, v2) = four(arguments)?;
+            Some(share(address(s, v), address(s2, v2)))
+        }
+        Unmap => {
+            let (s, v) = two(arguments)?;
+            Some(address(s, v).map(Call::Unmap))
+        }
+        Pin => {
+            let (s, v) = two(arguments)?;
+            Some(address(s, v).map(Call::Pin))
+        }
+        Unpin => {
+            let (s, v) = two(arguments)?;
+            Some(address(s, v).map(Call::Unpin))
+        }
+        _ => None,
+    }
+}
+
 /// `map Z S V`, with or without `unmovable`.
 fn map_row(zone: Option<ZoneNo>, arguments: &[u8]) -> Option<Command>
     ensures { result ≡ row_of Token.Map zone (tokens arguments.now) }
 {
-    let (s, v, unmovable) = two_and_flag(arguments)?;
-    Some(on(zone, map(address(s, v), unmovable)))
+    on_row(zone, client_row(Token::Map, arguments))
 }
 
 /// `mapat Z S V F`, with or without `unmovable`.
 fn map_at_row(zone: Option<ZoneNo>, arguments: &[u8]) -> Option<Command>
     ensures { result ≡ row_of Token.MapAt zone (tokens arguments.now) }
 {
-    let (s, v, f, unmovable) = three_and_flag(arguments)?;
-    Some(on(zone, map_at(address(s, v), frame(f), unmovable)))
+    on_row(zone, client_row(Token::MapAt, arguments))
 }
 
 /// `store Z S V W X`.
 fn store_row(zone: Option<ZoneNo>, arguments: &[u8]) -> Option<Command>
     ensures { result ≡ row_of Token.Store zone (tokens arguments.now) }
 {
-    let (s, v, w, x) = four(arguments)?;
-    Some(on(zone, store(address(s, v), word(w), x)))
+    on_row(zone, client_row(Token::Store, arguments))
 }
 
 /// `load Z S V W`.
 fn load_row(zone: Option<ZoneNo>, arguments: &[u8]) -> Option<Command>
     ensures { result ≡ row_of Token.Load zone (tokens arguments.now) }
 {
-    let (s, v, w) = three(arguments)?;
-    Some(on(zone, load(address(s, v), word(w))))
+    on_row(zone, client_row(Token::Load, arguments))
 }
 
 /// `look Z S V`.
@@ -143,32 +228,28 @@ fn look_row(zone: Option<ZoneNo>, arguments: &[u8]) -> Option<Command>
 fn share_row(zone: Option<ZoneNo>, arguments: &[u8]) -> Option<Command>
     ensures { result ≡ row_of Token.Share zone (tokens arguments.now) }
 {
-    let (s, v, s2, v2) = four(arguments)?;
-    Some(on(zone, share(address(s, v), address(s2, v2))))
+    on_row(zone, client_row(Token::Share, arguments))
 }
 
 /// `unmap Z S V`.
 fn unmap_row(zone: Option<ZoneNo>, arguments: &[u8]) -> Option<Command>
     ensures { result ≡ row_of Token.Unmap zone (tokens arguments.now) }
 {
-    let (s, v) = two(arguments)?;
-    Some(on(zone, address(s, v).map(Call::Unmap)))
+    on_row(zone, client_row(Token::Unmap, arguments))
 }
 
 /// `pin Z S V`.
 fn pin_row(zone: Option<ZoneNo>, arguments: &[u8]) -> Option<Command>
     ensures { result ≡ row_of Token.Pin zone (tokens arguments.now) }
 {
-    let (s, v) = two(arguments)?;
-    Some(on(zone, address(s, v).map(Call::Pin)))
+    on_row(zone, client_row(Token::Pin, arguments))
 }
 
 /// `unpin Z S V`.
 fn unpin_row(zone: Option<ZoneNo>, arguments: &[u8]) -> Option<Command>
     ensures { result ≡ row_of Token.Unpin zone (tokens arguments.now) }
 {
-    let (s, v) = two(arguments)?;
-    Some(on(zone, address(s, v).map(Call::Unpin)))
+    on_row(zone, client_row(Token::Unpin, arguments))
 }
 
 /// `fill Z S V N`.
@@ -325,7 +406,8 @@ fn series(
     })
 }
 
-fn zone(number: u64) -> Option<ZoneNo>
+/// The zone with this number, if it is one.
+pub fn zone(number: u64) -> Option<ZoneNo>
     ensures { result ≡ zone_of number }
 {
     ZoneNo::new(u32::try_from(number).ok()?)

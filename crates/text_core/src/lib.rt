@@ -1,7 +1,7 @@
 //! The text of scripts: lines become commands, and replies become lines.
 //!
-//! `specs/Grammar.antt` has a row for each command, `specs/Line.antt` says what a line means, and `specs/Reply.antt` how a
-//! reply reads.
+//! `specs/Grammar.antt` has a row for each command, `specs/Line.antt` says what a line means, by itself and in a block, and
+//! `specs/Reply.antt` how a reply reads.
 #![tactic(auto)]
 
 mod arguments;
@@ -19,9 +19,10 @@ mod tests;
 mod token;
 
 pub use blocks::BlockCount;
-pub use command::{Call, Calls, Command, Repeated, Series};
+pub use command::{BlockLine, Call, Calls, ClientCall, Command, Repeated, Series};
 pub use error::ScriptError;
-pub use line::read_line;
+pub use grammar::zone as zone_of;
+pub use line::{read_block_line, read_line};
 pub use pages::PageCount;
 pub use pool::{PoolBlocks, PoolStopped};
 pub use profile::Profile;

@@ -1,9 +1,9 @@
-ghost use Rattle.std.specs.Prelude.{◌≡◌};
+ghost use Rattle.std.specs.Prelude.{◌≡◌, length, nat_lt};
 ghost use Rattle.text_core.specs.Token.{lexemes};
-ghost use Rattle.text_core.specs.Line.{command_in, line_of};
+ghost use Rattle.text_core.specs.Line.{command_in, line_of, line_within};
 ghost use Rattle.text_core.specs.Profile.{is_profile_2};
 
-use crate::command::Command;
+use crate::command::{BlockLine, Command};
 use crate::error::ScriptError;
 use crate::grammar;
 use crate::profile::Profile;
@@ -36,15 +36,37 @@ fn command(profile: Profile, text: &[u8]) -> Option<Command>
     grammar::command(profile, text)
 }
 
-/// The command of a line that is read by this profile; None where the line is empty or a comment.
+/// Whether a line has more bytes than a line may have.
+fn is_long(line: &[u8]) -> bool
+    ensures { result ≡ nat_lt 200 (length line.now) }
+{
+    line.len() > 200
+}
+
+/// The command that a line is, or begins, where it is read by this profile; None where the line is empty or a comment.
 pub fn read_line(profile: Profile, line: &[u8]) -> Result<Option<Command>, ScriptError>
     ensures { result ≡ line_of profile line.now }
 {
-    if line.len() > 200 {
+    if is_long(line) {
         return Err(ScriptError::LongLine);
     }
     match without_spaces(line) {
         [] | [b'#', ..] => Ok(None),
         text => command(profile, text).map(Some).ok_or(ScriptError::Syntax),
+    }
+}
+
+/// What a line says in a block for the zone with this number; None where the line is empty or a comment.
+pub fn read_block_line(zone: u64, line: &[u8]) -> Result<Option<BlockLine>, ScriptError>
+    ensures { result ≡ line_within zone line.now }
+{
+    if is_long(line) {
+        return Err(ScriptError::LongLine);
+    }
+    match without_spaces(line) {
+        [] | [b'#', ..] => Ok(None),
+        text => grammar::block_line(zone, text)
+            .map(Some)
+            .ok_or(ScriptError::Syntax),
     }
 }

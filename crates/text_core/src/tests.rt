@@ -1,6 +1,6 @@
 use crate::{
-    BlockCount, Call, Calls, Command, PageCount, PoolBlocks, PoolStopped, Profile, Repeated, Reply,
-    ScriptError, Series, Stopped, read_line, reply_text,
+    BlockCount, BlockLine, Call, Calls, ClientCall, Command, PageCount, PoolBlocks, PoolStopped,
+    Profile, Repeated, Reply, ScriptError, Series, Stopped, read_block_line, read_line, reply_text,
 };
 use arrayvec::ArrayVec;
 use frame_core::{
@@ -276,7 +276,7 @@ fn is_told_its_profile_once(rt: HostRuntime) {
 fn reads_lines(rt: HostRuntime) {
     let zone = ZoneNo::new(3).unwrap();
     let blocks = BlockCount::new(8).unwrap();
-    let rows: [(&str, &[u8], Result<Option<Command>, ScriptError>); 17] = [
+    let rows: [(&str, &[u8], Result<Option<Command>, ScriptError>); 21] = [
         ("nothing", b"", Ok(None)),
         ("spaces", b"   ", Ok(None)),
         ("a comment", b"  #zone 0 1", Ok(None)),
@@ -291,6 +291,22 @@ fn reads_lines(rt: HostRuntime) {
             b"compact 3 1",
             Err(ScriptError::Syntax),
         ),
+        (
+            "a block",
+            b"during  3 ",
+            Ok(Some(Command::During { zone: 3 })),
+        ),
+        (
+            "a block whose number is none of a zone",
+            b"during 4",
+            Ok(Some(Command::During { zone: 4 })),
+        ),
+        (
+            "a block with an argument",
+            b"during 3 1",
+            Err(ScriptError::Syntax),
+        ),
+        ("the end of no block", b"end", Err(ScriptError::Syntax)),
         (
             "a number too large",
             b"store 0 1 2 7 18446744073709551616",
@@ -329,6 +345,53 @@ fn reads_lines(rt: HostRuntime) {
     ];
     for (name, line, expected) in rows {
         assert_eq!(rt; read_line(Profile::One, line), expected, "{name}");
+    }
+}
+
+#[test]
+fn reads_lines_of_a_block(rt: HostRuntime) {
+    let address = address();
+    let load = ClientCall::Load {
+        address,
+        word: WordNo::new(7).unwrap(),
+    };
+    let map = ClientCall::Map {
+        address,
+        unmovable: true,
+    };
+    let rows: [(&str, &[u8], Result<Option<BlockLine>, ScriptError>); 13] = [
+        ("nothing", b" ", Ok(None)),
+        ("a comment", b"# end", Ok(None)),
+        ("the end", b" end ", Ok(Some(BlockLine::End))),
+        ("an end with a number", b"end 3", Err(ScriptError::Syntax)),
+        (
+            "a load",
+            b"load 3 1 2 7",
+            Ok(Some(BlockLine::Client(Some(load)))),
+        ),
+        (
+            "a map",
+            b"map 003 1 2 unmovable",
+            Ok(Some(BlockLine::Client(Some(map)))),
+        ),
+        (
+            "a pin",
+            b"pin 3 1 2",
+            Ok(Some(BlockLine::Client(Some(ClientCall::Pin(address))))),
+        ),
+        (
+            "an unmap of a page out of its range",
+            b"unmap 3 1 4096",
+            Ok(Some(BlockLine::Client(None))),
+        ),
+        ("another zone", b"load 2 1 2 7", Err(ScriptError::Syntax)),
+        ("a look", b"look 3 1 2", Err(ScriptError::Syntax)),
+        ("a round", b"compact 3", Err(ScriptError::Syntax)),
+        ("a block", b"during 3", Err(ScriptError::Syntax)),
+        ("201 bytes", &[b'#'; 201], Err(ScriptError::LongLine)),
+    ];
+    for (name, line, expected) in rows {
+        assert_eq!(rt; read_block_line(3, line), expected, "{name}");
     }
 }
 

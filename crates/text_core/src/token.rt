@@ -34,6 +34,8 @@ pub(crate) enum Token {
     Unmark,
     Compact,
     Pool,
+    During,
+    End,
     /// Anything else.
     #[default]
     Other,
@@ -81,6 +83,8 @@ fn keyword(bytes: &[u8]) -> Token
         b"unmark" => Token::Unmark,
         b"compact" => Token::Compact,
         b"pool" => Token::Pool,
+        b"during" => Token::During,
+        b"end" => Token::End,
         _ => Token::Other,
     }
 }

@@ -1,7 +1,7 @@
 use Rattle.std.proofs.Common.{◌≡◌, ℕ, List, [], ◌∷◌, length, get_or, sym, ap, ◌∙◌, refl, arith}
 use Rattle.std.specs.Prelude.{codes}
 use Rattle.text_core.specs.declared.token.Token.{Token}
-use Rattle.text_core.specs.declared.token.Token.TheVariants.{Zone, Store, Load, Info, Scan, Take, Copy, Finish, Shut, Look, Share, Unmap, Unpin, Huge, Give, Fill, Thin, Mark, MapAt, Unmark, Compact, Pool, Unmovable}
+use Rattle.text_core.specs.declared.token.Token.TheVariants.{Zone, Store, Load, Info, Scan, Take, Copy, Finish, Shut, Look, Share, Unmap, Unpin, Huge, Give, Fill, Thin, Mark, MapAt, Unmark, Compact, Pool, Unmovable, During}
 use Rattle.text_core.specs.Token.{keyword_of}
 use Rattle.text_core.proofs.token.keyword.Goals as goal
 
@@ -93,6 +93,9 @@ returns-in-compact c = by_word c.args.bytes.now (codes "compact") Compact (seven
 
 pub returns-in-pool : goal.returns-in-pool
 returns-in-pool c = by_word c.args.bytes.now (codes "pool") Pool (four c.args.bytes.now (omega arith) ∙ cc) refl
+
+pub returns-in-during : goal.returns-in-during
+returns-in-during c = by_word c.args.bytes.now (codes "during") During (six c.args.bytes.now (omega arith) ∙ cc) refl
 
 pub returns-in-unmovable : goal.returns-in-unmovable
 returns-in-unmovable c = by_word c.args.bytes.now (codes "unmovable") Unmovable (nine c.args.bytes.now (omega arith) ∙ cc) refl

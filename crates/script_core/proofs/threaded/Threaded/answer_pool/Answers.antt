@@ -8,8 +8,9 @@ use Rattle.script_core.proofs.threaded.Threaded.answer_pool.Goals as goal
 pub returns : goal.returns
 returns g c =
     let given = c.in-Some.ensures.given in
-    threaded_step c.args.self.now (Pool c.args.zone c.args.count c.args.blocks) c.run_pool.result c.run_pool.new.self c.in-Some.world _
+    threaded_step c.args.self.now (Pool c.args.zone c.args.count c.args.blocks) c.run_pool.result c.run_pool.new.self c.in-Some.world _ _
     (ap (λ (t : Threaded). t.serial.world) (sym c.self.view_is) ∙ given.0)
     given.1
     (ap (λ (s : Serial). s.places) c.in-Some.ensures.left ∙ ap (λ (t : Threaded). t.serial.places) c.self.view_is)
+    (ap (λ (t : Threaded). t.client) c.self.view_is)
     c.run_pool.ensures

@@ -1,7 +1,7 @@
-use Rattle.std.proofs.Common.{rules, ◌∙◌, sym}
+use Rattle.std.proofs.Common.{rules, ◌∙◌, inl, sym}
 use Rattle.std.proofs.lemmas.Result.{IfOk-weaker, MatchResult-weaker}
 use Rattle.script_core.proofs.Rounds.{broken_step, whole_step}
-use Rattle.script_core.proofs.threaded.Threaded.respond.Goals as goal
+use Rattle.script_core.proofs.threaded.Threaded.reply_to.Goals as goal
 
 pub returns-in-Some-clause-ok : goal.returns-in-Some-clause-ok
 returns-in-Some-clause-ok g c =
@@ -15,4 +15,4 @@ returns-in-None-clause-ok g c =
 
 pub returns-in-None-clause-memory : goal.returns-in-None-clause-memory
 returns-in-None-clause-memory g c =
-    MatchResult-weaker c.answer.result c.answer.ensures.memory (λ _ u. u) (λ _ asks. (sym c.broken_zone.ensures ∙ c.in-None.is, asks))
+    MatchResult-weaker c.answer.result c.answer.ensures.memory (λ _ u. u) (λ _ asks. (sym c.broken_zone.ensures ∙ c.in-None.is, inl asks))

@@ -1,0 +1,24 @@
+-- The answers to a client's lines, from one line to the next.
+use Rattle.std.proofs.Common.{◌≡◌, suc, List, [], ◌∷◌, ◌++◌, length, refl, ap, subst}
+use Rattle.client_core.specs.Receipts.{Client}
+use Rattle.script_core.specs.Clients.{AreClientAnswers, IsClientReply}
+use Rattle.script_core.specs.Script.{Answer, ClientLine}
+
+-- one more line
+pub client_answers_more : (old mid new : Client) (clients : List ClientLine) (answers : List Answer) (c : ClientLine) (a : Answer)
+    → AreClientAnswers old clients answers mid → a.line ≡ c.line → IsClientReply mid c.call a.reply new
+    → AreClientAnswers old (clients ++ c ∷ []) (answers ++ a ∷ []) new
+client_answers_more old mid new [] [] c a told at here =
+    let R : Client → Type 0 = λ s. IsClientReply s c.call a.reply new in
+    (new, at, subst R told here, refl)
+client_answers_more old mid new [] (b ∷ answers) c a told at here = absurd told
+client_answers_more old mid new (d ∷ clients) [] c a told at here = absurd told
+client_answers_more old mid new (d ∷ clients) (b ∷ answers) c a told at here =
+    (told.0, told.1, told.2, client_answers_more told.0 mid new clients answers c a told.3 at here)
+
+-- there is one to each
+pub length-client_answers : (old new : Client) (clients : List ClientLine) (answers : List Answer) → AreClientAnswers old clients answers new → length answers ≡ length clients
+length-client_answers old new [] [] told = refl
+length-client_answers old new [] (a ∷ answers) told = absurd told
+length-client_answers old new (c ∷ clients) [] told = absurd told
+length-client_answers old new (c ∷ clients) (a ∷ answers) told = ap suc (length-client_answers told.0 new clients answers told.3)

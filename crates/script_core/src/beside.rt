@@ -1,0 +1,309 @@
+//! A round with the calls of a client beside it.
+
+ghost use Rattle.std.specs.Prelude.{◌≡◌, ◌≤◌, [], IfOk, IfSome, IfNone, vec_len, vec_capacity};
+ghost use Rattle.round_core.specs.Kept.{IsKept};
+ghost use Rattle.round_core.specs.Rounds.{IsRefusedEarly, IsRound};
+ghost use Rattle.zone_core.specs.Shape.{HasShape};
+ghost use Rattle.script_core.specs.Clients.{AreClientAnswers, IsClientReply, IsMade};
+
+use crate::answer::Answer;
+use crate::block::ClientLine;
+use crate::machine::flags;
+use crate::options::Options;
+use client_core::{Client, ClientError};
+use round_core::{NoGate, Round, RoundError, Shape, SharedZone, compact};
+use std::alloc::Global;
+use std::marker::Brand;
+use std::snapshot::Snapshot;
+use std::sync::Wait;
+use std::sync::ledger::Ledger;
+use std::thread;
+use std::thread::{Promise, PromisedHandle, Scope, Threads};
+use text_core::{ClientCall, Reply};
+use zone_core::{Seats, Zone};
+
+/// A client with the lines that it plays, and the place for their answers.
+#[derive(Drop)]
+pub(crate) struct Turn {
+    pub(crate) client: Client,
+    pub(crate) lines: Vec<ClientLine>,
+    pub(crate) answers: Vec<Answer>,
+}
+
+/// What a client came to, and the round beside it.
+#[derive(Drop)]
+pub(crate) struct Both {
+    pub(crate) client: Client,
+    pub(crate) answers: Vec<Answer>,
+    pub(crate) round: Result<Round, RoundError>,
+}
+
+/// Shares a zone for one round and one client beside it, and hands it back. None where the client's thread can't be started: then
+/// nothing ran.
+pub(crate) fn compact_beside<
+    I: Ledger + Send + Sync,
+    N: Ledger,
+    M: Ledger + Send + Sync,
+    B: Ledger + Send + Sync,
+    R: Threads + Wait + Sync,
+>(
+    rt: &R,
+    alloc: Global,
+    zone: Zone<I, M, B>,
+    seats: &mut Seats<I, N, M, B>,
+    options: Options,
+    turn: Turn,
+) -> (Zone<I, M, B>, Option<Both>)
+    requires room { (turn.answers.items ≡ []) × (vec_len turn.lines ≤ vec_capacity turn.answers) }
+    ensures kept { IsKept result.0 }
+    ensures shape { HasShape zone.number zone.blocks result.0 }
+    ensures played { IfSome result.1 (λ both. AreClientAnswers turn.client turn.lines.items both.answers.items both.client) }
+    ensures round { IfSome result.1 (λ both. IfOk both.round (λ r. IsRound seats.old.scan seats.new.scan seats.old.ends seats.new.ends r)) }
+    ensures early { IfSome result.1 (λ both. IsRefusedEarly seats.old.scan seats.new.scan seats.old.ends seats.new.ends both.round) }
+    ensures none { IfNone result.1 ((seats.new.scan ≡ seats.old.scan) × (seats.new.ends ≡ seats.old.ends)) }
+{
+    compact_shared::<Brand, I, N, M, B, R>(rt, alloc, zone, seats, options, turn)
+}
+
+/// The same, of the shape that the type names.
+fn compact_shared<
+    K: Shape + Send + Sync,
+    I: Ledger + Send + Sync,
+    N: Ledger,
+    M: Ledger + Send + Sync,
+    B: Ledger + Send + Sync,
+    R: Threads + Wait + Sync,
+>(
+    rt: &R,
+    alloc: Global,
+    zone: Zone<I, M, B>,
+    seats: &mut Seats<I, N, M, B>,
+    options: Options,
+    turn: Turn,
+) -> (Zone<I, M, B>, Option<Both>)
+    requires shape { HasShape K.number K.blocks zone }
+    requires room { (turn.answers.items ≡ []) × (vec_len turn.lines ≤ vec_capacity turn.answers) }
+    ensures kept { IsKept result.0 }
+    ensures shape { HasShape K.number K.blocks result.0 }
+    ensures played { IfSome result.1 (λ both. AreClientAnswers turn.client turn.lines.items both.answers.items both.client) }
+    ensures round { IfSome result.1 (λ both. IfOk both.round (λ r. IsRound seats.old.scan seats.new.scan seats.old.ends seats.new.ends r)) }
+    ensures early { IfSome result.1 (λ both. IsRefusedEarly seats.old.scan seats.new.scan seats.old.ends seats.new.ends both.round) }
+    ensures none { IfNone result.1 ((seats.new.scan ≡ seats.old.scan) × (seats.new.ends ≡ seats.old.ends)) }
+{
+    let shared = SharedZone::<K, I, M, B>::new(zone);
+    let both = in_scope(rt, alloc, &shared, seats, options, turn);
+    (shared.into_zone(), both)
+}
+
+/// Runs both in a scope of their own.
+fn in_scope<
+    K: Shape + Send + Sync,
+    I: Ledger + Send + Sync,
+    N: Ledger,
+    M: Ledger + Send + Sync,
+    B: Ledger + Send + Sync,
+    R: Threads + Wait + Sync,
+>(
+    rt: &R,
+    alloc: Global,
+    shared: &SharedZone<K, I, M, B>,
+    seats: &mut Seats<I, N, M, B>,
+    options: Options,
+    turn: Turn,
+) -> Option<Both>
+    requires room { (turn.answers.items ≡ []) × (vec_len turn.lines ≤ vec_capacity turn.answers) }
+    ensures played { IfSome result (λ both. AreClientAnswers turn.client turn.lines.items both.answers.items both.client) }
+    ensures round { IfSome result (λ both. IfOk both.round (λ r. IsRound seats.old.scan seats.new.scan seats.old.ends seats.new.ends r)) }
+    ensures early { IfSome result (λ both. IsRefusedEarly seats.old.scan seats.new.scan seats.old.ends seats.new.ends both.round) }
+    ensures none { IfNone result ((seats.new.scan ≡ seats.old.scan) × (seats.new.ends ≡ seats.old.ends)) }
+{
+    let lent = &mut *seats;
+    let (lent, both) = thread::scope(
+        thread::scope_env(),
+        rt,
+        move |scope| -> (&mut Seats<I, N, M, B>, Option<Both>)
+            requires room { (turn.answers.items ≡ []) × (vec_len turn.lines ≤ vec_capacity turn.answers) }
+            ensures played { IfSome result.1 (λ both. AreClientAnswers turn.client turn.lines.items both.answers.items both.client) }
+            ensures round { IfSome result.1 (λ both. IfOk both.round (λ r. IsRound lent.entry.now.scan result.0.now.scan lent.entry.now.ends result.0.now.ends r)) }
+            ensures early { IfSome result.1 (λ both. IsRefusedEarly lent.entry.now.scan result.0.now.scan lent.entry.now.ends result.0.now.ends both.round) }
+            ensures none { IfNone result.1 ((result.0.now.scan ≡ lent.entry.now.scan) × (result.0.now.ends ≡ lent.entry.now.ends)) }
+            ensures lent { result.0.ghost_name ≡ lent.entry.ghost_name }
+        {
+            let both = run_both(scope, rt, alloc, shared, lent, options, turn);
+            (lent, both)
+        },
+    );
+    let _ = lent;
+    both
+}
+
+/// Runs a round on this thread and those that it starts, and the client on one more.
+fn run_both<
+    's,
+    'e,
+    K: Shape + Send + Sync,
+    I: Ledger + Send + Sync,
+    N: Ledger,
+    M: Ledger + Send + Sync,
+    B: Ledger + Send + Sync,
+    R: Threads + Wait + Sync,
+>(
+    scope: &'s Scope<'s, &'e ()>,
+    rt: &'e R,
+    alloc: Global,
+    shared: &'e SharedZone<K, I, M, B>,
+    seats: &mut Seats<I, N, M, B>,
+    options: Options,
+    turn: Turn,
+) -> Option<Both>
+    requires room { (turn.answers.items ≡ []) × (vec_len turn.lines ≤ vec_capacity turn.answers) }
+    ensures played { IfSome result (λ both. AreClientAnswers turn.client turn.lines.items both.answers.items both.client) }
+    ensures round { IfSome result (λ both. IfOk both.round (λ r. IsRound seats.old.scan seats.new.scan seats.old.ends seats.new.ends r)) }
+    ensures early { IfSome result (λ both. IsRefusedEarly seats.old.scan seats.new.scan seats.old.ends seats.new.ends both.round) }
+    ensures none { IfNone result ((seats.new.scan ≡ seats.old.scan) × (seats.new.ends ≡ seats.old.ends)) }
+{
+    let player = start_client(scope, rt, shared, turn)?;
+    let round = compact(
+        rt,
+        alloc,
+        shared,
+        seats,
+        options.copiers,
+        options.capacity,
+        &NoGate,
+    );
+    let Turn {
+        client,
+        answers,
+        ..
+    } = player.join(rt);
+    Some(Both {
+        client,
+        answers,
+        round,
+    })
+}
+
+/// A client hands back what became of its turn.
+#[derive(Drop)]
+struct Plays {
+    turn: Snapshot<Turn>,
+}
+
+impl Promise<Turn> for Plays {
+    ghost use Rattle.script_core.specs.Clients.{AreClientAnswers};
+
+    ghost kept_by = { λ p r. AreClientAnswers p.turn.value.client p.turn.value.lines.items r.answers.items r.client };
+}
+
+/// Starts a client. Where no thread can be started its turn goes, and it made no call.
+fn start_client<
+    's,
+    'e,
+    K: Shape + Send + Sync,
+    I: Ledger + Send + Sync,
+    M: Ledger + Send + Sync,
+    B: Ledger + Send + Sync,
+    R: Threads + Wait + Sync,
+>(
+    scope: &'s Scope<'s, &'e ()>,
+    rt: &'e R,
+    shared: &'e SharedZone<K, I, M, B>,
+    turn: Turn,
+) -> Option<PromisedHandle<Turn, Plays>>
+    requires room { (turn.answers.items ≡ []) × (vec_len turn.lines ≤ vec_capacity turn.answers) }
+    ensures { IfSome result (λ player. player.promise.turn.value ≡ turn) }
+{
+    let promise = Plays {
+        turn: Snapshot::of(&turn),
+    };
+    let started = scope.spawn_with(
+        promise,
+        move || -> Turn
+            requires room { (turn.answers.items ≡ []) × (vec_len turn.lines ≤ vec_capacity turn.answers) }
+            ensures { AreClientAnswers turn.client turn.lines.items result.answers.items result.client }
+        { play_lines(rt, shared, turn) },
+    );
+    started.ok()
+}
+
+/// Plays the lines of a client, one after the other.
+fn play_lines<K: Shape, I: Ledger, M: Ledger, B: Ledger, R: Wait>(
+    rt: &R,
+    shared: &SharedZone<K, I, M, B>,
+    turn: Turn,
+) -> Turn
+    requires room { (turn.answers.items ≡ []) × (vec_len turn.lines ≤ vec_capacity turn.answers) }
+    ensures { AreClientAnswers turn.client turn.lines.items result.answers.items result.client }
+{
+    let Turn {
+        mut client,
+        lines,
+        mut answers,
+    } = turn;
+    for line in &lines {
+        let reply = reply_to(rt, shared, &mut client, line.call());
+        answers.push_reserved(Answer::new(line.line(), reply));
+    }
+    Turn {
+        client,
+        lines,
+        answers,
+    }
+}
+
+/// The reply to a client's line.
+fn reply_to<K: Shape, I: Ledger, M: Ledger, B: Ledger, R: Wait>(
+    rt: &R,
+    shared: &SharedZone<K, I, M, B>,
+    client: &mut Client,
+    call: Option<ClientCall>,
+) -> Reply
+    ensures { IsClientReply client.old call result client.new }
+{
+    let Some(call) = call else {
+        return Reply::Refused(1);
+    };
+    make(rt, shared, client, call).unwrap_or_else(|error: ClientError| Reply::Refused(
+        error.number(),
+    ))
+}
+
+/// Makes a call of a client.
+fn make<K: Shape, I: Ledger, M: Ledger, B: Ledger, R: Wait>(
+    rt: &R,
+    shared: &SharedZone<K, I, M, B>,
+    client: &mut Client,
+    call: ClientCall,
+) -> Result<Reply, ClientError>
+    ensures { IsMade client.old call result client.new }
+{
+    match call {
+        ClientCall::Map { address, unmovable } => client
+            .map(rt, shared, address, flags(unmovable))
+            .map(|_| Reply::Done),
+        ClientCall::MapAt {
+            address,
+            frame,
+            unmovable,
+        } => client
+            .map_at(rt, shared, address, flags(unmovable), frame)
+            .map(|()| Reply::Done),
+        ClientCall::Store {
+            address,
+            word,
+            value,
+        } => client
+            .store(rt, shared, address, word, value)
+            .map(|()| Reply::Done),
+        ClientCall::Load { address, word } => {
+            client.load(rt, shared, address, word).map(Reply::Value)
+        }
+        ClientCall::Share { address, alias } => client
+            .share(rt, shared, address, alias)
+            .map(|()| Reply::Done),
+        ClientCall::Unmap(address) => client.unmap(rt, shared, address).map(|()| Reply::Done),
+        ClientCall::Pin(address) => client.pin(rt, shared, address).map(|()| Reply::Done),
+        ClientCall::Unpin(address) => client.unpin(rt, shared, address).map(|()| Reply::Done),
+    }
+}

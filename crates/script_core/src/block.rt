@@ -1,0 +1,127 @@
+ghost use Rattle.script_core.specs.Requests.{told};
+ghost use Rattle.std.specs.Prelude.{◌≡◌, ◌+◌, ◌<◌, ◌≤◌, ◌++◌, ◌↔◌, [], ◌∷◌, IsTrue, IfOk, length, vec_len, vec_capacity};
+
+use crate::answer::{Answer, Answers};
+use std::alloc::{AllocError, Global};
+use std::marker::Model;
+use text_core::{ClientCall, Reply};
+
+/// How many client lines a block may have.
+const MOST: usize = 1000;
+
+/// A line of a client: its number, and the call, or None where an argument is out of its range.
+#[derive(Clone, Copy, Debug, PartialEq, Eq)]
+pub(crate) struct ClientLine {
+    line: u64,
+    call: Option<ClientCall>,
+}
+
+impl Model for ClientLine {
+    ghost use Rattle.script_core.specs.Script.{ClientLine as Seen};
+
+    ghost Value = { Seen };
+
+    ghost view = { λ c. record { line = c.line; call = c.call } };
+
+    ghost inverse = { λ c. record { line = c.line; call = c.call } };
+}
+
+impl ClientLine {
+    pub(crate) fn new(line: u64, call: Option<ClientCall>) -> Self
+        ensures { result ≡ record { line = line; call = call } }
+    {
+        ClientLine { line, call }
+    }
+
+    pub(crate) fn line(&self) -> u64
+        ensures { result ≡ self.now.line }
+    {
+        self.line
+    }
+
+    pub(crate) fn call(&self) -> Option<ClientCall>
+        ensures { result ≡ self.now.call }
+    {
+        self.call
+    }
+}
+
+/// A block that has begun: the line of its `during`, the number of its zone and its client lines so far, with the place for as many
+/// client lines as it may have and for their answers.
+#[derive(Drop)]
+pub(crate) struct Block {
+    line: u64,
+    zone: u64,
+    clients: Vec<ClientLine>,
+    answers: Vec<Answer>,
+}
+
+impl Model for Block {
+    ghost use Rattle.std.specs.Prelude.{◌≡◌, ◌≤◌, [], vec_len, vec_capacity};
+    ghost use Rattle.script_core.specs.Script.{Block as Seen};
+
+    ghost Value = { Seen };
+
+    ghost view = { λ b. record { line = b.line; zone = b.zone; clients = b.clients.items } };
+
+    ghost invariant = { λ b. (vec_len b.clients ≤ 1000) × (1000 ≤ vec_capacity b.clients) × (b.answers.items ≡ []) × (1000 ≤ vec_capacity b.answers) };
+}
+
+impl Block {
+    /// A block that begins at this line. It takes all its memory here.
+    pub(crate) fn begin(alloc: Global, line: u64, zone: u64) -> Result<Self, AllocError>
+        ensures { IfOk result (λ block. block ≡ record { line = line; zone = zone; clients = [] }) }
+    {
+        Ok(Block {
+            line,
+            zone,
+            clients: Vec::with_capacity(alloc, MOST)?,
+            answers: Vec::with_capacity(alloc, MOST)?,
+        })
+    }
+
+    pub(crate) fn line(&self) -> u64
+        ensures { result ≡ self.now.line }
+    {
+        self.line
+    }
+
+    /// The number of the zone, which may be none of a zone.
+    pub(crate) fn zone(&self) -> u64
+        ensures { result ≡ self.now.zone }
+    {
+        self.zone
+    }
+
+    /// Whether it has as many client lines as it may have.
+    pub(crate) fn is_full(&self) -> bool
+        ensures full { IsTrue result ↔ (1000 ≤ length self.now.clients) }
+        ensures most { length self.now.clients ≤ 1000 }
+    {
+        MOST <= self.clients.len()
+    }
+
+    /// Takes one more client line.
+    pub(crate) fn push(&mut self, client: ClientLine)
+        requires { length self.old.clients < 1000 }
+        ensures { self.new ≡ record self.old { clients = self.old.clients ++ client ∷ [] } }
+    {
+        self.clients.push_reserved(client);
+    }
+
+    /// One reply in place of all, to the block itself.
+    pub(crate) fn answered(self, reply: Reply) -> Answers
+        ensures { told result ≡ record { line = self.line; reply = reply } ∷ [] }
+    {
+        Answers::One(Answer::new(self.line, reply))
+    }
+
+    /// Its client lines, and the place for as many answers.
+    pub(crate) fn into_parts(self) -> (Vec<ClientLine>, Vec<Answer>)
+        ensures clients { result.0.items ≡ self.clients }
+        ensures answers { (result.1.items ≡ []) × (vec_len result.0 ≤ vec_capacity result.1) }
+        ensures most { vec_len result.0 ≤ 1000 }
+    {
+        (self.clients, self.answers)
+    }
+}
