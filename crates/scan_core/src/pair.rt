@@ -35,7 +35,13 @@ pub fn next_pair(
     ensures low { fingers.new.migrate ≤ fingers.new.free }
     ensures high { fingers.new.free ≤ length frames.now }
 {
-    next_told(frames, FrameSet::of(frames).numbers(), movable, marked, fingers)
+    next_told(
+        frames,
+        FrameSet::of(frames).numbers(),
+        movable,
+        marked,
+        fingers,
+    )
 }
 
 /// The same of frames of which a list tells the pages that they hold, and a set which of them are free.
