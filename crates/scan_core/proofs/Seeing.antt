@@ -1,19 +1,15 @@
 -- The states of frames, as they are kept and as they are.
-use Rattle.std.proofs.Common.{◌≡◌, ◌≢◌, ℕ, zero, suc, ◌+◌, ◌<◌, ◌≤◌, Bool, true, false, not, List, [], ◌∷◌, length, inl, inr, refl, sym, ap, ◌∙◌, arith, eq-eqb, replicate, length-set}
+use Rattle.std.proofs.Common.{◌≡◌, ℕ, zero, suc, ◌+◌, ◌<◌, ◌≤◌, Bool, true, false, not, List, [], ◌∷◌, length, inl, inr, refl, sym, ap, ◌∙◌, arith, eq-eqb, length-set}
 use Rattle.std.specs.Prelude.{Option, Some, None, nat_eq, slice_get, slice_set, if◌then◌else◌, ◌&&◌, ◌||◌}
-use Rattle.std.specs.FinSet as set
-use Rattle.std.specs.Ordering.{nat_cmp}
 use Rattle.std.proofs.lemmas.Bool.{ne_eqb}
-use Rattle.std.proofs.lemmas.Bool.Decides.{eqb_tells, leb_tells}
+use Rattle.std.proofs.lemmas.Bool.Decides.{eqb_tells}
 use Rattle.std.proofs.lemmas.Option.{slice_get_past}
 use Rattle.frame_core.proofs.Lists.{slice_get_set_same, slice_get_set_other}
 use Rattle.frame_core.specs.declared.state.FrameState.{FrameState}
-use Rattle.frame_core.specs.declared.state.FrameState.TheVariants.{Free, Holds, Source, Target, Huge}
-use Rattle.scan_core.specs.Frames.{is_free_state, is_huge_state, is_holding_state, is_stuck_state, free_at, huge_at, holds_at, true_at}
+use Rattle.frame_core.specs.declared.state.FrameState.TheVariants.{Free, Huge}
 use Rattle.scan_core.specs.NumberSet.{in_run}
 use Rattle.scan_core.specs.Runs.{with_run}
-use Rattle.scan_core.specs.Seen.{seen, seen_from}
-use Rattle.scan_core.proofs.Masking.{clash}
+use Rattle.scan_core.specs.Seen.{seen_from}
 use Rattle.scan_core.proofs.Spanning.{same_by, in_run_is, is_in_run}
 
 -- two lists with the same items are one

@@ -1,24 +1,23 @@
 -- The fields of the frames stay sound, step by step.
-use Rattle.std.proofs.Common.{◌≡◌, ◌≢◌, ℕ, ◌+◌, ◌*◌, ◌/◌, ◌^◌, ◌<◌, ◌≤◌, Bool, true, false, not, List, length, length-set, inl, inr, refl, sym, ap, ◌∙◌, subst, eq-eqb, Vec, vec_capacity, replicate, arith}
-use Rattle.std.specs.Prelude.{Option, Some, None, unwrap_or, nat_eq, nat_le, slice_get, slice_set, if◌then◌else◌, ◌&&◌, ◌||◌}
+use Rattle.std.proofs.Common.{◌≡◌, ℕ, ◌+◌, ◌*◌, ◌<◌, ◌≤◌, Bool, true, false, not, List, length, length-set, inl, inr, refl, sym, ap, ◌∙◌, eq-eqb, Vec, vec_capacity, replicate, arith}
+use Rattle.std.specs.Prelude.{Option, Some, None, unwrap_or, nat_eq, slice_get, slice_set, if◌then◌else◌, ◌&&◌, ◌||◌}
 use Rattle.std.specs.FinSet as set
 use Rattle.std.specs.Ordering.{nat_cmp}
 use Rattle.std.specs.declared.alloc.Global.{Global}
-use Rattle.std.proofs.lemmas.Bool.{ne_eqb, leb-true}
+use Rattle.std.proofs.lemmas.Bool.{ne_eqb}
 use Rattle.std.proofs.lemmas.Bool.Decides.{eqb_tells, leb_tells}
 use Rattle.std.proofs.lemmas.List.{length-replicate}
 use Rattle.std.proofs.lemmas.Option.{slice_get_past}
-use Rattle.frame_core.specs.Order.{is_aligned}
 use Rattle.frame_core.specs.declared.state.FrameState.{FrameState}
 use Rattle.frame_core.specs.declared.state.FrameState.TheVariants.{Free, Holds, Source, Target, Huge}
 use Rattle.frame_core.proofs.Lists.{slice_get_set_same, slice_get_set_other, slice_get_replicate}
-use Rattle.scan_core.specs.Frames.{blocks_of, free_at, holds_at, huge_at, true_at, way_at, is_stuck_state, is_free_state, is_holding_state, is_huge_state, is_way_state}
-use Rattle.scan_core.specs.NumberSet.{all_from, in_run}
-use Rattle.scan_core.specs.Runs.{has_block, is_run, with_run}
+use Rattle.scan_core.specs.Frames.{free_at, holds_at, huge_at, true_at, way_at, is_stuck_state, is_free_state, is_holding_state, is_huge_state, is_way_state}
+use Rattle.scan_core.specs.NumberSet.{in_run}
+use Rattle.scan_core.specs.Runs.{with_run}
 use Rattle.scan_core.specs.Seen.{seen}
 use Rattle.scan_core.specs.Sound.{IsSound}
 use Rattle.scan_core.specs.declared.frames.Frames.TheInside.{Inside}
-use Rattle.scan_core.proofs.FrameSets.{all_pass, insert_if, remove_if, keep_if}
+use Rattle.scan_core.proofs.FrameSets.{insert_if, remove_if, keep_if}
 use Rattle.scan_core.proofs.Masking.{clash}
 use Rattle.scan_core.proofs.Numbering.{member_insert, member_remove}
 use Rattle.scan_core.proofs.Seeing.{length_seen, seen_get, seen_put, seen_held, seen_released, seen_none_held, seen_state, with_run_get, skipped, taken}

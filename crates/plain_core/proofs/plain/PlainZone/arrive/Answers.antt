@@ -1,4 +1,4 @@
-use Rattle.std.proofs.Common.{length, ◌≡◌, ◌∙◌, ◌-◌, ◌∷◌, ℕ, List, refl, ap, subst, sym, arith}
+use Rattle.std.proofs.Common.{◌≡◌, ◌∙◌, ◌-◌, ◌∷◌, ℕ, List, refl, ap, subst, sym, arith}
 use Rattle.std.specs.Prelude.{is_some, slice_set}
 use Rattle.frame_core.specs.declared.state.FrameState.TheVariants.{Free, Holds}
 use Rattle.journal_core.specs.declared.record.Record.TheVariants.{Moved}

@@ -1,7 +1,6 @@
-use Rattle.std.proofs.Common.{refl, ◌≡◌, ◌∙◌, ◌<◌, length, length-set, ap, sym, arith}
-use Rattle.std.specs.Prelude.{not, slice_get, slice_set, true}
+use Rattle.std.proofs.Common.{refl, ◌∙◌, ap, arith}
 use Rattle.std.specs.Vec.{with_item}
-use Rattle.scan_core.specs.Frames.{Frames, free_at, holds_at, way_at, true_at, is_free_state, is_holding_state, is_way_state}
+use Rattle.scan_core.specs.Frames.{Frames, holds_at, is_holding_state}
 use Rattle.scan_core.proofs.Steps.{known_within, sound_said}
 use Rattle.scan_core.proofs.frames.Frames.set_movable.Goals as goal
 

@@ -1,8 +1,8 @@
-use Rattle.std.proofs.Common.{refl, ◌≡◌, ◌∙◌, ◌<◌, length, length-set, ap, sym, arith}
-use Rattle.std.specs.Prelude.{not, slice_get, slice_set, true}
+use Rattle.std.proofs.Common.{refl, ◌∙◌, length, length-set, ap, arith}
+use Rattle.std.specs.Prelude.{slice_set}
 use Rattle.std.specs.Vec.{with_item}
 use Rattle.frame_core.specs.declared.state.FrameState.TheVariants.{Holds}
-use Rattle.scan_core.specs.Frames.{Frames, free_at, holds_at, way_at, true_at, is_free_state, is_holding_state, is_way_state}
+use Rattle.scan_core.specs.Frames.{Frames, way_at, is_way_state}
 use Rattle.scan_core.proofs.Steps.{known_within, way_isnt_stuck, sound_settled}
 use Rattle.scan_core.proofs.frames.Frames.settle.Goals as goal
 
