@@ -2,26 +2,27 @@
 use Rattle.std.proofs.Common.{◌≡◌, ◌≢◌, ℕ, ◌<◌, Bool, true, false, List, length, ◌⊎◌, inl, inr, refl, sym, ap, ◌∙◌, arith}
 use Rattle.std.specs.FinMap as map
 use Rattle.std.specs.Prelude.{Some, None, slice_get, slice_set, nat_eq, ◌||◌, if◌then◌else◌}
-use Rattle.std.proofs.lemmas.Bool.{eq-eqb}
+use Rattle.std.proofs.lemmas.Bool.{eq-eqb, ne_eqb}
 use Rattle.std.proofs.lemmas.Bool.Decides.{eqb_tells}
 use Rattle.std.proofs.lemmas.List.{length-set}
 use Rattle.frame_core.proofs.Lists.{slice_get_set_same, slice_get_set_other}
 use Rattle.frame_core.specs.declared.state.FrameState.{FrameState}
-use Rattle.frame_core.specs.declared.state.FrameState.TheVariants.{Free, Holds}
+use Rattle.frame_core.specs.declared.state.FrameState.TheVariants.{Free, Holds, Source, Target}
 use Rattle.journal_core.specs.declared.record.Cause.{Cause}
 use Rattle.journal_core.specs.declared.record.Record.TheVariants.{Moved, Back}
-use Rattle.scan_core.specs.Frames.{Frames}
+use Rattle.scan_core.specs.Frames.{Frames, free_at, is_free_state, is_way_state, way_at}
 use Rattle.word_core.specs.Words.{words_of, with_words}
 use Rattle.journal_core.specs.Moves.{out}
 use Rattle.state_core.specs.declared.placement.Placement.TheVariants.{At, Moving}
-use Rattle.plain_core.specs.Fits.{state_by, WordsFit}
+use Rattle.plain_core.specs.Fits.{state_by, FramesFit, WordsFit}
 use Rattle.state_core.specs.Lawful.{IsLawful}
 use Rattle.state_core.specs.Carrying.{settled}
 use Rattle.state_core.specs.Ending.{IsSettled}
 use Rattle.state_core.specs.ZoneState.{ZoneState, frame_count}
 use Rattle.plain_core.proofs.LoadsAndStores.{words_set_same, words_set_other}
+use Rattle.state_core.proofs.Facts.{chosen}
 use Rattle.state_core.proofs.Placed.{untrue}
-use Rattle.state_core.proofs.Settled.{can_move_on, can_go_back, moved_source, back_target, target_in, out_fewer, at_page, at_other}
+use Rattle.state_core.proofs.Settled.{can_move_on, can_go_back, frames_apart, moved_source, back_target, target_in, out_fewer, at_page, at_other}
 use Rattle.plain_core.proofs.Relocation.{FramesSettled, MovableSettled, WordsSettled}
 
 differs : (g x : ℕ) → nat_eq g x ≡ false → g ≢ x
@@ -117,6 +118,15 @@ module _ (v : ZoneState) (page serial source target : ℕ) (law : IsLawful v) (a
   pub ending_room : 0 < v.room
   ending_room = let left = law.room_left in omega (arith, out_fewer v page serial source target law at)
 
+  -- its two frames
+  pub source_on_way : (frames : List FrameState) → FramesFit frames v → way_at frames source ≡ true
+  source_on_way frames fit = ap is_way_state (fit.of_page page source (Source serial) (ap (λ o. state_by page o source) at ∙ chosen source _ _))
+
+  pub target_on_way : (frames : List FrameState) → FramesFit frames v → way_at frames target ≡ true
+  target_on_way frames fit =
+      let apart = frames_apart v page serial source target law at in
+      ap is_way_state (fit.of_page page target (Target serial) (ap (λ o. state_by page o target) at ∙ ap (λ b. if b then Some (Source serial) else if nat_eq target target then Some (Target serial) else None) (ne_eqb target source (λ e. apart (sym e))) ∙ chosen target _ _))
+
   -- the page afterwards
   pub moved_settled : IsSettled v (settled v (Moved serial) page (At target)) page target source
   moved_settled = record {
@@ -142,8 +152,14 @@ module _ (v : ZoneState) (page serial source target : ℕ) (law : IsLawful v) (a
 pub two_puts : (f a b : Frames) (i j : ℕ) (x y : FrameState) → a ≡ record f { states = slice_set f.states i x } → b ≡ record a { states = slice_set a.states j y } → b ≡ record f { states = slice_set (slice_set f.states i x) j y }
 two_puts f a b i j x y first second = second ∙ ap (λ (fs : Frames). record fs { states = slice_set fs.states j y }) first
 
-pub then_put : (f b c : Frames) (j : ℕ) (y : FrameState) → b ≡ f → c ≡ record b { states = slice_set b.states j y } → c ≡ record f { states = slice_set f.states j y }
-then_put f b c j y before second = second ∙ ap (λ (fs : Frames). record fs { states = slice_set fs.states j y }) before
+-- a page ends its way in one of its frames, and leaves the other
+pub left_settled : (f a b : Frames) (kept left page : ℕ) (can : Bool) → a ≡ record f { states = slice_set f.states left Free } → b ≡ record { states = slice_set a.states kept (Holds page); movable = slice_set a.movable kept can } → b ≡ record { states = slice_set (slice_set f.states left Free) kept (Holds page); movable = slice_set f.movable kept can }
+left_settled f a b kept left page can first second = second ∙ ap (λ (fs : Frames). record { states = slice_set fs.states kept (Holds page); movable = slice_set fs.movable kept can }) first
 
-pub then_noted : (f b c : Frames) (k : ℕ) (can : Bool) → b ≡ f → c ≡ record b { movable = slice_set b.movable k can } → c ≡ record f { movable = slice_set f.movable k can }
-then_noted f b c k can before noted = noted ∙ ap (λ (fs : Frames). record fs { movable = slice_set fs.movable k can }) before
+-- a frame of a page on its way, where the other one was left
+pub still_on_way : (f a : Frames) (kept left : ℕ) → kept ≢ left → a ≡ record f { states = slice_set f.states left Free } → way_at f.states kept ≡ true → way_at a.states kept ≡ true
+still_on_way f a kept left apart now way = ap (λ (fs : Frames). way_at fs.states kept) now ∙ ap is_way_state (slice_get_set_other f.states left kept Free apart) ∙ way
+
+-- a free frame, where another one is used for something else
+pub still_free : (f a : Frames) (frame other : ℕ) (state : FrameState) → frame ≢ other → a ≡ record f { states = slice_set f.states other state } → free_at f.states frame ≡ true → free_at a.states frame ≡ true
+still_free f a frame other state apart now free = ap (λ (fs : Frames). free_at fs.states frame) now ∙ ap is_free_state (slice_get_set_other f.states other frame state apart) ∙ free

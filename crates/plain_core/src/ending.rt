@@ -11,7 +11,7 @@ ghost use Rattle.state_core.specs.ZoneState.{is_quiet};
 ghost use Rattle.state_core.specs.declared.placement.Placement.TheVariants.{Moving};
 
 use crate::plain::PlainZone;
-use frame_core::{FrameNo, FrameState, PageNo, Serial};
+use frame_core::{FrameNo, PageNo, Serial};
 use journal_core::{Cause, Record};
 use state_core::{Audit, Placement};
 use word_core::Page;
@@ -86,9 +86,8 @@ impl PlainZone {
             target,
         } = *way;
         let note = self.notes.get(page);
-        self.frames.put(source, FrameState::Free);
-        self.frames.set_movable(target, note.can_move());
-        self.frames.put(target, FrameState::Holds(page));
+        self.frames.leave(source);
+        self.frames.settle(target, page, note.can_move());
         self.words.write_in(target, copy);
         self.tables.to_present(serial, source, target);
         self.moves.arrive();
@@ -111,9 +110,8 @@ impl PlainZone {
             target,
         } = *way;
         let note = self.notes.get(page);
-        self.frames.put(target, FrameState::Free);
-        self.frames.set_movable(source, note.can_move());
-        self.frames.put(source, FrameState::Holds(page));
+        self.frames.leave(target);
+        self.frames.settle(source, page, note.can_move());
         self.tables.to_present(serial, source, source);
         self.moves.go_back();
         self.notes.place(page, Placement::At(source));

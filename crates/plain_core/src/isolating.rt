@@ -85,8 +85,8 @@ impl PlainZone {
         } = pair;
         let carried = self.carried(page, source);
         let serial = self.moves.isolate(page);
-        self.frames.put(source, FrameState::Source(serial));
-        self.frames.put(target, FrameState::Target(serial));
+        self.frames.to_source(source, serial);
+        self.frames.to_target(target, serial);
         self.tables.to_migration(source, serial);
         let way = Placement::Moving {
             serial,

@@ -8,7 +8,7 @@ ghost use Rattle.state_core.specs.ZoneState.{frame_count, has_room, is_free, low
 
 use crate::note::Note;
 use crate::plain::PlainZone;
-use frame_core::{Address, ClientNo, FrameNo, FrameState, PageNo};
+use frame_core::{Address, ClientNo, FrameNo, PageNo};
 use journal_core::Record;
 use table_core::Entry;
 
@@ -69,8 +69,7 @@ impl PlainZone {
     {
         let named = address;
         let page = self.unused_page();
-        self.frames.set_movable(frame, !unmovable);
-        self.frames.put(frame, FrameState::Holds(page));
+        self.frames.fill(frame, page, !unmovable);
         self.tables.set(named, frame);
         self.words.blank(frame);
         self.notes.put(page, Note::fresh(frame, unmovable));

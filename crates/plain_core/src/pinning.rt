@@ -1,6 +1,7 @@
 //! Pins of pages, also of those on their way.
 
-ghost use Rattle.std.specs.Prelude.{◌≡◌, ◌<◌, ℕ, length, nat_eq, not, ◌&&◌, Some, IsSome, IsTrue};
+ghost use Rattle.std.specs.Prelude.{◌≡◌, ◌<◌, ℕ, true, nat_eq, not, ◌&&◌, Some, IsSome, IsTrue};
+ghost use Rattle.scan_core.specs.Frames.{holds_at};
 ghost use Rattle.journal_core.specs.History.{page_at};
 ghost use Rattle.state_core.specs.Lawful.{IsLawful};
 ghost use Rattle.state_core.specs.Pinning.{pins_at, pinned, unpinned};
@@ -52,7 +53,7 @@ impl PlainZone {
 /// Says at the frame of a page, where it stands in one, whether it may be taken from there.
 #[inline(always)]
 fn say_movable(frames: &mut Frames, note: &Note)
-    requires { (frame : ℕ) → note.now.placement ≡ Some (At frame) → frame < length frames.old.states }
+    requires { (frame : ℕ) → note.now.placement ≡ Some (At frame) → holds_at frames.old.states frame ≡ true }
     ensures { frames.new ≡ record frames.old { movable = movable_by frames.old.movable note.now } }
 {
     if let Some(Placement::At(frame)) = note.placement {

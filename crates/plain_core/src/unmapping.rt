@@ -11,7 +11,7 @@ ghost use Rattle.state_core.specs.declared.placement.Placement.TheVariants.{At};
 
 use crate::note::Note;
 use crate::plain::PlainZone;
-use frame_core::{Address, ClientNo, FrameNo, FrameState, PageNo};
+use frame_core::{Address, ClientNo, FrameNo, PageNo};
 use journal_core::Record;
 
 impl PlainZone {
@@ -58,7 +58,7 @@ impl PlainZone {
     {
         let named = address;
         self.tables.clear(named);
-        self.frames.put(frame, FrameState::Free);
+        self.frames.empty(frame);
         self.notes.put(page, Note::unused());
         self.history.note(Record::Unmap { client, address });
     }

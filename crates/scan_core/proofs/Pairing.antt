@@ -1,13 +1,17 @@
 -- What the scanners find is the pair, and where they find none there is none.
 use Rattle.std.proofs.Common.{◌≡◌, ℕ, ◌<◌, ◌≤◌, Bool, true, false, not, List, inl, inr, refl, sym, ap, ◌∙◌, arith}
 use Rattle.std.specs.Prelude.{Some, None, nat_le, nat_lt, ◌&&◌}
+use Rattle.std.specs.FinSet as set
+use Rattle.std.specs.Ordering.{nat_cmp}
 use Rattle.std.proofs.lemmas.Bool.{ltb-true, leb-true, lt-ltb, le-leb}
 use Rattle.std.proofs.lemmas.Bool.Decides.{leb_tells}
 use Rattle.frame_core.specs.declared.state.FrameState.{FrameState}
+use Rattle.frame_core.specs.Below.{highest, lowest}
 use Rattle.frame_core.proofs.Searches.{lowest_some, lowest_before, no_lowest}
 use Rattle.scan_core.specs.declared.fingers.Fingers.{Fingers}
 use Rattle.scan_core.specs.Frames.{free_at, holds_at, true_at}
 use Rattle.scan_core.specs.Pairs.{IsSource, IsTarget, IsPair, is_marked, is_source, is_target, next_source, next_target}
+use Rattle.scan_core.specs.Seen.{IsTold}
 use Rattle.scan_core.proofs.Bounds.{highest_some, highest_above, no_highest}
 
 both : (a b : Bool) → (a && b) ≡ true → (a ≡ true) × (b ≡ true)
@@ -95,3 +99,18 @@ module _ (states : List FrameState) (movable marked : List Bool) (fingers : Fing
           | inr more ↦ absurd (untrue _ (target_stops source frame is) (highest_above _ fingers.free target frame to more.1 is.high))
         ];
       }
+
+-- the target that was found stands between
+pub target_between : (free : ℕ → Bool) (marked : List Bool) (fingers : Fingers) (source target : ℕ) → highest (λ frame. nat_lt source frame && (not (is_marked marked frame) && free frame)) fingers.free ≡ Some target → (source < target) × (target < fingers.free)
+target_between free marked fingers source target found =
+    let at = highest_some _ fingers.free target found in
+    let parts = both (nat_lt source target) (not (is_marked marked target) && free target) at.1 in
+    (ltb-true source target parts.0, at.0)
+
+-- what a list and a set tell is found where the states have it
+module _ (states holders : List FrameState) (free : set.FinSet nat_cmp) (movable marked : List Bool) (fingers : Fingers) (told : IsTold states holders free) where
+  pub source_told : next_source holders movable marked fingers ≡ next_source states movable marked fingers
+  source_told = ap (λ (h : ℕ → Bool). lowest (λ frame. nat_le fingers.migrate frame && (not (is_marked marked frame) && (h frame && true_at movable frame))) fingers.free) (λ i n. told.holds n i)
+
+  pub target_told : (source : ℕ) → highest (λ frame. nat_lt source frame && (not (is_marked marked frame) && set.contains free frame)) fingers.free ≡ next_target states marked fingers source
+  target_told source = ap (λ (h : ℕ → Bool). highest (λ frame. nat_lt source frame && (not (is_marked marked frame) && h frame)) fingers.free) (λ i n. told.free n i)

@@ -1,16 +1,15 @@
 -- Counts where the numbers of a run begin to pass, or no longer do.
-use Rattle.std.proofs.Common.{◌≡◌, ◌≢◌, ℕ, zero, suc, ◌+◌, ◌-◌, ◌*◌, ◌/◌, ◌%◌, ◌^◌, ◌<◌, ◌≤◌, Bool, true, false, not, List, length, inl, inr, refl, sym, ap, ◌∙◌, slice_index, length-set, eq-eqb, get_or, arith}
-use Rattle.std.specs.Prelude.{Some, nat_eq, nat_lt, slice_get, slice_set, ◌&&◌, ◌||◌}
-use Rattle.std.proofs.lemmas.Bool.{ne_eqb, lt-ltb, ltb-true}
+use Rattle.std.proofs.Common.{◌≡◌, ◌≢◌, ℕ, zero, suc, ◌+◌, ◌-◌, ◌*◌, ◌/◌, ◌%◌, ◌<◌, ◌≤◌, Bool, true, false, List, inl, inr, refl, sym, ap, ◌∙◌, slice_index, length-set, arith}
+use Rattle.std.specs.Prelude.{Some, nat_eq, slice_set, ◌||◌}
+use Rattle.std.proofs.lemmas.Bool.{ne_eqb}
 use Rattle.std.proofs.lemmas.Bool.Decides.{eqb_tells}
 use Rattle.std.proofs.lemmas.Option.{get_or_from_slice_get}
-use Rattle.frame_core.specs.Below.{count_below, count_from, some_below}
+use Rattle.frame_core.specs.Below.{count_below, count_from}
 use Rattle.frame_core.proofs.Lists.{slice_get_set_same, slice_get_set_other}
 use Rattle.frame_core.proofs.Searches.{count_more, count_same, count_from_same, count_from_most}
 use Rattle.scan_core.specs.FrameSet.{Counts, count_in_block}
 use Rattle.scan_core.specs.NumberSet.{capacity, in_run}
 use Rattle.scan_core.proofs.Bounds.{count_most}
-use Rattle.scan_core.proofs.Masking.{clash}
 use Rattle.scan_core.proofs.Numbering.{capacity_is}
 use Rattle.scan_core.proofs.Seeing.{run_next, run_none}
 use Rattle.scan_core.proofs.Spanning.{same_by, in_run_is, is_in_run}

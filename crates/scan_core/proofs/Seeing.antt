@@ -1,20 +1,15 @@
 -- The states of frames, as they are kept and as they are.
-use Rattle.std.proofs.Common.{◌≡◌, ◌≢◌, ℕ, zero, suc, ◌+◌, ◌<◌, ◌≤◌, Bool, true, false, not, List, [], ◌∷◌, length, inl, inr, refl, sym, ap, ◌∙◌, arith, eq-eqb, replicate, length-set}
+use Rattle.std.proofs.Common.{◌≡◌, ℕ, zero, suc, ◌+◌, ◌<◌, ◌≤◌, Bool, true, false, not, List, [], ◌∷◌, length, inl, inr, refl, sym, ap, ◌∙◌, arith, eq-eqb, length-set}
 use Rattle.std.specs.Prelude.{Option, Some, None, nat_eq, slice_get, slice_set, if◌then◌else◌, ◌&&◌, ◌||◌}
-use Rattle.std.specs.FinSet as set
-use Rattle.std.specs.Ordering.{nat_cmp}
 use Rattle.std.proofs.lemmas.Bool.{ne_eqb}
-use Rattle.std.proofs.lemmas.Bool.Decides.{eqb_tells, leb_tells}
+use Rattle.std.proofs.lemmas.Bool.Decides.{eqb_tells}
 use Rattle.std.proofs.lemmas.Option.{slice_get_past}
 use Rattle.frame_core.proofs.Lists.{slice_get_set_same, slice_get_set_other}
 use Rattle.frame_core.specs.declared.state.FrameState.{FrameState}
-use Rattle.frame_core.specs.declared.state.FrameState.TheVariants.{Free, Holds, Source, Target, Huge}
-use Rattle.scan_core.specs.Frames.{is_free_state, is_huge_state, is_holding_state, is_stuck_state, free_at, huge_at, holds_at, true_at}
-use Rattle.scan_core.specs.Pairs.{is_marked, is_source, is_target}
+use Rattle.frame_core.specs.declared.state.FrameState.TheVariants.{Free, Huge}
 use Rattle.scan_core.specs.NumberSet.{in_run}
 use Rattle.scan_core.specs.Runs.{with_run}
-use Rattle.scan_core.specs.Seen.{seen, seen_from, kept_state}
-use Rattle.scan_core.proofs.Masking.{clash}
+use Rattle.scan_core.specs.Seen.{seen_from}
 use Rattle.scan_core.proofs.Spanning.{same_by, in_run_is, is_in_run}
 
 -- two lists with the same items are one
@@ -57,41 +52,20 @@ seen_get h xs i = let e : 0 + i ≡ i = omega arith in seen_get_from h 0 xs i �
 pub seen_none_held : (h : ℕ → Bool) (xs : List FrameState) → ((i : ℕ) → h i ≡ false) → seen_from h 0 xs ≡ xs
 seen_none_held h xs none = same_items (seen_from h 0 xs) xs (λ i. seen_get h xs i ∙ ap (λ b. seen_state b (slice_get xs i)) (none i))
 
-kept_seen : (state : FrameState) → seen_state (is_huge_state (Some state)) (Some (kept_state state)) ≡ Some state
-kept_seen Free = refl
-kept_seen (Holds page) = refl
-kept_seen (Source serial) = refl
-kept_seen (Target serial) = refl
-kept_seen Huge = refl
-
-pub kept_not_huge : (state : FrameState) → is_huge_state (Some (kept_state state)) ≡ false
-kept_not_huge Free = refl
-kept_not_huge (Holds page) = refl
-kept_not_huge (Source serial) = refl
-kept_not_huge (Target serial) = refl
-kept_not_huge Huge = refl
-
-pub kept_of_huge : (state : FrameState) → is_huge_state (Some state) ≡ true → kept_state state ≡ Free
-kept_of_huge Free e = refl
-kept_of_huge (Holds page) e = cc
-kept_of_huge (Source serial) e = cc
-kept_of_huge (Target serial) e = cc
-kept_of_huge Huge e = refl
-
 pub skipped : {A : Type 0} (b : Bool) (x y : A) → b ≡ false → (if b then x else y) ≡ y
 skipped b x y e = ap (λ t. if t then x else y) e
 
 pub taken : {A : Type 0} (b : Bool) (x y : A) → b ≡ true → (if b then x else y) ≡ x
 taken b x y e = ap (λ t. if t then x else y) e
 
--- one frame is used for something else
-pub seen_put : (h new : ℕ → Bool) (kept : List FrameState) (frame : ℕ) (state : FrameState) → frame < length kept → ((n : ℕ) → new n ≡ (if nat_eq n frame then is_huge_state (Some state) else h n)) → seen_from new 0 (slice_set kept frame (kept_state state)) ≡ slice_set (seen_from h 0 kept) frame state
-seen_put h new kept frame state within each =
-    same_items (seen_from new 0 (slice_set kept frame (kept_state state))) (slice_set (seen_from h 0 kept) frame state) (λ i.
-    seen_get new (slice_set kept frame (kept_state state)) i ∙ elim (eqb_tells i frame) [
-      | inl at ↦ ((λ j. seen_state ((each i ∙ taken (nat_eq i frame) (is_huge_state (Some state)) (h i) (eq-eqb i frame at.1)) j) (slice_get_set_same kept frame i (kept_state state) at.1 within j))
-          ∙ kept_seen state ∙ sym (slice_get_set_same (seen_from h 0 kept) frame i state at.1 (omega (arith, length_seen h 0 kept))))
-      | inr away ↦ ((λ j. seen_state ((each i ∙ skipped (nat_eq i frame) (is_huge_state (Some state)) (h i) (ne_eqb i frame away.1)) j) (slice_get_set_other kept frame i (kept_state state) away.1 j))
+-- a frame that isn't held is used for something else
+pub seen_put : (h : ℕ → Bool) (kept : List FrameState) (frame : ℕ) (state : FrameState) → frame < length kept → h frame ≡ false → seen_from h 0 (slice_set kept frame state) ≡ slice_set (seen_from h 0 kept) frame state
+seen_put h kept frame state within free =
+    same_items (seen_from h 0 (slice_set kept frame state)) (slice_set (seen_from h 0 kept) frame state) (λ i.
+    seen_get h (slice_set kept frame state) i ∙ elim (eqb_tells i frame) [
+      | inl at ↦ ((λ j. seen_state ((ap h at.1 ∙ free) j) (slice_get_set_same kept frame i state at.1 within j))
+          ∙ sym (slice_get_set_same (seen_from h 0 kept) frame i state at.1 (omega (arith, length_seen h 0 kept))))
+      | inr away ↦ (ap (seen_state (h i)) (slice_get_set_other kept frame i state away.1)
           ∙ sym (seen_get h kept i) ∙ sym (slice_get_set_other (seen_from h 0 kept) frame i state away.1))
     ])
 
@@ -152,31 +126,3 @@ seen_released h new kept first count within each free =
     seen_get new kept i ∙ ap (λ b. seen_state b (slice_get kept i)) (each i)
     ∙ free_where (in_run first count i) (slice_get kept i) (h i) (free i)
     ∙ sym (with_run_get (seen_from h 0 kept) first count Free i (omega (arith, length_seen h 0 kept)) ∙ ap (λ o. if in_run first count i then Some Free else o) (seen_get h kept i)))
-
-seen_huge : (o : Option FrameState) → (f : Option FrameState → Bool) → f None ≡ false → f (Some Huge) ≡ false → f (seen_state true o) ≡ false
-seen_huge None f none huge = none
-seen_huge (Some x) f none huge = huge
-
-and_false : (a : Bool) → (a && false) ≡ false
-and_false true = refl
-and_false false = refl
-
-module _ (held : set.FinSet nat_cmp) (kept : List FrameState) (frame : ℕ) where
-  -- what is kept of a frame that isn't held is its state
-  pub seen_free : set.contains held frame ≡ false → slice_get (seen held kept) frame ≡ slice_get kept frame
-  seen_free free = seen_get (set.contains held) kept frame ∙ ap (λ b. seen_state b (slice_get kept frame)) free
-
-  no_part : (f : Option FrameState → Bool) → f None ≡ false → f (Some Huge) ≡ false → set.contains held frame ≡ true → f (slice_get (seen held kept) frame) ≡ false
-  no_part f none huge is = ap f (seen_get (set.contains held) kept frame ∙ ap (λ b. seen_state b (slice_get kept frame)) is) ∙ seen_huge (slice_get kept frame) f none huge
-
-  pub no_source_held : (movable marked : List Bool) → set.contains held frame ≡ true → is_source (seen held kept) movable marked frame ≡ false
-  no_source_held movable marked is = ap (λ b. not (is_marked marked frame) && (b && true_at movable frame)) (no_part is_holding_state refl refl is) ∙ and_false (not (is_marked marked frame))
-
-  pub no_target_held : (marked : List Bool) → set.contains held frame ≡ true → is_target (seen held kept) marked frame ≡ false
-  no_target_held marked is = ap (λ b. not (is_marked marked frame) && b) (no_part is_free_state refl refl is) ∙ and_false (not (is_marked marked frame))
-
-  pub source_kept : (movable marked : List Bool) → set.contains held frame ≡ false → is_source (seen held kept) movable marked frame ≡ is_source kept movable marked frame
-  source_kept movable marked free = ap (λ o. not (is_marked marked frame) && (is_holding_state o && true_at movable frame)) (seen_free free)
-
-  pub target_kept : (marked : List Bool) → set.contains held frame ≡ false → is_target (seen held kept) marked frame ≡ is_target kept marked frame
-  target_kept marked free = ap (λ o. not (is_marked marked frame) && is_free_state o) (seen_free free)

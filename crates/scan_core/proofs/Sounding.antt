@@ -1,8 +1,7 @@
 -- What is read off the fields of the frames.
-use Rattle.std.proofs.Common.{◌≡◌, ◌≢◌, ℕ, zero, suc, ◌+◌, ◌-◌, ◌*◌, ◌/◌, ◌^◌, ◌<◌, ◌≤◌, Bool, true, false, not, List, length, inl, inr, refl, sym, ap, ◌∙◌, subst, eq-eqb, arith}
-use Rattle.std.specs.Prelude.{Option, Some, None, IfSome, nat_eq, nat_le, nat_lt, slice_get, ◌&&◌, ◌||◌}
+use Rattle.std.proofs.Common.{◌≡◌, ℕ, ◌+◌, ◌-◌, ◌^◌, ◌<◌, ◌≤◌, Bool, true, false, not, List, length, inl, inr, refl, sym, ap, ◌∙◌, arith}
+use Rattle.std.specs.Prelude.{Option, Some, None, IfSome, nat_le, slice_get, ◌&&◌}
 use Rattle.std.specs.FinSet as set
-use Rattle.std.specs.Ordering.{nat_cmp}
 use Rattle.std.proofs.lemmas.Bool.{lt-leb, le-leb}
 use Rattle.std.proofs.lemmas.Bool.Decides.{leb_tells}
 use Rattle.std.proofs.lemmas.Nat.{pow_pos}
@@ -10,14 +9,13 @@ use Rattle.std.proofs.lemmas.Option.{slice_get_past}
 use Rattle.frame_core.specs.Below.{count_below, lowest, some_below}
 use Rattle.frame_core.specs.Order.{is_aligned}
 use Rattle.frame_core.specs.declared.state.FrameState.{FrameState}
-use Rattle.frame_core.specs.declared.state.FrameState.TheVariants.{Free, Huge}
-use Rattle.frame_core.proofs.Searches.{count_same, lowest_same, some_at, some_one}
+use Rattle.frame_core.proofs.Searches.{lowest_same, some_at, some_one}
 use Rattle.scan_core.specs.FrameSet.{all_of_block, is_run_of}
-use Rattle.scan_core.specs.Frames.{Frames, blocks_of, free_at, free_frames, huge_at, holds_at, true_at, is_stuck_state, is_free_state, is_huge_state, is_whole}
-use Rattle.scan_core.specs.NumberSet.{all_from, capacity, in_run}
+use Rattle.scan_core.specs.Frames.{blocks_of, free_at, free_frames, holds_at, true_at, is_stuck_state, is_holding_state, is_whole}
+use Rattle.scan_core.specs.NumberSet.{all_from, capacity}
 use Rattle.scan_core.specs.Pairs.{is_marked, is_stuck}
-use Rattle.scan_core.specs.Runs.{first_run, has_block, is_run, with_run}
-use Rattle.scan_core.specs.Seen.{seen}
+use Rattle.scan_core.specs.Runs.{first_run, has_block, is_run}
+use Rattle.scan_core.specs.Seen.{seen, IsTold}
 use Rattle.scan_core.specs.Sound.{IsSound}
 use Rattle.scan_core.specs.declared.frames.Frames.TheInside.{Inside}
 use Rattle.scan_core.proofs.Bounds.{count_past, lowest_past}
@@ -76,6 +74,13 @@ module _ (z : Inside) (sound : IsSound z) where
 
   pub kept_length : length (seen z.held z.kept.items) ≡ length z.kept.items
   kept_length = length_seen (set.contains z.held) 0 z.kept.items
+
+  -- the kept list tells the pages that frames hold: a held frame is kept as free
+  pub is_told : IsTold (seen z.held z.kept.items) z.kept.items z.free
+  is_told = record { holds = λ n. by_held n (set.contains z.held n) refl; free = sound.free } where
+    by_held : (n : ℕ) (b : Bool) → set.contains z.held n ≡ b → holds_at z.kept.items n ≡ holds_at (seen z.held z.kept.items) n
+    by_held n true is = ap is_holding_state (sound.held n is) ∙ sym (ap is_holding_state (seen_get (set.contains z.held) z.kept.items n ∙ (λ i. seen_state (is i) (sound.held n is i))))
+    by_held n false is = sym (ap is_holding_state (seen_get (set.contains z.held) z.kept.items n ∙ ap (λ b. seen_state b (slice_get z.kept.items n)) is))
 
   pub at_most : length (seen z.held z.kept.items) ≤ 4096
   at_most = omega (arith, kept_length, sound.whole, sound.few)

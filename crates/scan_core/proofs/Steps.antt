@@ -1,26 +1,26 @@
 -- The fields of the frames stay sound, step by step.
-use Rattle.std.proofs.Common.{◌≡◌, ◌≢◌, ℕ, ◌+◌, ◌*◌, ◌/◌, ◌^◌, ◌<◌, ◌≤◌, Bool, true, false, not, List, length, length-set, inl, inr, refl, sym, ap, ◌∙◌, subst, eq-eqb, Vec, vec_capacity, replicate, arith}
-use Rattle.std.specs.Prelude.{Option, Some, None, unwrap_or, nat_eq, nat_le, slice_get, slice_set, if◌then◌else◌, ◌&&◌, ◌||◌}
+use Rattle.std.proofs.Common.{◌≡◌, ℕ, ◌+◌, ◌*◌, ◌<◌, ◌≤◌, Bool, true, false, not, List, length, length-set, inl, inr, refl, sym, ap, ◌∙◌, eq-eqb, Vec, vec_capacity, replicate, arith}
+use Rattle.std.specs.Prelude.{Option, Some, None, unwrap_or, nat_eq, slice_get, slice_set, if◌then◌else◌, ◌&&◌, ◌||◌}
 use Rattle.std.specs.FinSet as set
 use Rattle.std.specs.Ordering.{nat_cmp}
 use Rattle.std.specs.declared.alloc.Global.{Global}
-use Rattle.std.proofs.lemmas.Bool.{ne_eqb, leb-true}
+use Rattle.std.proofs.lemmas.Bool.{ne_eqb}
 use Rattle.std.proofs.lemmas.Bool.Decides.{eqb_tells, leb_tells}
 use Rattle.std.proofs.lemmas.List.{length-replicate}
 use Rattle.std.proofs.lemmas.Option.{slice_get_past}
-use Rattle.frame_core.specs.Order.{is_aligned}
 use Rattle.frame_core.specs.declared.state.FrameState.{FrameState}
 use Rattle.frame_core.specs.declared.state.FrameState.TheVariants.{Free, Holds, Source, Target, Huge}
 use Rattle.frame_core.proofs.Lists.{slice_get_set_same, slice_get_set_other, slice_get_replicate}
-use Rattle.scan_core.specs.Frames.{blocks_of, free_at, huge_at, true_at, is_stuck_state, is_free_state, is_holding_state, is_huge_state}
-use Rattle.scan_core.specs.NumberSet.{all_from, in_run}
-use Rattle.scan_core.specs.Runs.{has_block, is_run, with_run}
-use Rattle.scan_core.specs.Seen.{seen, kept_state}
+use Rattle.scan_core.specs.Frames.{free_at, holds_at, huge_at, true_at, way_at, is_stuck_state, is_free_state, is_holding_state, is_huge_state, is_way_state}
+use Rattle.scan_core.specs.NumberSet.{in_run}
+use Rattle.scan_core.specs.Runs.{with_run}
+use Rattle.scan_core.specs.Seen.{seen}
 use Rattle.scan_core.specs.Sound.{IsSound}
 use Rattle.scan_core.specs.declared.frames.Frames.TheInside.{Inside}
-use Rattle.scan_core.proofs.FrameSets.{all_pass}
+use Rattle.scan_core.proofs.FrameSets.{insert_if, remove_if, keep_if}
 use Rattle.scan_core.proofs.Masking.{clash}
-use Rattle.scan_core.proofs.Seeing.{length_seen, seen_get, seen_put, seen_held, seen_released, seen_none_held, seen_state, with_run_get, kept_not_huge, kept_of_huge, skipped, taken}
+use Rattle.scan_core.proofs.Numbering.{member_insert, member_remove}
+use Rattle.scan_core.proofs.Seeing.{length_seen, seen_get, seen_put, seen_held, seen_released, seen_none_held, seen_state, with_run_get, skipped, taken}
 use Rattle.scan_core.proofs.Spanning.{both}
 
 free_kept : (h : Bool) (o : Option FrameState) → is_free_state (seen_state h o) ≡ true → o ≡ Some Free
@@ -84,13 +84,27 @@ module _ (z : Inside) (sound : IsSound z) where
   seen_length : length (seen z.held z.kept.items) ≡ length z.kept.items
   seen_length = length_seen (set.contains z.held) 0 z.kept.items
 
-  -- one frame is used for something else
-  pub sound_put : (kept : Vec FrameState Global) (held free stuck : set.FinSet nat_cmp) (frame index number : ℕ) (state stored : FrameState) (is_free is_stuck is_huge movable : Bool) → frame < length z.kept.items → index ≡ frame → number ≡ frame → kept.items ≡ slice_set z.kept.items index stored → vec_capacity kept ≡ vec_capacity z.kept → stored ≡ kept_state state → is_free ≡ is_free_state (Some state) → is_stuck ≡ is_stuck_state (Some state) movable → movable ≡ true_at z.movable.items frame → is_huge ≡ is_huge_state (Some state) → ((n : ℕ) → set.contains held n ≡ (if nat_eq n number then is_huge else set.contains z.held n)) → ((n : ℕ) → set.contains free n ≡ (if nat_eq n frame then is_free else set.contains z.free n)) → ((n : ℕ) → set.contains stuck n ≡ (if nat_eq n frame then is_stuck else set.contains z.stuck n)) → IsSound (record z { kept = kept; held = held; free = free; stuck = stuck }) × (seen held kept.items ≡ slice_set (seen z.held z.kept.items) frame state)
-  sound_put kept held free stuck frame index number state stored is_free is_stuck is_huge movable within at number_at items room store is_free_is is_stuck_is movable_is is_huge_is held_put free_put stuck_put =
-      let list : kept.items ≡ slice_set z.kept.items frame (kept_state state) = items ∙ (λ i. slice_set z.kept.items (at i) (store i)) in
-      let held_each = λ (n : ℕ). held_put n ∙ (λ i. if nat_eq n (number_at i) then is_huge_is i else set.contains z.held n) in
-      let view : seen held kept.items ≡ slice_set (seen z.held z.kept.items) frame state = ap (seen held) list ∙ seen_put (set.contains z.held) (set.contains held) z.kept.items frame state within held_each in
-      let len : length kept.items ≡ length z.kept.items = ap length list ∙ length-set z.kept.items frame (kept_state state) in
+  not_held : (frame : ℕ) → huge_at (seen z.held z.kept.items) frame ≡ false → set.contains z.held frame ≡ false
+  not_held frame known = by_test (set.contains z.held frame) refl where
+    by_test : (b : Bool) → set.contains z.held frame ≡ b → b ≡ false
+    by_test true is =
+        let huge : slice_get (seen z.held z.kept.items) frame ≡ Some Huge = seen_get (set.contains z.held) z.kept.items frame ∙ (λ i. seen_state (is i) (sound.held frame is i)) in
+        absurd (clash (huge_at (seen z.held z.kept.items) frame) (ap is_huge_state huge) known)
+    by_test false is = refl
+
+  -- a frame of which this is known stands in the list
+  pub known_within : (f : Option FrameState → Bool) (frame : ℕ) → f None ≡ false → f (slice_get (seen z.held z.kept.items) frame) ≡ true → frame < length z.kept.items
+  known_within f frame none is = elim (leb_tells (length (seen z.held z.kept.items)) frame) [
+    | inl past ↦ absurd (clash _ is (ap f (slice_get_past (seen z.held z.kept.items) frame past.1) ∙ none))
+    | inr under ↦ omega (arith, seen_length, under.1)
+  ]
+
+  -- one frame, which isn't of a block that is handed out, is used for something else
+  pub sound_put : (kept : Vec FrameState Global) (free stuck : set.FinSet nat_cmp) (frame index : ℕ) (state : FrameState) (is_free is_stuck : Bool) → huge_at (seen z.held z.kept.items) frame ≡ false → is_huge_state (Some state) ≡ false → frame < length z.kept.items → index ≡ frame → kept.items ≡ slice_set z.kept.items index state → vec_capacity kept ≡ vec_capacity z.kept → is_free ≡ is_free_state (Some state) → is_stuck ≡ is_stuck_state (Some state) (true_at z.movable.items frame) → ((n : ℕ) → set.contains free n ≡ (if nat_eq n frame then is_free else set.contains z.free n)) → ((n : ℕ) → set.contains stuck n ≡ (if nat_eq n frame then is_stuck else set.contains z.stuck n)) → IsSound (record z { kept = kept; free = free; stuck = stuck }) × (seen z.held kept.items ≡ slice_set (seen z.held z.kept.items) frame state)
+  sound_put kept free stuck frame index state is_free is_stuck known not_huge within at items room is_free_is is_stuck_is free_put stuck_put =
+      let list : kept.items ≡ slice_set z.kept.items frame state = items ∙ ap (λ k. slice_set z.kept.items k state) at in
+      let view : seen z.held kept.items ≡ slice_set (seen z.held z.kept.items) frame state = ap (seen z.held) list ∙ seen_put (set.contains z.held) z.kept.items frame state within (not_held frame known) in
+      let len : length kept.items ≡ length z.kept.items = ap length list ∙ length-set z.kept.items frame state in
       let there : frame < length (seen z.held z.kept.items) = omega (arith, seen_length, within) in (
         record {
           whole = omega (arith, len, sound.whole);
@@ -100,15 +114,15 @@ module _ (z : Inside) (sound : IsSound z) where
           room = room ∙ sound.room ∙ sym len;
           movable_room = sound.movable_room ∙ sym len;
           never_huge = λ n. ap (λ (xs : List FrameState). huge_at xs n) list ∙ elim (eqb_tells n frame) [
-            | inl here ↦ (ap is_huge_state (slice_get_set_same z.kept.items frame n (kept_state state) here.1 within) ∙ kept_not_huge state)
-            | inr away ↦ (ap is_huge_state (slice_get_set_other z.kept.items frame n (kept_state state) away.1) ∙ sound.never_huge n)
+            | inl here ↦ (ap is_huge_state (slice_get_set_same z.kept.items frame n state here.1 within) ∙ not_huge)
+            | inr away ↦ (ap is_huge_state (slice_get_set_other z.kept.items frame n state away.1) ∙ sound.never_huge n)
           ];
           held = λ n e. ap (λ (xs : List FrameState). slice_get xs n) list ∙ elim (eqb_tells n frame) [
-            | inl here ↦ (slice_get_set_same z.kept.items frame n (kept_state state) here.1 within ∙ ap Some (kept_of_huge state (sym (held_each n ∙ taken (nat_eq n frame) (is_huge_state (Some state)) (set.contains z.held n) (eq-eqb n frame here.1)) ∙ e)))
-            | inr away ↦ (slice_get_set_other z.kept.items frame n (kept_state state) away.1 ∙ sound.held n (sym (held_each n ∙ skipped (nat_eq n frame) (is_huge_state (Some state)) (set.contains z.held n) (ne_eqb n frame away.1)) ∙ e))
+            | inl here ↦ absurd (clash (set.contains z.held n) e (ap (set.contains z.held) here.1 ∙ not_held frame known))
+            | inr away ↦ (slice_get_set_other z.kept.items frame n state away.1 ∙ sound.held n e)
           ];
           free = λ n. written (λ k o. is_free_state o) (seen z.held z.kept.items) frame state (set.contains z.free) (set.contains free) is_free there is_free_is sound.free free_put n ∙ ap (λ (xs : List FrameState). free_at xs n) (sym view);
-          stuck = λ n. written (λ k o. is_stuck_state o (true_at z.movable.items k)) (seen z.held z.kept.items) frame state (set.contains z.stuck) (set.contains stuck) is_stuck there (is_stuck_is ∙ ap (is_stuck_state (Some state)) movable_is) sound.stuck stuck_put n ∙ ap (λ (xs : List FrameState). is_stuck_state (slice_get xs n) (true_at z.movable.items n)) (sym view);
+          stuck = λ n. written (λ k o. is_stuck_state o (true_at z.movable.items k)) (seen z.held z.kept.items) frame state (set.contains z.stuck) (set.contains stuck) is_stuck there is_stuck_is sound.stuck stuck_put n ∙ ap (λ (xs : List FrameState). is_stuck_state (slice_get xs n) (true_at z.movable.items n)) (sym view);
         },
         view,
       )
@@ -185,6 +199,115 @@ module _ (z : Inside) (sound : IsSound z) where
         ];
       }
 
+-- what a state that is known tells of the sets
+free_not_huge : (o : Option FrameState) → is_free_state o ≡ true → is_huge_state o ≡ false
+free_not_huge None e = refl
+free_not_huge (Some Free) e = refl
+free_not_huge (Some (Holds page)) e = refl
+free_not_huge (Some (Source serial)) e = refl
+free_not_huge (Some (Target serial)) e = refl
+free_not_huge (Some Huge) e = cc
+
+page_only : (o : Option FrameState) → is_holding_state o ≡ true → (is_huge_state o ≡ false) × (is_free_state o ≡ false)
+page_only None e = (refl, refl)
+page_only (Some Free) e = cc
+page_only (Some (Holds page)) e = (refl, refl)
+page_only (Some (Source serial)) e = (refl, refl)
+page_only (Some (Target serial)) e = (refl, refl)
+page_only (Some Huge) e = cc
+
+stuck_if_page : (o : Option FrameState) (movable : Bool) → is_holding_state o ≡ true → is_stuck_state o movable ≡ not movable
+stuck_if_page None m e = cc
+stuck_if_page (Some Free) m e = cc
+stuck_if_page (Some (Holds page)) m e = refl
+stuck_if_page (Some (Source serial)) m e = cc
+stuck_if_page (Some (Target serial)) m e = cc
+stuck_if_page (Some Huge) m e = cc
+
+way_only : (o : Option FrameState) (movable : Bool) → is_way_state o ≡ true → (is_huge_state o ≡ false) × (is_free_state o ≡ false) × (is_stuck_state o movable ≡ false)
+way_only None m e = (refl, refl, refl)
+way_only (Some Free) m e = cc
+way_only (Some (Holds page)) m e = cc
+way_only (Some (Source serial)) m e = (refl, refl, refl)
+way_only (Some (Target serial)) m e = (refl, refl, refl)
+way_only (Some Huge) m e = cc
+
+some_state : (f : Option FrameState → Bool) (o : Option FrameState) → f None ≡ false → f o ≡ true → (x : FrameState) × (o ≡ Some x)
+some_state f None none is = absurd (clash (f None) is none)
+some_state f (Some x) none is = (x, refl)
+
+module _ (z : Inside) (sound : IsSound z) (frame : ℕ) where
+  abbrev was : Option FrameState
+  was = slice_get (seen z.held z.kept.items) frame
+
+  free_inserted : (free : set.FinSet nat_cmp) → free ≡ set.insert z.free frame → (n : ℕ) → set.contains free n ≡ (if nat_eq n frame then true else set.contains z.free n)
+  free_inserted free now n = ap (λ s. set.contains s n) now ∙ member_insert z.free frame n ∙ insert_if (nat_eq n frame) (set.contains z.free n) true refl
+
+  free_removed : (free : set.FinSet nat_cmp) → free ≡ set.remove z.free frame → (n : ℕ) → set.contains free n ≡ (if nat_eq n frame then false else set.contains z.free n)
+  free_removed free now n = ap (λ s. set.contains s n) now ∙ member_remove z.free frame n ∙ remove_if (nat_eq n frame) (set.contains z.free n) false refl
+
+  module _ (kept : Vec FrameState Global) (index : ℕ) (at : index ≡ frame) (room : vec_capacity kept ≡ vec_capacity z.kept) where
+    -- a page that may be taken begins its way
+    pub sound_to_source : (serial : ℕ) → holds_at (seen z.held z.kept.items) frame ≡ true → true_at z.movable.items frame ≡ true → kept.items ≡ slice_set z.kept.items index (Source serial) → IsSound (record z { kept = kept }) × (seen z.held kept.items ≡ slice_set (seen z.held z.kept.items) frame (Source serial))
+    sound_to_source serial page movable items =
+        let only = page_only was page in
+        sound_put z sound kept z.free z.stuck frame index (Source serial) false false only.0 refl (known_within z sound is_holding_state frame refl page) at items room refl refl
+        (λ n. keep_if n frame (set.contains z.free) false (sound.free frame ∙ only.1))
+        (λ n. keep_if n frame (set.contains z.stuck) false (sound.stuck frame ∙ stuck_if_page was (true_at z.movable.items frame) page ∙ ap not movable))
+
+    -- a free frame is where a page goes
+    pub sound_to_target : (free : set.FinSet nat_cmp) (serial : ℕ) → free_at (seen z.held z.kept.items) frame ≡ true → free ≡ set.remove z.free frame → kept.items ≡ slice_set z.kept.items index (Target serial) → IsSound (record z { kept = kept; free = free }) × (seen z.held kept.items ≡ slice_set (seen z.held z.kept.items) frame (Target serial))
+    sound_to_target free serial is_free now items =
+        sound_put z sound kept free z.stuck frame index (Target serial) false false (free_not_huge was is_free) refl (known_within z sound is_free_state frame refl is_free) at items room refl refl
+        (free_removed free now)
+        (λ n. keep_if n frame (set.contains z.stuck) false (sound.stuck frame ∙ free_not_stuck was (true_at z.movable.items frame) is_free))
+
+    -- a frame of a page that was on its way is free
+    pub sound_left : (free : set.FinSet nat_cmp) → way_at (seen z.held z.kept.items) frame ≡ true → free ≡ set.insert z.free frame → kept.items ≡ slice_set z.kept.items index Free → IsSound (record z { kept = kept; free = free }) × (seen z.held kept.items ≡ slice_set (seen z.held z.kept.items) frame Free)
+    sound_left free way now items =
+        let only = way_only was (true_at z.movable.items frame) way in
+        sound_put z sound kept free z.stuck frame index Free true false only.0 refl (known_within z sound is_way_state frame refl way) at items room refl refl
+        (free_inserted free now)
+        (λ n. keep_if n frame (set.contains z.stuck) false (sound.stuck frame ∙ only.2))
+
+    -- a page ends, and its frame is free
+    pub sound_emptied : (free stuck : set.FinSet nat_cmp) → holds_at (seen z.held z.kept.items) frame ≡ true → free ≡ set.insert z.free frame → ((n : ℕ) → set.contains stuck n ≡ (if nat_eq n frame then false else set.contains z.stuck n)) → kept.items ≡ slice_set z.kept.items index Free → IsSound (record z { kept = kept; free = free; stuck = stuck }) × (seen z.held kept.items ≡ slice_set (seen z.held z.kept.items) frame Free)
+    sound_emptied free stuck page now put items =
+        sound_put z sound kept free stuck frame index Free true false (page_only was page).0 refl (known_within z sound is_holding_state frame refl page) at items room refl refl
+        (free_inserted free now) put
+
+    module _ (list : Vec Bool Global) (movable : Bool) (stuck : set.FinSet nat_cmp) (list_items : list.items ≡ slice_set z.movable.items index movable) (list_room : vec_capacity list ≡ vec_capacity z.movable) (put : (n : ℕ) → set.contains stuck n ≡ (if nat_eq n frame then not movable else set.contains z.stuck n)) where
+      noted : (f : Option FrameState → Bool) → f None ≡ false → f was ≡ true → is_stuck_state was movable ≡ false → set.contains z.stuck frame ≡ false → IsSound (record z { movable = list })
+      noted f none is not_stuck out =
+          let some = some_state f was none is in
+          sound_marked z sound list z.stuck frame index some.0 false movable (known_within z sound f frame none is) at list_items list_room some.1 (sym not_stuck ∙ ap (λ o. is_stuck_state o movable) some.1)
+          (λ n. keep_if n frame (set.contains z.stuck) false out)
+
+      is_noted : frame < length z.kept.items → not movable ≡ not (true_at list.items frame)
+      is_noted within =
+          ap not (sym (ap (λ (xs : List Bool). true_at xs frame) (list_items ∙ ap (λ k. slice_set z.movable.items k movable) at) ∙ ap (λ o. unwrap_or o false) (slice_get_set_same z.movable.items frame frame movable refl (omega (arith, sound.movable, within)))))
+
+      -- a page ends its way in a frame
+      pub sound_settled : (page : ℕ) → way_at (seen z.held z.kept.items) frame ≡ true → kept.items ≡ slice_set z.kept.items index (Holds page) → IsSound (record z { kept = kept; movable = list; stuck = stuck }) × (seen z.held kept.items ≡ slice_set (seen z.held z.kept.items) frame (Holds page))
+      sound_settled page way items =
+          let within = known_within z sound is_way_state frame refl way in
+          let only = way_only was (true_at z.movable.items frame) way in
+          sound_put (record z { movable = list }) (noted is_way_state refl way (way_only was movable way).2 (sound.stuck frame ∙ only.2)) kept z.free stuck frame index (Holds page) false (not movable) only.0 refl within at items room refl (is_noted within)
+          (λ n. keep_if n frame (set.contains z.free) false (sound.free frame ∙ only.1)) put
+
+      -- a free frame gets a page
+      pub sound_filled : (free : set.FinSet nat_cmp) (page : ℕ) → free_at (seen z.held z.kept.items) frame ≡ true → free ≡ set.remove z.free frame → kept.items ≡ slice_set z.kept.items index (Holds page) → IsSound (record z { kept = kept; movable = list; free = free; stuck = stuck }) × (seen z.held kept.items ≡ slice_set (seen z.held z.kept.items) frame (Holds page))
+      sound_filled free page is_free now items =
+          let within = known_within z sound is_free_state frame refl is_free in
+          sound_put (record z { movable = list }) (noted is_free_state refl is_free (free_not_stuck was movable is_free) (sound.stuck frame ∙ free_not_stuck was (true_at z.movable.items frame) is_free)) kept free stuck frame index (Holds page) false (not movable) (free_not_huge was is_free) refl within at items room refl (is_noted within)
+          (free_removed free now) put
+
+    -- a page that stays in its frame may be taken from it, or may not
+    pub sound_said : (list : Vec Bool Global) (movable : Bool) (stuck : set.FinSet nat_cmp) → holds_at (seen z.held z.kept.items) frame ≡ true → list.items ≡ slice_set z.movable.items index movable → vec_capacity list ≡ vec_capacity z.movable → ((n : ℕ) → set.contains stuck n ≡ (if nat_eq n frame then not movable else set.contains z.stuck n)) → IsSound (record z { movable = list; stuck = stuck })
+    sound_said list movable stuck page items list_room put =
+        let some = some_state is_holding_state was refl page in
+        sound_marked z sound list stuck frame index some.0 (not movable) movable (known_within z sound is_holding_state frame refl page) at items list_room some.1 (sym (stuck_if_page was movable page) ∙ ap (λ o. is_stuck_state o movable) some.1) put
+
 -- frames that are all free
 pub sound_free : (z : Inside) (blocks : ℕ) → 0 < blocks → blocks ≤ 8 → z.kept.items ≡ replicate (512 * blocks) Free → z.movable.items ≡ replicate (512 * blocks) false → vec_capacity z.kept ≡ 512 * blocks → vec_capacity z.movable ≡ 512 * blocks → z.held ≡ set.empty → z.stuck ≡ set.empty → ((n : ℕ) → set.contains z.free n ≡ free_at z.kept.items n) → IsSound z × (seen z.held z.kept.items ≡ replicate (512 * blocks) Free)
 sound_free z blocks some few kept movable room movable_room held stuck free =
@@ -224,3 +347,13 @@ huge_is_stuck z sound n huge = sound.stuck n ∙ huge_stuck (slice_get (seen z.h
 
 pub huge_isnt_free : (z : Inside) → IsSound z → (n : ℕ) → huge_at (seen z.held z.kept.items) n ≡ true → set.contains z.free n ≡ false
 huge_isnt_free z sound n huge = sound.free n ∙ huge_not_free (slice_get (seen z.held z.kept.items) n) huge
+
+pub page_isnt_free : (z : Inside) → IsSound z → (n : ℕ) → holds_at (seen z.held z.kept.items) n ≡ true → set.contains z.free n ≡ false
+page_isnt_free z sound n page = sound.free n ∙ (page_only (slice_get (seen z.held z.kept.items) n) page).1
+
+-- what the two frames of a page on its way have
+pub way_isnt_free : (z : Inside) → IsSound z → (n : ℕ) → way_at (seen z.held z.kept.items) n ≡ true → set.contains z.free n ≡ false
+way_isnt_free z sound n way = sound.free n ∙ (way_only (slice_get (seen z.held z.kept.items) n) (true_at z.movable.items n) way).1
+
+pub way_isnt_stuck : (z : Inside) → IsSound z → (n : ℕ) → way_at (seen z.held z.kept.items) n ≡ true → set.contains z.stuck n ≡ false
+way_isnt_stuck z sound n way = sound.stuck n ∙ (way_only (slice_get (seen z.held z.kept.items) n) (true_at z.movable.items n) way).2

@@ -1,7 +1,7 @@
 -- The free frames of each pageblock.
-use Rattle.std.specs.Prelude.{◌≡◌, ℕ, ◌<◌, Bool, List, length, nat_eq, slice_get, slice_index, slice_set, Some}
+use Rattle.std.specs.Prelude.{◌≡◌, ℕ, ◌<◌, Bool, List, nat_eq, slice_get, slice_index, Some}
 use Rattle.frame_core.specs.declared.state.FrameState.{FrameState}
-use Rattle.scan_core.specs.Frames.{is_free_state, free_at, free_in_block}
+use Rattle.scan_core.specs.Frames.{free_in_block}
 
 -- each of eight numbers is the count of the free frames of its pageblock
 pub record CountsFree (counts : List ℕ) (states : List FrameState) : Type 0 where

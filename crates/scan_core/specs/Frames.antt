@@ -2,7 +2,7 @@
 use Rattle.std.specs.Prelude.{ℕ, ◌*◌, ◌/◌, Bool, true, false, not, ◌&&◌, ◌||◌, List, length, replicate, nat_eq, slice_get, unwrap_or, Option, Some}
 use Rattle.frame_core.specs.Below.{count_below, count_from}
 use Rattle.frame_core.specs.declared.state.FrameState.{FrameState}
-use Rattle.frame_core.specs.declared.state.FrameState.TheVariants.{Free, Holds, Huge}
+use Rattle.frame_core.specs.declared.state.FrameState.TheVariants.{Free, Holds, Huge, Source, Target}
 
 pub record Frames : Type 0 where
   -- what each frame is used for
@@ -29,6 +29,12 @@ abbrev pub is_huge_state : Option FrameState → Bool
 is_huge_state (Some Huge) = true
 is_huge_state _ = false
 
+-- whether there is a frame, and it is one of the two of a page that is on its way
+abbrev pub is_way_state : Option FrameState → Bool
+is_way_state (Some (Source serial)) = true
+is_way_state (Some (Target serial)) = true
+is_way_state _ = false
+
 -- whether there is a frame, and it is handed out, or holds a page that isn't movable
 abbrev pub is_stuck_state : Option FrameState → Bool → Bool
 is_stuck_state state movable = is_huge_state state || (is_holding_state state && not movable)
@@ -44,6 +50,10 @@ holds_at states frame = is_holding_state (slice_get states frame)
 -- whether a frame of the list is of a block that is handed out
 abbrev pub huge_at : List FrameState → ℕ → Bool
 huge_at states frame = is_huge_state (slice_get states frame)
+
+-- whether a frame of the list is one of the two of a page that is on its way
+abbrev pub way_at : List FrameState → ℕ → Bool
+way_at states frame = is_way_state (slice_get states frame)
 
 -- whether a list has true at a place
 abbrev pub true_at : List Bool → ℕ → Bool

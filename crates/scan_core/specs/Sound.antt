@@ -1,5 +1,5 @@
 -- What contracts see of the fields of the frames, and what is true of them.
-use Rattle.std.specs.Prelude.{◌≡◌, ℕ, ◌/◌, ◌<◌, ◌≤◌, ◌*◌, length, true, false, slice_get, vec_capacity, Some}
+use Rattle.std.specs.Prelude.{◌≡◌, ℕ, ◌<◌, ◌≤◌, ◌*◌, length, true, false, slice_get, vec_capacity, Some}
 use Rattle.std.specs.FinSet as set
 use Rattle.frame_core.specs.declared.state.FrameState.TheVariants.{Free}
 use Rattle.scan_core.specs.Frames.{Frames, blocks_of, free_at, huge_at, is_stuck_state, true_at}

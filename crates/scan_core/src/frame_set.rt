@@ -65,6 +65,13 @@ impl FrameSet {
         free
     }
 
+    /// The numbers of its frames.
+    pub fn numbers(&self) -> &NumberSet
+        ensures { result.now ≡ self.now }
+    {
+        &self.numbers
+    }
+
     pub fn contains(&self, frame: FrameNo) -> bool
         ensures { result ≡ set.contains self.now frame }
     {
@@ -85,7 +92,19 @@ impl FrameSet {
         }
     }
 
-    fn insert(&mut self, frame: FrameNo)
+    /// Puts a frame in that isn't a member, if it joins.
+    #[inline(always)]
+    pub fn add(&mut self, frame: FrameNo, joins: bool)
+        requires { set.contains self.old frame ≡ false }
+        ensures { (other : ℕ) → set.contains self.new other ≡ (if nat_eq other frame then joins else set.contains self.old other) }
+    {
+        if joins {
+            self.insert(frame);
+        }
+    }
+
+    /// Puts a frame in that isn't a member.
+    pub fn insert(&mut self, frame: FrameNo)
         requires { set.contains self.old frame ≡ false }
         ensures { self.new ≡ set.insert self.old frame }
     {
@@ -94,7 +113,8 @@ impl FrameSet {
         self.blocks.more(block_of(frame), 1);
     }
 
-    fn remove(&mut self, frame: FrameNo)
+    /// Takes a member out.
+    pub fn remove(&mut self, frame: FrameNo)
         requires { set.contains self.old frame ≡ true }
         ensures { self.new ≡ set.remove self.old frame }
     {

@@ -1,7 +1,7 @@
 ghost use Rattle.std.specs.Prelude.{◌≡◌, ◌*◌, ◌^◌, ◌<◌, ◌≤◌, length, slice_get, slice_set, true, Some, IfOk, IfSome};
-ghost use Rattle.frame_core.specs.declared.state.FrameState.TheVariants.{Free, Huge};
+ghost use Rattle.frame_core.specs.declared.state.FrameState.TheVariants.{Free, Holds, Huge, Source, Target};
 ghost use Rattle.frame_core.specs.Below.{count_below, lowest, some_below};
-ghost use Rattle.scan_core.specs.Frames.{all_free, blocks_of, free_at, free_frames, huge_at, is_whole};
+ghost use Rattle.scan_core.specs.Frames.{all_free, blocks_of, free_at, free_frames, holds_at, huge_at, is_whole, true_at, way_at};
 ghost use Rattle.scan_core.specs.NumberSet.{all_from};
 ghost use Rattle.scan_core.specs.Pairs.{after_step, is_stuck, next_step, Finds};
 ghost use Rattle.scan_core.specs.Runs.{first_run, has_block, is_run, with_run};
@@ -10,7 +10,7 @@ use crate::fingers::{Fingers, Step};
 use crate::frame_set::FrameSet;
 use crate::numbers::NumberSet;
 use crate::{lists, pair};
-use frame_core::{FrameNo, FrameState, Order, filled};
+use frame_core::{FrameNo, FrameState, Order, PageNo, Serial, filled};
 use std::alloc::{AllocError, Global};
 use std::marker::Model;
 
@@ -100,19 +100,76 @@ impl Frames {
         self.free.contains(frame)
     }
 
-    /// Uses a frame for something else, or frees it.
+    /// A free frame gets a page, which may be taken from it or not.
     #[inline(always)]
-    pub fn put(&mut self, frame: FrameNo, state: FrameState)
-        requires { frame < length self.old.states }
-        ensures state { self.new ≡ record self.old { states = slice_set self.old.states frame state } }
+    pub fn fill(&mut self, frame: FrameNo, page: PageNo, movable: bool)
+        requires { free_at self.old.states frame ≡ true }
+        ensures page { self.new ≡ record { states = slice_set self.old.states frame (Holds page); movable = slice_set self.old.movable frame movable } }
         ensures frames { length self.new.states ≡ length self.old.states }
     {
         let index = frame.get() as usize;
-        self.free.put(frame, lists::is_free(&state));
-        self.stuck
-            .put(frame, lists::is_stuck(&state, self.movable[index]));
-        self.held.put(frame.get(), lists::is_huge(&state));
-        self.kept[index] = lists::kept(state);
+        self.free.remove(frame);
+        self.stuck.add(frame, !movable);
+        self.movable[index] = movable;
+        self.kept[index] = FrameState::Holds(page);
+    }
+
+    /// The page of a frame ends, and the frame is free.
+    #[inline(always)]
+    pub fn empty(&mut self, frame: FrameNo)
+        requires { holds_at self.old.states frame ≡ true }
+        ensures state { self.new ≡ record self.old { states = slice_set self.old.states frame Free } }
+        ensures frames { length self.new.states ≡ length self.old.states }
+    {
+        self.free.insert(frame);
+        self.stuck.put(frame, false);
+        self.kept[frame.get() as usize] = FrameState::Free;
+    }
+
+    /// The page of a frame begins its way, under a serial.
+    #[inline(always)]
+    pub fn to_source(&mut self, frame: FrameNo, serial: Serial)
+        requires page { holds_at self.old.states frame ≡ true }
+        requires movable { true_at self.old.movable frame ≡ true }
+        ensures state { self.new ≡ record self.old { states = slice_set self.old.states frame (Source serial) } }
+        ensures frames { length self.new.states ≡ length self.old.states }
+    {
+        self.kept[frame.get() as usize] = FrameState::Source(serial);
+    }
+
+    /// A free frame is where the page with a serial goes.
+    #[inline(always)]
+    pub fn to_target(&mut self, frame: FrameNo, serial: Serial)
+        requires { free_at self.old.states frame ≡ true }
+        ensures state { self.new ≡ record self.old { states = slice_set self.old.states frame (Target serial) } }
+        ensures frames { length self.new.states ≡ length self.old.states }
+    {
+        self.free.remove(frame);
+        self.kept[frame.get() as usize] = FrameState::Target(serial);
+    }
+
+    /// A page ends its way in one of its two frames, from which it may be taken or not.
+    #[inline(always)]
+    pub fn settle(&mut self, frame: FrameNo, page: PageNo, can_move: bool)
+        requires { way_at self.old.states frame ≡ true }
+        ensures page { self.new ≡ record { states = slice_set self.old.states frame (Holds page); movable = slice_set self.old.movable frame can_move } }
+        ensures frames { length self.new.states ≡ length self.old.states }
+    {
+        let index = frame.get() as usize;
+        self.stuck.add(frame, !can_move);
+        self.movable[index] = can_move;
+        self.kept[index] = FrameState::Holds(page);
+    }
+
+    /// The other frame of a page that ends its way is free.
+    #[inline(always)]
+    pub fn leave(&mut self, other: FrameNo)
+        requires { way_at self.old.states other ≡ true }
+        ensures state { self.new ≡ record self.old { states = slice_set self.old.states other Free } }
+        ensures frames { length self.new.states ≡ length self.old.states }
+    {
+        self.free.insert(other);
+        self.kept[other.get() as usize] = FrameState::Free;
     }
 
     /// How many frames are free.
@@ -149,12 +206,11 @@ impl Frames {
     /// Says whether the page that a frame holds may be taken from it.
     #[inline(always)]
     pub fn set_movable(&mut self, frame: FrameNo, movable: bool)
-        requires { frame < length self.old.states }
+        requires { holds_at self.old.states frame ≡ true }
         ensures movable { self.new ≡ record self.old { movable = slice_set self.old.movable frame movable } }
         ensures frames { length self.new.movable ≡ length self.old.movable }
     {
-        let state = self.state(frame);
-        self.stuck.put(frame, lists::is_stuck(&state, movable));
+        self.stuck.put(frame, !movable);
         self.movable[frame.get() as usize] = movable;
     }
 
@@ -199,7 +255,8 @@ impl Frames {
         ensures low { fingers.new.migrate ≤ fingers.new.free }
         ensures high { fingers.new.free ≤ length self.now.states }
     {
-        pair::next_seen(&self.kept, &self.held, &self.movable, marked, fingers)
+        let free = self.free.numbers();
+        pair::next_told(&self.kept, free, &self.movable, marked, fingers)
     }
 
     /// Whether in an unmarked pageblock some frame is handed out, or holds a page that may not be taken from it.

@@ -1,9 +1,8 @@
 //! Questions about lists of frame states.
 
 ghost use Rattle.std.specs.Prelude.{◌≡◌, ◌/◌, ◌<◌, length, Some};
-ghost use Rattle.scan_core.specs.Frames.{is_free_state, is_huge_state, is_stuck_state, free_in_block};
+ghost use Rattle.scan_core.specs.Frames.{is_free_state, free_in_block};
 ghost use Rattle.scan_core.specs.Pairs.{is_marked};
-ghost use Rattle.scan_core.specs.Seen.{kept_state};
 
 use frame_core::FrameState;
 
@@ -40,35 +39,4 @@ pub fn is_marked(marked: &[bool], frame: usize) -> bool
     ensures { result ≡ is_marked marked.now frame }
 {
     marked[frame / 512]
-}
-
-/// Whether a frame in this state is of a block that is handed out.
-pub fn is_huge(state: &FrameState) -> bool
-    ensures { result ≡ is_huge_state (Some state.now) }
-{
-    match state {
-        FrameState::Huge => true,
-        _ => false,
-    }
-}
-
-/// Whether a frame in this state keeps its pageblock from being freed: it is handed out, or holds a page that isn't movable.
-pub fn is_stuck(state: &FrameState, movable: bool) -> bool
-    ensures { result ≡ is_stuck_state (Some state.now) movable }
-{
-    match state {
-        FrameState::Huge => true,
-        FrameState::Holds(_) => !movable,
-        _ => false,
-    }
-}
-
-/// What is kept of a frame's state.
-pub fn kept(state: FrameState) -> FrameState
-    ensures { result ≡ kept_state state }
-{
-    match state {
-        FrameState::Huge => FrameState::Free,
-        other => other,
-    }
 }

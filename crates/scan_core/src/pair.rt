@@ -1,11 +1,15 @@
 //! The pair of frames that a round takes next.
 
-ghost use Rattle.std.specs.Prelude.{◌≡◌, ◌*◌, ◌<◌, ◌≤◌, length, IfSome};
-ghost use Rattle.scan_core.specs.Seen.{seen};
-ghost use Rattle.scan_core.specs.Pairs.{is_source, is_target, next_source, next_target, next_step, after_step, Finds};
+ghost use Rattle.std.specs.Prelude.{◌≡◌, ◌*◌, ◌<◌, ◌≤◌, ◌&&◌, not, List, length, nat_lt};
+ghost use Rattle.std.specs.FinSet as set;
+ghost use Rattle.frame_core.specs.Below.{highest};
+ghost use Rattle.frame_core.specs.declared.state.FrameState.{FrameState as Stated};
+ghost use Rattle.scan_core.specs.Seen.{IsTold};
+ghost use Rattle.scan_core.specs.Pairs.{is_marked, is_source, next_source, next_step, after_step, Finds};
 
 use crate::fingers::{Fingers, Step};
-use crate::lists::{is_free, is_marked};
+use crate::frame_set::FrameSet;
+use crate::lists::is_marked;
 use crate::numbers::NumberSet;
 use frame_core::{FrameNo, FrameState};
 
@@ -31,34 +35,40 @@ pub fn next_pair(
     ensures low { fingers.new.migrate ≤ fingers.new.free }
     ensures high { fingers.new.free ≤ length frames.now }
 {
-    next_seen(frames, &NumberSet::new(), movable, marked, fingers)
+    next_told(
+        frames,
+        FrameSet::of(frames).numbers(),
+        movable,
+        marked,
+        fingers,
+    )
 }
 
-/// The same of frames that are kept in a list, but for the held ones, which are of blocks that are handed out.
-pub fn next_seen(
-    kept: &[FrameState],
-    held: &NumberSet,
+/// The same of frames of which a list tells the pages that they hold, and a set which of them are free.
+pub fn next_told(
+    holders: &[FrameState],
+    free: &NumberSet,
     movable: &[bool],
     marked: &[bool],
     fingers: &mut Fingers,
 ) -> Step
-    requires few { length kept.now ≤ 4096 }
-    requires movable { length movable.now ≡ length kept.now }
-    requires marked { length kept.now ≤ 512 * length marked.now }
+    requires few { length holders.now ≤ 4096 }
+    requires movable { length movable.now ≡ length holders.now }
+    requires marked { length holders.now ≤ 512 * length marked.now }
     requires low { fingers.old.migrate ≤ fingers.old.free }
-    requires high { fingers.old.free ≤ length kept.now }
+    requires high { fingers.old.free ≤ length holders.now }
 
-    ensures pair { Finds (seen held.now kept.now) movable.now marked.now fingers.old result }
-    ensures step { result ≡ next_step (seen held.now kept.now) movable.now marked.now fingers.old }
+    ensures pair { (states : List Stated) → IsTold states holders.now free.now → Finds states movable.now marked.now fingers.old result }
+    ensures step { (states : List Stated) → IsTold states holders.now free.now → result ≡ next_step states movable.now marked.now fingers.old }
 
     ensures fingers { fingers.new ≡ after_step fingers.old result }
     ensures low { fingers.new.migrate ≤ fingers.new.free }
-    ensures high { fingers.new.free ≤ length kept.now }
+    ensures high { fingers.new.free ≤ length holders.now }
 {
-    let Some(source) = next_source(kept, held, movable, marked, *fingers) else {
+    let Some(source) = next_source(holders, movable, marked, *fingers) else {
         return Step::Met;
     };
-    let Some(target) = next_target(kept, held, marked, *fingers, source) else {
+    let Some(target) = next_target(free, marked, *fingers, source) else {
         return Step::Met;
     };
     fingers.migrate = source.get() + 1;
@@ -68,99 +78,65 @@ pub fn next_seen(
 
 /// The lowest frame between the fingers that a page may be taken from.
 fn next_source(
-    kept: &[FrameState],
-    held: &NumberSet,
+    holders: &[FrameState],
     movable: &[bool],
     marked: &[bool],
     fingers: Fingers,
 ) -> Option<FrameNo>
-    requires few { length kept.now ≤ 4096 }
-    requires movable { length movable.now ≡ length kept.now }
-    requires marked { length kept.now ≤ 512 * length marked.now }
-    requires high { fingers.free ≤ length kept.now }
-    ensures { result ≡ next_source (seen held.now kept.now) movable.now marked.now fingers }
+    requires few { length holders.now ≤ 4096 }
+    requires movable { length movable.now ≡ length holders.now }
+    requires marked { length holders.now ≤ 512 * length marked.now }
+    requires high { fingers.free ≤ length holders.now }
+    ensures { result ≡ next_source holders.now movable.now marked.now fingers }
 {
     for frame in fingers.migrate..fingers.free {
-        if is_source(kept, held, movable, marked, frame) {
+        if is_source(holders, movable, marked, frame as usize) {
             return FrameNo::new(frame);
         }
     }
     None
 }
 
-/// The highest frame above a source and below the free finger that a page may be taken to.
+/// The highest free frame above a source and below the free finger, in an unmarked pageblock.
 fn next_target(
-    kept: &[FrameState],
-    held: &NumberSet,
+    free: &NumberSet,
     marked: &[bool],
     fingers: Fingers,
     source: FrameNo,
 ) -> Option<FrameNo>
-    requires few { length kept.now ≤ 4096 }
-    requires marked { length kept.now ≤ 512 * length marked.now }
-    requires high { fingers.free ≤ length kept.now }
-    ensures { result ≡ next_target (seen held.now kept.now) marked.now fingers source }
+    requires few { fingers.free ≤ 4096 }
+    requires marked { fingers.free ≤ 512 * length marked.now }
+    ensures { result ≡ highest (λ frame. nat_lt source frame && (not (is_marked marked.now frame) && set.contains free.now frame)) fingers.free }
 {
     let mut number = fingers.free;
     while number > source.get() + 1 {
         number -= 1;
-        if is_target(kept, held, marked, number) {
+        if is_target(free, marked, number) {
             return FrameNo::new(number);
         }
     }
     None
 }
 
-fn is_source(
-    kept: &[FrameState],
-    held: &NumberSet,
-    movable: &[bool],
-    marked: &[bool],
-    frame: u32,
-) -> bool
-    requires few { length kept.now ≤ 4096 }
-    requires frame { frame < length kept.now }
-    requires movable { length movable.now ≡ length kept.now }
-    requires marked { length kept.now ≤ 512 * length marked.now }
-    ensures { result ≡ is_source (seen held.now kept.now) movable.now marked.now frame }
-{
-    if held.contains(frame) {
-        return false;
-    }
-    is_kept_source(kept, movable, marked, frame as usize)
-}
-
-fn is_kept_source(frames: &[FrameState], movable: &[bool], marked: &[bool], frame: usize) -> bool
-    requires frame { frame < length frames.now }
-    requires movable { length movable.now ≡ length frames.now }
-    requires marked { length frames.now ≤ 512 * length marked.now }
-    ensures { result ≡ is_source frames.now movable.now marked.now frame }
+fn is_source(holders: &[FrameState], movable: &[bool], marked: &[bool], frame: usize) -> bool
+    requires frame { frame < length holders.now }
+    requires movable { length movable.now ≡ length holders.now }
+    requires marked { length holders.now ≤ 512 * length marked.now }
+    ensures { result ≡ is_source holders.now movable.now marked.now frame }
 {
     if is_marked(marked, frame) {
         return false;
     }
-    match frames[frame] {
+    match holders[frame] {
         FrameState::Holds(_) => movable[frame],
         _ => false,
     }
 }
 
-fn is_target(kept: &[FrameState], held: &NumberSet, marked: &[bool], frame: u32) -> bool
-    requires few { length kept.now ≤ 4096 }
-    requires frame { frame < length kept.now }
-    requires marked { length kept.now ≤ 512 * length marked.now }
-    ensures { result ≡ is_target (seen held.now kept.now) marked.now frame }
+fn is_target(free: &NumberSet, marked: &[bool], frame: u32) -> bool
+    requires frame { frame < 4096 }
+    requires marked { frame < 512 * length marked.now }
+    ensures { result ≡ (not (is_marked marked.now frame) && set.contains free.now frame) }
 {
-    if held.contains(frame) {
-        return false;
-    }
-    is_kept_target(kept, marked, frame as usize)
-}
-
-fn is_kept_target(frames: &[FrameState], marked: &[bool], frame: usize) -> bool
-    requires frame { frame < length frames.now }
-    requires marked { length frames.now ≤ 512 * length marked.now }
-    ensures { result ≡ is_target frames.now marked.now frame }
-{
-    !is_marked(marked, frame) && is_free(&frames[frame])
+    !is_marked(marked, frame as usize) && free.contains(frame)
 }

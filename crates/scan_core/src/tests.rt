@@ -15,16 +15,16 @@ fn frames_know_what_is_free(rt: HostRuntime) -> Result<(), Fail> {
     assert_eq!(rt; frames.free(), 1024);
     assert_eq!(rt; frames.whole_blocks(), 2);
     assert_eq!(rt; frames.lowest_free(), FrameNo::new(0));
-    frames.put(frame(&rt, 0), FrameState::Huge);
-    frames.put(frame(&rt, 2), holding(&rt, 7));
+    fill(&rt, &mut frames, 0, 6);
+    fill(&rt, &mut frames, 2, 7);
     assert_eq!(rt; frames.free(), 1022);
     assert_eq!(rt; frames.whole_blocks(), 1);
     assert_eq!(rt; frames.lowest_free(), FrameNo::new(1));
-    frames.put(frame(&rt, 1), holding(&rt, 8));
+    fill(&rt, &mut frames, 1, 8);
     assert_eq!(rt; frames.lowest_free(), FrameNo::new(3));
     assert!(rt; !frames.is_free(frame(&rt, 2)));
     assert_eq!(rt; frames.state(frame(&rt, 2)), holding(&rt, 7));
-    frames.put(frame(&rt, 0), FrameState::Free);
+    empty(&rt, &mut frames, 0);
     assert_eq!(rt; frames.lowest_free(), FrameNo::new(0));
     Ok(())
 }
@@ -32,11 +32,11 @@ fn frames_know_what_is_free(rt: HostRuntime) -> Result<(), Fail> {
 #[test]
 fn rounds_take_the_lowest_page_to_the_highest_frame(rt: HostRuntime) -> Result<(), Fail> {
     let mut frames = Frames::open(rt.alloc(), 2)?;
-    frames.put(frame(&rt, 3), holding(&rt, 0));
-    frames.put(frame(&rt, 5), holding(&rt, 1));
-    frames.put(frame(&rt, 9), holding(&rt, 2));
-    frames.set_movable(frame(&rt, 5), true);
-    frames.set_movable(frame(&rt, 9), true);
+    fill(&rt, &mut frames, 3, 0);
+    fill(&rt, &mut frames, 5, 1);
+    fill(&rt, &mut frames, 9, 2);
+    set_movable(&rt, &mut frames, 5);
+    set_movable(&rt, &mut frames, 9);
     assert!(rt; !frames.movable(frame(&rt, 3)));
     let unmarked = [false; 8];
     assert!(rt; frames.is_any_stuck(&unmarked));
@@ -130,7 +130,7 @@ fn sets_have_what_walks_find(rt: HostRuntime) {
 #[test]
 fn blocks_of_each_order_are_held(rt: HostRuntime) -> Result<(), Fail> {
     let mut frames = Frames::open(rt.alloc(), 2)?;
-    frames.put(frame(&rt, 0), holding(&rt, 7));
+    fill(&rt, &mut frames, 0, 7);
     for number in 3..10_u32 {
         let order = Order::new(number).expect(&rt, "an order");
         let found = frames.first_run(order);
@@ -168,6 +168,43 @@ fn frame<R: Abort>(rt: &R, number: u32) -> FrameNo
     ensures { result ≡ number }
 {
     FrameNo::new(number).expect(rt, "a frame")
+}
+
+/// A free frame gets a page that stays.
+fn fill<R: Abort>(rt: &R, frames: &mut Frames, number: u32, page: u32)
+    requires { number < length frames.old.states }
+    ensures { length frames.new.states ≡ length frames.old.states }
+{
+    let frame = frame(rt, number);
+    if !frames.is_free(frame) {
+        panic!(rt; "a frame is used");
+    }
+    let page = PageNo::new(page).expect(rt, "a page");
+    frames.fill(frame, page, false);
+}
+
+/// The page of a frame ends.
+fn empty<R: Abort>(rt: &R, frames: &mut Frames, number: u32)
+    requires { number < length frames.old.states }
+    ensures { length frames.new.states ≡ length frames.old.states }
+{
+    let frame = frame(rt, number);
+    let FrameState::Holds(_) = frames.state(frame) else {
+        panic!(rt; "a frame holds no page");
+    };
+    frames.empty(frame);
+}
+
+/// The page of a frame may be taken from it.
+fn set_movable<R: Abort>(rt: &R, frames: &mut Frames, number: u32)
+    requires { number < length frames.old.states }
+    ensures { length frames.new.states ≡ length frames.old.states }
+{
+    let frame = frame(rt, number);
+    let FrameState::Holds(_) = frames.state(frame) else {
+        panic!(rt; "a frame holds no page");
+    };
+    frames.set_movable(frame, true);
 }
 
 fn holding<R: Abort>(rt: &R, page: u32) -> FrameState {

@@ -1,4 +1,4 @@
-use Rattle.std.proofs.Common.{◌≡◌, ◌^◌, ◌≤◌, ◌*◌, ◌%◌, ap, ◌∙◌, subst, ℕ, arith}
+use Rattle.std.proofs.Common.{◌≡◌, ◌^◌, ◌≤◌, ◌*◌, ◌%◌, ap, ◌∙◌, arith}
 use Rattle.scan_core.proofs.Orders.{shifted, one_block}
 use Rattle.scan_core.proofs.frame_set.run_frames.Goals as goal
 

@@ -1,9 +1,9 @@
 use Rattle.std.proofs.Common.{ℕ, ◌∙◌, ◌-◌, ◌<◌, ◌≤◌, inl, inr, ap, sym, arith}
-use Rattle.std.specs.Prelude.{◌&&◌}
+use Rattle.std.specs.Prelude.{not, ◌&&◌}
+use Rattle.std.specs.FinSet as set
 use Rattle.std.proofs.lemmas.Bool.{lt-ltb, le-ltb}
 use Rattle.std.proofs.lemmas.Bool.Decides.{leb_tells}
-use Rattle.scan_core.specs.Seen.{seen}
-use Rattle.scan_core.specs.Pairs.{is_target}
+use Rattle.scan_core.specs.Pairs.{is_marked}
 use Rattle.scan_core.proofs.Bounds.{highest_is, highest_none}
 use Rattle.scan_core.proofs.Found.{some_is}
 use Rattle.scan_core.proofs.pair.next_target.Goals as goal
@@ -23,5 +23,5 @@ returns c =
     sym (highest_none _ _ (λ (k : ℕ) (h : k < c.args.fingers.free). elim (leb_tells c.loop-number.number k) [
       | inl over ↦ c.loop-number.invariant.above k over.1 h
       | inr less ↦ (let low : k ≤ c.args.source = omega (arith, less.1, c.get.ensures.value, c.loop-number-test.false) in
-          ap (λ b. b && is_target (seen c.args.held.now c.args.kept.now) c.args.marked.now k) (le-ltb c.args.source k low))
+          ap (λ b. b && (not (is_marked c.args.marked.now k) && set.contains c.args.free.now k)) (le-ltb c.args.source k low))
     ]))

@@ -1,4 +1,4 @@
-use Rattle.std.proofs.Common.{length, ◌≡◌, ◌∙◌, ◌-◌, ◌∷◌, ℕ, List, refl, ap, subst, sym, arith}
+use Rattle.std.proofs.Common.{◌≡◌, ◌∙◌, ◌-◌, ◌∷◌, ℕ, List, refl, ap, subst, sym, arith}
 use Rattle.std.specs.Prelude.{is_some, slice_set}
 use Rattle.frame_core.specs.declared.state.FrameState.TheVariants.{Free, Holds}
 use Rattle.journal_core.specs.declared.record.Record.TheVariants.{Moved}
@@ -17,7 +17,7 @@ use Rattle.plain_core.specs.Sound.{IsSound, state_of}
 use Rattle.state_core.specs.ZoneState.{ZoneState}
 use Rattle.state_core.proofs.Facts.{not_none}
 use Rattle.state_core.proofs.Settled.{can_move_on, moved_recorded, frames_apart, source_within, target_in, swept_if_moved}
-use Rattle.plain_core.proofs.MoveEnds.{moved_frames, moved_words, kept_movable, then_put, then_noted, moved_settled, some_on_the_way, ending_room}
+use Rattle.plain_core.proofs.MoveEnds.{moved_frames, moved_words, kept_movable, left_settled, still_on_way, source_on_way, target_on_way, moved_settled, some_on_the_way, ending_room}
 use Rattle.plain_core.proofs.Relocation.{Settling, FramesSettled, MovableSettled, WordsSettled, settle_sound, settle_view}
 use Rattle.plain_core.proofs.plain.PlainZone.arrive.Goals as goal
 use Rattle.plain_core.proofs.plain.PlainZone.arrive.Goals.{After-note}
@@ -28,23 +28,16 @@ arrive-requires c =
     some_out c.self.inside.moves c.args.self.now.records c.args.self.now.room sound.moves sound.lawful.well_ended
     (some_on_the_way c.args.self.now c.args.way.now.page c.args.way.now.serial c.args.way.now.source c.args.way.now.target sound.lawful c.requires.placed)
 
-pub put-requires : goal.put-requires
-put-requires c =
+pub leave-requires : goal.leave-requires
+leave-requires c =
     let sound : IsSound c.self.inside c.args.self.now = subst (IsSound c.self.inside) c.self.view_is c.self.invariant in
-    let within = source_within c.args.self.now c.args.way.now.page c.args.way.now.serial c.args.way.now.source c.args.way.now.target sound.lawful c.requires.placed in
-    omega (arith, within, sound.frames.count)
+    source_on_way c.args.self.now c.args.way.now.page c.args.way.now.serial c.args.way.now.source c.args.way.now.target sound.lawful c.requires.placed c.self.inside.frames.states sound.frames
 
-pub put-requires-2 : goal.put-requires-2
-put-requires-2 c =
+pub settle-requires : goal.settle-requires
+settle-requires c =
     let sound : IsSound c.self.inside c.args.self.now = subst (IsSound c.self.inside) c.self.view_is c.self.invariant in
-    let within = target_in c.args.self.now c.args.way.now.page c.args.way.now.serial c.args.way.now.source c.args.way.now.target sound.lawful c.requires.placed in
-    omega (arith, within, sound.frames.count, c.put.ensures.frames, ap (λ (fs : Frames). length fs.states) c.set_movable.ensures.movable)
-
-pub set_movable-requires : goal.set_movable-requires
-set_movable-requires c =
-    let sound : IsSound c.self.inside c.args.self.now = subst (IsSound c.self.inside) c.self.view_is c.self.invariant in
-    let within = target_in c.args.self.now c.args.way.now.page c.args.way.now.serial c.args.way.now.source c.args.way.now.target sound.lawful c.requires.placed in
-    omega (arith, within, sound.frames.count, c.put.ensures.frames)
+    still_on_way c.self.inside.frames c.leave.new.self c.args.way.now.target c.args.way.now.source (λ e. frames_apart c.args.self.now c.args.way.now.page c.args.way.now.serial c.args.way.now.source c.args.way.now.target sound.lawful c.requires.placed (sym e)) c.leave.ensures.state
+    (target_on_way c.args.self.now c.args.way.now.page c.args.way.now.serial c.args.way.now.source c.args.way.now.target sound.lawful c.requires.placed c.self.inside.frames.states sound.frames)
 
 pub write_in-requires : goal.write_in-requires
 write_in-requires c =
@@ -64,7 +57,7 @@ note-requires c =
 -- the fields after the call
 abbrev after : After-note → Inside
 after c = record c.self.inside {
-  frames = c.put-2.new.self;
+  frames = c.settle.new.self;
   tables = c.to_present.new.self;
   words = c.write_in.new.self;
   notes = c.place.new.self;
@@ -72,8 +65,8 @@ after c = record c.self.inside {
   history = c.note.new.self;
 }
 
-frames_are : (c : After-note) → c.put-2.new.self ≡ record { states = slice_set (slice_set c.self.inside.frames.states c.args.way.now.source Free) c.args.way.now.target (Holds c.args.way.now.page); movable = slice_set c.self.inside.frames.movable c.args.way.now.target c.can_move.result }
-frames_are c = then_put _ c.set_movable.new.self c.put-2.new.self _ _ (then_noted _ c.put.new.self c.set_movable.new.self _ _ c.put.ensures.state c.set_movable.ensures.movable) c.put-2.ensures.state
+frames_are : (c : After-note) → c.settle.new.self ≡ record { states = slice_set (slice_set c.self.inside.frames.states c.args.way.now.source Free) c.args.way.now.target (Holds c.args.way.now.page); movable = slice_set c.self.inside.frames.movable c.args.way.now.target c.can_move.result }
+frames_are c = left_settled c.self.inside.frames c.leave.new.self c.settle.new.self _ _ _ _ c.leave.ensures.state c.settle.ensures.page
 
 settling : (c : After-note) → Settling c.self.inside (after c) c.args.self.now c.args.way.now.page (Moving c.args.way.now.serial c.args.way.now.source c.args.way.now.target) (At c.args.way.now.target) (Moved c.args.way.now.serial) c.get-note.result c.args.self.now.migrate c.args.self.now.free
 settling c =

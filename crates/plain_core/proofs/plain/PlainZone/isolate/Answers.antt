@@ -1,5 +1,5 @@
 use Rattle.std.proofs.Common.{get_or, ◌≡◌, ◌∙◌, ◌+◌, ◌-◌, ◌∷◌, ℕ, refl, ap, subst, sym, arith}
-use Rattle.std.specs.Prelude.{Some, is_some, slice_get, slice_set}
+use Rattle.std.specs.Prelude.{Some, false, is_some, slice_get, slice_set, unwrap_or}
 use Rattle.std.proofs.lemmas.Option.{slice_get-get_or}
 use Rattle.frame_core.specs.declared.state.FrameState.TheVariants.{Source, Target}
 use Rattle.journal_core.specs.declared.record.Record.TheVariants.{Isolate}
@@ -8,8 +8,10 @@ use Rattle.table_core.specs.declared.entry.Entry.TheVariants.{Present, Migration
 use Rattle.table_core.specs.Tables.{Replaces}
 use Rattle.plain_core.specs.declared.plain.PlainZone.TheInside.{Inside}
 use Rattle.state_core.specs.declared.placement.Placement.TheVariants.{At, Moving}
-use Rattle.scan_core.specs.Frames.{Frames}
-use Rattle.plain_core.proofs.MoveEnds.{two_puts}
+use Rattle.scan_core.specs.Frames.{Frames, is_holding_state}
+use Rattle.plain_core.proofs.Facts.{held_by}
+use Rattle.plain_core.proofs.MoveEnds.{still_free, two_puts}
+use Rattle.plain_core.proofs.SearchesAndCounts.{free_seen}
 use Rattle.state_core.specs.Pairs.{can_move}
 use Rattle.plain_core.proofs.ListedAddresses.{fresh_serial}
 use Rattle.plain_core.specs.Fits.{MovesFit}
@@ -27,18 +29,22 @@ use Rattle.plain_core.proofs.Relocation.{Settling, FramesSettled, MovableSettled
 use Rattle.plain_core.proofs.plain.PlainZone.isolate.Goals as goal
 use Rattle.plain_core.proofs.plain.PlainZone.isolate.Goals.{After-note}
 
-pub put-requires : goal.put-requires
-put-requires c =
+pub to_source-requires : goal.to_source-requires
+to_source-requires c =
     let sound : IsSound c.self.inside c.args.self.now = subst (IsSound c.self.inside) c.self.view_is c.self.invariant in
-    let within = target_within c.args.self.now c.args.pair sound.lawful c.requires.pair in
-    let low = c.requires.pair.to.low in
-    omega (arith, within, low, sound.frames.count)
+    let from = c.requires.pair.from in
+    record {
+      page = ap is_holding_state (held_by c.self.inside.frames.states c.args.self.now sound.frames c.args.pair.page c.args.pair.source from.here);
+      movable = ap (λ o. unwrap_or o false) (sound.movable.each c.args.pair.page c.args.pair.source from.here) ∙ from.movable;
+    }
 
-pub put-requires-2 : goal.put-requires-2
-put-requires-2 c =
+pub to_target-requires : goal.to_target-requires
+to_target-requires c =
     let sound : IsSound c.self.inside c.args.self.now = subst (IsSound c.self.inside) c.self.view_is c.self.invariant in
-    let within = target_within c.args.self.now c.args.pair sound.lawful c.requires.pair in
-    omega (arith, within, sound.frames.count, c.put.ensures.frames)
+    let to = c.requires.pair.to in
+    let low = to.low in
+    still_free c.self.inside.frames c.to_source.new.self c.args.pair.target c.args.pair.source (Source c.isolate-serial.result) (λ e. absurd (omega arith)) c.to_source.ensures.state
+    (free_seen c.self.inside.frames.states c.args.self.now sound.frames c.args.pair.target (target_within c.args.self.now c.args.pair sound.lawful c.requires.pair) ∙ to.free)
 
 pub isolate-serial-requires : goal.isolate-serial-requires
 isolate-serial-requires c =
@@ -64,7 +70,7 @@ note_is c =
 -- the fields after the call
 abbrev after : After-note → Inside
 after c = record c.self.inside {
-  frames = c.put-2.new.self;
+  frames = c.to_target.new.self;
   tables = c.to_migration.new.self;
   notes = c.place.new.self;
   moves = c.isolate-serial.new.self;
@@ -85,7 +91,7 @@ settling c =
     let target_in = target_within v pair law is in
     let low = is.to.low in
     let high = is.to.high in
-    let frames_are = two_puts z.frames c.put.new.self c.put-2.new.self pair.source pair.target (Source c.isolate-serial.result) (Target c.isolate-serial.result) c.put.ensures.state c.put-2.ensures.state in
+    let frames_are = two_puts z.frames c.to_source.new.self c.to_target.new.self pair.source pair.target (Source c.isolate-serial.result) (Target c.isolate-serial.result) c.to_source.ensures.state c.to_target.ensures.state in
     let fingers = law.fingers.1 in
     record {
       sound = sound;

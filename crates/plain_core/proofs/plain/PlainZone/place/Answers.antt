@@ -1,6 +1,5 @@
-use Rattle.std.proofs.Common.{length, ◌≡◌, ◌∙◌, ℕ, List, ap, subst, sym, arith, not}
+use Rattle.std.proofs.Common.{◌≡◌, ◌∙◌, ℕ, List, ap, subst, sym, arith}
 use Rattle.std.specs.Prelude.{slice_set, unwrap_or}
-use Rattle.frame_core.specs.declared.state.FrameState.TheVariants.{Holds}
 use Rattle.plain_core.specs.declared.note.Note.{Note}
 use Rattle.plain_core.specs.declared.plain.PlainZone.TheInside.{Inside}
 use Rattle.plain_core.specs.Sound.{IsSound, state_of}
@@ -10,7 +9,7 @@ use Rattle.state_core.proofs.Finding.{some_lowest, unused_is}
 use Rattle.state_core.proofs.Placed.{CanPlace}
 use Rattle.plain_core.proofs.FreshPage.{Placing, fresh_note, after_place, place_view, place_sound}
 use Rattle.plain_core.proofs.ListedAddresses.{count_none, not_used}
-use Rattle.plain_core.proofs.MoveEnds.{then_put}
+use Rattle.plain_core.proofs.SearchesAndCounts.{free_seen}
 use Rattle.scan_core.specs.Frames.{Frames}
 use Rattle.plain_core.proofs.plain.PlainZone.place.Goals as goal
 use Rattle.plain_core.proofs.plain.PlainZone.place.Goals.{After-note}
@@ -33,18 +32,13 @@ can c =
       within = c.requires.within;
     }
 
+pub fill-requires : goal.fill-requires
+fill-requires c =
+    let sound : IsSound c.self.inside c.args.self.now = subst (IsSound c.self.inside) c.self.view_is c.self.invariant in
+    free_seen c.self.inside.frames.states c.args.self.now sound.frames c.args.frame c.requires.within ∙ c.requires.free
+
 pub put-requires : goal.put-requires
 put-requires c =
-    let sound : IsSound c.self.inside c.args.self.now = subst (IsSound c.self.inside) c.self.view_is c.self.invariant in
-    omega (arith, c.requires.within, sound.frames.count, ap (λ (fs : Frames). length fs.states) c.set_movable.ensures.movable)
-
-pub set_movable-requires : goal.set_movable-requires
-set_movable-requires c =
-    let sound : IsSound c.self.inside c.args.self.now = subst (IsSound c.self.inside) c.self.view_is c.self.invariant in
-    omega (arith, c.requires.within, sound.frames.count)
-
-pub put-requires-2 : goal.put-requires-2
-put-requires-2 c =
     let sound : IsSound c.self.inside c.args.self.now = subst (IsSound c.self.inside) c.self.view_is c.self.invariant in
     let unused = unused_is c.args.self.now c.unused_page-page.result c.unused_page-page.ensures in
     omega (arith, unused.0, sound.notes.count)
@@ -72,14 +66,11 @@ after c frames rows notes = record c.self.inside {
   history = c.note.new.self;
 }
 
-frames_are : (c : After-note) → c.put.new.self ≡ record { states = slice_set c.self.inside.frames.states c.args.frame (Holds c.unused_page-page.result); movable = slice_set c.self.inside.frames.movable c.args.frame (not c.args.unmovable) }
-frames_are c = then_put _ c.set_movable.new.self c.put.new.self _ _ c.set_movable.ensures.movable c.put.ensures.state
+notes_are : (c : After-note) → c.put.new.self ≡ slice_set c.self.inside.notes c.unused_page-page.result (fresh_note c.args.unmovable c.args.frame)
+notes_are c = c.put.ensures ∙ ap (slice_set c.self.inside.notes c.unused_page-page.result) c.fresh.ensures
 
-notes_are : (c : After-note) → c.put-2.new.self ≡ slice_set c.self.inside.notes c.unused_page-page.result (fresh_note c.args.unmovable c.args.frame)
-notes_are c = c.put-2.ensures ∙ ap (slice_set c.self.inside.notes c.unused_page-page.result) c.fresh.ensures
-
-same : (c : After-note) → after c c.put.new.self c.blank.new.self c.put-2.new.self ≡ after_place c.self.inside c.args.unmovable c.unused_page-page.result c.args.frame c.set.new.self c.note.new.self
-same c = λ i. after c (frames_are c i) (c.blank.ensures.blank i) (notes_are c i)
+same : (c : After-note) → after c c.fill.new.self c.blank.new.self c.put.new.self ≡ after_place c.self.inside c.args.unmovable c.unused_page-page.result c.args.frame c.set.new.self c.note.new.self
+same c = λ i. after c (c.fill.ensures.page i) (c.blank.ensures.blank i) (notes_are c i)
 
 view : (c : After-note) → state_of (after_place c.self.inside c.args.unmovable c.unused_page-page.result c.args.frame c.set.new.self c.note.new.self) ≡ placed c.args.self.now c.args.client c.args.address c.args.unmovable c.unused_page-page.result c.args.frame
 view c = place_view c.self.inside c.args.self.now c.args.client c.args.address c.args.unmovable c.unused_page-page.result c.args.frame c.set.new.self c.note.new.self (placing c)

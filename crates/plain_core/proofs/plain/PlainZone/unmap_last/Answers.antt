@@ -1,16 +1,17 @@
-use Rattle.std.proofs.Common.{◌∙◌, ap, subst, arith}
+use Rattle.std.proofs.Common.{◌∙◌, ap, subst}
 use Rattle.std.specs.Prelude.{slice_set}
-use Rattle.state_core.specs.declared.placement.Placement.TheVariants.{At}
-use Rattle.state_core.proofs.Facts.{frame_within, spare}
+use Rattle.state_core.proofs.Facts.{spare}
+use Rattle.scan_core.specs.Frames.{is_holding_state}
 use Rattle.plain_core.specs.Sound.{IsSound}
+use Rattle.plain_core.proofs.Facts.{held_by}
 use Rattle.plain_core.proofs.Unmapped.{Unmapping, last_holds}
 use Rattle.plain_core.proofs.plain.PlainZone.unmap_last.Goals as goal
 use Rattle.plain_core.proofs.plain.PlainZone.unmap_last.Goals.{After-note}
 
-pub put-requires : goal.put-requires
-put-requires c =
+pub empty-requires : goal.empty-requires
+empty-requires c =
     let sound : IsSound c.self.inside c.args.self.now = subst (IsSound c.self.inside) c.self.view_is c.self.invariant in
-    omega (arith, frame_within c.args.self.now sound.lawful c.args.page (At c.args.frame) c.requires.here, sound.frames.count)
+    ap is_holding_state (held_by c.self.inside.frames.states c.args.self.now sound.frames c.args.page c.args.frame c.requires.here)
 
 unmapping : (c : After-note) → Unmapping c.self.inside c.args.self.now c.args.client c.args.address c.args.page c.args.frame c.clear.new.self c.note.new.self
 unmapping c =
@@ -25,10 +26,10 @@ unmapping c =
     }
 
 pub invariant_of-self : goal.invariant_of-self
-invariant_of-self c = (last_holds _ _ _ _ _ _ _ _ (unmapping c) c.requires.last c.put.new.self c.put-2.new.self c.put.ensures.state (c.put-2.ensures ∙ ap (slice_set c.self.inside.notes c.args.page) c.unused.ensures)).0
+invariant_of-self c = (last_holds _ _ _ _ _ _ _ _ (unmapping c) c.requires.last c.empty.new.self c.put.new.self c.empty.ensures.state (c.put.ensures ∙ ap (slice_set c.self.inside.notes c.args.page) c.unused.ensures)).0
 
 pub returns-clause-step : goal.returns-clause-step
-returns-clause-step c = (last_holds _ _ _ _ _ _ _ _ (unmapping c) c.requires.last c.put.new.self c.put-2.new.self c.put.ensures.state (c.put-2.ensures ∙ ap (slice_set c.self.inside.notes c.args.page) c.unused.ensures)).1
+returns-clause-step c = (last_holds _ _ _ _ _ _ _ _ (unmapping c) c.requires.last c.empty.new.self c.put.new.self c.empty.ensures.state (c.put.ensures ∙ ap (slice_set c.self.inside.notes c.args.page) c.unused.ensures)).1
 
 pub returns-clause-lawful : goal.returns-clause-lawful
 returns-clause-lawful c = (invariant_of-self c).lawful

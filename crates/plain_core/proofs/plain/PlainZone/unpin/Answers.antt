@@ -2,11 +2,12 @@ use Rattle.std.proofs.Common.{◌∙◌, ℕ, ◌-◌, ap, subst, sym, arith}
 use Rattle.std.specs.Prelude.{Option, slice_set, unwrap_or, is_some}
 use Rattle.journal_core.specs.declared.record.Record.TheVariants.{Unpin}
 use Rattle.journal_core.specs.History.{pins}
-use Rattle.state_core.specs.declared.placement.Placement.TheVariants.{At}
-use Rattle.state_core.proofs.Facts.{frame_within, spare}
+use Rattle.state_core.proofs.Facts.{spare}
 use Rattle.plain_core.specs.declared.note.Note.{Note}
 use Rattle.plain_core.specs.Notes.{movable_by}
+use Rattle.scan_core.specs.Frames.{is_holding_state}
 use Rattle.plain_core.specs.Sound.{IsSound}
+use Rattle.plain_core.proofs.Facts.{held_by}
 use Rattle.plain_core.proofs.Noting.{Noting, noting_holds}
 use Rattle.plain_core.proofs.Pinned.{unpinning}
 use Rattle.plain_core.proofs.Tables.{note_seen, placement_seen}
@@ -23,8 +24,7 @@ pub say_movable-requires : goal.say_movable-requires
 say_movable-requires c frame at =
     let sound : IsSound c.self.inside c.args.self.now = subst (IsSound c.self.inside) c.self.view_is c.self.invariant in
     let seen = note_seen c.self.inside c.args.self.now c.self.view_is sound c.page_at-page.result c.page_at-page.ensures.in_use c.get.result c.get.ensures in
-    let within = frame_within c.args.self.now sound.lawful c.page_at-page.result (At frame) (sym seen.placement ∙ sym (ap (λ (n : Note). n.placement) c.without_pin-note.ensures) ∙ at) in
-    omega (arith, within, sound.frames.count)
+    ap is_holding_state (held_by c.self.inside.frames.states c.args.self.now sound.frames c.page_at-page.result frame (sym seen.placement ∙ sym (ap (λ (n : Note). n.placement) c.without_pin-note.ensures) ∙ at))
 
 known : (c : After-note) → Noting c.self.inside c.args.self.now c.page_at-page.result (Unpin c.args.client c.args.address) c.get.result (record c.get.result { pins = c.get.result.pins - 1 }) c.say_movable.new.frames c.self.inside.tables c.note.new.self
 known c =

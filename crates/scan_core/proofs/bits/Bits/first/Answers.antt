@@ -1,4 +1,4 @@
-use Rattle.std.proofs.Common.{◌≡◌, ◌<◌, ℕ, List, slice_index, subst, w64, arith}
+use Rattle.std.proofs.Common.{◌≡◌, ℕ, List, slice_index, subst, w64, arith}
 use Rattle.std.specs.Int.{trailing_zeros}
 use Rattle.scan_core.specs.Bits.{IsFirstWord}
 use Rattle.scan_core.proofs.Masking.{first_by_summary, none_by_summary}

@@ -1,4 +1,4 @@
-use Rattle.std.proofs.Common.{◌≡◌, ◌∙◌, ℕ, ◌<◌, List, false, not, ap, sym, slice_index, below_more, arith}
+use Rattle.std.proofs.Common.{◌∙◌, ℕ, ◌<◌, List, not, ap, sym, slice_index, below_more, arith}
 use Rattle.std.specs.Prelude.{◌&&◌, nat_lt}
 use Rattle.frame_core.specs.Below.{some_below}
 use Rattle.frame_core.proofs.Searches.{some_at, none_some}

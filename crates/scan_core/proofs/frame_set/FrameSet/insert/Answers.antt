@@ -1,9 +1,7 @@
-use Rattle.std.proofs.Common.{◌^◌, ap, sym, ◌∙◌, slice_index, arith}
-use Rattle.std.specs.Prelude.{not, nat_eq, ◌&&◌, ◌||◌}
+use Rattle.std.proofs.Common.{ap, ◌∙◌, slice_index, arith}
 use Rattle.std.specs.FinSet as set
-use Rattle.scan_core.specs.NumberSet.{in_run}
-use Rattle.scan_core.proofs.RunCounts.{room_more, room_fewer}
-use Rattle.scan_core.proofs.FrameSets.{set_more, set_fewer, inserts_one, removes_one, inserts_run, removes_run}
+use Rattle.scan_core.proofs.RunCounts.{room_more}
+use Rattle.scan_core.proofs.FrameSets.{set_more, inserts_one}
 use Rattle.scan_core.proofs.frame_set.FrameSet.insert.Goals as goal
 
 pub overflow_add-self : goal.overflow_add-self

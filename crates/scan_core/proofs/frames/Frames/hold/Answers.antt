@@ -1,19 +1,17 @@
-use Rattle.std.proofs.Common.{◌≡◌, ◌+◌, ◌<◌, ◌≤◌, ◌^◌, ◌∙◌, ℕ, Bool, true, false, List, length, length-set, refl, sym, ap, subst, Vec, arith}
-use Rattle.std.specs.Prelude.{Some, None, IfSome, unwrap_or, nat_le, slice_get, slice_set, ◌&&◌, ◌||◌}
+use Rattle.std.proofs.Common.{◌+◌, ◌≤◌, ◌^◌, ◌∙◌, length, ap, arith}
+use Rattle.std.specs.Prelude.{nat_le, ◌||◌}
 use Rattle.std.specs.FinSet as set
-use Rattle.std.proofs.lemmas.Option.{slice_get_read}
-use Rattle.scan_core.specs.Frames.{Frames, free_at, huge_at, true_at}
+use Rattle.scan_core.specs.Frames.{Frames, free_at}
 use Rattle.scan_core.proofs.Sounding.{kept_length}
 use Rattle.frame_core.specs.Order.{is_aligned}
-use Rattle.frame_core.specs.declared.state.FrameState.TheVariants.{Free, Huge}
+use Rattle.frame_core.specs.declared.state.FrameState.TheVariants.{Huge}
 use Rattle.std.proofs.lemmas.Bool.{leb-true}
-use Rattle.std.specs.Prelude.{not}
 use Rattle.scan_core.specs.NumberSet.{all_from, in_run}
 use Rattle.scan_core.specs.Runs.{has_block, is_run, with_run}
 use Rattle.scan_core.specs.Seen.{seen}
 use Rattle.scan_core.proofs.FrameSets.{all_pass}
 use Rattle.scan_core.proofs.Spanning.{both}
-use Rattle.scan_core.proofs.Steps.{sound_held, sound_released, free_stuck, huge_is_stuck, huge_isnt_free}
+use Rattle.scan_core.proofs.Steps.{sound_held, free_stuck}
 use Rattle.scan_core.proofs.frames.Frames.hold.Goals as goal
 
 pub remove_run-requires-clause-all : goal.remove_run-requires-clause-all

@@ -1,4 +1,4 @@
-use Rattle.std.proofs.Common.{◌≡◌, length, ap, arith}
+use Rattle.std.proofs.Common.{length, ap, arith}
 use Rattle.scan_core.specs.Frames.{Frames}
 use Rattle.scan_core.proofs.Sounding.{kept_length}
 use Rattle.scan_core.proofs.frames.Frames.len.Goals as goal

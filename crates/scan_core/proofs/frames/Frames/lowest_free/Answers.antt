@@ -1,6 +1,5 @@
 use Rattle.std.proofs.Common.{◌≡◌, ◌∙◌, ap, length, true, subst, ℕ, Bool}
 use Rattle.std.specs.Prelude.{IfSome}
-use Rattle.std.specs.FinSet as set
 use Rattle.frame_core.specs.Below.{lowest}
 use Rattle.scan_core.specs.Frames.{Frames, free_at}
 use Rattle.scan_core.proofs.Sounding.{lowest_counted, if_some_within, free_is}

@@ -1,8 +1,7 @@
-use Rattle.std.proofs.Common.{◌≡◌, ◌+◌, ◌<◌, ◌≤◌, ◌^◌, ◌∙◌, ℕ, Bool, true, false, List, length, length-set, refl, sym, ap, subst, Vec, arith}
-use Rattle.std.specs.Prelude.{Some, None, IfSome, unwrap_or, nat_le, slice_get, slice_set, ◌&&◌, ◌||◌}
-use Rattle.std.specs.FinSet as set
+use Rattle.std.proofs.Common.{◌<◌, ◌∙◌, length, refl, sym, ap, arith}
+use Rattle.std.specs.Prelude.{slice_get}
 use Rattle.std.proofs.lemmas.Option.{slice_get_read}
-use Rattle.scan_core.specs.Frames.{Frames, free_at, huge_at, true_at}
+use Rattle.scan_core.specs.Frames.{Frames}
 use Rattle.scan_core.proofs.Sounding.{kept_length}
 use Rattle.scan_core.proofs.frames.Frames.movable.Goals as goal
 

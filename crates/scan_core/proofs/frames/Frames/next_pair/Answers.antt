@@ -1,9 +1,31 @@
-use Rattle.std.proofs.Common.{length, ap, arith}
-use Rattle.scan_core.specs.Frames.{Frames}
-use Rattle.scan_core.proofs.Sounding.{kept_length}
+use Rattle.std.proofs.Common.{◌∙◌, Bool, List, length, ap, arith, subst}
+use Rattle.std.specs.FinSet as set
+use Rattle.frame_core.specs.declared.state.FrameState.{FrameState}
+use Rattle.scan_core.specs.Frames.{Frames, holds_at}
+use Rattle.scan_core.specs.Pairs.{Finds, next_step}
+use Rattle.scan_core.specs.Seen.{IsTold, seen}
+use Rattle.scan_core.proofs.Sounding.{is_told, kept_length}
 use Rattle.scan_core.proofs.frames.Frames.next_pair.Goals as goal
+use Rattle.scan_core.proofs.frames.Frames.next_pair.Goals.{After-next_told}
 
-pub next_seen-requires-clause-high : goal.next_seen-requires-clause-high
-next_seen-requires-clause-high c =
+pub next_told-requires-clause-high : goal.next_told-requires-clause-high
+next_told-requires-clause-high c =
     let states = ap (λ (frames : Frames). length frames.states) c.self.view_is in
-    omega (arith, c.requires.high, states, kept_length c.self.inside c.self.invariant, c.deref.ensures.len, c.deref.ensures.value, c.self.inside.kept.ok.0)
+    omega (arith, c.requires.high, states, kept_length c.self.inside c.self.invariant, c.deref.ensures.len, c.self.inside.kept.ok.0)
+
+told : (c : After-next_told) → IsTold (seen c.self.inside.held c.self.inside.kept.items) c.deref.result.now c.numbers-free.result.now
+told c = let is = is_told c.self.inside c.self.invariant in record { holds = λ n. ap (λ (xs : List FrameState). holds_at xs n) c.deref.ensures.value ∙ is.holds n; free = λ n. ap (λ s. set.contains s n) c.numbers-free.ensures ∙ is.free n }
+
+pub returns-clause-pair : goal.returns-clause-pair
+returns-clause-pair c = subst (λ (frames : Frames). Finds frames.states frames.movable c.args.marked.now c.args.fingers.now c.next_told.result) c.self.view_is
+    (subst (λ (movable : List Bool). Finds (seen c.self.inside.held c.self.inside.kept.items) movable c.args.marked.now c.args.fingers.now c.next_told.result) c.deref-2.ensures.value (c.next_told.ensures.pair _ (told c)))
+
+pub returns-clause-step : goal.returns-clause-step
+returns-clause-step c = c.next_told.ensures.step _ (told c)
+    ∙ ap (λ (movable : List Bool). next_step (seen c.self.inside.held c.self.inside.kept.items) movable c.args.marked.now c.args.fingers.now) c.deref-2.ensures.value
+    ∙ ap (λ (frames : Frames). next_step frames.states frames.movable c.args.marked.now c.args.fingers.now) c.self.view_is
+
+pub returns-clause-high : goal.returns-clause-high
+returns-clause-high c =
+    let states = ap (λ (frames : Frames). length frames.states) c.self.view_is in
+    omega (arith, c.next_told.ensures.high, states, kept_length c.self.inside c.self.invariant, c.deref.ensures.len, c.self.inside.kept.ok.0)

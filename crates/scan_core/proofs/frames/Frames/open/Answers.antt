@@ -1,12 +1,8 @@
-use Rattle.std.proofs.Common.{◌≡◌, ◌+◌, ◌<◌, ◌≤◌, ◌^◌, ◌∙◌, ℕ, Bool, true, false, List, length, length-set, refl, sym, ap, subst, Vec, arith}
-use Rattle.std.specs.Prelude.{Some, None, IfSome, unwrap_or, nat_le, slice_get, slice_set, ◌&&◌, ◌||◌}
-use Rattle.std.specs.FinSet as set
-use Rattle.std.proofs.lemmas.Option.{slice_get_read}
-use Rattle.scan_core.specs.Frames.{Frames, free_at, huge_at, true_at}
-use Rattle.scan_core.proofs.Sounding.{kept_length}
+use Rattle.std.proofs.Common.{◌∙◌, ℕ, List, length, ap}
+use Rattle.scan_core.specs.Frames.{free_at}
 use Rattle.frame_core.specs.declared.state.FrameState.{FrameState}
 use Rattle.frame_core.specs.declared.state.FrameState.TheVariants.{Free}
-use Rattle.std.specs.Prelude.{replicate, ◌*◌}
+use Rattle.std.specs.Prelude.{◌*◌}
 use Rattle.std.proofs.lemmas.List.{length-replicate}
 use Rattle.scan_core.proofs.Steps.{sound_free}
 use Rattle.scan_core.proofs.frames.Frames.open.Goals as goal

@@ -4,7 +4,7 @@ use Rattle.std.specs.FinSet as set
 use Rattle.std.proofs.lemmas.Option.{slice_get_read}
 use Rattle.scan_core.specs.Frames.{Frames, is_free_state}
 use Rattle.scan_core.proofs.Sounding.{kept_length}
-use Rattle.scan_core.proofs.Seeing.{seen_get, seen_state, seen_free}
+use Rattle.scan_core.proofs.Seeing.{seen_get, seen_state}
 use Rattle.scan_core.proofs.Spanning.{same_by}
 use Rattle.scan_core.proofs.frames.Frames.state.Goals as goal
 use Rattle.scan_core.proofs.frames.Frames.state.Goals.{else-is_free-via-then-is_free+else-contains, else-is_free-via-else-is_free}
@@ -38,4 +38,4 @@ returns c =
       | else-is_free-via-else-is_free w ↦ same_by (set.contains z.held c.args.frame) false (λ e. sym w.if-is_free.false ∙ c.is_free.ensures ∙ ap is_free_state (sym read ∙ c.self.invariant.held c.args.frame e)) (λ e. cc)
     ] in
     ap (λ (frames : Frames). slice_get frames.states c.args.frame) (sym c.self.view_is)
-    ∙ seen_free z.held z.kept.items c.args.frame unheld ∙ read
+    ∙ seen_get (set.contains z.held) z.kept.items c.args.frame ∙ (λ i. seen_state (unheld i) (read i))

@@ -1,4 +1,4 @@
-use Rattle.std.proofs.Common.{◌+◌, ◌*◌, ◌∙◌, sym, ap, subst, w64, arith}
+use Rattle.std.proofs.Common.{◌+◌, ◌*◌, ◌∙◌, sym, ap, w64, arith}
 use Rattle.std.specs.Int.{trailing_zeros}
 use Rattle.frame_core.specs.Below.{lowest}
 use Rattle.frame_core.proofs.Searches.{lowest_some}

@@ -1,9 +1,0 @@
-use Rattle.std.proofs.Common.{sym, ◌∙◌}
-use Rattle.scan_core.proofs.Seeing.{no_target_held, target_kept}
-use Rattle.scan_core.proofs.pair.is_target.Goals as goal
-
-pub returns-then-contains : goal.returns-then-contains
-returns-then-contains c = sym (no_target_held c.args.held.now c.args.kept.now c.args.frame c.args.marked.now (sym c.contains.ensures ∙ c.if-contains.true))
-
-pub returns : goal.returns
-returns c = c.is_kept_target.ensures ∙ sym (target_kept c.args.held.now c.args.kept.now c.args.frame c.args.marked.now (sym c.contains.ensures ∙ c.if-contains.false))
