@@ -14,13 +14,14 @@ pub struct Words {
 }
 
 impl Model for Words {
-    ghost use Rattle.std.specs.Prelude.{◌≡◌, ℕ, List, vec_len, vec_capacity};
+    ghost use Rattle.std.specs.Prelude.{◌≡◌, ℕ, List, length, vec_len, vec_capacity};
+    ghost use Rattle.std.specs.List.{All};
 
     ghost Value = { List (List ℕ) };
 
     ghost view = { λ w. w.rows.items };
 
-    ghost invariant = { λ w. vec_capacity w.rows ≡ vec_len w.rows };
+    ghost invariant = { λ w. (vec_capacity w.rows ≡ vec_len w.rows) × All (λ row. length row ≡ 8) w.rows.items };
 }
 
 impl Words {
@@ -72,7 +73,14 @@ impl Words {
         requires { frame < length self.now }
         ensures { IsTrue result ↔ (words_of self.now frame ≡ page.now.words) }
     {
-        self.row(frame) == page.words()
+        let row = self.row(frame);
+        let words = page.words();
+        let mut same = true;
+        // Without an early end all eight are compared at once.
+        for word in 0..8 {
+            same &= row[word] == words[word];
+        }
+        same
     }
 
     /// Copies the page's words into the frame.
@@ -87,7 +95,8 @@ impl Words {
 
     fn row(&self, frame: FrameNo) -> &[u64; 8]
         requires { frame < length self.now }
-        ensures { result.now ≡ words_of self.now frame }
+        ensures value { result.now ≡ words_of self.now frame }
+        ensures eight { length result.now ≡ 8 }
     {
         &self.rows[frame.get() as usize]
     }
