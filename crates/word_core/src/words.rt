@@ -3,7 +3,7 @@ ghost use Rattle.word_core.specs.Page.{blank_words};
 ghost use Rattle.word_core.specs.Words.{words_of, word_of, with_words, with_word};
 
 use crate::page::Page;
-use frame_core::{FrameNo, WordNo, filled};
+use frame_core::{FrameNo, PageFlags, PageNo, WordNo, ZoneNo, filled};
 use std::alloc::{AllocError, Global};
 use std::marker::Model;
 
@@ -60,12 +60,13 @@ impl Words {
         self.rows[frame.get() as usize] = [0; 8];
     }
 
-    /// Copies the frame's words into the page.
-    pub fn read_out(&self, frame: FrameNo, page: &mut Page)
+    /// The page in a frame, as it is carried.
+    #[inline(always)]
+    pub fn read_out(&self, frame: FrameNo, zone: ZoneNo, number: PageNo, flags: PageFlags) -> Page
         requires { frame < length self.now }
-        ensures { page.new ≡ record page.old { words = words_of self.now frame } }
+        ensures { result ≡ record { zone = zone; number = number; flags = flags; words = words_of self.now frame } }
     {
-        page.put_words(*self.row(frame));
+        Page::carrying(zone, number, flags, *self.row(frame))
     }
 
     /// Whether the frame holds the page's words.
