@@ -64,10 +64,8 @@ impl PlainZone {
         requires { map.get self.now.placement page ≡ Some (At frame) }
         ensures { result ≡ page_now self.now page }
     {
-        let mut carried = Page::new(self.number, page);
-        carried.set_flags(self.flags_of(page));
-        self.words.read_out(frame, &mut carried);
-        carried
+        self.words
+            .read_out(frame, self.number, page, self.flags_of(page))
     }
 
     /// Takes the page of the next pair on its way, under the next serial.

@@ -97,9 +97,20 @@ impl Page {
         &self.words
     }
 
-    pub(crate) fn put_words(&mut self, words: [u64; 8])
-        ensures { self.new ≡ record self.old { words = words } }
+    /// The page with these words.
+    pub(crate) fn carrying(
+        zone: ZoneNo,
+        number: PageNo,
+        flags: PageFlags,
+        words: [u64; 8],
+    ) -> Self
+        ensures { result ≡ record { zone = zone; number = number; flags = flags; words = words } }
     {
-        self.words = words;
+        Page {
+            words,
+            number,
+            zone,
+            flags,
+        }
     }
 }

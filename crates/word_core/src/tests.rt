@@ -48,11 +48,12 @@ fn frames_keep_their_words(rt: HostRuntime) -> Result<(), Fail> {
     assert_eq!(rt; words.load(high, last), 0);
     words.store(high, last, 42);
     assert_eq!(rt; words.load(high, last), 42);
-    let mut page = page_with(3, 0).ok_or("in range")?;
+    let page = page_with(3, 0).ok_or("in range")?;
     assert!(rt; words.same(low, &page));
     assert!(rt; !words.same(high, &page));
-    words.read_out(high, &mut page);
+    let page = words.read_out(high, page.zone(), page.number(), PageFlags::DIRTY);
     assert_eq!(rt; page.word(last), 42);
+    assert_eq!(rt; page.flags(), PageFlags::DIRTY);
     words.write_in(low, &page);
     assert_eq!(rt; words.load(low, last), 42);
     words.blank(high);

@@ -3,7 +3,7 @@ ghost use Rattle.word_core.specs.Page.{blank_words};
 ghost use Rattle.word_core.specs.Words.{words_of, word_of, with_words, with_word};
 
 use crate::page::Page;
-use frame_core::{FrameNo, WordNo, filled};
+use frame_core::{FrameNo, PageFlags, PageNo, WordNo, ZoneNo, filled};
 use std::alloc::{AllocError, Global};
 use std::marker::Model;
 
@@ -14,13 +14,14 @@ pub struct Words {
 }
 
 impl Model for Words {
-    ghost use Rattle.std.specs.Prelude.{◌≡◌, ℕ, List, vec_len, vec_capacity};
+    ghost use Rattle.std.specs.Prelude.{◌≡◌, ℕ, List, length, vec_len, vec_capacity};
+    ghost use Rattle.std.specs.List.{All};
 
     ghost Value = { List (List ℕ) };
 
     ghost view = { λ w. w.rows.items };
 
-    ghost invariant = { λ w. vec_capacity w.rows ≡ vec_len w.rows };
+    ghost invariant = { λ w. (vec_capacity w.rows ≡ vec_len w.rows) × All (λ row. length row ≡ 8) w.rows.items };
 }
 
 impl Words {
@@ -59,12 +60,13 @@ impl Words {
         self.rows[frame.get() as usize] = [0; 8];
     }
 
-    /// Copies the frame's words into the page.
-    pub fn read_out(&self, frame: FrameNo, page: &mut Page)
+    /// The page in a frame, as it is carried.
+    #[inline(always)]
+    pub fn read_out(&self, frame: FrameNo, zone: ZoneNo, number: PageNo, flags: PageFlags) -> Page
         requires { frame < length self.now }
-        ensures { page.new ≡ record page.old { words = words_of self.now frame } }
+        ensures { result ≡ record { zone = zone; number = number; flags = flags; words = words_of self.now frame } }
     {
-        page.put_words(*self.row(frame));
+        Page::carrying(zone, number, flags, *self.row(frame))
     }
 
     /// Whether the frame holds the page's words.
@@ -72,7 +74,14 @@ impl Words {
         requires { frame < length self.now }
         ensures { IsTrue result ↔ (words_of self.now frame ≡ page.now.words) }
     {
-        self.row(frame) == page.words()
+        let row = self.row(frame);
+        let words = page.words();
+        let mut same = true;
+        // Without an early end all eight are compared at once.
+        for word in 0..8 {
+            same &= row[word] == words[word];
+        }
+        same
     }
 
     /// Copies the page's words into the frame.
@@ -87,7 +96,8 @@ impl Words {
 
     fn row(&self, frame: FrameNo) -> &[u64; 8]
         requires { frame < length self.now }
-        ensures { result.now ≡ words_of self.now frame }
+        ensures value { result.now ≡ words_of self.now frame }
+        ensures eight { length result.now ≡ 8 }
     {
         &self.rows[frame.get() as usize]
     }

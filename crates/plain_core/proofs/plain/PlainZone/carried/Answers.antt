@@ -1,6 +1,4 @@
 use Rattle.std.proofs.Common.{◌∙◌, ap, subst, arith}
-use Rattle.word_core.specs.Page.{Page}
-use Rattle.word_core.specs.Words.{words_of}
 use Rattle.state_core.specs.declared.placement.Placement.TheVariants.{At}
 use Rattle.plain_core.specs.Sound.{IsSound}
 use Rattle.state_core.specs.ZoneState.{ZoneState}
@@ -19,6 +17,4 @@ returns c =
     let sound : IsSound c.self.inside c.args.self.now = subst (IsSound c.self.inside) c.self.view_is c.self.invariant in
     let zone = ap (λ (u : ZoneState). u.number) c.self.view_is in
     let words = words_seen c.self.inside.words c.args.self.now sound.words sound.lawful c.args.page (At c.args.frame) c.requires in
-    c.read_out.ensures
-    ∙ ap (λ (p : Page). record p { words = words_of c.self.inside.words c.args.frame }) (c.set_flags.ensures ∙ ap (λ (p : Page). record p { flags = c.flags_of.result }) c.new-carried.ensures)
-    ∙ (λ i. record { zone = zone i; number = c.args.page; flags = c.flags_of.ensures i; words = words i })
+    c.read_out.ensures ∙ (λ i. record { zone = zone i; number = c.args.page; flags = c.flags_of.ensures i; words = words i })

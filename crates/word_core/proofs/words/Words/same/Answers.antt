@@ -1,5 +1,13 @@
-use Rattle.std.proofs.lemmas.Slice.Eq.{bytes_eq-Decides}
+use Rattle.std.proofs.Common.{◌≡◌, length, arith, sym, ◌∙◌}
+use Rattle.std.proofs.lemmas.List.{ext_get_or}
 use Rattle.word_core.proofs.words.Words.same.Goals as goal
 
 pub returns : goal.returns
-returns c = rw (c.eq.ensures, ← c.row.ensures, ← c.words.ensures.value) (bytes_eq-Decides c.row.result.now c.words.result.now)
+returns c =
+    let eight : length c.row-row.result.now ≡ length c.words-words.result.now = c.row-row.ensures.eight ∙ sym c.words-words.ensures.eight in
+    let each = c.loop-word.invariant in (
+      λ same. sym c.row-row.ensures.value
+          ∙ ext_get_or 0 c.row-row.result.now c.words-words.result.now eight (λ word within. each.same same word (omega (arith, c.row-row.ensures.eight)))
+          ∙ c.words-words.ensures.value,
+      λ equal. each.all (c.row-row.ensures.value ∙ equal ∙ sym c.words-words.ensures.value),
+    )
