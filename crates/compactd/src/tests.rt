@@ -885,7 +885,12 @@ fn shows_help(rt: HostRuntime) -> Result<(), Fail> {
 
 #[test]
 fn shows_its_version(rt: HostRuntime) -> Result<(), Fail> {
-    let found = played(&rt, rt.alloc(), &["--version"], FIRST_PAGE.script.as_bytes())?;
+    let found = played(
+        &rt,
+        rt.alloc(),
+        &["--version"],
+        FIRST_PAGE.script.as_bytes(),
+    )?;
     assert_eq!(rt; found.replies.as_slice(), b"compactd 0.1.0\n".as_slice());
     assert!(rt; found.faults.is_empty());
     assert_eq!(rt; found.status, 0);
