@@ -861,12 +861,37 @@ fn refuses_arguments(rt: HostRuntime) -> Result<(), Fail> {
     Ok(())
 }
 
+/// Parts of the help.
+const HELP: [&str; 6] = [
+    "Usage: compactd [OPTIONS]",
+    "--copiers <N>   Copiers that a round has, 1 to 4 [default: 2]",
+    "--capacity <N>  Pages that may wait for a copier, 1 to 64 [default: 8]",
+    "--journal <N>   Records that the journal holds, 1 to 65536 [default: 65536]",
+    "  zone Z B, info Z\n",
+    "  during Z, then lines of a client as above, then end\n",
+];
+
 #[test]
 fn shows_help(rt: HostRuntime) -> Result<(), Fail> {
     let found = played(&rt, rt.alloc(), &["--help"], FIRST_PAGE.script.as_bytes())?;
     let text = std::str::from_utf8(found.replies.as_slice())?;
-    assert!(rt; text.contains("Usage: compactd [OPTIONS]"));
-    assert!(rt; text.contains("--copiers <N>"));
+    for part in HELP.iter() {
+        assert!(rt; text.contains(part), "{part}");
+    }
+    assert!(rt; found.faults.is_empty());
+    assert_eq!(rt; found.status, 0);
+    Ok(())
+}
+
+#[test]
+fn shows_its_version(rt: HostRuntime) -> Result<(), Fail> {
+    let found = played(
+        &rt,
+        rt.alloc(),
+        &["--version"],
+        FIRST_PAGE.script.as_bytes(),
+    )?;
+    assert_eq!(rt; found.replies.as_slice(), b"compactd 0.1.0\n".as_slice());
     assert!(rt; found.faults.is_empty());
     assert_eq!(rt; found.status, 0);
     Ok(())

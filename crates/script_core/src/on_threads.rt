@@ -25,8 +25,9 @@ use std::sync::ledger::Ledger;
 use std::thread::Threads;
 use zone_core::Blanks;
 
-/// Runs a script as `run` does, and its rounds and pools on threads, with the calls of a client beside a round that has a block. These may be answered in more than one way, so that a script is
-/// answered by replies that its machine may give; one without them has just the replies that it has by `run`.
+/// Runs a script as `run` does, and its rounds and pools on threads, with the calls of a client beside the round of a block. These may
+/// be answered in more than one way, so that a script is answered by replies that its machine may give; one without them has just the
+/// replies that it has by `run`.
 pub fn run_on_threads<R: Input, W: Output, H: Threads + Wait + Sync>(
     rt: &H,
     alloc: Global,
@@ -52,7 +53,7 @@ pub fn run_on_threads<R: Input, W: Output, H: Threads + Wait + Sync>(
         (R.reads reader.old) (R.reads reader.new) (R.remaining reader.old)) }
     ensures stuck { IfErr result (λ error. error.fault ≡ Fault.Write → IsTrue (W.stuck writer.new)) }
 
-    // Of a script without rounds and pools all holds that does on one thread.
+    // Of a script without rounds, pools and blocks all holds that does on one thread.
     ensures totals { IfOk result (λ totals. IfSome (R.remaining reader.old) (λ input.
         IsUnthreadedScript input → totals ≡ totals_of options.journal input)) }
     ensures output { OnOk result (IfSome (R.remaining reader.old) (λ input.
