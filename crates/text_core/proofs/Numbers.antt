@@ -84,7 +84,7 @@ number_of_digit d small =
 digit_no_keyword : (d : ℕ) (ds : List ℕ) → is_ascii_digit d ≡ true → keyword_of (d ∷ ds) ≡ Other
 digit_no_keyword d ds digit =
     let low : d < 97 = grind (arith, nat_tests) in
-    rw (ne_eqb d 122 (omega arith), ne_eqb d 109 (omega arith), ne_eqb d 115 (omega arith), ne_eqb d 108 (omega arith), ne_eqb d 105 (omega arith), ne_eqb d 117 (omega arith), ne_eqb d 116 (omega arith), ne_eqb d 99 (omega arith), ne_eqb d 102 (omega arith), ne_eqb d 112 (omega arith), ne_eqb d 104 (omega arith), ne_eqb d 103 (omega arith)) refl
+    rw (ne_eqb d 122 (omega arith), ne_eqb d 109 (omega arith), ne_eqb d 115 (omega arith), ne_eqb d 108 (omega arith), ne_eqb d 105 (omega arith), ne_eqb d 117 (omega arith), ne_eqb d 116 (omega arith), ne_eqb d 99 (omega arith), ne_eqb d 100 (omega arith), ne_eqb d 101 (omega arith), ne_eqb d 102 (omega arith), ne_eqb d 112 (omega arith), ne_eqb d 104 (omega arith), ne_eqb d 103 (omega arith)) refl
 
 -- no word is a number and a keyword
 pub one_of_both : (bytes : List ℕ) → (number_of bytes ≡ None) ⊎ (keyword_of bytes ≡ Other)
