@@ -1,4 +1,4 @@
-use Rattle.std.proofs.Common.{◌≡◌, ◌+◌, ◌++◌, ◌∷◌, [], ℕ, List, length, ap, refl, sym, subst, ◌∙◌, append_assoc, append-nil, arith}
+use Rattle.std.proofs.Common.{◌≡◌, ◌+◌, ◌++◌, ◌∷◌, [], ℕ, List, length, ap, refl, rules, sym, subst, ◌∙◌, append_assoc, append-nil, arith}
 use Rattle.std.proofs.lemmas.Result.{err_from_is_err_and}
 use Rattle.std.specs.Vec.Iter.{into_iter_items}
 use Rattle.script_core.specs.Ends.{StopsIn}
@@ -12,7 +12,7 @@ nothing_left [] h = refl
 nothing_left (x ∷ xs) h = absurd (omega arith)
 
 pub loop-answer-init : goal.loop-answer-init
-loop-answer-init g c = (refl, c.into_iter-answer-iterator.ensures.into_iter_gives.1, λ answers first owes.
+loop-answer-init g c = (refl, search rules, λ answers first owes.
     let O : List Answer → Type 0 = λ list. Owes c.args.self.now list first (g.W.Write.contents c.args.writer.now) in
     subst O (sym (append-nil answers)) owes)
 
