@@ -27,16 +27,12 @@ impl Answer {
         Answer { line, reply }
     }
 
-    pub(crate) fn line(&self) -> u64
-        ensures { result ≡ self.now.line }
+    /// The line, and the reply.
+    pub(crate) fn into_parts(self) -> (u64, Reply)
+        ensures line { result.0 ≡ self.line }
+        ensures reply { result.1 ≡ self.reply }
     {
-        self.line
-    }
-
-    pub(crate) fn reply(&self) -> &Reply
-        ensures { result.now ≡ self.now.reply }
-    {
-        &self.reply
+        (self.line, self.reply)
     }
 }
 

@@ -295,22 +295,48 @@ fn answer_at<I: Ledger, N: Ledger, M: Ledger, B: Ledger>(
     ensures { record { reply = result; world = world.new } ≡ page_step repeated world.old address }
 {
     match address {
-        Some(address) => answer(world, call_at(repeated, address)),
+        Some(address) => repeat(world, repeated, address),
         None => Reply::Refused(1),
     }
 }
 
-/// The call that a series makes at an address.
-fn call_at(repeated: Repeated, address: Address) -> Call
-    ensures { result ≡ call_at repeated address }
+/// Makes the call of a series at an address.
+fn repeat<I: Ledger, N: Ledger, M: Ledger, B: Ledger>(
+    world: &mut World<I, N, M, B>,
+    repeated: Repeated,
+    address: Address,
+) -> Reply
+    ensures { record { reply = result; world = world.new } ≡ call_step world.old (call_at repeated address) }
 {
     match repeated {
-        Repeated::Map => Call::Map {
-            address,
-            unmovable: false,
-        },
-        Repeated::Unmap => Call::Unmap(address),
+        Repeated::Map => map_page(world, address, false),
+        Repeated::Unmap => unmap_page(world, address),
     }
+}
+
+/// Maps a page.
+fn map_page<I: Ledger, N: Ledger, M: Ledger, B: Ledger>(
+    world: &mut World<I, N, M, B>,
+    address: Address,
+    unmovable: bool,
+) -> Reply
+    ensures { record { reply = result; world = world.new } ≡ call_step world.old (Call.Map address unmovable) }
+{
+    world
+        .map(script_client(), address, flags(unmovable))
+        .map_or_else(by_zone, |_| Reply::Done)
+}
+
+/// Takes a page away from an address.
+fn unmap_page<I: Ledger, N: Ledger, M: Ledger, B: Ledger>(
+    world: &mut World<I, N, M, B>,
+    address: Address,
+) -> Reply
+    ensures { record { reply = result; world = world.new } ≡ call_step world.old (Call.Unmap address) }
+{
+    world
+        .unmap(script_client(), address)
+        .map_or_else(by_zone, |()| Reply::Done)
 }
 
 /// A page of a space, where it has so many.
@@ -330,9 +356,7 @@ fn answer<I: Ledger, N: Ledger, M: Ledger, B: Ledger>(
 {
     let client = script_client();
     match call {
-        Call::Map { address, unmovable } => world
-            .map(client, address, flags(unmovable))
-            .map_or_else(by_zone, |_| Reply::Done),
+        Call::Map { address, unmovable } => map_page(world, address, unmovable),
         Call::MapAt {
             address,
             frame,
@@ -363,9 +387,7 @@ fn answer<I: Ledger, N: Ledger, M: Ledger, B: Ledger>(
         Call::Share { address, alias } => world
             .share(client, address, alias)
             .map_or_else(by_zone, |()| Reply::Done),
-        Call::Unmap(address) => world
-            .unmap(client, address)
-            .map_or_else(by_zone, |()| Reply::Done),
+        Call::Unmap(address) => unmap_page(world, address),
         Call::Pin(address) => world
             .pin(client, address)
             .map_or_else(by_zone, |()| Reply::Done),

@@ -7,14 +7,14 @@ ghost use Rattle.text_core.specs.Reply.{IsOneLine, newlines, text_of};
 
 use crate::answer::Answer;
 use crate::output::{Output, write_out};
-use arrayvec::ArrayVec;
+use arrayvec::{ArrayString, ArrayVec};
 use std::marker::Model;
-use text_core::{Reply, push_reply};
+use text_core::push_reply;
 
 /// Replies that wait to be written together, with the line that each of them answers.
 #[derive(Drop)]
 pub(crate) struct Outbox {
-    bytes: ArrayVec<u8, 4096>,
+    text: ArrayString<4096>,
     lines: ArrayVec<u64, 4096>,
 }
 
@@ -23,9 +23,9 @@ impl Model for Outbox {
 
     ghost Value = { Seen };
 
-    ghost view = { λ b. record { bytes = b.bytes.items; lines = b.lines.items } };
+    ghost view = { λ b. record { bytes = b.text.bytes; lines = b.lines.items } };
 
-    ghost invariant = { λ b. IsMarked b.bytes.items b.lines.items };
+    ghost invariant = { λ b. IsMarked b.text.bytes b.lines.items };
 }
 
 impl Outbox {
@@ -33,21 +33,16 @@ impl Outbox {
         ensures { result ≡ empty }
     {
         Outbox {
-            bytes: ArrayVec::new(),
+            text: ArrayString::new(),
             lines: ArrayVec::new(),
         }
     }
 
-    /// Puts the reply to a line behind the others, which are written where there is no room.
-    pub(crate) fn post<W: Output>(
-        &mut self,
-        writer: &mut W,
-        line: u64,
-        reply: &Reply,
-    ) -> Result<(), u64>
+    /// Puts an answer behind the others, which are written where there is no room.
+    pub(crate) fn post<W: Output>(&mut self, writer: &mut W, answer: Answer) -> Result<(), u64>
         ensures ok { OnOk result ((answers : List Answer) (first : Option (List ℕ)) →
             Owes self.old answers first (W.contents writer.old)
-            → Owes self.new (answers ++ record { line = line; reply = reply.now } ∷ []) first (W.contents writer.new)) }
+            → Owes self.new (answers ++ answer ∷ []) first (W.contents writer.new)) }
         // The line whose reply wasn't taken whole.
         ensures err { IfErr result (λ at. (answers : List Answer) (first : Option (List ℕ)) →
             Owes self.old answers first (W.contents writer.old) → StopsIn answers first (W.contents writer.new) at) }
@@ -56,22 +51,26 @@ impl Outbox {
         if !self.has_room() {
             self.flush(writer)?;
         }
-        self.push(line, reply);
+        self.push(answer);
         Ok(())
     }
 
     /// Puts answers behind the others, one after the other.
-    pub(crate) fn post_all<W: Output>(&mut self, writer: &mut W, more: &[Answer]) -> Result<(), u64>
+    pub(crate) fn post_all<W: Output>(
+        &mut self,
+        writer: &mut W,
+        more: Vec<Answer>,
+    ) -> Result<(), u64>
         ensures ok { OnOk result ((answers : List Answer) (first : Option (List ℕ)) →
             Owes self.old answers first (W.contents writer.old)
-            → Owes self.new (answers ++ more.now) first (W.contents writer.new)) }
+            → Owes self.new (answers ++ more.items) first (W.contents writer.new)) }
         // The line whose reply wasn't taken whole, of those that waited and of these.
         ensures err { IfErr result (λ at. (answers : List Answer) (first : Option (List ℕ)) →
-            Owes self.old answers first (W.contents writer.old) → StopsIn (answers ++ more.now) first (W.contents writer.new) at) }
+            Owes self.old answers first (W.contents writer.old) → StopsIn (answers ++ more.items) first (W.contents writer.new) at) }
         ensures stuck { OnErr result (IsTrue (W.stuck writer.new)) }
     {
         for answer in more {
-            self.post(writer, answer.line(), answer.reply())?;
+            self.post(writer, answer)?;
         }
         Ok(())
     }
@@ -80,15 +79,16 @@ impl Outbox {
     fn has_room(&self) -> bool
         ensures { IsTrue result ↔ HasRoom self.now }
     {
-        160 <= self.bytes.remaining_capacity()
+        160 <= self.text.remaining_capacity()
     }
 
-    fn push(&mut self, line: u64, reply: &Reply)
+    fn push(&mut self, answer: Answer)
         requires { HasRoom self.old }
-        ensures waits { self.new ≡ record { bytes = self.old.bytes ++ text_of reply.now; lines = self.old.lines ++ line ∷ [] } }
-        ensures line { IsOneLine (text_of reply.now) }
+        ensures waits { self.new ≡ record { bytes = self.old.bytes ++ text_of answer.reply; lines = self.old.lines ++ answer.line ∷ [] } }
+        ensures line { IsOneLine (text_of answer.reply) }
     {
-        push_reply(&mut self.bytes, reply);
+        let (line, reply) = answer.into_parts();
+        push_reply(&mut self.text, reply);
         self.lines.push(line);
     }
 
@@ -102,11 +102,12 @@ impl Outbox {
             Owes self.old answers first (W.contents writer.old) → StopsIn answers first (W.contents writer.new) at) }
         ensures stuck { OnErr result (IsTrue (W.stuck writer.new)) }
     {
-        if let Err(taken) = write_out(writer, &self.bytes) {
-            let whole = newlines_in(&self.bytes[..taken]);
+        let bytes = self.text.as_str().as_bytes();
+        if let Err(taken) = write_out(writer, bytes) {
+            let whole = newlines_in(&bytes[..taken]);
             return Err(self.lines[whole]);
         }
-        self.bytes.clear();
+        self.text.clear();
         self.lines.clear();
         Ok(())
     }

@@ -248,17 +248,16 @@ impl<A: Respond> Player<A> {
     {
         match answers {
             Answers::One(answer) => {
-                self.outbox.post(writer, answer.line(), answer.reply())?;
                 self.replies += 1;
+                self.outbox.post(writer, answer)
             }
             Answers::Block(answers) => {
                 let (clients, own) = answers.into_parts();
-                self.outbox.post_all(writer, &clients)?;
-                self.outbox.post(writer, own.line(), own.reply())?;
                 self.replies += clients.len() as u64 + 1;
+                self.outbox.post_all(writer, clients)?;
+                self.outbox.post(writer, own)
             }
         }
-        Ok(())
     }
 
     /// Takes the end of a line.

@@ -474,26 +474,26 @@ fn of_order_3() -> PoolBlocks {
 #[test]
 fn prints_pools(rt: HostRuntime) {
     let eight = [3584, 3592, 3600, 3608, 4000, 4008, 4016, 4088];
-    let rows: [(Reply, &[u8]); 6] = [
+    let rows: [(Reply, &str); 6] = [
         (
             pooled(PoolBlocks::Pageblocks, &[0], 2, PoolStopped::NoBlock),
-            b"got=1 rounds=2 stopped=noblock blocks=0\n",
+            "got=1 rounds=2 stopped=noblock blocks=0\n",
         ),
         (
             pooled(PoolBlocks::Pageblocks, &[7, 0], 0, PoolStopped::Enough),
-            b"got=2 rounds=0 stopped=enough blocks=7,0\n",
+            "got=2 rounds=0 stopped=enough blocks=7,0\n",
         ),
         (
             pooled(PoolBlocks::Pageblocks, &[], 0, PoolStopped::Refused(32)),
-            b"got=0 rounds=0 stopped=32 blocks=-\n",
+            "got=0 rounds=0 stopped=32 blocks=-\n",
         ),
         (
             pooled(of_order_3(), &[], 4, PoolStopped::Rounds),
-            b"got=0 rounds=4 stopped=rounds frames=-\n",
+            "got=0 rounds=4 stopped=rounds frames=-\n",
         ),
         (
             pooled(of_order_3(), &eight, 4, PoolStopped::JournalFull),
-            b"got=8 rounds=4 stopped=journalfull frames=3584,3592,3600,3608,4000,4008,4016,4088\n",
+            "got=8 rounds=4 stopped=journalfull frames=3584,3592,3600,3608,4000,4008,4016,4088\n",
         ),
         (
             pooled(
@@ -502,11 +502,11 @@ fn prints_pools(rt: HostRuntime) {
                 4294967295,
                 PoolStopped::Refused(65535),
             ),
-            b"got=8 rounds=4294967295 stopped=65535 frames=65535,65535,65535,65535,65535,65535,65535,65535\n",
+            "got=8 rounds=4294967295 stopped=65535 frames=65535,65535,65535,65535,65535,65535,65535,65535\n",
         ),
     ];
     for (reply, expected) in rows {
-        assert_eq!(rt; reply_text(&reply).as_slice(), expected);
+        assert_eq!(rt; reply_text(reply).as_str(), expected);
     }
 }
 
@@ -531,48 +531,48 @@ fn prints_replies(rt: HostRuntime) {
         pins: 1,
         maps: 2,
     };
-    let rows: [(Reply, &[u8]); 18] = [
-        (Reply::Done, b"ok\n"),
+    let rows: [(Reply, &str); 18] = [
+        (Reply::Done, "ok\n"),
         (
             Reply::Value(18446744073709551615),
-            b"value=18446744073709551615\n",
+            "value=18446744073709551615\n",
         ),
         (
             Reply::Info(info),
-            b"free=510 pages=1 moving=2 huge=3 whole=4\n",
+            "free=510 pages=1 moving=2 huge=3 whole=4\n",
         ),
         (
             Reply::InfoWithHeld(info),
-            b"free=510 pages=1 moving=2 huge=3 whole=4 held=5\n",
+            "free=510 pages=1 moving=2 huge=3 whole=4 held=5\n",
         ),
-        (Reply::Serial(4294967295), b"serial=4294967295\n"),
-        (Reply::Met, b"met\n"),
-        (Reply::Moved(7), b"moved serial=7\n"),
-        (Reply::PutBack(7), b"back serial=7 cause=1\n"),
-        (Reply::Shut(2), b"back=2\n"),
+        (Reply::Serial(4294967295), "serial=4294967295\n"),
+        (Reply::Met, "met\n"),
+        (Reply::Moved(7), "moved serial=7\n"),
+        (Reply::PutBack(7), "back serial=7 cause=1\n"),
+        (Reply::Shut(2), "back=2\n"),
         (
             Reply::Looked(at),
-            b"frame=4095 dirty=1 unmovable=0 pins=255 maps=4\n",
+            "frame=4095 dirty=1 unmovable=0 pins=255 maps=4\n",
         ),
         (
             Reply::Looked(moving),
-            b"moving serial=4294967295 pins=1 maps=2\n",
+            "moving serial=4294967295 pins=1 maps=2\n",
         ),
-        (Reply::Block(BlockNo::new(7).unwrap()), b"block=7\n"),
+        (Reply::Block(BlockNo::new(7).unwrap()), "block=7\n"),
         (
             Reply::HandedOut {
                 first: FrameNo::new(256).unwrap(),
                 order: Order::new(8).unwrap(),
             },
-            b"frame=256 order=8\n",
+            "frame=256 order=8\n",
         ),
-        (Reply::AllDone(4096), b"done=4096\n"),
+        (Reply::AllDone(4096), "done=4096\n"),
         (
             Reply::DoneUntil {
                 done: 2,
                 refusal: 1,
             },
-            b"done=2 refused=1\n",
+            "done=2 refused=1\n",
         ),
         (
             Reply::Round {
@@ -581,7 +581,7 @@ fn prints_replies(rt: HostRuntime) {
                 back: 1,
                 stopped: Stopped::Met,
             },
-            b"isolated=3 moved=2 back=1 stopped=met\n",
+            "isolated=3 moved=2 back=1 stopped=met\n",
         ),
         (
             Reply::Round {
@@ -590,11 +590,11 @@ fn prints_replies(rt: HostRuntime) {
                 back: 0,
                 stopped: Stopped::JournalFull,
             },
-            b"isolated=0 moved=0 back=0 stopped=journalfull\n",
+            "isolated=0 moved=0 back=0 stopped=journalfull\n",
         ),
-        (Reply::Refused(44), b"refused 44\n"),
+        (Reply::Refused(44), "refused 44\n"),
     ];
     for (reply, expected) in rows {
-        assert_eq!(rt; reply_text(&reply).as_slice(), expected);
+        assert_eq!(rt; reply_text(reply).as_str(), expected);
     }
 }

@@ -7,7 +7,7 @@ use Rattle.text_core.proofs.reply.push_behind_commas.Goals as goal
 
 pub loop-number-init : goal.loop-number-init
 loop-number-init g c = record {
-  text = sym (append-nil c.args.text.now.items);
+  text = sym (append-nil c.args.text.now.bytes);
   lines = refl;
   len = omega arith;
 }
@@ -15,13 +15,13 @@ loop-number-init g c = record {
 pub loop-number-preserved : goal.loop-number-preserved
 loop-number-preserved g c =
     let l = c.loop-number in
-    let old = c.args.text.now.items in
+    let old = c.args.text.now.bytes in
     let numbers = c.args.numbers.now in
     let so_far : List ℕ = behind_commas (take l.number-index numbers) in
     let more : List ℕ = codes "," ++ decimal (get_or numbers l.number-index 0) in
-    let told : c.push_short.new.text.items ≡ l.text.items ++ more =
+    let told : c.push_short.new.text.bytes ≡ l.text.bytes ++ more =
     c.push_short.ensures.text ∙ ap (λ (r : List ℕ). r ++ decimal (get_or numbers l.number-index 0)) c.push_word.ensures.text
-    ∙ append_assoc l.text.items (codes ",") (decimal (get_or numbers l.number-index 0)) in
+    ∙ append_assoc l.text.bytes (codes ",") (decimal (get_or numbers l.number-index 0)) in
     record {
       text = told ∙ ap (λ (r : List ℕ). r ++ more) l.invariant.text ∙ append_assoc old so_far more
           ∙ ap (λ (r : List ℕ). old ++ r) (sym (behind_commas-next numbers l.number-index c.loop-number-test.true));
@@ -32,4 +32,4 @@ loop-number-preserved g c =
 pub returns-clause-text : goal.returns-clause-text
 returns-clause-text g c =
     c.loop-number.invariant.text
-    ∙ ap (λ (r : List ℕ). c.args.text.now.items ++ behind_commas r) (take_all c.loop-number.number-index c.args.numbers.now c.loop-number-test.false)
+    ∙ ap (λ (r : List ℕ). c.args.text.now.bytes ++ behind_commas r) (take_all c.loop-number.number-index c.args.numbers.now c.loop-number-test.false)

@@ -5,7 +5,7 @@ use Rattle.text_core.proofs.reply.push_behind_commas.Given as goal
 -- so many numbers are told
 abbrev pub invariant-loop-number : goal.invariant-loop-number
 invariant-loop-number g l = record {
-  text : l.text.items ≡ l.fn.text.items ++ behind_commas (take l.number-index l.numbers);
-  lines : newlines l.text.items ≡ newlines l.fn.text.items;
-  len : length l.text.items ≤ length l.fn.text.items + 6 * l.number-index;
+  text : l.text.bytes ≡ l.fn.text.bytes ++ behind_commas (take l.number-index l.numbers);
+  lines : newlines l.text.bytes ≡ newlines l.fn.text.bytes;
+  len : length l.text.bytes ≤ length l.fn.text.bytes + 6 * l.number-index;
 }

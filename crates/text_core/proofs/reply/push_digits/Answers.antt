@@ -5,6 +5,6 @@ use Rattle.text_core.proofs.reply.push_digits.Goals as goal
 
 pub returns-clause-lines : goal.returns-clause-lines
 returns-clause-lines g c =
-    let old = c.args.text.now.items in
-    let all : c.push.new.text.items ≡ old ++ decimal c.args.number = c.push.ensures.text ∙ ap (λ (r : List ℕ). old ++ r) (c.as_bytes.ensures.value ∙ c.format.ensures.text) in
+    let old = c.args.text.now.bytes in
+    let all : c.push_str.new.self.bytes ≡ old ++ decimal c.args.number = c.push_str.ensures.bytes ∙ ap (λ (r : List ℕ). old ++ r) c.format.ensures.text in
     omega (arith, ap newlines all, newlines-append old (decimal c.args.number), newlines-decimal c.args.number c.ranges.number.fits)

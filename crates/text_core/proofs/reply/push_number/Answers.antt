@@ -1,6 +1,10 @@
-use Rattle.std.proofs.Common.{◌∙◌, ◌++◌, List, ℕ, sym, ap}
-use Rattle.std.proofs.lemmas.Fmt.{decimal_digit}
+use Rattle.std.proofs.Common.{◌≡◌, ◌∙◌, ◌++◌, List, ℕ, ap, decimal, arith}
+use Rattle.text_core.specs.Reply.{newlines}
+use Rattle.text_core.proofs.Newlines.{newlines-append, newlines-decimal}
 use Rattle.text_core.proofs.reply.push_number.Goals as goal
 
-pub returns-then-number-lt10-clause-text : goal.returns-then-number-lt10-clause-text
-returns-then-number-lt10-clause-text g c = c.push.ensures.items ∙ ap (λ (r : List ℕ). c.args.text.now.items ++ r) (sym (decimal_digit c.args.number c.if-number-lt10.true))
+pub returns-in-Some-clause-lines : goal.returns-in-Some-clause-lines
+returns-in-Some-clause-lines g c =
+    let old = c.args.text.now.bytes in
+    let all : c.push_str.new.self.bytes ≡ old ++ decimal c.args.number = c.push_str.ensures.bytes ∙ ap (λ (r : List ℕ). old ++ r) c.in-Some.ensures.below in
+    omega (arith, ap newlines all, newlines-append old (decimal c.args.number), newlines-decimal c.args.number c.ranges.number.fits)

@@ -10,7 +10,7 @@ push_behind_commas-requires g c =
 
 pub returns-clause-text : goal.returns-clause-text
 returns-clause-text g c =
-    let old = c.args.text.now.items in
+    let old = c.args.text.now.bytes in
     let numbers = c.args.numbers.now in
     let more : List ℕ = behind_commas (take (length numbers - 1) (drop 1 numbers)) in
     c.push_behind_commas.ensures.text ∙ ap (λ (r : List ℕ). r ++ more) c.push_short.ensures.text

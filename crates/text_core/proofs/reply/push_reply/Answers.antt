@@ -24,8 +24,8 @@ returns-in-Done-clause-line g c = subst (λ (r : Reply). IsOneLine (text_of r)) 
 
 pub returns-clause-text : goal.returns-clause-text
 returns-clause-text g c =
-    let old = c.args.text.now.items in
-    let all = c.push-2.ensures.text in
+    let old = c.args.text.now.bytes in
+    let all = c.push_str-2.ensures.bytes in
     elim c.match-reply.branch [
       | in-Value w ↦ let t0 = w.push_field.ensures.text in let is = w.text-is in grind (arith, common_steps, all, is, t0)
       | in-Info w ↦ let t0 = w.push_counts.ensures.text in let is = w.text-is in grind (arith, common_steps, all, is, t0)
@@ -33,17 +33,17 @@ returns-clause-text g c =
           let i = w.in-InfoWithHeld.info in
           let counts : List ℕ = counts_text i in
           let held : List ℕ = counts ++ codes " held=" ++ decimal i.held in
-          let to_held : w.push_field-in-InfoWithHeld.new.text.items ≡ old ++ held = field_more old counts (w.push_counts-in-InfoWithHeld.new.text.items) (w.push_field-in-InfoWithHeld.new.text.items) (codes " held=") w.from.result i.held w.push_counts-in-InfoWithHeld.ensures.text w.push_field-in-InfoWithHeld.ensures.text (omega (arith, w.from.ensures)) in
-          all ∙ ap (λ t. t.items ++ codes "\n") w.text-is ∙ ap (λ (r : List ℕ). r ++ codes "\n") to_held ∙ append_assoc old held (codes "\n") ∙ ap (λ r. old ++ text_of r) (sym w.in-InfoWithHeld.is)
+          let to_held : w.push_field-in-InfoWithHeld.new.text.bytes ≡ old ++ held = field_more old counts (w.push_counts-in-InfoWithHeld.new.text.bytes) (w.push_field-in-InfoWithHeld.new.text.bytes) (codes " held=") w.from.result i.held w.push_counts-in-InfoWithHeld.ensures.text w.push_field-in-InfoWithHeld.ensures.text (omega (arith, w.from.ensures)) in
+          all ∙ ap (λ t. t.bytes ++ codes "\n") w.text-is ∙ ap (λ (r : List ℕ). r ++ codes "\n") to_held ∙ append_assoc old held (codes "\n") ∙ ap (λ r. old ++ text_of r) (sym w.in-InfoWithHeld.is)
       | in-Serial w ↦ let t0 = w.push_field-in-Serial.ensures.text in let is = w.text-is in grind (arith, common_steps, all, is, t0)
-      | in-Met w ↦ let t0 = w.push-in-Met.ensures.text in let is = w.text-is in grind (arith, common_steps, all, is, t0)
+      | in-Met w ↦ let t0 = w.push_str-in-Met.ensures.bytes in let is = w.text-is in grind (arith, common_steps, all, is, t0)
       | in-Moved w ↦
-          all ∙ ap (λ t. t.items ++ codes "\n") w.text-is
-          ∙ one_field old (w.push_field-in-Moved.new.text.items) (codes "moved serial=") (codes "\n") w.from-in-Moved.result w.in-Moved.serial w.push_field-in-Moved.ensures.text (omega (arith, w.from-in-Moved.ensures))
+          all ∙ ap (λ t. t.bytes ++ codes "\n") w.text-is
+          ∙ one_field old (w.push_field-in-Moved.new.text.bytes) (codes "moved serial=") (codes "\n") w.from-in-Moved.result w.in-Moved.serial w.push_field-in-Moved.ensures.text (omega (arith, w.from-in-Moved.ensures))
           ∙ ap (λ r. old ++ text_of r) (sym w.in-Moved.is)
       | in-PutBack w ↦
-          let told = w.push_field-in-PutBack.new.text.items in
-          all ∙ ap (λ t. t.items ++ codes "\n") w.text-is ∙ ap (λ (r : List ℕ). r ++ codes "\n") w.push-in-PutBack.ensures.text ∙ append_assoc told (codes " cause=1") (codes "\n")
+          let told = w.push_field-in-PutBack.new.text.bytes in
+          all ∙ ap (λ t. t.bytes ++ codes "\n") w.text-is ∙ ap (λ (r : List ℕ). r ++ codes "\n") w.push_str-in-PutBack.ensures.bytes ∙ append_assoc told (codes " cause=1") (codes "\n")
           ∙ one_field old told (codes "back serial=") (codes " cause=1\n") w.from-in-PutBack.result w.in-PutBack.serial w.push_field-in-PutBack.ensures.text (omega (arith, w.from-in-PutBack.ensures))
           ∙ ap (λ r. old ++ text_of r) (sym w.in-PutBack.is)
       | in-Shut w ↦ let t0 = w.push_field-in-Shut.ensures.text in let is = w.text-is in grind (arith, common_steps, all, is, t0)
@@ -51,50 +51,50 @@ returns-clause-text g c =
       | in-Block w ↦ let t0 = w.push_field-in-Block.ensures.text in let is = w.text-is in grind (arith, common_steps, all, is, t0)
       | in-HandedOut w ↦
           let first : List ℕ = codes "frame=" ++ decimal w.in-HandedOut.first in
-          let to_first : w.push_field-in-HandedOut.new.text.items ≡ old ++ first = field_more old [] old (w.push_field-in-HandedOut.new.text.items) (codes "frame=") w.from-in-HandedOut.result w.in-HandedOut.first (sym (append-nil old)) w.push_field-in-HandedOut.ensures.text (omega (arith, w.from-in-HandedOut.ensures, w.get-in-HandedOut.ensures.value)) in
+          let to_first : w.push_field-in-HandedOut.new.text.bytes ≡ old ++ first = field_more old [] old (w.push_field-in-HandedOut.new.text.bytes) (codes "frame=") w.from-in-HandedOut.result w.in-HandedOut.first (sym (append-nil old)) w.push_field-in-HandedOut.ensures.text (omega (arith, w.from-in-HandedOut.ensures, w.get-in-HandedOut.ensures.value)) in
           let order : List ℕ = first ++ codes " order=" ++ decimal w.in-HandedOut.order in
-          let to_order : w.push_field-in-HandedOut-2.new.text.items ≡ old ++ order = field_more old first (w.push_field-in-HandedOut.new.text.items) (w.push_field-in-HandedOut-2.new.text.items) (codes " order=") w.from-in-HandedOut-2.result w.in-HandedOut.order to_first w.push_field-in-HandedOut-2.ensures.text (omega (arith, w.from-in-HandedOut-2.ensures, w.get-in-HandedOut-2.ensures.value)) in
-          all ∙ ap (λ t. t.items ++ codes "\n") w.text-is ∙ ap (λ (r : List ℕ). r ++ codes "\n") to_order ∙ append_assoc old order (codes "\n") ∙ ap (λ r. old ++ text_of r) (sym w.in-HandedOut.is)
+          let to_order : w.push_field-in-HandedOut-2.new.text.bytes ≡ old ++ order = field_more old first (w.push_field-in-HandedOut.new.text.bytes) (w.push_field-in-HandedOut-2.new.text.bytes) (codes " order=") w.from-in-HandedOut-2.result w.in-HandedOut.order to_first w.push_field-in-HandedOut-2.ensures.text (omega (arith, w.from-in-HandedOut-2.ensures, w.get-in-HandedOut-2.ensures.value)) in
+          all ∙ ap (λ t. t.bytes ++ codes "\n") w.text-is ∙ ap (λ (r : List ℕ). r ++ codes "\n") to_order ∙ append_assoc old order (codes "\n") ∙ ap (λ r. old ++ text_of r) (sym w.in-HandedOut.is)
       | in-AllDone w ↦ let t0 = w.push_field-in-AllDone.ensures.text in let is = w.text-is in grind (arith, common_steps, all, is, t0)
       | in-DoneUntil w ↦
           let done : List ℕ = codes "done=" ++ decimal w.in-DoneUntil.done in
-          let to_done : w.push_field-in-DoneUntil.new.text.items ≡ old ++ done = field_more old [] old (w.push_field-in-DoneUntil.new.text.items) (codes "done=") w.from-in-DoneUntil.result w.in-DoneUntil.done (sym (append-nil old)) w.push_field-in-DoneUntil.ensures.text (omega (arith, w.from-in-DoneUntil.ensures)) in
+          let to_done : w.push_field-in-DoneUntil.new.text.bytes ≡ old ++ done = field_more old [] old (w.push_field-in-DoneUntil.new.text.bytes) (codes "done=") w.from-in-DoneUntil.result w.in-DoneUntil.done (sym (append-nil old)) w.push_field-in-DoneUntil.ensures.text (omega (arith, w.from-in-DoneUntil.ensures)) in
           let refused : List ℕ = done ++ codes " refused=" ++ decimal w.in-DoneUntil.refusal in
-          let to_refused : w.push_field-in-DoneUntil-2.new.text.items ≡ old ++ refused = field_more old done (w.push_field-in-DoneUntil.new.text.items) (w.push_field-in-DoneUntil-2.new.text.items) (codes " refused=") w.from-in-DoneUntil-2.result w.in-DoneUntil.refusal to_done w.push_field-in-DoneUntil-2.ensures.text (omega (arith, w.from-in-DoneUntil-2.ensures)) in
-          all ∙ ap (λ t. t.items ++ codes "\n") w.text-is ∙ ap (λ (r : List ℕ). r ++ codes "\n") to_refused ∙ append_assoc old refused (codes "\n") ∙ ap (λ r. old ++ text_of r) (sym w.in-DoneUntil.is)
+          let to_refused : w.push_field-in-DoneUntil-2.new.text.bytes ≡ old ++ refused = field_more old done (w.push_field-in-DoneUntil.new.text.bytes) (w.push_field-in-DoneUntil-2.new.text.bytes) (codes " refused=") w.from-in-DoneUntil-2.result w.in-DoneUntil.refusal to_done w.push_field-in-DoneUntil-2.ensures.text (omega (arith, w.from-in-DoneUntil-2.ensures)) in
+          all ∙ ap (λ t. t.bytes ++ codes "\n") w.text-is ∙ ap (λ (r : List ℕ). r ++ codes "\n") to_refused ∙ append_assoc old refused (codes "\n") ∙ ap (λ r. old ++ text_of r) (sym w.in-DoneUntil.is)
       | in-Round w ↦
           let told : List ℕ = round_text w.in-Round.isolated w.in-Round.moved w.in-Round.back w.in-Round.stopped in
-          all ∙ ap (λ t. t.items ++ codes "\n") w.text-is ∙ ap (λ (r : List ℕ). r ++ codes "\n") w.push_round.ensures.text ∙ append_assoc old told (codes "\n") ∙ ap (λ r. old ++ text_of r) (sym w.in-Round.is)
+          all ∙ ap (λ t. t.bytes ++ codes "\n") w.text-is ∙ ap (λ (r : List ℕ). r ++ codes "\n") w.push_round.ensures.text ∙ append_assoc old told (codes "\n") ∙ ap (λ r. old ++ text_of r) (sym w.in-Round.is)
       | in-Pool w ↦
           let told : List ℕ = pool_text w.in-Pool.blocks w.in-Pool.got.items w.in-Pool.rounds w.in-Pool.stopped in
-          all ∙ ap (λ t. t.items ++ codes "\n") w.text-is ∙ ap (λ (r : List ℕ). r ++ codes "\n") (w.push_pool.ensures.text ∙ ap (λ (got : List ℕ). old ++ pool_text w.in-Pool.blocks got w.in-Pool.rounds w.in-Pool.stopped) w.as_slice.ensures.value)
+          all ∙ ap (λ t. t.bytes ++ codes "\n") w.text-is ∙ ap (λ (r : List ℕ). r ++ codes "\n") (w.push_pool.ensures.text ∙ ap (λ (got : List ℕ). old ++ pool_text w.in-Pool.blocks got w.in-Pool.rounds w.in-Pool.stopped) w.as_slice.ensures.value)
           ∙ append_assoc old told (codes "\n") ∙ ap (λ r. old ++ text_of r) (sym w.in-Pool.is)
       | in-Refused w ↦ let t0 = w.push_field-in-Refused.ensures.text in let is = w.text-is in grind (arith, common_steps, all, is, t0)
     ]
 
 pub returns-clause-line : goal.returns-clause-line
 returns-clause-line g c =
-    let old = c.args.text.now.items in
-    let mid = c.match-reply.text.items in
-    let text = text_of c.args.reply.now in
-    let all : old ++ text ≡ mid ++ 10 ∷ [] = sym (returns-clause-text g c) ∙ c.push-2.ensures.text in
-    let longer : length old ≤ length mid = omega (arith, ap length all, length-append old text, length-append mid (10 ∷ []), text_of-some c.args.reply.now) in
+    let old = c.args.text.now.bytes in
+    let mid = c.match-reply.text.bytes in
+    let text = text_of c.args.reply in
+    let all : old ++ text ≡ mid ++ 10 ∷ [] = sym (returns-clause-text g c) ∙ c.push_str-2.ensures.bytes in
+    let longer : length old ≤ length mid = omega (arith, ap length all, length-append old text, length-append mid (10 ∷ []), text_of-some c.args.reply) in
     let same : newlines mid ≡ newlines old = elim c.match-reply.branch [
-      | in-Value w ↦ omega (arith, w.push_field.ensures.lines, ap (λ t. newlines t.items) w.text-is)
-      | in-Info w ↦ omega (arith, w.push_counts.ensures.lines, ap (λ t. newlines t.items) w.text-is)
-      | in-InfoWithHeld w ↦ omega (arith, w.push_counts-in-InfoWithHeld.ensures.lines, w.push_field-in-InfoWithHeld.ensures.lines, ap (λ t. newlines t.items) w.text-is)
-      | in-Serial w ↦ omega (arith, w.push_field-in-Serial.ensures.lines, ap (λ t. newlines t.items) w.text-is)
-      | in-Met w ↦ omega (arith, ap newlines w.push-in-Met.ensures.text, newlines-append old (codes "met"), ap (λ t. newlines t.items) w.text-is)
-      | in-Moved w ↦ omega (arith, w.push_field-in-Moved.ensures.lines, ap (λ t. newlines t.items) w.text-is)
-      | in-PutBack w ↦ omega (arith, w.push_field-in-PutBack.ensures.lines, ap newlines w.push-in-PutBack.ensures.text, newlines-append w.push_field-in-PutBack.new.text.items (codes " cause=1"), ap (λ t. newlines t.items) w.text-is)
-      | in-Shut w ↦ omega (arith, w.push_field-in-Shut.ensures.lines, ap (λ t. newlines t.items) w.text-is)
-      | in-Looked w ↦ omega (arith, w.push_look.ensures.lines, ap (λ t. newlines t.items) w.text-is)
-      | in-Block w ↦ omega (arith, w.push_field-in-Block.ensures.lines, ap (λ t. newlines t.items) w.text-is)
-      | in-HandedOut w ↦ omega (arith, w.push_field-in-HandedOut.ensures.lines, w.push_field-in-HandedOut-2.ensures.lines, ap (λ t. newlines t.items) w.text-is)
-      | in-AllDone w ↦ omega (arith, w.push_field-in-AllDone.ensures.lines, ap (λ t. newlines t.items) w.text-is)
-      | in-DoneUntil w ↦ omega (arith, w.push_field-in-DoneUntil.ensures.lines, w.push_field-in-DoneUntil-2.ensures.lines, ap (λ t. newlines t.items) w.text-is)
-      | in-Round w ↦ omega (arith, w.push_round.ensures.lines, ap (λ t. newlines t.items) w.text-is)
-      | in-Pool w ↦ omega (arith, w.push_pool.ensures.lines, ap (λ t. newlines t.items) w.text-is)
-      | in-Refused w ↦ omega (arith, w.push_field-in-Refused.ensures.lines, ap (λ t. newlines t.items) w.text-is)
+      | in-Value w ↦ omega (arith, w.push_field.ensures.lines, ap (λ t. newlines t.bytes) w.text-is)
+      | in-Info w ↦ omega (arith, w.push_counts.ensures.lines, ap (λ t. newlines t.bytes) w.text-is)
+      | in-InfoWithHeld w ↦ omega (arith, w.push_counts-in-InfoWithHeld.ensures.lines, w.push_field-in-InfoWithHeld.ensures.lines, ap (λ t. newlines t.bytes) w.text-is)
+      | in-Serial w ↦ omega (arith, w.push_field-in-Serial.ensures.lines, ap (λ t. newlines t.bytes) w.text-is)
+      | in-Met w ↦ omega (arith, ap newlines w.push_str-in-Met.ensures.bytes, newlines-append old (codes "met"), ap (λ t. newlines t.bytes) w.text-is)
+      | in-Moved w ↦ omega (arith, w.push_field-in-Moved.ensures.lines, ap (λ t. newlines t.bytes) w.text-is)
+      | in-PutBack w ↦ omega (arith, w.push_field-in-PutBack.ensures.lines, ap newlines w.push_str-in-PutBack.ensures.bytes, newlines-append w.push_field-in-PutBack.new.text.bytes (codes " cause=1"), ap (λ t. newlines t.bytes) w.text-is)
+      | in-Shut w ↦ omega (arith, w.push_field-in-Shut.ensures.lines, ap (λ t. newlines t.bytes) w.text-is)
+      | in-Looked w ↦ omega (arith, w.push_look.ensures.lines, ap (λ t. newlines t.bytes) w.text-is)
+      | in-Block w ↦ omega (arith, w.push_field-in-Block.ensures.lines, ap (λ t. newlines t.bytes) w.text-is)
+      | in-HandedOut w ↦ omega (arith, w.push_field-in-HandedOut.ensures.lines, w.push_field-in-HandedOut-2.ensures.lines, ap (λ t. newlines t.bytes) w.text-is)
+      | in-AllDone w ↦ omega (arith, w.push_field-in-AllDone.ensures.lines, ap (λ t. newlines t.bytes) w.text-is)
+      | in-DoneUntil w ↦ omega (arith, w.push_field-in-DoneUntil.ensures.lines, w.push_field-in-DoneUntil-2.ensures.lines, ap (λ t. newlines t.bytes) w.text-is)
+      | in-Round w ↦ omega (arith, w.push_round.ensures.lines, ap (λ t. newlines t.bytes) w.text-is)
+      | in-Pool w ↦ omega (arith, w.push_pool.ensures.lines, ap (λ t. newlines t.bytes) w.text-is)
+      | in-Refused w ↦ omega (arith, w.push_field-in-Refused.ensures.lines, ap (λ t. newlines t.bytes) w.text-is)
     ] in
     one_line_behind old mid text all same longer

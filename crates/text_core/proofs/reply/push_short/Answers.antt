@@ -8,14 +8,14 @@ use Rattle.text_core.proofs.reply.push_short.Goals as goal
 short : (n : ℕ) → n < 2 ^ 16 → length (decimal n) ≤ 5
 short n fits = length-decimal-le 5 n (omega arith) (omega (arith, fits)) (omega (arith, fits))
 
-pub push-requires : goal.push-requires
-push-requires g c = omega (arith, c.requires, ap length (c.as_bytes.ensures.value ∙ c.format.ensures.text), short c.args.number c.ranges.number.fits)
+pub push_str-requires : goal.push_str-requires
+push_str-requires g c = omega (arith, c.requires, ap length c.format.ensures.text, short c.args.number c.ranges.number.fits)
 
 pub returns-clause-lines : goal.returns-clause-lines
 returns-clause-lines g c =
-    let old = c.args.text.now.items in
-    let all : c.push.new.text.items ≡ old ++ decimal c.args.number = c.push.ensures.text ∙ ap (λ (r : List ℕ). old ++ r) (c.as_bytes.ensures.value ∙ c.format.ensures.text) in
+    let old = c.args.text.now.bytes in
+    let all : c.push_str.new.self.bytes ≡ old ++ decimal c.args.number = c.push_str.ensures.bytes ∙ ap (λ (r : List ℕ). old ++ r) c.format.ensures.text in
     omega (arith, ap newlines all, newlines-append old (decimal c.args.number), newlines-decimal c.args.number (omega (arith, c.ranges.number.fits)))
 
 pub returns-clause-len : goal.returns-clause-len
-returns-clause-len g c = omega (arith, c.push.ensures.len, ap length (c.as_bytes.ensures.value ∙ c.format.ensures.text), short c.args.number c.ranges.number.fits)
+returns-clause-len g c = omega (arith, c.push_str.ensures.len, ap length c.format.ensures.text, short c.args.number c.ranges.number.fits)

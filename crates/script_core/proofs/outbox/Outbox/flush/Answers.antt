@@ -12,12 +12,11 @@ returns-in-Err-clause-err g c = λ answers first owes.
     let n = c.in-Err.taken in
     let mid = g.W.Write.contents c.args.writer.now in
     let after = g.W.Write.contents c.write_out.new.writer in
-    let bytes : c.deref.result.now ≡ box.bytes = c.deref.ensures.0 ∙ ap (λ (b : Outbox). b.bytes) c.self.view_is in
-    let again : c.deref-in-Err.result.now ≡ box.bytes = c.deref-in-Err.ensures.0 ∙ ap (λ (b : Outbox). b.bytes) c.self.view_is in
-    let lines : c.deref-in-Err-2.result.now ≡ box.lines = c.deref-in-Err-2.ensures.0 ∙ ap (λ (b : Outbox). b.lines) c.self.view_is in
+    let bytes : c.as_bytes-bytes.result.now ≡ box.bytes = c.as_bytes-bytes.ensures.value ∙ c.as_str.ensures.value ∙ ap (λ (b : Outbox). b.bytes) c.self.view_is in
+    let lines : c.deref.result.now ≡ box.lines = c.deref.ensures.0 ∙ ap (λ (b : Outbox). b.lines) c.self.view_is in
     let whole = c.newlines_in-whole.result in
-    let count : whole ≡ newlines (take n box.bytes) = c.newlines_in-whole.ensures ∙ ap (λ (r : List ℕ). newlines (take n r)) again in
-    let at : get_or c.deref-in-Err-2.result.now whole 0 ≡ get_or box.lines (newlines (take n box.bytes)) 0 =
+    let count : whole ≡ newlines (take n box.bytes) = c.newlines_in-whole.ensures ∙ ap (λ (r : List ℕ). newlines (take n r)) bytes in
+    let at : get_or c.deref.result.now whole 0 ≡ get_or box.lines (newlines (take n box.bytes)) 0 =
     ap (λ (r : List ℕ). get_or r whole 0) lines ∙ ap (λ (k : ℕ). get_or box.lines k 0) count in
     let less : n < length box.bytes = omega (arith, c.in-Err.ensures.less, ap length bytes) in
     let A : List ℕ → Type 0 = λ r. Appends mid after (take n r) in
