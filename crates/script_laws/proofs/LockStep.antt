@@ -17,6 +17,7 @@ use Rattle.text_core.specs.declared.profile.Profile.{Profile}
 use Rattle.text_core.specs.declared.profile.Profile.TheVariants.{Untold, One as Profile1, Two}
 use Rattle.text_core.specs.declared.reply.Reply.{Reply}
 use Rattle.text_core.specs.declared.reply.Reply.TheVariants as reply
+use Rattle.text_core.specs.Grammar.{zone_of}
 use Rattle.text_core.specs.Line.{line_within, line_of}
 use Rattle.text_core.specs.Profile.{profile_told}
 use Rattle.text_core.proofs.Profiles as rows
@@ -225,7 +226,7 @@ reads_lower n o (text ∷ next ∷ parts) e =
     let next_reading : came.reading ≡ record { profile = Profile1; block = came.reading.block } = ap (λ p. record { profile = p; block = came.reading.block }) c.profile in
     let one : fault_from (record { profile = Profile1; block = came.reading.block }) (n + 1) behind ≡ None =
     ap (λ r. fault_from r (n + 1) behind) (sym next_reading) ∙ ap (F q n) (sym c.one_is) ∙ e in
-    let rest = reads_lower (n + 1) came.reading.block behind one in
+    let rest = reads_lower (n + 1) came.reading.block (next ∷ parts) one in
     record {
       fault = ap (F (lower_reading q) (n + 1)) c.two_is ∙ rest.fault;
       commands =
