@@ -79,7 +79,7 @@ class Author:
         self.end_round_by_hand()
         self.say("compact 0")
         for _ in range(self.draw.choice([0, 1, 2])):
-            if self.has_places_for_any_round(100):
+            if self.has_places_for_any_round(200 + len(self.zone().pages)):
                 self.say("during 0")
                 self.rest_of_block(self.draw.choice([10, 100]), self.is_told)
         self.end = len(self.replies)

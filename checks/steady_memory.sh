@@ -17,6 +17,7 @@ PAGES = 12
 FEW_ROUNDS, MANY_ROUNDS = 10, 1_000
 FEW_LINES, MANY_LINES = 1_000, 1_000_000
 SLACK_KB = 128
+SLACK_OF_RECEIPTS_KB = 256  # their list grows at other times in one run than in the other
 MOST_KB = 4096
 
 OPENING = b"zone 0 1\n"
@@ -87,11 +88,11 @@ def moving_beside(loads):
     return b"during 0\n" + LOADING * loads + b"end\n" + RENEWING, LOADED * loads + MOVED
 
 
-def compare(what, few, many):
+def compare(what, few, many, slack=SLACK_KB):
     """The memory of two runs, of which the second may have a little more than the first."""
     print(f"{what}: {few[0]} kB and {many[0]} kB, with a peak of {many[1]} kB")
-    if many[0] > few[0] + SLACK_KB or many[1] > MOST_KB:
-        sys.exit(f"more than {SLACK_KB} kB apart, or a peak above {MOST_KB} kB")
+    if many[0] > few[0] + slack or many[1] > MOST_KB:
+        sys.exit(f"more than {slack} kB apart, or a peak above {MOST_KB} kB")
 
 
 for options in ("--copiers=1", "--copiers=4"):
@@ -103,7 +104,7 @@ for options in ("--copiers=1", "--copiers=4"):
     block, loads_of_many = moving_beside(1), moving_beside(MANY_ROUNDS - FEW_ROUNDS)
     few = memory_kb([(*block, FEW_ROUNDS), (*loads_of_many, 1), (LOADING, LOADED, records - RECORDS_OF_A_ROUND)], options)
     many = memory_kb([(*block, MANY_ROUNDS)], options)
-    compare(f"memory behind {FEW_ROUNDS} such rounds with a client beside each and behind {MANY_ROUNDS}, {options}", few, many)
+    compare(f"memory behind {FEW_ROUNDS} such rounds with a client beside each and behind {MANY_ROUNDS}, {options}", few, many, SLACK_OF_RECEIPTS_KB)
 few = memory_kb([(ASKING, ASKED, FEW_LINES // 2)])
 many = memory_kb([(ASKING, ASKED, MANY_LINES // 2)])
 compare(f"memory behind {FEW_LINES} lines and behind {MANY_LINES}", few, many)
