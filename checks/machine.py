@@ -1,6 +1,11 @@
 """A machine for scripts of compactd that is small and slow, written after docs/SCRIPT.md: which command a line is, what the zone
 does at it, and the reply. The checks compare what the program writes with what this machine writes. Rounds on threads are made
-one page after the other here, since no reply tells the order in which copiers carry pages."""
+one page after the other here, since no reply tells the order in which copiers carry pages. So is a round with a client beside it, as
+long as the client does nothing that the round looks at. Where it maps a page, ends one, or gives it its first pin or takes its last one off,
+it is up to the threads which pages the round moves: then a `?` stands in replies for each number that the manual leaves to them, and
+what can't be told at all is `Untold`."""
+
+import re
 
 LARGEST_NUMBER = 2**64 - 1
 LONGEST_LINE = 200
@@ -11,6 +16,8 @@ PAGEBLOCK = 9  # the order of a pageblock
 MOST_ADDRESSES = 4
 MOST_PINS = 255
 MOST_ROUNDS = 4  # of a pool
+MOST_CLIENT_LINES = 1000  # of a block
+ANY = "?"  # in a reply: a number that the manual leaves to the threads
 
 # What stands in the place of a number: its least and its largest value.
 RANGES = {
@@ -44,6 +51,10 @@ class Refused(Exception):
         self.number = number
 
 
+class Untold(Exception):
+    """The threads decide what is answered, and whether it is refused."""
+
+
 class Page:
     """A page in use. While it is on its way it has a serial, and the frame that it is to move to."""
 
@@ -60,27 +71,40 @@ class Page:
 
 class Zone:
     """A zone, the pages of it that are on their way, and four hands. A frame is free where it is None, or it has a page, the page that
-    is to come, or the block that was handed out."""
+    is to come, or the block that was handed out. Once the threads decided what a round moved, no frame is told but those of pages that
+    no round moves, and there are at least so many places in the journal."""
 
     def __init__(self, number, blocks, places):
         self.number = number
-        self.frames = [None] * (blocks * FRAMES_OF_A_PAGEBLOCK)
+        self.size = blocks * FRAMES_OF_A_PAGEBLOCK
+        self.frames_if_told = [None] * self.size
         self.pages = {}  # by address
         self.places = places
         self.on_their_way = {}  # by serial
         self.serials = 0
         self.is_open = False
-        self.low, self.high = 0, len(self.frames)
+        self.low, self.high = 0, self.size
         self.waiting = []
         self.pages_in_hand, self.copies_in_hand = {}, {}
         self.handed_out = set()  # the first frame and the order of each block
         self.marks = set()
+        self.client = None  # while a client makes calls beside a round
+
+    @property
+    def frames(self):
+        if self.frames_if_told is None:
+            raise Untold
+        return self.frames_if_told
+
+    @property
+    def is_told(self):
+        return self.frames_if_told is not None
 
     # What each call asks of the zone.
 
     def need_places(self, count):
         if self.places < count + len(self.on_their_way):
-            raise Refused(2)
+            raise Refused(2) if self.is_told else Untold
 
     def need_page(self, address):
         if address not in self.pages:
@@ -94,16 +118,40 @@ class Zone:
         return page
 
     def need_frames(self, first, count):
-        if first % count != 0 or first + count > len(self.frames):
+        if first % count != 0 or first + count > self.size:
             raise Refused(1)
 
     def need_pageblock(self, block):
         self.need_frames(block * FRAMES_OF_A_PAGEBLOCK, FRAMES_OF_A_PAGEBLOCK)
 
-    def lowest_free_frame(self):
-        if None not in self.frames:
+    def fresh_frame(self, frame):
+        """The frame of a fresh page: the one that is asked for, or else the lowest."""
+        if not self.is_told or self.moves_beside():
+            return self.fresh_frame_beside_moves(frame)
+        if frame is None and None in self.frames:
+            return self.frames.index(None)
+        if frame is None or self.frames[frame] is not None:
             raise Refused(6)
-        return self.frames.index(None)
+        return frame
+
+    def fresh_frame_beside_moves(self, frame):
+        """Each page may have one frame more, and where it is on its way that isn't told."""
+        if frame is not None and self.stays_in_use(frame):
+            raise Refused(6)
+        if frame is not None or self.size <= 2 * self.page_count() + self.held():
+            raise Untold
+        return ANY
+
+    def stays_in_use(self, frame):
+        """Whether a frame is handed out, or has a page that no round moves."""
+        in_blocks = any(first <= frame < first + 2**order for first, order in self.handed_out)
+        return in_blocks or any(page.frame == frame and page.unmovable for page in self.pages.values())
+
+    def page_count(self):
+        return len(set(self.pages.values()))
+
+    def held(self):
+        return sum(2**order for _, order in self.handed_out)
 
     # Pages and addresses.
 
@@ -113,12 +161,12 @@ class Zone:
         self.need_places(1)
         if address in self.pages:
             raise Refused(5)
-        if frame is None:
-            frame = self.lowest_free_frame()
-        if self.frames[frame] is not None:
-            raise Refused(6)
+        frame = self.fresh_frame(frame)
+        self.change_beside()
         self.places -= 1
-        self.frames[frame] = self.pages[address] = Page(frame, address, unmovable)
+        self.pages[address] = Page(frame, address, unmovable)
+        if self.is_told:
+            self.frames[frame] = self.pages[address]
         return "ok"
 
     def share(self, address, alias):
@@ -138,10 +186,12 @@ class Zone:
         page = self.need_still_page(address)
         if len(page.addresses) == 1 and page.pins > 0:
             raise Refused(10)
+        if len(page.addresses) == 1:
+            self.change_beside()
         self.places -= 1
         page.addresses.remove(address)
         del self.pages[address]
-        if not page.addresses:
+        if not page.addresses and self.is_told:
             self.frames[page.frame] = None
         return "ok"
 
@@ -171,6 +221,8 @@ class Zone:
         page = self.need_page(address)
         if page.pins == MOST_PINS:
             raise Refused(8)
+        if page.pins == 0 and not page.unmovable:
+            self.change_beside(is_pin=True)
         self.places -= 1
         page.pins += 1
         return "ok"
@@ -180,6 +232,8 @@ class Zone:
         page = self.need_page(address)
         if page.pins == 0:
             raise Refused(9)
+        if page.pins == 1 and not page.unmovable:
+            self.change_beside()
         self.places -= 1
         page.pins -= 1
         return "ok"
@@ -222,7 +276,7 @@ class Zone:
         return None if target is None else (source, target)
 
     def begin_round(self):
-        self.low, self.high = 0, len(self.frames)
+        self.low, self.high = 0, self.size
 
     def take_next(self):
         """The next page on its way, or None where there is no pair."""
@@ -300,15 +354,64 @@ class Zone:
     def compact(self):
         if self.is_open:
             raise Refused(45)
+        if not self.is_told:
+            self.need_places(2 * self.most_moves() + 2)
+            self.places -= 2 * self.most_moves()
+            return f"isolated={ANY} moved={ANY} back=0 stopped=met"
         moved, stopped = self.move_all()
         return f"isolated={moved} moved={moved} back=0 stopped={stopped}"
+
+    def most_moves(self):
+        """How many pages a round moves at most: each goes from below the fingers to above them."""
+        return self.size // 2
+
+    # A client beside a round.
+
+    def begin_beside(self):
+        if self.is_open:
+            raise Refused(45)
+        self.client = Client(self.places)
+        if not self.is_told:
+            self.leave_to_threads()
+
+    def moves_beside(self):
+        """Whether a round that has places for a move is beside the calls."""
+        return self.client is not None and self.client.places > 1
+
+    def change_beside(self, is_pin=False):
+        """A client is about to change what the round looks at."""
+        if self.moves_beside():
+            self.client.pins |= is_pin
+            if not self.client.is_free:
+                self.leave_to_threads()
+
+    def leave_to_threads(self):
+        """From here on the threads decide which pages move. The round may take all the places that it can."""
+        self.client.is_free = True
+        self.frames_if_told = None
+        self.places -= 2 * self.most_moves() + 2
+        self.need_places(1)
+        for page in self.pages.values():
+            if not page.unmovable:
+                page.frame = ANY
+
+    def end_beside(self):
+        """The round of a block, behind the client's calls."""
+        client, self.client = self.client, None
+        if client.is_free:
+            back = ANY if client.pins else 0
+            return f"isolated={ANY} moved={ANY} back={back} stopped=met"
+        line = self.compact()
+        if client.places > 1 and self.places < 2:
+            raise Untold
+        return line
 
     # Blocks, marks and counts.
 
     def hand_out(self, order):
         self.need_places(1)
         count = 2**order
-        for first in range(0, len(self.frames), count):
+        for first in range(0, self.size, count):
             if self.frames[first : first + count] == [None] * count:
                 self.places -= 1
                 self.frames[first : first + count] = [(first, order)] * count
@@ -383,16 +486,33 @@ class Zone:
         return "ok"
 
     def info(self):
-        pageblocks = range(0, len(self.frames), FRAMES_OF_A_PAGEBLOCK)
-        free_pageblock = [None] * FRAMES_OF_A_PAGEBLOCK
-        whole = sum(self.frames[first : first + FRAMES_OF_A_PAGEBLOCK] == free_pageblock for first in pageblocks)
         return (
-            f"free={self.frames.count(None)} pages={len(set(self.pages.values()))} moving={len(self.on_their_way)}"
-            f" huge={len(self.handed_out)} whole={whole}"
+            f"free={self.free_frames()} pages={self.page_count()} moving={len(self.on_their_way)}"
+            f" huge={len(self.handed_out)} whole={self.whole_pageblocks()}"
         )
 
+    def free_frames(self):
+        return self.frames.count(None) if self.is_told else self.size - self.page_count() - self.held()
+
+    def whole_pageblocks(self):
+        if not self.is_told:
+            return ANY
+        pageblocks = range(0, self.size, FRAMES_OF_A_PAGEBLOCK)
+        free_pageblock = [None] * FRAMES_OF_A_PAGEBLOCK
+        return sum(self.frames[first : first + FRAMES_OF_A_PAGEBLOCK] == free_pageblock for first in pageblocks)
+
     def info_with_held(self):
-        return f"{self.info()} held={sum(2**order for _, order in self.handed_out)}"
+        return f"{self.info()} held={self.held()}"
+
+
+class Client:
+    """What is known of a block while its client makes calls: the places of the journal at its beginning, whether the threads decide
+    what the round moves, and whether a page had no pin and got one."""
+
+    def __init__(self, places):
+        self.places = places
+        self.is_free = False
+        self.pins = False
 
 
 def listed(numbers):
@@ -435,6 +555,8 @@ CALLS_OF_PROFILE_2 = {
     "info Z": Zone.info_with_held,
 }
 OPENING = "zone Z BLOCKS"
+BLOCK = "during X"
+CLIENT_CALLS = {form: CALLS[form] for form in CALLS if form.split()[0] in ("map", "mapat", "share", "unmap", "store", "load", "pin", "unpin")}
 
 
 def by_shape(forms):
@@ -442,7 +564,8 @@ def by_shape(forms):
     return {(form.split()[0], len(form.split()), "unmovable" in form): form for form in forms}
 
 
-SHAPES = {1: by_shape([OPENING, *CALLS]), 2: by_shape([OPENING, *CALLS_OF_PROFILE_2])}
+SHAPES = {1: by_shape([OPENING, BLOCK, *CALLS]), 2: by_shape([OPENING, BLOCK, *CALLS_OF_PROFILE_2])}
+CLIENT_SHAPES = by_shape(CLIENT_CALLS)
 
 
 def number_of(word):
@@ -452,48 +575,43 @@ def number_of(word):
 
 
 class Machine:
-    """A run of a script: its profile, which the first line that isn't skipped tells, and its zone."""
+    """A run of a script: its profile, which the first line that isn't skipped tells, its zone, and the block that has begun."""
 
     def __init__(self, places=65536):
         self.places = places
         self.profile = None
         self.zone = None
+        self.block = None
 
     def answer(self, line):
-        """The reply to a line, without its newline, or None for a line that is skipped."""
+        """The replies to a line, without its newline: none to one that is skipped, or within a block; its `end` has all of the block."""
         if len(line) > LONGEST_LINE:
             raise Fault(42)
         words = [word for word in line.split(b" ") if word]
         if not words or words[0].startswith(b"#"):
-            return None
+            return []
         if self.profile is None:
             self.profile = 2 if words == [b"profile", b"2"] else 1
             if self.profile == 2:
-                return "ok"
-        form, numbers = self.read(words)
-        try:
-            return self.call(form, numbers)
-        except Refused as refused:
-            return f"refused {refused.number}"
-
-    def read(self, words):
-        """The form of a line of these words, and its numbers."""
-        is_unmovable = words[-1] == b"unmovable"
-        shape = (words[0].decode("latin-1"), len(words), is_unmovable)
-        if shape not in SHAPES[self.profile]:
-            raise Fault(41)
-        return SHAPES[self.profile][shape], [number_of(word) for word in words[1 : len(words) - is_unmovable]]
+                return ["ok"]
+        if self.block is not None:
+            return self.answer_in_block(words)
+        form, numbers = read(words, SHAPES[self.profile])
+        if form == BLOCK:
+            self.begin_block(*numbers)
+            return []
+        return [reply_of(lambda: self.call(form, numbers))]
 
     def call(self, form, numbers):
-        names = [name for name in form.split() if name.isupper()]
-        for name, number in zip(names, numbers):
-            if not RANGES[name][0] <= number <= RANGES[name][1]:
-                raise Refused(1)
+        need_ranges(form, numbers)
         if form == OPENING:
             return self.open(*numbers)
-        if self.zone is None or self.zone.number != numbers[0]:
-            raise Refused(43)
+        self.need_zone(numbers[0])
         return (CALLS if self.profile == 1 else CALLS_OF_PROFILE_2)[form](self.zone, *numbers[1:])
+
+    def need_zone(self, number):
+        if self.zone is None or self.zone.number != number:
+            raise Refused(43)
 
     def open(self, number, blocks):
         if self.zone is not None:
@@ -501,21 +619,92 @@ class Machine:
         self.zone = Zone(number, blocks, self.places)
         return "ok"
 
+    # Blocks. The client's calls are made here as they are read: where a fault ends the block nobody sees what they did.
+
+    def begin_block(self, number):
+        self.block = Block(number)
+        try:
+            need_ranges("during Z", [number])
+            self.need_zone(number)
+            self.zone.begin_beside()
+        except Refused as refused:
+            self.block.refused = refused.number
+
+    def answer_in_block(self, words):
+        block = self.block
+        if words == [b"end"]:
+            self.block = None
+            return [f"refused {block.refused}"] if block.refused else [*block.replies, self.zone.end_beside()]
+        form, numbers = read(words, CLIENT_SHAPES)
+        if numbers[0] != block.number or block.lines == MOST_CLIENT_LINES:
+            raise Fault(41)
+        block.lines += 1
+        if not block.refused:
+            block.replies.append(reply_of(lambda: self.call_of_client(form, numbers)))
+        return []
+
+    def call_of_client(self, form, numbers):
+        need_ranges(form, numbers)
+        return CALLS[form](self.zone, *numbers[1:])
+
+
+class Block:
+    """A block that has begun: its zone's number, its client lines, and their replies, or the number that it is refused with."""
+
+    def __init__(self, number):
+        self.number = number
+        self.lines = 0
+        self.replies = []
+        self.refused = None
+
+
+def read(words, shapes):
+    """The form of a line of these words, and its numbers."""
+    is_unmovable = words[-1] == b"unmovable"
+    shape = (words[0].decode("latin-1"), len(words), is_unmovable)
+    if shape not in shapes:
+        raise Fault(41)
+    return shapes[shape], [number_of(word) for word in words[1 : len(words) - is_unmovable]]
+
+
+def need_ranges(form, numbers):
+    names = [name for name in form.split() if name.isupper()]
+    for name, number in zip(names, numbers):
+        if not RANGES[name][0] <= number <= RANGES[name][1]:
+            raise Refused(1)
+
+
+def reply_of(call):
+    try:
+        return call()
+    except Refused as refused:
+        return f"refused {refused.number}"
+
+
+def fits(found, told):
+    """Whether a text is what the machine tells, with a number where it tells none."""
+    return found == told or ANY in told and re.fullmatch(re.escape(told).replace(re.escape(ANY), "[0-9]+"), found) is not None
+
 
 def text_of(replies):
-    return "".join(f"{reply}\n" for reply in replies if reply is not None)
+    return "".join(f"{reply}\n" for reply in replies)
 
 
 def run(script, places=65536):
     """What a script, given as bytes, writes to standard output and to standard error."""
     machine, replies = Machine(places), []
+    began = None  # the line of the last `during`
     *lines, cut = script.split(b"\n")
     for at, line in enumerate(lines, 1):
         try:
-            replies.append(machine.answer(line))
+            if machine.block is None:
+                began = at
+            replies += machine.answer(line)
         except Fault as fault:
             return text_of(replies), f"compactd: fault {fault.number} at line {at}\n"
     if cut:
         number = 42 if len(cut) > LONGEST_LINE else 41
         return text_of(replies), f"compactd: fault {number} at line {len(lines) + 1}\n"
+    if machine.block is not None:
+        return text_of(replies), f"compactd: fault 41 at line {began}\n"
     return text_of(replies), ""

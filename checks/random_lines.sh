@@ -9,29 +9,28 @@ source "$(dirname -- "${BASH_SOURCE[0]}")/built.sh"
 
 PYTHONPATH=$root/checks python3 -B - "$program" <<'PYTHON'
 import collections
-import concurrent.futures
 import random
-import subprocess
 import sys
 
 import machine
+import runs
 
 LINES = 10_000
 SEED = 20_261_123
-PROCESSORS = 4
-
-program = sys.argv[1]
 draw = random.Random(SEED)
 
-FORMS = [machine.OPENING, *machine.CALLS, *machine.CALLS_OF_PROFILE_2, "compact Z", "profile 2"]
+FORMS = [machine.OPENING, *machine.CALLS, *machine.CALLS_OF_PROFILE_2, "compact Z", "profile 2", "during Z", "end"]
 WORDS = sorted({word for form in FORMS for word in form.split() if not word.isupper()} | {"#", "#info", "-1", "+1", "0x1", "1.", "Info"})
 EDGES = [0, 1, 2, 3, 4, 7, 8, 9, 255, 256, 511, 512, 513, 4095, 4096, 4097]
 EDGES += [2**32 - 1, 2**32, 2**63, 2**64 - 1, 2**64, 2**64 + 1, 10**20 - 1]
-BEFORE = [
-    b"",
-    b"# nothing is open yet\n\n",
-    b"zone 0 1\nmap 0 0 0\n",
-    b"profile 2\nzone 0 2\nmap 0 0 0\nmapat 0 0 1 512\nscan 0\n",
+# What stands before a line, and what may stand behind it.
+AROUND = [
+    (b"", b"info 0\n"),
+    (b"# nothing is open yet\n\n", b"info 0\n"),
+    (b"zone 0 1\nmap 0 0 0\n", b"info 0\n"),
+    (b"profile 2\nzone 0 2\nmap 0 0 0\nmapat 0 0 1 512\nscan 0\n", b"info 0\n"),
+    (b"during 1\nload 1 0 0 0\n", b"end\n"),
+    (b"zone 0 1\nmap 0 0 0\nduring 0\n# of a client\nstore 0 0 0 3 7\n", b"end\nload 0 0 0 3\n"),
 ]
 
 
@@ -75,27 +74,31 @@ KINDS = [bytes_of_any_kind, words_in_any_order, command, command_with_a_changed_
 
 
 def script():
-    return draw.choice(BEFORE) + draw.choice(KINDS)() + draw.choice([b"\ninfo 0\n", b"\ninfo 0\n", b"\ninfo 0\n", b"\n", b""])
+    before, behind = draw.choice(AROUND)
+    return before + draw.choice(KINDS)() + draw.choice([b"\n" + behind] * 3 + [b"\n", b""])
 
 
-def written_for(text):
-    ran = subprocess.run([program], input=text, capture_output=True)
-    return ran.returncode, ran.stdout, ran.stderr
+def told_script():
+    """A script, and the status of a run of it and what it writes: not one of which the threads decide whether a line is refused."""
+    while True:
+        text = script()
+        try:
+            replies, fault = machine.run(text)
+            return text, (int(fault != ""), replies, fault)
+        except machine.Untold:
+            pass
 
 
-def wanted_for(text):
-    replies, fault = machine.run(text)
-    return int(fault != ""), replies.encode(), fault.encode()
+def is_right(found, wanted):
+    return (found[0], found[2]) == (wanted[0], wanted[2]) and machine.fits(found[1], wanted[1])
 
 
-scripts = [script() for _ in range(LINES)]
+scripts = [told_script() for _ in range(LINES)]
 ends = collections.Counter()
-with concurrent.futures.ThreadPoolExecutor(PROCESSORS) as pool:
-    for text, found in zip(scripts, pool.map(written_for, scripts)):
-        wanted = wanted_for(text)
-        if found != wanted:
-            sys.exit(f"of the script {text}\nthe program makes {found}\nand not {wanted}")
-        ends[wanted[2].split(b" at ")[0].decode()[len("compactd: ") :]] += 1
+for (text, wanted), found in zip(scripts, runs.each(runs.written_for, [text for text, _ in scripts])):
+    if not is_right(found, wanted):
+        sys.exit(f"of the script {text}\nthe program makes {found}\nand not {wanted}")
+    ends[wanted[2].split(" at ")[0][len("compactd: ") :]] += 1
 if min(ends["fault 41"], ends["fault 42"], ends[""]) < LINES // 100:
     sys.exit(f"too few lines of a kind: {ends}")
 print(f"{LINES} random lines: {ends['']} are read, {ends['fault 41']} end with fault 41 and {ends['fault 42']} with fault 42")

@@ -1,26 +1,25 @@
 #!/usr/bin/env bash
-# 500 random scripts, with rounds and pools of 1, 2 and 4 copiers and capacities 1, 8 and 64, are answered as docs/SCRIPT.md says: each
-# reply is that of checks/machine.py, for no reply of a round leaves anything open. Besides, and without that machine: the counts of
-# each info line are together the frames of the zone, each page of a round was moved or put back, and at the end no two pages have one
-# frame. The scripts are drawn from a fixed seed. Ends with status 1 where it isn't so.
+# 500 random scripts, with rounds, pools and clients beside rounds, of 1, 2 and 4 copiers and capacities 1, 8 and 64, are answered as
+# docs/SCRIPT.md says: each reply is that of checks/machine.py. In the blocks in mid-script the clients leave alone what rounds look at, so
+# that nothing is open; in the last ones they map pages, end some and pin them, and it is up to the threads what the rounds move. Each
+# load of a client has its own last store. Besides, and without that machine: the counts of each info line are together the frames of the
+# zone, each page of a round was moved or put back, and at the end no two pages have one frame. The scripts are drawn from a fixed
+# seed. Ends with status 1 where it isn't so.
 set -euo pipefail
 
 source "$(dirname -- "${BASH_SOURCE[0]}")/built.sh"
 
 PYTHONPATH=$root/checks python3 -B - "$program" <<'PYTHON'
 import collections
-import concurrent.futures
-import multiprocessing
 import random
-import subprocess
 import sys
 
 import machine
+import runs
 
 SCRIPTS = 500
 COMMANDS = 200
 SEED = 500_823
-PROCESSORS = 4
 COPIERS = [1, 2, 4]
 CAPACITIES = [1, 8, 64]
 
@@ -30,9 +29,9 @@ COMMON = [
     *["mapat", "share", "unmap", "pin", "unpin", "scan", "take", "copy", "finish", "look"] * 3,
     *["fill", "thin", "huge", "give", "compact", "pool", "shut", "mark", "unmark"] * 2,
     *["info", "zone"],
+    *["during"] * 2,
 ]
-
-program = sys.argv[1]
+OF_A_CLIENT = [*["store", "load"] * 6, *["map", "mapat", "share", "unmap", "pin", "unpin"]]
 
 
 class Author:
@@ -46,13 +45,22 @@ class Author:
             "journal": self.draw.choice([65536, 65536, 65536, self.draw.randrange(1, 2000)]),
         }
         self.machine = machine.Machine(self.options["journal"])
-        self.lines, self.replies = [], []
+        self.lines = []  # as they are written
+        self.asked, self.replies = [], []  # what is answered, and how: of a block first the client lines, then its first line
+        self.begun = []
         self.blocks = self.draw.randrange(1, 9)
-        self.end = 0  # where the last lines begin, which tell all that is left
+        self.end = 0  # where the replies to the last lines begin, which tell all that is left
 
     def say(self, line):
         self.lines.append(line)
-        self.replies.append(self.machine.answer(line.encode()))
+        replies = self.machine.answer(line.encode())
+        if line != "end":
+            self.begun.append(line)
+        if replies:
+            first, *clients = self.begun
+            self.asked += [*clients, first] if len(replies) > 1 else [first]
+            self.replies += replies
+            self.begun = []
 
     def script(self):
         if self.draw.random() < 0.5:
@@ -62,18 +70,30 @@ class Author:
         if self.draw.random() < 0.1:
             self.crowded_page()
         for _ in range(COMMANDS):
-            self.say(self.command())
-        for hand in range(1, 5):
-            self.say(f"copy 0 {hand}")
-            self.say(f"finish 0 {hand}")
-        self.say("shut 0")
+            command = self.command()
+            if command.startswith("during") and self.draw.random() < 0.8:
+                self.end_round_by_hand()
+            self.say(command)
+            if self.machine.block:
+                self.rest_of_block(self.draw.choice([0, 1, 5, 20, 40]), self.is_left_alone)
+        self.end_round_by_hand()
         self.say("compact 0")
-        self.end = len(self.lines)
+        for _ in range(self.draw.choice([0, 1, 2])):
+            if self.has_places_for_any_round(200 + len(self.zone().pages)):
+                self.say("during 0")
+                self.rest_of_block(self.draw.choice([10, 100]), self.is_told)
+        self.end = len(self.replies)
         for space, page in sorted(self.zone().pages):
             self.say(f"look 0 {space} {page}")
             self.say(f"load 0 {space} {page} {self.draw.randrange(8)}")
         self.say("info 0")
         return "".join(f"{line}\n" for line in self.lines).encode()
+
+    def end_round_by_hand(self):
+        for hand in range(1, 5):
+            self.say(f"copy 0 {hand}")
+            self.say(f"finish 0 {hand}")
+        self.say("shut 0")
 
     def some_pages(self):
         count = self.draw.choice([0, 5, 100, 512 * self.blocks // 2, 512 * self.blocks])
@@ -87,6 +107,39 @@ class Author:
             self.say(f"share 0 2 0 2 {address}")
         for _ in range(machine.MOST_PINS + 1):
             self.say("pin 0 2 0")
+
+    def rest_of_block(self, count, is_good):
+        """So many client lines, of those that are good ones behind the lines before."""
+        number = self.machine.block.number
+        while count > 0:
+            word = self.draw.choice(OF_A_CLIENT)
+            arguments = getattr(self, f"behind_{word}")()
+            if is_good(word, arguments.split()):
+                self.say(f"{word} {number} {arguments}")
+                count -= 1
+        self.say("end")
+
+    def is_left_alone(self, word, arguments):
+        """Whether a client's call changes nothing that a round looks at."""
+        space, page, *_ = map(int, arguments[:2])
+        page = self.zone() and self.zone().pages.get((space, page))
+        if word in ("map", "mapat"):
+            return page is not None
+        if word == "unmap" and page:
+            return page.pins > 0 or len(page.addresses) > 1
+        if word in ("pin", "unpin") and page:
+            return page.unmovable or page.pins > 1 or (page.pins == 1) == (word == "pin")
+        return True
+
+    def is_told(self, word, arguments):
+        """Whether a client's call, that may change what the round looks at, has a reply that is told."""
+        zone = self.zone()
+        if word in ("map", "mapat") and tuple(map(int, arguments[:2])) not in zone.pages:
+            return word == "map" and 2 * zone.page_count() + zone.held() < zone.size
+        return True
+
+    def has_places_for_any_round(self, clients):
+        return self.zone().places > clients + 2 * self.zone().most_moves() + 2
 
     def zone(self):
         return self.machine.zone
@@ -117,11 +170,16 @@ class Author:
 
     def command(self):
         word = self.draw.choice(COMMON)
-        while self.machine.profile == 1 and word in ("mark", "unmark"):
+        while not self.can_say(word):
             word = self.draw.choice(COMMON)
         zone = self.draw.choice([0] * 60 + [1, 4])
         arguments = getattr(self, f"behind_{word}", lambda: "")()
         return f"{word} {zone} {arguments}".rstrip()
+
+    def can_say(self, word):
+        if word == "during":
+            return self.zone().places <= 1 or self.has_places_for_any_round(40)
+        return self.machine.profile == 2 or word not in ("mark", "unmark")
 
     def unmovable(self):
         return self.draw.choice(["", "", "", " unmovable"])
@@ -175,12 +233,6 @@ class Author:
     behind_unmark = behind_mark
 
 
-def written_for(author, script):
-    options = [f"--{name}={value}" for name, value in author.options.items()]
-    ran = subprocess.run([program, *options], input=script, capture_output=True)
-    return ran.returncode, ran.stdout.decode(), ran.stderr.decode()
-
-
 def fields(reply):
     return {name: value for name, _, value in (word.partition("=") for word in reply.split())}
 
@@ -208,7 +260,7 @@ def adds_up(told, held, frames):
 def wrong_count(author, replies):
     """A reply whose counts don't add up, if there is one."""
     held = 0
-    for command, reply in zip(author.lines, replies):
+    for command, reply in zip(author.asked, replies):
         held = held_behind(held, command, reply)
         if not adds_up(fields(reply), held, 512 * author.blocks):
             return f"`{command}` is answered `{reply}` where {held} frames are handed out"
@@ -224,9 +276,9 @@ def has_frames_of_their_own(author, replies):
 
 
 def first_difference(author, replies):
-    for at, (command, found, right) in enumerate(zip(author.lines, replies, author.replies)):
-        if found != right:
-            return f"`{command}` at line {at + 1} is answered `{found}` and not `{right}`"
+    for at, (command, found, right) in enumerate(zip(author.asked, replies, author.replies), 1):
+        if not machine.fits(found, right):
+            return f"`{command}` has the reply {at}, `{found}`, and not `{right}`"
     return None
 
 
@@ -234,36 +286,39 @@ def try_script(number):
     """Runs a script, and says what is wrong with it, if anything is, and the words of its replies."""
     author = Author(number)
     script = author.script()
-    status, text, fault = written_for(author, script)
+    options = [f"--{name}={value}" for name, value in author.options.items()]
+    status, text, fault = runs.written_for(script, options)
     replies = text.splitlines()
-    if status != 0 or fault or len(replies) != len(author.lines):
-        wrong = f"status {status}, {fault}, {len(replies)} replies to {len(author.lines)} lines"
+    if status != 0 or fault or len(replies) != len(author.replies):
+        wrong = f"status {status}, {fault}, {len(replies)} replies and not {len(author.replies)}"
     else:
         wrong = first_difference(author, replies) or wrong_count(author, replies)
         if not wrong and not has_frames_of_their_own(author, replies):
             wrong = "two pages have one frame"
-    return wrong and f"script {number} with {author.options}: {wrong}", kinds_of(replies)
+    return wrong and f"script {number} with {author.options}: {wrong}", kinds_of(author.asked, replies)
 
 
-def kinds_of(replies):
+def kinds_of(asked, replies):
     """How often each refusal came, how many rounds moved a page, and how often pools stopped for each reason."""
     refusals = [reply for reply in replies if reply.startswith("refused ")]
-    rounds = [ROUND for reply in replies if reply.startswith("isolated=") and not reply.startswith("isolated=0")]
+    moved = [command.split()[0] for command, reply in zip(asked, replies) if reply.startswith("isolated=") and not reply.startswith("isolated=0")]
+    rounds = [ROUND_BESIDE if word == "during" else ROUND for word in moved]
     pools = [f"pool stopped={fields(reply)['stopped']}" for reply in replies if reply.startswith("got=")]
     return collections.Counter(refusals + rounds + pools)
 
 
 ROUND = "rounds that moved a page"
-WANTED = {f"refused {number}" for number in [*range(1, 13), 17, 18, 43, 44, 45]} | {ROUND}
+ROUND_BESIDE = "rounds that moved a page beside a client"
+WANTED = {f"refused {number}" for number in [*range(1, 13), 17, 18, 43, 44, 45]} | {ROUND, ROUND_BESIDE}
 WANTED |= {f"pool stopped={reason}" for reason in ("enough", "noblock", "journalfull")}
 
 kinds = collections.Counter()
-with concurrent.futures.ProcessPoolExecutor(PROCESSORS, multiprocessing.get_context("fork")) as pool:
-    for wrong, found in pool.map(try_script, range(SCRIPTS)):
-        if wrong:
-            sys.exit(wrong)
-        kinds += found
+for wrong, found in runs.each(try_script, range(SCRIPTS)):
+    if wrong:
+        sys.exit(wrong)
+    kinds += found
 if set(kinds) != WANTED:
     sys.exit(f"the scripts have other kinds of replies than they should: {sorted(WANTED ^ set(kinds))}")
-print(f"{SCRIPTS} random scripts, {kinds[ROUND]} {ROUND}, have the replies of checks/machine.py, and their counts add up")
+told = f"{kinds[ROUND]} {ROUND} and {kinds[ROUND_BESIDE]} beside a client"
+print(f"{SCRIPTS} random scripts, with {told}, have the replies of checks/machine.py, and their counts add up")
 PYTHON

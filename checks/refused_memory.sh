@@ -167,13 +167,17 @@ a_pool() {
     echo 'info 0'
 }
 
-# A client loads from a page beside a round that moves it.
+# A client stores and loads in a page beside a round that moves it.
 a_block() {
+    local value
     echo 'profile 2'
     echo 'zone 0 1'
     echo 'map 0 0 0'
     echo 'during 0'
-    each 'load 0 0 0 %.0f' 3 4
+    for value in 5 6; do
+        echo "store 0 0 0 3 $value"
+        echo 'load 0 0 0 3'
+    done
     echo 'end'
     echo 'look 0 0 0'
 }
@@ -299,18 +303,18 @@ is_without_pool_round() {
     return 1
 }
 
-# Whether a client line of the block was refused for want of memory, or its round for that or for a thread, or the whole block for a thread;
-# then the page is where it was.
+# Whether a client line of the block was refused for want of memory, so that a load has the value before a store that is refused, or its
+# round for that or for a thread, or the whole block for a thread; then the page is where it was.
 is_without_part() {
-    local line number
-    local unmoved='frame=0 dirty=0 unmovable=0 pins=0 maps=1'
-    for line in 4 5; do
-        sed "${line}s/.*/refused 31/" "$work/played" | cmp -s - "$work/out" && return
+    local edit number
+    local unmoved='unmovable=0 pins=0 maps=1'
+    for edit in '4s/.*/refused 31/; 5s/5/0/' '5s/.*/refused 31/' '6s/.*/refused 31/; 7s/6/5/' '7s/.*/refused 31/'; do
+        sed "$edit" "$work/played" | cmp -s - "$work/out" && return
     done
     for number in 31 32; do
-        { head -n 5 "$work/played" && echo "refused $number" && echo "$unmoved"; } | cmp -s - "$work/out" && return
+        { head -n 7 "$work/played" && echo "refused $number" && echo "frame=0 dirty=1 $unmoved"; } | cmp -s - "$work/out" && return
     done
-    { head -n 3 "$work/played" && echo 'refused 32' && echo "$unmoved"; } | cmp -s - "$work/out"
+    { head -n 3 "$work/played" && echo 'refused 32' && echo "frame=0 dirty=0 $unmoved"; } | cmp -s - "$work/out"
 }
 
 # Runs a script with one of its requests refused. What it writes is in `out` and `err`, and its status in `status`.

@@ -326,7 +326,7 @@ const CASES: [Case; 37] = [
 ];
 
 /// Runs with clients beside rounds.
-const CLIENTS: [Case; 7] = [
+const CLIENTS: [Case; 14] = [
     Case {
         name: "a client stores and loads in a page that is moved",
         arguments: &[],
@@ -381,6 +381,62 @@ const CLIENTS: [Case; 7] = [
         script: "during 0\n#########################################################################################################################################################################################################\nend\n",
         replies: "",
         faults: "compactd: fault 42 at line 2\n",
+        status: 1,
+    },
+    Case {
+        name: "no block while a round is open by hand, nor with a number that no zone has",
+        arguments: &[],
+        script: "zone 0 1\nmap 0 0 0\nscan 0\nduring 0\nunmap 0 0 0\nend\nduring 4\nunmap 4 0 0\nend\nshut 0\nduring 0\nload 0 0 0 7\nend\ninfo 0\n",
+        replies: "ok\nok\nserial=0\nrefused 45\nrefused 1\nback=1\nvalue=0\nisolated=1 moved=1 back=0 stopped=met\nfree=511 pages=1 moving=0 huge=0 whole=0\n",
+        faults: "",
+        status: 0,
+    },
+    Case {
+        name: "each call of a client, and refusals",
+        arguments: &[],
+        script: "zone 0 1\nduring 0\nmap 0 0 0 unmovable\nmapat 0 0 1 7 unmovable\nmapat 0 0 2 512\nmap 0 0 0\nmapat 0 0 2 7\nshare 0 0 0 1 0\nshare 0 0 0 0 1\nunmap 0 0 0\npin 0 1 0\nunmap 0 1 0\nunpin 0 1 0\nunpin 0 1 0\nload 0 0 0 0\nstore 0 1 0 8 1\nend\nlook 0 1 0\nlook 0 0 1\n",
+        replies: "ok\nok\nok\nrefused 1\nrefused 5\nrefused 6\nok\nrefused 5\nok\nok\nrefused 10\nok\nrefused 9\nrefused 3\nrefused 1\nisolated=0 moved=0 back=0 stopped=met\nframe=0 dirty=0 unmovable=1 pins=0 maps=1\nframe=7 dirty=0 unmovable=1 pins=0 maps=1\n",
+        faults: "",
+        status: 0,
+    },
+    Case {
+        name: "two blocks of one client, and a round of the script between them",
+        arguments: &["--copiers", "4", "--capacity", "1"],
+        script: "zone 0 1\nfill 0 0 0 9\nduring 0\nstore 0 0 8 0 3\nshare 0 0 8 1 0\nend\ncompact 0\nduring 0\nunmap 0 0 8\nload 0 1 0 0\nend\nlook 0 1 0\n",
+        replies: "ok\ndone=9\nok\nok\nisolated=9 moved=9 back=0 stopped=met\nisolated=0 moved=0 back=0 stopped=met\nok\nvalue=3\nisolated=0 moved=0 back=0 stopped=met\nframe=503 dirty=1 unmovable=0 pins=0 maps=1\n",
+        faults: "",
+        status: 0,
+    },
+    Case {
+        name: "a page that is pinned before a block stays where it is, and so does a marked one",
+        arguments: &[],
+        script: "profile 2\nzone 0 2\nmap 0 0 0\nmapat 0 0 1 512\npin 0 0 0\nmark 0 1\nduring 0\npin 0 0 0\nstore 0 0 1 7 9\nunpin 0 0 0\nload 0 0 1 7\nend\nlook 0 0 0\nlook 0 0 1\n",
+        replies: "ok\nok\nok\nok\nok\nok\nok\nok\nok\nvalue=9\nisolated=0 moved=0 back=0 stopped=met\nframe=0 dirty=0 unmovable=0 pins=1 maps=1\nframe=512 dirty=1 unmovable=0 pins=0 maps=1\n",
+        faults: "",
+        status: 0,
+    },
+    Case {
+        name: "a client has the last place of the journal",
+        arguments: &["--journal", "2"],
+        script: "zone 0 1\nmap 0 0 0\nduring 0\nload 0 0 0 0\nload 0 0 0 0\nunmap 0 0 0\nend\nlook 0 0 0\n",
+        replies: "ok\nok\nvalue=0\nrefused 2\nrefused 2\nisolated=0 moved=0 back=0 stopped=journalfull\nframe=0 dirty=0 unmovable=0 pins=0 maps=1\n",
+        faults: "",
+        status: 0,
+    },
+    Case {
+        name: "a client line of another zone",
+        arguments: &[],
+        script: "zone 0 1\nduring 0\nload 0 0 0 0\n# the next is of zone 1\nload 1 0 0 0\nend\n",
+        replies: "ok\n",
+        faults: "compactd: fault 41 at line 5\n",
+        status: 1,
+    },
+    Case {
+        name: "an end without its newline",
+        arguments: &[],
+        script: "zone 0 1\nduring 0\nmap 0 0 0\nend",
+        replies: "ok\n",
+        faults: "compactd: fault 41 at line 4\n",
         status: 1,
     },
 ];
