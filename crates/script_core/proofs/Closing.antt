@@ -1,6 +1,5 @@
 -- The end of a run: what waits is written.
 use Rattle.std.proofs.Common.{◌≡◌, ◌≢◌, ℕ, ◌+◌, List, [], ◌∷◌, ◌++◌, refl, sym, ap, subst, ◌∙◌, append_assoc, append-nil, inl, inr, ◌⊎◌, arith, Option, Some}
-use Rattle.std.specs.Prelude.{IfSome}
 use Rattle.std.specs.Io.KnownBytes.{Appends, Consumes}
 use Rattle.std.proofs.KnownBytes.{Appends-nil}
 use Rattle.script_core.specs.declared.error.RunError.{RunError}
@@ -10,7 +9,7 @@ use Rattle.script_core.specs.Ends.{StopsIn}
 use Rattle.script_core.specs.Runs.{Rule, Asking, IsAsking, IsEnded, IsStopped, IsUnread}
 use Rattle.script_core.specs.Outbox.{Outbox, Owes, empty}
 use Rattle.text_core.specs.Reply.{newlines}
-use Rattle.script_core.specs.Script.{Answer, IsBeginning, Numbered, commands_from, commands_of, fault_of, parts_of, texts}
+use Rattle.script_core.specs.Script.{Answer, IsBeginning, Numbered, commands_from, commands_of, parts_of, texts}
 use Rattle.script_core.specs.Player.{Player, BreaksOff, EndsBy, Finishes, HasClosed, HasEnded, StopsBy, HasFault, HasRead, begun}
 use Rattle.script_core.proofs.Waiting.{owes_empty, owes_none}
 use Rattle.text_core.proofs.Newlines.{newlines-append}
