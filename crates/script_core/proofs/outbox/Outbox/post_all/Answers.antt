@@ -12,9 +12,13 @@ nothing_left [] h = refl
 nothing_left (x ∷ xs) h = absurd (omega arith)
 
 pub loop-answer-init : goal.loop-answer-init
-loop-answer-init g c = (refl, search rules, λ answers first owes.
-    let O : List Answer → Type 0 = λ list. Owes c.args.self.now list first (g.W.Write.contents c.args.writer.now) in
-    subst O (sym (append-nil answers)) owes)
+loop-answer-init g c = (
+  refl,
+  search rules,
+  λ answers first owes.
+      let O : List Answer → Type 0 = λ list. Owes c.args.self.now list first (g.W.Write.contents c.args.writer.now) in
+      subst O (sym (append-nil answers)) owes,
+)
 
 pub loop-answer-preserved : goal.loop-answer-preserved
 loop-answer-preserved g c =
