@@ -1,4 +1,4 @@
-use Rattle.std.proofs.Common.{◌≡◌, ◌+◌, ◌++◌, ◌∷◌, [], ℕ, List, length, ap, refl, rules, sym, subst, ◌∙◌, append_assoc, append-nil, arith}
+use Rattle.std.proofs.Common.{◌≡◌, ◌++◌, ◌∷◌, [], List, length, ap, refl, rules, sym, subst, ◌∙◌, append_assoc, append-nil, arith}
 use Rattle.std.proofs.lemmas.Result.{err_from_is_err_and}
 use Rattle.std.specs.Vec.Iter.{into_iter_items}
 use Rattle.script_core.specs.Ends.{StopsIn}
@@ -12,9 +12,13 @@ nothing_left [] h = refl
 nothing_left (x ∷ xs) h = absurd (omega arith)
 
 pub loop-answer-init : goal.loop-answer-init
-loop-answer-init g c = (refl, search rules, λ answers first owes.
-    let O : List Answer → Type 0 = λ list. Owes c.args.self.now list first (g.W.Write.contents c.args.writer.now) in
-    subst O (sym (append-nil answers)) owes)
+loop-answer-init g c = (
+  refl,
+  search rules,
+  λ answers first owes.
+      let O : List Answer → Type 0 = λ list. Owes c.args.self.now list first (g.W.Write.contents c.args.writer.now) in
+      subst O (sym (append-nil answers)) owes,
+)
 
 pub loop-answer-preserved : goal.loop-answer-preserved
 loop-answer-preserved g c =

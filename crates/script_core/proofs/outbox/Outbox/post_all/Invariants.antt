@@ -9,4 +9,4 @@ abbrev pub invariant-loop-answer : goal.invariant-loop-answer
 invariant-loop-answer g l = (l.yielded ++ into_iter_items l.answer-iterator ≡ into_iter_items l.initial.answer-iterator)
     × (into_iter_len l.answer-iterator ≡ length (into_iter_items l.answer-iterator))
     × ((answers : List Answer) (first : Option (List ℕ)) → Owes l.fn.self answers first (g.W.Write.contents l.fn.writer)
-        → Owes l.self (answers ++ l.yielded) first (g.W.Write.contents l.writer))
+    → Owes l.self (answers ++ l.yielded) first (g.W.Write.contents l.writer))
