@@ -98,12 +98,7 @@ impl Page {
     }
 
     /// The page with these words.
-    pub(crate) fn carrying(
-        zone: ZoneNo,
-        number: PageNo,
-        flags: PageFlags,
-        words: [u64; 8],
-    ) -> Self
+    pub(crate) fn carrying(zone: ZoneNo, number: PageNo, flags: PageFlags, words: [u64; 8]) -> Self
         ensures { result ≡ record { zone = zone; number = number; flags = flags; words = words } }
     {
         Page {
