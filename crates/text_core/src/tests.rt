@@ -350,13 +350,12 @@ fn reads_lines(rt: HostRuntime) {
 
 #[test]
 fn reads_lines_of_a_block(rt: HostRuntime) {
-    let address = address();
     let load = ClientCall::Load {
-        address,
+        address: address(),
         word: WordNo::new(7).unwrap(),
     };
     let map = ClientCall::Map {
-        address,
+        address: address(),
         unmovable: true,
     };
     let rows: [(&str, &[u8], Result<Option<BlockLine>, ScriptError>); 13] = [
@@ -377,7 +376,7 @@ fn reads_lines_of_a_block(rt: HostRuntime) {
         (
             "a pin",
             b"pin 3 1 2",
-            Ok(Some(BlockLine::Client(Some(ClientCall::Pin(address))))),
+            Ok(Some(BlockLine::Client(Some(ClientCall::Pin(address()))))),
         ),
         (
             "an unmap of a page out of its range",
