@@ -15,8 +15,8 @@ refused zone order lawful (Ok huge) is = tt
 refused zone order lawful (Err error) is = record { zone = zone; lawful = lawful; refused = sym is }
 
 -- a refusal that isn't for want of room is for want of a block
-pub no_block : (order : ℕ) (error : ZoneError) → IsRefused order error → (error ≡ JournalFull → ⊥) → error ≡ NoBlock
-no_block order error was other = only (has_room was.zone) (is_none (lowest_run was.zone order)) error was.refused other
+pub no_block : (order : ℕ) (error : ZoneError) → IsRefused order error → (error ≡ JournalFull → ⊥) → IsRefused order NoBlock
+no_block order error was other = subst (IsRefused order) (only (has_room was.zone) (is_none (lowest_run was.zone order)) error was.refused other) was
   where
     only : (room none : Bool) (error : ZoneError) → (if not room then Some JournalFull else if none then Some NoBlock else None) ≡ Some error
         → (error ≡ JournalFull → ⊥) → error ≡ NoBlock

@@ -1,37 +1,51 @@
 -- A collector between two of its rounds, and where it stops.
-use Rattle.std.proofs.Common.{◌≡◌, ◌<◌, ◌≤◌, ◌+◌, ℕ, List, ◌∷◌, length, refl, inl, arith}
-use Rattle.std.proofs.lemmas.List.Elements.{All-cons}
+use Rattle.std.proofs.Common.{◌≡◌, ◌<◌, ◌≤◌, ◌+◌, ℕ, List, [], ◌∷◌, length, refl, inl, arith}
+use Rattle.std.proofs.lemmas.List.Elements.{All-nil, All-cons}
 use Rattle.round_core.specs.Rounds.{IsRound}
 use Rattle.round_core.specs.declared.round.Round.{Round}
 use Rattle.round_core.specs.declared.round.Stop.{Stop as RoundStop}
 use Rattle.round_core.specs.declared.round.Stop.TheVariants as round
+use Rattle.state_core.specs.declared.error.ZoneError.TheVariants as zone
 use Rattle.zone_core.specs.Seats.{ScanSeat, EndSeat}
 use Rattle.huge_core.specs.declared.collector.Collector.{Collector}
 use Rattle.huge_core.specs.declared.report.Report.{Report}
-use Rattle.huge_core.specs.declared.report.Stop.{Stop}
 use Rattle.huge_core.specs.declared.report.Stop.TheVariants as stop
-use Rattle.huge_core.specs.Reserving.{AreRounds, HaveMoved, IsReason, AreLeft, HasRun}
+use Rattle.huge_core.specs.Huge.{IsRefused}
+use Rattle.huge_core.specs.Reserving.{AreRounds, HaveMoved, WereNeeded, IsReason, AreLeft, HasRun}
 
--- it ran so many rounds, each of which moved a page, and they are no more than it may run
+-- it ran so many rounds, each of which was needed and moved a page, and they are no more than it may run
 pub record IsRunning (c : Collector) (scan scan_new : ScanSeat) (ends ends_new : EndSeat) (count : ℕ) : Type 0 where
   pub rounds : List Round
   pub count_is : count ≡ length rounds
   pub most : count ≤ c.rounds
+  pub needed : WereNeeded c.order rounds
   pub moved : HaveMoved rounds
   pub ran : AreRounds rounds scan scan_new ends ends_new
 
+-- before its first round
+pub not_begun : (c : Collector) (scan : ScanSeat) (ends : EndSeat) → IsRunning c scan scan ends ends 0
+not_begun c scan ends = record {
+  rounds = [];
+  count_is = refl;
+  most = omega arith;
+  needed = All-nil (λ (r : Round). IsRefused c.order zone.NoBlock);
+  moved = All-nil (λ (r : Round). 0 < r.moved);
+  ran = (refl, refl);
+}
+
 -- it runs a round that moves a page
 pub run_on : (c : Collector) (scan scan_between scan_new : ScanSeat) (ends ends_between ends_new : EndSeat) (count : ℕ) (latest : Round)
-    → IsRunning c scan scan_between ends ends_between count → (count ≡ c.rounds → ⊥)
+    → IsRunning c scan scan_between ends ends_between count → (count ≡ c.rounds → ⊥) → IsRefused c.order zone.NoBlock
     → IsRound scan_between scan_new ends_between ends_new latest → (latest.moved ≡ 0 → ⊥)
     → IsRunning c scan scan_new ends ends_new (count + 1)
-run_on c scan scan_between scan_new ends ends_between ends_new count latest was left round moved =
+run_on c scan scan_between scan_new ends ends_between ends_new count latest was left refused round moved =
     let length_was = was.count_is in
     let most_was = was.most in
     record {
       rounds = latest ∷ was.rounds;
       count_is = omega (arith, length_was);
       most = omega (arith, most_was, left);
+      needed = All-cons (λ (r : Round). IsRefused c.order zone.NoBlock) latest was.rounds refused was.needed;
       moved = All-cons (λ (r : Round). 0 < r.moved) latest was.rounds (omega (arith, moved)) was.moved;
       ran = (scan_between, ends_between, was.ran, round);
     }
@@ -46,6 +60,7 @@ stopped c scan scan_behind scan_new ends ends_behind ends_new report was left re
   rounds = was.rounds;
   count = was.count_is;
   most = was.most;
+  needed = was.needed;
   scan_behind = scan_behind;
   ends_behind = ends_behind;
   ran = was.ran;
@@ -55,11 +70,11 @@ stopped c scan scan_behind scan_new ends ends_behind ends_new report was left re
 
 -- it stops behind a round that moved none
 pub idled : (c : Collector) (scan scan_between scan_new : ScanSeat) (ends ends_between ends_new : EndSeat) (report : Report) (count : ℕ) (latest : Round)
-    → IsRunning c scan scan_between ends ends_between count → (count ≡ c.rounds → ⊥) → report.rounds ≡ count + 1
+    → IsRunning c scan scan_between ends ends_between count → (count ≡ c.rounds → ⊥) → IsRefused c.order zone.NoBlock → report.rounds ≡ count + 1
     → IsRound scan_between scan_new ends_between ends_new latest → latest.moved ≡ 0
     → (latest.stopped ≡ round.Met → report.stop ≡ stop.NoBlock) → (latest.stopped ≡ round.JournalFull → report.stop ≡ stop.JournalFull)
     → HasRun c scan scan_new ends ends_new report
-idled c scan scan_between scan_new ends ends_between ends_new report count latest was left more ran idle met full =
+idled c scan scan_between scan_new ends ends_between ends_new report count latest was left refused more ran idle met full =
     let length_was = was.count_is in
     let most_was = was.most in
     let why = reason latest.stopped refl met full in
@@ -67,6 +82,7 @@ idled c scan scan_between scan_new ends ends_between ends_new report count lates
       rounds = latest ∷ was.rounds;
       count = omega (arith, more, length_was);
       most = omega (arith, more, most_was, left);
+      needed = All-cons (λ (r : Round). IsRefused c.order zone.NoBlock) latest was.rounds refused was.needed;
       scan_behind = scan_new;
       ends_behind = ends_new;
       ran = (scan_between, ends_between, was.ran, ran);

@@ -29,6 +29,10 @@ AreRounds (latest ∷ earlier) scan scan_new ends ends_new =
 abbrev pub HaveMoved : List Round → Type 0
 HaveMoved rounds = All (λ (r : Round). 0 < r.moved) rounds
 
+-- each of the rounds was run where a zone had refused a block of this order since none was free
+abbrev pub WereNeeded : ℕ → List Round → Type 0
+WereNeeded order rounds = All (λ (r : Round). IsRefused order zone.NoBlock) rounds
+
 -- the latest round moved no page and stopped so, and each before it moved one
 abbrev pub HaveIdled : RoundStop → List Round → Type 0
 HaveIdled stop [] = ⊥
@@ -40,7 +44,7 @@ IsReason c rounds Enough = HaveMoved rounds
 IsReason c rounds NoBlock = HaveIdled round.Met rounds
 IsReason c rounds Rounds = HaveMoved rounds × (length rounds ≡ c.rounds) × IsRefused c.order zone.NoBlock
 IsReason c rounds JournalFull = HaveIdled round.JournalFull rounds ⊎ (HaveMoved rounds × IsRefused c.order zone.JournalFull)
-IsReason c rounds (Refused error) = HaveMoved rounds
+IsReason c rounds (Refused error) = HaveMoved rounds × IsRefused c.order zone.NoBlock
 
 -- what the seats are then: as its rounds left them, but for a round that was refused
 abbrev pub AreLeft : Stop → ScanSeat → ScanSeat → EndSeat → EndSeat → Type 0
@@ -53,6 +57,7 @@ pub record HasRun (c : Collector) (scan scan_new : ScanSeat) (ends ends_new : En
   pub rounds : List Round
   pub count : report.rounds ≡ length rounds
   pub most : report.rounds ≤ c.rounds
+  pub needed : WereNeeded c.order rounds
   -- the seats behind them, and behind the call
   pub scan_behind : ScanSeat
   pub ends_behind : EndSeat

@@ -13,7 +13,7 @@ pub enum Stop {
     Rounds,
     /// The journal has no place for a block, or for the pages of its latest round, which moved none.
     JournalFull,
-    /// A round was refused.
+    /// No block is free, and a round was refused.
     Refused(RoundError),
 }
 

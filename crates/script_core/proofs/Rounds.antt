@@ -19,7 +19,7 @@ use Rattle.text_core.specs.declared.reply.Reply.TheVariants as reply
 use Rattle.text_core.specs.Grammar.{zone_of}
 use Rattle.client_core.specs.Receipts.{Client}
 use Rattle.script_core.specs.Clients.{AreClientAnswers}
-use Rattle.script_core.specs.Script.{Answer, ClientLine, Numbered}
+use Rattle.script_core.specs.Script.{Answer, ClientLine, Numbered, command_of_line}
 use Rattle.script_core.specs.Serial.{IsStep, Serial}
 use Rattle.script_core.specs.Threaded.{IsBlockFor, IsReplyStep, IsRoundBeside, IsRoundOver, IsSettledReply, IsStepAt, IsStepBy, IsThreadedStep, IsUnstarted, IsWorkOn, IsWorkStep, Settles, Threaded, broken_reply, is_threaded, left_behind, left_by, stands_closed, stands_closed_at}
 
@@ -55,6 +55,19 @@ pub whole_step : (old : Threaded) (command : Command) (answer : Reply) (new : Th
 whole_step old command answer new is step =
     let S : Option ℕ → Type 0 = λ o. IsStepAt o old command answer new in
     subst S (sym is) step
+
+-- the same of a command of one line, whatever its number
+pub broken_line : (old : Threaded) (command : Command) (answer : Reply) (new : Threaded) (number : ℕ)
+    → old.broken ≡ Some number → answer ≡ broken_reply number command → new ≡ old
+    → (line : ℕ) → IsThreadedStep old (command_of_line line command) (record { line = line; reply = answer } ∷ []) new
+broken_line old command answer new number is told same line =
+    inl (record { reply = answer; one = refl; step = broken_step old command answer new number is told same })
+
+pub whole_line : (old : Threaded) (command : Command) (answer : Reply) (new : Threaded)
+    → old.broken ≡ None → IsStepBy (is_threaded command old.serial.world) old command answer new
+    → (line : ℕ) → IsThreadedStep old (command_of_line line command) (record { line = line; reply = answer } ∷ []) new
+whole_line old command answer new is step line =
+    inl (record { reply = answer; one = refl; step = whole_step old command answer new is step })
 
 -- what a machine is whose zone passes its audit, and one whose zone doesn't
 pub left_whole : (places : ℕ) (client : Client) (zone zone_new : ZoneState) (scan scan_new : ScanSeat) (ends ends_new : EndSeat) (refusal : Option ZoneError) (new : Threaded)

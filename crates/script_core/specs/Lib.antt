@@ -4,7 +4,6 @@ pub mod ErrorNumber
 pub mod Machine
 pub mod Outbox
 pub mod Player
-pub mod Requests
 pub mod Runs
 pub mod Script
 pub mod Serial

@@ -66,11 +66,15 @@ by profile = record { profile = profile; block = None }
 abbrev pub within : Profile → Block → Reading
 within profile block = record { profile = profile; block = Some block }
 
+-- a command of one line
+abbrev pub command_of_line : ℕ → Command → Numbered
+command_of_line line command = record { line = line; command = command; clients = [] }
+
 -- a command outside of a block: `during` begins one, and any other is whole
 abbrev pub command_comes : Profile → ℕ → Command → Came
 command_comes profile line (During zone) =
     record { ended = None; reading = within profile (record { line = line; zone = zone; clients = [] }) }
-command_comes profile line command = record { ended = Some (record { line = line; command = command; clients = [] }); reading = by profile }
+command_comes profile line command = record { ended = Some (command_of_line line command); reading = by profile }
 
 -- a line outside of a block
 abbrev pub comes_outside : Profile → ℕ → Result (Option Command) ScriptError → Result Came Fault

@@ -36,21 +36,14 @@ impl Answer {
     }
 }
 
-/// The answers to what a script asks.
-#[derive(Drop)]
-pub(crate) enum Answers {
-    One(Answer),
-    Block(BlockAnswers),
-}
-
 /// The answers to a block: those to its client lines, of which there are at most 1,000, in order, and then its own.
 #[derive(Drop)]
-pub(crate) struct BlockAnswers {
+pub(crate) struct Answers {
     clients: Vec<Answer>,
     own: Answer,
 }
 
-impl Model for BlockAnswers {
+impl Model for Answers {
     ghost use Rattle.std.specs.Prelude.{◌≤◌, List, [], ◌∷◌, ◌++◌, vec_len};
     ghost use Rattle.script_core.specs.Script.{Answer as Seen};
 
@@ -61,12 +54,12 @@ impl Model for BlockAnswers {
     ghost invariant = { λ a. vec_len a.clients ≤ 1000 };
 }
 
-impl BlockAnswers {
+impl Answers {
     pub(crate) fn new(clients: Vec<Answer>, own: Answer) -> Self
         requires { vec_len clients ≤ 1000 }
         ensures { result ≡ clients.items ++ own ∷ [] }
     {
-        BlockAnswers { clients, own }
+        Answers { clients, own }
     }
 
     /// The answers to the client lines, and the block's own.

@@ -1,27 +1,75 @@
-ghost use Rattle.std.specs.Prelude.{◌≡◌, Ok, Err};
-ghost use Rattle.script_core.specs.declared.answer.Answers.{Answers};
-ghost use Rattle.script_core.specs.declared.request.Request.{Request};
-ghost use Rattle.script_core.specs.Requests.{asked, told};
+ghost use Rattle.std.specs.Prelude.{◌≡◌, None, IfOk, OnErr};
+ghost use Rattle.text_core.specs.declared.command.Command.TheVariants.{Compact, Pool};
+ghost use Rattle.script_core.specs.Script.{command_in_block};
+ghost use Rattle.script_core.specs.Threaded.{AsksMemory, IsBlockFor, IsStepBy, IsThreadedStep, is_threaded};
 
+use crate::alone::Alone;
 use crate::answer::Answers;
-use crate::request::Request;
+use crate::block::Block;
 use crate::respond::Respond;
+use crate::threaded::{broken_reply, broken_reply_to_block};
+use frame_core::ZoneNo;
 use std::alloc::AllocError;
+use text_core::{BlockCount, Command, PoolBlocks, Reply};
 
-/// A call that answers commands.
+/// A machine with threads that answers a script. It answers by itself what one on one thread answers; for a round, for a pool and for
+/// a block it has a call each that starts the threads.
 #[derive(Drop)]
-pub(crate) struct Answering<F> {
-    pub(crate) answer: F,
+pub(crate) struct Answering<A, R, P, D> {
+    pub(crate) machine: A,
+    pub(crate) round: R,
+    pub(crate) pool: P,
+    pub(crate) block: D,
 }
 
-impl<F: FnMut(Request) -> Result<Answers, AllocError>> Respond for Answering<F> {
-    ghost may = { λ old c answers new. (request : Request) × (given : Answers) × (asked request ≡ c) × (told given ≡ answers) × F.step old.answer request (Ok given) new.answer };
+impl<
+    A: Alone,
+    R: Fn(&mut A, ZoneNo) -> Reply,
+    P: Fn(&mut A, ZoneNo, BlockCount, PoolBlocks) -> Reply,
+    D: Fn(&mut A, Block) -> Result<Answers, AllocError>,
+> Respond for Answering<A, R, P, D> {
+    ghost may = { λ old c answers new. IsThreadedStep (A.seen old.machine) c answers (A.seen new.machine) };
 
-    ghost asks = { λ old command. (request : Request) × ((asked request).command ≡ command) × (error : _) × (new : _) × F.step old.answer request (Err error) new };
+    ghost asks = { λ old command. AsksMemory (A.seen old.machine) command };
 
-    ghost ready = { λ now. F.IsAlwaysCallable now.answer };
+    // Where no zone is broken each call may be made, and answers as the machine's step says.
+    ghost ready = { λ now.
+        ((old : _) (zone : _) → (A.seen old.now).broken ≡ None → R.pre now.round old zone)
+        × ((old : _) (zone : _) (reply : _) (new : _) → (A.seen old.now).broken ≡ None → R.post now.round old zone reply new
+        → IsStepBy (is_threaded (Compact zone) (A.seen old.now).serial.world) (A.seen old.now) (Compact zone) reply (A.seen new.now))
+        × ((old : _) (zone : _) (count : _) (blocks : _) → (A.seen old.now).broken ≡ None → P.pre now.pool old zone count blocks)
+        × ((old : _) (zone : _) (count : _) (blocks : _) (reply : _) (new : _) → (A.seen old.now).broken ≡ None
+        → P.post now.pool old zone count blocks reply new
+        → IsStepBy (is_threaded (Pool zone count blocks) (A.seen old.now).serial.world) (A.seen old.now) (Pool zone count blocks) reply (A.seen new.now))
+        × ((old : _) (block : _) → (A.seen old.now).broken ≡ None → D.pre now.block old block)
+        × ((old : _) (block : _) (result : _) (new : _) → (A.seen old.now).broken ≡ None → D.post now.block old block result new
+        → IfOk result (λ answers. IsThreadedStep (A.seen old.now) (command_in_block block) answers (A.seen new.now))
+        × OnErr result (IsBlockFor (command_in_block block).command (A.seen old.now).serial.world)) };
 
-    fn respond(&mut self, request: Request) -> Result<Answers, AllocError> {
-        (self.answer)(request)
+    fn respond(&mut self, command: Command) -> Result<Reply, AllocError> {
+        if let Some(number) = self.machine.broken_zone() {
+            return Ok(broken_reply(number, command));
+        }
+        match command {
+            Command::Compact { zone } => Ok((self.round)(&mut self.machine, zone)),
+            Command::Pool {
+                zone,
+                count,
+                blocks,
+            } => Ok((self.pool)(&mut self.machine, zone, count, blocks)),
+            Command::Open { .. }
+            | Command::On { .. }
+            | Command::During { .. }
+            | Command::Profile2
+            | Command::OutOfRange => self.machine.reply_alone(command),
+        }
+    }
+
+    fn respond_to_block(&mut self, block: Block) -> Result<Answers, AllocError> {
+        if let Some(number) = self.machine.broken_zone() {
+            let reply = broken_reply_to_block(number, block.zone());
+            return Ok(block.answered(reply));
+        }
+        (self.block)(&mut self.machine, block)
     }
 }

@@ -1,4 +1,3 @@
-ghost use Rattle.script_core.specs.Requests.{told};
 ghost use Rattle.std.specs.Prelude.{◌≡◌, ◌+◌, ◌<◌, ◌≤◌, ◌++◌, ◌↔◌, [], ◌∷◌, IsTrue, IfOk, length, vec_len, vec_capacity};
 
 use crate::answer::{Answer, Answers};
@@ -46,10 +45,16 @@ impl ClientLine {
     }
 }
 
-/// A block that has begun: the line of its `during`, the number of its zone and its client lines so far, with the place for as many
-/// client lines as it may have and for their answers.
+/// A block that has begun. It is one pointer, so that whoever holds it moves no more than that.
 #[derive(Drop)]
 pub(crate) struct Block {
+    parts: Box<Parts>,
+}
+
+/// The line of a block's `during`, the number of its zone and its client lines so far, with the place for as many client lines as it
+/// may have and for their answers.
+#[derive(Drop)]
+struct Parts {
     line: u64,
     zone: u64,
     clients: Vec<ClientLine>,
@@ -62,9 +67,9 @@ impl Model for Block {
 
     ghost Value = { Seen };
 
-    ghost view = { λ b. record { line = b.line; zone = b.zone; clients = b.clients.items } };
+    ghost view = { λ b. let p = b.parts.value in record { line = p.line; zone = p.zone; clients = p.clients.items } };
 
-    ghost invariant = { λ b. (vec_len b.clients ≤ 1000) × (1000 ≤ vec_capacity b.clients) × (b.answers.items ≡ []) × (1000 ≤ vec_capacity b.answers) };
+    ghost invariant = { λ b. let p = b.parts.value in (vec_len p.clients ≤ 1000) × (1000 ≤ vec_capacity p.clients) × (p.answers.items ≡ []) × (1000 ≤ vec_capacity p.answers) };
 }
 
 impl Block {
@@ -72,25 +77,28 @@ impl Block {
     pub(crate) fn begin(alloc: Global, line: u64, zone: u64) -> Result<Self, AllocError>
         ensures { IfOk result (λ block. block ≡ record { line = line; zone = zone; clients = [] }) }
     {
-        Ok(Block {
+        let parts = Parts {
             line,
             zone,
             clients: Vec::with_capacity(alloc, MOST)?,
             answers: Vec::with_capacity(alloc, MOST)?,
+        };
+        Ok(Block {
+            parts: Box::new(alloc, parts)?,
         })
     }
 
     pub(crate) fn line(&self) -> u64
         ensures { result ≡ self.now.line }
     {
-        self.line
+        self.parts.line
     }
 
     /// The number of the zone, which may be none of a zone.
     pub(crate) fn zone(&self) -> u64
         ensures { result ≡ self.now.zone }
     {
-        self.zone
+        self.parts.zone
     }
 
     /// Whether it has as many client lines as it may have.
@@ -98,7 +106,7 @@ impl Block {
         ensures full { IsTrue result ↔ (1000 ≤ length self.now.clients) }
         ensures most { length self.now.clients ≤ 1000 }
     {
-        MOST <= self.clients.len()
+        MOST <= self.parts.clients.len()
     }
 
     /// Takes one more client line.
@@ -106,14 +114,15 @@ impl Block {
         requires { length self.old.clients < 1000 }
         ensures { self.new ≡ record self.old { clients = self.old.clients ++ client ∷ [] } }
     {
-        self.clients.push_reserved(client);
+        self.parts.clients.push_reserved(client);
     }
 
     /// One reply in place of all, to the block itself.
     pub(crate) fn answered(self, reply: Reply) -> Answers
-        ensures { told result ≡ record { line = self.line; reply = reply } ∷ [] }
+        ensures { result ≡ record { line = self.line; reply = reply } ∷ [] }
     {
-        Answers::One(Answer::new(self.line, reply))
+        let Parts { line, answers, .. } = Box::into_inner(self.parts);
+        Answers::new(answers, Answer::new(line, reply))
     }
 
     /// Its client lines, and the place for as many answers.
@@ -122,6 +131,11 @@ impl Block {
         ensures answers { (result.1.items ≡ []) × (vec_len result.0 ≤ vec_capacity result.1) }
         ensures most { vec_len result.0 ≤ 1000 }
     {
-        (self.clients, self.answers)
+        let Parts {
+            clients,
+            answers,
+            ..
+        } = Box::into_inner(self.parts);
+        (clients, answers)
     }
 }

@@ -6,6 +6,7 @@
 //! calls beside a round are answered: `run_on_threads`.
 #![tactic(auto)]
 
+mod alone;
 mod answer;
 mod answering;
 mod beside;
@@ -18,7 +19,6 @@ mod options;
 mod outbox;
 mod output;
 mod player;
-mod request;
 mod respond;
 mod script;
 mod sink;

@@ -9,8 +9,8 @@ ghost use Rattle.zone_core.specs.ErrorNumber.{world_number_of};
 ghost use Rattle.state_core.specs.ErrorNumber.{number_of};
 ghost use Rattle.frame_core.specs.PageFlags.{is_unmovable};
 
-use crate::answer::{Answer, Answers};
-use crate::request::Request;
+use crate::answer::Answers;
+use crate::block::Block;
 use crate::respond::Respond;
 use arrayvec::ArrayVec;
 use bitflags::Flags;
@@ -57,16 +57,13 @@ impl<I: Ledger, N: Ledger, M: Ledger, B: Ledger> Respond for Machine<I, N, M, B>
 
     ghost ready = { λ _. ⊤ };
 
-    fn respond(&mut self, request: Request) -> Result<Answers, AllocError> {
-        match request {
-            Request::Line { line, command } => {
-                Ok(Answers::One(Answer::new(line, self.reply_to(command)?)))
-            }
-            Request::Block(block) => {
-                let reply = self.during(block.zone());
-                Ok(block.answered(reply))
-            }
-        }
+    fn respond(&mut self, command: Command) -> Result<Reply, AllocError> {
+        self.reply_to(command)
+    }
+
+    fn respond_to_block(&mut self, block: Block) -> Result<Answers, AllocError> {
+        let reply = self.during(block.zone());
+        Ok(block.answered(reply))
     }
 }
 

@@ -1,28 +1,30 @@
 ghost use Rattle.std.specs.Prelude.{◌≡◌, IfErr, IfOk, IfSome, IsTrue, OnErr, OnOk, None, false};
 ghost use Rattle.std.specs.Io.KnownBytes.{Appends};
 ghost use Rattle.zone_core.specs.Books.{AreFor};
+ghost use Rattle.text_core.specs.declared.command.Command.TheVariants.{Compact, Pool};
 ghost use Rattle.script_core.specs.declared.error.Fault.{Fault};
 ghost use Rattle.script_core.specs.Ends.{EndsIn};
-ghost use Rattle.script_core.specs.Requests.{asked, told};
 ghost use Rattle.script_core.specs.Runs.{IsAnswered, IsEnded, IsTotal};
-ghost use Rattle.script_core.specs.Script.{fault_of, output_of, totals_of};
+ghost use Rattle.script_core.specs.Script.{command_in_block, fault_of, output_of, totals_of};
 ghost use Rattle.script_core.specs.Streams.{CannotReadOn};
-ghost use Rattle.script_core.specs.Threaded.{AsksMemory, IsThreadedStep, IsUnthreadedScript, threaded_at_first};
+ghost use Rattle.script_core.specs.Threaded.{AsksMemory, IsBlockFor, IsStepBy, IsThreadedStep, IsUnthreadedScript, is_threaded, threaded_at_first};
 
 use crate::answering::Answering;
+use crate::block::Block;
 use crate::error::RunError;
 use crate::input::Input;
 use crate::options::Options;
 use crate::output::Output;
 use crate::player::play;
-use crate::request::Request;
 use crate::script::Totals;
 use crate::threaded::Threaded;
+use frame_core::ZoneNo;
 use std::alloc::Global;
 use std::marker::Brand;
 use std::sync::Wait;
 use std::sync::ledger::Ledger;
 use std::thread::Threads;
+use text_core::{BlockCount, PoolBlocks};
 use zone_core::Blanks;
 
 /// Runs a script as `run` does, and its rounds and pools on threads, with the calls of a client beside the round of a block. These may
@@ -101,10 +103,30 @@ fn run_threaded<
         (R.reads reader.old) (R.reads reader.new) (R.remaining reader.old)) }
     ensures stuck { IfErr result (λ error. error.fault ≡ Fault.Write → IsTrue (W.stuck writer.new)) }
 {
-    let mut machine = Threaded::<I, N, M, B>::new(alloc, options, blanks);
-    let answer = move |request: Request|
-        ensures ok { IfOk result (λ answers. IsThreadedStep machine.entry (asked request) (told answers) machine.exit) }
-        ensures memory { OnErr result (AsksMemory machine.entry (asked request).command) }
-    { machine.respond(rt, request) };
-    play(alloc, Answering { answer }, reader, writer)
+    let round = move |machine: &mut Threaded<I, N, M, B>, zone: ZoneNo|
+        requires whole { machine.old.broken ≡ None }
+        ensures { IsStepBy (is_threaded (Compact zone) machine.old.serial.world) machine.old (Compact zone) result machine.new }
+    { machine.answer_compact(rt, zone) };
+    let pool = move |machine: &mut Threaded<
+        I,
+        N,
+        M,
+        B,
+    >, zone: ZoneNo, count: BlockCount, blocks: PoolBlocks,|
+        requires whole { machine.old.broken ≡ None }
+        ensures { IsStepBy (is_threaded (Pool zone count blocks) machine.old.serial.world) machine.old (Pool zone count blocks) result machine.new }
+    { machine.answer_pool(rt, zone, count, blocks) };
+    let block = move |machine: &mut Threaded<I, N, M, B>, block: Block|
+        requires whole { machine.old.broken ≡ None }
+        ensures ok { IfOk result (λ answers. IsThreadedStep machine.old (command_in_block block) answers machine.new) }
+        ensures memory { OnErr result (IsBlockFor (command_in_block block).command machine.old.serial.world) }
+    { machine.answer_block(rt, block) };
+    let machine = Threaded::new(alloc, options, blanks);
+    let answering = Answering {
+        machine,
+        round,
+        pool,
+        block,
+    };
+    play(alloc, answering, reader, writer)
 }

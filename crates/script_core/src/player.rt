@@ -2,20 +2,18 @@ ghost use Rattle.std.specs.Prelude.{◌≡◌, ℕ, ◌+◌, ◌*◌, ◌^◌, �
 ghost use Rattle.text_core.specs.Reply.{newlines};
 ghost use Rattle.std.specs.Io.KnownBytes.{Appends};
 ghost use Rattle.script_core.specs.Ends.{StopsIn};
-ghost use Rattle.script_core.specs.Requests.{asked, told};
 ghost use Rattle.script_core.specs.Runs.{IsEnded, IsTotal};
 ghost use Rattle.script_core.specs.Outbox.{Owes, empty};
-ghost use Rattle.script_core.specs.Script.{Answer, Reading, fault_of, line_comes, texts};
+ghost use Rattle.script_core.specs.Script.{Answer, Reading, command_in_block, command_of_line, fault_of, line_comes, texts};
 ghost use Rattle.script_core.specs.Player.{Finishes, HasClosed, HasEnded, HasRead, begun, block_begun, in_block, noted};
 ghost use Rattle.script_core.specs.Streams.{CannotReadOn};
 
-use crate::answer::Answers;
+use crate::answer::{Answer, Answers};
 use crate::block::{Block, ClientLine};
 use crate::error::{Fault, RunError};
 use crate::input::Input;
 use crate::outbox::Outbox;
 use crate::output::Output;
-use crate::request::Request;
 use crate::respond::Respond;
 use crate::script::Totals;
 use arrayvec::ArrayVec;
@@ -112,7 +110,7 @@ impl<A: Respond> Player<A> {
                 self.profile = self.profile.behind(&command);
                 match command {
                     Command::During { zone } => self.begin(zone),
-                    command => self.answer(writer, Request::Line { line, command }),
+                    command => self.answer(writer, command),
                 }
             }
             Err(error) => Err(RunError {
@@ -123,6 +121,7 @@ impl<A: Respond> Player<A> {
     }
 
     /// Takes a line that begins a block. The place for its client lines and their answers is taken here.
+    #[inline(never)]
     fn begin(&mut self, zone: u64) -> Result<(), RunError>
         requires room { self.old.line + 1 < 2 ^ 53 }
         requires outside { self.old.reading.block ≡ None }
@@ -143,6 +142,7 @@ impl<A: Respond> Player<A> {
     }
 
     /// Takes a whole line of a block that has begun.
+    #[inline(never)]
     fn take_within<W: Output>(
         &mut self,
         writer: &mut W,
@@ -164,7 +164,7 @@ impl<A: Respond> Player<A> {
     {
         let line = self.line;
         match read_block_line(block.zone(), text) {
-            Ok(Some(BlockLine::End)) => self.answer(writer, Request::Block(block)),
+            Ok(Some(BlockLine::End)) => self.answer_block(writer, block),
             Ok(Some(BlockLine::Client(call))) => self.note(block, call),
             Ok(None) => {
                 self.block = Some(block);
@@ -199,32 +199,32 @@ impl<A: Respond> Player<A> {
         Ok(())
     }
 
-    /// Answers a command, at the line that ends it.
-    fn answer<W: Output>(&mut self, writer: &mut W, request: Request) -> Result<(), RunError>
+    /// Answers a command of one line.
+    fn answer<W: Output>(&mut self, writer: &mut W, command: Command) -> Result<(), RunError>
         requires begins { self.old.held ≡ [] }
         requires outside { self.old.reading.block ≡ None }
         requires room { self.old.line + 1 < 2 ^ 53 }
         ensures ok { OnOk result ((start : A) (reading : Reading) (text past : List ℕ) (first : Option (List ℕ))
-            → line_comes reading self.old.line text ≡ Ok (record { ended = Some (asked request); reading = self.old.reading }) → newlines text ≡ 0
+            → line_comes reading self.old.line text ≡ Ok (record { ended = Some (command_of_line self.old.line command); reading = self.old.reading }) → newlines text ≡ 0
             → HasRead A.may start (record self.old { reading = reading }) past first (W.contents writer.old)
             → HasRead A.may start self.new (past ++ (text ++ 10 ∷ [])) first (W.contents writer.new)) }
         ensures err { IfErr result (λ error. (start : A) (reading : Reading) (text past : List ℕ) (first : Option (List ℕ))
-            → line_comes reading self.old.line text ≡ Ok (record { ended = Some (asked request); reading = self.old.reading }) → newlines text ≡ 0
+            → line_comes reading self.old.line text ≡ Ok (record { ended = Some (command_of_line self.old.line command); reading = self.old.reading }) → newlines text ≡ 0
             → HasRead A.may start (record self.old { reading = reading }) past first (W.contents writer.old)
             → HasEnded A.may A.asks start self.new (past ++ (text ++ 10 ∷ [])) error first (W.contents writer.new)) }
         ensures stuck { IfErr result (λ error. error.fault ≡ Fault.Write → IsTrue (W.stuck writer.new)) }
         ensures line { OnOk result (self.new.line ≡ self.old.line + 1) }
         ensures held { OnOk result (self.new.held ≡ []) }
     {
-        let line = request.line();
-        let Ok(answers) = self.machine.respond(request) else {
+        let line = self.line;
+        let Ok(reply) = self.machine.respond(command) else {
             return Err(RunError {
                 fault: Fault::Memory,
                 line,
             });
         };
-        self.line += 1;
-        if let Err(line) = self.post(writer, answers) {
+        self.line = line + 1;
+        if let Err(line) = self.post(writer, Answer::new(line, reply)) {
             return Err(RunError {
                 fault: Fault::Write,
                 line,
@@ -233,31 +233,74 @@ impl<A: Respond> Player<A> {
         Ok(())
     }
 
-    /// Puts the answers to a command behind those that wait, and counts them. Its line has been counted.
-    fn post<W: Output>(&mut self, writer: &mut W, answers: Answers) -> Result<(), u64>
+    /// Answers a block, at the line that ends it.
+    fn answer_block<W: Output>(&mut self, writer: &mut W, block: Block) -> Result<(), RunError>
+        requires begins { self.old.held ≡ [] }
+        requires outside { self.old.reading.block ≡ None }
+        requires room { self.old.line + 1 < 2 ^ 53 }
+        ensures ok { OnOk result ((start : A) (reading : Reading) (text past : List ℕ) (first : Option (List ℕ))
+            → line_comes reading self.old.line text ≡ Ok (record { ended = Some (command_in_block block); reading = self.old.reading }) → newlines text ≡ 0
+            → HasRead A.may start (record self.old { reading = reading }) past first (W.contents writer.old)
+            → HasRead A.may start self.new (past ++ (text ++ 10 ∷ [])) first (W.contents writer.new)) }
+        ensures err { IfErr result (λ error. (start : A) (reading : Reading) (text past : List ℕ) (first : Option (List ℕ))
+            → line_comes reading self.old.line text ≡ Ok (record { ended = Some (command_in_block block); reading = self.old.reading }) → newlines text ≡ 0
+            → HasRead A.may start (record self.old { reading = reading }) past first (W.contents writer.old)
+            → HasEnded A.may A.asks start self.new (past ++ (text ++ 10 ∷ [])) error first (W.contents writer.new)) }
+        ensures stuck { IfErr result (λ error. error.fault ≡ Fault.Write → IsTrue (W.stuck writer.new)) }
+        ensures line { OnOk result (self.new.line ≡ self.old.line + 1) }
+        ensures held { OnOk result (self.new.held ≡ []) }
+    {
+        let line = block.line();
+        let Ok(answers) = self.machine.respond_to_block(block) else {
+            return Err(RunError {
+                fault: Fault::Memory,
+                line,
+            });
+        };
+        self.line += 1;
+        if let Err(line) = self.post_all(writer, answers) {
+            return Err(RunError {
+                fault: Fault::Write,
+                line,
+            });
+        }
+        Ok(())
+    }
+
+    /// Puts an answer behind those that wait, and counts it. Its line has been counted.
+    fn post<W: Output>(&mut self, writer: &mut W, answer: Answer) -> Result<(), u64>
+        requires counted { self.old.replies + 1 < 1001 * self.old.line }
+        requires room { self.old.line < 2 ^ 53 }
+        ensures ok { OnOk result ((before : List Answer) (first : Option (List ℕ)) →
+            Owes self.old.box before first (W.contents writer.old)
+            → Owes self.new.box (before ++ answer ∷ []) first (W.contents writer.new)) }
+        ensures replies { OnOk result (self.new.replies ≡ self.old.replies + 1) }
+        ensures err { IfErr result (λ at. (before : List Answer) (first : Option (List ℕ)) →
+            Owes self.old.box before first (W.contents writer.old) → StopsIn (before ++ answer ∷ []) first (W.contents writer.new) at) }
+        ensures stuck { OnErr result (IsTrue (W.stuck writer.new)) }
+        ensures same { self.new ≡ record self.old { box = self.new.box; replies = self.new.replies } }
+    {
+        self.replies += 1;
+        self.outbox.post(writer, answer)
+    }
+
+    /// Puts the answers to a block behind those that wait, and counts them. Its last line has been counted.
+    fn post_all<W: Output>(&mut self, writer: &mut W, answers: Answers) -> Result<(), u64>
         requires counted { self.old.replies + 1001 < 1001 * self.old.line }
         requires room { self.old.line < 2 ^ 53 }
         ensures ok { OnOk result ((before : List Answer) (first : Option (List ℕ)) →
             Owes self.old.box before first (W.contents writer.old)
-            → Owes self.new.box (before ++ told answers) first (W.contents writer.new)) }
-        ensures replies { OnOk result (self.new.replies ≡ self.old.replies + length (told answers)) }
+            → Owes self.new.box (before ++ answers) first (W.contents writer.new)) }
+        ensures replies { OnOk result (self.new.replies ≡ self.old.replies + length answers) }
         ensures err { IfErr result (λ at. (before : List Answer) (first : Option (List ℕ)) →
-            Owes self.old.box before first (W.contents writer.old) → StopsIn (before ++ told answers) first (W.contents writer.new) at) }
+            Owes self.old.box before first (W.contents writer.old) → StopsIn (before ++ answers) first (W.contents writer.new) at) }
         ensures stuck { OnErr result (IsTrue (W.stuck writer.new)) }
         ensures same { self.new ≡ record self.old { box = self.new.box; replies = self.new.replies } }
     {
-        match answers {
-            Answers::One(answer) => {
-                self.replies += 1;
-                self.outbox.post(writer, answer)
-            }
-            Answers::Block(answers) => {
-                let (clients, own) = answers.into_parts();
-                self.replies += clients.len() as u64 + 1;
-                self.outbox.post_all(writer, clients)?;
-                self.outbox.post(writer, own)
-            }
-        }
+        let (clients, own) = answers.into_parts();
+        self.replies += clients.len() as u64;
+        self.outbox.post_all(writer, clients)?;
+        self.post(writer, own)
     }
 
     /// Takes the end of a line.

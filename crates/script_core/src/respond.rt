@@ -1,11 +1,11 @@
-ghost use Rattle.std.specs.Prelude.{List, IfOk, OnErr};
+ghost use Rattle.std.specs.Prelude.{ℕ, List, [], ◌∷◌, IfOk, OnErr};
 ghost use Rattle.text_core.specs.declared.command.Command.{Command};
-ghost use Rattle.script_core.specs.Requests.{asked, told};
-ghost use Rattle.script_core.specs.Script.{Answer, Numbered};
+ghost use Rattle.script_core.specs.Script.{Answer, Numbered, command_in_block, command_of_line};
 
 use crate::answer::Answers;
-use crate::request::Request;
+use crate::block::Block;
 use std::alloc::AllocError;
+use text_core::{Command, Reply};
 
 /// What answers the commands of a script.
 pub(crate) trait Respond {
@@ -18,10 +18,17 @@ pub(crate) trait Respond {
     /// Whether it can be asked.
     ghost ready: { Self → Type 0 };
 
-    /// Answers a command, or a block. It fails only for want of memory.
-    fn respond(&mut self, request: Request) -> Result<Answers, AllocError>
+    /// Answers a command of one line, whatever its number. It fails only for want of memory.
+    fn respond(&mut self, command: Command) -> Result<Reply, AllocError>
         requires ready { ready self.old }
-        ensures ok { IfOk result (λ answers. may self.old (asked request) (told answers) self.new) }
-        ensures memory { OnErr result (asks self.old (asked request).command) }
+        ensures ok { IfOk result (λ reply. (line : ℕ) → may self.old (command_of_line line command) (record { line = line; reply = reply } ∷ []) self.new) }
+        ensures memory { OnErr result (asks self.old command) }
+        ensures still { ready self.new };
+
+    /// Answers a block. It fails only for want of memory.
+    fn respond_to_block(&mut self, block: Block) -> Result<Answers, AllocError>
+        requires ready { ready self.old }
+        ensures ok { IfOk result (λ answers. may self.old (command_in_block block) answers self.new) }
+        ensures memory { OnErr result (asks self.old (command_in_block block).command) }
         ensures still { ready self.new };
 }

@@ -5,17 +5,15 @@ ghost use Rattle.round_core.specs.Rounds.{IsRefusedEarly, IsRound};
 ghost use Rattle.zone_core.specs.Books.{AreFor};
 ghost use Rattle.zone_core.specs.Seats.{audit_refusal};
 ghost use Rattle.zone_core.specs.Shape.{HasShape};
-ghost use Rattle.script_core.specs.Requests.{asked, told};
 ghost use Rattle.script_core.specs.Script.{command_in_block};
-ghost use Rattle.script_core.specs.Serial.{Opens};
-ghost use Rattle.script_core.specs.Threaded.{AsksMemory, IsBlockFor, IsPoolOn, IsReplyStep, IsRoundBeside, IsRoundOn, IsSettledReply, IsStepBy, IsThreadedStep, IsUnstarted, broken_refusal, broken_reply, is_threaded, left_by, pool_reply, pool_stopped_as, round_reply, stopped_as, threaded_at_first, told_of};
+ghost use Rattle.script_core.specs.Threaded.{IsBlockFor, IsPoolOn, IsRoundBeside, IsRoundOn, IsSettledReply, IsStepBy, IsThreadedStep, IsUnstarted, broken_refusal, broken_reply, is_threaded, left_by, pool_reply, pool_stopped_as, round_reply, stopped_as, threaded_at_first, told_of};
 
-use crate::answer::{Answer, Answers, BlockAnswers};
+use crate::alone::Alone;
+use crate::answer::{Answer, Answers};
 use crate::beside::{Both, Turn, compact_beside};
 use crate::block::Block;
 use crate::machine::Machine;
 use crate::options::Options;
-use crate::request::Request;
 use arrayvec::ArrayVec;
 use client_core::{Client, settle_clients};
 use frame_core::{ClientNo, Order, ZoneNo};
@@ -56,12 +54,7 @@ impl<I: Ledger, N: Ledger, M: Ledger, B: Ledger> Model for Threaded<I, N, M, B> 
     ghost view = { λ t. record { serial = t.machine; broken = t.broken; client = t.client } };
 }
 
-impl<I: Ledger + Send + Sync, N: Ledger, M: Ledger + Send + Sync, B: Ledger + Send + Sync> Threaded<
-    I,
-    N,
-    M,
-    B,
-> {
+impl<I: Ledger, N: Ledger, M: Ledger, B: Ledger> Threaded<I, N, M, B> {
     /// No zone yet. One that is opened has as many places in its journal as the options say, and its rounds as many copiers and as
     /// much room in their queues.
     pub(crate) fn new(alloc: Global, options: Options, blanks: Blanks) -> Self
@@ -76,114 +69,30 @@ impl<I: Ledger + Send + Sync, N: Ledger, M: Ledger + Send + Sync, B: Ledger + Se
             client: Client::new(alloc, block_client()),
         }
     }
+}
 
-    /// Answers a command, or a block. It fails only for want of memory.
-    pub(crate) fn respond<H: Threads + Wait + Sync>(
-        &mut self,
-        rt: &H,
-        request: Request,
-    ) -> Result<Answers, AllocError>
-        ensures ok { IfOk result (λ answers. IsThreadedStep self.old (asked request) (told answers) self.new) }
-        ensures memory { OnErr result (AsksMemory self.old (asked request).command) }
-    {
-        match request {
-            Request::Line { line, command } => {
-                Ok(Answers::One(Answer::new(line, self.reply_to(rt, command)?)))
-            }
-            Request::Block(block) => self.play(rt, block),
-        }
-    }
+impl<I: Ledger, N: Ledger, M: Ledger, B: Ledger> Alone for Threaded<I, N, M, B> {
+    ghost seen = { λ t. t };
 
-    /// The reply to a command of one line. It fails only for want of memory.
-    fn reply_to<H: Threads + Wait + Sync>(
-        &mut self,
-        rt: &H,
-        command: Command,
-    ) -> Result<Reply, AllocError>
-        ensures ok { IfOk result (λ reply. IsReplyStep self.old command reply self.new) }
-        ensures memory { OnErr result (AsksMemory self.old command) }
-    {
-        match self.broken_zone() {
-            Some(number) => Ok(broken_reply(number, command)),
-            None => self.answer(rt, command),
-        }
-    }
-
-    /// Answers a block.
-    fn play<H: Threads + Wait + Sync>(
-        &mut self,
-        rt: &H,
-        block: Block,
-    ) -> Result<Answers, AllocError>
-        ensures ok { IfOk result (λ answers. IsThreadedStep self.old (command_in_block block) (told answers) self.new) }
-        ensures memory { OnErr result (AsksMemory self.old (command_in_block block).command) }
-    {
-        match self.broken_zone() {
-            Some(number) => {
-                let reply = broken_reply_to_block(number, block.zone());
-                Ok(block.answered(reply))
-            }
-            None => self.play_on(rt, block),
-        }
-    }
-
-    /// Answers a block where no zone is broken. It is apart, since it has room for a whole world, which commands do without.
-    #[inline(never)]
-    fn play_on<H: Threads + Wait + Sync>(
-        &mut self,
-        rt: &H,
-        block: Block,
-    ) -> Result<Answers, AllocError>
-        requires whole { self.old.broken ≡ None }
-        ensures ok { IfOk result (λ answers. IsThreadedStep self.old (command_in_block block) (told answers) self.new) }
-        ensures memory { OnErr result (IsBlockFor (command_in_block block).command self.old.serial.world) }
-    {
-        let Some(zone) = zone_of(block.zone()) else {
-            return Ok(block.answered(Reply::Refused(1)));
-        };
-        let Some(world) = self.machine.take_closed(zone) else {
-            let reply = self.machine.compact(zone);
-            return Ok(block.answered(reply));
-        };
-        self.run_beside(rt, world, block)
-    }
-
-    /// The number of the zone that a round left broken, if one did.
-    fn broken_zone(&self) -> Option<ZoneNo>
-        ensures { result ≡ self.now.broken }
-    {
+    fn broken_zone(&self) -> Option<ZoneNo> {
         self.broken
     }
 
-    /// Answers a command where no zone is broken.
-    fn answer<H: Threads + Wait + Sync>(
-        &mut self,
-        rt: &H,
-        command: Command,
-    ) -> Result<Reply, AllocError>
-        requires whole { self.old.broken ≡ None }
-        ensures ok { IfOk result (λ reply. IsStepBy (is_threaded command self.old.serial.world) self.old command reply self.new) }
-        ensures memory { OnErr result (Opens self.old.serial command) }
-    {
-        match command {
-            Command::Compact { zone } => Ok(self.answer_compact(rt, zone)),
-            Command::Pool {
-                zone,
-                count,
-                blocks,
-            } => Ok(self.answer_pool(rt, zone, count, blocks)),
-            Command::Open { .. }
-            | Command::On { .. }
-            | Command::During { .. }
-            | Command::Profile2
-            | Command::OutOfRange => self.machine.reply_to(command),
-        }
+    fn reply_alone(&mut self, command: Command) -> Result<Reply, AllocError> {
+        self.machine.reply_to(command)
     }
+}
 
-    /// Answers the command for a round over a zone. It is apart, since it has room for a whole world, which other commands do
-    /// without.
+impl<I: Ledger + Send + Sync, N: Ledger, M: Ledger + Send + Sync, B: Ledger + Send + Sync> Threaded<
+    I,
+    N,
+    M,
+    B,
+> {
+    /// Answers the command for a round over a zone, where none is broken. It is apart, since it has room for a whole world, which other
+    /// commands do without.
     #[inline(never)]
-    fn answer_compact<H: Threads + Wait + Sync>(&mut self, rt: &H, zone: ZoneNo) -> Reply
+    pub(crate) fn answer_compact<H: Threads + Wait + Sync>(&mut self, rt: &H, zone: ZoneNo) -> Reply
         requires whole { self.old.broken ≡ None }
         ensures { IsStepBy (is_threaded (Command.Compact zone) self.old.serial.world) self.old (Command.Compact zone) result self.new }
     {
@@ -193,9 +102,9 @@ impl<I: Ledger + Send + Sync, N: Ledger, M: Ledger + Send + Sync, B: Ledger + Se
         self.run_round(rt, world)
     }
 
-    /// Answers the command for a pool of blocks of a zone, apart as that for a round.
+    /// Answers the command for a pool of blocks of a zone, apart as the one for a round.
     #[inline(never)]
-    fn answer_pool<H: Threads + Wait + Sync>(
+    pub(crate) fn answer_pool<H: Threads + Wait + Sync>(
         &mut self,
         rt: &H,
         zone: ZoneNo,
@@ -209,6 +118,27 @@ impl<I: Ledger + Send + Sync, N: Ledger, M: Ledger + Send + Sync, B: Ledger + Se
             return self.machine.pool(zone, count, blocks);
         };
         self.run_pool(rt, world, count, blocks)
+    }
+
+    /// Answers a block, apart as the command for a round.
+    #[inline(never)]
+    pub(crate) fn answer_block<H: Threads + Wait + Sync>(
+        &mut self,
+        rt: &H,
+        block: Block,
+    ) -> Result<Answers, AllocError>
+        requires whole { self.old.broken ≡ None }
+        ensures ok { IfOk result (λ answers. IsThreadedStep self.old (command_in_block block) answers self.new) }
+        ensures memory { OnErr result (IsBlockFor (command_in_block block).command self.old.serial.world) }
+    {
+        let Some(zone) = zone_of(block.zone()) else {
+            return Ok(block.answered(Reply::Refused(1)));
+        };
+        let Some(world) = self.machine.take_closed(zone) else {
+            let reply = self.machine.compact(zone);
+            return Ok(block.answered(reply));
+        };
+        self.run_beside(rt, world, block)
     }
 
     /// Runs a round over the zone of a world, which the machine gives for it.
@@ -237,7 +167,7 @@ impl<I: Ledger + Send + Sync, N: Ledger, M: Ledger + Send + Sync, B: Ledger + Se
         requires given { self.old.serial.world ≡ None }
         requires whole { self.old.broken ≡ None }
         requires closed { world.is_open ≡ false }
-        ensures { IfOk result (λ answers. IsRoundBeside world self.old (command_in_block block) (told answers) self.new ⊎ IsUnstarted world self.old (command_in_block block) (told answers) self.new) }
+        ensures { IfOk result (λ answers. IsRoundBeside world self.old (command_in_block block) answers self.new ⊎ IsUnstarted world self.old (command_in_block block) answers self.new) }
     {
         let client = self.client.try_clone()?;
         let Ok((zone, mut seats, rest)) = world.split() else {
@@ -260,12 +190,13 @@ impl<I: Ledger + Send + Sync, N: Ledger, M: Ledger + Send + Sync, B: Ledger + Se
         ) = both
         else {
             self.take_back(zone, seats, rest);
-            return Ok(Answers::One(Answer::new(line, Reply::Refused(32))));
+            let own = Answer::new(line, Reply::Refused(32));
+            return Ok(Answers::new(Vec::new(self.alloc), own));
         };
         let own = settled_reply(&zone, &client, round);
         self.client = client;
         self.take_back(zone, seats, rest);
-        Ok(Answers::Block(BlockAnswers::new(answers, Answer::new(line, own))))
+        Ok(Answers::new(answers, Answer::new(line, own)))
     }
 
     /// Runs a round over a zone, with as many copiers and as much room in their queues as the options say.
@@ -444,7 +375,7 @@ fn pool_stopped(stop: PoolStop) -> PoolStopped
 }
 
 /// The reply to a command where the zone with this number is broken: it isn't there for any call.
-fn broken_reply(number: ZoneNo, command: Command) -> Reply
+pub(crate) fn broken_reply(number: ZoneNo, command: Command) -> Reply
     ensures { result ≡ broken_reply number command }
 {
     match command {
@@ -459,7 +390,7 @@ fn broken_reply(number: ZoneNo, command: Command) -> Reply
 }
 
 /// The reply to a block then, whose zone is told by any number.
-fn broken_reply_to_block(number: ZoneNo, zone: u64) -> Reply
+pub(crate) fn broken_reply_to_block(number: ZoneNo, zone: u64) -> Reply
     ensures { result ≡ broken_reply number (Command.During zone) }
 {
     match zone_of(zone) {

@@ -1,11 +1,12 @@
 -- The lexemes of a text.
-use Rattle.std.proofs.Common.{◌≡◌, ℕ, suc, ◌+◌, ◌<◌, ◌≤◌, Bool, true, false, not, List, [], ◌∷◌, length, take, drop, get_or, refl, sym, ap, ◌∙◌, arith, Some, None, add-one, drop-cons, cond}
+use Rattle.std.proofs.Common.{◌≡◌, ℕ, suc, ◌+◌, ◌<◌, ◌≤◌, Bool, true, false, not, ◌&&◌, List, [], ◌∷◌, ◌++◌, length, take, drop, get_or, refl, sym, ap, ◌∙◌, arith, Some, None, add-one, drop-cons, cond}
 use Rattle.std.specs.Prelude.{nat_eq, nat_lt, filter, codes, position, unwrap_or}
 use Rattle.std.specs.List.{slice_split, onto_first, starts_with, position_or_len, after_first}
 use Rattle.std.proofs.lemmas.List.{drop_all, take_all}
 use Rattle.std.proofs.lemmas.List.Sums.{prefix_len-le-length, passes_at_first, fails_before_first}
 use Rattle.std.proofs.lemmas.List.Folds.{length-prefix_len}
 use Rattle.std.proofs.lemmas.List.Splits.{slice_split_first, slice_split_none}
+use Rattle.std.proofs.lemmas.Bool.{and_parts, not-true}
 use Rattle.std.proofs.lemmas.Bool.Decides.{nat_tests}
 use Rattle.text_core.specs.Token.{lexemes, first_word, behind_word}
 
@@ -25,7 +26,7 @@ lexeme_len_is xs = at_test (nat_lt (lexeme_len xs) (length xs)) refl where
   at_test false e = (let most = prefix_len-le-length (λ b. not (is_space b)) xs in grind (arith, nat_tests, most))
 
 -- a space begins no lexeme
-lexemes_space : (b : ℕ) (xs : List ℕ) → is_space b ≡ true → lexemes (b ∷ xs) ≡ lexemes xs
+pub lexemes_space : (b : ℕ) (xs : List ℕ) → is_space b ≡ true → lexemes (b ∷ xs) ≡ lexemes xs
 lexemes_space b xs e = ap (λ (t : Bool). filter is_lexeme (cond t ([] ∷ slice_split is_space xs) (onto_first b (slice_split is_space xs)))) e
 
 first_kept : (part : List ℕ) (parts : List (List ℕ)) → 0 < length part → filter is_lexeme (part ∷ parts) ≡ part ∷ filter is_lexeme parts
@@ -92,3 +93,30 @@ behind_word_none (b ∷ xs) e = ap (λ (t : Bool). drop (cond (not t) (1 + lexem
 -- a digit is no space
 pub is_apart : (d : ℕ) → nat_eq (48 + d) 32 ≡ false
 is_apart d = grind (arith, nat_tests)
+
+pub starts_apart : (b : ℕ) (xs : List ℕ) → is_space b ≡ false → starts_with nat_eq (b ∷ xs) (codes " ") ≡ false
+starts_apart b xs e = grind (arith, nat_tests)
+
+-- bytes without a space
+abbrev pub is_bare : List ℕ → Bool
+is_bare [] = true
+is_bare (b ∷ bs) = not (is_space b) && is_bare bs
+
+bare_parts : (b : ℕ) (bs : List ℕ) → is_bare (b ∷ bs) ≡ true → (is_space b ≡ false) × (is_bare bs ≡ true)
+bare_parts b bs e = let both = and_parts (not (is_space b)) (is_bare bs) e in (not-true (is_space b) both.0, both.1)
+
+pub bare_apart : (b : ℕ) (bs xs : List ℕ) → is_bare (b ∷ bs) ≡ true → starts_with nat_eq (b ∷ xs) (codes " ") ≡ false
+bare_apart b bs xs e = starts_apart b xs (bare_parts b bs e).0
+
+-- such bytes, and what stands behind them
+pub first_word-append : (word xs : List ℕ) → is_bare word ≡ true → first_word (word ++ xs) ≡ word ++ first_word xs
+first_word-append [] xs e = refl
+first_word-append (b ∷ word) xs e =
+    let parts = bare_parts b word e in
+    first_word_step b (word ++ xs) parts.0 ∙ ap (λ (r : List ℕ). b ∷ r) (first_word-append word xs parts.1)
+
+pub behind_word-append : (word xs : List ℕ) → is_bare word ≡ true → behind_word (word ++ xs) ≡ behind_word xs
+behind_word-append [] xs e = refl
+behind_word-append (b ∷ word) xs e =
+    let parts = bare_parts b word e in
+    behind_word_step b (word ++ xs) parts.0 ∙ behind_word-append word xs parts.1

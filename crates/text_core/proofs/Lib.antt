@@ -5,3 +5,5 @@ pub mod Commas
 pub mod Tokens
 pub mod Profiles
 pub mod Ranges
+pub mod Keywords
+pub mod Rows

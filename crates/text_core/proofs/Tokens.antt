@@ -6,9 +6,10 @@ use Rattle.text_core.specs.declared.token.Token.{Token}
 use Rattle.text_core.specs.declared.token.Token.TheVariants.{Number}
 use Rattle.text_core.specs.Arguments.{number_first}
 use Rattle.text_core.specs.Token.{first_word, behind_word, keyword_of, number_of, number_or_keyword, token_of, tokens}
-use Rattle.text_core.proofs.Lexemes.{lexemes_first}
+use Rattle.text_core.proofs.Lexemes.{first_word_none, lexemes_first, lexemes_space}
+use Rattle.text_core.proofs.Numbers.{number_of_short}
 
-tokens_first : (xs : List ℕ) → 0 < length xs → starts_with nat_eq xs (codes " ") ≡ false → tokens xs ≡ token_of (first_word xs) ∷ tokens (behind_word xs)
+pub tokens_first : (xs : List ℕ) → 0 < length xs → starts_with nat_eq xs (codes " ") ≡ false → tokens xs ≡ token_of (first_word xs) ∷ tokens (behind_word xs)
 tokens_first xs some e = ap (map token_of) (lexemes_first xs some e)
 
 -- a keyword is no number
@@ -34,3 +35,16 @@ no_number_comes (x ∷ xs) e f =
     ap number_first (tokens_first (x ∷ xs) (omega arith) e)
     ∙ ap (λ (o : Option ℕ). number_first (number_or_keyword o (first_word (x ∷ xs)) ∷ tokens (behind_word (x ∷ xs)))) f
     ∙ keyword_is_no_number (first_word (x ∷ xs)) (tokens (behind_word (x ∷ xs)))
+
+-- a word that is a number begins with no space
+number_apart : (xs : List ℕ) (n : ℕ) → number_of (first_word xs) ≡ Some n → starts_with nat_eq xs (codes " ") ≡ false
+number_apart xs n e = by_test (starts_with nat_eq xs (codes " ")) refl where
+  by_test : (b : Bool) → starts_with nat_eq xs (codes " ") ≡ b → starts_with nat_eq xs (codes " ") ≡ false
+  by_test true f =
+      let none : number_of (first_word xs) ≡ None = number_of_short (first_word xs) (ap length (first_word_none xs f)) in
+      cc
+  by_test false f = f
+
+-- where a number comes behind a space
+pub spaced_number_comes : (xs : List ℕ) (n : ℕ) → number_of (first_word xs) ≡ Some n → tokens (32 ∷ xs) ≡ Number n ∷ tokens (behind_word xs)
+spaced_number_comes xs n e = ap (map token_of) (lexemes_space 32 xs refl) ∙ number_comes xs n (number_apart xs n e) e

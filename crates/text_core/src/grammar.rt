@@ -10,28 +10,29 @@ use crate::command::{BlockLine, Call, Calls, ClientCall, Command, Repeated, Seri
 use crate::pages::PageCount;
 use crate::pool::PoolBlocks;
 use crate::profile::Profile;
-use crate::token::{Token, first_number, first_token, is_end};
+use crate::token::{Token, first_number, is_end, leading_token};
 use frame_core::{Address, BlockNo, FrameNo, HandNo, Order, SpaceNo, VPage, WordNo, ZoneNo};
 
 /// The command that a text is, or begins, if it does.
 pub(crate) fn command(profile: Profile, text: &[u8]) -> Option<Command>
     ensures { result ≡ command_of profile (tokens text.now) }
 {
-    let (keyword, behind) = first_token(text)?;
+    let (keyword, behind) = leading_token(text)?;
     let (number, arguments) = first_number(behind)?;
-    match row_in(profile, keyword, number, arguments) {
-        Some(command) => Some(command),
-        None => during(keyword, number, arguments),
+    match keyword {
+        Token::During => during(number, arguments),
+        _ => row_in(profile, keyword, number, arguments),
     }
 }
 
 /// `during Z`, where Z is any number.
-fn during(keyword: Token, zone: u64, arguments: &[u8]) -> Option<Command>
-    ensures { result ≡ during_row keyword zone (tokens arguments.now) }
+fn during(zone: u64, arguments: &[u8]) -> Option<Command>
+    ensures { result ≡ during_row Token.During zone (tokens arguments.now) }
 {
-    match keyword {
-        Token::During if is_end(arguments) => Some(Command::During { zone }),
-        _ => None,
+    if is_end(arguments) {
+        Some(Command::During { zone })
+    } else {
+        None
     }
 }
 
@@ -39,7 +40,7 @@ fn during(keyword: Token, zone: u64, arguments: &[u8]) -> Option<Command>
 pub(crate) fn block_line(zone: u64, text: &[u8]) -> Option<BlockLine>
     ensures { result ≡ block_line_of zone (tokens text.now) }
 {
-    let (keyword, behind) = first_token(text)?;
+    let (keyword, behind) = leading_token(text)?;
     if matches!(keyword, Token::End) && is_end(behind) {
         return Some(BlockLine::End);
     }

@@ -1,4 +1,4 @@
-ghost use Rattle.std.specs.Prelude.{◌≡◌, ℕ, ◌<◌, ◌≤◌, ◌↔◌, bytes_eq, nat_eq, false, codes, IfNone, IfSome, IsFalse, IsTrue, length, List, position, [], ◌∷◌, ◌+◌, MatchOption, None, Some};
+ghost use Rattle.std.specs.Prelude.{◌≡◌, ℕ, ◌<◌, ◌≤◌, ◌↔◌, bytes_eq, nat_eq, false, codes, IfNone, IfSome, IsFalse, IsTrue, length, List, position, [], ◌∷◌, ◌+◌, ◌++◌, MatchOption, None, Some};
 ghost use Rattle.std.specs.Char.{is_ascii_digit};
 ghost use Rattle.text_core.specs.Arguments.{number_first};
 ghost use Rattle.text_core.specs.declared.token.Token.TheVariants.{Number};
@@ -54,6 +54,7 @@ impl Token {
 }
 
 /// The keyword that bytes are, if they are one.
+#[inline(always)]
 fn keyword(bytes: &[u8]) -> Token
     ensures { result ≡ keyword_of bytes.now }
 {
@@ -115,6 +116,59 @@ fn number(digits: &[u8]) -> Option<u64>
     Some(value)
 }
 
+/// The token that a line begins with, and what stands behind its lexeme. Most lines begin with a short keyword.
+#[inline(always)]
+pub(crate) fn leading_token(text: &[u8]) -> Option<(Token, &[u8])>
+    ensures token { MatchOption result (tokens text.now ≡ []) (λ found. tokens text.now ≡ found.0 ∷ tokens found.1.now) }
+{
+    match short_keyword(text) {
+        Some(found) => Some(found),
+        None => first_token(text),
+    }
+}
+
+/// The keyword of 3 to 6 letters that a text begins with, and what stands behind it.
+#[inline(always)]
+fn short_keyword(text: &[u8]) -> Option<(Token, &[u8])>
+    ensures { IfSome result (λ found. tokens text.now ≡ found.0 ∷ tokens found.1.now) }
+{
+    let (word, behind) = short_cut(text)?;
+    match keyword(word) {
+        Token::Other => None,
+        keyword => Some((keyword, behind)),
+    }
+}
+
+/// A text cut before a space or at its end, behind 3 to 6 bytes: 4 is tried first, as half of the keywords have so many.
+#[inline(always)]
+fn short_cut(text: &[u8]) -> Option<(&[u8], &[u8])>
+    ensures whole { IfSome result (λ cut. cut.0.now ++ cut.1.now ≡ text.now) }
+    ensures word { IfSome result (λ cut. first_word cut.1.now ≡ []) }
+    ensures behind { IfSome result (λ cut. behind_word cut.1.now ≡ cut.1.now) }
+{
+    for count in [4, 3, 5, 6] {
+        if let Some(cut) = cut_behind(text, count) {
+            return Some(cut);
+        }
+    }
+    None
+}
+
+/// A text cut behind so many bytes, where a space or its end stands there.
+#[inline(always)]
+fn cut_behind(text: &[u8], count: usize) -> Option<(&[u8], &[u8])>
+    ensures whole { IfSome result (λ cut. cut.0.now ++ cut.1.now ≡ text.now) }
+    ensures word { IfSome result (λ cut. first_word cut.1.now ≡ []) }
+    ensures behind { IfSome result (λ cut. behind_word cut.1.now ≡ cut.1.now) }
+{
+    let (front, rest) = text.split_at_checked(count)?;
+    if ends_word(rest) {
+        Some((front, rest))
+    } else {
+        None
+    }
+}
+
 /// The first token of a text, and what stands behind its lexeme.
 #[inline(always)]
 pub(crate) fn first_token(text: &[u8]) -> Option<(Token, &[u8])>
@@ -124,21 +178,31 @@ pub(crate) fn first_token(text: &[u8]) -> Option<(Token, &[u8])>
     Some((Token::from_bytes(lexeme), behind))
 }
 
-/// The number that a text begins with, and what stands behind it.
+/// The number that a text begins with, and what stands behind it. Most have one digit, behind one space.
 pub(crate) fn first_number(text: &[u8]) -> Option<(u64, &[u8])>
     ensures { MatchOption result (number_first (tokens text.now) ≡ None) (λ found. tokens text.now ≡ Number found.0 ∷ tokens found.1.now) }
 {
-    leading_number(without_spaces(text))
+    match spaced_digit(text) {
+        Some((digit, behind)) => Some((u64::from(digit), behind)),
+        None => leading_digits(without_spaces(text)),
+    }
 }
 
-/// The number that a text without leading spaces begins with, and what stands behind it. Most have one digit.
-fn leading_number(text: &[u8]) -> Option<(u64, &[u8])>
-    ensures number { MatchOption result (number_of (first_word text.now) ≡ None) (λ found. number_of (first_word text.now) ≡ Some found.0) }
-    ensures behind { IfSome result (λ found. found.1.now ≡ behind_word text.now) }
+/// The digit that is all of the word behind the space that a text begins with, and what stands behind it.
+fn spaced_digit(text: &[u8]) -> Option<(u8, &[u8])>
+    ensures { IfSome result (λ found. tokens text.now ≡ Number found.0 ∷ tokens found.1.now) }
 {
-    match lone_digit(text) {
-        Some((digit, behind)) => Some((u64::from(digit), behind)),
-        None => leading_digits(text),
+    let word = behind_space(text)?;
+    lone_digit(word)
+}
+
+/// What stands behind the space that a text begins with.
+fn behind_space(text: &[u8]) -> Option<&[u8]>
+    ensures { IfSome result (λ behind. text.now ≡ 32 ∷ behind.now) }
+{
+    match text {
+        [b' ', behind @ ..] => Some(behind),
+        _ => None,
     }
 }
 

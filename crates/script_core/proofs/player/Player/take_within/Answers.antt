@@ -40,16 +40,16 @@ module _ (profile : Profile) (block : Block) (n : ℕ) (text : List ℕ) where
   is_of_client line call says is = ap (comes_within profile block n) (says ∙ ap (λ (l : BlockLine). Ok (Some l)) is)
 
 pub returns-in-Ok-Some-End-clause-ok : goal.returns-in-Ok-Some-End-clause-ok
-returns-in-Ok-Some-End-clause-ok g c = on_ok_weaker c.answer.result (λ gives start past first none read.
+returns-in-Ok-Some-End-clause-ok g c = on_ok_weaker c.answer_block.result (λ gives start past first none read.
     let s = c.args.self.now in
     let block = c.args.block in
     let text = c.args.text.now in
     let says : line_within block.zone text ≡ Ok (Some c.in-Ok-Some-End.field-0-0) = ap (λ (z : ℕ). line_within z text) (sym c.zone.ensures) ∙ sym c.in-Ok-Some-End.ensures ∙ ap Ok c.in-Ok-Some-End.field-0-is in
     gives start (within s.reading.profile block) text past first
-    (ends_block s.reading.profile block s.line text c.in-Ok-Some-End.field-0-0 s.reading.block c.requires.outside says c.in-Ok-Some-End.field-0-0-is) none read) c.answer.ensures.ok
+    (ends_block s.reading.profile block s.line text c.in-Ok-Some-End.field-0-0 s.reading.block c.requires.outside says c.in-Ok-Some-End.field-0-0-is) none read) c.answer_block.ensures.ok
 
 pub returns-in-Ok-Some-End-clause-err : goal.returns-in-Ok-Some-End-clause-err
-returns-in-Ok-Some-End-clause-err g c = MatchResult-weaker c.answer.result c.answer.ensures.err (λ _ u. u) (λ (e : RunError) gives start past first none read.
+returns-in-Ok-Some-End-clause-err g c = MatchResult-weaker c.answer_block.result c.answer_block.ensures.err (λ _ u. u) (λ (e : RunError) gives start past first none read.
     let s = c.args.self.now in
     let block = c.args.block in
     let text = c.args.text.now in

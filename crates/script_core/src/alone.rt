@@ -1,0 +1,24 @@
+ghost use Rattle.std.specs.Prelude.{◌≡◌, IfOk, OnErr};
+ghost use Rattle.script_core.specs.Serial.{IsStep, Opens};
+ghost use Rattle.script_core.specs.Threaded.{Threaded};
+
+use frame_core::ZoneNo;
+use std::alloc::AllocError;
+use text_core::{Command, Reply};
+
+/// What a machine with threads does without them.
+pub(crate) trait Alone {
+    /// What contracts see of the machine.
+    ghost seen: { Self → Threaded };
+
+    /// The number of the zone that a round left broken, if one did.
+    fn broken_zone(&self) -> Option<ZoneNo>
+        ensures { result ≡ (seen self.now).broken };
+
+    /// The reply to a command as on one thread. It fails only for want of memory.
+    fn reply_alone(&mut self, command: Command) -> Result<Reply, AllocError>
+        ensures ok { IfOk result (λ reply. IsStep (seen self.old).serial command reply (seen self.new).serial) }
+        ensures memory { OnErr result (Opens (seen self.old).serial command) }
+        ensures broken { (seen self.new).broken ≡ (seen self.old).broken }
+        ensures client { (seen self.new).client ≡ (seen self.old).client };
+}
