@@ -11,7 +11,7 @@ use Rattle.clap.specs.Kinds.{Kinds}
 use Rattle.clap.specs.declared.builder.value_parser.ValueParser.TheVariants.{Signed}
 use Rattle.clap.specs.declared.parser.matches.Found.{Found}
 use Rattle.compactd.specs.Status.{is_help}
-use Rattle.script_core.specs.declared.options.Options.{Options}
+use Rattle.machine_core.specs.declared.options.Options.{Options}
 
 -- the words of the process, as text
 abbrev pub texts_of : {X Y : Type 0} → IntoIter (String X) Y → List Text

@@ -1,12 +1,12 @@
 -- How a run stops before its script is read to the end, and what the faults' writer is told of it.
 use Rattle.std.specs.Prelude.{◌≡◌, ◌⊎◌, ℕ, Bool, IsTrue, List, ◌++◌, codes, decimal, take, Option, IfSome}
 use Rattle.std.specs.Io.KnownBytes.{Appends, Keeps}
-use Rattle.script_core.specs.declared.error.Fault.TheVariants.{Read, Write, Memory}
-use Rattle.script_core.specs.declared.error.RunError.{RunError}
-use Rattle.script_core.specs.Ends.{EndsIn}
-use Rattle.script_core.specs.Runs.{IsEnded}
-use Rattle.script_core.specs.ErrorNumber.{fault_number}
-use Rattle.script_core.specs.Streams.{CannotReadOn}
+use Rattle.play_core.specs.declared.error.Fault.TheVariants.{Read, Write, Memory}
+use Rattle.play_core.specs.declared.error.RunError.{RunError}
+use Rattle.machine_core.specs.Ends.{EndsIn}
+use Rattle.play_core.specs.Runs.{IsEnded}
+use Rattle.play_core.specs.ErrorNumber.{fault_number}
+use Rattle.play_core.specs.Streams.{CannotReadOn}
 use Rattle.script_core.specs.Threaded.{AsksMemory, IsThreadedStep, IsUnthreadedScript, threaded_at_first}
 
 -- the line that tells of an error

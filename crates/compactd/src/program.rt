@@ -4,8 +4,9 @@ ghost use Rattle.clap.specs.Words.{kind_of};
 ghost use Rattle.compactd.specs.CommandLine.{texts_of, refusal_of, journal_of, asks_help, asks_only_help};
 ghost use Rattle.compactd.specs.Status.{status_of, is_help};
 ghost use Rattle.compactd.specs.Stops.{LacksMemory, Stops};
-ghost use Rattle.script_core.specs.Runs.{IsAnswered};
-ghost use Rattle.script_core.specs.Script.{fault_of, output_of};
+ghost use Rattle.play_core.specs.Runs.{IsAnswered};
+ghost use Rattle.play_core.specs.Script.{fault_of};
+ghost use Rattle.machine_core.specs.Replies.{output_of};
 ghost use Rattle.script_core.specs.Threaded.{IsThreadedStep, IsUnthreadedScript, threaded_at_first};
 
 use crate::options::given_options;

@@ -2,7 +2,7 @@
 use Rattle.std.proofs.Common.{◌≡◌, suc, List, [], ◌∷◌, ◌++◌, length, refl, ap, subst}
 use Rattle.client_core.specs.Receipts.{Client}
 use Rattle.script_core.specs.Clients.{AreClientAnswers, IsClientReply}
-use Rattle.script_core.specs.Script.{Answer, ClientLine}
+use Rattle.play_core.specs.Script.{Answer, ClientLine}
 
 -- one more line
 pub client_answers_more : (old mid new : Client) (clients : List ClientLine) (answers : List Answer) (c : ClientLine) (a : Answer)

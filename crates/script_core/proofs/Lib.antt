@@ -1,16 +1,5 @@
-pub mod Variants
-pub mod Waiting
-pub mod Lines
-pub mod Reading
-pub mod Inputs
-pub mod Closing
-pub mod Endings
-pub mod SerialRuns
-pub mod SeriesOfCalls
 pub mod Rounds
 pub mod Pools
-pub mod Beginnings
 pub mod ThreadedRuns
-pub mod Carried
 pub mod ClientAnswers
 pub mod ClientCalls

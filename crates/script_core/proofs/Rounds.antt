@@ -19,9 +19,10 @@ use Rattle.text_core.specs.declared.reply.Reply.TheVariants as reply
 use Rattle.text_core.specs.Grammar.{zone_of}
 use Rattle.client_core.specs.Receipts.{Client}
 use Rattle.script_core.specs.Clients.{AreClientAnswers}
-use Rattle.script_core.specs.Script.{Answer, ClientLine, Numbered, command_of_line}
-use Rattle.script_core.specs.Serial.{IsStep, Serial}
-use Rattle.script_core.specs.Threaded.{IsBlockFor, IsReplyStep, IsRoundBeside, IsRoundOver, IsSettledReply, IsStepAt, IsStepBy, IsThreadedStep, IsUnstarted, IsWorkOn, IsWorkStep, Settles, Threaded, broken_reply, is_threaded, left_behind, left_by, stands_closed, stands_closed_at}
+use Rattle.play_core.specs.Script.{Answer, ClientLine, Numbered, command_of_line}
+use Rattle.machine_core.specs.Serial.{IsStep, Serial}
+use Rattle.script_core.specs.Threaded.{IsBlockFor, IsReplyStep, IsRoundBeside, IsRoundOver, IsSettledReply, IsStepAt, IsStepBy, IsThreadedStep, IsUnstarted, IsWorkOn, IsWorkStep, Settles, Threaded, broken_reply, is_threaded, left_behind, left_by}
+use Rattle.machine_core.specs.Serial.{is_at_rest, number_is_at_rest}
 
 -- a command that works by threads
 pub threaded_step : (old : Threaded) (command : Command) (answer : Reply) (new : Threaded) (w : WorldState) (places : ℕ) (client : Client)
@@ -138,9 +139,9 @@ round_over w zone_old zone scan_old scan ends_old ends result same_zone same_sca
 
 -- a block is for the zone that is open
 pub block_for : (number zone : ℕ) (world : Option WorldState) (w : WorldState)
-    → zone_of number ≡ Some zone → world ≡ Some w → stands_closed zone (Some w) ≡ true → IsBlockFor (During number) world
+    → zone_of number ≡ Some zone → world ≡ Some w → is_at_rest zone (Some w) ≡ true → IsBlockFor (During number) world
 block_for number zone world w is there closed =
-    ap (λ (z : Option ℕ). stands_closed_at z world) is ∙ ap (stands_closed zone) there ∙ closed
+    ap (λ (z : Option ℕ). number_is_at_rest z world) is ∙ ap (is_at_rest zone) there ∙ closed
 
 -- what ran is the same of the machine that gave its world
 module _ (w : WorldState) (old given : Threaded) (c : Numbered) (answers : List Answer) (new : Threaded)

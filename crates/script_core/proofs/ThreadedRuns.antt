@@ -8,18 +8,19 @@ use Rattle.text_core.specs.declared.command.Command.{Command}
 use Rattle.text_core.specs.declared.command.Command.TheVariants.{Open, On, Compact, Pool, During, Profile2, OutOfRange}
 use Rattle.zone_core.specs.World.{WorldState}
 use Rattle.text_core.specs.declared.reply.Reply.{Reply}
-use Rattle.script_core.specs.declared.error.Fault.{Fault}
-use Rattle.script_core.specs.declared.error.Fault.TheVariants.{Syntax, LongLine, Read, Write, Memory}
-use Rattle.script_core.specs.declared.error.RunError.{RunError}
-use Rattle.script_core.specs.declared.script.Totals.{Totals}
-use Rattle.script_core.specs.Ends.{EndsIn}
-use Rattle.script_core.specs.Runs.{Begins, IsAnswered, IsAsking, IsEnded, IsTotal, Replied}
-use Rattle.script_core.specs.Script.{Answer, IsBeginning, Numbered, commands_of, output_of, totals_of}
-use Rattle.script_core.specs.Serial.{IsSerialStep, IsStep, Opens, serial_at_first}
+use Rattle.play_core.specs.declared.error.Fault.{Fault}
+use Rattle.play_core.specs.declared.error.Fault.TheVariants.{Syntax, LongLine, Read, Write, Memory}
+use Rattle.play_core.specs.declared.error.RunError.{RunError}
+use Rattle.play_core.specs.declared.totals.Totals.{Totals}
+use Rattle.machine_core.specs.Ends.{EndsIn}
+use Rattle.play_core.specs.Runs.{Begins, IsAnswered, IsAsking, IsEnded, IsTotal, Replied}
+use Rattle.play_core.specs.Script.{Answer, IsBeginning, Numbered, commands_of}
+use Rattle.machine_core.specs.Replies.{output_of, totals_of}
+use Rattle.machine_core.specs.Serial.{IsSerialStep, IsStep, Opens, serial_at_first}
 use Rattle.script_core.specs.Threaded.{AsksMemory, IsBlockFor, IsUnthreaded, IsStepAt, IsThreadedStep, IsUnthreadedScript, Threaded, threaded_at_first}
-use Rattle.script_core.proofs.Beginnings.{all_before, all_of_beginning}
-use Rattle.script_core.proofs.SerialRuns.{serial_ends, serial_output, serial_totals}
-use Rattle.script_core.proofs.Variants.{known_weaker}
+use Rattle.play_core.proofs.Beginnings.{all_before, all_of_beginning}
+use Rattle.machine_core.proofs.SerialRuns.{serial_ends, serial_output, serial_totals}
+use Rattle.play_core.proofs.Variants.{known_weaker}
 
 -- no command among these is a round or a pool
 abbrev AreUnthreaded : List Numbered → Type 0

@@ -20,7 +20,7 @@ use Rattle.text_core.specs.declared.command.ClientCall.{ClientCall}
 use Rattle.text_core.specs.declared.command.ClientCall.TheVariants.{Map, MapAt, Store, Load, Share, Unmap, Pin, Unpin}
 use Rattle.text_core.specs.declared.reply.Reply.{Reply}
 use Rattle.text_core.specs.declared.reply.Reply.TheVariants as reply
-use Rattle.script_core.specs.Script.{Answer, ClientLine}
+use Rattle.play_core.specs.Script.{Answer, ClientLine}
 
 -- why a zone refuses a call
 abbrev pub client_refusal : ClientCall → ZoneState → Option ZoneError

@@ -1,11 +1,2 @@
 pub mod Clients
-pub mod Ends
-pub mod ErrorNumber
-pub mod Machine
-pub mod Outbox
-pub mod Player
-pub mod Runs
-pub mod Script
-pub mod Serial
-pub mod Streams
 pub mod Threaded

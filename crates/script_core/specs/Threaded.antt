@@ -32,8 +32,8 @@ use Rattle.text_core.specs.declared.reply.Stopped.TheVariants as stopped
 use Rattle.text_core.specs.Grammar.{zone_of}
 use Rattle.client_core.specs.Receipts.{Agrees, Client}
 use Rattle.script_core.specs.Clients.{AreClientAnswers}
-use Rattle.script_core.specs.Script.{Answer, Numbered, commands_of}
-use Rattle.script_core.specs.Serial.{IsStep, Opens, Serial, serial_at_first}
+use Rattle.play_core.specs.Script.{Answer, Numbered, commands_of}
+use Rattle.machine_core.specs.Serial.{IsStep, Opens, Serial, is_at_rest, number_is_at_rest, serial_at_first}
 
 -- the machine as on one thread, the number of the zone that a round left broken, if one did, and the client of the blocks
 pub record Threaded : Type 0 where
@@ -49,20 +49,10 @@ client_at_first = record { number = 1; receipts = [] }
 abbrev pub threaded_at_first : ℕ → Threaded
 threaded_at_first places = record { serial = serial_at_first places; broken = None; client = client_at_first }
 
--- whether the zone with this number is open, and no round is open by hand
-abbrev pub stands_closed : ℕ → Option WorldState → Bool
-stands_closed zone (Some w) = nat_eq zone w.zone.number && not w.is_open
-stands_closed zone None = false
-
--- the same of a number that may be none of a zone
-abbrev pub stands_closed_at : Option ℕ → Option WorldState → Bool
-stands_closed_at None world = false
-stands_closed_at (Some zone) world = stands_closed zone world
-
 -- whether a command of one line works on the zone by threads: a round and a pool do
 abbrev pub is_threaded : Command → Option WorldState → Bool
-is_threaded (Compact zone) world = stands_closed zone world
-is_threaded (Pool zone count blocks) world = stands_closed zone world
+is_threaded (Compact zone) world = is_at_rest zone world
+is_threaded (Pool zone count blocks) world = is_at_rest zone world
 is_threaded _ world = false
 
 -- why a round stopped
@@ -230,7 +220,7 @@ pub record IsUnstarted (w : WorldState) (old : Threaded) (c : Numbered) (answers
 
 -- whether a command is a block for the zone that is open, while no round is open by hand
 abbrev pub IsBlockFor : Command → Option WorldState → Type 0
-IsBlockFor (During number) world = stands_closed_at (zone_of number) world ≡ true
+IsBlockFor (During number) world = number_is_at_rest (zone_of number) world ≡ true
 IsBlockFor _ world = ⊥
 
 -- a block whose client lines may run

@@ -1,5 +1,5 @@
 ghost use Rattle.std.specs.Prelude.{◌≡◌, IfOk, OnErr};
-ghost use Rattle.script_core.specs.Serial.{IsStep, Opens};
+ghost use Rattle.machine_core.specs.Serial.{IsStep, Opens};
 ghost use Rattle.script_core.specs.Threaded.{Threaded};
 
 use frame_core::ZoneNo;

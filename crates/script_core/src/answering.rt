@@ -1,14 +1,12 @@
 ghost use Rattle.std.specs.Prelude.{◌≡◌, None, IfOk, OnErr};
 ghost use Rattle.text_core.specs.declared.command.Command.TheVariants.{Compact, Pool};
-ghost use Rattle.script_core.specs.Script.{command_in_block};
+ghost use Rattle.play_core.specs.Script.{command_in_block};
 ghost use Rattle.script_core.specs.Threaded.{AsksMemory, IsBlockFor, IsStepBy, IsThreadedStep, is_threaded};
 
 use crate::alone::Alone;
-use crate::answer::Answers;
-use crate::block::Block;
-use crate::respond::Respond;
 use crate::threaded::{broken_reply, broken_reply_to_block};
 use frame_core::ZoneNo;
+use play_core::{Answers, Block, Respond};
 use std::alloc::AllocError;
 use text_core::{BlockCount, Command, PoolBlocks, Reply};
 

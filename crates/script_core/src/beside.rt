@@ -6,11 +6,9 @@ ghost use Rattle.round_core.specs.Rounds.{IsRefusedEarly, IsRound};
 ghost use Rattle.zone_core.specs.Shape.{HasShape};
 ghost use Rattle.script_core.specs.Clients.{AreClientAnswers, IsClientReply, IsMade};
 
-use crate::answer::Answer;
-use crate::block::ClientLine;
-use crate::machine::flags;
-use crate::options::Options;
 use client_core::{Client, ClientError};
+use machine_core::{Options, flags};
+use play_core::{Answer, ClientLine};
 use round_core::{NoGate, Round, RoundError, Shape, SharedZone, compact};
 use std::alloc::Global;
 use std::marker::Brand;

@@ -12,8 +12,9 @@ use Rattle.text_core.specs.declared.command.Command.TheVariants.{Open, On, Compa
 use Rattle.text_core.specs.declared.reply.Reply.{Reply}
 use Rattle.text_core.specs.declared.reply.Reply.TheVariants as reply
 use Rattle.text_core.proofs.Ranges.{IsInRange}
-use Rattle.script_core.specs.Machine.{answered, call_step, calls_step, declined, pool_step, step, during_on}
-use Rattle.script_core.specs.Script.{Numbered, answers_from, answers_of, commands_of, parts_of, ClientLine, by}
+use Rattle.machine_core.specs.Machine.{answered, call_step, calls_step, declined, pool_step, step, during_on}
+use Rattle.play_core.specs.Script.{Numbered, commands_of, parts_of, ClientLine, by}
+use Rattle.machine_core.specs.Replies.{answers_from, answers_of}
 use Rattle.script_laws.specs.Counts.{AddsUpTo, CountsAddUp, frames_of}
 use Rattle.text_core.specs.Grammar.{zone_of}
 use Rattle.script_laws.proofs.CommandsInRange.{AreInRange, commands_ranged}

@@ -22,12 +22,13 @@ use Rattle.text_core.specs.Line.{line_within, line_of}
 use Rattle.text_core.specs.Profile.{profile_told}
 use Rattle.text_core.proofs.Profiles as rows
 use Rattle.text_core.proofs.Profiles.{SayAlike, call_in_profile_2, lines_alike}
-use Rattle.script_core.specs.Machine.{Step, answered, call_step, calls_step, declined, pool_step, step, during_on}
-use Rattle.script_core.specs.Script.{Answer, Numbered, answers_from, commands_from, cut_fault, fault_from, line_fault, onto_commands, parts_of, Block, Came, ClientLine, Reading, by, client_comes, command_comes, command_in_block, comes_in, comes_outside, comes_within, commands_of, line_comes, onto, open_fault, reading_behind, within}
-use Rattle.script_core.specs.declared.error.Fault.{Fault}
-use Rattle.script_core.specs.declared.error.Fault.TheVariants.{Syntax}
-use Rattle.script_core.specs.declared.error.RunError.{RunError}
-use Rattle.script_core.proofs.Lines.{Parts, parts-line, parts_are}
+use Rattle.machine_core.specs.Machine.{Step, answered, call_step, calls_step, declined, pool_step, step, during_on}
+use Rattle.play_core.specs.Script.{Answer, Numbered, commands_from, cut_fault, fault_from, line_fault, onto_commands, parts_of, Block, Came, ClientLine, Reading, by, client_comes, command_comes, command_in_block, comes_in, comes_outside, comes_within, commands_of, line_comes, onto, open_fault, reading_behind, within}
+use Rattle.machine_core.specs.Replies.{answers_from}
+use Rattle.play_core.specs.declared.error.Fault.{Fault}
+use Rattle.play_core.specs.declared.error.Fault.TheVariants.{Syntax}
+use Rattle.play_core.specs.declared.error.RunError.{RunError}
+use Rattle.play_core.proofs.Lines.{Parts, parts-line, parts_are}
 use Rattle.script_laws.specs.Profile2.{IsSameInProfile2, behind_profile_2, fault_in_profile_1, with_held}
 use Rattle.script_laws.proofs.Pools.{pool_tells}
 use Rattle.script_laws.proofs.Replies.{has_counts, plain_call, plain_series}

@@ -11,7 +11,7 @@ use Rattle.text_core.specs.declared.reply.Reply.{Reply}
 use Rattle.text_core.specs.declared.reply.Reply.TheVariants as reply
 use Rattle.text_core.specs.Pool.{pool_order, told_as}
 use Rattle.text_core.proofs.Ranges.{HasOrder}
-use Rattle.script_core.specs.Machine.{Answered, next_first, pool_from, pool_step, pooled, refused, stopped_by, unless_stopped}
+use Rattle.machine_core.specs.Machine.{Answered, next_first, pool_from, pool_step, pooled, refused, stopped_by, unless_stopped}
 use Rattle.script_laws.proofs.CallsAccepted.{some_run, take_order_lawful}
 use Rattle.script_laws.proofs.PagesMoved.{LeavesCells, leaves_all, leaves_then}
 use Rattle.script_laws.proofs.Steps.{Keeps, keeps_all, keeps_taken, keeps_then}

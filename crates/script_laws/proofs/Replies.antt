@@ -24,7 +24,7 @@ use Rattle.text_core.specs.declared.command.Repeated.{Repeated}
 use Rattle.text_core.specs.declared.reply.Reply.{Reply}
 use Rattle.text_core.specs.declared.reply.Reply.TheVariants as reply
 use Rattle.text_core.specs.Grammar.{address_of}
-use Rattle.script_core.specs.Machine.{Answered, by_hand, call_step, copied, ending, found, fresh_page, handed_out, looked, order_handed_out, page_step, says, series_from, unless, unless_refused}
+use Rattle.machine_core.specs.Machine.{Answered, by_hand, call_step, copied, ending, found, fresh_page, handed_out, looked, order_handed_out, page_step, says, series_from, unless, unless_refused}
 
 -- whether a reply has counts
 abbrev pub has_counts : Reply → Bool

@@ -11,7 +11,7 @@ use Rattle.text_core.specs.declared.command.Calls.TheVariants.{One, Series as Se
 use Rattle.text_core.specs.declared.command.Command.{Command}
 use Rattle.text_core.specs.declared.command.Command.TheVariants.{Open, On, Compact, Pool, Profile2, OutOfRange, During}
 use Rattle.text_core.proofs.Ranges.{IsInRange}
-use Rattle.script_core.specs.Machine.{answered, calls_step, declined, pool_step, step, during_on}
+use Rattle.machine_core.specs.Machine.{answered, calls_step, declined, pool_step, step, during_on}
 use Rattle.script_laws.proofs.Pools.{keeps_pool}
 use Rattle.text_core.specs.Grammar.{zone_of}
 use Rattle.script_laws.proofs.Steps.{Keeps, keeps_all, keeps_call, keeps_series}

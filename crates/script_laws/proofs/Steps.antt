@@ -32,7 +32,7 @@ use Rattle.text_core.specs.declared.reply.Reply.{Reply}
 use Rattle.text_core.specs.declared.reply.Reply.TheVariants as reply
 use Rattle.text_core.specs.Grammar.{address_of}
 use Rattle.text_core.proofs.Ranges.{IsCallInRange, in_space}
-use Rattle.script_core.specs.Machine.{Answered, by_hand, call_at, call_step, copied, ending, found, fresh_page, handed_out, looked, order_handed_out, page_step, says, series_from, unless, unless_refused}
+use Rattle.machine_core.specs.Machine.{Answered, by_hand, call_at, call_step, copied, ending, found, fresh_page, handed_out, looked, order_handed_out, page_step, says, series_from, unless, unless_refused}
 use Rattle.script_laws.proofs.CallsAccepted.{can_map, can_map_at, give_order_lawful, lawful_mapped, load_lawful, mark_lawful, pin_lawful, share_lawful, store_lawful, take_order_lawful, unmap_lawful, unmark_lawful, unpin_lawful}
 use Rattle.script_laws.proofs.PagesMoved.{copied_leaves, finished_leaves, opened_leaves, scanned_leaves, shut_leaves, taken_leaves}
 

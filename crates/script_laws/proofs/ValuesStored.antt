@@ -38,8 +38,9 @@ use Rattle.text_core.specs.declared.reply.Reply.{Reply}
 use Rattle.text_core.specs.declared.reply.Reply.TheVariants as reply
 use Rattle.text_core.specs.Grammar.{address_of, zone_of}
 use Rattle.text_core.proofs.Ranges.{IsInRange}
-use Rattle.script_core.specs.Machine.{Answered, answered, by_hand, call_at, call_step, calls_step, copied, declined, ending, found, fresh_page, handed_out, looked, order_handed_out, page_step, pool_step, says, series_from, step, unless, unless_refused, during_on}
-use Rattle.script_core.specs.Script.{Numbered, answers_from, answers_of, commands_of, parts_of, ClientLine, by}
+use Rattle.machine_core.specs.Machine.{Answered, answered, by_hand, call_at, call_step, calls_step, copied, declined, ending, found, fresh_page, handed_out, looked, order_handed_out, page_step, pool_step, says, series_from, step, unless, unless_refused, during_on}
+use Rattle.play_core.specs.Script.{Numbered, commands_of, parts_of, ClientLine, by}
+use Rattle.machine_core.specs.Replies.{answers_from, answers_of}
 use Rattle.script_laws.specs.Values.{IsLastStored, ValuesAreStored, accepted, accepted_count, called, repeated, told}
 use Rattle.script_laws.proofs.CallsAccepted.{CanMap, can_map, can_map_at, fresh_number, mapped_is, rests_for_access}
 use Rattle.script_laws.proofs.CommandsInRange.{AreInRange, commands_ranged}

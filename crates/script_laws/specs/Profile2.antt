@@ -3,8 +3,9 @@ use Rattle.std.specs.Prelude.{◌≡◌, ℕ, ◌+◌, List, ◌∷◌, ◌++◌
 use Rattle.text_core.specs.declared.profile.Profile.TheVariants.{One}
 use Rattle.text_core.specs.declared.reply.Reply.{Reply}
 use Rattle.text_core.specs.declared.reply.Reply.TheVariants as reply
-use Rattle.script_core.specs.declared.error.RunError.{RunError}
-use Rattle.script_core.specs.Script.{Answer, answers_of, by, fault_from, fault_of, parts_of}
+use Rattle.play_core.specs.declared.error.RunError.{RunError}
+use Rattle.play_core.specs.Script.{Answer, by, fault_from, fault_of, parts_of}
+use Rattle.machine_core.specs.Replies.{answers_of}
 
 -- the first fault where each line is read by profile 1, so that `profile 2` is one too
 abbrev pub fault_in_profile_1 : List ℕ → Option RunError

@@ -11,8 +11,8 @@ use Rattle.text_core.specs.declared.command.Command.{Command}
 use Rattle.text_core.specs.declared.command.Command.TheVariants.{On}
 use Rattle.text_core.specs.declared.reply.Reply.{Reply}
 use Rattle.text_core.specs.declared.reply.Reply.TheVariants as reply
-use Rattle.script_core.specs.Machine.{call_at}
-use Rattle.script_core.specs.Script.{Answer, Numbered}
+use Rattle.machine_core.specs.Machine.{call_at}
+use Rattle.play_core.specs.Script.{Answer, Numbered}
 
 -- what an accepted call adds to a history, the newest record first: it binds an address, or stores; a mapping makes a page of
 -- its own, which is told from the others by the number of records before it

@@ -1,5 +1,6 @@
 ghost use Rattle.std.specs.Prelude.{◌≡◌, ℕ, ◌<◌, ◌≤◌, [], List, None};
-ghost use Rattle.script_core.specs.Script.{answers_of, commands_of};
+ghost use Rattle.machine_core.specs.Replies.{answers_of};
+ghost use Rattle.play_core.specs.Script.{commands_of};
 ghost use Rattle.script_laws.specs.Counts.{CountsAddUp};
 ghost use Rattle.script_laws.specs.Profile2.{IsSameInProfile2, fault_in_profile_1};
 ghost use Rattle.script_laws.specs.Values.{ValuesAreStored};

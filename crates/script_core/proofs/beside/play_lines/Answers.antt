@@ -4,7 +4,7 @@ use Rattle.text_core.specs.declared.command.ClientCall.{ClientCall}
 use Rattle.text_core.specs.declared.reply.Reply.{Reply}
 use Rattle.std.specs.Prelude.{Option}
 use Rattle.script_core.specs.Clients.{AreClientAnswers, IsClientReply}
-use Rattle.script_core.specs.Script.{Answer, ClientLine}
+use Rattle.play_core.specs.Script.{Answer, ClientLine}
 use Rattle.script_core.proofs.ClientAnswers.{client_answers_more}
 use Rattle.script_core.proofs.beside.play_lines.Goals as goal
 

@@ -1,8 +1,8 @@
 use Rattle.std.proofs.Common.{ap, sym, ◌∙◌}
 use Rattle.std.proofs.lemmas.Result.{IfOk-weaker}
 use Rattle.text_core.specs.Grammar.{zone_of}
-use Rattle.script_core.specs.Script.{command_in_block}
-use Rattle.script_core.specs.Serial.{Serial}
+use Rattle.play_core.specs.Script.{command_in_block}
+use Rattle.machine_core.specs.Serial.{Serial}
 use Rattle.script_core.specs.Threaded.{Threaded}
 use Rattle.script_core.proofs.Rounds.{block_for, block_step}
 use Rattle.script_core.proofs.threaded.Threaded.answer_block.Goals as goal

@@ -1,6 +1,6 @@
 use Rattle.std.proofs.Common.{ap, sym, ◌∙◌}
 use Rattle.text_core.specs.declared.command.Command.TheVariants.{Pool}
-use Rattle.script_core.specs.Serial.{Serial}
+use Rattle.machine_core.specs.Serial.{Serial}
 use Rattle.script_core.specs.Threaded.{Threaded}
 use Rattle.script_core.proofs.Rounds.{threaded_step}
 use Rattle.script_core.proofs.threaded.Threaded.answer_pool.Goals as goal

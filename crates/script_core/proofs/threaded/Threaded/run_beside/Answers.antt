@@ -1,6 +1,6 @@
 use Rattle.std.proofs.Common.{rules, refl, ap, ◌∙◌, inl, inr, arith}
 use Rattle.std.proofs.lemmas.Option.{MatchOption-at_none, MatchOption-at_some}
-use Rattle.script_core.specs.Script.{command_in_block}
+use Rattle.play_core.specs.Script.{command_in_block}
 use Rattle.script_core.specs.Threaded.{Threaded}
 use Rattle.script_core.proofs.ClientAnswers.{length-client_answers}
 use Rattle.script_core.proofs.Rounds.{beside_client, nothing_ran, round_over}

@@ -4,7 +4,7 @@ use Rattle.std.specs.Prelude.{IsOk}
 use Rattle.std.specs.Result.{result_err}
 use Rattle.state_core.specs.declared.error.ZoneError.{ZoneError}
 use Rattle.state_core.specs.declared.information.Audit.{Audit}
-use Rattle.script_core.specs.Serial.{Serial}
+use Rattle.machine_core.specs.Serial.{Serial}
 use Rattle.script_core.specs.Threaded.{Threaded}
 use Rattle.script_core.proofs.Rounds.{left_broken, left_whole}
 use Rattle.script_core.proofs.threaded.Threaded.take_back.Goals as goal

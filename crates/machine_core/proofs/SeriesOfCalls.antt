@@ -1,0 +1,45 @@
+-- The calls of a series, one after the other.
+use Rattle.std.proofs.Common.{◌≡◌, ◌∙◌, ℕ, suc, ◌+◌, refl, sym, ap}
+use Rattle.zone_core.specs.World.{WorldState}
+use Rattle.text_core.specs.declared.command.Repeated.{Repeated}
+use Rattle.text_core.specs.declared.reply.Reply.{Reply}
+use Rattle.text_core.specs.declared.reply.Reply.TheVariants as reply
+use Rattle.text_core.specs.Grammar.{address_of}
+use Rattle.machine_core.specs.Machine.{Answered, page_step, says, series_from, unless_refused}
+
+goes_on : (r : Reply) (done : ℕ) (w : WorldState) (rest : Answered) → ((number : ℕ) → r ≡ reply.Refused number → ⊥) → unless_refused done r w rest ≡ rest
+goes_on reply.Done done w rest accepted = refl
+goes_on (reply.Value x) done w rest accepted = refl
+goes_on (reply.Info i) done w rest accepted = refl
+goes_on (reply.InfoWithHeld i) done w rest accepted = refl
+goes_on (reply.Serial n) done w rest accepted = refl
+goes_on reply.Met done w rest accepted = refl
+goes_on (reply.Moved n) done w rest accepted = refl
+goes_on (reply.PutBack n) done w rest accepted = refl
+goes_on (reply.Shut n) done w rest accepted = refl
+goes_on (reply.Looked l) done w rest accepted = refl
+goes_on (reply.Block b) done w rest accepted = refl
+goes_on (reply.HandedOut f k) done w rest accepted = refl
+goes_on (reply.AllDone m) done w rest accepted = refl
+goes_on (reply.DoneUntil m k) done w rest accepted = refl
+goes_on (reply.Round i m b s) done w rest accepted = refl
+goes_on (reply.Pool blocks got rounds s) done w rest accepted = refl
+goes_on (reply.Refused k) done w rest accepted = absurd (accepted k refl)
+
+module _ (c : Repeated) (s v further done n m : ℕ) (w after : WorldState) (left : n ≡ suc m) where
+  first_call : series_from c s v further done n w
+      ≡ (let a = page_step c w (address_of s v) in unless_refused done a.reply a.world (series_from c s (v + further) further (done + 1) m a.world))
+  first_call = ap (λ (k : ℕ). series_from c s v further done k w) left
+
+  -- a call that is accepted
+  pub series_from-on : (r : Reply) → record { reply = r; world = after } ≡ page_step c w (address_of s v) → ((number : ℕ) → r ≡ reply.Refused number → ⊥)
+      → series_from c s v further done n w ≡ series_from c s (v + further) further (done + 1) m after
+  series_from-on r told accepted =
+      first_call ∙ ap (λ (a : Answered). unless_refused done a.reply a.world (series_from c s (v + further) further (done + 1) m a.world)) (sym told)
+      ∙ goes_on r done after _ accepted
+
+  -- a call that is refused
+  pub series_from-ends : (number : ℕ) → record { reply = reply.Refused number; world = after } ≡ page_step c w (address_of s v)
+      → series_from c s v further done n w ≡ says (reply.DoneUntil done number) after
+  series_from-ends number told =
+      first_call ∙ ap (λ (a : Answered). unless_refused done a.reply a.world (series_from c s (v + further) further (done + 1) m a.world)) (sym told)

@@ -1,0 +1,13 @@
+//! A machine on one thread answers the commands of a script: it has at most one zone.
+//!
+//! `specs/Machine.antt` says what a command does, `specs/Replies.antt` what is written for a whole input, and `specs/Ends.antt` how
+//! a run can end. `run` does just that.
+#![tactic(auto)]
+
+mod machine;
+mod options;
+mod script;
+
+pub use machine::{Machine, flags};
+pub use options::Options;
+pub use script::{run, run_text};

@@ -1,0 +1,460 @@
+ghost use Rattle.std.specs.Prelude.{◌≡◌, ◌<◌, ◌≤◌, [], bit_and, true, false, ⊤, Some, None, IfNone, IfOk, IfSome, OnErr, OnOk};
+ghost use Rattle.machine_core.specs.Machine.{call_at, call_step, calls_step, compact_on, ending, found, open_step, page_step, pool_from, pool_on, pool_step, series_step, step_on, stopped_by, during_on};
+ghost use Rattle.machine_core.specs.Serial.{IsSerialStep, IsStep, Opens, serial_at_first};
+ghost use Rattle.machine_core.specs.Serial.{is_at_rest};
+ghost use Rattle.text_core.specs.Grammar.{address_of, zone_of};
+ghost use Rattle.text_core.specs.declared.reply.Reply.TheVariants as reply;
+ghost use Rattle.zone_core.specs.Books.{AreFor};
+ghost use Rattle.zone_core.specs.ErrorNumber.{world_number_of};
+ghost use Rattle.state_core.specs.ErrorNumber.{number_of};
+ghost use Rattle.frame_core.specs.PageFlags.{is_unmovable};
+
+use arrayvec::ArrayVec;
+use bitflags::Flags;
+use frame_core::{Address, ClientNo, PageFlags, SpaceNo, VPage, ZoneNo};
+use play_core::{Answers, Block, Respond};
+use state_core::{Ended, ZoneError};
+use std::alloc::{AllocError, Global};
+use std::marker::Model;
+use std::sync::ledger::Ledger;
+use text_core::{
+    BlockCount, Call, Calls, Command, PoolBlocks, PoolStopped, Repeated, Reply, Series, zone_of,
+};
+use zone_core::{Blanks, Finished, Scanned, World, WorldError};
+
+/// What a script works on: no zone yet, with the blanks to open one, or the world of the one zone that it opened.
+#[derive(Drop)]
+pub struct Machine<I: Ledger, N: Ledger, M: Ledger, B: Ledger> {
+    alloc: Global,
+    places: u32,
+    blanks: Option<Blanks>,
+    world: Option<World<I, N, M, B>>,
+}
+
+impl<I: Ledger, N: Ledger, M: Ledger, B: Ledger> Model for Machine<I, N, M, B> {
+    ghost use Rattle.std.specs.Prelude.{◌<◌, ◌≤◌};
+    ghost use Rattle.std.specs.Option.{ForSome};
+    ghost use Rattle.zone_core.specs.Books.{AreFor};
+    ghost use Rattle.std.specs.Coded.{codes};
+    ghost use Rattle.plain_core.specs.contracts.plain.PlainZone as plain_zone;
+    ghost use Rattle.machine_core.specs.Serial.{Serial};
+
+    ghost Value = { Serial };
+
+    ghost coded = { Prim.hlevel (codes, plain_zone.the_row.coded) };
+
+    ghost view = { λ m. record { places = m.places; world = m.world } };
+
+    ghost invariant = { λ m. (0 < m.places) × (m.places ≤ 65536) × ForSome m.blanks (λ b. AreFor b I.name I.parts N.name N.parts M.name M.parts B.name B.parts) };
+}
+
+impl<I: Ledger, N: Ledger, M: Ledger, B: Ledger> Respond for Machine<I, N, M, B> {
+    ghost may = { IsSerialStep };
+
+    ghost asks = { Opens };
+
+    ghost ready = { λ _. ⊤ };
+
+    fn respond(&mut self, command: Command) -> Result<Reply, AllocError> {
+        self.reply_to(command)
+    }
+
+    fn respond_to_block(&mut self, block: Block) -> Result<Answers, AllocError> {
+        let reply = self.during(block.zone());
+        Ok(block.answered(reply))
+    }
+}
+
+impl<I: Ledger, N: Ledger, M: Ledger, B: Ledger> Machine<I, N, M, B> {
+    /// No zone yet. One that is opened has so many places in its journal.
+    pub fn new(alloc: Global, places: u32, blanks: Blanks) -> Self
+        requires places { (0 < places) × (places ≤ 65536) }
+        requires blanks { AreFor blanks I.name I.parts N.name N.parts M.name M.parts B.name B.parts }
+        ensures { result ≡ serial_at_first places }
+    {
+        Machine {
+            alloc,
+            places,
+            blanks: Some(blanks),
+            world: None,
+        }
+    }
+
+    /// The reply to a command of one line. It fails only for want of memory.
+    pub fn reply_to(&mut self, command: Command) -> Result<Reply, AllocError>
+        ensures ok { IfOk result (λ reply. IsStep self.old command reply self.new) }
+        ensures memory { OnErr result (Opens self.old command) }
+    {
+        match command {
+            Command::OutOfRange => Ok(Reply::Refused(1)),
+            Command::Profile2 => Ok(Reply::Done),
+            Command::Open { zone, blocks } => self.open(zone, blocks),
+            Command::On { zone, calls } => Ok(self.call(zone, calls)),
+            Command::Compact { zone } => Ok(self.compact(zone)),
+            Command::Pool {
+                zone,
+                count,
+                blocks,
+            } => Ok(self.pool(zone, count, blocks)),
+            Command::During { zone } => Ok(self.during(zone)),
+        }
+    }
+
+    /// Opens a zone, where none is open yet. It is apart, since it has room for a whole world, which other commands do without.
+    #[inline(never)]
+    fn open(&mut self, zone: ZoneNo, blocks: BlockCount) -> Result<Reply, AllocError>
+        ensures ok { IfOk result (λ reply. record { reply = reply; world = self.new.world } ≡ open_step zone blocks self.old.places self.old.world) }
+        ensures places { OnOk result (self.new.places ≡ self.old.places) }
+        ensures memory { OnErr result (self.old.world ≡ None) }
+    {
+        if self.world.is_some() {
+            return Ok(Reply::Refused(44));
+        }
+        let Some(blanks) = self.blanks.take() else {
+            return Err(AllocError);
+        };
+        let Ok(world) = World::open(self.alloc, zone, blocks.get(), self.places, blanks) else {
+            return Err(AllocError);
+        };
+        self.world = Some(world);
+        Ok(Reply::Done)
+    }
+
+    /// A round over the zone with this number, where that is the one that is open: without threads no worker can be had.
+    pub fn compact(&self, zone: ZoneNo) -> Reply
+        ensures { record { reply = result; world = self.now.world } ≡ compact_on zone self.now.world }
+    {
+        match &self.world {
+            Some(world) if world.zone().number() == zone => {
+                Reply::Refused(if world.is_open() { 45 } else { 32 })
+            }
+            _ => Reply::Refused(43),
+        }
+    }
+
+    /// The same with a client's calls beside it, over the zone with this number, which may be none of a zone.
+    fn during(&self, number: u64) -> Reply
+        ensures { record { reply = result; world = self.now.world } ≡ during_on (zone_of number) self.now.world }
+    {
+        match zone_of(number) {
+            Some(zone) => self.compact(zone),
+            None => Reply::Refused(1),
+        }
+    }
+
+    /// A pool of blocks of the zone with this number, where that is the one that is open.
+    pub fn pool(&mut self, zone: ZoneNo, count: BlockCount, blocks: PoolBlocks) -> Reply
+        ensures answer { record { reply = result; world = self.new.world } ≡ pool_on zone count blocks self.old.world }
+        ensures places { self.new.places ≡ self.old.places }
+    {
+        match &mut self.world {
+            Some(world) if world.zone().number() == zone => answer_pool(world, count, blocks),
+            _ => Reply::Refused(43),
+        }
+    }
+
+    /// Gives the world of the zone with this number away, where no round is open by hand.
+    pub fn take_closed(&mut self, zone: ZoneNo) -> Option<World<I, N, M, B>>
+        ensures given { IfSome result (λ world. (self.old.world ≡ Some world) × (is_at_rest zone (Some world) ≡ true)) }
+        ensures closed { IfSome result (λ world. world.is_open ≡ false) }
+        ensures left { IfSome result (λ _. self.new ≡ serial_at_first self.old.places) }
+        ensures none { IfNone result ((self.new ≡ self.old) × (is_at_rest zone self.old.world ≡ false)) }
+    {
+        let world = self.world.take()?;
+        if world.zone().number() == zone && !world.is_open() {
+            return Some(world);
+        }
+        self.world = Some(world);
+        None
+    }
+
+    /// Takes a world, where there is none.
+    pub fn put_back(&mut self, world: World<I, N, M, B>)
+        ensures { self.new ≡ record self.old { world = Some world } }
+    {
+        self.world = Some(world);
+    }
+
+    /// Answers calls on the zone with this number, where that is the one that is open.
+    fn call(&mut self, zone: ZoneNo, calls: Calls) -> Reply
+        ensures answer { record { reply = result; world = self.new.world } ≡ step_on zone calls self.old.world }
+        ensures places { self.new.places ≡ self.old.places }
+    {
+        match &mut self.world {
+            Some(world) if world.zone().number() == zone => answer_all(world, calls),
+            _ => Reply::Refused(43),
+        }
+    }
+}
+
+/// Answers a pool of blocks of the zone of a world, where no round is open by hand.
+fn answer_pool<I: Ledger, N: Ledger, M: Ledger, B: Ledger>(
+    world: &mut World<I, N, M, B>,
+    count: BlockCount,
+    blocks: PoolBlocks,
+) -> Reply
+    ensures { record { reply = result; world = world.new } ≡ pool_step world.old count blocks }
+{
+    if world.is_open() {
+        Reply::Refused(45)
+    } else {
+        reserve(world, count, blocks)
+    }
+}
+
+/// Takes the lowest free blocks, up to so many. Where none is free a round is needed, and without threads no worker can be had.
+fn reserve<I: Ledger, N: Ledger, M: Ledger, B: Ledger>(
+    world: &mut World<I, N, M, B>,
+    count: BlockCount,
+    blocks: PoolBlocks,
+) -> Reply
+    ensures { record { reply = result; world = world.new } ≡ pool_from blocks [] count world.old }
+{
+    let wanted = count.get() as usize;
+    let mut got = ArrayVec::new();
+    while got.len() < wanted {
+        match world.take_order(blocks.order()) {
+            Ok(first) => got.push(blocks.told_as(first)),
+            Err(error) => {
+                return Reply::Pool {
+                    blocks,
+                    got,
+                    rounds: 0,
+                    stopped: stopped_by(error),
+                };
+            }
+        }
+    }
+    Reply::Pool {
+        blocks,
+        got,
+        rounds: 0,
+        stopped: PoolStopped::Enough,
+    }
+}
+
+/// Why a pool without threads stops where a block is refused it.
+fn stopped_by(error: ZoneError) -> PoolStopped
+    ensures { result ≡ stopped_by error }
+{
+    match error {
+        ZoneError::JournalFull => PoolStopped::JournalFull,
+        _ => PoolStopped::Refused(32),
+    }
+}
+
+/// Answers the calls of a command on the zone of a world.
+fn answer_all<I: Ledger, N: Ledger, M: Ledger, B: Ledger>(
+    world: &mut World<I, N, M, B>,
+    calls: Calls,
+) -> Reply
+    ensures { record { reply = result; world = world.new } ≡ calls_step world.old calls }
+{
+    match calls {
+        Calls::One(call) => answer(world, call),
+        Calls::Series(series) => answer_series(world, series),
+    }
+}
+
+/// Makes the calls of a series one after the other, up to the first that is refused.
+fn answer_series<I: Ledger, N: Ledger, M: Ledger, B: Ledger>(
+    world: &mut World<I, N, M, B>,
+    series: Series,
+) -> Reply
+    ensures { record { reply = result; world = world.new } ≡ series_step world.old series }
+{
+    let Series {
+        call,
+        space,
+        first,
+        count,
+        step,
+    } = series;
+    let count = count.get();
+    let mut page = u128::from(first);
+    for done in 0..count {
+        if let Reply::Refused(refusal) = answer_at(world, call, address(space, page)) {
+            return Reply::DoneUntil { done, refusal };
+        }
+        page += u128::from(step);
+    }
+    Reply::AllDone(count)
+}
+
+/// Answers a call of a series at its page, where that is one of the space.
+fn answer_at<I: Ledger, N: Ledger, M: Ledger, B: Ledger>(
+    world: &mut World<I, N, M, B>,
+    repeated: Repeated,
+    address: Option<Address>,
+) -> Reply
+    ensures { record { reply = result; world = world.new } ≡ page_step repeated world.old address }
+{
+    match address {
+        Some(address) => repeat(world, repeated, address),
+        None => Reply::Refused(1),
+    }
+}
+
+/// Makes the call of a series at an address.
+fn repeat<I: Ledger, N: Ledger, M: Ledger, B: Ledger>(
+    world: &mut World<I, N, M, B>,
+    repeated: Repeated,
+    address: Address,
+) -> Reply
+    ensures { record { reply = result; world = world.new } ≡ call_step world.old (call_at repeated address) }
+{
+    match repeated {
+        Repeated::Map => map_page(world, address, false),
+        Repeated::Unmap => unmap_page(world, address),
+    }
+}
+
+/// Maps a page.
+fn map_page<I: Ledger, N: Ledger, M: Ledger, B: Ledger>(
+    world: &mut World<I, N, M, B>,
+    address: Address,
+    unmovable: bool,
+) -> Reply
+    ensures { record { reply = result; world = world.new } ≡ call_step world.old (Call.Map address unmovable) }
+{
+    world
+        .map(script_client(), address, flags(unmovable))
+        .map_or_else(by_zone, |_| Reply::Done)
+}
+
+/// Takes a page away from an address.
+fn unmap_page<I: Ledger, N: Ledger, M: Ledger, B: Ledger>(
+    world: &mut World<I, N, M, B>,
+    address: Address,
+) -> Reply
+    ensures { record { reply = result; world = world.new } ≡ call_step world.old (Call.Unmap address) }
+{
+    world
+        .unmap(script_client(), address)
+        .map_or_else(by_zone, |()| Reply::Done)
+}
+
+/// A page of a space, where it has so many.
+fn address(space: SpaceNo, page: u128) -> Option<Address>
+    ensures { result ≡ address_of space page }
+{
+    let vpage = VPage::new(u32::try_from(page).ok()?)?;
+    Some(Address { space, vpage })
+}
+
+/// Answers a call on the zone of a world.
+fn answer<I: Ledger, N: Ledger, M: Ledger, B: Ledger>(
+    world: &mut World<I, N, M, B>,
+    call: Call,
+) -> Reply
+    ensures { record { reply = result; world = world.new } ≡ call_step world.old call }
+{
+    let client = script_client();
+    match call {
+        Call::Map { address, unmovable } => map_page(world, address, unmovable),
+        Call::MapAt {
+            address,
+            frame,
+            unmovable,
+        } => world
+            .map_at(client, address, flags(unmovable), frame)
+            .map_or_else(by_zone, |()| Reply::Done),
+        Call::Store {
+            address,
+            word,
+            value,
+        } => world
+            .store(client, address, word, value)
+            .map_or_else(by_zone, |()| Reply::Done),
+        Call::Load { address, word } => world
+            .load(client, address, word)
+            .map_or_else(by_zone, Reply::Value),
+        Call::Info => Reply::Info(world.zone().info()),
+        Call::Scan => world.scan().map_or_else(by_world, scan_reply),
+        Call::Take(hand) => world.take(hand).map_or_else(by_world, Reply::Serial),
+        Call::Copy(hand) => world.copy(hand).map_or_else(by_world, |()| Reply::Done),
+        Call::Finish(hand) => world.finish(hand).map_or_else(by_world, end_reply),
+        Call::Shut => world.shut().map_or_else(by_world, Reply::Shut),
+        Call::Look(address) => world
+            .zone()
+            .look(address)
+            .map_or_else(by_zone, Reply::Looked),
+        Call::Share { address, alias } => world
+            .share(client, address, alias)
+            .map_or_else(by_zone, |()| Reply::Done),
+        Call::Unmap(address) => unmap_page(world, address),
+        Call::Pin(address) => world
+            .pin(client, address)
+            .map_or_else(by_zone, |()| Reply::Done),
+        Call::Unpin(address) => world
+            .unpin(client, address)
+            .map_or_else(by_zone, |()| Reply::Done),
+        Call::Huge => world.take_huge().map_or_else(by_zone, Reply::Block),
+        Call::Give(block) => world
+            .give_huge(block)
+            .map_or_else(by_zone, |()| Reply::Done),
+        Call::InfoWithHeld => Reply::InfoWithHeld(world.zone().info()),
+        Call::TakeOrder(order) => world
+            .take_order(order)
+            .map_or_else(by_zone, |first| Reply::HandedOut { first, order }),
+        Call::GiveOrder { first, order } => world
+            .give_order(first, order)
+            .map_or_else(by_zone, |()| Reply::Done),
+        Call::Mark(block) => world.mark(block).map_or_else(by_zone, |()| Reply::Done),
+        Call::Unmark(block) => world.unmark(block).map_or_else(by_zone, |()| Reply::Done),
+    }
+}
+
+/// A refusal of the zone.
+fn by_zone(error: ZoneError) -> Reply
+    ensures { result ≡ reply.Refused (number_of error) }
+{
+    Reply::Refused(error.number())
+}
+
+/// A refusal of the world.
+fn by_world(error: WorldError) -> Reply
+    ensures { result ≡ reply.Refused (world_number_of error) }
+{
+    Reply::Refused(error.number())
+}
+
+/// What a scan found.
+fn scan_reply(scanned: Scanned) -> Reply
+    ensures { result ≡ found scanned }
+{
+    match scanned {
+        Scanned::Serial(serial) => Reply::Serial(serial),
+        Scanned::Met => Reply::Met,
+    }
+}
+
+/// How the move of a page ended.
+fn end_reply(finished: Finished) -> Reply
+    ensures { result ≡ ending finished.serial finished.ended }
+{
+    let Finished { serial, ended } = finished;
+    match ended {
+        Ended::Moved => Reply::Moved(serial),
+        Ended::Back => Reply::PutBack(serial),
+    }
+}
+
+/// The flags of a page that is mapped.
+pub fn flags(unmovable: bool) -> PageFlags
+    ensures clean { bit_and result.0 2 ≡ 0 }
+    ensures unmovable { is_unmovable result ≡ unmovable }
+{
+    if unmovable {
+        PageFlags::UNMOVABLE
+    } else {
+        PageFlags::empty()
+    }
+}
+
+/// The number of the client that a script's own calls are made for.
+fn script_client() -> ClientNo
+    ensures { result ≡ 0 }
+{
+    ClientNo::new(0).unwrap()
+}

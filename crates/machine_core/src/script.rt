@@ -1,0 +1,103 @@
+ghost use Rattle.std.specs.Prelude.{◌≡◌, ◌≢◌, ◌<◌, IfErr, IfOk, IfSome, IsTrue, OnOk, OnSome, None, Some, false, length};
+ghost use Rattle.std.specs.Io.KnownBytes.{Appends};
+ghost use Rattle.zone_core.specs.Books.{AreFor};
+ghost use Rattle.play_core.specs.declared.error.Fault.{Fault};
+ghost use Rattle.machine_core.specs.Ends.{EndsIn, FailsBehind, LacksMemory, is_of_script, is_over};
+ghost use Rattle.play_core.specs.Script.{StopsIn, fault_of};
+ghost use Rattle.play_core.specs.Streams.{CannotReadOn};
+ghost use Rattle.machine_core.specs.Replies.{answers_of, output_of, totals_of};
+
+use crate::machine::Machine;
+use crate::options::Options;
+use play_core::{Input, Output, RunError, Text, Totals, play};
+use std::alloc::Global;
+use std::marker::Brand;
+use std::sync::ledger::Ledger;
+use zone_core::Blanks;
+
+/// Runs a script: reads its lines, answers its commands and writes the replies, up to its end or to the first fault. A round is
+/// refused, since there are no threads. The clauses speak of a reader and a writer that tell their bytes, in whatever pieces they
+/// give and take them.
+pub fn run<R: Input, W: Output>(
+    alloc: Global,
+    reader: &mut R,
+    writer: &mut W,
+    options: Options,
+) -> Result<Totals, RunError>
+    // The script has no fault, and is answered.
+    ensures ok { OnOk result (IfSome (R.remaining reader.old) (λ input. fault_of input ≡ None)) }
+    ensures totals { IfOk result (λ totals. IfSome (R.remaining reader.old) (λ input.
+        totals ≡ totals_of options.journal input)) }
+
+    // A fault of the script is its first one, and the replies before it are written.
+    ensures fault { IfErr result (λ error. IsTrue (is_of_script error.fault) → IfSome (R.remaining reader.old) (λ input.
+        fault_of input ≡ Some error)) }
+    ensures output { IsTrue (is_over result) → IfSome (R.remaining reader.old) (λ input.
+        Appends (W.contents writer.old) (W.contents writer.new) (output_of options.journal input)) }
+
+    // A read failed, or ten million saw no end; a write failed, or took no byte.
+    ensures heard { OnOk result (R.failed reader.new ≡ false) }
+    ensures unread { IfErr result (λ error. error.fault ≡ Fault.Read → CannotReadOn (R.failed reader.new)
+        (R.reads reader.old) (R.reads reader.new) (R.remaining reader.old)) }
+    ensures stuck { IfErr result (λ error. error.fault ≡ Fault.Write → IsTrue (W.stuck writer.new)) }
+
+    // Whatever else ends the run, the replies before it are written, but where it is that they can't be.
+    ensures read { IfErr result (λ error. error.fault ≡ Fault.Read → OnSome (R.remaining reader.old)
+        (FailsBehind options.journal (R.remaining reader.old) (R.remaining reader.new)
+        (W.contents writer.old) (W.contents writer.new) error.line)) }
+    ensures write { IfErr result (λ error. error.fault ≡ Fault.Write → IfSome (R.remaining reader.old) (λ input.
+        StopsIn (answers_of options.journal input) (W.contents writer.old) (W.contents writer.new) error.line)) }
+    ensures memory { IfErr result (λ error. error.fault ≡ Fault.Memory → IfSome (R.remaining reader.old) (λ input.
+        LacksMemory options.journal input (W.contents writer.old) (W.contents writer.new) error.line)) }
+{
+    run_with::<Brand, Brand, Brand, Brand, R, W>(alloc, reader, writer, options, Blanks::new())
+}
+
+/// Runs a script that lies in memory. No read of it fails.
+pub fn run_text<W: Output>(
+    alloc: Global,
+    script: &[u8],
+    writer: &mut W,
+    options: Options,
+) -> Result<Totals, RunError>
+    ensures ok { OnOk result (fault_of script.now ≡ None) }
+    ensures totals { IfOk result (λ totals. totals ≡ totals_of options.journal script.now) }
+    ensures fault { IfErr result (λ error. IsTrue (is_of_script error.fault) → fault_of script.now ≡ Some error) }
+    ensures output { IsTrue (is_over result) → Appends (W.contents writer.old) (W.contents writer.new)
+        (output_of options.journal script.now) }
+    // It is read in at most ten million pieces.
+    ensures read { length script.now < 10000000 → IfErr result (λ error. error.fault ≢ Fault.Read) }
+    ensures write { IfErr result (λ error. error.fault ≡ Fault.Write → StopsIn (answers_of options.journal script.now)
+        (W.contents writer.old) (W.contents writer.new) error.line) }
+    ensures stuck { IfErr result (λ error. error.fault ≡ Fault.Write → IsTrue (W.stuck writer.new)) }
+    ensures memory { IfErr result (λ error. error.fault ≡ Fault.Memory → LacksMemory options.journal script.now
+        (W.contents writer.old) (W.contents writer.new) error.line) }
+{
+    run(alloc, &mut Text::new(script), writer, options)
+}
+
+/// Runs a script. Its zone, if it opens one, is named by the ledgers.
+fn run_with<I: Ledger, N: Ledger, M: Ledger, B: Ledger, R: Input, W: Output>(
+    alloc: Global,
+    reader: &mut R,
+    writer: &mut W,
+    options: Options,
+    blanks: Blanks,
+) -> Result<Totals, RunError>
+    requires blanks { AreFor blanks I.name I.parts N.name N.parts M.name M.parts B.name B.parts }
+    ensures ok { OnOk result (IfSome (R.remaining reader.old) (λ input. fault_of input ≡ None)) }
+    ensures totals { IfOk result (λ totals. IfSome (R.remaining reader.old) (λ input.
+        totals ≡ totals_of options.journal input)) }
+    ensures output { OnOk result (IfSome (R.remaining reader.old) (λ input.
+        Appends (W.contents writer.old) (W.contents writer.new) (output_of options.journal input))) }
+    ensures err { IfErr result (λ error. IfSome (R.remaining reader.old) (λ input.
+        EndsIn error.fault options.journal input error (R.remaining reader.old) (R.remaining reader.new)
+        (W.contents writer.old) (W.contents writer.new))) }
+    ensures heard { OnOk result (R.failed reader.new ≡ false) }
+    ensures unread { IfErr result (λ error. error.fault ≡ Fault.Read → CannotReadOn (R.failed reader.new)
+        (R.reads reader.old) (R.reads reader.new) (R.remaining reader.old)) }
+    ensures stuck { IfErr result (λ error. error.fault ≡ Fault.Write → IsTrue (W.stuck writer.new)) }
+{
+    let machine = Machine::<I, N, M, B>::new(alloc, options.journal, blanks);
+    play(alloc, machine, reader, writer)
+}

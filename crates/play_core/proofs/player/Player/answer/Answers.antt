@@ -1,0 +1,40 @@
+use Rattle.std.proofs.Common.{◌≡◌, ◌+◌, ◌++◌, ◌∷◌, [], ℕ, Some, Ok, ap, sym, subst, refl, ◌∙◌}
+use Rattle.play_core.specs.Player.{Player, HasRead}
+use Rattle.play_core.specs.Script.{Answer, command_of_line, line_comes}
+use Rattle.play_core.proofs.Reading.{read_answered, read_lacking, read_stopped}
+use Rattle.play_core.proofs.player.Player.answer.Goals as goal
+
+pub returns-in_default-clause-err : goal.returns-in_default-clause-err
+returns-in_default-clause-err g c = λ start reading text past first is none read.
+    let now = g.W.Write.contents c.args.writer.now in
+    let R : Player _ → Type 0 = λ s. HasRead g.A.Respond.may start (record s { reading = reading }) past first now in
+    let I : Player _ → Type 0 = λ s. line_comes reading s.line text ≡ Ok (record { ended = Some (command_of_line s.line c.args.command); reading = s.reading }) in
+    let begins = ap (λ (s : Player _). s.held) c.self.view_is ∙ c.requires.begins in
+    read_lacking g.A.Respond.may start _ past text first now (subst R (sym c.self.view_is) read) begins none (command_of_line c.self.inside.line c.args.command) _ (subst I (sym c.self.view_is) is)
+    g.A.Respond.asks _ c.self.inside.line refl refl c.in_default.ensures.memory
+
+pub returns-in-Err-clause-err : goal.returns-in-Err-clause-err
+returns-in-Err-clause-err g c = λ start reading text past first is none read rest.
+    let now = g.W.Write.contents c.args.writer.now in
+    let R : Player _ → Type 0 = λ s. HasRead g.A.Respond.may start (record s { reading = reading }) past first now in
+    let I : Player _ → Type 0 = λ s. line_comes reading s.line text ≡ Ok (record { ended = Some (command_of_line s.line c.args.command); reading = s.reading }) in
+    let r = subst R (sym c.self.view_is) read in
+    let begins = ap (λ (s : Player _). s.held) c.self.view_is ∙ c.requires.begins in
+    let M : Answer → Type 0 = λ a. g.A.Respond.may c.self.inside.machine (command_of_line c.self.inside.line c.args.command) (a ∷ []) c.respond.new.self in
+    read_stopped g.A.Respond.may start _ past text first now r begins none (command_of_line c.self.inside.line c.args.command) _ (subst I (sym c.self.view_is) is)
+    (c.new.result ∷ []) c.respond.new.self (g.W.Write.contents c.post.new.writer) c.in-Err.line rest (subst M (sym c.new.ensures) (c.in-Ok.ensures.ok c.self.inside.line))
+    (c.in-Err.ensures.err r.answers first r.owes)
+
+pub returns-clause-ok : goal.returns-clause-ok
+returns-clause-ok g c = λ start reading text past first is none read.
+    let now = g.W.Write.contents c.args.writer.now in
+    let after = g.W.Write.contents c.post.new.writer in
+    let R : Player _ → Type 0 = λ s. HasRead g.A.Respond.may start (record s { reading = reading }) past first now in
+    let I : Player _ → Type 0 = λ s. line_comes reading s.line text ≡ Ok (record { ended = Some (command_of_line s.line c.args.command); reading = s.reading }) in
+    let begins = ap (λ (s : Player _). s.held) c.self.view_is ∙ c.requires.begins in
+    let counted : ℕ → Player _ = λ n. record c.post.new.self { replies = n } in
+    let M : Answer → Type 0 = λ a. g.A.Respond.may c.self.inside.machine (command_of_line c.self.inside.line c.args.command) (a ∷ []) c.respond.new.self in
+    let A : Player _ → Type 0 = λ s. HasRead g.A.Respond.may start s (past ++ (text ++ 10 ∷ [])) first after in
+    subst A (ap (λ (s : Player _). record s { replies = c.self.inside.replies + 1 }) (sym c.post.ensures.same) ∙ ap counted (sym c.in_default-post.ensures.replies))
+    (read_answered g.A.Respond.may start _ past text first now (subst R (sym c.self.view_is) read) begins none (command_of_line c.self.inside.line c.args.command) _ (subst I (sym c.self.view_is) is)
+    (c.new.result ∷ []) c.respond.new.self c.post.new.self.box after (subst M (sym c.new.ensures) (c.in-Ok.ensures.ok c.self.inside.line)) c.in_default-post.ensures.ok)

@@ -1,0 +1,6 @@
+pub mod ErrorNumber
+pub mod Outbox
+pub mod Player
+pub mod Runs
+pub mod Script
+pub mod Streams

@@ -1,0 +1,141 @@
+ghost use Rattle.std.specs.Prelude.{◌≡◌, ◌+◌, ◌<◌, ◌≤◌, ◌++◌, ◌↔◌, [], ◌∷◌, IsTrue, IfOk, length, vec_len, vec_capacity};
+
+use crate::answer::{Answer, Answers};
+use std::alloc::{AllocError, Global};
+use std::marker::Model;
+use text_core::{ClientCall, Reply};
+
+/// How many client lines a block may have.
+const MOST: usize = 1000;
+
+/// A line of a client: its number, and the call, or None where an argument is out of its range.
+#[derive(Clone, Copy, Debug, PartialEq, Eq)]
+pub struct ClientLine {
+    line: u64,
+    call: Option<ClientCall>,
+}
+
+impl Model for ClientLine {
+    ghost use Rattle.play_core.specs.Script.{ClientLine as Seen};
+
+    ghost Value = { Seen };
+
+    ghost view = { λ c. record { line = c.line; call = c.call } };
+
+    ghost inverse = { λ c. record { line = c.line; call = c.call } };
+}
+
+impl ClientLine {
+    pub fn new(line: u64, call: Option<ClientCall>) -> Self
+        ensures { result ≡ record { line = line; call = call } }
+    {
+        ClientLine { line, call }
+    }
+
+    pub fn line(&self) -> u64
+        ensures { result ≡ self.now.line }
+    {
+        self.line
+    }
+
+    pub fn call(&self) -> Option<ClientCall>
+        ensures { result ≡ self.now.call }
+    {
+        self.call
+    }
+}
+
+/// A block that has begun. It is one pointer, so that whoever holds it moves no more than that.
+#[derive(Drop)]
+pub struct Block {
+    parts: Box<Parts>,
+}
+
+/// The line of a block's `during`, the number of its zone and its client lines so far, with the place for as many client lines as it
+/// may have and for their answers.
+#[derive(Drop)]
+struct Parts {
+    line: u64,
+    zone: u64,
+    clients: Vec<ClientLine>,
+    answers: Vec<Answer>,
+}
+
+impl Model for Block {
+    ghost use Rattle.std.specs.Prelude.{◌≡◌, ◌≤◌, [], vec_len, vec_capacity};
+    ghost use Rattle.play_core.specs.Script.{Block as Seen};
+
+    ghost Value = { Seen };
+
+    ghost view = { λ b. let p = b.parts.value in record { line = p.line; zone = p.zone; clients = p.clients.items } };
+
+    ghost invariant = { λ b. let p = b.parts.value in (vec_len p.clients ≤ 1000) × (1000 ≤ vec_capacity p.clients) × (p.answers.items ≡ []) × (1000 ≤ vec_capacity p.answers) };
+}
+
+impl Block {
+    /// A block that begins at this line. It takes all its memory here.
+    pub fn begin(alloc: Global, line: u64, zone: u64) -> Result<Self, AllocError>
+        ensures { IfOk result (λ block. block ≡ record { line = line; zone = zone; clients = [] }) }
+    {
+        let parts = Parts {
+            line,
+            zone,
+            clients: Vec::with_capacity(alloc, MOST)?,
+            answers: Vec::with_capacity(alloc, MOST)?,
+        };
+        Ok(Block {
+            parts: Box::new(alloc, parts)?,
+        })
+    }
+
+    pub fn line(&self) -> u64
+        ensures { result ≡ self.now.line }
+    {
+        self.parts.line
+    }
+
+    /// The number of the zone, which may be none of a zone.
+    pub fn zone(&self) -> u64
+        ensures { result ≡ self.now.zone }
+    {
+        self.parts.zone
+    }
+
+    /// Whether it has as many client lines as it may have.
+    pub fn is_full(&self) -> bool
+        ensures full { IsTrue result ↔ (1000 ≤ length self.now.clients) }
+        ensures most { length self.now.clients ≤ 1000 }
+    {
+        MOST <= self.parts.clients.len()
+    }
+
+    /// Takes one more client line.
+    pub fn push(&mut self, client: ClientLine)
+        requires { length self.old.clients < 1000 }
+        ensures { self.new ≡ record self.old { clients = self.old.clients ++ client ∷ [] } }
+    {
+        self.parts.clients.push_reserved(client);
+    }
+
+    /// One reply in place of all, to the block itself.
+    pub fn answered(self, reply: Reply) -> Answers
+        ensures { result ≡ record { line = self.line; reply = reply } ∷ [] }
+    {
+        let Parts { line, answers, .. } = Box::into_inner(self.parts);
+        Answers::new(answers, Answer::new(line, reply))
+    }
+
+    /// Its client lines, and the place for as many answers.
+    pub fn into_parts(self) -> (Vec<ClientLine>, Vec<Answer>)
+        ensures clients { result.0.items ≡ self.clients }
+        ensures answers { (result.1.items ≡ []) × (vec_len result.0 ≤ vec_capacity result.1) }
+        ensures most { vec_len result.0 ≤ 1000 }
+    {
+        let Parts {
+            clients,
+            answers,
+            ..
+        } = Box::into_inner(self.parts);
+        (clients, answers)
+    }
+}

@@ -1,0 +1,23 @@
+ghost use Rattle.std.specs.Prelude.{ℕ, ◌↔◌, Bool, IsErr, IsTrue};
+ghost use Rattle.std.specs.Io.{ReadsAtMost};
+ghost use Rattle.std.specs.Io.KnownBytes.{ReadConsumes};
+ghost use Rattle.play_core.specs.Streams.{Counts};
+
+use std::io;
+use std::io::Read;
+
+/// A reader that notes of each read whether it failed.
+pub trait Input: Read {
+    /// How many of the reads that were noted gave bytes, at most `u64::MAX`.
+    ghost reads: { Self → ℕ };
+
+    /// Whether the last read that was noted failed.
+    ghost failed: { Self → Bool };
+
+    /// Reads once, and notes it.
+    fn read_noted(&mut self, buffer: &mut [u8]) -> io::Result<usize>
+        ensures bound { ReadsAtMost result buffer.new }
+        ensures bytes { ReadConsumes (Self.remaining self.old) (Self.remaining self.new) result buffer.new }
+        ensures reads { Counts result (reads self.old) (reads self.new) }
+        ensures failed { IsTrue (failed self.new) ↔ IsErr result };
+}

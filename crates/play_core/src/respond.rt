@@ -1,0 +1,34 @@
+ghost use Rattle.std.specs.Prelude.{ℕ, List, [], ◌∷◌, IfOk, OnErr};
+ghost use Rattle.text_core.specs.declared.command.Command.{Command};
+ghost use Rattle.play_core.specs.Script.{Answer, Numbered, command_in_block, command_of_line};
+
+use crate::answer::Answers;
+use crate::block::Block;
+use std::alloc::AllocError;
+use text_core::{Command, Reply};
+
+/// What answers the commands of a script.
+pub trait Respond {
+    /// Whether these may be the answers to a command and its client lines, and what is there then.
+    ghost may: { Self → Numbered → List Answer → Self → Type 0 };
+
+    /// Whether a command asks for memory.
+    ghost asks: { Self → Command → Type 0 };
+
+    /// Whether it can be asked.
+    ghost ready: { Self → Type 0 };
+
+    /// Answers a command of one line, whatever its number. It fails only for want of memory.
+    fn respond(&mut self, command: Command) -> Result<Reply, AllocError>
+        requires ready { ready self.old }
+        ensures ok { IfOk result (λ reply. (line : ℕ) → may self.old (command_of_line line command) (record { line = line; reply = reply } ∷ []) self.new) }
+        ensures memory { OnErr result (asks self.old command) }
+        ensures still { ready self.new };
+
+    /// Answers a block. It fails only for want of memory.
+    fn respond_to_block(&mut self, block: Block) -> Result<Answers, AllocError>
+        requires ready { ready self.old }
+        ensures ok { IfOk result (λ answers. may self.old (command_in_block block) answers self.new) }
+        ensures memory { OnErr result (asks self.old (command_in_block block).command) }
+        ensures still { ready self.new };
+}
