@@ -23,5 +23,5 @@ abbrev pub page_now : ZoneState → ℕ → Page
 page_now z page = record { zone = z.number; number = page; flags = flags_of z page; words = words_now z page }
 
 -- a page in use is somewhere else now
-abbrev pub settled : ZoneState → Record → ℕ → Placement → ZoneState
-settled z entry page placement = record (noted z entry) { placement = map.insert z.placement page placement }
+abbrev pub relocated : ZoneState → Record → ℕ → Placement → ZoneState
+relocated z entry page placement = record (noted z entry) { placement = map.insert z.placement page placement }

@@ -13,7 +13,7 @@ use Rattle.state_core.specs.declared.placement.Placement.{Placement}
 use Rattle.state_core.specs.declared.placement.Placement.TheVariants.{At, Moving}
 use Rattle.state_core.specs.Lawful.{is_under}
 use Rattle.state_core.specs.ZoneState.{ZoneState, is_free}
-use Rattle.state_core.specs.Carrying.{flags_of, words_now, settled}
+use Rattle.state_core.specs.Carrying.{flags_of, words_now, relocated}
 
 -- whether a page of this zone is on its way under its serial
 abbrev pub is_own : ZoneState → OnItsWay → Bool
@@ -39,11 +39,11 @@ ended_as z page = if nat_eq (pins z.records page) 0 then ended.Moved else ended.
 
 -- the page stands in its new frame
 abbrev pub moved_to_target : ZoneState → ℕ → ℕ → ZoneState
-moved_to_target z serial page = settled z (WasMoved serial) page (At (target_of (map.get z.placement page)))
+moved_to_target z serial page = relocated z (WasMoved serial) page (At (target_of (map.get z.placement page)))
 
 -- the page stands in its old frame again
 abbrev pub put_back_to_source : ZoneState → ℕ → ℕ → Cause → ZoneState
-put_back_to_source z serial page cause = settled z (WasPutBack serial cause) page (At (source_of (map.get z.placement page)))
+put_back_to_source z serial page cause = relocated z (WasPutBack serial cause) page (At (source_of (map.get z.placement page)))
 
 abbrev pub committed : ZoneState → ℕ → ℕ → ZoneState
 committed z serial page =
