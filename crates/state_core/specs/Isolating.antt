@@ -25,10 +25,12 @@ isolated_next z pair =
     let serial = isolated z.records in
     record (relocated z (Isolate serial pair.page) pair.page (Moving serial pair.source pair.target)) { migrate = pair.source + 1; free = pair.target }
 
+-- the answer: the page of the pair, and where there is none that the scanners met
 abbrev pub next_answer : ZoneState → Option Pair → Next
 next_answer z None = next.Met
 next_answer z (Some pair) = next.Page (record { serial = isolated z.records; page = page_now z pair.page })
 
+-- and the zone then
 abbrev pub next_state : ZoneState → Option Pair → ZoneState
 next_state z None = z
 next_state z (Some pair) = isolated_next z pair
