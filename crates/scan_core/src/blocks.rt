@@ -114,7 +114,7 @@ fn is_unmarked(frames: &[u32; 8], marked: &[bool; 8], block: usize) -> bool
     !marked[block] && frames[block] > 0
 }
 
-/// How many pageblocks are free as a whole: what the counts of the list say.
+/// How many pageblocks of 4,096 frames at most are free as a whole: what the counts of the list say.
 pub fn whole_blocks(frames: &[FrameState]) -> u32
     requires { length frames.now ≤ 4096 }
     ensures { result ≡ count_below (is_whole frames.now) (blocks_of frames.now) }
@@ -122,7 +122,7 @@ pub fn whole_blocks(frames: &[FrameState]) -> u32
     BlockCounts::of(frames).whole()
 }
 
-/// The lowest pageblock that is free as a whole: what the counts of the list say.
+/// The lowest pageblock of 4,096 frames at most that is free as a whole: what the counts of the list say.
 pub fn first_whole(frames: &[FrameState]) -> Option<BlockNo>
     requires { length frames.now ≤ 4096 }
     ensures { result ≡ lowest (is_whole frames.now) (blocks_of frames.now) }

@@ -15,7 +15,8 @@ use state_core::ZoneError;
 use std::sync::ledger::Ledger;
 
 impl<I: Ledger, N: Ledger, M: Ledger, B: Ledger> World<I, N, M, B> {
-    /// Lets one more address, the alias, name the page that an address names.
+    /// Lets one more address, the alias, name the page that an address names. Its refusals are those of `Zone::share`, and so
+    /// below.
     pub fn share(
         &mut self,
         client: ClientNo,
@@ -92,7 +93,7 @@ impl<I: Ledger, N: Ledger, M: Ledger, B: Ledger> World<I, N, M, B> {
         self.zone.take_huge()
     }
 
-    /// Takes back a pageblock that was handed out.
+    /// Takes back a pageblock that was handed out as one block.
     pub fn give_huge(&mut self, block: BlockNo) -> Result<(), ZoneError>
         ensures refused { result_err result ≡ give_order_refusal self.old.zone (512 * block) 9 }
         ensures err { OnErr result (self.new ≡ self.old) }
