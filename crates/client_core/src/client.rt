@@ -24,9 +24,9 @@ use zone_core::ZoneError;
 
 /// Makes calls of a shared zone under one number, and keeps the record of each that was accepted.
 ///
-/// Each call first takes the place for its receipt, so `Memory` comes before any refusal of the zone, which is named with each call.
-/// Where a call isn't accepted the client is as it was. A call that finds its page
-/// on its way waits until the move has ended; `pin` and `unpin` never wait.
+/// Each call first takes the place for its receipt, so `Memory` comes before any refusal of the zone; these stand with each call.
+/// Where a call isn't accepted the client is as it was. A call that finds its page on its way waits until the move has ended; `pin`
+/// and `unpin` never wait.
 #[derive(Drop)]
 pub struct Client {
     number: ClientNo,

@@ -33,7 +33,7 @@ impl Order {
         }
     }
 
-    /// The order of a pageblock. It is 9.
+    /// The order of a pageblock, 9.
     pub fn of_pageblock() -> Self
         ensures { result ≡ 9 }
     {
@@ -49,7 +49,7 @@ impl Order {
         u32::from(self.number)
     }
 
-    /// How many frames a block of this order has. 8 to 512.
+    /// How many frames a block of this order has, 8 to 512.
     pub fn frames(self) -> u32
         ensures value { result ≡ 2 ^ self }
         ensures low { 3 ≤ self }

@@ -86,7 +86,7 @@ impl<K: Shape, I: Ledger, M: Ledger, B: Ledger> SharedZone<K, I, M, B> {
         self.room.into_inner().zone
     }
 
-    /// How many pageblocks the zone has, 1 to 8. Its clause says no more than that lists of so many fit.
+    /// How many pageblocks the zone has, 1 to 8. Its clause says only that they are 8 at most.
     pub fn blocks(&self) -> u32
         ensures { result ≤ 8 }
     {

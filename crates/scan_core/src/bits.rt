@@ -37,7 +37,7 @@ impl Bits {
         }
     }
 
-    /// The 64 bits of a word, 0 to 63.
+    /// The 64 bits of a word. Words are numbered from 0 to 63.
     pub fn get(&self, word: u32) -> u64
         requires { word < 64 }
         ensures { result ≡ slice_index self.now word }

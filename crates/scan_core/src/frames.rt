@@ -59,7 +59,7 @@ impl Frames {
         })
     }
 
-    /// How many frames there are. 512 of each pageblock.
+    /// How many frames there are, 512 of each pageblock.
     pub fn len(&self) -> u32
         ensures len { result ≡ length self.now.states }
         ensures whole { result ≡ 512 * blocks_of self.now.states }

@@ -21,8 +21,8 @@ impl Model for Isolated {
 }
 
 impl Isolated {
-    /// A page under a serial. A zone takes it only where a page with its number is on its way there under this serial; any
-    /// other zone hands it back as a `Stranger`.
+    /// A page under a serial. A zone takes it only where a page with its number is on its way there under this serial, and
+    /// else hands it back as a `Stranger`.
     pub fn new(serial: Serial, page: Page) -> Self
         ensures serial { result.serial ≡ serial }
         ensures page { result.page ≡ page }

@@ -34,7 +34,7 @@ impl Words {
         Ok(Words { rows })
     }
 
-    /// The value of a word of a frame. The frame has to be one of these frames, at each call.
+    /// The value of a word of a frame. The frame has to be one of those that there are, here and in each call below.
     pub fn load(&self, frame: FrameNo, word: WordNo) -> u64
         requires { frame < length self.now }
         ensures value { result ≡ word_of self.now frame word }

@@ -35,9 +35,9 @@ use word_core::{Copied, Isolated};
 /// A zone of 1 to 8 pageblocks. Its type parameters name its opening: the ledgers of the pages that are isolated, moved and
 /// put back. After `open` no call takes memory.
 ///
-/// A call that leaves a record is refused as JournalFull where its journal has no more places left than there are pages on their
-/// way, since each of these needs one for its end. What a call can be refused as stands with it, in the order of the tests. A call
-/// that is refused leaves the zone as it was.
+/// What a call can be refused as stands with it, in the order of the tests. A call that is refused leaves the zone as it was.
+/// JournalFull means that the journal has no more places left than there are pages on their way, since each of these needs one
+/// for its end.
 #[derive(Drop)]
 pub struct Zone<I: Ledger, M: Ledger, B: Ledger> {
     pub(crate) plain: PlainZone,

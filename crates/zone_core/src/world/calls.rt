@@ -1,4 +1,4 @@
-//! The other calls of a zone that append a record, on the zone of a world.
+//! The other calls of a zone that append a record, on the zone of a world. Each is refused as the zone's own is.
 
 ghost use Rattle.std.specs.Prelude.{◌≡◌, ◌*◌, Some, IfOk, OnOk, OnErr};
 ghost use Rattle.std.specs.Result.{result_err};
@@ -15,8 +15,7 @@ use state_core::ZoneError;
 use std::sync::ledger::Ledger;
 
 impl<I: Ledger, N: Ledger, M: Ledger, B: Ledger> World<I, N, M, B> {
-    /// Lets one more address, the alias, name the page that an address names. Its refusals are those of `Zone::share`, and so
-    /// below.
+    /// Lets one more address, the alias, name the page that an address names.
     pub fn share(
         &mut self,
         client: ClientNo,
