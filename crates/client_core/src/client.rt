@@ -24,8 +24,9 @@ use zone_core::ZoneError;
 
 /// Makes calls of a shared zone under one number, and keeps the record of each that was accepted.
 ///
-/// Each call first takes the place for its receipt, so `Memory` comes before any refusal of the zone. A call that finds its page
-/// on its way waits until the move has ended; `pin` and `unpin` never wait.
+/// Each call first takes the place for its receipt, so `Memory` comes before any refusal of the zone; these stand with each call.
+/// Where a call isn't accepted the client is as it was. A call that finds its page on its way waits until the move has ended; `pin`
+/// and `unpin` never wait.
 #[derive(Drop)]
 pub struct Client {
     number: ClientNo,
@@ -51,6 +52,7 @@ impl Client {
         }
     }
 
+    /// Its number.
     pub fn number(&self) -> ClientNo
         ensures { result ≡ self.now.number }
     {
@@ -74,7 +76,10 @@ impl Client {
         &self.receipts
     }
 
-    /// Binds an address to a fresh page in the lowest free frame, which is answered. The number of the page stands in the receipt.
+    /// Binds an address to a fresh page in the lowest free frame, which is answered. The number of the page stands in the
+    /// receipt. The flags must not have DIRTY.
+    ///
+    /// The zone refuses as JournalFull, Occupied or NoFrame.
     pub fn map<K: Shape, I: Ledger, M: Ledger, B: Ledger, R: Wait>(
         &mut self,
         rt: &R,
@@ -95,7 +100,10 @@ impl Client {
         Ok(frame)
     }
 
-    /// Binds an address to a fresh page in the frame that is given. The number of the page stands in the receipt.
+    /// Binds an address to a fresh page in the frame that is given. The number of the page stands in the receipt. The flags
+    /// must not have DIRTY.
+    ///
+    /// The zone refuses as Range, JournalFull, Occupied or NoFrame.
     pub fn map_at<K: Shape, I: Ledger, M: Ledger, B: Ledger, R: Wait>(
         &mut self,
         rt: &R,
@@ -118,6 +126,8 @@ impl Client {
     }
 
     /// Lets an alias name the page of an address too.
+    ///
+    /// The zone refuses as JournalFull, Unmapped, Occupied or ShareFull.
     pub fn share<K: Shape, I: Ledger, M: Ledger, B: Ledger, R: Wait>(
         &mut self,
         rt: &R,
@@ -147,6 +157,8 @@ impl Client {
     }
 
     /// Lets an address name no page any more.
+    ///
+    /// The zone refuses as JournalFull, Unmapped or Pinned.
     pub fn unmap<K: Shape, I: Ledger, M: Ledger, B: Ledger, R: Wait>(
         &mut self,
         rt: &R,
@@ -173,6 +185,8 @@ impl Client {
     }
 
     /// Reads a word of the page that an address names.
+    ///
+    /// The zone refuses as JournalFull or Unmapped.
     pub fn load<K: Shape, I: Ledger, M: Ledger, B: Ledger, R: Wait>(
         &mut self,
         rt: &R,
@@ -203,6 +217,8 @@ impl Client {
     }
 
     /// Writes a word of the page that an address names.
+    ///
+    /// The zone refuses as JournalFull or Unmapped.
     pub fn store<K: Shape, I: Ledger, M: Ledger, B: Ledger, R: Wait>(
         &mut self,
         rt: &R,
@@ -235,6 +251,8 @@ impl Client {
     }
 
     /// Pins the page that an address names, also while it is on its way.
+    ///
+    /// The zone refuses as JournalFull, Unmapped or PinFull.
     pub fn pin<K: Shape, I: Ledger, M: Ledger, B: Ledger, R: Wait>(
         &mut self,
         rt: &R,
@@ -260,6 +278,8 @@ impl Client {
     }
 
     /// Takes a pin off the page that an address names, also while it is on its way.
+    ///
+    /// The zone refuses as JournalFull, Unmapped or NotPinned.
     pub fn unpin<K: Shape, I: Ledger, M: Ledger, B: Ledger, R: Wait>(
         &mut self,
         rt: &R,

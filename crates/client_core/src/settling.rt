@@ -19,7 +19,7 @@ pub struct Mismatch {
 }
 
 impl Mismatch {
-    /// Its number as an error.
+    /// Its number as an error, 35.
     pub fn number(&self) -> u16
         ensures { result ≡ 35 }
     {

@@ -12,6 +12,7 @@ abbrev pub highest : (ℕ → Bool) → ℕ → Option ℕ
 highest p zero = None
 highest p (suc n) = if p n then Some n else highest p n
 
+-- 1 where something is so, and 0 where not
 abbrev pub one_if : Bool → ℕ
 one_if true = 1
 one_if false = 0

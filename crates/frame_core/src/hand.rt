@@ -19,7 +19,7 @@ impl Model for HandNo {
 }
 
 impl HandNo {
-    /// None where the number is out of its range.
+    /// The number as one of 1 to 4. None where it is out of this range.
     pub fn new(number: u32) -> Option<Self>
         ensures valid { IsSome result ↔ ((0 < number) × (number ≤ 4)) }
         ensures value { IfSome result (λ n. n ≡ number) }
@@ -31,6 +31,7 @@ impl HandNo {
         }
     }
 
+    /// The number, 1 to 4.
     pub fn get(self) -> u32
         ensures value { result ≡ self }
         ensures low { 0 < result }

@@ -19,7 +19,7 @@ impl Model for Order {
 }
 
 impl Order {
-    /// None where the number is out of its range.
+    /// The number as one of 3 to 9. None where it is out of this range.
     pub fn new(number: u32) -> Option<Self>
         ensures valid { IsSome result ↔ ((3 ≤ number) × (number ≤ 9)) }
         ensures value { IfSome result (λ n. n ≡ number) }
@@ -33,13 +33,14 @@ impl Order {
         }
     }
 
-    /// The order of a pageblock.
+    /// The order of a pageblock, 9.
     pub fn of_pageblock() -> Self
         ensures { result ≡ 9 }
     {
         Order { number: 9 }
     }
 
+    /// The number, 3 to 9.
     pub fn get(self) -> u32
         ensures value { result ≡ self }
         ensures low { 3 ≤ result }
@@ -48,7 +49,7 @@ impl Order {
         u32::from(self.number)
     }
 
-    /// How many frames a block of this order has.
+    /// How many frames a block of this order has, 8 to 512.
     pub fn frames(self) -> u32
         ensures value { result ≡ 2 ^ self }
         ensures low { 3 ≤ self }

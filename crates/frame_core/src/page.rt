@@ -21,7 +21,7 @@ impl Model for WordNo {
 }
 
 impl WordNo {
-    /// None where the number is out of its range.
+    /// The number as one of 0 to 7. None where it is out of this range.
     pub fn new(number: u32) -> Option<Self>
         ensures valid { IsSome result ↔ (number < 8) }
         ensures value { IfSome result (λ n. n ≡ number) }
@@ -33,6 +33,7 @@ impl WordNo {
         }
     }
 
+    /// The number, 0 to 7.
     pub fn get(self) -> u32
         ensures value { result ≡ self }
         ensures range { result < 8 }
@@ -60,7 +61,7 @@ impl Model for PageNo {
 }
 
 impl PageNo {
-    /// None where the number is out of its range.
+    /// The number as one of 0 to 4095. None where it is out of this range.
     pub fn new(number: u32) -> Option<Self>
         ensures valid { IsSome result ↔ (number < 4096) }
         ensures value { IfSome result (λ n. n ≡ number) }
@@ -74,6 +75,7 @@ impl PageNo {
         }
     }
 
+    /// The number, 0 to 4095.
     pub fn get(self) -> u32
         ensures value { result ≡ self }
         ensures range { result < 4096 }
@@ -101,7 +103,7 @@ impl Model for ClientNo {
 }
 
 impl ClientNo {
-    /// None where the number is out of its range.
+    /// The number as one of 0 to 7. None where it is out of this range.
     pub fn new(number: u32) -> Option<Self>
         ensures valid { IsSome result ↔ (number < 8) }
         ensures value { IfSome result (λ n. n ≡ number) }
@@ -115,6 +117,7 @@ impl ClientNo {
         }
     }
 
+    /// The number, 0 to 7.
     pub fn get(self) -> u32
         ensures value { result ≡ self }
         ensures range { result < 8 }

@@ -21,7 +21,7 @@ impl Model for ZoneNo {
 }
 
 impl ZoneNo {
-    /// None where the number is out of its range.
+    /// The number as one of 0 to 3. None where it is out of this range.
     pub fn new(number: u32) -> Option<Self>
         ensures valid { IsSome result ↔ (number < 4) }
         ensures value { IfSome result (λ n. n ≡ number) }
@@ -33,6 +33,7 @@ impl ZoneNo {
         }
     }
 
+    /// The number, 0 to 3.
     pub fn get(self) -> u32
         ensures value { result ≡ self }
         ensures range { result < 4 }
@@ -60,7 +61,7 @@ impl Model for FrameNo {
 }
 
 impl FrameNo {
-    /// None where the number is out of its range.
+    /// The number as one of 0 to 4095. None where it is out of this range.
     pub fn new(number: u32) -> Option<Self>
         ensures valid { IsSome result ↔ (number < 4096) }
         ensures value { IfSome result (λ n. n ≡ number) }
@@ -74,6 +75,7 @@ impl FrameNo {
         }
     }
 
+    /// The number, 0 to 4095.
     pub fn get(self) -> u32
         ensures value { result ≡ self }
         ensures range { result < 4096 }
@@ -101,7 +103,7 @@ impl Model for BlockNo {
 }
 
 impl BlockNo {
-    /// None where the number is out of its range.
+    /// The number as one of 0 to 7. None where it is out of this range.
     pub fn new(number: u32) -> Option<Self>
         ensures valid { IsSome result ↔ (number < 8) }
         ensures value { IfSome result (λ n. n ≡ number) }
@@ -115,6 +117,7 @@ impl BlockNo {
         }
     }
 
+    /// The number, 0 to 7.
     pub fn get(self) -> u32
         ensures value { result ≡ self }
         ensures range { result < 8 }
@@ -142,7 +145,7 @@ impl Model for SpaceNo {
 }
 
 impl SpaceNo {
-    /// None where the number is out of its range.
+    /// The number as one of 0 to 7. None where it is out of this range.
     pub fn new(number: u32) -> Option<Self>
         ensures valid { IsSome result ↔ (number < 8) }
         ensures value { IfSome result (λ n. n ≡ number) }
@@ -156,6 +159,7 @@ impl SpaceNo {
         }
     }
 
+    /// The number, 0 to 7.
     pub fn get(self) -> u32
         ensures value { result ≡ self }
         ensures range { result < 8 }
@@ -183,7 +187,7 @@ impl Model for VPage {
 }
 
 impl VPage {
-    /// None where the number is out of its range.
+    /// The number as one of 0 to 4095. None where it is out of this range.
     pub fn new(number: u32) -> Option<Self>
         ensures valid { IsSome result ↔ (number < 4096) }
         ensures value { IfSome result (λ n. n ≡ number) }
@@ -197,6 +201,7 @@ impl VPage {
         }
     }
 
+    /// The number, 0 to 4095.
     pub fn get(self) -> u32
         ensures value { result ≡ self }
         ensures range { result < 4096 }

@@ -6,7 +6,7 @@ pub type Serial = u32;
 /// What a frame is used for.
 #[derive(Clone, Copy, Debug, PartialEq, Eq)]
 pub enum FrameState {
-    /// Nothing: it can be handed out.
+    /// Nothing: a page or a block can have it.
     Free,
     /// A page that isn't on its way.
     Holds(PageNo),

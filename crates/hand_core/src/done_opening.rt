@@ -8,6 +8,8 @@ use crossbeam_channel::bounded_with;
 use std::alloc::Global;
 
 /// Opens a queue for the copies of so many senders, with room for `cap` copies in it. No later call takes memory.
+///
+/// Refused as Range where it isn't 1 to 4 senders and a `cap` of 1 to 64, else as Memory where there is none.
 pub fn done_open<R>(
     _rt: &R,
     alloc: Global,

@@ -33,7 +33,7 @@ impl Model for DoneSender {
 impl DoneSender {
     ghost use Rattle.std.specs.Prelude.{◌≡◌, ◌++◌, ◌∷◌, [], true, false, OnOk, OnErr, IfErr};
 
-    /// Puts the copy at the back. Where the taker is gone it hands the copy back.
+    /// Puts the copy at the back. The sender must not be closed. Where the taker is gone it hands the copy back.
     pub fn send<R: Wait>(&mut self, rt: &R, copy: Copied) -> Result<(), Copied>
         requires { self.old.closed ≡ false }
         ensures ok { OnOk result (self.new ≡ record self.old { sent = self.old.sent ++ copy ∷ [] }) }
@@ -55,7 +55,7 @@ impl DoneSender {
         Err(copy)
     }
 
-    /// Puts the sender's end mark. After an `Err` too nothing more can be sent.
+    /// Puts the sender's end mark, once. After an `Err` too nothing more can be sent.
     pub fn close<R: Wait>(&mut self, rt: &R) -> Result<(), Gone>
         requires { self.old.closed ≡ false }
         ensures ok { OnOk result (self.new ≡ record self.old { closed = true; marked = true }) }

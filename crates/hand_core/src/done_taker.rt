@@ -44,7 +44,8 @@ impl DoneTaker {
     ghost use Rattle.std.specs.Prelude.{◌≡◌, ◌++◌, ◌∷◌, [], false, IfOk, OnErr};
     ghost use Rattle.hand_core.specs.CopyEnds.{copies_in, has_ended, copy_answered, IsEndInTime};
 
-    /// Takes the next copy, and waits for it. The end is answered once the mark of every sender came off.
+    /// Takes the next copy, and waits for it. The end is answered once the mark of every sender came off. Behind it nothing
+    /// more is taken.
     pub fn take<R: Wait>(&mut self, rt: &R) -> Came
         requires { has_ended self.old ≡ false }
         ensures copies { copies_in self.new.came ≡ copies_in self.old.came ++ copy_answered result }

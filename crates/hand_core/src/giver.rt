@@ -38,7 +38,8 @@ impl Model for Giver {
 impl Giver {
     ghost use Rattle.std.specs.Prelude.{◌≡◌, ◌+◌, ◌<◌, ◌++◌, ◌∷◌, [], true, false, length, OnOk, OnErr, IfErr};
 
-    /// Puts the page at the back. Where every taker is gone it hands the page back.
+    /// Puts the page at the back. Its serial has to be the next one, and the giver not closed. Where every taker is gone it
+    /// hands the page back.
     pub fn give<R: Wait>(&mut self, rt: &R, page: Isolated) -> Result<(), Isolated>
         requires open { self.old.closed ≡ false }
         requires next { page.serial ≡ self.old.base + length self.old.given }
@@ -58,7 +59,7 @@ impl Giver {
         Err(page)
     }
 
-    /// Puts an end mark for each taker. After an `Err` too nothing more can be given.
+    /// Puts an end mark for each taker, once. After an `Err` too nothing more can be given.
     pub fn close<R: Wait>(&mut self, rt: &R) -> Result<(), Gone>
         requires { self.old.closed ≡ false }
         ensures ok { OnOk result (self.new.marks ≡ self.old.takers) }

@@ -11,7 +11,10 @@ use std::alloc::Global;
 /// All takers of a hand-over.
 pub type Takers = Vec<Taker>;
 
-/// Opens a hand-over whose first page has the serial `base`, with room for `cap` pages in its queue. No later call takes memory.
+/// Opens a hand-over whose first page has the serial `base`, with room for `cap` pages in its queue. No later call takes
+/// memory.
+///
+/// Refused as Range where it isn't 1 to 4 takers and a `cap` of 1 to 64, else as Memory where there is none.
 pub fn open<R>(
     _rt: &R,
     alloc: Global,

@@ -17,7 +17,8 @@ pub struct Settled {
     pub count: u64,
 }
 
-/// Answers Ok exactly where the giver put all its marks and every taker of its hand-over is there and took its mark.
+/// Answers Ok exactly where the giver put all its marks and every taker of its hand-over is there and took its mark; else
+/// both come back as they were. The takers have to be of the giver's hand-over.
 pub fn settle(giver: Giver, takers: Takers) -> Result<Settled, (Giver, Takers)>
     requires { All (λ t. t.hand_over ≡ giver.hand_over) takers.items }
     ensures exact { IsOk result ↔ ((giver.marks ≡ giver.takers) × (vec_len takers ≡ giver.takers) × (have_ended takers.items ≡ true)) }

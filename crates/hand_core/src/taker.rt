@@ -41,7 +41,7 @@ impl Taker {
     ghost use Rattle.word_core.specs.Serials.{IsRising};
     ghost use Rattle.hand_core.specs.PageEnds.{after_answer};
 
-    /// Takes what stands at the front, and waits for it.
+    /// Takes what stands at the front, and waits for it. Behind an end mark it takes nothing more.
     pub fn take<R: Wait>(&mut self, rt: &R) -> Took
         requires { self.old.ended ≡ false }
         ensures took { self.new ≡ after_answer self.old result }

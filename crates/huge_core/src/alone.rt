@@ -14,7 +14,8 @@ use std::sync::ledger::Ledger;
 use std::thread::Threads;
 use zone_core::{Seats, Zone};
 
-/// Shares a zone for one reservation, which nobody else has meanwhile, and hands it back with what was reserved.
+/// Shares a zone for one reservation, which nobody else has meanwhile, and hands it back with what was reserved. It is asked
+/// for 1 to 8 blocks.
 pub fn reserve_alone<
     I: Ledger + Send + Sync,
     N: Ledger,

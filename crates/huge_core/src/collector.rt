@@ -22,7 +22,7 @@ pub struct Collector {
     pub cap: usize,
     /// How many rounds it may run in one call, 0 to 16.
     pub rounds: u32,
-    /// The order of its blocks.
+    /// The order of its blocks, 3 to 9.
     pub order: Order,
     ghost copiers_in_range: { (0 < copiers) × (copiers ≤ 4) },
     ghost cap_in_range: { (0 < cap) × (cap ≤ 64) },

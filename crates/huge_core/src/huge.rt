@@ -78,6 +78,7 @@ impl Huge {
         self.frame
     }
 
+    /// Its order, 3 to 9: it has 2^order frames.
     pub fn order(&self) -> Order
         ensures { result ≡ self.now.order }
     {
@@ -100,7 +101,7 @@ impl Huge {
         (self.frame, self.order)
     }
 
-    /// The pageblock that it lies in.
+    /// The pageblock that it lies in. `Zone::give_huge` takes it back by this number where its order is 9.
     pub fn into_block(self) -> BlockNo
         ensures { result ≡ self.frame / 512 }
     {

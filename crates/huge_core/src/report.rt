@@ -21,7 +21,7 @@ pub enum Stop {
 #[must_use]
 #[derive(Drop, Debug)]
 pub struct Report {
-    /// Each is Some.
+    /// The blocks that it got, in that order, 8 at most. Each is Some.
     pub got: ArrayVec<Option<Huge>, 8>,
     /// How many rounds it ran. One that was refused isn't counted.
     pub rounds: u32,

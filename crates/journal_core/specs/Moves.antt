@@ -44,6 +44,7 @@ out (Moved serial ∷ older) = without serial (out older)
 out (Back serial cause ∷ older) = without serial (out older)
 out (_ ∷ older) = out older
 
+-- whether a serial is one of them
 abbrev pub is_out : List Record → ℕ → Bool
 is_out records serial = list_any (nat_eq serial) (out records)
 

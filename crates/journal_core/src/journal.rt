@@ -38,6 +38,7 @@ impl Journal {
         self.records.len()
     }
 
+    /// Whether it has no record.
     pub fn is_empty(&self) -> bool
         ensures { IsTrue result ↔ (self.now.records ≡ []) }
     {
@@ -51,21 +52,21 @@ impl Journal {
         self.places - self.records.len() as u32
     }
 
-    /// The record at a place, the oldest at 0.
+    /// The record at a place, the oldest at 0. None from the number of records on.
     pub fn get(&self, index: usize) -> Option<&Record>
         ensures { option_copied result ≡ slice_get (reverse self.now.records) index }
     {
         self.records.get(index)
     }
 
-    /// The newest record.
+    /// The newest record, if there is one.
     pub fn last(&self) -> Option<&Record>
         ensures { option_copied result ≡ slice_get self.now.records 0 }
     {
         self.records.last()
     }
 
-    /// Appends a record, and takes no memory.
+    /// Appends a record, and takes no memory. There has to be a place left.
     pub fn push(&mut self, entry: Record)
         requires { 0 < self.old.room }
         ensures records { self.new.records ≡ entry ∷ self.old.records }

@@ -31,7 +31,7 @@ use Rattle.state_core.proofs.Entries.{contains_insert_same, contains_insert_othe
 use Rattle.plain_core.specs.Notes.{placement_of, is_unmovable_of, says_unmovable}
 use Rattle.plain_core.specs.Sound.{state_of, IsSound}
 use Rattle.state_core.specs.Mapping.{placed}
-use Rattle.plain_core.specs.Tabulated.{gathered}
+use Rattle.scan_core.specs.NumberSet.{gathered}
 use Rattle.plain_core.proofs.LoadsAndStores.{words_set_same, words_set_other}
 use Rattle.state_core.proofs.Facts.{chosen, taken, skipped}
 use Rattle.plain_core.proofs.SearchesAndCounts.{get_placements}

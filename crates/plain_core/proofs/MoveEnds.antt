@@ -16,7 +16,7 @@ use Rattle.journal_core.specs.Moves.{out}
 use Rattle.state_core.specs.declared.placement.Placement.TheVariants.{At, Moving}
 use Rattle.plain_core.specs.Fits.{state_by, FramesFit, WordsFit}
 use Rattle.state_core.specs.Lawful.{IsLawful}
-use Rattle.state_core.specs.Carrying.{settled}
+use Rattle.state_core.specs.Carrying.{relocated}
 use Rattle.state_core.specs.Ending.{IsSettled}
 use Rattle.state_core.specs.ZoneState.{ZoneState, frame_count}
 use Rattle.plain_core.proofs.LoadsAndStores.{words_set_same, words_set_other}
@@ -128,7 +128,7 @@ module _ (v : ZoneState) (page serial source target : ℕ) (law : IsLawful v) (a
       ap is_way_state (fit.of_page page target (Target serial) (ap (λ o. state_by page o target) at ∙ ap (λ b. if b then Some (Source serial) else if nat_eq target target then Some (Target serial) else None) (ne_eqb target source (λ e. apart (sym e))) ∙ chosen target _ _))
 
   -- the page afterwards
-  pub moved_settled : IsSettled v (settled v (Moved serial) page (At target)) page target source
+  pub moved_settled : IsSettled v (relocated v (Moved serial) page (At target)) page target source
   moved_settled = record {
     here = at_page v page (Moving serial source target) (At target) (can_move_on v page serial source target law at) (Moved serial);
     freed = moved_source v page serial source target law at (Moved serial);
@@ -138,7 +138,7 @@ module _ (v : ZoneState) (page serial source target : ℕ) (law : IsLawful v) (a
     names = λ address. refl;
   }
 
-  pub back_settled : (cause : Cause) → IsSettled v (settled v (Back serial cause) page (At source)) page source target
+  pub back_settled : (cause : Cause) → IsSettled v (relocated v (Back serial cause) page (At source)) page source target
   back_settled cause = record {
     here = at_page v page (Moving serial source target) (At source) (can_go_back v page serial source target law at) (Back serial cause);
     freed = back_target v page serial source target law at (Back serial cause);

@@ -10,7 +10,8 @@ use Rattle.frame_core.proofs.Lists.{slice_get_set_same, slice_get_set_other}
 use Rattle.state_core.specs.declared.placement.Placement.{Placement}
 use Rattle.plain_core.specs.declared.note.Note.{Note}
 use Rattle.plain_core.specs.Notes.{placement_of, is_unmovable_of, says_unmovable}
-use Rattle.plain_core.specs.Tabulated.{tabulated, gathered}
+use Rattle.scan_core.specs.NumberSet.{gathered}
+use Rattle.plain_core.specs.Tabulated.{tabulated}
 use Rattle.plain_core.proofs.SearchesAndCounts.{placement_past}
 use Rattle.plain_core.proofs.InUse.{placement_here, placement_there}
 use Rattle.plain_core.proofs.Tabulating.{tabulated_insert, tabulated_remove, tabulated_same, gathered_insert, gathered_remove, gathered_same}

@@ -23,7 +23,8 @@ use Rattle.plain_core.specs.Sound.{state_of, IsSound}
 use Rattle.scan_core.specs.Frames.{Frames, all_free, true_at}
 use Rattle.plain_core.specs.HandedOut.{order_of}
 use Rattle.plain_core.specs.Notes.{unused_note, placement_of, is_unmovable_of}
-use Rattle.plain_core.specs.Tabulated.{tabulated, gathered}
+use Rattle.scan_core.specs.NumberSet.{gathered}
+use Rattle.plain_core.specs.Tabulated.{tabulated}
 use Rattle.plain_core.proofs.Tabulating.{tabulated_none, gathered_none}
 use Rattle.state_core.proofs.Opened.{unheld, opened_lawful}
 

@@ -25,13 +25,14 @@ use Rattle.std.specs.FinSet as set
 use Rattle.state_core.specs.Pairs.{can_move}
 use Rattle.plain_core.specs.Notes.{placement_of, is_unmovable_of, says_unmovable}
 use Rattle.state_core.specs.Lawful.{is_under}
-use Rattle.state_core.specs.Carrying.{settled}
+use Rattle.state_core.specs.Carrying.{relocated}
 use Rattle.state_core.specs.Swept.{SweptIfQuiet}
 use Rattle.plain_core.specs.HandedOut.{order_of}
 use Rattle.plain_core.specs.History.{told}
 use Rattle.plain_core.specs.Sound.{state_of, IsSound}
 use Rattle.scan_core.specs.Frames.{true_at}
-use Rattle.plain_core.specs.Tabulated.{tabulated, gathered}
+use Rattle.scan_core.specs.NumberSet.{gathered}
+use Rattle.plain_core.specs.Tabulated.{tabulated}
 use Rattle.plain_core.proofs.SearchesAndCounts.{get_placements}
 use Rattle.state_core.proofs.Placed.{clash}
 use Rattle.plain_core.proofs.NotedPages.{placements_set, unmovable_kept}
@@ -54,7 +55,7 @@ pub record WordsSettled (rows settled : List (List ℕ)) (old new : Placement) :
 
 module _ (v : ZoneState) (page : ℕ) (old new : Placement) (can : CanSettle v page old new) (entry : Record) (recorded : IsRecorded v entry page new) where
   abbrev next : ZoneState
-  next = settled v entry page new
+  next = relocated v entry page new
 
   some_entry : (p : Placement) → Absent ≢ entry_for (Some p)
   some_entry (At frame) e = cc
@@ -97,7 +98,7 @@ module _ (v : ZoneState) (page : ℕ) (old new : Placement) (can : CanSettle v p
       | inr other ↦ by_placement a range q e other.1 (map.get v.placement q) refl ∙ sym (ap (λ (o : Option ℕ). entry_for (option_and_then (map.get next.placement) o)) e)
     ]
 
--- the fields of a zone before and after a page settled elsewhere
+-- the fields of a zone before and after a page was relocated
 pub record Settling (z changed : Inside) (v : ZoneState) (page : ℕ) (old new : Placement) (entry : Record) (note : Note) (migrate_new free_new : ℕ) : Type 0 where
   pub sound : IsSound z v
   pub view : state_of z ≡ v
@@ -114,7 +115,7 @@ pub record Settling (z changed : Inside) (v : ZoneState) (page : ℕ) (old new :
   pub movable : MovableSettled z.frames.movable changed.frames.movable (can_move v page) new
   pub fingers_are : changed.fingers ≡ record { migrate = migrate_new; free = free_new }
   pub fingers : (migrate_new ≤ free_new) × (free_new ≤ frame_count v)
-  pub swept : SweptIfQuiet (record (settled v entry page new) { migrate = migrate_new; free = free_new })
+  pub swept : SweptIfQuiet (record (relocated v entry page new) { migrate = migrate_new; free = free_new })
   pub history : changed.history ≡ told z.history entry
   -- what stayed
   pub frames_same : changed.tables.frames ≡ z.tables.frames
@@ -125,7 +126,7 @@ pub record Settling (z changed : Inside) (v : ZoneState) (page : ℕ) (old new :
 
 module _ (z changed : Inside) (v : ZoneState) (page : ℕ) (old new : Placement) (entry : Record) (note : Note) (migrate free : ℕ) (known : Settling z changed v page old new entry note migrate free) where
   abbrev after : ZoneState
-  after = record (settled v entry page new) { migrate = migrate; free = free }
+  after = record (relocated v entry page new) { migrate = migrate; free = free }
 
   abbrev settled_note : Note
   settled_note = record note { placement = Some new }
@@ -202,7 +203,7 @@ module _ (z changed : Inside) (v : ZoneState) (page : ℕ) (old new : Placement)
 
   pub settle_view : state_of changed ≡ after
   settle_view =
-      let here : state_of changed ≡ record (settled (state_of z) entry page new) { migrate = migrate; free = free } =
+      let here : state_of changed ≡ record (relocated (state_of z) entry page new) { migrate = migrate; free = free } =
       λ i. record {
         number = known.number_same i;
         blocks = known.blocks_same i;
@@ -216,4 +217,4 @@ module _ (z changed : Inside) (v : ZoneState) (page : ℕ) (old new : Placement)
         free = (known.fingers_are i).free;
         round = (known.history i).round;
       } in
-      here ∙ ap (λ (u : ZoneState). record (settled u entry page new) { migrate = migrate; free = free }) known.view
+      here ∙ ap (λ (u : ZoneState). record (relocated u entry page new) { migrate = migrate; free = free }) known.view

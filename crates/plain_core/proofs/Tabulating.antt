@@ -6,7 +6,8 @@ use Rattle.std.specs.Cmp.{nat_cmp_total}
 use Rattle.std.specs.FinMap.{FinMap, empty, get, insert, remove, get-empty, same_map, nat_cmp-IsAntisymmetric}
 use Rattle.std.specs.FinSet as set
 use Rattle.std.proofs.lemmas.Bool.Decides.{eqb_tells, leb_tells}
-use Rattle.plain_core.specs.Tabulated.{with_some, tabulated, gathered}
+use Rattle.scan_core.specs.NumberSet.{gathered}
+use Rattle.plain_core.specs.Tabulated.{with_some, tabulated}
 use Rattle.state_core.proofs.Entries.{get_insert_same, get_insert_other, get_remove_same, get_remove_other, contains_insert_same, contains_insert_other, contains_remove_same, contains_remove_other}
 
 module _ {X : Type 0} where

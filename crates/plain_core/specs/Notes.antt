@@ -22,6 +22,7 @@ abbrev pub says_unmovable : Option Note → Bool
 says_unmovable None = false
 says_unmovable (Some note) = is_some note.placement && note.unmovable
 
+-- the same of a page, by its number
 abbrev pub is_unmovable_of : List Note → ℕ → Bool
 is_unmovable_of notes page = says_unmovable (slice_get notes page)
 
@@ -34,5 +35,6 @@ abbrev pub movable_at : List Bool → Option Placement → Bool → List Bool
 movable_at movable (Some (At frame)) can = slice_set movable frame can
 movable_at movable _ can = movable
 
+-- what is said at each frame, with what this note says at the frame of its page
 abbrev pub movable_by : List Bool → Note → List Bool
 movable_by movable note = movable_at movable note.placement (can_move_by note)

@@ -7,7 +7,8 @@ use Rattle.plain_core.specs.Fits.{FramesFit, EntriesFit, WordsFit, NotesFit, Mov
 use Rattle.plain_core.specs.HandedOut.{order_of}
 use Rattle.plain_core.specs.Notes.{placement_of, is_unmovable_of}
 use Rattle.scan_core.specs.Frames.{true_at}
-use Rattle.plain_core.specs.Tabulated.{tabulated, gathered}
+use Rattle.scan_core.specs.NumberSet.{gathered}
+use Rattle.plain_core.specs.Tabulated.{tabulated}
 
 -- the state that contracts see
 abbrev pub state_of : Inside → ZoneState

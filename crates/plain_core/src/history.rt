@@ -43,6 +43,7 @@ impl History {
         })
     }
 
+    /// The records.
     pub fn journal(&self) -> &Journal
         ensures records { result.now.records ≡ self.now.records }
         ensures room { result.now.room ≡ self.now.room }

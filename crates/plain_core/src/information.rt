@@ -29,18 +29,21 @@ impl PlainZone {
         }
     }
 
+    /// Its number.
     pub fn number(&self) -> ZoneNo
         ensures { result ≡ self.now.number }
     {
         self.number
     }
 
+    /// How many pageblocks it has.
     pub fn blocks(&self) -> u32
         ensures { result ≡ self.now.blocks }
     {
         self.blocks
     }
 
+    /// Its journal.
     pub fn journal(&self) -> &Journal
         ensures records { result.now.records ≡ self.now.records }
         ensures room { result.now.room ≡ self.now.room }
@@ -49,6 +52,7 @@ impl PlainZone {
         self.history.journal()
     }
 
+    /// The entry of each address, and the addresses that are listed under each frame.
     pub fn tables(&self) -> &Tables
         ensures entries { EntriesFit result.now.entries self.now }
         ensures frames { result.now.frames ≡ frame_count self.now }
@@ -56,6 +60,7 @@ impl PlainZone {
         &self.tables
     }
 
+    /// The state of each frame, and whether the page that it holds may be taken from it.
     pub fn frames(&self) -> &Frames
         ensures states { FramesFit result.now.states self.now }
         ensures movable { MovableFit result.now.movable self.now }

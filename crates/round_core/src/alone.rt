@@ -16,7 +16,8 @@ use std::sync::ledger::Ledger;
 use std::thread::Threads;
 use zone_core::{Seats, Zone};
 
-/// Shares a zone for one round, which nobody else has meanwhile, and hands it back with what the round was answered.
+/// Shares a zone for one round, which nobody else has meanwhile, and hands it back with what the round was answered. Its
+/// conditions and its refusals are those of `compact`.
 pub fn compact_alone<
     I: Ledger + Send + Sync,
     N: Ledger,

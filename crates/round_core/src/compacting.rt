@@ -19,8 +19,8 @@ use std::thread;
 use std::thread::Threads;
 use zone_core::{Audit, Seats, Zone, ZoneError};
 
-/// Moves what can be moved, by so many copiers, over queues with room for `cap` pages and copies. What can fail for want of memory
-/// or of a thread fails before the first page is isolated.
+/// Moves what can be moved, by so many copiers, 1 to 4, over queues with room for `cap` pages and copies, 1 to 64. What can fail for
+/// want of memory or of a thread fails before the first page is isolated.
 ///
 /// Refused as Memory or NoWorker; as Broken where `audit` refuses, where an end of a queue was gone, or where a copier's list had
 /// no place for a page; as Stranger where the zone refused a copy.

@@ -15,7 +15,9 @@ pub struct Round {
     pub base: Serial,
     /// How many pages it isolated.
     pub count: u32,
+    /// How many of them were moved.
     pub moved: u32,
+    /// How many were put back.
     pub back: u32,
     /// The serials that each copier carried.
     pub by_copier: Vec<Vec<Serial>>,

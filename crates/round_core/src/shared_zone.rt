@@ -61,6 +61,7 @@ impl<K: Shape, I: Ledger, M: Ledger, B: Ledger> SharedZone<K, I, M, B> {
     ghost use Rattle.round_core.specs.Scanning.{HasNext};
     ghost use Rattle.zone_core.specs.Shape.{HasShape};
 
+    /// Puts a zone under a lock. Its number and its pageblocks are those of `K`.
     pub fn new(zone: Zone<I, M, B>) -> Self
         requires shape { HasShape K.number K.blocks zone }
     {
@@ -77,6 +78,7 @@ impl<K: Shape, I: Ledger, M: Ledger, B: Ledger> SharedZone<K, I, M, B> {
         }
     }
 
+    /// Takes the zone out, as the last holder of the lock left it.
     pub fn into_zone(self) -> Zone<I, M, B>
         ensures kept { IsKept result }
         ensures shape { HasShape K.number K.blocks result }
@@ -84,19 +86,20 @@ impl<K: Shape, I: Ledger, M: Ledger, B: Ledger> SharedZone<K, I, M, B> {
         self.room.into_inner().zone
     }
 
-    /// How many pageblocks the zone has, 1 to 8.
+    /// How many pageblocks the zone has, 1 to 8. Its clause says only that they are 8 at most.
     pub fn blocks(&self) -> u32
         ensures { result ≤ 8 }
     {
         self.blocks
     }
 
-    /// Waits for the lock, and lends the zone as long as the guard lives. Who ends a move through it tells so by `tell_ended`.
+    /// Waits for the lock, and lends the zone as long as the guard lives. What is known of it is what `Room::zone` says. Who
+    /// ends a move through it tells so by `tell_ended`.
     pub fn lock<R: Wait>(&self, rt: &R) -> MutexGuard<'_, Room<K, I, M, B>> {
         self.room.lock(rt)
     }
 
-    /// Waits, without the lock, until a move has ended.
+    /// Waits, without the lock, until a move has ended. It may return before, so the caller looks again.
     pub fn wait_for_end<'a, R: Wait>(
         &self,
         rt: &R,

@@ -4,6 +4,7 @@ use Rattle.frame_core.specs.Below.{count_below, count_from}
 use Rattle.frame_core.specs.declared.state.FrameState.{FrameState}
 use Rattle.frame_core.specs.declared.state.FrameState.TheVariants.{Free, Holds, Huge, Source, Target}
 
+-- two lists, with a place for each frame
 pub record Frames : Type 0 where
   -- what each frame is used for
   pub states : List FrameState

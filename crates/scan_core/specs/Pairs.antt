@@ -1,5 +1,7 @@
 -- The pair of frames that a round takes next, between its fingers:
 -- the lowest frame with a page that may be taken, and the highest free frame above it.
+-- First as a relation, `IsPair`, and behind it as the scanners search for it, `next_step`. The clauses of `next_pair` say both, so
+-- its proof makes the two one.
 use Rattle.std.specs.Prelude.{◌≡◌, ℕ, ◌+◌, ◌/◌, ◌<◌, ◌≤◌, Bool, true, false, not, ◌&&◌, ◌||◌, List, nat_lt, nat_le, Option, Some, None}
 use Rattle.frame_core.specs.Below.{lowest, highest}
 use Rattle.frame_core.specs.declared.state.FrameState.{FrameState}

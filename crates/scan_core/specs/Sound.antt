@@ -6,6 +6,7 @@ use Rattle.scan_core.specs.Frames.{Frames, blocks_of, free_at, huge_at, is_stuck
 use Rattle.scan_core.specs.Seen.{seen}
 use Rattle.scan_core.specs.declared.frames.Frames.TheInside.{Inside}
 
+-- the two lists that contracts see
 abbrev pub frames_of : Inside → Frames
 frames_of z = record { states = seen z.held z.kept.items; movable = z.movable.items }
 

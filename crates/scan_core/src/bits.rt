@@ -37,6 +37,7 @@ impl Bits {
         }
     }
 
+    /// The 64 bits of a word. Words are numbered from 0 to 63.
     pub fn get(&self, word: u32) -> u64
         requires { word < 64 }
         ensures { result ≡ slice_index self.now word }
@@ -44,6 +45,7 @@ impl Bits {
         self.words[word as usize]
     }
 
+    /// Writes the 64 bits of a word.
     pub fn set(&mut self, word: u32, bits: u64)
         requires { word < 64 }
         ensures set { self.new ≡ slice_set self.old word bits }

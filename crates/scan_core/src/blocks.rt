@@ -3,7 +3,7 @@
 ghost use Rattle.std.specs.Prelude.{◌≡◌, ℕ, ◌+◌, ◌-◌, ◌<◌, ◌≤◌, ◌&&◌, not, length, nat_lt, slice_get, slice_index, slice_set, Some};
 ghost use Rattle.frame_core.specs.Below.{count_below, lowest, some_below};
 ghost use Rattle.scan_core.specs.Frames.{blocks_of, is_whole, true_at};
-ghost use Rattle.scan_core.specs.BlockCounts.{CountsFree, is_full};
+ghost use Rattle.scan_core.specs.BlockCounts.{CountsFree, is_all_free};
 
 use crate::lists::count_free;
 use frame_core::{BlockNo, FrameState};
@@ -82,7 +82,7 @@ impl BlockCounts {
 
     /// How many pageblocks are free as a whole.
     pub fn whole(&self) -> u32
-        ensures count { result ≡ count_below (is_full self.now) 8 }
+        ensures count { result ≡ count_below (is_all_free self.now) 8 }
     {
         let mut whole = 0;
         for block in 0..8 {
@@ -95,7 +95,7 @@ impl BlockCounts {
 
     /// The lowest pageblock that is free as a whole.
     pub fn first(&self) -> Option<BlockNo>
-        ensures lowest { result ≡ lowest (is_full self.now) 8 }
+        ensures lowest { result ≡ lowest (is_all_free self.now) 8 }
     {
         for block in 0..8_u32 {
             if self.free[block as usize] == 512 {
@@ -114,7 +114,7 @@ fn is_unmarked(frames: &[u32; 8], marked: &[bool; 8], block: usize) -> bool
     !marked[block] && frames[block] > 0
 }
 
-/// How many pageblocks are free as a whole: what the counts of the list say.
+/// How many pageblocks of 4,096 frames at most are free as a whole: what the counts of the list say.
 pub fn whole_blocks(frames: &[FrameState]) -> u32
     requires { length frames.now ≤ 4096 }
     ensures { result ≡ count_below (is_whole frames.now) (blocks_of frames.now) }
@@ -122,7 +122,7 @@ pub fn whole_blocks(frames: &[FrameState]) -> u32
     BlockCounts::of(frames).whole()
 }
 
-/// The lowest pageblock that is free as a whole: what the counts of the list say.
+/// The lowest pageblock of 4,096 frames at most that is free as a whole: what the counts of the list say.
 pub fn first_whole(frames: &[FrameState]) -> Option<BlockNo>
     requires { length frames.now ≤ 4096 }
     ensures { result ≡ lowest (is_whole frames.now) (blocks_of frames.now) }

@@ -41,6 +41,7 @@ impl Model for FrameSet {
 }
 
 impl FrameSet {
+    /// The empty set.
     pub fn new() -> Self
         ensures { result ≡ set.empty }
     {
@@ -72,6 +73,7 @@ impl FrameSet {
         &self.numbers
     }
 
+    /// Whether a frame is a member.
     pub fn contains(&self, frame: FrameNo) -> bool
         ensures { result ≡ set.contains self.now frame }
     {
@@ -147,6 +149,7 @@ impl FrameSet {
         self.blocks.fewer(block_of(first), frames);
     }
 
+    /// How many frames it has.
     pub fn count(&self) -> u32
         ensures { result ≡ count_below (set.contains self.now) capacity }
     {
@@ -208,7 +211,7 @@ fn run_frames(first: FrameNo, order: Order) -> u32
     1 << order.get()
 }
 
-/// The first frame of the lowest free block of an order.
+/// The first frame of the lowest free block of an order, of 4,096 frames at most.
 pub fn first_run(frames: &[FrameState], order: Order) -> Option<FrameNo>
     requires { length frames.now ≤ 4096 }
     ensures { result ≡ first_run frames.now order }

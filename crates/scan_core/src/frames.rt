@@ -39,7 +39,7 @@ impl Model for Frames {
 }
 
 impl Frames {
-    /// The frames of so many pageblocks, each free. No other call takes memory.
+    /// The frames of so many pageblocks, 1 to 8, each free. No other call takes memory.
     pub fn open(alloc: Global, blocks: u32) -> Result<Frames, AllocError>
         requires some { 0 < blocks }
         requires few { blocks ≤ 8 }
@@ -59,7 +59,7 @@ impl Frames {
         })
     }
 
-    /// How many frames there are.
+    /// How many frames there are, 512 of each pageblock.
     pub fn len(&self) -> u32
         ensures len { result ≡ length self.now.states }
         ensures whole { result ≡ 512 * blocks_of self.now.states }
@@ -80,7 +80,7 @@ impl Frames {
         self.len() / 512
     }
 
-    /// What a frame is used for.
+    /// What a frame is used for. The frame has to be one of these frames, here and in `is_free` and `movable`.
     pub fn state(&self, frame: FrameNo) -> FrameState
         requires { frame < length self.now.states }
         ensures { slice_get self.now.states frame ≡ Some result }
@@ -179,7 +179,7 @@ impl Frames {
         self.free.count()
     }
 
-    /// The lowest frame that is free.
+    /// The lowest frame that is free, if there is one.
     pub fn lowest_free(&self) -> Option<FrameNo>
         ensures lowest { result ≡ lowest (free_at self.now.states) (length self.now.states) }
         ensures free { IfSome result (λ frame. free_at self.now.states frame ≡ true) }
@@ -214,7 +214,7 @@ impl Frames {
         self.movable[frame.get() as usize] = movable;
     }
 
-    /// The first frame of the lowest free block of an order.
+    /// The first frame of the lowest free block of an order, if there is one.
     pub fn first_run(&self, order: Order) -> Option<FrameNo>
         ensures lowest { result ≡ first_run self.now.states order }
         ensures run { IfSome result (λ first. is_run self.now.states order first ≡ true) }
@@ -222,7 +222,7 @@ impl Frames {
         self.free.first_run(order)
     }
 
-    /// Hands the frames of a free block out.
+    /// Hands the frames of a block out, all of which are free.
     pub fn hold(&mut self, first: FrameNo, order: Order)
         requires { is_run self.old.states order first ≡ true }
         ensures { self.new ≡ record self.old { states = with_run self.old.states first (2 ^ order) Huge } }
@@ -232,7 +232,7 @@ impl Frames {
         self.held.insert_run(first.get(), order);
     }
 
-    /// Takes the frames of a block back.
+    /// Takes the frames of a block back, all of which are handed out.
     pub fn release(&mut self, first: FrameNo, order: Order)
         requires block { has_block self.old.states order first ≡ true }
         requires huge { all_from (huge_at self.old.states) first (2 ^ order) ≡ true }
@@ -243,7 +243,8 @@ impl Frames {
         self.free.insert_run(first, order);
     }
 
-    /// The next pair between the fingers, which then stand at its frames. Where there is none they stay.
+    /// The next pair between the fingers, which then stand behind its source and at its target. Where there is none they
+    /// stay. They have to stand in order, in the zone.
     pub fn next_pair(&self, marked: &[bool; 8], fingers: &mut Fingers) -> Step
         requires low { fingers.old.migrate ≤ fingers.old.free }
         requires high { fingers.old.free ≤ length self.now.states }

@@ -36,12 +36,14 @@ impl Model for NumberSet {
 }
 
 impl NumberSet {
+    /// The empty set.
     pub fn new() -> Self
         ensures { result ≡ set.empty }
     {
         NumberSet { bits: Bits::new() }
     }
 
+    /// Whether a number below 4,096 is a member.
     pub fn contains(&self, number: u32) -> bool
         requires { number < 4096 }
         ensures { result ≡ set.contains self.now number }
@@ -49,6 +51,7 @@ impl NumberSet {
         self.bits.get(number / 64) >> (number % 64) & 1 == 1
     }
 
+    /// Puts a number below 4,096 in.
     pub fn insert(&mut self, number: u32)
         requires { number < 4096 }
         ensures { self.new ≡ set.insert self.old number }
@@ -56,6 +59,7 @@ impl NumberSet {
         self.fill(number / 64, 1 << (number % 64));
     }
 
+    /// Takes a number below 4,096 out.
     pub fn remove(&mut self, number: u32)
         requires { number < 4096 }
         ensures { self.new ≡ set.remove self.old number }
@@ -63,7 +67,7 @@ impl NumberSet {
         self.clear(number / 64, 1 << (number % 64));
     }
 
-    /// Puts a number in or takes it out.
+    /// Puts a number below 4,096 in, or takes it out.
     #[inline(always)]
     pub fn put(&mut self, number: u32, member: bool)
         requires { number < 4096 }
@@ -78,7 +82,7 @@ impl NumberSet {
         }
     }
 
-    /// The lowest number of the set.
+    /// The lowest number of the set, if it has one.
     pub fn lowest(&self) -> Option<u32>
         ensures lowest { result ≡ lowest (set.contains self.now) capacity }
         ensures member { IfSome result (λ number. set.contains self.now number ≡ true) }

@@ -13,7 +13,8 @@ use crate::lists::is_marked;
 use crate::numbers::NumberSet;
 use frame_core::{FrameNo, FrameState};
 
-/// The next pair between the fingers, which then stand at its frames. Where there is none they stay.
+/// The next pair between the fingers, which then stand behind its source and at its target. Where there is none they stay. There
+/// are 4,096 frames at most; `movable` has a place for each of them, and `marked` for each of their pageblocks.
 ///
 /// Each frame is looked at about once a round: the searches begin at the fingers.
 pub fn next_pair(

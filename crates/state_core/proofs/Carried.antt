@@ -16,7 +16,7 @@ use Rattle.state_core.specs.declared.placement.Placement.{Placement}
 use Rattle.state_core.specs.declared.placement.Placement.TheVariants.{At, Moving}
 use Rattle.state_core.specs.Lawful.{IsLawful, is_under}
 use Rattle.state_core.specs.Ending.{is_own, IsOwnCopy, moved_to_target, put_back_to_source, committed}
-use Rattle.state_core.specs.Carrying.{page_now, settled}
+use Rattle.state_core.specs.Carrying.{page_now, relocated}
 use Rattle.state_core.specs.Rounds.{round_begun}
 use Rattle.state_core.specs.Isolating.{isolated_next}
 use Rattle.state_core.specs.Mapping.{placed}
@@ -130,9 +130,9 @@ own_fresh z pair = record {
 }
 
 -- another page's move ends
-own_ended : (z : ZoneState) (entry : Record) (q : OnItsWay) (frame : ℕ) (p : OnItsWay) → is_own z q ≡ true → q.serial ≢ p.serial → ((w : ℕ) → last (entry ∷ z.records) p.page.number w ≡ last z.records p.page.number w) → IsOwnCopy z p → IsOwnCopy (settled z entry q.page.number (At frame)) p
+own_ended : (z : ZoneState) (entry : Record) (q : OnItsWay) (frame : ℕ) (p : OnItsWay) → is_own z q ≡ true → q.serial ≢ p.serial → ((w : ℕ) → last (entry ∷ z.records) p.page.number w ≡ last z.records p.page.number w) → IsOwnCopy z p → IsOwnCopy (relocated z entry q.page.number (At frame)) p
 own_ended z entry q frame p own_q ne words own =
-    own_kept z (settled z entry q.page.number (At frame)) p refl
+    own_kept z (relocated z entry q.page.number (At frame)) p refl
     (get_insert_other z.placement q.page.number p.page.number (At frame) (serials_apart z p q own.own own_q ne))
     words own
 

@@ -17,7 +17,7 @@ use Rattle.journal_core.specs.Moves.{out, is_out, without, page_of, IsWellEnded}
 use Rattle.state_core.specs.declared.placement.Placement.{Placement}
 use Rattle.state_core.specs.declared.placement.Placement.TheVariants.{At, Moving}
 use Rattle.state_core.specs.Lawful.{IsLawful, is_under}
-use Rattle.state_core.specs.Carrying.{settled}
+use Rattle.state_core.specs.Carrying.{relocated}
 use Rattle.state_core.specs.Ending.{HasCause}
 use Rattle.state_core.specs.ZoneState.{ZoneState, frame_count, takes_up, is_free}
 use Rattle.state_core.proofs.Facts.{not_none}
@@ -57,17 +57,17 @@ module _ (v : ZoneState) (page serial source target : ℕ) (law : IsLawful v) (a
   can_go_back = can_end source takes_source
 
   -- moved: the only frame that changes is the source
-  pub moved_others : (entry : Record) (g : ℕ) → g ≢ source → is_free (settled v entry page (At target)) g ≡ is_free v g
+  pub moved_others : (entry : Record) (g : ℕ) → g ≢ source → is_free (relocated v entry page (At target)) g ≡ is_free v g
   moved_others entry g ne = free_same can_move_on g (ap (λ b. b || nat_eq g target) (ne_eqb g source ne))
 
-  pub moved_source : (entry : Record) → is_free (settled v entry page (At target)) source ≡ true
+  pub moved_source : (entry : Record) → is_free (relocated v entry page (At target)) source ≡ true
   moved_source entry = free_left can_move_on source takes_source (ne_eqb source target frames_apart)
 
   -- put back: the only frame that changes is the target
-  pub back_others : (entry : Record) (g : ℕ) → g ≢ target → is_free (settled v entry page (At source)) g ≡ is_free v g
+  pub back_others : (entry : Record) (g : ℕ) → g ≢ target → is_free (relocated v entry page (At source)) g ≡ is_free v g
   back_others entry g ne = free_same can_go_back g (ap (λ b. nat_eq g source || b) (ne_eqb g target ne) ∙ or-false (nat_eq g source))
 
-  pub back_target : (entry : Record) → is_free (settled v entry page (At source)) target ≡ true
+  pub back_target : (entry : Record) → is_free (relocated v entry page (At source)) target ≡ true
   back_target entry = free_left can_go_back target takes_target (ne_eqb target source (λ e. frames_apart (sym e)))
 
   pub source_used : is_free v source ≡ false
@@ -82,10 +82,10 @@ module _ (v : ZoneState) (page serial source target : ℕ) (law : IsLawful v) (a
   pub target_in : target < frame_count v
   target_in = law.within page target (ap (λ (o : Option Placement). takes_up o target) at ∙ takes_target)
 
-  pub moved_more : (entry : Record) → count_below (is_free (settled v entry page (At target))) (frame_count v) ≡ count_below (is_free v) (frame_count v) + 1
+  pub moved_more : (entry : Record) → count_below (is_free (relocated v entry page (At target))) (frame_count v) ≡ count_below (is_free v) (frame_count v) + 1
   moved_more entry = omega (arith, free_count can_move_on)
 
-  pub back_more : (entry : Record) → count_below (is_free (settled v entry page (At source))) (frame_count v) ≡ count_below (is_free v) (frame_count v) + 1
+  pub back_more : (entry : Record) → count_below (is_free (relocated v entry page (At source))) (frame_count v) ≡ count_below (is_free v) (frame_count v) + 1
   back_more entry = omega (arith, free_count can_go_back)
 
   pub out_fewer : length (without serial (out v.records)) + 1 ≡ length (out v.records)

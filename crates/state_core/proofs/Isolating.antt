@@ -13,7 +13,7 @@ use Rattle.state_core.specs.declared.round.Pair.{Pair}
 use Rattle.state_core.specs.declared.placement.Placement.{Placement}
 use Rattle.state_core.specs.declared.placement.Placement.TheVariants.{At, Moving}
 use Rattle.state_core.specs.Lawful.{IsLawful, is_under}
-use Rattle.state_core.specs.Carrying.{settled}
+use Rattle.state_core.specs.Carrying.{relocated}
 use Rattle.state_core.specs.Pairs.{IsPair}
 use Rattle.state_core.specs.ZoneState.{ZoneState, frame_count, is_free}
 use Rattle.state_core.proofs.Facts.{not_none}
@@ -43,13 +43,13 @@ module _ (v : ZoneState) (pair : Pair) (law : IsLawful v) (is : IsPair v pair.pa
   }
 
   -- the only frame that changes is the target
-  pub isolated_others : (g : ℕ) → g ≢ pair.target → is_free (settled v (Isolate serial_next pair.page) pair.page way_next) g ≡ is_free v g
+  pub isolated_others : (g : ℕ) → g ≢ pair.target → is_free (relocated v (Isolate serial_next pair.page) pair.page way_next) g ≡ is_free v g
   isolated_others g ne = free_same can_isolate g (sym (ap (λ b. nat_eq g pair.source || b) (ne_eqb g pair.target ne) ∙ or-false (nat_eq g pair.source)))
 
-  pub isolated_target : is_free (settled v (Isolate serial_next pair.page) pair.page way_next) pair.target ≡ false
+  pub isolated_target : is_free (relocated v (Isolate serial_next pair.page) pair.page way_next) pair.target ≡ false
   isolated_target = free_new can_isolate pair.target (or_right (nat_eq pair.target pair.source) _ (eq-eqb pair.target pair.target refl))
 
-  pub isolated_fewer : count_below (is_free v) (frame_count v) ≡ count_below (is_free (settled v (Isolate serial_next pair.page) pair.page way_next)) (frame_count v) + 1
+  pub isolated_fewer : count_below (is_free v) (frame_count v) ≡ count_below (is_free (relocated v (Isolate serial_next pair.page) pair.page way_next)) (frame_count v) + 1
   isolated_fewer = omega (arith, free_count can_isolate)
 
   -- no serial that is out is of the page

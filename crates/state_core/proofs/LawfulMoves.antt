@@ -7,7 +7,7 @@ use Rattle.journal_core.specs.History.{pins}
 use Rattle.journal_core.specs.Moves.{isolated, out}
 use Rattle.state_core.specs.declared.placement.Placement.TheVariants.{At, Moving}
 use Rattle.state_core.specs.declared.round.Pair.{Pair}
-use Rattle.state_core.specs.Carrying.{settled}
+use Rattle.state_core.specs.Carrying.{relocated}
 use Rattle.state_core.specs.Ending.{moved_to_target, put_back_to_source, source_of, target_of, HasCause}
 use Rattle.state_core.specs.Isolating.{isolated_next}
 use Rattle.state_core.specs.Lawful.{IsLawful}
@@ -30,18 +30,18 @@ lawful_isolated v pair law is room =
     (swept_if_isolated v pair law is)
 
 module _ (v : ZoneState) (page serial source target : ℕ) (law : IsLawful v) (at : map.get v.placement page ≡ Some (Moving serial source target)) where
-  pub swept_if_moved : SweptIfQuiet (settled v (Moved serial) page (At target))
+  pub swept_if_moved : SweptIfQuiet (relocated v (Moved serial) page (At target))
   swept_if_moved quiet = swept_arrived v page serial source target law (law.swept (quiet_before v (Moved serial) law refl quiet)) at
 
-  pub swept_if_put_back : (cause : Cause) → SweptIfQuiet (settled v (Back serial cause) page (At source))
-  swept_if_put_back cause = swept_ended v (settled v (Back serial cause) page (At source)) (Back serial cause) law refl refl refl
+  pub swept_if_put_back : (cause : Cause) → SweptIfQuiet (relocated v (Back serial cause) page (At source))
+  swept_if_put_back cause = swept_ended v (relocated v (Back serial cause) page (At source)) (Back serial cause) law refl refl refl
 
 pub lawful_moved : (v : ZoneState) (serial page source target : ℕ) → IsLawful v → map.get v.placement page ≡ Some (Moving serial source target) → pins v.records page ≡ 0 → IsLawful (moved_to_target v serial page)
 lawful_moved v serial page source target law at none =
-    subst (λ (frame : ℕ). IsLawful (settled v (Moved serial) page (At frame))) (sym (ap target_of at))
+    subst (λ (frame : ℕ). IsLawful (relocated v (Moved serial) page (At frame))) (sym (ap target_of at))
     (lawful_settled (can_move_on v page serial source target law at) (Moved serial) (moved_recorded v page serial source target law at none) v.migrate v.free law.fingers (swept_if_moved v page serial source target law at))
 
 pub lawful_put_back : (v : ZoneState) (serial page source target : ℕ) (cause : Cause) → IsLawful v → map.get v.placement page ≡ Some (Moving serial source target) → HasCause cause (pins v.records page) → IsLawful (put_back_to_source v serial page cause)
 lawful_put_back v serial page source target cause law at has =
-    subst (λ (frame : ℕ). IsLawful (settled v (Back serial cause) page (At frame))) (sym (ap source_of at))
+    subst (λ (frame : ℕ). IsLawful (relocated v (Back serial cause) page (At frame))) (sym (ap source_of at))
     (lawful_settled (can_go_back v page serial source target law at) (Back serial cause) (back_recorded v page serial source target law at cause has) v.migrate v.free law.fingers (swept_if_put_back v page serial source target law at cause))

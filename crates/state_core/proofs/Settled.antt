@@ -5,7 +5,7 @@ use Rattle.frame_core.specs.Below.{count_below}
 use Rattle.journal_core.specs.declared.record.Record.{Record}
 use Rattle.state_core.specs.declared.placement.Placement.{Placement}
 use Rattle.state_core.specs.Lawful.{IsLawful}
-use Rattle.state_core.specs.Carrying.{settled}
+use Rattle.state_core.specs.Carrying.{relocated}
 use Rattle.state_core.specs.Swept.{SweptIfQuiet}
 use Rattle.state_core.specs.ZoneState.{ZoneState, frame_count, takes_up, is_held, is_free}
 use Rattle.state_core.proofs.Moving as moving
@@ -16,16 +16,16 @@ pub use Rattle.state_core.proofs.Ending.{frames_apart, can_move_on, can_go_back,
 pub use Rattle.state_core.proofs.LawfulMoves.{swept_if_isolated, swept_if_moved, swept_if_put_back, lawful_isolated, lawful_moved, lawful_put_back}
 
 module _ (v : ZoneState) (page : ℕ) (old new : Placement) (can : CanSettle v page old new) (entry : Record) where
-  pub at_page : map.get (settled v entry page new).placement page ≡ Some new
+  pub at_page : map.get (relocated v entry page new).placement page ≡ Some new
   at_page = places.at_page can
 
-  pub at_other : (q : ℕ) → q ≢ page → map.get (settled v entry page new).placement q ≡ map.get v.placement q
+  pub at_other : (q : ℕ) → q ≢ page → map.get (relocated v entry page new).placement q ≡ map.get v.placement q
   at_other = places.at_other can
 
-  pub some_same : (q : ℕ) → is_some (map.get (settled v entry page new).placement q) ≡ is_some (map.get v.placement q)
+  pub some_same : (q : ℕ) → is_some (map.get (relocated v entry page new).placement q) ≡ is_some (map.get v.placement q)
   some_same = moving.some_same can
 
-  pub same_pages : count_below (λ q. is_some (map.get (settled v entry page new).placement q)) (frame_count v) ≡ count_below (λ q. is_some (map.get v.placement q)) (frame_count v)
+  pub same_pages : count_below (λ q. is_some (map.get (relocated v entry page new).placement q)) (frame_count v) ≡ count_below (λ q. is_some (map.get v.placement q)) (frame_count v)
   same_pages = moving.same_pages can
 
   pub not_old : (q g : ℕ) → q ≢ page → takes_up (map.get v.placement q) g ≡ true → takes_up (Some old) g ≡ true → ⊥
@@ -40,11 +40,11 @@ module _ (v : ZoneState) (page : ℕ) (old new : Placement) (can : CanSettle v p
   pub old_clear : (g : ℕ) → takes_up (Some old) g ≡ true → is_held v g ≡ false
   old_clear = places.old_clear can
 
-  pub free_new : (g : ℕ) → takes_up (Some new) g ≡ true → is_free (settled v entry page new) g ≡ false
+  pub free_new : (g : ℕ) → takes_up (Some new) g ≡ true → is_free (relocated v entry page new) g ≡ false
   free_new = places.free_new can
 
-  pub free_kept : (g : ℕ) → takes_up (Some old) g ≡ false → takes_up (Some new) g ≡ false → is_free (settled v entry page new) g ≡ is_free v g
+  pub free_kept : (g : ℕ) → takes_up (Some old) g ≡ false → takes_up (Some new) g ≡ false → is_free (relocated v entry page new) g ≡ is_free v g
   free_kept = places.free_kept can
 
-pub lawful_settled : (v : ZoneState) (page : ℕ) (old new : Placement) (can : CanSettle v page old new) (entry : Record) → IsRecorded v entry page new → (migrate free : ℕ) → (migrate ≤ free) × (free ≤ frame_count v) → SweptIfQuiet (record (settled v entry page new) { migrate = migrate; free = free }) → IsLawful (record (settled v entry page new) { migrate = migrate; free = free })
+pub lawful_settled : (v : ZoneState) (page : ℕ) (old new : Placement) (can : CanSettle v page old new) (entry : Record) → IsRecorded v entry page new → (migrate free : ℕ) → (migrate ≤ free) × (free ≤ frame_count v) → SweptIfQuiet (record (relocated v entry page new) { migrate = migrate; free = free }) → IsLawful (record (relocated v entry page new) { migrate = migrate; free = free })
 lawful_settled v page old new can = moving.lawful_settled can

@@ -9,7 +9,7 @@ use Rattle.journal_core.specs.History.{pins}
 use Rattle.state_core.specs.declared.placement.Placement.{Placement}
 use Rattle.state_core.specs.declared.placement.Placement.TheVariants.{At, Moving}
 use Rattle.state_core.specs.Access.{loaded, stored}
-use Rattle.state_core.specs.Carrying.{settled}
+use Rattle.state_core.specs.Carrying.{relocated}
 use Rattle.state_core.specs.Ending.{moved_to_target, target_of}
 use Rattle.state_core.specs.Lawful.{IsLawful}
 use Rattle.state_core.specs.Pairs.{IsSource, IsTarget, HaveMet}
@@ -37,7 +37,7 @@ met_stored v client address word value met page from to is = met page from to (r
 -- a page that arrives leaves sources and targets as they were: both its frames are outside of the fingers
 module _ (v : ZoneState) (page serial source target : ℕ) (law : IsLawful v) (swept : IsSwept v) (at : map.get v.placement page ≡ Some (Moving serial source target)) where
   abbrev there : ZoneState
-  there = settled v (Moved serial) page (At target)
+  there = relocated v (Moved serial) page (At target)
 
   source_before : (q frame : ℕ) → IsSource there q frame → IsSource v q frame
   source_before q frame s = elim (eqb_tells q page) [
@@ -74,7 +74,7 @@ module _ (v : ZoneState) (page serial source target : ℕ) (law : IsLawful v) (s
   })
 
   pub met_moved : HaveMet v → HaveMet (moved_to_target v serial page)
-  met_moved met = subst (λ (o : Option Placement). HaveMet (settled v (Moved serial) page (At (target_of o)))) (sym at) (met_arrived met)
+  met_moved met = subst (λ (o : Option Placement). HaveMet (relocated v (Moved serial) page (At (target_of o)))) (sym at) (met_arrived met)
 
 -- in a quiet round a page on its way has no pin
 pub never_pinned : (v : ZoneState) (page serial source target : ℕ) → IsLawful v → map.get v.placement page ≡ Some (Moving serial source target) → is_quiet v ≡ true → not (nat_eq (pins v.records page) 0) ≡ true → ⊥

@@ -16,7 +16,7 @@ use Rattle.state_core.specs.declared.placement.Placement.TheVariants.{At, Moving
 use Rattle.state_core.specs.declared.round.Pair.{Pair}
 use Rattle.state_core.specs.declared.round.RoundStart.{RoundStart}
 use Rattle.state_core.specs.Access.{loaded, stored}
-use Rattle.state_core.specs.Carrying.{settled}
+use Rattle.state_core.specs.Carrying.{relocated}
 use Rattle.state_core.specs.Isolating.{isolated_next}
 use Rattle.state_core.specs.Lawful.{IsLawful}
 use Rattle.state_core.specs.Pairs.{IsPair, is_marked, can_move, holder, stays_if_some, is_stuck, is_calm}
@@ -162,7 +162,7 @@ at_not_on_its_way f serial source target e = cc
 
 module _ (v : ZoneState) (page serial source target : ℕ) (law : IsLawful v) (swept : IsSwept v) (at : map.get v.placement page ≡ Some (Moving serial source target)) where
   abbrev after : ZoneState
-  after = settled v (Moved serial) page (At target)
+  after = relocated v (Moved serial) page (At target)
 
   pub arrived : map.get after.placement page ≡ Some (At target)
   arrived = at_page (can_move_on v page serial source target law at)

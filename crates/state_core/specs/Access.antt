@@ -23,8 +23,10 @@ access_refusal z address = if not (has_room z) then Some JournalFull else placem
 abbrev pub value_at : ZoneState → Address → ℕ → ℕ
 value_at z address word = last z.records (unwrap_or (page_at z.records address) 0) word
 
+-- a load notes its value, and changes nothing else
 abbrev pub loaded : ZoneState → ℕ → Address → ℕ → ZoneState
 loaded z client address word = noted z (Load client address word (value_at z address word))
 
+-- so does a store
 abbrev pub stored : ZoneState → ℕ → Address → ℕ → ℕ → ZoneState
 stored z client address word value = noted z (Store client address word value)

@@ -1,4 +1,4 @@
--- A page as it is carried, and where a page is that moves.
+-- A page as it is carried, and the step that puts a page in use somewhere else.
 use Rattle.std.specs.Prelude.{ℕ, List, ◌∷◌, [], map as each}
 use Rattle.std.specs.FinMap as map
 use Rattle.std.specs.FinSet as set
@@ -22,6 +22,6 @@ words_now z page = each (last z.records page) (0 ∷ 1 ∷ 2 ∷ 3 ∷ 4 ∷ 5 �
 abbrev pub page_now : ZoneState → ℕ → Page
 page_now z page = record { zone = z.number; number = page; flags = flags_of z page; words = words_now z page }
 
--- a page in use is somewhere else now
-abbrev pub settled : ZoneState → Record → ℕ → Placement → ZoneState
-settled z entry page placement = record (noted z entry) { placement = map.insert z.placement page placement }
+-- one more record, and a page in use is placed so now: it begins its way, or stands in a frame
+abbrev pub relocated : ZoneState → Record → ℕ → Placement → ZoneState
+relocated z entry page placement = record (noted z entry) { placement = map.insert z.placement page placement }

@@ -13,7 +13,7 @@ use Rattle.state_core.specs.declared.placement.Placement.{Placement}
 use Rattle.state_core.specs.declared.placement.Placement.TheVariants.{At, Moving}
 use Rattle.state_core.specs.Lawful.{is_under}
 use Rattle.state_core.specs.ZoneState.{ZoneState, is_free}
-use Rattle.state_core.specs.Carrying.{flags_of, words_now, settled}
+use Rattle.state_core.specs.Carrying.{flags_of, words_now, relocated}
 
 -- whether a page of this zone is on its way under its serial
 abbrev pub is_own : ZoneState → OnItsWay → Bool
@@ -24,33 +24,35 @@ pub record IsOwnCopy (z : ZoneState) (copy : OnItsWay) : Type 0 where
   pub own : is_own z copy ≡ true
   pub same : copy.page.words ≡ words_now z copy.page.number
 
--- the frames of a page on its way
+-- the frame that a page on its way left, and 0 of any other
 abbrev pub source_of : Option Placement → ℕ
 source_of (Some (Moving serial source target)) = source
 source_of _ = 0
 
+-- and the frame that it goes to
 abbrev pub target_of : Option Placement → ℕ
 target_of (Some (Moving serial source target)) = target
 target_of _ = 0
 
--- a copy is committed where its page has no pin
+-- how the commit of a page ends: it is moved where it has no pin, and else put back
 abbrev pub ended_as : ZoneState → ℕ → Ended
 ended_as z page = if nat_eq (pins z.records page) 0 then ended.Moved else ended.Back
 
 -- the page stands in its new frame
 abbrev pub moved_to_target : ZoneState → ℕ → ℕ → ZoneState
-moved_to_target z serial page = settled z (WasMoved serial) page (At (target_of (map.get z.placement page)))
+moved_to_target z serial page = relocated z (WasMoved serial) page (At (target_of (map.get z.placement page)))
 
 -- the page stands in its old frame again
 abbrev pub put_back_to_source : ZoneState → ℕ → ℕ → Cause → ZoneState
-put_back_to_source z serial page cause = settled z (WasPutBack serial cause) page (At (source_of (map.get z.placement page)))
+put_back_to_source z serial page cause = relocated z (WasPutBack serial cause) page (At (source_of (map.get z.placement page)))
 
+-- what a commit leaves: a page with no pin is moved, and one with a pin is put back
 abbrev pub committed : ZoneState → ℕ → ℕ → ZoneState
 committed z serial page =
     if nat_eq (pins z.records page) 0 then moved_to_target z serial page else put_back_to_source z serial page Pinned
 
 -- a page that was on its way stands in one of its frames, with its flags and words, at each address that names it; its other
--- frame is free, and nothing else moved
+-- frame is free, and nothing else moved: `kept` is the frame that it stands in, and `left` the other one
 pub record IsSettled (old new : ZoneState) (page kept left : ℕ) : Type 0 where
   pub here : map.get new.placement page ≡ Some (At kept)
   pub freed : is_free new left ≡ true
@@ -66,6 +68,7 @@ pub record IsEnded (old new : ZoneState) (page serial : ℕ) (kept left : ℕ �
   pub way : map.get old.placement page ≡ Some (Moving serial source target)
   pub settled : IsSettled old new page (kept source target) (left source target)
 
+-- the page of this way ended it so
 abbrev pub Ends : ZoneState → ZoneState → OnItsWay → Ended → Type 0
 Ends old new p ended.Moved = IsEnded old new p.page.number p.serial (λ source target. target) (λ source target. source)
 Ends old new p ended.Back = IsEnded old new p.page.number p.serial (λ source target. source) (λ source target. target)

@@ -25,12 +25,14 @@ abbrev pub is_order : Option ℕ → ℕ → Bool
 is_order None order = false
 is_order (Some held) order = nat_eq held order
 
+-- of taking a block of an order
 abbrev pub take_order_refusal : ZoneState → ℕ → Option ZoneError
 take_order_refusal z order =
     if not (has_room z) then Some JournalFull
     else if is_none (lowest_run z order) then Some NoBlock
     else None
 
+-- of giving back a block by its first frame and its order
 abbrev pub give_order_refusal : ZoneState → ℕ → ℕ → Option ZoneError
 give_order_refusal z first order =
     if not (has_block z order first) then Some Range

@@ -13,7 +13,7 @@ use Rattle.state_core.specs.declared.round.Pair.{Pair}
 use Rattle.state_core.specs.declared.placement.Placement.TheVariants.{Moving}
 use Rattle.state_core.specs.Pairs.{IsPair, HaveMet}
 use Rattle.state_core.specs.ZoneState.{ZoneState}
-use Rattle.state_core.specs.Carrying.{page_now, settled}
+use Rattle.state_core.specs.Carrying.{page_now, relocated}
 
 -- the journal has a place for the isolation and one to end it, besides those that end the pages that are out
 abbrev pub isolate_refusal : ZoneState → Option ZoneError
@@ -23,12 +23,14 @@ isolate_refusal z = if nat_lt (length (out z.records) + 1) z.room then None else
 abbrev pub isolated_next : ZoneState → Pair → ZoneState
 isolated_next z pair =
     let serial = isolated z.records in
-    record (settled z (Isolate serial pair.page) pair.page (Moving serial pair.source pair.target)) { migrate = pair.source + 1; free = pair.target }
+    record (relocated z (Isolate serial pair.page) pair.page (Moving serial pair.source pair.target)) { migrate = pair.source + 1; free = pair.target }
 
+-- the answer: the page of the pair, and where there is none that the scanners met
 abbrev pub next_answer : ZoneState → Option Pair → Next
 next_answer z None = next.Met
 next_answer z (Some pair) = next.Page (record { serial = isolated z.records; page = page_now z pair.page })
 
+-- and the zone then
 abbrev pub next_state : ZoneState → Option Pair → ZoneState
 next_state z None = z
 next_state z (Some pair) = isolated_next z pair

@@ -28,6 +28,7 @@ pub record IsBlock (frames first order : ℕ) : Type 0 where
   pub aligned : (k : ℕ) × (first ≡ k * 2 ^ order)
   pub within : first + 2 ^ order ≤ frames
 
+-- what is true of every zone
 pub record IsLawful (z : ZoneState) : Type 0 where
   -- a zone has 1 to 8 pageblocks, and its journal at most 65536 places
   pub size : (0 < z.blocks) × (z.blocks ≤ 8)

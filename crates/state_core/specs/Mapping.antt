@@ -10,6 +10,7 @@ use Rattle.std.specs.FinMap as map
 use Rattle.std.specs.FinSet as set
 use Rattle.journal_core.specs.declared.record.Record.TheVariants.{Map}
 
+-- of a map, at the lowest free frame
 abbrev pub map_refusal : ZoneState → Address → Option ZoneError
 map_refusal z address =
     if not (has_room z) then Some JournalFull
@@ -17,6 +18,7 @@ map_refusal z address =
     else if is_none (lowest_free_frame z) then Some NoFrame
     else None
 
+-- of a map at a frame that is given
 abbrev pub map_at_refusal : ZoneState → Address → ℕ → Option ZoneError
 map_at_refusal z address frame =
     if not (nat_lt frame (frame_count z)) then Some Range

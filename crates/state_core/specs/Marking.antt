@@ -7,6 +7,7 @@ use Rattle.state_core.specs.declared.error.ZoneError.{ZoneError}
 use Rattle.state_core.specs.declared.error.ZoneError.TheVariants.{Range, JournalFull, Marked, NotMarked}
 use Rattle.state_core.specs.ZoneState.{ZoneState, has_room, noted}
 
+-- of marking a pageblock
 abbrev pub mark_refusal : ZoneState → ℕ → Option ZoneError
 mark_refusal z block =
     if not (nat_lt block z.blocks) then Some Range
@@ -14,6 +15,7 @@ mark_refusal z block =
     else if set.contains z.marked block then Some Marked
     else None
 
+-- of taking its mark off
 abbrev pub unmark_refusal : ZoneState → ℕ → Option ZoneError
 unmark_refusal z block =
     if not (nat_lt block z.blocks) then Some Range
@@ -21,9 +23,11 @@ unmark_refusal z block =
     else if not (set.contains z.marked block) then Some NotMarked
     else None
 
+-- the pageblock is marked
 abbrev pub block_marked : ZoneState → ℕ → ZoneState
 block_marked z block = record (noted z (Mark block)) { marked = set.insert z.marked block }
 
+-- and is marked no more
 abbrev pub block_unmarked : ZoneState → ℕ → ZoneState
 block_unmarked z block = record (noted z (Unmark block)) { marked = set.remove z.marked block }
 

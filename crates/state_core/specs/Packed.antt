@@ -40,7 +40,7 @@ unmarked_whole z = count_below (λ block. not (set.contains z.marked block) && i
 abbrev pub marked_whole : ZoneState → ℕ
 marked_whole z = count_below (λ block. set.contains z.marked block && is_whole z block) z.blocks
 
--- another frame for each page of a zone, its own and not handed out; pages of marked pageblocks keep theirs, and none comes in
+-- a frame for each page of a zone, its own and not handed out; pages of marked pageblocks keep theirs, and none comes in
 pub record IsPlacement (z : ZoneState) (place : ℕ → Option ℕ) : Type 0 where
   pub same_pages : (page : ℕ) → is_some (place page) ≡ is_some (map.get z.placement page)
   pub within : (page frame : ℕ) → place page ≡ Some frame → frame < frame_count z

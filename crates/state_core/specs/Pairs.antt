@@ -1,4 +1,5 @@
--- The page that a round isolates next, and the frame that it goes to.
+-- The page that a round isolates next, and the frame that it goes to: first as a relation, `IsPair`, and behind it as a machine
+-- searches for it, `next_pair`. The clauses of `isolate_next` say both, so its proof makes the two one.
 use Rattle.std.specs.Prelude.{◌≡◌, ℕ, ◌/◌, ◌<◌, ◌≤◌, Bool, true, false, not, ◌&&◌, ◌||◌, length, nat_eq, nat_lt, nat_le, Option, Some, None}
 use Rattle.std.specs.FinMap as map
 use Rattle.std.specs.FinSet as set
@@ -54,6 +55,7 @@ stands_in (Some (Moving serial source target)) frame = false
 abbrev pub holder : ZoneState → ℕ → Option ℕ
 holder z frame = lowest (λ page. stands_in (map.get z.placement page) frame) (frame_count z)
 
+-- the same of the page that a frame holds, if it holds one
 abbrev pub can_move_if_some : ZoneState → Option ℕ → Bool
 can_move_if_some z None = false
 can_move_if_some z (Some page) = can_move z page
@@ -66,16 +68,20 @@ holds_movable z frame = not (is_marked z frame) && can_move_if_some z (holder z 
 abbrev pub takes_movable : ZoneState → ℕ → Bool
 takes_movable z frame = not (is_marked z frame) && is_free z frame
 
+-- the lowest source
 abbrev pub next_source : ZoneState → Option ℕ
 next_source z = lowest (λ frame. nat_le z.migrate frame && holds_movable z frame) z.free
 
+-- the highest target of a source
 abbrev pub next_target : ZoneState → ℕ → Option ℕ
 next_target z source = highest (λ frame. nat_lt source frame && takes_movable z frame) z.free
 
+-- a source with its page and its target, if it has both
 abbrev pub pair_from : ℕ → Option ℕ → Option ℕ → Option Pair
 pair_from source (Some page) (Some target) = Some (record { page = page; source = source; target = target })
 pair_from source _ _ = None
 
+-- the pair of a source, if there is one
 abbrev pub pair_at : ZoneState → Option ℕ → Option Pair
 pair_at z None = None
 pair_at z (Some source) = pair_from source (holder z source) (next_target z source)
@@ -84,6 +90,7 @@ pair_at z (Some source) = pair_from source (holder z source) (next_target z sour
 abbrev pub next_pair : ZoneState → Option Pair
 next_pair z = pair_at z (next_source z)
 
+-- whether there is a page that may not be taken from its frame
 abbrev pub stays_if_some : ZoneState → Option ℕ → Bool
 stays_if_some z None = false
 stays_if_some z (Some page) = not (can_move z page)

@@ -12,6 +12,7 @@ use Rattle.state_core.specs.ZoneState.{ZoneState, has_room, noted}
 abbrev pub pins_at : ZoneState → Address → ℕ
 pins_at z address = pins z.records (unwrap_or (page_at z.records address) 0)
 
+-- of a pin: a page has 255 at most
 abbrev pub pin_refusal : ZoneState → Address → Option ZoneError
 pin_refusal z address =
     if not (has_room z) then Some JournalFull
@@ -19,6 +20,7 @@ pin_refusal z address =
     else if nat_le 255 (pins_at z address) then Some PinFull
     else None
 
+-- of taking one off
 abbrev pub unpin_refusal : ZoneState → Address → Option ZoneError
 unpin_refusal z address =
     if not (has_room z) then Some JournalFull
@@ -26,8 +28,10 @@ unpin_refusal z address =
     else if nat_eq (pins_at z address) 0 then Some NotPinned
     else None
 
+-- the page has one pin more, which the journal tells
 abbrev pub pinned : ZoneState → ℕ → Address → ZoneState
 pinned z client address = noted z (Pin client address)
 
+-- and one fewer
 abbrev pub unpinned : ZoneState → ℕ → Address → ZoneState
 unpinned z client address = noted z (Unpin client address)

@@ -20,6 +20,7 @@ alias_refusal z address alias =
     else if nat_le 4 (maps_at z address) then Some ShareFull
     else None
 
+-- of a share
 abbrev pub share_refusal : ZoneState → Address → Address → Option ZoneError
 share_refusal z address alias =
     if not (has_room z) then Some JournalFull

@@ -21,6 +21,7 @@ is_last z address = nat_eq (maps_at z address) 1
 abbrev pub last_refusal : ZoneState → Address → Option ZoneError
 last_refusal z address = if is_last z address && not (nat_eq (pins_at z address) 0) then Some Pinned else None
 
+-- of an unmap
 abbrev pub unmap_refusal : ZoneState → Address → Option ZoneError
 unmap_refusal z address =
     if not (has_room z) then Some JournalFull

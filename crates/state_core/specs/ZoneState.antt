@@ -1,4 +1,4 @@
--- How the tables of a zone stand for its state.
+-- The state of a zone, one record, and what is read off it: which frames are free, what has room, and what is quiet.
 use Rattle.std.specs.Prelude.{ℕ, ◌+◌, true, false, List, length, nat_eq, Option, Some, None, ◌-◌, ◌*◌, ◌^◌, Bool, not, ◌&&◌, ◌||◌, ◌∷◌, take, nat_lt, nat_le, is_none}
 use Rattle.std.specs.FinMap as map
 use Rattle.frame_core.specs.declared.place.Address.{Address}
@@ -15,14 +15,16 @@ use Rattle.journal_core.specs.declared.record.Record.TheVariants.{Load, Store, I
 use Rattle.journal_core.specs.History.{page_at}
 use Rattle.state_core.specs.declared.round.RoundStart.{RoundStart}
 
+-- what contracts see of a zone
 pub record ZoneState : Type 0 where
   pub number : ℕ
+  -- how many pageblocks it has
   pub blocks : ℕ
   -- the journal, the newest record first
   pub records : List Record
   -- the places that it has left
   pub room : ℕ
-  -- the pages in use that were mapped so
+  -- the pages in use that were mapped as unmovable
   pub unmovable : set.FinSet nat_cmp
   -- the marked pageblocks
   pub marked : set.FinSet nat_cmp
@@ -30,7 +32,7 @@ pub record ZoneState : Type 0 where
   pub handed_out : map.FinMap nat_cmp ℕ
   -- where each page in use is
   pub placement : map.FinMap nat_cmp Placement
-  -- the fingers of the two scanners
+  -- the migrate finger and the free finger of the two scanners: frames, from 0 to the number of frames
   pub migrate : ℕ
   pub free : ℕ
   -- how the latest round began, if there was one
@@ -64,6 +66,7 @@ is_used z frame = some_below (λ page. takes_up (map.get z.placement page) frame
 abbrev pub is_held : ZoneState → ℕ → Bool
 is_held z frame = some_below (λ first. covers (map.get z.handed_out first) first frame) (frame_count z)
 
+-- whether a frame is of no page and of no block that is handed out
 abbrev pub is_free : ZoneState → ℕ → Bool
 is_free z frame = not (is_used z frame) && not (is_held z frame)
 
@@ -75,6 +78,7 @@ free_in_block z block = count_from (is_free z) (512 * block) 512
 abbrev pub is_whole : ZoneState → ℕ → Bool
 is_whole z block = nat_eq (free_in_block z block) 512
 
+-- the lowest frame that is free
 abbrev pub lowest_free_frame : ZoneState → Option ℕ
 lowest_free_frame z = lowest (is_free z) (frame_count z)
 
@@ -102,10 +106,11 @@ keeps_quiet (Isolate serial page) = true
 keeps_quiet (Moved serial) = true
 keeps_quiet _ = false
 
--- the records behind the first n
+-- the records that were noted after the oldest n
 abbrev pub since : ℕ → List Record → List Record
 since n records = take (length records - n) records
 
+-- of these records: a round that began so was calm, and only such calls were made since then
 abbrev pub is_quiet_since : List Record → Option RoundStart → Bool
 is_quiet_since records None = false
 is_quiet_since records (Some start) = start.calm && list_all keeps_quiet (since start.records records)

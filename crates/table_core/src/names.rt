@@ -24,6 +24,7 @@ impl Model for Names {
 }
 
 impl Names {
+    /// A list with no address.
     pub fn none() -> Self
         ensures { result ≡ [] }
     {
@@ -32,6 +33,7 @@ impl Names {
         }
     }
 
+    /// Its addresses, 4 at most, in rising order.
     pub fn as_slice(&self) -> &[Address]
         ensures value { result.now ≡ self.now }
         ensures few { length self.now ≤ 4 }
@@ -39,6 +41,7 @@ impl Names {
         self.addresses.as_slice()
     }
 
+    /// Puts an address at its place. There have to be fewer than 4.
     pub fn insert(&mut self, address: Address)
         requires { length self.old < 4 }
         ensures { self.new ≡ inserted self.old address }
@@ -47,6 +50,7 @@ impl Names {
         self.addresses.insert(place, address);
     }
 
+    /// Takes an address of the list out.
     pub fn remove(&mut self, address: &Address)
         requires rising { IsRising self.old }
         requires named { IsIn self.old address.now }

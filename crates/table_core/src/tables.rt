@@ -36,7 +36,7 @@ impl Model for Tables {
 }
 
 impl Tables {
-    /// Tables of so many pageblocks, in which each address is absent. No other call takes memory.
+    /// Tables of so many pageblocks, 8 at most, in which each address is absent. No other call takes memory.
     pub fn open(alloc: Global, blocks: u32) -> Result<Tables, AllocError>
         requires { blocks ≤ 8 }
         ensures blank { IfOk result (λ tables. IsBlank tables.entries) }
@@ -47,6 +47,7 @@ impl Tables {
         Ok(Tables { entries, lists })
     }
 
+    /// What an address names.
     pub fn entry(&self, address: Address) -> Entry
         ensures value { result ≡ entry_at self.now.entries address }
         ensures range { InRange address }
@@ -55,7 +56,7 @@ impl Tables {
         self.entries[place]
     }
 
-    /// Whether a further address may name a frame.
+    /// Whether a further address may name a frame: fewer than 4 are listed under it.
     pub fn has_room(&self, frame: FrameNo) -> bool
         requires { frame < self.now.frames }
         ensures { IsTrue result ↔ (count_listed self.now.entries frame < 4) }
@@ -63,7 +64,7 @@ impl Tables {
         self.lists[frame.get() as usize].as_slice().len() < 4
     }
 
-    /// Lets an absent address name the page in a frame.
+    /// Lets an absent address name the page in a frame. `has_room` has to be true of the frame.
     pub fn set(&mut self, address: Address, frame: FrameNo)
         requires absent { entry_at self.old.entries address ≡ Entry.Absent }
         requires within { frame < self.old.frames }
@@ -90,7 +91,8 @@ impl Tables {
         }
     }
 
-    /// Sends the page in a frame on its way: each address that named the frame names the migration now.
+    /// Sends the page in a frame on its way: each address that named the frame names the migration now. No address may name a
+    /// migration with this serial before.
     pub fn to_migration(&mut self, frame: FrameNo, serial: Serial)
         requires within { frame < self.old.frames }
         requires fresh { (a : Named) (source : ℕ) → InRange a → entry_at self.old.entries a ≢ Entry.Migration serial source }
@@ -106,7 +108,9 @@ impl Tables {
         replace(&mut self.entries, names, &present, &migration);
     }
 
-    /// Ends a migration: each address that named it names the frame now.
+    /// Ends a migration: each address that named it names the frame now. `source` is the frame that the page left. Each
+    /// address that is listed under it has to name this migration, and none may be listed under another frame to which the
+    /// page goes.
     pub fn to_present(&mut self, serial: Serial, source: FrameNo, frame: FrameNo)
         requires source_within { source < self.old.frames }
         requires within { frame < self.old.frames }
@@ -122,7 +126,7 @@ impl Tables {
         self.lists.swap(source.get() as usize, frame.get() as usize);
     }
 
-    /// The addresses that name the page in a frame.
+    /// The addresses that name the page in a frame, in rising order.
     pub fn mappings(&self, frame: FrameNo) -> ArrayVec<Address, 4>
         requires { frame < self.now.frames }
         ensures { AreJust result.items (λ a. entry_at self.now.entries a ≡ Entry.Present frame) }
@@ -131,7 +135,7 @@ impl Tables {
         those_with(&self.entries, names, &Entry::Present(frame))
     }
 
-    /// The addresses that name a page on its way, by its serial and the frame that it left.
+    /// The addresses that name a page on its way, by its serial and the frame that it left, in rising order.
     pub fn mappings_moving(&self, serial: Serial, source: FrameNo) -> ArrayVec<Address, 4>
         requires { source < self.now.frames }
         ensures { AreJust result.items (λ a. entry_at self.now.entries a ≡ Entry.Migration serial source) }

@@ -208,6 +208,7 @@ as_client (call.Pin a) = Some (client.Pin a)
 as_client (call.Unpin a) = Some (client.Unpin a)
 as_client _ = None
 
+-- the same of a call whose arguments may be out of their ranges
 abbrev pub client_of : Option Call → Option ClientCall
 client_of (Some c) = as_client c
 client_of None = None

@@ -1,10 +1,8 @@
 -- The line of a reply.
-use Rattle.std.specs.Prelude.{◌≡◌, ℕ, Bool, ◌==◌, List, [], ◌∷◌, ◌++◌, length, flat_map, codes, decimal, count_by, nat_eq, if◌then◌else◌}
-use Rattle.std.specs.Int.RustNames.{bit_and}
-use Rattle.frame_core.specs.declared.flags.PageFlags.{PageFlags}
+use Rattle.std.specs.Prelude.{◌≡◌, ℕ, Bool, List, [], ◌∷◌, ◌++◌, length, flat_map, codes, decimal, count_by, nat_eq, if◌then◌else◌}
 use Rattle.state_core.specs.declared.information.Look.{Look}
 use Rattle.state_core.specs.declared.information.Look.TheVariants.{At, Moving}
-use Rattle.frame_core.specs.PageFlags.{is_unmovable}
+use Rattle.frame_core.specs.PageFlags.{is_unmovable, is_dirty}
 use Rattle.state_core.specs.declared.information.Info.{Info}
 use Rattle.text_core.specs.declared.pool.PoolBlocks.{PoolBlocks}
 use Rattle.text_core.specs.declared.pool.PoolBlocks.TheVariants.{Pageblocks, OfOrder}
@@ -23,10 +21,6 @@ newlines bytes = count_by (λ byte. nat_eq byte 10) bytes
 abbrev pub counts_text : Info → List ℕ
 counts_text i = codes "free=" ++ decimal i.free ++ codes " pages=" ++ decimal i.pages ++ codes " moving=" ++ decimal i.moving
     ++ codes " huge=" ++ decimal i.huge ++ codes " whole=" ++ decimal i.whole
-
--- whether the flags of a page say that it was stored to
-abbrev pub is_dirty : PageFlags → Bool
-is_dirty flags = bit_and flags.0 2 == 2
 
 -- 1 where something is so, and 0 where not
 abbrev pub one_if : Bool → List ℕ

@@ -21,7 +21,7 @@ impl Model for BlockCount {
 }
 
 impl BlockCount {
-    /// None where the number is out of its range.
+    /// The number as one of 1 to 8. None where it is out of this range.
     pub fn new(number: u32) -> Option<Self>
         ensures valid { IsSome result ↔ ((0 < number) × (number ≤ 8)) }
         ensures value { IfSome result (λ n. n ≡ number) }
@@ -35,6 +35,7 @@ impl BlockCount {
         }
     }
 
+    /// The number, 1 to 8.
     pub fn get(self) -> u32
         ensures value { result ≡ self }
         ensures low { 0 < result }

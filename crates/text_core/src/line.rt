@@ -44,6 +44,8 @@ fn is_long(line: &[u8]) -> bool
 }
 
 /// The command that a line is, or begins, where it is read by this profile; None where the line is empty or a comment.
+///
+/// Refused as LongLine where it has more than 200 bytes, else as Syntax where it is no command.
 pub fn read_line(profile: Profile, line: &[u8]) -> Result<Option<Command>, ScriptError>
     ensures { result ≡ line_of profile line.now }
 {
@@ -57,6 +59,8 @@ pub fn read_line(profile: Profile, line: &[u8]) -> Result<Option<Command>, Scrip
 }
 
 /// What a line says in a block for the zone with this number; None where the line is empty or a comment.
+///
+/// Refused as LongLine where it has more than 200 bytes, else as Syntax where it says nothing that stands in a block.
 pub fn read_block_line(zone: u64, line: &[u8]) -> Result<Option<BlockLine>, ScriptError>
     ensures { result ≡ line_within zone line.now }
 {

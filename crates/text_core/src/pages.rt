@@ -21,7 +21,7 @@ impl Model for PageCount {
 }
 
 impl PageCount {
-    /// None where the number is out of its range.
+    /// The number as one of 0 to 4096. None where it is out of this range.
     pub fn new(number: u32) -> Option<Self>
         ensures valid { IsSome result ↔ (number ≤ 4096) }
         ensures value { IfSome result (λ n. n ≡ number) }
@@ -35,6 +35,7 @@ impl PageCount {
         }
     }
 
+    /// The number, 0 to 4096.
     pub fn get(self) -> u32
         ensures value { result ≡ self }
         ensures range { result ≤ 4096 }

@@ -69,7 +69,7 @@ pub enum Stopped {
     JournalFull,
 }
 
-/// The line of a reply.
+/// The line of a reply. It ends with a newline and has no other.
 pub fn reply_text(reply: Reply) -> ArrayString<160>
     ensures text { result.bytes ≡ text_of reply }
     ensures line { IsOneLine result.bytes }
@@ -79,7 +79,7 @@ pub fn reply_text(reply: Reply) -> ArrayString<160>
     text
 }
 
-/// Appends the line of a reply.
+/// Appends the line of a reply to a text with room for 160 bytes more.
 #[inline(always)]
 pub fn push_reply<const N: usize>(text: &mut ArrayString<N>, reply: Reply)
     requires { array_string_len text.old + 160 ≤ N }

@@ -20,24 +20,28 @@ impl Model for Copied {
 }
 
 impl Copied {
+    /// The serial that its zone gave it.
     pub fn serial(&self) -> Serial
         ensures { result ≡ self.now.serial }
     {
         self.serial
     }
 
+    /// The number of the page in its zone.
     pub fn page_no(&self) -> PageNo
         ensures { result ≡ self.now.page.number }
     {
         self.page.number()
     }
 
+    /// The page, with its words.
     pub fn page(&self) -> &Page
         ensures { result.now ≡ self.now.page }
     {
         &self.page
     }
 
+    /// The page, without its serial.
     pub fn into_page(self) -> Page
         ensures { result ≡ self.page }
     {

@@ -21,6 +21,8 @@ impl Model for Isolated {
 }
 
 impl Isolated {
+    /// A page under a serial. A zone takes it only where a page with its number is on its way there under this serial, and
+    /// else hands it back as a `Stranger`.
     pub fn new(serial: Serial, page: Page) -> Self
         ensures serial { result.serial ≡ serial }
         ensures page { result.page ≡ page }
@@ -28,18 +30,21 @@ impl Isolated {
         Isolated { serial, page }
     }
 
+    /// The serial that its zone gave it.
     pub fn serial(&self) -> Serial
         ensures { result ≡ self.now.serial }
     {
         self.serial
     }
 
+    /// The number of the page in its zone.
     pub fn page_no(&self) -> PageNo
         ensures { result ≡ self.now.page.number }
     {
         self.page.number()
     }
 
+    /// The page, with its words.
     pub fn page(&self) -> &Page
         ensures { result.now ≡ self.now.page }
     {
@@ -56,6 +61,7 @@ impl Isolated {
         }
     }
 
+    /// The page, without its serial.
     pub fn into_page(self) -> Page
         ensures { result ≡ self.page }
     {

@@ -38,43 +38,49 @@ impl Page {
         }
     }
 
+    /// The number of its zone.
     pub fn zone(&self) -> ZoneNo
         ensures { result ≡ self.now.zone }
     {
         self.zone
     }
 
+    /// Its number in its zone.
     pub fn number(&self) -> PageNo
         ensures { result ≡ self.now.number }
     {
         self.number
     }
 
+    /// What is noted of it.
     pub fn flags(&self) -> PageFlags
         ensures { result ≡ self.now.flags }
     {
         self.flags
     }
 
+    /// Notes these flags in place of those that it has.
     pub fn set_flags(&mut self, flags: PageFlags)
         ensures { self.new ≡ record self.old { flags = flags } }
     {
         self.flags = flags;
     }
 
+    /// The value of one of its eight words.
     pub fn word(&self, word: WordNo) -> u64
         ensures { result ≡ slice_index self.now.words word }
     {
         self.words[word.get() as usize]
     }
 
+    /// Gives one of its words another value.
     pub fn set_word(&mut self, word: WordNo, value: u64)
         ensures { self.new ≡ record self.old { words = slice_set self.old.words word value } }
     {
         self.words[word.get() as usize] = value;
     }
 
-    /// Copies the flags and each word into a new page.
+    /// Copies the flags and each word into a new page. The copy has the same zone and number.
     pub fn copy_into_new(self) -> Page
         ensures { result ≡ self }
     {

@@ -34,6 +34,7 @@ impl Words {
         Ok(Words { rows })
     }
 
+    /// The value of a word of a frame. The frame has to be one of those that there are, here and in each call below.
     pub fn load(&self, frame: FrameNo, word: WordNo) -> u64
         requires { frame < length self.now }
         ensures value { result ≡ word_of self.now frame word }
@@ -42,6 +43,7 @@ impl Words {
         self.row(frame)[word.get() as usize]
     }
 
+    /// Gives a word of a frame another value.
     pub fn store(&mut self, frame: FrameNo, word: WordNo, value: u64)
         requires { frame < length self.old }
         ensures stored { self.new ≡ with_word self.old frame word value }

@@ -15,7 +15,7 @@ use Rattle.state_core.specs.declared.placement.Placement.{Placement}
 use Rattle.state_core.specs.declared.placement.Placement.TheVariants.{At, Moving}
 use Rattle.zone_core.specs.Books.{AreBooks}
 use Rattle.state_core.specs.Lawful.{IsLawful, is_under}
-use Rattle.state_core.specs.Carrying.{settled}
+use Rattle.state_core.specs.Carrying.{relocated}
 use Rattle.state_core.specs.Ending.{is_own, IsSettled, IsEnded}
 use Rattle.state_core.specs.Packed.{IsPacked}
 use Rattle.state_core.specs.Pairs.{HaveMet}
@@ -29,7 +29,7 @@ neither true b e = e
 neither false b e = refl
 
 -- a page whose move has ended is on its way no more
-pub ended_once : (v : ZoneState) (entry : Record) (page frame : ℕ) (p : OnItsWay) → p.page.number ≡ page → is_own (settled v entry page (At frame)) p ≡ false
+pub ended_once : (v : ZoneState) (entry : Record) (page frame : ℕ) (p : OnItsWay) → p.page.number ≡ page → is_own (relocated v entry page (At frame)) p ≡ false
 ended_once v entry page frame p e = neither (nat_eq p.page.zone v.number) _ (ap (λ (o : Option Placement). is_under o p.serial) (get_insert_same v.placement page p.page.number (At frame) e))
 
 -- the end of a move, in the words of the public call

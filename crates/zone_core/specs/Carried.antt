@@ -16,11 +16,12 @@ hand_as Nothing = hand.Empty
 hand_as (Page p) = hand.Page p.serial
 hand_as (Copy p) = hand.Copy p.serial
 
--- the page that a hand holds, and the copy
+-- the page that a hand holds
 abbrev pub page_held : Held → Option OnItsWay
 page_held (Page p) = Some p
 page_held _ = None
 
+-- the copy that it holds
 abbrev pub copy_held : Held → Option OnItsWay
 copy_held (Copy p) = Some p
 copy_held _ = None
@@ -34,6 +35,7 @@ is_nothing _ = false
 abbrev pub held_at : List Held → ℕ → Held
 held_at hands k = unwrap_or (slice_get hands (k - 1)) Nothing
 
+-- the serials of pages on their way, in their order
 abbrev pub serials_of : List OnItsWay → List ℕ
 serials_of list = each (λ p. p.serial) list
 
@@ -41,6 +43,7 @@ serials_of list = each (λ p. p.serial) list
 abbrev pub AreOwn : ZoneState → List OnItsWay → Type 0
 AreOwn zone list = (i : ℕ) (p : OnItsWay) → slice_get list i ≡ Some p → IsOwnCopy zone p
 
+-- the state that contracts see
 abbrev pub world_of : ZoneState → ScanSeat → EndSeat → Bool → List OnItsWay → List Held → WorldState
 world_of zone scan ends is_open list held =
     record { zone = zone; scan = scan; ends = ends; is_open = is_open; waiting = serials_of list; hands = each hand_as held }

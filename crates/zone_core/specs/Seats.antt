@@ -26,6 +26,7 @@ pub record EndSeat : Type 0 where
   pub moved : ℕ
   pub back : ℕ
 
+-- the seats with which a zone opens
 abbrev pub fresh_scan_seat : ScanSeat
 fresh_scan_seat = record { count = 0; rounds = 0; last = None }
 

@@ -21,6 +21,7 @@ use Rattle.state_core.specs.Opening.{opened}
 use Rattle.state_core.specs.ZoneState.{ZoneState, frame_count}
 use Rattle.zone_core.specs.Seats.{ScanSeat, EndSeat, fresh_scan_seat, fresh_end_seat, seat_begun, seat_full, seat_noted, seat_ended}
 
+-- what contracts see of a world
 pub record WorldState : Type 0 where
   pub zone : ZoneState
   -- the seat of its scanner, and the seat of those who end moves
@@ -41,7 +42,7 @@ world_closed zone scan ends = record { zone = zone; scan = scan; ends = ends; is
 abbrev pub world_opened : ℕ → ℕ → ℕ → WorldState
 world_opened number blocks places = world_closed (opened number blocks places) fresh_scan_seat fresh_end_seat
 
--- a call of the zone
+-- the world with this zone in place of its own
 abbrev pub with_zone : WorldState → ZoneState → WorldState
 with_zone w zone = record w { zone = zone }
 
@@ -49,22 +50,26 @@ with_zone w zone = record w { zone = zone }
 abbrev pub hand_of : WorldState → ℕ → Hand
 hand_of w k = unwrap_or (slice_get w.hands (k - 1)) Empty
 
+-- the world where hand k, 1 to 4, holds this
 abbrev pub with_hand : WorldState → ℕ → Hand → WorldState
 with_hand w k hand = record w { hands = slice_set w.hands (k - 1) hand }
 
+-- whether a hand holds nothing
 abbrev pub is_empty : Hand → Bool
 is_empty Empty = true
 is_empty _ = false
 
--- the serial of the page that a hand holds, and of a copy that it holds
+-- the serial of the page that a hand holds
 abbrev pub page_in : Hand → Option ℕ
 page_in (Page serial) = Some serial
 page_in _ = None
 
+-- the serial of the copy that it holds
 abbrev pub copy_in : Hand → Option ℕ
 copy_in (CopyOf serial) = Some serial
 copy_in _ = None
 
+-- the serial of either
 abbrev pub serial_in : Hand → Option ℕ
 serial_in Empty = None
 serial_in (Page serial) = Some serial
@@ -78,10 +83,12 @@ round_opened w = record w {
   is_open = true;
 }
 
+-- what a scan finds where this is the pair
 abbrev pub scanned_by : ZoneState → Option Pair → Scanned
 scanned_by z None = found.Met
 scanned_by z (Some pair) = found.Serial (isolated z.records)
 
+-- the page of the pair waits behind the others, and the seat notes the answer
 abbrev pub isolated_by : WorldState → Option Pair → WorldState
 isolated_by w None = record w { scan = seat_noted w.scan next.Met }
 isolated_by w (Some pair) = record w {
@@ -90,6 +97,7 @@ isolated_by w (Some pair) = record w {
   waiting = w.waiting ++ isolated w.zone.records ∷ [];
 }
 
+-- of a scan, once its round is open
 abbrev pub scan_refusal : WorldState → Option ZoneError
 scan_refusal w = isolate_refusal (round_opened w).zone
 
@@ -97,10 +105,11 @@ scan_refusal w = isolate_refusal (round_opened w).zone
 abbrev pub scan_stopped : WorldState → WorldState
 scan_stopped w = record (round_opened w) { scan = seat_full (round_opened w).scan }
 
--- a scan isolates the next page, and it waits behind the others; the seat notes the answer
+-- the answer of a scan: the serial of the next page
 abbrev pub scan_answer : WorldState → Scanned
 scan_answer w = scanned_by (round_opened w).zone (next_pair (round_opened w).zone)
 
+-- a scan isolates that page, and it waits behind the others; the seat notes the answer
 abbrev pub scanned : WorldState → WorldState
 scanned w = isolated_by (round_opened w) (next_pair (round_opened w).zone)
 
@@ -109,6 +118,7 @@ abbrev pub taken_by : WorldState → ℕ → Hand → List ℕ → Option (ℕ �
 taken_by w k Empty (serial ∷ more) = Some (serial, record (with_hand w k (Page serial)) { waiting = more })
 taken_by w k _ _ = None
 
+-- the serial and the world of a take, and none where it is refused
 abbrev pub take_step : WorldState → ℕ → Option (ℕ × WorldState)
 take_step w k = taken_by w k (hand_of w k) w.waiting
 
@@ -116,10 +126,11 @@ take_step w k = taken_by w k (hand_of w k) w.waiting
 abbrev pub copy_step : WorldState → ℕ → Option WorldState
 copy_step w k = option_and_then (λ serial. Some (with_hand w k (CopyOf serial))) (page_in (hand_of w k))
 
--- how the move of a serial ends, and the zone then
+-- how the move of a serial ends
 abbrev pub finished_as : ZoneState → ℕ → Finished
 finished_as z serial = record { serial = serial; ended = ended_as z (unwrap_or (page_of z.records serial) 0) }
 
+-- and the zone then
 abbrev pub finished_in : ZoneState → ℕ → ZoneState
 finished_in z serial = committed z serial (unwrap_or (page_of z.records serial) 0)
 
@@ -130,6 +141,7 @@ finished_by w k serial = record (with_hand w k Empty) {
   ends = seat_ended w.ends (finished_as w.zone serial).ended;
 }
 
+-- the end and the world of a finish, and none where it is refused
 abbrev pub finish_step : WorldState → ℕ → Option (Finished × WorldState)
 finish_step w k = option_and_then (λ serial. Some (finished_as w.zone serial, finished_by w k serial)) (copy_in (hand_of w k))
 
@@ -147,6 +159,7 @@ shut w = record w {
   waiting = [];
 }
 
+-- the number of pages and the world of a shut, and none where it is refused
 abbrev pub shut_step : WorldState → Option (ℕ × WorldState)
 shut_step w = if list_all is_empty w.hands then Some (length w.waiting, shut w) else None
 
@@ -155,14 +168,16 @@ abbrev pub IsRising : List ℕ → Type 0
 IsRising [] = Unit {0}
 IsRising (n ∷ more) = ((m : ℕ) → IsTrue (list_any (nat_eq m) more) → n < m) × IsRising more
 
--- whether a serial waits, or is in a hand
+-- whether a serial waits
 abbrev pub waits : WorldState → ℕ → Bool
 waits w serial = list_any (nat_eq serial) w.waiting
 
+-- whether this is that serial
 abbrev pub is_in : ℕ → Option ℕ → Bool
 is_in serial None = false
 is_in serial (Some s) = nat_eq serial s
 
+-- whether a serial is in a hand
 abbrev pub is_in_hand : WorldState → ℕ → Bool
 is_in_hand w serial = list_any (λ hand. is_in serial (serial_in hand)) w.hands
 
@@ -179,5 +194,5 @@ pub record IsOrderly (w : WorldState) : Type 0 where
   pub one_place : (k serial : ℕ) → 0 < k → serial_in (hand_of w k) ≡ Some serial → waits w serial ≡ false
   -- a closed round has no page on its way
   pub closed : w.is_open ≡ false → (serial : ℕ) → is_out w.zone.records serial ≡ false
-  -- the list has room for each page that a round can isolate
+  -- no more pages wait than there are frames below the migrate finger, or from the free finger on: at most half as many as frames
   pub few : (length w.waiting ≤ w.zone.migrate) × (length w.waiting + w.zone.free ≤ frame_count w.zone)

@@ -14,8 +14,10 @@ use state_core::ZoneError;
 use std::sync::ledger::Ledger;
 
 impl<I: Ledger, M: Ledger, B: Ledger> Zone<I, M, B> {
-    /// Hands out the lowest free block of an order: frames that are of no page, from a multiple of their number on. Marks don't
-    /// count.
+    /// Hands out the lowest free block of an order, and answers its first frame: frames that are of no page, from a multiple
+    /// of their number on. Marks don't count.
+    ///
+    /// Refused as JournalFull or NoBlock.
     pub fn take_order(&mut self, order: Order) -> Result<FrameNo, ZoneError>
         ensures refused { result_err result ≡ take_order_refusal self.old order }
         ensures err { OnErr result (self.new ≡ self.old) }
@@ -37,7 +39,9 @@ impl<I: Ledger, M: Ledger, B: Ledger> Zone<I, M, B> {
         Ok(first)
     }
 
-    /// Takes a block back that was handed out: all of its frames are free again.
+    /// Takes a block back that was handed out, by its first frame and its order: all of its frames are free again.
+    ///
+    /// Refused as Range where the zone has no such block, JournalFull, or NotHuge where it isn't handed out.
     pub fn give_order(&mut self, first: FrameNo, order: Order) -> Result<(), ZoneError>
         ensures refused { result_err result ≡ give_order_refusal self.old first order }
         ensures err { OnErr result (self.new ≡ self.old) }
@@ -60,6 +64,8 @@ impl<I: Ledger, M: Ledger, B: Ledger> Zone<I, M, B> {
     }
 
     /// Hands out the lowest pageblock whose 512 frames are all free.
+    ///
+    /// Refused as JournalFull or NoBlock.
     pub fn take_huge(&mut self) -> Result<BlockNo, ZoneError>
         ensures refused { result_err result ≡ take_order_refusal self.old 9 }
         ensures err { OnErr result (self.new ≡ self.old) }
@@ -74,7 +80,9 @@ impl<I: Ledger, M: Ledger, B: Ledger> Zone<I, M, B> {
         Ok(block_of(first))
     }
 
-    /// Takes a pageblock back that was handed out.
+    /// Takes a pageblock back that was handed out as one block.
+    ///
+    /// Refused as Range where the zone has no such pageblock, JournalFull or NotHuge.
     pub fn give_huge(&mut self, block: BlockNo) -> Result<(), ZoneError>
         ensures refused { result_err result ≡ give_order_refusal self.old (512 * block) 9 }
         ensures err { OnErr result (self.new ≡ self.old) }
@@ -87,6 +95,8 @@ impl<I: Ledger, M: Ledger, B: Ledger> Zone<I, M, B> {
     }
 
     /// Marks a pageblock: the scanners take no frame of it, neither as a source nor as a target.
+    ///
+    /// Refused as Range where the zone has no such pageblock, JournalFull or Marked.
     pub fn mark(&mut self, block: BlockNo) -> Result<(), ZoneError>
         ensures refused { result_err result ≡ mark_refusal self.old block }
         ensures err { OnErr result (self.new ≡ self.old) }
@@ -108,6 +118,8 @@ impl<I: Ledger, M: Ledger, B: Ledger> Zone<I, M, B> {
     }
 
     /// Takes the mark of a pageblock off.
+    ///
+    /// Refused as Range where the zone has no such pageblock, JournalFull or NotMarked.
     pub fn unmark(&mut self, block: BlockNo) -> Result<(), ZoneError>
         ensures refused { result_err result ≡ unmark_refusal self.old block }
         ensures err { OnErr result (self.new ≡ self.old) }

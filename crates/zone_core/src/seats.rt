@@ -19,7 +19,7 @@ pub struct Blanks {
 }
 
 impl Blanks {
-    /// Takes no memory.
+    /// Blanks for one zone, in the parts that its ledgers are cut into. Takes no memory.
     pub fn new() -> Blanks {
         Blanks {
             isolated: Blank::new(1),

@@ -15,6 +15,8 @@ use std::sync::ledger::Ledger;
 
 impl<I: Ledger, M: Ledger, B: Ledger> Zone<I, M, B> {
     /// Lets an alias name the page of an address too. A page has 4 addresses at most.
+    ///
+    /// Refused as JournalFull, Unmapped or Moving (the address), Occupied (the alias), or ShareFull.
     pub fn share(
         &mut self,
         client: ClientNo,
@@ -43,6 +45,8 @@ impl<I: Ledger, M: Ledger, B: Ledger> Zone<I, M, B> {
 
     /// Lets an address name no page any more. With its last address a page ends: its number and its frame may be used again.
     /// A page with a pin keeps its last address.
+    ///
+    /// Refused as JournalFull, Unmapped, Moving or Pinned.
     pub fn unmap(&mut self, client: ClientNo, address: Address) -> Result<(), ZoneError>
         ensures refused { result_err result ≡ unmap_refusal self.old address }
         ensures err { OnErr result (self.new ≡ self.old) }
@@ -64,6 +68,8 @@ impl<I: Ledger, M: Ledger, B: Ledger> Zone<I, M, B> {
 
     /// Pins the page that an address names, also while it is on its way: it may not be moved until each pin is taken off. A
     /// page has 255 pins at most.
+    ///
+    /// Refused as JournalFull, Unmapped or PinFull.
     pub fn pin(&mut self, client: ClientNo, address: Address) -> Result<(), ZoneError>
         ensures refused { result_err result ≡ pin_refusal self.old address }
         ensures err { OnErr result (self.new ≡ self.old) }
@@ -85,6 +91,8 @@ impl<I: Ledger, M: Ledger, B: Ledger> Zone<I, M, B> {
     }
 
     /// Takes a pin off the page that an address names, also while it is on its way.
+    ///
+    /// Refused as JournalFull, Unmapped or NotPinned.
     pub fn unpin(&mut self, client: ClientNo, address: Address) -> Result<(), ZoneError>
         ensures refused { result_err result ≡ unpin_refusal self.old address }
         ensures err { OnErr result (self.new ≡ self.old) }

@@ -84,6 +84,8 @@ impl<I: Ledger, N: Ledger, M: Ledger, B: Ledger> Model for World<I, N, M, B> {
 
 impl<I: Ledger, N: Ledger, M: Ledger, B: Ledger> World<I, N, M, B> {
     /// A world with an empty zone. The blanks are those of the ledgers that the types name; a refusal drops them.
+    ///
+    /// Refused as Range where it isn't 1 to 8 pageblocks and 1 to 65,536 places, else as Memory where there is none.
     pub fn open(
         alloc: Global,
         number: ZoneNo,
@@ -130,7 +132,7 @@ impl<I: Ledger, N: Ledger, M: Ledger, B: Ledger> World<I, N, M, B> {
         self.is_open
     }
 
-    /// Binds an address to a fresh page in the lowest free frame.
+    /// Binds an address to a fresh page in the lowest free frame. Its condition and its refusals are those of `Zone::map`.
     pub fn map(
         &mut self,
         client: ClientNo,
@@ -147,7 +149,8 @@ impl<I: Ledger, N: Ledger, M: Ledger, B: Ledger> World<I, N, M, B> {
         self.zone.map(client, address, flags)
     }
 
-    /// Binds an address to a fresh page in the frame that is given.
+    /// Binds an address to a fresh page in the frame that is given. Its condition and its refusals are those of
+    /// `Zone::map_at`.
     pub fn map_at(
         &mut self,
         client: ClientNo,
@@ -164,7 +167,7 @@ impl<I: Ledger, N: Ledger, M: Ledger, B: Ledger> World<I, N, M, B> {
         self.zone.map_at(client, address, flags, frame)
     }
 
-    /// Reads a word of the page that an address names.
+    /// Reads a word of the page that an address names. Refused as JournalFull, Unmapped or Moving.
     pub fn load(
         &mut self,
         client: ClientNo,
@@ -180,7 +183,7 @@ impl<I: Ledger, N: Ledger, M: Ledger, B: Ledger> World<I, N, M, B> {
         self.zone.load(client, address, word)
     }
 
-    /// Writes a word of the page that an address names.
+    /// Writes a word of the page that an address names. Refused as JournalFull, Unmapped or Moving.
     pub fn store(
         &mut self,
         client: ClientNo,
@@ -196,8 +199,10 @@ impl<I: Ledger, N: Ledger, M: Ledger, B: Ledger> World<I, N, M, B> {
         self.zone.store(client, address, word, value)
     }
 
-    /// Takes the next page on its way, which waits behind the others. It opens a round where none is open, and the seat
-    /// notes its answer.
+    /// Takes the next page on its way, which waits behind the others. It opens a round where none is open, and the seat notes
+    /// its answer.
+    ///
+    /// Refused as JournalFull, as `Zone::isolate_next` is: the round is open then all the same, and the seat notes it.
     pub fn scan(&mut self) -> Result<Scanned, WorldError>
         ensures refused { OnErr result (scan_refusal self.old ≡ Some ZoneError.JournalFull) }
         ensures error { IfErr result (λ error. error ≡ WorldError.Zone ZoneError.JournalFull) }
@@ -245,7 +250,7 @@ impl<I: Ledger, N: Ledger, M: Ledger, B: Ledger> World<I, N, M, B> {
         }
     }
 
-    /// An empty hand takes the page that has waited longest.
+    /// An empty hand takes the page that has waited longest. Refused as Hand where the hand isn't empty or no page waits.
     pub fn take(&mut self, hand: HandNo) -> Result<Serial, WorldError>
         ensures refused { OnErr result (take_step self.old hand ≡ None) }
         ensures hand { IfErr result (λ error. error ≡ WorldError.Hand) }
@@ -265,7 +270,7 @@ impl<I: Ledger, N: Ledger, M: Ledger, B: Ledger> World<I, N, M, B> {
         Ok(serial)
     }
 
-    /// A hand with a page copies it, and has the copy in its place.
+    /// A hand with a page copies it, and has the copy in its place. Refused as Hand where it has no page.
     pub fn copy(&mut self, hand: HandNo) -> Result<(), WorldError>
         ensures refused { OnErr result (copy_step self.old hand ≡ None) }
         ensures hand { IfErr result (λ error. error ≡ WorldError.Hand) }
@@ -280,7 +285,8 @@ impl<I: Ledger, N: Ledger, M: Ledger, B: Ledger> World<I, N, M, B> {
         Ok(())
     }
 
-    /// A hand with a copy brings it to the zone, which ends the move of its page. The hand is empty then.
+    /// A hand with a copy brings it to the zone, which ends the move of its page. The hand is empty then. Refused as Hand
+    /// where it has no copy.
     pub fn finish(&mut self, hand: HandNo) -> Result<Finished, WorldError>
         ensures refused { OnErr result (finish_step self.old hand ≡ None) }
         ensures hand { IfErr result (λ error. error ≡ WorldError.Hand) }
@@ -294,7 +300,8 @@ impl<I: Ledger, N: Ledger, M: Ledger, B: Ledger> World<I, N, M, B> {
         Ok(finish_in(&mut self.zone, &mut self.ends, copy))
     }
 
-    /// Where each hand is empty, closes the round: puts the pages that wait back, in order, and tells how many.
+    /// Closes the round: puts the pages that wait back, in order, and tells how many. Refused as Hand where a hand isn't
+    /// empty.
     pub fn shut(&mut self) -> Result<u32, WorldError>
         ensures refused { OnErr result (shut_step self.old ≡ None) }
         ensures hand { IfErr result (λ error. error ≡ WorldError.Hand) }
@@ -310,7 +317,8 @@ impl<I: Ledger, N: Ledger, M: Ledger, B: Ledger> World<I, N, M, B> {
         Ok(count)
     }
 
-    /// Its zone, its seats and its rest, where no round is open; else the world as it was.
+    /// Takes the world apart: its zone, its seats and its rest. While a round is open by hand it is refused, and the world
+    /// comes back as it was.
     pub fn split(self) -> Result<(Zone<I, M, B>, Seats<I, N, M, B>, Rest), World<I, N, M, B>>
         ensures refused { IsErr result ↔ (self.is_open ≡ true) }
         ensures err { IfErr result (λ world. world ≡ self) }
@@ -334,7 +342,8 @@ impl<I: Ledger, N: Ledger, M: Ledger, B: Ledger> World<I, N, M, B> {
         Ok((zone, Seats { scan, ends }, Rest { waiting }))
     }
 
-    /// A world again, of a zone with its seats where no page is on its way.
+    /// A world again, of a zone with its seats. An audit of them has to be Ok, so no page is on its way, and the rest has to
+    /// fit as many pageblocks as the zone has.
     pub fn join(zone: Zone<I, M, B>, seats: Seats<I, N, M, B>, rest: Rest) -> World<I, N, M, B>
         requires whole { audit_refusal zone seats.ends ≡ None }
         requires rest { rest ≡ zone.blocks }

@@ -34,6 +34,10 @@ use word_core::{Copied, Isolated};
 
 /// A zone of 1 to 8 pageblocks. Its type parameters name its opening: the ledgers of the pages that are isolated, moved and
 /// put back. After `open` no call takes memory.
+///
+/// What a call can be refused as stands with it, in the order of the tests. A call that is refused leaves the zone as it was.
+/// JournalFull means that the journal has no more places left than there are pages on their way, since each of these needs one
+/// for its end.
 #[derive(Drop)]
 pub struct Zone<I: Ledger, M: Ledger, B: Ledger> {
     pub(crate) plain: PlainZone,
@@ -60,6 +64,8 @@ impl<I: Ledger, M: Ledger, B: Ledger> Model for Zone<I, M, B> {
 impl<I: Ledger, M: Ledger, B: Ledger> Zone<I, M, B> {
     /// An empty zone with so many pageblocks and so many places in its journal, with its seats. The blanks are those of the
     /// ledgers that the types name; a refusal drops them.
+    ///
+    /// Refused as Range where it isn't 1 to 8 pageblocks and 1 to 65,536 places, else as Memory where there is none.
     pub fn open<N: Ledger>(
         alloc: Global,
         number: ZoneNo,
@@ -115,8 +121,10 @@ impl<I: Ledger, M: Ledger, B: Ledger> Zone<I, M, B> {
         (zone, scan, ends)
     }
 
-    /// Binds an address to a fresh page in the lowest free frame. The page holds zeros, has no pin and isn't dirty. It is
-    /// unmovable where the flags say so.
+    /// Binds an address to a fresh page in the lowest free frame, which it answers. The page holds zeros, has no pin and
+    /// isn't dirty. It is unmovable where the flags say so; they must not have DIRTY.
+    ///
+    /// Refused as JournalFull, Occupied or NoFrame.
     pub fn map(
         &mut self,
         client: ClientNo,
@@ -145,7 +153,9 @@ impl<I: Ledger, M: Ledger, B: Ledger> Zone<I, M, B> {
         Ok(frame)
     }
 
-    /// Binds an address to a fresh page in the frame that is given.
+    /// Binds an address to a fresh page in the frame that is given, as `map` does. The flags must not have DIRTY.
+    ///
+    /// Refused as Range where the zone has no such frame, JournalFull, Occupied, or NoFrame where the frame isn't free.
     pub fn map_at(
         &mut self,
         client: ClientNo,
@@ -177,7 +187,9 @@ impl<I: Ledger, M: Ledger, B: Ledger> Zone<I, M, B> {
         Ok(())
     }
 
-    /// Reads a word of the page that an address names.
+    /// Reads a word of the page that an address names: the value that was stored last, or 0.
+    ///
+    /// Refused as JournalFull, Unmapped or Moving.
     pub fn load(
         &mut self,
         client: ClientNo,
@@ -201,6 +213,8 @@ impl<I: Ledger, M: Ledger, B: Ledger> Zone<I, M, B> {
     }
 
     /// Writes a word of the page that an address names.
+    ///
+    /// Refused as JournalFull, Unmapped or Moving.
     pub fn store(
         &mut self,
         client: ClientNo,
@@ -224,7 +238,7 @@ impl<I: Ledger, M: Ledger, B: Ledger> Zone<I, M, B> {
     }
 
     /// Begins a round: the migrate finger stands at the bottom of the zone and the free finger above its top. The seat counts
-    /// the round.
+    /// the round. It may begin while pages are on their way; such a round isn't quiet.
     pub fn begin_round<N: Ledger>(&mut self, seat: &mut ScanSeat<I, N>)
         ensures zone { self.new ≡ round_begun self.old }
         ensures seat { seat.new ≡ seat_begun seat.old }
@@ -238,6 +252,9 @@ impl<I: Ledger, M: Ledger, B: Ledger> Zone<I, M, B> {
 
     /// Takes the lowest page that may be moved, and the highest free frame above it, between the fingers: the page is on its
     /// way from here on. The seat counts it, and notes each answer.
+    ///
+    /// Refused as JournalFull, which the seat notes too, where the journal hasn't two places more than there are pages on
+    /// their way.
     pub fn isolate_next<N: Ledger>(&mut self, seat: &mut ScanSeat<I, N>) -> Result<Next, ZoneError>
         ensures refused { result_err result ≡ isolate_refusal self.old }
         ensures err { OnErr result (self.new ≡ self.old) }
@@ -333,6 +350,8 @@ impl<I: Ledger, M: Ledger, B: Ledger> Zone<I, M, B> {
     }
 
     /// What is known of the page that an address names: its frame and flags, or its serial where it is on its way.
+    ///
+    /// Refused as Unmapped.
     pub fn look(&self, address: Address) -> Result<Look, ZoneError>
         ensures refused { result_err result ≡ (if is_some (look_of self.now address) then None else Some ZoneError.Unmapped) }
         ensures value { IfOk result (λ look. look_of self.now address ≡ Some look) }
@@ -353,8 +372,9 @@ impl<I: Ledger, M: Ledger, B: Ledger> Zone<I, M, B> {
         self.plain.quiet()
     }
 
-    /// The counts of the zone, which are those of its seats. Refused where a part of the end seat is missing or a page is on
-    /// its way.
+    /// The counts of the zone, which are those of its seats.
+    ///
+    /// Refused as Missing where a part of the end seat is missing, else as Out where a page is on its way.
     pub fn audit<N: Ledger>(
         &mut self,
         scan: &mut ScanSeat<I, N>,

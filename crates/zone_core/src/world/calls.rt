@@ -1,4 +1,4 @@
-//! The other calls of a zone that append a record, on the zone of a world.
+//! The other calls of a zone that append a record, on the zone of a world. Each is refused as the zone's own is.
 
 ghost use Rattle.std.specs.Prelude.{◌≡◌, ◌*◌, Some, IfOk, OnOk, OnErr};
 ghost use Rattle.std.specs.Result.{result_err};
@@ -92,7 +92,7 @@ impl<I: Ledger, N: Ledger, M: Ledger, B: Ledger> World<I, N, M, B> {
         self.zone.take_huge()
     }
 
-    /// Takes back a pageblock that was handed out.
+    /// Takes back a pageblock that was handed out as one block.
     pub fn give_huge(&mut self, block: BlockNo) -> Result<(), ZoneError>
         ensures refused { result_err result ≡ give_order_refusal self.old.zone (512 * block) 9 }
         ensures err { OnErr result (self.new ≡ self.old) }

@@ -11,7 +11,7 @@ use Rattle.plain_core.specs.Moves.{Moves}
 use Rattle.plain_core.proofs.OutAndEnded.{some_out, moves_back}
 use Rattle.plain_core.specs.declared.plain.PlainZone.TheInside.{Inside}
 use Rattle.state_core.specs.declared.placement.Placement.TheVariants.{At, Moving}
-use Rattle.state_core.specs.Carrying.{settled}
+use Rattle.state_core.specs.Carrying.{relocated}
 use Rattle.state_core.specs.Ending.{IsSettled, source_of, put_back_to_source}
 use Rattle.plain_core.specs.Sound.{IsSound, state_of}
 use Rattle.state_core.specs.ZoneState.{ZoneState}
@@ -102,7 +102,7 @@ settling c =
 view : (c : After-note) → state_of (after c) ≡ put_back_to_source c.args.self.now c.args.way.now.serial c.args.way.now.page c.args.cause
 view c =
     settle_view c.self.inside (after c) c.args.self.now c.args.way.now.page _ _ _ _ _ _ (settling c)
-    ∙ ap (λ (frame : ℕ). settled c.args.self.now (Back c.args.way.now.serial c.args.cause) c.args.way.now.page (At frame)) (sym (ap source_of c.requires.placed))
+    ∙ ap (λ (frame : ℕ). relocated c.args.self.now (Back c.args.way.now.serial c.args.cause) c.args.way.now.page (At frame)) (sym (ap source_of c.requires.placed))
 
 pub invariant_of-self : goal.invariant_of-self
 invariant_of-self c =

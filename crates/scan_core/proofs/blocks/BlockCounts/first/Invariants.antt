@@ -1,6 +1,6 @@
 use Rattle.std.proofs.Common.{◌≡◌, ℕ, ◌<◌, false}
-use Rattle.scan_core.specs.BlockCounts.{is_full}
+use Rattle.scan_core.specs.BlockCounts.{is_all_free}
 use Rattle.scan_core.proofs.blocks.BlockCounts.first.Given as goal
 
 abbrev pub invariant-loop-block : goal.invariant-loop-block
-invariant-loop-block l = (k : ℕ) → k < l.block → is_full l.self-inside.free k ≡ false
+invariant-loop-block l = (k : ℕ) → k < l.block → is_all_free l.self-inside.free k ≡ false
