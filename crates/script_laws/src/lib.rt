@@ -1,4 +1,4 @@
-//! Laws over every run of a script, above its definition in `script_core`: in the words of those who read the replies, and
+//! Laws over every run of a script, above its definition in `machine_core`: in the words of those who read the replies, and
 //! not in those of the machine that gives them.
 //!
 //! Each function has one law for its contract, and does nothing.
