@@ -1,4 +1,4 @@
-ghost use Rattle.std.specs.Prelude.{◌≡◌, ◌<◌, ◌≤◌, [], bit_and, true, false, ⊤, Some, None, IfNone, IfOk, IfSome, OnErr, OnOk};
+ghost use Rattle.std.specs.Prelude.{◌≡◌, ◌<◌, ◌≤◌, [], bit_and, true, false, ⊤, Some, None, IfErr, IfNone, IfOk, IfSome, OnErr, OnOk};
 ghost use Rattle.machine_core.specs.Machine.{call_at, call_step, calls_step, compact_on, ending, found, open_step, page_step, pool_from, pool_on, pool_step, series_step, step_on, stopped_by, during_on};
 ghost use Rattle.machine_core.specs.Serial.{IsSerialStep, IsStep, Opens, serial_at_first};
 ghost use Rattle.machine_core.specs.Serial.{is_at_rest};
@@ -11,9 +11,11 @@ ghost use Rattle.frame_core.specs.PageFlags.{is_unmovable};
 
 use arrayvec::ArrayVec;
 use bitflags::Flags;
-use frame_core::{Address, ClientNo, PageFlags, SpaceNo, VPage, ZoneNo};
+use frame_core::{
+    Address, BlockNo, ClientNo, FrameNo, Order, PageFlags, Serial, SpaceNo, VPage, ZoneNo,
+};
 use play_core::{Answers, Block, Respond};
-use state_core::{Ended, ZoneError};
+use state_core::{Ended, Look, ZoneError};
 use std::alloc::{AllocError, Global};
 use std::marker::Model;
 use std::sync::ledger::Ledger;
@@ -55,8 +57,8 @@ impl<I: Ledger, N: Ledger, M: Ledger, B: Ledger> Respond for Machine<I, N, M, B>
 
     ghost ready = { λ _. ⊤ };
 
-    fn respond(&mut self, command: Command) -> Result<Reply, AllocError> {
-        self.reply_to(command)
+    fn respond(&mut self, command: Command, reply: &mut Reply) -> Result<(), AllocError> {
+        self.reply_to(command, reply)
     }
 
     fn respond_to_block(&mut self, block: Block) -> Result<Answers, AllocError> {
@@ -80,24 +82,25 @@ impl<I: Ledger, N: Ledger, M: Ledger, B: Ledger> Machine<I, N, M, B> {
         }
     }
 
-    /// The reply to a command of one line. It fails only for want of memory.
-    pub fn reply_to(&mut self, command: Command) -> Result<Reply, AllocError>
-        ensures ok { IfOk result (λ reply. IsStep self.old command reply self.new) }
+    /// Puts the reply to a command of one line in place of the one there. It fails only for want of memory.
+    pub fn reply_to(&mut self, command: Command, reply: &mut Reply) -> Result<(), AllocError>
+        ensures ok { OnOk result (IsStep self.old command reply.new self.new) }
         ensures memory { OnErr result (Opens self.old command) }
     {
         match command {
-            Command::OutOfRange => Ok(Reply::Refused(1)),
-            Command::Profile2 => Ok(Reply::Done),
-            Command::Open { zone, blocks } => self.open(zone, blocks),
-            Command::On { zone, calls } => Ok(self.call(zone, calls)),
-            Command::Compact { zone } => Ok(self.compact(zone)),
+            Command::OutOfRange => *reply = Reply::Refused(1),
+            Command::Profile2 => *reply = Reply::Done,
+            Command::Open { zone, blocks } => *reply = self.open(zone, blocks)?,
+            Command::On { zone, calls } => self.call(zone, calls, reply),
+            Command::Compact { zone } => *reply = self.compact(zone),
             Command::Pool {
                 zone,
                 count,
                 blocks,
-            } => Ok(self.pool(zone, count, blocks)),
-            Command::During { zone } => Ok(self.during(zone)),
+            } => *reply = self.pool(zone, count, blocks),
+            Command::During { zone } => *reply = self.during(zone),
         }
+        Ok(())
     }
 
     /// Opens a zone, where none is open yet. It is apart, since it has room for a whole world, which other commands do without.
@@ -176,13 +179,13 @@ impl<I: Ledger, N: Ledger, M: Ledger, B: Ledger> Machine<I, N, M, B> {
     }
 
     /// Answers calls on the zone with this number, where that is the one that is open.
-    fn call(&mut self, zone: ZoneNo, calls: Calls) -> Reply
-        ensures answer { record { reply = result; world = self.new.world } ≡ step_on zone calls self.old.world }
+    fn call(&mut self, zone: ZoneNo, calls: Calls, reply: &mut Reply)
+        ensures answer { record { reply = reply.new; world = self.new.world } ≡ step_on zone calls self.old.world }
         ensures places { self.new.places ≡ self.old.places }
     {
         match &mut self.world {
-            Some(world) if world.zone().number() == zone => answer_all(world, calls),
-            _ => Reply::Refused(43),
+            Some(world) if world.zone().number() == zone => answer_all(world, calls, reply),
+            _ => *reply = Reply::Refused(43),
         }
     }
 }
@@ -247,12 +250,13 @@ fn stopped_by(error: ZoneError) -> PoolStopped
 fn answer_all<I: Ledger, N: Ledger, M: Ledger, B: Ledger>(
     world: &mut World<I, N, M, B>,
     calls: Calls,
-) -> Reply
-    ensures { record { reply = result; world = world.new } ≡ calls_step world.old calls }
+    reply: &mut Reply,
+)
+    ensures { record { reply = reply.new; world = world.new } ≡ calls_step world.old calls }
 {
     match calls {
-        Calls::One(call) => answer(world, call),
-        Calls::Series(series) => answer_series(world, series),
+        Calls::One(call) => answer(world, call, reply),
+        Calls::Series(series) => *reply = answer_series(world, series),
     }
 }
 
@@ -303,10 +307,12 @@ fn repeat<I: Ledger, N: Ledger, M: Ledger, B: Ledger>(
 ) -> Reply
     ensures { record { reply = result; world = world.new } ≡ call_step world.old (call_at repeated address) }
 {
+    let mut reply = Reply::Done;
     match repeated {
-        Repeated::Map => map_page(world, address, false),
-        Repeated::Unmap => unmap_page(world, address),
+        Repeated::Map => map_page(world, address, false, &mut reply),
+        Repeated::Unmap => unmap_page(world, address, &mut reply),
     }
+    reply
 }
 
 /// Maps a page.
@@ -314,24 +320,23 @@ fn map_page<I: Ledger, N: Ledger, M: Ledger, B: Ledger>(
     world: &mut World<I, N, M, B>,
     address: Address,
     unmovable: bool,
-) -> Reply
-    ensures { record { reply = result; world = world.new } ≡ call_step world.old (Call.Map address unmovable) }
+    reply: &mut Reply,
+)
+    ensures { record { reply = reply.new; world = world.new } ≡ call_step world.old (Call.Map address unmovable) }
 {
-    world
-        .map(script_client(), address, flags(unmovable))
-        .map_or_else(by_zone, |_| Reply::Done)
+    let mapped = world.map(script_client(), address, flags(unmovable));
+    *reply = mapped.map_or_else(by_zone, |_| Reply::Done);
 }
 
 /// Takes a page away from an address.
 fn unmap_page<I: Ledger, N: Ledger, M: Ledger, B: Ledger>(
     world: &mut World<I, N, M, B>,
     address: Address,
-) -> Reply
-    ensures { record { reply = result; world = world.new } ≡ call_step world.old (Call.Unmap address) }
+    reply: &mut Reply,
+)
+    ensures { record { reply = reply.new; world = world.new } ≡ call_step world.old (Call.Unmap address) }
 {
-    world
-        .unmap(script_client(), address)
-        .map_or_else(by_zone, |()| Reply::Done)
+    tell_done(world.unmap(script_client(), address), reply);
 }
 
 /// A page of a space, where it has so many.
@@ -346,63 +351,126 @@ fn address(space: SpaceNo, page: u128) -> Option<Address>
 fn answer<I: Ledger, N: Ledger, M: Ledger, B: Ledger>(
     world: &mut World<I, N, M, B>,
     call: Call,
-) -> Reply
-    ensures { record { reply = result; world = world.new } ≡ call_step world.old call }
+    reply: &mut Reply,
+)
+    ensures { record { reply = reply.new; world = world.new } ≡ call_step world.old call }
 {
     let client = script_client();
     match call {
-        Call::Map { address, unmovable } => map_page(world, address, unmovable),
+        Call::Map { address, unmovable } => map_page(world, address, unmovable, reply),
         Call::MapAt {
             address,
             frame,
             unmovable,
-        } => world
-            .map_at(client, address, flags(unmovable), frame)
-            .map_or_else(by_zone, |()| Reply::Done),
+        } => {
+            let mapped = world.map_at(client, address, flags(unmovable), frame);
+            tell_done(mapped, reply);
+        }
         Call::Store {
             address,
             word,
             value,
-        } => world
-            .store(client, address, word, value)
-            .map_or_else(by_zone, |()| Reply::Done),
-        Call::Load { address, word } => world
-            .load(client, address, word)
-            .map_or_else(by_zone, Reply::Value),
-        Call::Info => Reply::Info(world.zone().info()),
-        Call::Scan => world.scan().map_or_else(by_world, scan_reply),
-        Call::Take(hand) => world.take(hand).map_or_else(by_world, Reply::Serial),
-        Call::Copy(hand) => world.copy(hand).map_or_else(by_world, |()| Reply::Done),
-        Call::Finish(hand) => world.finish(hand).map_or_else(by_world, end_reply),
-        Call::Shut => world.shut().map_or_else(by_world, Reply::Shut),
-        Call::Look(address) => world
-            .zone()
-            .look(address)
-            .map_or_else(by_zone, Reply::Looked),
-        Call::Share { address, alias } => world
-            .share(client, address, alias)
-            .map_or_else(by_zone, |()| Reply::Done),
-        Call::Unmap(address) => unmap_page(world, address),
-        Call::Pin(address) => world
-            .pin(client, address)
-            .map_or_else(by_zone, |()| Reply::Done),
-        Call::Unpin(address) => world
-            .unpin(client, address)
-            .map_or_else(by_zone, |()| Reply::Done),
-        Call::Huge => world.take_huge().map_or_else(by_zone, Reply::Block),
-        Call::Give(block) => world
-            .give_huge(block)
-            .map_or_else(by_zone, |()| Reply::Done),
-        Call::InfoWithHeld => Reply::InfoWithHeld(world.zone().info()),
-        Call::TakeOrder(order) => world
-            .take_order(order)
-            .map_or_else(by_zone, |first| Reply::HandedOut { first, order }),
-        Call::GiveOrder { first, order } => world
-            .give_order(first, order)
-            .map_or_else(by_zone, |()| Reply::Done),
-        Call::Mark(block) => world.mark(block).map_or_else(by_zone, |()| Reply::Done),
-        Call::Unmark(block) => world.unmark(block).map_or_else(by_zone, |()| Reply::Done),
+        } => tell_done(world.store(client, address, word, value), reply),
+        Call::Load { address, word } => tell_value(world.load(client, address, word), reply),
+        Call::Info => *reply = Reply::Info(world.zone().info()),
+        Call::Scan => tell_scan(world.scan(), reply),
+        Call::Take(hand) => tell_serial(world.take(hand), reply),
+        Call::Copy(hand) => tell_copy(world.copy(hand), reply),
+        Call::Finish(hand) => tell_end(world.finish(hand), reply),
+        Call::Shut => tell_shut(world.shut(), reply),
+        Call::Look(address) => tell_look(world.zone().look(address), reply),
+        Call::Share { address, alias } => tell_done(world.share(client, address, alias), reply),
+        Call::Unmap(address) => unmap_page(world, address, reply),
+        Call::Pin(address) => tell_done(world.pin(client, address), reply),
+        Call::Unpin(address) => tell_done(world.unpin(client, address), reply),
+        Call::Huge => tell_block(world.take_huge(), reply),
+        Call::Give(block) => tell_done(world.give_huge(block), reply),
+        Call::InfoWithHeld => *reply = Reply::InfoWithHeld(world.zone().info()),
+        Call::TakeOrder(order) => tell_handed_out(world.take_order(order), order, reply),
+        Call::GiveOrder { first, order } => tell_done(world.give_order(first, order), reply),
+        Call::Mark(block) => tell_done(world.mark(block), reply),
+        Call::Unmark(block) => tell_done(world.unmark(block), reply),
     }
+}
+
+/// Tells that a call was done, or its refusal.
+fn tell_done(outcome: Result<(), ZoneError>, reply: &mut Reply)
+    ensures ok { OnOk outcome (reply.new ≡ Reply.Done) }
+    ensures err { IfErr outcome (λ error. reply.new ≡ Reply.Refused (number_of error)) }
+{
+    *reply = outcome.map_or_else(by_zone, |()| Reply::Done);
+}
+
+/// Tells the value of a word, or a refusal.
+fn tell_value(outcome: Result<u64, ZoneError>, reply: &mut Reply)
+    ensures ok { IfOk outcome (λ value. reply.new ≡ Reply.Value value) }
+    ensures err { IfErr outcome (λ error. reply.new ≡ Reply.Refused (number_of error)) }
+{
+    *reply = outcome.map_or_else(by_zone, Reply::Value);
+}
+
+/// Tells what is known of a page, or a refusal.
+fn tell_look(outcome: Result<Look, ZoneError>, reply: &mut Reply)
+    ensures ok { IfOk outcome (λ look. reply.new ≡ Reply.Looked look) }
+    ensures err { IfErr outcome (λ error. reply.new ≡ Reply.Refused (number_of error)) }
+{
+    *reply = outcome.map_or_else(by_zone, Reply::Looked);
+}
+
+/// Tells the pageblock that was handed out, or a refusal.
+fn tell_block(outcome: Result<BlockNo, ZoneError>, reply: &mut Reply)
+    ensures ok { IfOk outcome (λ block. reply.new ≡ Reply.Block block) }
+    ensures err { IfErr outcome (λ error. reply.new ≡ Reply.Refused (number_of error)) }
+{
+    *reply = outcome.map_or_else(by_zone, Reply::Block);
+}
+
+/// Tells the block of this order that was handed out, or a refusal.
+fn tell_handed_out(outcome: Result<FrameNo, ZoneError>, order: Order, reply: &mut Reply)
+    ensures ok { IfOk outcome (λ first. reply.new ≡ Reply.HandedOut first order) }
+    ensures err { IfErr outcome (λ error. reply.new ≡ Reply.Refused (number_of error)) }
+{
+    *reply = outcome.map_or_else(by_zone, |first| Reply::HandedOut { first, order });
+}
+
+/// Tells what a scan found, or a refusal.
+fn tell_scan(outcome: Result<Scanned, WorldError>, reply: &mut Reply)
+    ensures ok { IfOk outcome (λ scanned. reply.new ≡ found scanned) }
+    ensures err { IfErr outcome (λ error. reply.new ≡ Reply.Refused (world_number_of error)) }
+{
+    *reply = outcome.map_or_else(by_world, scan_reply);
+}
+
+/// Tells the serial of the page that a hand took, or a refusal.
+fn tell_serial(outcome: Result<Serial, WorldError>, reply: &mut Reply)
+    ensures ok { IfOk outcome (λ serial. reply.new ≡ Reply.Serial serial) }
+    ensures err { IfErr outcome (λ error. reply.new ≡ Reply.Refused (world_number_of error)) }
+{
+    *reply = outcome.map_or_else(by_world, Reply::Serial);
+}
+
+/// Tells that a hand copied its page, or a refusal.
+fn tell_copy(outcome: Result<(), WorldError>, reply: &mut Reply)
+    ensures ok { OnOk outcome (reply.new ≡ Reply.Done) }
+    ensures err { IfErr outcome (λ error. reply.new ≡ Reply.Refused (world_number_of error)) }
+{
+    *reply = outcome.map_or_else(by_world, |()| Reply::Done);
+}
+
+/// Tells how a move ended, or a refusal.
+fn tell_end(outcome: Result<Finished, WorldError>, reply: &mut Reply)
+    ensures ok { IfOk outcome (λ finished. reply.new ≡ ending finished.serial finished.ended) }
+    ensures err { IfErr outcome (λ error. reply.new ≡ Reply.Refused (world_number_of error)) }
+{
+    *reply = outcome.map_or_else(by_world, end_reply);
+}
+
+/// Tells how many pages were put back, or a refusal.
+fn tell_shut(outcome: Result<u32, WorldError>, reply: &mut Reply)
+    ensures ok { IfOk outcome (λ count. reply.new ≡ Reply.Shut count) }
+    ensures err { IfErr outcome (λ error. reply.new ≡ Reply.Refused (world_number_of error)) }
+{
+    *reply = outcome.map_or_else(by_world, Reply::Shut);
 }
 
 /// A refusal of the zone.

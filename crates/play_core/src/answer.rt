@@ -29,8 +29,7 @@ impl Answer {
 
     /// The line, and the reply.
     pub fn into_parts(self) -> (u64, Reply)
-        ensures line { result.0 ≡ self.line }
-        ensures reply { result.1 ≡ self.reply }
+        ensures { self ≡ record { line = result.0; reply = result.1 } }
     {
         (self.line, self.reply)
     }

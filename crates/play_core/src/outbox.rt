@@ -8,7 +8,7 @@ use crate::answer::Answer;
 use crate::output::{Output, write_out};
 use arrayvec::{ArrayString, ArrayVec};
 use std::marker::Model;
-use text_core::push_reply;
+use text_core::{Reply, push_reply};
 
 /// Replies that wait to be written together, with the line that each of them answers.
 #[derive(Drop)]
@@ -38,10 +38,15 @@ impl Outbox {
     }
 
     /// Puts an answer behind the others, which are written where there is no room.
-    pub(crate) fn post<W: Output>(&mut self, writer: &mut W, answer: Answer) -> Result<(), u64>
+    pub(crate) fn post<W: Output>(
+        &mut self,
+        writer: &mut W,
+        line: u64,
+        reply: &Reply,
+    ) -> Result<(), u64>
         ensures ok { OnOk result ((answers : List Answer) (first : Option (List ℕ)) →
             Owes self.old answers first (W.contents writer.old)
-            → Owes self.new (answers ++ answer ∷ []) first (W.contents writer.new)) }
+            → Owes self.new (answers ++ record { line = line; reply = reply.now } ∷ []) first (W.contents writer.new)) }
         // The line whose reply wasn't taken whole.
         ensures err { IfErr result (λ at. (answers : List Answer) (first : Option (List ℕ)) →
             Owes self.old answers first (W.contents writer.old) → StopsIn answers first (W.contents writer.new) at) }
@@ -50,7 +55,7 @@ impl Outbox {
         if !self.has_room() {
             self.flush(writer)?;
         }
-        self.push(answer);
+        self.push(line, reply);
         Ok(())
     }
 
@@ -69,7 +74,8 @@ impl Outbox {
         ensures stuck { OnErr result (IsTrue (W.stuck writer.new)) }
     {
         for answer in more {
-            self.post(writer, answer)?;
+            let (line, reply) = answer.into_parts();
+            self.post(writer, line, &reply)?;
         }
         Ok(())
     }
@@ -81,12 +87,11 @@ impl Outbox {
         160 <= self.text.remaining_capacity()
     }
 
-    fn push(&mut self, answer: Answer)
+    fn push(&mut self, line: u64, reply: &Reply)
         requires { HasRoom self.old }
-        ensures waits { self.new ≡ record { bytes = self.old.bytes ++ text_of answer.reply; lines = self.old.lines ++ answer.line ∷ [] } }
-        ensures line { IsOneLine (text_of answer.reply) }
+        ensures waits { self.new ≡ record { bytes = self.old.bytes ++ text_of reply.now; lines = self.old.lines ++ line ∷ [] } }
+        ensures line { IsOneLine (text_of reply.now) }
     {
-        let (line, reply) = answer.into_parts();
         push_reply(&mut self.text, reply);
         self.lines.push(line);
     }

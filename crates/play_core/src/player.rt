@@ -20,7 +20,9 @@ use memchr::memchr;
 use std::alloc::Global;
 use std::marker::Model;
 use std::mem;
-use text_core::{BlockLine, ClientCall, Command, Profile, ScriptError, read_block_line, read_line};
+use text_core::{
+    BlockLine, ClientCall, Command, Profile, Reply, ScriptError, read_block_line, read_line,
+};
 
 /// Plays a script: the machine that answers it, the block and the line that have begun, and the replies that wait.
 #[derive(Drop)]
@@ -216,14 +218,15 @@ impl<A: Respond> Player<A> {
         ensures held { OnOk result (self.new.held ≡ []) }
     {
         let line = self.line;
-        let Ok(reply) = self.machine.respond(command) else {
+        let mut reply = Reply::Done;
+        let Ok(()) = self.machine.respond(command, &mut reply) else {
             return Err(RunError {
                 fault: Fault::Memory,
                 line,
             });
         };
         self.line = line + 1;
-        if let Err(line) = self.post(writer, Answer::new(line, reply)) {
+        if let Err(line) = self.post(writer, line, &reply) {
             return Err(RunError {
                 fault: Fault::Write,
                 line,
@@ -267,20 +270,20 @@ impl<A: Respond> Player<A> {
     }
 
     /// Puts an answer behind those that wait, and counts it. Its line has been counted.
-    fn post<W: Output>(&mut self, writer: &mut W, answer: Answer) -> Result<(), u64>
+    fn post<W: Output>(&mut self, writer: &mut W, line: u64, reply: &Reply) -> Result<(), u64>
         requires counted { self.old.replies + 1 < 1001 * self.old.line }
         requires room { self.old.line < 2 ^ 53 }
         ensures ok { OnOk result ((before : List Answer) (first : Option (List ℕ)) →
             Owes self.old.box before first (W.contents writer.old)
-            → Owes self.new.box (before ++ answer ∷ []) first (W.contents writer.new)) }
+            → Owes self.new.box (before ++ record { line = line; reply = reply.now } ∷ []) first (W.contents writer.new)) }
         ensures replies { OnOk result (self.new.replies ≡ self.old.replies + 1) }
         ensures err { IfErr result (λ at. (before : List Answer) (first : Option (List ℕ)) →
-            Owes self.old.box before first (W.contents writer.old) → StopsIn (before ++ answer ∷ []) first (W.contents writer.new) at) }
+            Owes self.old.box before first (W.contents writer.old) → StopsIn (before ++ record { line = line; reply = reply.now } ∷ []) first (W.contents writer.new) at) }
         ensures stuck { OnErr result (IsTrue (W.stuck writer.new)) }
         ensures same { self.new ≡ record self.old { box = self.new.box; replies = self.new.replies } }
     {
         self.replies += 1;
-        self.outbox.post(writer, answer)
+        self.outbox.post(writer, line, reply)
     }
 
     /// Puts the answers to a block behind those that wait, and counts them. Its last line has been counted.
@@ -299,7 +302,8 @@ impl<A: Respond> Player<A> {
         let (clients, own) = answers.into_parts();
         self.replies += clients.len() as u64;
         self.outbox.post_all(writer, clients)?;
-        self.post(writer, own)
+        let (line, reply) = own.into_parts();
+        self.post(writer, line, &reply)
     }
 
     /// Takes the end of a line.

@@ -1,4 +1,4 @@
-ghost use Rattle.std.specs.Prelude.{ℕ, List, [], ◌∷◌, IfOk, OnErr};
+ghost use Rattle.std.specs.Prelude.{ℕ, List, [], ◌∷◌, IfOk, OnErr, OnOk};
 ghost use Rattle.text_core.specs.declared.command.Command.{Command};
 ghost use Rattle.play_core.specs.Script.{Answer, Numbered, command_in_block, command_of_line};
 
@@ -18,10 +18,11 @@ pub trait Respond {
     /// Whether it can be asked.
     ghost ready: { Self → Type 0 };
 
-    /// Answers a command of one line, whatever its number. It fails only for want of memory.
-    fn respond(&mut self, command: Command) -> Result<Reply, AllocError>
+    /// Answers a command of one line, whatever its number, and puts the reply in place of the one there. It fails only for want of
+    /// memory.
+    fn respond(&mut self, command: Command, reply: &mut Reply) -> Result<(), AllocError>
         requires ready { ready self.old }
-        ensures ok { IfOk result (λ reply. (line : ℕ) → may self.old (command_of_line line command) (record { line = line; reply = reply } ∷ []) self.new) }
+        ensures ok { OnOk result ((line : ℕ) → may self.old (command_of_line line command) (record { line = line; reply = reply.new } ∷ []) self.new) }
         ensures memory { OnErr result (asks self.old command) }
         ensures still { ready self.new };
 

@@ -1,4 +1,4 @@
-ghost use Rattle.std.specs.Prelude.{◌≡◌, IfOk, OnErr};
+ghost use Rattle.std.specs.Prelude.{◌≡◌, OnErr, OnOk};
 ghost use Rattle.machine_core.specs.Serial.{IsStep, Opens};
 ghost use Rattle.script_core.specs.Threaded.{Threaded};
 
@@ -15,9 +15,9 @@ pub(crate) trait Alone {
     fn broken_zone(&self) -> Option<ZoneNo>
         ensures { result ≡ (seen self.now).broken };
 
-    /// The reply to a command as on one thread. It fails only for want of memory.
-    fn reply_alone(&mut self, command: Command) -> Result<Reply, AllocError>
-        ensures ok { IfOk result (λ reply. IsStep (seen self.old).serial command reply (seen self.new).serial) }
+    /// Puts the reply to a command as on one thread in place of the one there. It fails only for want of memory.
+    fn reply_alone(&mut self, command: Command, reply: &mut Reply) -> Result<(), AllocError>
+        ensures ok { OnOk result (IsStep (seen self.old).serial command reply.new (seen self.new).serial) }
         ensures memory { OnErr result (Opens (seen self.old).serial command) }
         ensures broken { (seen self.new).broken ≡ (seen self.old).broken }
         ensures client { (seen self.new).client ≡ (seen self.old).client };

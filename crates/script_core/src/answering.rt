@@ -44,23 +44,25 @@ impl<
         → IfOk result (λ answers. IsThreadedStep (A.seen old.now) (command_in_block block) answers (A.seen new.now))
         × OnErr result (IsBlockFor (command_in_block block).command (A.seen old.now).serial.world)) };
 
-    fn respond(&mut self, command: Command) -> Result<Reply, AllocError> {
+    fn respond(&mut self, command: Command, reply: &mut Reply) -> Result<(), AllocError> {
         if let Some(number) = self.machine.broken_zone() {
-            return Ok(broken_reply(number, command));
+            *reply = broken_reply(number, command);
+            return Ok(());
         }
         match command {
-            Command::Compact { zone } => Ok((self.round)(&mut self.machine, zone)),
+            Command::Compact { zone } => *reply = (self.round)(&mut self.machine, zone),
             Command::Pool {
                 zone,
                 count,
                 blocks,
-            } => Ok((self.pool)(&mut self.machine, zone, count, blocks)),
+            } => *reply = (self.pool)(&mut self.machine, zone, count, blocks),
             Command::Open { .. }
             | Command::On { .. }
             | Command::During { .. }
             | Command::Profile2
-            | Command::OutOfRange => self.machine.reply_alone(command),
+            | Command::OutOfRange => self.machine.reply_alone(command, reply)?,
         }
+        Ok(())
     }
 
     fn respond_to_block(&mut self, block: Block) -> Result<Answers, AllocError> {

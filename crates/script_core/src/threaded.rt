@@ -76,8 +76,8 @@ impl<I: Ledger, N: Ledger, M: Ledger, B: Ledger> Alone for Threaded<I, N, M, B> 
         self.broken
     }
 
-    fn reply_alone(&mut self, command: Command) -> Result<Reply, AllocError> {
-        self.machine.reply_to(command)
+    fn reply_alone(&mut self, command: Command, reply: &mut Reply) -> Result<(), AllocError> {
+        self.machine.reply_to(command, reply)
     }
 }
 

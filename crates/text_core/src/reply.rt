@@ -75,57 +75,57 @@ pub fn reply_text(reply: Reply) -> ArrayString<160>
     ensures line { IsOneLine result.bytes }
 {
     let mut text = ArrayString::new();
-    push_reply(&mut text, reply);
+    push_reply(&mut text, &reply);
     text
 }
 
 /// Appends the line of a reply to a text with room for 160 bytes more.
 #[inline(always)]
-pub fn push_reply<const N: usize>(text: &mut ArrayString<N>, reply: Reply)
+pub fn push_reply<const N: usize>(text: &mut ArrayString<N>, reply: &Reply)
     requires { array_string_len text.old + 160 ≤ N }
-    ensures text { text.new.bytes ≡ text.old.bytes ++ text_of reply }
-    ensures line { IsOneLine (text_of reply) }
+    ensures text { text.new.bytes ≡ text.old.bytes ++ text_of reply.now }
+    ensures line { IsOneLine (text_of reply.now) }
 {
     match reply {
         Reply::Done => return text.push_str("ok\n"),
-        Reply::Value(value) => push_field(text, "value=", value),
-        Reply::Info(info) => push_counts(text, info),
+        Reply::Value(value) => push_field(text, "value=", *value),
+        Reply::Info(info) => push_counts(text, *info),
         Reply::InfoWithHeld(info) => {
-            push_counts(text, info);
+            push_counts(text, *info);
             push_field(text, " held=", u64::from(info.held));
         }
-        Reply::Serial(serial) => push_field(text, "serial=", u64::from(serial)),
+        Reply::Serial(serial) => push_field(text, "serial=", u64::from(*serial)),
         Reply::Met => text.push_str("met"),
-        Reply::Moved(serial) => push_field(text, "moved serial=", u64::from(serial)),
+        Reply::Moved(serial) => push_field(text, "moved serial=", u64::from(*serial)),
         Reply::PutBack(serial) => {
-            push_field(text, "back serial=", u64::from(serial));
+            push_field(text, "back serial=", u64::from(*serial));
             text.push_str(" cause=1");
         }
-        Reply::Shut(count) => push_field(text, "back=", u64::from(count)),
-        Reply::Looked(look) => push_look(text, look),
+        Reply::Shut(count) => push_field(text, "back=", u64::from(*count)),
+        Reply::Looked(look) => push_look(text, *look),
         Reply::Block(block) => push_field(text, "block=", u64::from(block.get())),
         Reply::HandedOut { first, order } => {
             push_field(text, "frame=", u64::from(first.get()));
             push_field(text, " order=", u64::from(order.get()));
         }
-        Reply::AllDone(done) => push_field(text, "done=", u64::from(done)),
+        Reply::AllDone(done) => push_field(text, "done=", u64::from(*done)),
         Reply::DoneUntil { done, refusal } => {
-            push_field(text, "done=", u64::from(done));
-            push_field(text, " refused=", u64::from(refusal));
+            push_field(text, "done=", u64::from(*done));
+            push_field(text, " refused=", u64::from(*refusal));
         }
         Reply::Round {
             isolated,
             moved,
             back,
             stopped,
-        } => push_round(text, isolated, moved, back, stopped),
+        } => push_round(text, *isolated, *moved, *back, *stopped),
         Reply::Pool {
             blocks,
             got,
             rounds,
             stopped,
-        } => push_pool(text, blocks, got.as_slice(), rounds, stopped),
-        Reply::Refused(number) => push_field(text, "refused ", u64::from(number)),
+        } => push_pool(text, *blocks, got.as_slice(), *rounds, *stopped),
+        Reply::Refused(number) => push_field(text, "refused ", u64::from(*number)),
     }
     text.push_str("\n");
 }

@@ -76,9 +76,9 @@ pub returns-clause-line : goal.returns-clause-line
 returns-clause-line g c =
     let old = c.args.text.now.bytes in
     let mid = c.match-reply.text.bytes in
-    let text = text_of c.args.reply in
+    let text = text_of c.args.reply.now in
     let all : old ++ text ≡ mid ++ 10 ∷ [] = sym (returns-clause-text g c) ∙ c.push_str-2.ensures.bytes in
-    let longer : length old ≤ length mid = omega (arith, ap length all, length-append old text, length-append mid (10 ∷ []), text_of-some c.args.reply) in
+    let longer : length old ≤ length mid = omega (arith, ap length all, length-append old text, length-append mid (10 ∷ []), text_of-some c.args.reply.now) in
     let same : newlines mid ≡ newlines old = elim c.match-reply.branch [
       | in-Value w ↦ omega (arith, w.push_field.ensures.lines, ap (λ t. newlines t.bytes) w.text-is)
       | in-Info w ↦ omega (arith, w.push_counts.ensures.lines, ap (λ t. newlines t.bytes) w.text-is)

@@ -31,7 +31,8 @@ loop-answer-preserved g c =
           omega arith,
       λ answers first owes.
           let O : List Answer → Type 0 = λ list. Owes c.post.new.self list first (g.W.Write.contents c.post.new.writer) in
-          subst O (append_assoc answers at.yielded (x ∷ [])) (c.in_ok-post.ensures.ok (answers ++ at.yielded) first (at.invariant.2 answers first owes)),
+          let T : Answer → Type 0 = λ a. Owes c.post.new.self ((answers ++ at.yielded) ++ a ∷ []) first (g.W.Write.contents c.post.new.writer) in
+          subst O (append_assoc answers at.yielded (x ∷ [])) (subst T (sym c.into_parts-line.ensures) (c.in_ok-post.ensures.ok (answers ++ at.yielded) first (at.invariant.2 answers first owes))),
     )
 
 pub returns-in_err-post-clause-err : goal.returns-in_err-post-clause-err

@@ -20,9 +20,8 @@ returns-in-Err-clause-err g c = λ start reading text past first is none read re
     let I : Player _ → Type 0 = λ s. line_comes reading s.line text ≡ Ok (record { ended = Some (command_of_line s.line c.args.command); reading = s.reading }) in
     let r = subst R (sym c.self.view_is) read in
     let begins = ap (λ (s : Player _). s.held) c.self.view_is ∙ c.requires.begins in
-    let M : Answer → Type 0 = λ a. g.A.Respond.may c.self.inside.machine (command_of_line c.self.inside.line c.args.command) (a ∷ []) c.respond.new.self in
     read_stopped g.A.Respond.may start _ past text first now r begins none (command_of_line c.self.inside.line c.args.command) _ (subst I (sym c.self.view_is) is)
-    (c.new.result ∷ []) c.respond.new.self (g.W.Write.contents c.post.new.writer) c.in-Err.line rest (subst M (sym c.new.ensures) (c.in-Ok.ensures.ok c.self.inside.line))
+    (record { line = c.self.inside.line; reply = c.respond.new.reply } ∷ []) c.respond.new.self (g.W.Write.contents c.post.new.writer) c.in-Err.line rest (c.in-Ok.ensures.ok c.self.inside.line)
     (c.in-Err.ensures.err r.answers first r.owes)
 
 pub returns-clause-ok : goal.returns-clause-ok
@@ -33,8 +32,7 @@ returns-clause-ok g c = λ start reading text past first is none read.
     let I : Player _ → Type 0 = λ s. line_comes reading s.line text ≡ Ok (record { ended = Some (command_of_line s.line c.args.command); reading = s.reading }) in
     let begins = ap (λ (s : Player _). s.held) c.self.view_is ∙ c.requires.begins in
     let counted : ℕ → Player _ = λ n. record c.post.new.self { replies = n } in
-    let M : Answer → Type 0 = λ a. g.A.Respond.may c.self.inside.machine (command_of_line c.self.inside.line c.args.command) (a ∷ []) c.respond.new.self in
     let A : Player _ → Type 0 = λ s. HasRead g.A.Respond.may start s (past ++ (text ++ 10 ∷ [])) first after in
     subst A (ap (λ (s : Player _). record s { replies = c.self.inside.replies + 1 }) (sym c.post.ensures.same) ∙ ap counted (sym c.in_default-post.ensures.replies))
     (read_answered g.A.Respond.may start _ past text first now (subst R (sym c.self.view_is) read) begins none (command_of_line c.self.inside.line c.args.command) _ (subst I (sym c.self.view_is) is)
-    (c.new.result ∷ []) c.respond.new.self c.post.new.self.box after (subst M (sym c.new.ensures) (c.in-Ok.ensures.ok c.self.inside.line)) c.in_default-post.ensures.ok)
+    (record { line = c.self.inside.line; reply = c.respond.new.reply } ∷ []) c.respond.new.self c.post.new.self.box after (c.in-Ok.ensures.ok c.self.inside.line) c.in_default-post.ensures.ok)
