@@ -1,5 +1,5 @@
 -- What is written for a script on one thread.
-use Rattle.std.specs.Prelude.{ℕ, List, [], ◌∷◌, length, Option, Some, None}
+use Rattle.std.specs.Prelude.{ℕ, List, [], ◌∷◌, length, Option, None}
 use Rattle.zone_core.specs.World.{WorldState}
 use Rattle.play_core.specs.declared.totals.Totals.{Totals}
 use Rattle.text_core.specs.Reply.{newlines}

@@ -15,7 +15,7 @@ use Rattle.play_core.specs.declared.error.Fault.TheVariants.{Syntax, LongLine}
 use Rattle.text_core.specs.Line.{block_lexemes_say, line_within, lexemes_say, line_of}
 use Rattle.text_core.specs.Token.{lexemes}
 use Rattle.text_core.specs.Reply.{newlines}
-use Rattle.play_core.specs.Script.{Answer, Block, Came, Numbered, Reading, comes_in, comes_outside, comes_within, commands_from, fault_from, line_comes, line_fault, onto_commands, open_fault, parts_of, reading_behind, reading_from}
+use Rattle.play_core.specs.Script.{Block, Came, Numbered, Reading, comes_in, comes_outside, comes_within, commands_from, fault_from, line_comes, line_fault, onto_commands, open_fault, parts_of, reading_behind, reading_from}
 use Rattle.text_core.proofs.Newlines.{newlines-append}
 
 newline_first : (b : ℕ) (bytes : List ℕ) → newlines (b ∷ bytes) ≡ 0 → (nat_eq b 10 ≡ false) × (newlines bytes ≡ 0)

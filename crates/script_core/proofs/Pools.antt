@@ -1,12 +1,11 @@
 -- Pools over the zone and the seats that a world was split into.
-use Rattle.std.proofs.Common.{◌≡◌, ◌∙◌, ℕ, suc, ◌+◌, ◌<◌, ◌≤◌, All, List, [], ◌∷◌, ◌++◌, length, drop, get_or, refl, sym, ap, subst, add-one, append_assoc, drop-cons, arith, Option, Some, None, Err}
-use Rattle.std.specs.Prelude.{◌↔◌, unwrap_or}
+use Rattle.std.proofs.Common.{◌≡◌, ◌∙◌, ℕ, ◌+◌, ◌<◌, ◌≤◌, All, List, [], ◌∷◌, ◌++◌, length, drop, get_or, refl, sym, ap, subst, add-one, append_assoc, drop-cons, arith, Option, Some, None, Err}
+use Rattle.std.specs.Prelude.{◌↔◌}
 use Rattle.state_core.specs.declared.error.ZoneError.{ZoneError}
-use Rattle.state_core.specs.HandingOut.{block_taken, lowest_run, take_order_refusal}
 use Rattle.state_core.specs.ZoneState.{ZoneState}
 use Rattle.zone_core.specs.Seats.{ScanSeat, EndSeat, audit_refusal}
 use Rattle.zone_core.specs.Shape.{HasShape}
-use Rattle.zone_core.specs.World.{WorldState, with_zone}
+use Rattle.zone_core.specs.World.{WorldState}
 use Rattle.round_core.specs.declared.round.Round.{Round}
 use Rattle.round_core.specs.Kept.{IsKept}
 use Rattle.round_core.specs.Rounds.{IsRefusedEarly}
@@ -19,7 +18,6 @@ use Rattle.huge_core.specs.Reserving.{AreLeft, AreRounds, HasRun, IsGot}
 use Rattle.text_core.specs.declared.pool.PoolBlocks.{PoolBlocks}
 use Rattle.text_core.specs.declared.reply.Reply.{Reply}
 use Rattle.text_core.specs.Pool.{pool_order, told_as}
-use Rattle.machine_core.specs.Machine.{next_first, pool_from, pooled, says, stopped_by, unless_stopped}
 use Rattle.client_core.specs.Receipts.{Client}
 use Rattle.script_core.specs.Threaded.{IsPoolOn, SettlesAt, Threaded, left_by, pool_reply, told_of}
 use Rattle.script_core.proofs.Rounds.{settles}
