@@ -42,12 +42,13 @@ def by_turns(count, *lines):
 
 # What comes before, the lines of the kind, and the aim, if there is one.
 kinds = {
-    "look": (["zone 0 1", "map 0 0 0"], by_turns(2000, "look 0 0 0"), None),
-    "look and info": (["zone 0 1", "map 0 0 0"], by_turns(1000, "look 0 0 0", "info 0"), None),
-    "load and store": (["zone 0 1", "map 0 0 0"], by_turns(1000, "store 0 0 0 1 8", "load 0 0 0 1"), None),
-    "refused map": (["zone 0 1", "map 0 0 0"], by_turns(2000, "map 0 0 0"), None),
-    "comment of 32 bytes": (["zone 0 1"], by_turns(2000, "# " + "x" * 30), None),
+    "look": (["zone 0 1", "map 0 0 0"], by_turns(2000, "look 0 0 0"), 559),
+    "look and info": (["zone 0 1", "map 0 0 0"], by_turns(1000, "look 0 0 0", "info 0"), 635),
+    "load and store": (["zone 0 1", "map 0 0 0"], by_turns(1000, "store 0 0 0 1 8", "load 0 0 0 1"), 787),
+    "refused map": (["zone 0 1", "map 0 0 0"], by_turns(2000, "map 0 0 0"), 530),
+    "comment of 32 bytes": (["zone 0 1"], by_turns(2000, "# " + "x" * 30), 189),
     "map": (["zone 0 8"], maps(2000), None),
+    "fill and thin of 8 pages": (["zone 0 1"], by_turns(500, "fill 0 0 0 8", "thin 0 0 0 8 1"), 2978),
     "scan, take, copy and finish": (["zone 0 8", *maps(1024)], moves(1024), 600),
     "share and unmap": (["zone 0 8", *maps(1024)], by_turns(1000, "share 0 0 5 1 5", "unmap 0 1 5"), 750),
     "pin and unpin": (["zone 0 8", *maps(1024)], by_turns(1000, "pin 0 0 5", "unpin 0 0 5"), 750),
