@@ -7,8 +7,6 @@ mod access;
 mod client;
 mod error;
 mod settling;
-#[cfg(test)]
-mod tests;
 
 pub use client::Client;
 pub use error::ClientError;

@@ -14,8 +14,6 @@ mod opening;
 mod page_queue;
 mod settling;
 mod taker;
-#[cfg(test)]
-mod tests;
 
 pub use done_opening::done_open;
 pub use done_sender::DoneSender;

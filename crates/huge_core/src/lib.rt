@@ -7,8 +7,6 @@ mod alone;
 mod collector;
 mod huge;
 mod report;
-#[cfg(test)]
-mod tests;
 
 pub use alone::reserve_alone;
 pub use collector::Collector;

@@ -14,8 +14,6 @@ mod round;
 mod scanner;
 mod shape;
 mod shared_zone;
-#[cfg(test)]
-mod tests;
 
 pub use alone::compact_alone;
 pub use compacting::compact;

@@ -12,8 +12,6 @@ mod frames;
 mod lists;
 mod numbers;
 mod pair;
-#[cfg(test)]
-mod tests;
 
 pub use blocks::{BlockCounts, first_whole, whole_blocks};
 pub use fingers::{Fingers, Step};

@@ -14,8 +14,6 @@ mod pages;
 mod pool;
 mod profile;
 mod reply;
-#[cfg(test)]
-mod tests;
 mod token;
 
 pub use blocks::BlockCount;
