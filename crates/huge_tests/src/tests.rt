@@ -6,10 +6,10 @@ mod blocks;
 mod journals;
 mod reserving;
 
-use huge_core::{Collector, Report};
 use arrayvec::ArrayVec;
 use bitflags::Flags;
 use frame_core::{Address, ClientNo, FrameNo, Order, PageFlags, SpaceNo, VPage, ZoneNo};
+use huge_core::{Collector, Report};
 use round_core::{NoGate, Shape, SharedZone};
 use std::alloc::Global;
 use std::process::Abort;

@@ -3,9 +3,9 @@ use Rattle.std.specs.Prelude.{ℕ, zero, suc, ◌+◌, ◌*◌, ◌/◌, Bool, t
 use Rattle.frame_core.specs.declared.place.Address.{Address}
 use Rattle.state_core.specs.declared.error.ZoneError.{ZoneError}
 use Rattle.state_core.specs.declared.error.ZoneError.TheVariants.{JournalFull, NoFrame, NoBlock}
-use Rattle.zone_core.specs.declared.hand.Finished.{Finished}
-use Rattle.zone_core.specs.declared.hand.Scanned.{Scanned}
-use Rattle.zone_core.specs.declared.hand.Scanned.TheVariants as scan
+use Rattle.world_core.specs.declared.hand.Finished.{Finished}
+use Rattle.world_core.specs.declared.hand.Scanned.{Scanned}
+use Rattle.world_core.specs.declared.hand.Scanned.TheVariants as scan
 use Rattle.state_core.specs.declared.moves.Ended.{Ended}
 use Rattle.state_core.specs.declared.moves.Ended.TheVariants as ended
 use Rattle.state_core.specs.declared.information.Look.{Look as Known}
@@ -19,7 +19,7 @@ use Rattle.state_core.specs.Pinning.{pin_refusal, unpin_refusal, pinned, unpinne
 use Rattle.state_core.specs.HandingOut.{take_order_refusal, give_order_refusal, lowest_run, block_taken, block_given}
 use Rattle.state_core.specs.Marking.{mark_refusal, unmark_refusal, block_marked, block_unmarked}
 use Rattle.state_core.specs.ZoneState.{ZoneState, lowest_free_frame}
-use Rattle.zone_core.specs.World.{WorldState, world_opened, with_zone, scan_refusal, scan_stopped, scan_answer, scanned, take_step, copy_step, finish_step, shut_step}
+use Rattle.world_core.specs.World.{WorldState, world_opened, with_zone, scan_refusal, scan_stopped, scan_answer, scanned, take_step, copy_step, finish_step, shut_step}
 use Rattle.text_core.specs.declared.command.Call.{Call}
 use Rattle.text_core.specs.declared.command.Call.TheVariants.{Map, MapAt, Store, Load, Info, Scan, Take, Copy, Finish, Shut, Look, Share, Unmap, Pin, Unpin, Huge, Give, InfoWithHeld, TakeOrder, GiveOrder, Mark, Unmark}
 use Rattle.text_core.specs.declared.command.Calls.{Calls}

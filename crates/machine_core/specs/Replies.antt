@@ -1,6 +1,6 @@
 -- What is written for a script on one thread.
 use Rattle.std.specs.Prelude.{ℕ, List, [], ◌∷◌, length, Option, None}
-use Rattle.zone_core.specs.World.{WorldState}
+use Rattle.world_core.specs.World.{WorldState}
 use Rattle.play_core.specs.declared.totals.Totals.{Totals}
 use Rattle.text_core.specs.Reply.{newlines}
 use Rattle.machine_core.specs.Machine.{step}

@@ -1,6 +1,6 @@
 -- A machine on one thread: what it answers to a command is what the machine's step says.
 use Rattle.std.specs.Prelude.{◌≡◌, ℕ, Bool, false, not, ◌&&◌, nat_eq, IsTrue, List, [], ◌∷◌, Option, Some, None}
-use Rattle.zone_core.specs.World.{WorldState}
+use Rattle.world_core.specs.World.{WorldState}
 use Rattle.text_core.specs.declared.command.Command.{Command}
 use Rattle.text_core.specs.declared.reply.Reply.{Reply}
 use Rattle.machine_core.specs.Machine.{opens, step}

@@ -5,7 +5,7 @@ ghost use Rattle.machine_core.specs.Serial.{is_at_rest};
 ghost use Rattle.text_core.specs.Grammar.{address_of, zone_of};
 ghost use Rattle.text_core.specs.declared.reply.Reply.TheVariants as reply;
 ghost use Rattle.zone_core.specs.Books.{AreFor};
-ghost use Rattle.zone_core.specs.ErrorNumber.{world_number_of};
+ghost use Rattle.world_core.specs.ErrorNumber.{world_number_of};
 ghost use Rattle.state_core.specs.ErrorNumber.{number_of};
 ghost use Rattle.frame_core.specs.PageFlags.{is_unmovable};
 
@@ -22,7 +22,8 @@ use std::sync::ledger::Ledger;
 use text_core::{
     BlockCount, Call, Calls, Command, PoolBlocks, PoolStopped, Repeated, Reply, Series, zone_of,
 };
-use zone_core::{Blanks, Finished, Scanned, World, WorldError};
+use world_core::{Finished, Scanned, World, WorldError};
+use zone_core::Blanks;
 
 /// What a script works on: no zone yet, with the blanks to open one, or the world of the one zone that it opened.
 #[derive(Drop)]

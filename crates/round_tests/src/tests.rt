@@ -7,9 +7,9 @@ mod gates;
 mod refusals;
 mod whole_rounds;
 
-use round_core::{Gate, Round, RoundError, Shape, SharedZone, compact};
 use bitflags::Flags;
 use frame_core::{Address, ClientNo, FrameNo, PageFlags, SpaceNo, VPage, WordNo, ZoneNo};
+use round_core::{Gate, Round, RoundError, Shape, SharedZone, compact};
 use std::alloc::Global;
 use std::process::Abort;
 use std::sync::Wait;

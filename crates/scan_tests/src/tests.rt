@@ -1,9 +1,9 @@
 ghost use Rattle.std.specs.Prelude.{◌≡◌, ◌<◌, ◌≤◌, ◌*◌, length};
 
+use frame_core::{BlockNo, FrameNo, FrameState, Order, PageNo, block_of};
 use scan_core::{
     BlockCounts, Fingers, Frames, NumberSet, Step, first_run, first_whole, next_pair, whole_blocks,
 };
-use frame_core::{BlockNo, FrameNo, FrameState, Order, PageNo, block_of};
 use std::process::Abort;
 use std::test::Fail;
 

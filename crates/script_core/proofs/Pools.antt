@@ -5,7 +5,7 @@ use Rattle.state_core.specs.declared.error.ZoneError.{ZoneError}
 use Rattle.state_core.specs.ZoneState.{ZoneState}
 use Rattle.zone_core.specs.Seats.{ScanSeat, EndSeat, audit_refusal}
 use Rattle.zone_core.specs.Shape.{HasShape}
-use Rattle.zone_core.specs.World.{WorldState}
+use Rattle.world_core.specs.World.{WorldState}
 use Rattle.round_core.specs.declared.round.Round.{Round}
 use Rattle.round_core.specs.Kept.{IsKept}
 use Rattle.round_core.specs.Rounds.{IsRefusedEarly}

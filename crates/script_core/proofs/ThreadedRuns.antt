@@ -6,7 +6,7 @@ use Rattle.std.specs.Io.KnownBytes.{Appends, Consumes}
 use Rattle.std.proofs.lemmas.Result.{MatchResult-weaker}
 use Rattle.text_core.specs.declared.command.Command.{Command}
 use Rattle.text_core.specs.declared.command.Command.TheVariants.{Open, On, Compact, Pool, During, Profile2, OutOfRange}
-use Rattle.zone_core.specs.World.{WorldState}
+use Rattle.world_core.specs.World.{WorldState}
 use Rattle.text_core.specs.declared.reply.Reply.{Reply}
 use Rattle.play_core.specs.declared.error.Fault.{Fault}
 use Rattle.play_core.specs.declared.error.Fault.TheVariants.{Syntax, LongLine, Read, Write, Memory}

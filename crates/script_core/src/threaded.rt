@@ -24,7 +24,8 @@ use std::sync::Wait;
 use std::sync::ledger::Ledger;
 use std::thread::Threads;
 use text_core::{BlockCount, Command, PoolBlocks, PoolStopped, Reply, Stopped, zone_of};
-use zone_core::{Audit, Blanks, Rest, Seats, World, Zone, ZoneError};
+use world_core::{Rest, World};
+use zone_core::{Audit, Blanks, Seats, Zone, ZoneError};
 
 /// How many rounds a pool may run.
 const POOL_ROUNDS: u32 = 4;

@@ -3,7 +3,7 @@ use Rattle.std.proofs.Common.{◌≡◌, ℕ, ◌+◌, Bool, true, false, List, 
 use Rattle.std.specs.Prelude.{codes, map, nat_eq, nat_lt, option_map, ⊤, if◌then◌else◌}
 use Rattle.std.proofs.lemmas.List.{length-map, map-append}
 use Rattle.std.specs.Option.{option_or}
-use Rattle.zone_core.specs.World.{WorldState}
+use Rattle.world_core.specs.World.{WorldState}
 use Rattle.text_core.specs.declared.command.Call.{Call}
 use Rattle.text_core.specs.declared.command.Call.TheVariants as call
 use Rattle.text_core.specs.declared.command.Calls.TheVariants.{One, Series as SeriesOf}

@@ -13,10 +13,10 @@ use Rattle.state_core.specs.Ending.{moved_to_target, put_back_to_source}
 use Rattle.state_core.specs.Pairs.{next_pair}
 use Rattle.state_core.specs.Rounds.{round_begun}
 use Rattle.state_core.specs.ZoneState.{ZoneState}
-use Rattle.zone_core.specs.declared.hand.Finished.{Finished}
-use Rattle.zone_core.specs.declared.hand.Hand.{Hand}
-use Rattle.zone_core.specs.declared.hand.Hand.TheVariants.{Empty, Page, Copy}
-use Rattle.zone_core.specs.World.{WorldState, all_put_back, copy_in, copy_step, finish_step, finished_as, finished_by, is_empty, isolated_by, page_in, round_opened, scanned, shut, shut_step, take_step, taken_by, with_hand}
+use Rattle.world_core.specs.declared.hand.Finished.{Finished}
+use Rattle.world_core.specs.declared.hand.Hand.{Hand}
+use Rattle.world_core.specs.declared.hand.Hand.TheVariants.{Empty, Page, Copy}
+use Rattle.world_core.specs.World.{WorldState, all_put_back, copy_in, copy_step, finish_step, finished_as, finished_by, is_empty, isolated_by, page_in, round_opened, scanned, shut, shut_step, take_step, taken_by, with_hand}
 
 -- a zone after a call that binds no address and stores nothing
 pub record LeavesCells (z after : ZoneState) : Type 0 where

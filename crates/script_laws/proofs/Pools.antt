@@ -3,7 +3,7 @@ use Rattle.std.proofs.Common.{◌≡◌, ℕ, zero, suc, Bool, true, false, List
 use Rattle.std.specs.Prelude.{if◌then◌else◌, unwrap_or}
 use Rattle.state_core.specs.declared.error.ZoneError.{ZoneError}
 use Rattle.state_core.specs.HandingOut.{take_order_refusal, block_taken}
-use Rattle.zone_core.specs.World.{IsOrderly, WorldState, with_zone}
+use Rattle.world_core.specs.World.{IsOrderly, WorldState, with_zone}
 use Rattle.text_core.specs.declared.pool.PoolBlocks.{PoolBlocks}
 use Rattle.text_core.specs.declared.pool.PoolStopped.{PoolStopped}
 use Rattle.text_core.specs.declared.pool.PoolStopped.TheVariants as stopped

@@ -14,10 +14,10 @@ use Rattle.state_core.specs.Marking.{mark_refusal, unmark_refusal}
 use Rattle.state_core.specs.Pinning.{pin_refusal, unpin_refusal}
 use Rattle.state_core.specs.Sharing.{share_refusal}
 use Rattle.state_core.specs.Unmapping.{unmap_refusal}
-use Rattle.zone_core.specs.declared.hand.Finished.{Finished}
-use Rattle.zone_core.specs.declared.hand.Scanned.{Scanned}
-use Rattle.zone_core.specs.declared.hand.Scanned.TheVariants as scan
-use Rattle.zone_core.specs.World.{WorldState, copy_step, finish_step, scan_answer, scan_refusal, scan_stopped, scanned, shut_step, take_step}
+use Rattle.world_core.specs.declared.hand.Finished.{Finished}
+use Rattle.world_core.specs.declared.hand.Scanned.{Scanned}
+use Rattle.world_core.specs.declared.hand.Scanned.TheVariants as scan
+use Rattle.world_core.specs.World.{WorldState, copy_step, finish_step, scan_answer, scan_refusal, scan_stopped, scanned, shut_step, take_step}
 use Rattle.text_core.specs.declared.command.Call.{Call}
 use Rattle.text_core.specs.declared.command.Call.TheVariants.{Map, MapAt, Store, Load, Info, Scan, Take, Copy, Finish, Shut, Look as LookAt, Share, Unmap, Pin, Unpin, Huge, Give, InfoWithHeld, TakeOrder, GiveOrder, Mark, Unmark}
 use Rattle.text_core.specs.declared.command.Repeated.{Repeated}

@@ -18,12 +18,12 @@ use Rattle.state_core.specs.Pinning.{pin_refusal, unpin_refusal, pinned, unpinne
 use Rattle.state_core.specs.Sharing.{share_refusal, shared}
 use Rattle.state_core.specs.Unmapping.{is_last, unmap_refusal, unmapped, without_page}
 use Rattle.state_core.specs.ZoneState.{ZoneState, lowest_free_frame, noted}
-use Rattle.zone_core.specs.declared.hand.Finished.{Finished}
+use Rattle.world_core.specs.declared.hand.Finished.{Finished}
 use Rattle.zone_core.specs.Seats.{seat_full}
-use Rattle.zone_core.specs.World.{IsOrderly, WorldState, copy_step, finish_step, round_opened, scan_answer, scan_refusal, scan_stopped, scanned, shut_step, take_step, with_zone}
-use Rattle.zone_core.proofs.HandsTaking.{orderly_copied, orderly_taken}
-use Rattle.zone_core.proofs.MovesEnded.{orderly_finished, orderly_shut}
-use Rattle.zone_core.proofs.Orderly.{orderly_isolated, orderly_noted, orderly_round_opened, orderly_with_zone}
+use Rattle.world_core.specs.World.{IsOrderly, WorldState, copy_step, finish_step, round_opened, scan_answer, scan_refusal, scan_stopped, scanned, shut_step, take_step, with_zone}
+use Rattle.world_core.proofs.HandsTaking.{orderly_copied, orderly_taken}
+use Rattle.world_core.proofs.MovesEnded.{orderly_finished, orderly_shut}
+use Rattle.world_core.proofs.Orderly.{orderly_isolated, orderly_noted, orderly_round_opened, orderly_with_zone}
 use Rattle.text_core.specs.declared.command.Call.{Call}
 use Rattle.text_core.specs.declared.command.Call.TheVariants.{Map, MapAt, Store, Load, Info, Scan, Take, Copy, Finish, Shut, Look as LookAt, Share, Unmap, Pin, Unpin, Huge, Give, InfoWithHeld, TakeOrder, GiveOrder, Mark, Unmark}
 use Rattle.text_core.specs.declared.command.Repeated.{Repeated}

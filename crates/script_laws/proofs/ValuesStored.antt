@@ -20,12 +20,12 @@ use Rattle.state_core.specs.Sharing.{share_refusal}
 use Rattle.state_core.specs.Unmapping.{is_last, unmap_refusal, unmapped, without_page}
 use Rattle.state_core.specs.ZoneState.{ZoneState, lowest_free_frame, noted}
 use Rattle.state_core.proofs.Placed.{clash}
-use Rattle.zone_core.specs.declared.hand.Finished.{Finished}
-use Rattle.zone_core.specs.declared.hand.Scanned.{Scanned}
-use Rattle.zone_core.specs.declared.hand.Scanned.TheVariants as scan
+use Rattle.world_core.specs.declared.hand.Finished.{Finished}
+use Rattle.world_core.specs.declared.hand.Scanned.{Scanned}
+use Rattle.world_core.specs.declared.hand.Scanned.TheVariants as scan
 use Rattle.state_core.specs.declared.moves.Ended.{Ended}
 use Rattle.state_core.specs.declared.moves.Ended.TheVariants as ended
-use Rattle.zone_core.specs.World.{IsOrderly, WorldState, copy_step, finish_step, scan_answer, scan_refusal, scan_stopped, scanned, shut_step, take_step, world_opened}
+use Rattle.world_core.specs.World.{IsOrderly, WorldState, copy_step, finish_step, scan_answer, scan_refusal, scan_stopped, scanned, shut_step, take_step, world_opened}
 use Rattle.text_core.specs.declared.command.Call.{Call}
 use Rattle.text_core.specs.declared.command.Call.TheVariants.{Map, MapAt, Store, Load, Info, Scan, Take, Copy, Finish, Shut, Look as LookAt, Share, Unmap, Pin, Unpin, Huge, Give, InfoWithHeld, TakeOrder, GiveOrder, Mark, Unmark}
 use Rattle.text_core.specs.declared.command.Calls.{Calls}

@@ -1,12 +1,12 @@
-use text_core::{
-    BlockCount, BlockLine, Call, Calls, ClientCall, Command, PageCount, PoolBlocks, PoolStopped,
-    Profile, Repeated, Reply, ScriptError, Series, Stopped, read_block_line, read_line, reply_text,
-};
 use arrayvec::ArrayVec;
 use frame_core::{
     Address, BlockNo, FrameNo, HandNo, Order, PageFlags, SpaceNo, VPage, WordNo, ZoneNo,
 };
 use state_core::{Info, Look};
+use text_core::{
+    BlockCount, BlockLine, Call, Calls, ClientCall, Command, PageCount, PoolBlocks, PoolStopped,
+    Profile, Repeated, Reply, ScriptError, Series, Stopped, read_block_line, read_line, reply_text,
+};
 
 /// Page 2 of space 1.
 fn address() -> Address {

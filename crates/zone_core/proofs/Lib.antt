@@ -1,8 +1,1 @@
-pub mod Carrying
-pub mod Closing
-pub mod HandsTaking
-pub mod Holding
-pub mod MovesEnded
-pub mod Orderly
 pub mod Seated
-pub mod Standing

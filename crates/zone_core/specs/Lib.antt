@@ -1,6 +1,3 @@
 pub mod Books
-pub mod Carried
-pub mod ErrorNumber
 pub mod Seats
 pub mod Shape
-pub mod World

@@ -2,23 +2,15 @@
 //!
 //! Contracts see a zone as one record, the `ZoneState` of `state_core`: the state of a machine without frame tables, words or
 //! counters. Each call's clauses say when it is refused and which step the machine makes, by the definitions of that crate.
-//! A world is seen as the record of `specs/World.antt`, and its seats as those of `specs/Seats.antt`.
+//! Its seats are seen as the records of `specs/Seats.antt`.
 #![tactic(auto)]
 
 mod blocks;
-mod ending;
-mod hand;
-mod hands;
-mod rest;
 mod seats;
 mod sharing;
 mod tables;
-mod world;
 mod zone;
 
-pub use hand::{Finished, Hand, Scanned};
-pub use rest::Rest;
 pub use seats::{Answered, Blanks, EndSeat, ScanSeat, Seats};
 pub use state_core::{Audit, Ended, Info, Look, Next, Placement, RoundStart, Stranger, ZoneError};
-pub use world::{World, WorldError};
 pub use zone::Zone;

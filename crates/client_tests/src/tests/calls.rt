@@ -1,8 +1,8 @@
 //! Calls of a client with plain numbers, and their answers, for tables of tests.
 
 use super::{address, word};
-use client_core::{Client, ClientError};
 use bitflags::Flags;
+use client_core::{Client, ClientError};
 use frame_core::{FrameNo, PageFlags};
 use round_core::{Shape, SharedZone};
 use std::process::Abort;

@@ -1,9 +1,9 @@
 ghost use Rattle.zone_core.specs.Books.{AreFor};
 
 use super::frames_of;
-use huge_core::{Collector, Stop, reserve_alone};
 use bitflags::Flags;
 use frame_core::{Address, ClientNo, FrameNo, Order, PageFlags, SpaceNo, VPage, ZoneNo};
+use huge_core::{Collector, Stop, reserve_alone};
 use round_core::NoGate;
 use std::alloc::Global;
 use std::marker::Brand;

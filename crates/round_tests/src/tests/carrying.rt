@@ -1,9 +1,9 @@
 ghost use Rattle.std.specs.Prelude.{◌≡◌, [], false, IfSome};
 ghost use Rattle.hand_core.specs.CopyEnds.{has_ended};
 
-use round_core::{NoGate, carry};
 use frame_core::{PageNo, Serial, WordNo, ZoneNo};
 use hand_core::{Came, DoneTaker, Giver, Took, done_open, open};
+use round_core::{NoGate, carry};
 use std::process::Abort;
 use std::sync::Wait;
 use word_core::{Isolated, Page};

@@ -6,7 +6,8 @@ use bitflags::Flags;
 use frame_core::{PageFlags, ZoneNo};
 use std::process::Abort;
 use std::sync::ledger::Ledger;
-use zone_core::{Blanks, Ended, Info, Scanned, World, WorldError, Zone};
+use world_core::{Scanned, World, WorldError};
+use zone_core::{Blanks, Ended, Info, Zone};
 
 /// A call of a world: of its zone, or one that names a hand.
 #[derive(Clone, Copy, Debug, PartialEq, Eq)]

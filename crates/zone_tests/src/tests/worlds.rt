@@ -5,7 +5,8 @@ use super::world_opening::{Step, WorldOpening};
 use std::marker::Brand;
 use std::process::Abort;
 use std::sync::ledger::Ledger;
-use zone_core::{Blanks, World};
+use world_core::World;
+use zone_core::Blanks;
 
 const FIRST: Name = (0, 0);
 

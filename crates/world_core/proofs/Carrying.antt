@@ -1,0 +1,367 @@
+-- What a world carries stays its own where its zone changes.
+use Rattle.std.proofs.Common.{◌≡◌, ◌≢◌, ℕ, zero, suc, ◌*◌, ◌<◌, Bool, true, false, not, List, [], ◌∷◌, ◌++◌, length, ◌⊎◌, inl, inr, refl, sym, ap, subst, ◌∙◌, arith}
+use Rattle.std.specs.Prelude.{Option, Some, None, IsSome, Result, Ok, Err, IfOk, OnOk, OnErr, map as each, replicate, slice_get, slice_set, unwrap_or, nat_eq, nat_lt, is_some, if◌then◌else◌}
+use Rattle.std.specs.FinMap as map
+use Rattle.std.specs.List.{list_any}
+use Rattle.std.specs.Option.{option_or}
+use Rattle.std.proofs.lemmas.Bool.{eq-eqb, ltb-true, or_left, or_right}
+use Rattle.std.proofs.lemmas.Bool.Decides.{eqb_tells}
+use Rattle.std.proofs.lemmas.List.{length-set, map-set, length-map}
+use Rattle.std.proofs.lemmas.Option.{slice_get_within}
+use Rattle.frame_core.proofs.Lists.{slice_get_set_same, slice_get_set_other}
+use Rattle.frame_core.specs.declared.place.Address.{Address}
+use Rattle.journal_core.specs.History.{page_at}
+use Rattle.journal_core.specs.declared.record.Record.TheVariants.{Unmap}
+use Rattle.journal_core.specs.Moves.{isolated, out}
+use Rattle.word_core.specs.Page.{OnItsWay}
+use Rattle.state_core.specs.declared.error.ZoneError.{ZoneError}
+use Rattle.state_core.specs.declared.error.ZoneError.TheVariants.{Range, JournalFull, Occupied, NoFrame}
+use Rattle.world_core.specs.declared.hand.Hand.TheVariants as hand
+use Rattle.world_core.specs.declared.hands.Held.{Held}
+use Rattle.world_core.specs.declared.hands.Held.TheVariants.{Nothing, Page, Copy}
+use Rattle.world_core.specs.Carried.{hand_as, page_held, copy_held, is_nothing, serials_of, world_of, IsCarried}
+use Rattle.state_core.specs.declared.moves.Next.TheVariants.{Page as Found, Met}
+use Rattle.state_core.specs.declared.round.Pair.{Pair}
+use Rattle.state_core.specs.declared.placement.Placement.{Placement}
+use Rattle.state_core.specs.declared.placement.Placement.TheVariants.{At, Moving}
+use Rattle.state_core.specs.Lawful.{IsLawful}
+use Rattle.state_core.specs.Pairs.{next_pair}
+use Rattle.state_core.specs.Ending.{IsOwnCopy}
+use Rattle.state_core.specs.Carrying.{page_now}
+use Rattle.state_core.specs.Rounds.{round_begun}
+use Rattle.state_core.specs.Isolating.{isolate_refusal, isolated_next, next_answer, next_state, Scans}
+use Rattle.zone_core.specs.Seats.{ScanSeat, EndSeat, seat_begun, seat_noted}
+use Rattle.std.specs.Result.{result_err}
+use Rattle.state_core.specs.Access.{placement_refusal, access_refusal}
+use Rattle.state_core.specs.Mapping.{map_at_refusal}
+use Rattle.state_core.specs.Mapping.{mapped, placed}
+use Rattle.state_core.specs.Access.{loaded, stored}
+use Rattle.state_core.specs.Sharing.{shared}
+use Rattle.state_core.specs.Unmapping.{is_last, unmap_refusal, unmapped, without_page}
+use Rattle.state_core.specs.Pinning.{pinned, unpinned}
+use Rattle.state_core.specs.HandingOut.{block_taken, block_given}
+use Rattle.state_core.specs.Marking.{block_marked, block_unmarked}
+use Rattle.world_core.specs.World.{WorldState, IsOrderly, isolated_by}
+use Rattle.state_core.specs.ZoneState.{ZoneState, frame_count, has_room, is_free, placement_at, lowest_free_frame, lowest_unused_page, noted}
+use Rattle.state_core.proofs.Accessed.{lawful_loaded, lawful_stored}
+use Rattle.state_core.proofs.Finding.{some_lowest, unused_left, unused_is}
+use Rattle.state_core.proofs.Carried.{own_begun, own_loaded, own_stored, own_placed, own_isolated, own_fresh, own_shared, own_unmapped, own_pinned, own_unpinned, own_block_taken, own_block_given, own_marked, own_unmarked}
+use Rattle.state_core.proofs.Facts.{spare, not_none}
+use Rattle.world_core.proofs.Orderly.{orderly_with_zone, orderly_round_opened, orderly_noted, orderly_isolated}
+
+-- Lists of what hands hold
+pub each_set : (held : List Held) (i : ℕ) (x : Held) → each hand_as (slice_set held i x) ≡ slice_set (each hand_as held) i (hand_as x)
+each_set held i x = map-set hand_as held i x
+
+pub set_twice : (held : List Held) (i : ℕ) (x y : Held) → slice_set (slice_set held i x) i y ≡ slice_set held i y
+set_twice [] i x y = refl
+set_twice (h ∷ held) zero x y = refl
+set_twice (h ∷ held) (suc i) x y = ap (λ (t : List Held). h ∷ t) (set_twice held i x y)
+
+-- what a hand shows is what it holds
+pub seen_at : (held : List Held) (i : ℕ) → unwrap_or (slice_get (each hand_as held) i) hand.Empty ≡ hand_as (unwrap_or (slice_get held i) Nothing)
+seen_at [] i = refl
+seen_at (h ∷ held) zero = refl
+seen_at (h ∷ held) (suc i) = seen_at held i
+
+pub seen_some : (held : List Held) (i : ℕ) (h : Held) → slice_get held i ≡ Some h → unwrap_or (slice_get (each hand_as held) i) hand.Empty ≡ hand_as h
+seen_some held i h e = seen_at held i ∙ ap (λ (o : Option Held). hand_as (unwrap_or o Nothing)) e
+
+-- after a hand holds x, each hand holds x or is another, with what it held
+pub held_after : (held : List Held) (i j : ℕ) (x y : Held) → slice_get (slice_set held i x) j ≡ Some y → ((j ≡ i) × (x ≡ y)) ⊎ ((j ≢ i) × (slice_get held j ≡ Some y))
+held_after held i j x y e = elim (eqb_tells j i) [
+  | inl same ↦ (
+      let within : i < length held = omega (arith, slice_get_within (slice_set held i x) j y e, length-set held i x, same.1) in
+      let both : Some x ≡ Some y = sym (slice_get_set_same held i j x same.1 within) ∙ e in
+      inl (same.1, cc))
+  | inr other ↦ inr (other.1, sym (slice_get_set_other held i j x other.1) ∙ e)
+]
+
+pub is_page_held : (o : Option Held) (p : OnItsWay) → page_held (unwrap_or o Nothing) ≡ Some p → o ≡ Some (Page p)
+is_page_held None p e = cc
+is_page_held (Some Nothing) p e = cc
+is_page_held (Some (Page q)) p e = let same : q ≡ p = cc in ap (λ (x : OnItsWay). Some (Page x)) same
+is_page_held (Some (Copy q)) p e = cc
+
+pub is_copy_held : (o : Option Held) (p : OnItsWay) → copy_held (unwrap_or o Nothing) ≡ Some p → o ≡ Some (Copy p)
+is_copy_held None p e = cc
+is_copy_held (Some Nothing) p e = cc
+is_copy_held (Some (Page q)) p e = cc
+is_copy_held (Some (Copy q)) p e = let same : q ≡ p = cc in ap (λ (x : OnItsWay). Some (Copy x)) same
+
+pub page_same : {p q : OnItsWay} → Page p ≡ Page q → p ≡ q
+page_same {p} {q} e = cc
+
+pub copy_same : {p q : OnItsWay} → Copy p ≡ Copy q → p ≡ q
+copy_same {p} {q} e = cc
+
+pub page_no_copy : {p q : OnItsWay} → Page p ≡ Copy q → ⊥
+page_no_copy {p} {q} e = cc
+
+pub copy_no_page : {p q : OnItsWay} → Copy p ≡ Page q → ⊥
+copy_no_page {p} {q} e = cc
+
+pub nothing_no_page : {q : OnItsWay} → Nothing ≡ Page q → ⊥
+nothing_no_page {q} e = cc
+
+pub nothing_no_copy : {q : OnItsWay} → Nothing ≡ Copy q → ⊥
+nothing_no_copy {q} e = cc
+
+pub true_not_false : (b : Bool) → b ≡ true → b ≡ false → ⊥
+true_not_false b t f = let bad : true ≡ false = sym t ∙ f in cc
+
+pub no_page : (n i : ℕ) (p : OnItsWay) → slice_get (replicate n Nothing) i ≡ Some (Page p) → ⊥
+no_page zero i p e = cc
+no_page (suc n) zero p e = cc
+no_page (suc n) (suc i) p e = no_page n i p e
+
+pub no_copy : (n i : ℕ) (p : OnItsWay) → slice_get (replicate n Nothing) i ≡ Some (Copy p) → ⊥
+no_copy zero i p e = cc
+no_copy (suc n) zero p e = cc
+no_copy (suc n) (suc i) p e = no_copy n i p e
+
+pub nothing_is : (h : Held) → is_nothing h ≡ true → h ≡ Nothing
+nothing_is Nothing e = refl
+nothing_is (Page p) e = cc
+nothing_is (Copy p) e = cc
+
+pub waits_at : (list : List OnItsWay) (i : ℕ) (p : OnItsWay) → slice_get list i ≡ Some p → list_any (nat_eq p.serial) (serials_of list) ≡ true
+waits_at [] i p e = cc
+waits_at (q ∷ list) zero p e = let same : q ≡ p = cc in or_left (nat_eq p.serial q.serial) _ (eq-eqb p.serial q.serial (ap (λ x. x.serial) (sym same)))
+waits_at (q ∷ list) (suc i) p e = or_right (nat_eq p.serial q.serial) _ (waits_at list i p e)
+
+-- Another zone
+module _ (zone next : ZoneState) (scan : ScanSeat) (ends : EndSeat) (is_open : Bool) (list : List OnItsWay) (held : List Held) (capacity : ℕ) (was : IsCarried zone scan ends is_open list held capacity) where
+  pub carried_with : (seat : ScanSeat) (opened : Bool) → IsOrderly (world_of next seat ends opened list held) → ((p : OnItsWay) → IsOwnCopy zone p → IsOwnCopy next p) → next.blocks ≡ zone.blocks → IsCarried next seat ends opened list held capacity
+  carried_with seat opened orderly own blocks = record {
+    orderly = orderly;
+    waiting = λ i p e. own p (was.waiting i p e);
+    pages = λ i p e. own p (was.pages i p e);
+    copies = λ i p e. own p (was.copies i p e);
+    room = was.room ∙ ap (λ n. 256 * n) (sym blocks);
+  }
+
+-- the seat of the scanner notes something
+pub carried_noted : (zone : ZoneState) (scan : ScanSeat) (ends : EndSeat) (is_open : Bool) (list : List OnItsWay) (held : List Held) (capacity : ℕ) → IsCarried zone scan ends is_open list held capacity → (seat : ScanSeat) → IsCarried zone seat ends is_open list held capacity
+carried_noted zone scan ends is_open list held capacity was seat =
+    carried_with zone zone scan ends is_open list held capacity was seat is_open (orderly_noted (world_of zone scan ends is_open list held) seat was.orderly) (λ p own. own) refl
+
+-- A round opens, and a page goes on its way
+pub carried_opened : (zone : ZoneState) (scan : ScanSeat) (ends : EndSeat) (is_open : Bool) (list : List OnItsWay) (held : List Held) (capacity : ℕ) → IsCarried zone scan ends is_open list held capacity → is_open ≡ false → IsCarried (round_begun zone) (seat_begun scan) ends true list held capacity
+carried_opened zone scan ends is_open list held capacity was closed =
+    carried_with zone (round_begun zone) scan ends is_open list held capacity was (seat_begun scan) true orderly (own_begun zone) refl where
+      orderly : IsOrderly (world_of (round_begun zone) (seat_begun scan) ends true list held)
+      orderly = subst (λ (b : Bool). IsOrderly (record { zone = if b then zone else round_begun zone; scan = if b then scan else seat_begun scan; ends = ends; is_open = true; waiting = serials_of list; hands = each hand_as held })) closed
+          (orderly_round_opened (world_of zone scan ends is_open list held) was.orderly)
+
+serials_more : (list : List OnItsWay) (p : OnItsWay) → serials_of (list ++ p ∷ []) ≡ serials_of list ++ p.serial ∷ []
+serials_more [] p = refl
+serials_more (q ∷ list) p = ap (λ (t : List ℕ). q.serial ∷ t) (serials_more list p)
+
+one_more : (list : List OnItsWay) (p : OnItsWay) (i : ℕ) (q : OnItsWay) → slice_get (list ++ p ∷ []) i ≡ Some q → (slice_get list i ≡ Some q) ⊎ (p ≡ q)
+one_more [] p zero q e = inr cc
+one_more [] p (suc i) q e = cc
+one_more (x ∷ list) p zero q e = inl e
+one_more (x ∷ list) p (suc i) q e = one_more list p i q e
+
+-- what a call of `isolate_next` says of the page that it gives
+pub record IsTaken (zone next : ZoneState) (p : OnItsWay) : Type 0 where
+  pub pair : Pair
+  pub is : next_pair zone ≡ Some pair
+  pub page : p ≡ record { serial = isolated zone.records; page = page_now zone pair.page }
+  pub state : next ≡ isolated_next zone pair
+
+pub is_taken : (zone next : ZoneState) (p : OnItsWay) → Found p ≡ next_answer zone (next_pair zone) → next ≡ next_state zone (next_pair zone) → IsTaken zone next p
+is_taken zone next p answer state = by_pair (next_pair zone) refl answer state where
+  by_pair : (o : Option Pair) → next_pair zone ≡ o → Found p ≡ next_answer zone o → next ≡ next_state zone o → IsTaken zone next p
+  by_pair None is answer state = cc
+  by_pair (Some pair) is answer state = record { pair = pair; is = is; page = cc; state = state }
+
+pub met_same : (zone next : ZoneState) → Met ≡ next_answer zone (next_pair zone) → next ≡ next_state zone (next_pair zone) → next ≡ zone
+met_same zone next answer state = by_pair (next_pair zone) answer state where
+  by_pair : (o : Option Pair) → Met ≡ next_answer zone o → next ≡ next_state zone o → next ≡ zone
+  by_pair None answer state = state
+  by_pair (Some pair) answer state = cc
+
+module _ (zone next : ZoneState) (scan : ScanSeat) (ends : EndSeat) (is_open : Bool) (list : List OnItsWay) (held : List Held) (capacity : ℕ) (p : OnItsWay) (was : IsCarried zone scan ends is_open list held capacity) (opened : is_open ≡ true) (room : isolate_refusal zone ≡ None) (take : IsTaken zone next p) (scans : Scans zone next (Found p)) where
+  abbrev scanning : WorldState
+  scanning = world_of zone scan ends is_open list held
+
+  abbrev seat_counted : ScanSeat
+  seat_counted = seat_noted scan (Found p)
+
+  at_source : map.get zone.placement take.pair.page ≡ Some (At scans.source)
+  at_source = ap (λ (q : OnItsWay). map.get zone.placement q.page.number) (sym take.page) ∙ scans.pair.from.here
+
+  world_is : isolated_by scanning (next_pair zone) ≡ world_of next seat_counted ends is_open (list ++ p ∷ []) held
+  world_is =
+      ap (isolated_by scanning) take.is
+      ∙ (λ i. record { zone = sym take.state i; scan = seat_counted; ends = ends; is_open = is_open; waiting = serials_of list ++ sym (ap (λ (q : OnItsWay). q.serial) take.page) i ∷ []; hands = each hand_as held })
+      ∙ ap (λ (waiting : List ℕ). record { zone = next; scan = seat_counted; ends = ends; is_open = is_open; waiting = waiting; hands = each hand_as held }) (sym (serials_more list p))
+
+  own_then : (q : OnItsWay) → IsOwnCopy zone q → IsOwnCopy next q
+  own_then q own = subst (λ (v : ZoneState). IsOwnCopy v q) (sym take.state) (own_isolated zone take.pair scans.source at_source q own)
+
+  own_now : IsOwnCopy next p
+  own_now =
+      subst (λ (v : ZoneState). IsOwnCopy v p) (sym take.state)
+      (subst (IsOwnCopy (isolated_next zone take.pair)) (sym take.page) (own_fresh zone take.pair))
+
+  blocks_then : next.blocks ≡ zone.blocks
+  blocks_then = ap (λ (v : ZoneState). v.blocks) take.state
+
+  pub carried_scanned : IsCarried next seat_counted ends is_open (list ++ p ∷ []) held capacity
+  carried_scanned = record {
+    orderly = subst IsOrderly world_is (orderly_isolated scanning was.orderly opened room);
+    waiting = λ i q e. elim (one_more list p i q e) [
+      | inl old ↦ own_then q (was.waiting i q old)
+      | inr fresh ↦ subst (IsOwnCopy next) fresh own_now
+    ];
+    pages = λ i q e. own_then q (was.pages i q e);
+    copies = λ i q e. own_then q (was.copies i q e);
+    room = was.room ∙ ap (λ n. 256 * n) (sym blocks_then);
+  }
+
+  -- the list has a place for it
+  pub place_left : length list < capacity
+  place_left =
+      omega (arith, was.room, was.orderly.few.0, was.orderly.few.1, length-map list (λ (q : OnItsWay). q.serial), scans.pair.from.low, scans.pair.to.low, scans.pair.to.high)
+
+-- Calls of the zone that touch no page on its way
+room_then : (b : Bool) (o : Option ZoneError) → (if not b then Some JournalFull else o) ≡ None → (b ≡ true) × (o ≡ None)
+room_then true o e = (refl, e)
+room_then false o e = cc
+
+at_then : (o : Option Placement) → placement_refusal o ≡ None → (frame : ℕ) × (o ≡ Some (At frame))
+at_then None e = cc
+at_then (Some (At frame)) e = (frame, refl)
+at_then (Some (Moving serial source target)) e = cc
+
+option_or_none : {A : Type 0} (o other : Option A) → option_or o other ≡ None → o ≡ None
+option_or_none None other e = refl
+option_or_none (Some x) other e = cc
+
+place_then : (a b c d : Bool) → (if not a then Some Range else if not b then Some JournalFull else if c then Some Occupied else if not d then Some NoFrame else None) ≡ None → (a ≡ true) × (d ≡ true)
+place_then false b c d e = cc
+place_then true false c d e = cc
+place_then true true true d e = cc
+place_then true true false false e = cc
+place_then true true false true e = (refl, refl)
+
+-- what a call leaves of the pages on their way and of the fingers
+pub record LeavesMoves (zone after : ZoneState) : Type 0 where
+  pub same_out : out after.records ≡ out zone.records
+  pub migrate : after.migrate ≡ zone.migrate
+  pub free : after.free ≡ zone.free
+  pub blocks : after.blocks ≡ zone.blocks
+  pub own : (p : OnItsWay) → IsOwnCopy zone p → IsOwnCopy after p
+
+pub leaves_shared : (z : ZoneState) (client : ℕ) (address alias : Address) → LeavesMoves z (shared z client address alias)
+leaves_shared z client address alias = record { same_out = refl; migrate = refl; free = refl; blocks = refl; own = own_shared z client address alias }
+
+pub leaves_pinned : (z : ZoneState) (client : ℕ) (address : Address) → LeavesMoves z (pinned z client address)
+leaves_pinned z client address = record { same_out = refl; migrate = refl; free = refl; blocks = refl; own = own_pinned z client address }
+
+pub leaves_unpinned : (z : ZoneState) (client : ℕ) (address : Address) → LeavesMoves z (unpinned z client address)
+leaves_unpinned z client address = record { same_out = refl; migrate = refl; free = refl; blocks = refl; own = own_unpinned z client address }
+
+pub leaves_taken : (z : ZoneState) (first order : ℕ) → LeavesMoves z (block_taken z first order)
+leaves_taken z first order = record { same_out = refl; migrate = refl; free = refl; blocks = refl; own = own_block_taken z first order }
+
+pub leaves_given : (z : ZoneState) (first order : ℕ) → LeavesMoves z (block_given z first order)
+leaves_given z first order = record { same_out = refl; migrate = refl; free = refl; blocks = refl; own = own_block_given z first order }
+
+pub leaves_marked : (z : ZoneState) (block : ℕ) → LeavesMoves z (block_marked z block)
+leaves_marked z block = record { same_out = refl; migrate = refl; free = refl; blocks = refl; own = own_marked z block }
+
+pub leaves_unmarked : (z : ZoneState) (block : ℕ) → LeavesMoves z (block_unmarked z block)
+leaves_unmarked z block = record { same_out = refl; migrate = refl; free = refl; blocks = refl; own = own_unmarked z block }
+
+leaves_unmapped : (z : ZoneState) (client : ℕ) (address : Address) (frame : ℕ) → placement_at z address ≡ Some (At frame) → LeavesMoves z (unmapped z client address)
+leaves_unmapped z client address frame at = record {
+  same_out = by_last (λ after. out after.records ≡ out z.records) refl refl;
+  migrate = by_last (λ after. after.migrate ≡ z.migrate) refl refl;
+  free = by_last (λ after. after.free ≡ z.free) refl refl;
+  blocks = by_last (λ after. after.blocks ≡ z.blocks) refl refl;
+  own = own_unmapped z client address frame at;
+} where
+  next : ZoneState
+  next = noted z (Unmap client address)
+
+  ended : ZoneState
+  ended = without_page next (unwrap_or (page_at z.records address) 0)
+
+  by : (b : Bool) (P : ZoneState → Type 0) → P next → P ended → P (if b then ended else next)
+  by true P kept gone = gone
+  by false P kept gone = kept
+
+  by_last : (P : ZoneState → Type 0) → P next → P ended → P (unmapped z client address)
+  by_last P kept gone = by (is_last z address) P kept gone
+
+module _ (zone next : ZoneState) (scan : ScanSeat) (ends : EndSeat) (is_open : Bool) (list : List OnItsWay) (held : List Held) (capacity : ℕ) (was : IsCarried zone scan ends is_open list held capacity) where
+  -- a refused call changes nothing
+  unchanged : next ≡ zone → IsCarried next scan ends is_open list held capacity
+  unchanged same = subst (λ (v : ZoneState). IsCarried v scan ends is_open list held capacity) (sym same) was
+
+  changed : (after : ZoneState) → next ≡ after → IsLawful after → out after.records ≡ out zone.records → after.migrate ≡ zone.migrate → after.free ≡ zone.free → after.blocks ≡ zone.blocks → ((p : OnItsWay) → IsOwnCopy zone p → IsOwnCopy after p) → IsCarried next scan ends is_open list held capacity
+  changed after is law same_out migrate free blocks own =
+      subst (λ (v : ZoneState). IsCarried v scan ends is_open list held capacity) (sym is)
+      (carried_with zone after scan ends is_open list held capacity was scan is_open
+      (orderly_with_zone (world_of zone scan ends is_open list held) after was.orderly law (λ serial. ap (list_any (nat_eq serial)) same_out) migrate free blocks) own blocks)
+
+  pub carried_loaded : {T : Type 0} (client : ℕ) (address : Address) (word : ℕ) (result : Result T ZoneError) → result_err result ≡ access_refusal zone address → OnErr result (next ≡ zone) → OnOk result (next ≡ loaded zone client address word) → IsCarried next scan ends is_open list held capacity
+  carried_loaded client address word (Err error) refused err ok = unchanged err
+  carried_loaded client address word (Ok value) refused err ok =
+      let room = room_then (has_room zone) (placement_refusal (placement_at zone address)) (sym refused) in
+      let at = at_then (placement_at zone address) room.1 in
+      changed (loaded zone client address word) ok
+      (lawful_loaded zone was.orderly.lawful (spare zone room.0) client address at.0 word at.1)
+      refl refl refl refl (own_loaded zone client address word)
+
+  pub carried_stored : {T : Type 0} (client : ℕ) (address : Address) (word value : ℕ) (result : Result T ZoneError) → result_err result ≡ access_refusal zone address → OnErr result (next ≡ zone) → OnOk result (next ≡ stored zone client address word value) → IsCarried next scan ends is_open list held capacity
+  carried_stored client address word value (Err error) refused err ok = unchanged err
+  carried_stored client address word value (Ok done) refused err ok =
+      let room = room_then (has_room zone) (placement_refusal (placement_at zone address)) (sym refused) in
+      let at = at_then (placement_at zone address) room.1 in
+      changed (stored zone client address word value) ok
+      (lawful_stored zone was.orderly.lawful (spare zone room.0) client address word value)
+      refl refl refl refl (own_stored zone client address word value at.0 at.1)
+
+  carried_placed : (client : ℕ) (address : Address) (unmovable : Bool) (frame : ℕ) → IsSome (lowest_free_frame zone) → IsLawful next → next ≡ mapped zone client address unmovable frame → IsCarried next scan ends is_open list held capacity
+  carried_placed client address unmovable frame free law is = by_page (lowest_unused_page zone) refl where
+    by_page : (o : Option ℕ) → lowest_unused_page zone ≡ o → IsCarried next scan ends is_open list held capacity
+    by_page None none = absurd (unused_left zone was.orderly.lawful free none)
+    by_page (Some page) unused =
+        let fresh : next ≡ placed zone client address unmovable page frame =
+        is ∙ ap (λ (o : Option ℕ). placed zone client address unmovable (unwrap_or o 0) frame) unused in
+        changed (placed zone client address unmovable page frame) fresh (subst IsLawful fresh law)
+        refl refl refl refl (own_placed zone client address unmovable page frame (unused_is zone page unused).1)
+
+  pub carried_mapped : (client : ℕ) (address : Address) (unmovable : Bool) (result : Result ℕ ZoneError) → IsLawful next → OnErr result (next ≡ zone) → IfOk result (λ frame. lowest_free_frame zone ≡ Some frame) → IfOk result (λ frame. next ≡ mapped zone client address unmovable frame) → IsCarried next scan ends is_open list held capacity
+  carried_mapped client address unmovable (Err error) law err lowest ok = unchanged err
+  carried_mapped client address unmovable (Ok frame) law err lowest ok = carried_placed client address unmovable frame (not_none _ frame lowest) law ok
+
+  pub carried_mapped_at : {T : Type 0} (client : ℕ) (address : Address) (unmovable : Bool) (frame : ℕ) (result : Result T ZoneError) → IsLawful next → result_err result ≡ map_at_refusal zone address frame → OnErr result (next ≡ zone) → OnOk result (next ≡ mapped zone client address unmovable frame) → IsCarried next scan ends is_open list held capacity
+  carried_mapped_at client address unmovable frame (Err error) law refused err ok = unchanged err
+  carried_mapped_at client address unmovable frame (Ok done) law refused err ok =
+      let free = place_then (nat_lt frame (frame_count zone)) (has_room zone) (is_some (page_at zone.records address)) (is_free zone frame) (sym refused) in
+      carried_placed client address unmovable frame (some_lowest zone frame free.1 (ltb-true frame (frame_count zone) free.0)) law ok
+
+  leaves : (after : ZoneState) → next ≡ after → IsLawful next → LeavesMoves zone after → IsCarried next scan ends is_open list held capacity
+  leaves after is law l = changed after is (subst IsLawful is law) l.same_out l.migrate l.free l.blocks l.own
+
+  -- a call without an answer, and one with an answer
+  pub carried_done : {T : Type 0} (result : Result T ZoneError) (after : ZoneState) → IsLawful next → OnErr result (next ≡ zone) → OnOk result (next ≡ after) → LeavesMoves zone after → IsCarried next scan ends is_open list held capacity
+  carried_done (Err error) after law err ok l = unchanged err
+  carried_done (Ok done) after law err ok l = leaves after ok law l
+
+  pub carried_told : {T : Type 0} (result : Result T ZoneError) (after : T → ZoneState) → IsLawful next → OnErr result (next ≡ zone) → IfOk result (λ told. next ≡ after told) → ((told : T) → LeavesMoves zone (after told)) → IsCarried next scan ends is_open list held capacity
+  carried_told (Err error) after law err ok l = unchanged err
+  carried_told (Ok told) after law err ok l = leaves (after told) ok law (l told)
+
+  pub carried_unmapped : {T : Type 0} (client : ℕ) (address : Address) (result : Result T ZoneError) → IsLawful next → result_err result ≡ unmap_refusal zone address → OnErr result (next ≡ zone) → OnOk result (next ≡ unmapped zone client address) → IsCarried next scan ends is_open list held capacity
+  carried_unmapped client address (Err error) law refused err ok = unchanged err
+  carried_unmapped client address (Ok done) law refused err ok =
+      let room = room_then (has_room zone) _ (sym refused) in
+      let at = at_then (placement_at zone address) (option_or_none _ _ room.1) in
+      leaves (unmapped zone client address) ok law (leaves_unmapped zone client address at.0 at.1)

@@ -1,0 +1,9 @@
+use Rattle.std.specs.VecDeque.{deque_capacity}
+use Rattle.world_core.proofs.Carrying.{carried_unmapped}
+use Rattle.world_core.proofs.world.World.unmap.Goals as goal
+
+pub invariant_of-self : goal.invariant_of-self
+invariant_of-self g c =
+    let z = c.self.inside in
+    carried_unmapped z.zone c.unmap.new.self z.scan z.ends z.is_open z.waiting.items z.hands.held (deque_capacity z.waiting) c.self.invariant
+    c.args.client c.args.address c.unmap.result c.unmap.ensures.lawful c.unmap.ensures.refused c.unmap.ensures.err c.unmap.ensures.ok

@@ -1,0 +1,63 @@
+-- How the list and the hands of a world stand for its state, and what is true of them.
+use Rattle.std.specs.Prelude.{◌≡◌, ℕ, ◌-◌, ◌*◌, ◌/◌, ◌≤◌, Bool, true, false, List, [], map as each, slice_get, unwrap_or, Option, Some, None}
+use Rattle.word_core.specs.Page.{OnItsWay}
+use Rattle.world_core.specs.declared.hand.Hand.{Hand}
+use Rattle.world_core.specs.declared.hand.Hand.TheVariants as hand
+use Rattle.world_core.specs.declared.hands.Held.{Held}
+use Rattle.world_core.specs.declared.hands.Held.TheVariants.{Nothing, Page, Copy}
+use Rattle.state_core.specs.Ending.{IsOwnCopy}
+use Rattle.zone_core.specs.Seats.{ScanSeat, EndSeat}
+use Rattle.world_core.specs.World.{WorldState, IsOrderly}
+use Rattle.state_core.specs.ZoneState.{ZoneState}
+
+-- what is told of a hand
+abbrev pub hand_as : Held → Hand
+hand_as Nothing = hand.Empty
+hand_as (Page p) = hand.Page p.serial
+hand_as (Copy p) = hand.Copy p.serial
+
+-- the page that a hand holds
+abbrev pub page_held : Held → Option OnItsWay
+page_held (Page p) = Some p
+page_held _ = None
+
+-- the copy that it holds
+abbrev pub copy_held : Held → Option OnItsWay
+copy_held (Copy p) = Some p
+copy_held _ = None
+
+-- whether a hand holds nothing
+abbrev pub is_nothing : Held → Bool
+is_nothing Nothing = true
+is_nothing _ = false
+
+-- what hand k, 1 to 4, holds
+abbrev pub held_at : List Held → ℕ → Held
+held_at hands k = unwrap_or (slice_get hands (k - 1)) Nothing
+
+-- the serials of pages on their way, in their order
+abbrev pub serials_of : List OnItsWay → List ℕ
+serials_of list = each (λ p. p.serial) list
+
+-- each of these pages, or copies of pages, is one of the zone on its way
+abbrev pub AreOwn : ZoneState → List OnItsWay → Type 0
+AreOwn zone list = (i : ℕ) (p : OnItsWay) → slice_get list i ≡ Some p → IsOwnCopy zone p
+
+-- the state that contracts see
+abbrev pub world_of : ZoneState → ScanSeat → EndSeat → Bool → List OnItsWay → List Held → WorldState
+world_of zone scan ends is_open list held =
+    record { zone = zone; scan = scan; ends = ends; is_open = is_open; waiting = serials_of list; hands = each hand_as held }
+
+-- what a world carries is of its zone, and its list has just the room for the pages that a round can isolate
+pub record IsCarried (zone : ZoneState) (scan : ScanSeat) (ends : EndSeat) (is_open : Bool) (list : List OnItsWay) (held : List Held) (capacity : ℕ) : Type 0 where
+  pub orderly : IsOrderly (world_of zone scan ends is_open list held)
+  pub waiting : AreOwn zone list
+  pub pages : (i : ℕ) (p : OnItsWay) → slice_get held i ≡ Some (Page p) → IsOwnCopy zone p
+  pub copies : (i : ℕ) (p : OnItsWay) → slice_get held i ≡ Some (Copy p) → IsOwnCopy zone p
+  pub room : capacity ≡ 256 * zone.blocks
+
+-- an empty list with just the room for the pages that a round of a zone of up to 8 pageblocks can isolate
+pub record IsRest (list : List OnItsWay) (capacity : ℕ) : Type 0 where
+  pub none : list ≡ []
+  pub room : capacity ≡ 256 * (capacity / 256)
+  pub few : capacity / 256 ≤ 8

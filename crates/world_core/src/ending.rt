@@ -1,0 +1,78 @@
+//! The ends of moves, with the end seat of a world.
+
+ghost use Rattle.std.specs.Prelude.{◌≡◌, ◌+◌, ◌≤◌, [], ◌∷◌, length, Some};
+ghost use Rattle.std.specs.VecDeque.{deque_capacity};
+ghost use Rattle.journal_core.specs.Moves.{page_of};
+ghost use Rattle.state_core.specs.Lawful.{IsLawful};
+ghost use Rattle.state_core.specs.Ending.{IsOwnCopy};
+ghost use Rattle.world_core.specs.Carried.{serials_of, AreOwn};
+ghost use Rattle.zone_core.specs.Seats.{seat_ended};
+ghost use Rattle.world_core.specs.World.{IsRising, finished_as, finished_in, all_put_back};
+
+use crate::hand::Finished;
+use std::collections::VecDeque;
+use std::sync::ledger::Ledger;
+use word_core::{Copied, Isolated};
+use zone_core::{EndSeat, Zone};
+
+/// Ends the move of a page of the zone with its copy.
+pub(crate) fn finish_in<I: Ledger, M: Ledger, B: Ledger>(
+    zone: &mut Zone<I, M, B>,
+    ends: &mut EndSeat<M, B>,
+    copy: Copied,
+) -> Finished
+    requires lawful { IsLawful zone.old }
+    requires own { IsOwnCopy zone.old copy }
+    ensures finished { result ≡ finished_as zone.old copy.serial }
+    ensures zone { zone.new ≡ finished_in zone.old copy.serial }
+    ensures seat { ends.new ≡ seat_ended ends.old result.ended }
+{
+    let serial = copy.serial();
+    let Ok(ended) = zone.commit(ends, copy) else {
+        unreachable!();
+    };
+    Finished { serial, ended }
+}
+
+/// Ends the move of a page of the zone that no copier reached.
+fn put_back_in<I: Ledger, M: Ledger, B: Ledger>(
+    zone: &mut Zone<I, M, B>,
+    ends: &mut EndSeat<M, B>,
+    page: Isolated,
+)
+    requires lawful { IsLawful zone.old }
+    requires own { IsOwnCopy zone.old page }
+    ensures zone { zone.new ≡ all_put_back zone.old (page.serial ∷ []) }
+    ensures lawful { IsLawful zone.new }
+    ensures page { page_of zone.old.records page.serial ≡ Some page.page.number }
+    ensures seat { ends.new ≡ record ends.old { back = ends.old.back + 1 } }
+{
+    let Ok(()) = zone.put_back(ends, page) else {
+        unreachable!();
+    };
+}
+
+/// Ends the moves of pages of the zone that no copier reached, in order, and tells how many there are.
+pub(crate) fn put_all_back_in<I: Ledger, M: Ledger, B: Ledger>(
+    zone: &mut Zone<I, M, B>,
+    ends: &mut EndSeat<M, B>,
+    waiting: &mut VecDeque<Isolated>,
+) -> u32
+    requires lawful { IsLawful zone.old }
+    requires own { AreOwn zone.old waiting.old.items }
+    requires rising { IsRising (serials_of waiting.old.items) }
+    requires few { length waiting.old.items ≤ 4096 }
+    ensures count { result ≡ length waiting.old.items }
+    ensures zone { zone.new ≡ all_put_back zone.old (serials_of waiting.old.items) }
+    ensures blocks { zone.new.blocks ≡ zone.old.blocks }
+    ensures waiting { waiting.new.items ≡ [] }
+    ensures capacity { deque_capacity waiting.new ≡ deque_capacity waiting.old }
+    ensures seat { ends.new ≡ record ends.old { back = ends.old.back + length waiting.old.items } }
+{
+    let mut count = 0;
+    while let Some(page) = waiting.pop_front() {
+        put_back_in(zone, ends, page);
+        count += 1;
+    }
+    count
+}

@@ -1,0 +1,97 @@
+//! The four hands of a world.
+
+ghost use Rattle.std.specs.Prelude.{◌≡◌, ◌-◌, ◌<◌, ◌≤◌, [], ◌∷◌, List, ℕ, slice_set, IfSome, IfNone, OnSome, Some, None};
+ghost use Rattle.std.specs.List.{list_all};
+ghost use Rattle.world_core.specs.Carried.{held_at, page_held, copy_held, is_nothing};
+ghost use Rattle.world_core.specs.declared.hands.Held.TheVariants.{Nothing};
+
+use frame_core::HandNo;
+use std::mem;
+use word_core::{Copied, Isolated};
+
+/// What a hand holds.
+#[derive(Drop)]
+pub enum Held {
+    Nothing,
+    Page(Isolated),
+    Copy(Copied),
+}
+
+/// The hands, numbered from 1 to 4.
+#[derive(Drop)]
+pub struct Hands {
+    pub(crate) held: [Held; 4],
+}
+
+impl Hands {
+    /// Four hands that hold nothing.
+    pub(crate) fn new() -> Hands
+        ensures { result.held ≡ Nothing ∷ Nothing ∷ Nothing ∷ Nothing ∷ [] }
+    {
+        Hands {
+            held: [Held::Nothing, Held::Nothing, Held::Nothing, Held::Nothing],
+        }
+    }
+
+    /// Whether a hand holds nothing.
+    pub(crate) fn is_empty(&self, hand: HandNo) -> bool
+        ensures nothing { result ≡ is_nothing (held_at self.now.held hand) }
+        ensures number { (0 < hand) × (hand ≤ 4) }
+    {
+        match &self.held[hand.get() as usize - 1] {
+            Held::Nothing => true,
+            _ => false,
+        }
+    }
+
+    /// Whether each hand holds nothing.
+    pub(crate) fn are_empty(&self) -> bool
+        ensures { result ≡ list_all is_nothing self.now.held }
+    {
+        match &self.held {
+            [Held::Nothing, Held::Nothing, Held::Nothing, Held::Nothing] => true,
+            _ => false,
+        }
+    }
+
+    /// Takes the page out of a hand.
+    pub(crate) fn page_from(&mut self, hand: HandNo) -> Option<Isolated>
+        ensures page { result ≡ page_held (held_at self.old.held hand) }
+        ensures some { OnSome result (self.new.held ≡ slice_set self.old.held (hand - 1) Nothing) }
+        ensures none { IfNone result (self.new ≡ self.old) }
+        ensures number { (0 < hand) × (hand ≤ 4) }
+    {
+        let held = &mut self.held[hand.get() as usize - 1];
+        match mem::replace(held, Held::Nothing) {
+            Held::Page(page) => Some(page),
+            other => {
+                *held = other;
+                None
+            }
+        }
+    }
+
+    /// Takes the copy out of a hand.
+    pub(crate) fn copy_from(&mut self, hand: HandNo) -> Option<Copied>
+        ensures copy { result ≡ copy_held (held_at self.old.held hand) }
+        ensures some { OnSome result (self.new.held ≡ slice_set self.old.held (hand - 1) Nothing) }
+        ensures none { IfNone result (self.new ≡ self.old) }
+        ensures number { (0 < hand) × (hand ≤ 4) }
+    {
+        let held = &mut self.held[hand.get() as usize - 1];
+        match mem::replace(held, Held::Nothing) {
+            Held::Copy(copy) => Some(copy),
+            other => {
+                *held = other;
+                None
+            }
+        }
+    }
+
+    /// Puts something in a hand.
+    pub(crate) fn put(&mut self, hand: HandNo, held: Held)
+        ensures { self.new.held ≡ slice_set self.old.held (hand - 1) held }
+    {
+        self.held[hand.get() as usize - 1] = held;
+    }
+}

@@ -1,0 +1,36 @@
+//! What is left of a world whose zone and seats are taken out.
+
+ghost use Rattle.std.specs.Prelude.{◌≡◌};
+
+use std::collections::VecDeque;
+use std::marker::Model;
+use word_core::Isolated;
+
+/// What a world has besides its zone and its seats, while nothing of the zone is on its way: the memory of its list. It fits
+/// zones with as many pageblocks.
+#[derive(Drop)]
+pub struct Rest {
+    pub(crate) waiting: VecDeque<Isolated>,
+}
+
+impl Model for Rest {
+    ghost use Rattle.std.specs.Prelude.{◌/◌, ℕ};
+    ghost use Rattle.std.specs.VecDeque.{deque_capacity};
+
+    ghost Value = { ℕ };
+
+    ghost use Rattle.world_core.specs.Carried.{IsRest};
+
+    ghost view = { λ r. deque_capacity r.waiting / 256 };
+
+    ghost invariant = { λ r. IsRest r.waiting.items (deque_capacity r.waiting) };
+}
+
+impl Rest {
+    /// How many pageblocks the zones have that it fits.
+    pub fn blocks(&self) -> u32
+        ensures { result ≡ self.now }
+    {
+        (self.waiting.capacity() / 256) as u32
+    }
+}

@@ -1,0 +1,124 @@
+//! The other calls of a zone that append a record, on the zone of a world. Each is refused as the zone's own is.
+
+ghost use Rattle.std.specs.Prelude.{◌≡◌, ◌*◌, Some, IfOk, OnOk, OnErr};
+ghost use Rattle.std.specs.Result.{result_err};
+ghost use Rattle.state_core.specs.Sharing.{share_refusal, shared};
+ghost use Rattle.state_core.specs.Unmapping.{unmap_refusal, unmapped};
+ghost use Rattle.state_core.specs.Pinning.{pin_refusal, unpin_refusal, pinned, unpinned};
+ghost use Rattle.state_core.specs.HandingOut.{lowest_run, take_order_refusal, give_order_refusal, block_taken, block_given};
+ghost use Rattle.state_core.specs.Marking.{mark_refusal, unmark_refusal, block_marked, block_unmarked};
+ghost use Rattle.world_core.specs.World.{IsOrderly, with_zone};
+
+use super::World;
+use frame_core::{Address, BlockNo, ClientNo, FrameNo, Order};
+use state_core::ZoneError;
+use std::sync::ledger::Ledger;
+
+impl<I: Ledger, N: Ledger, M: Ledger, B: Ledger> World<I, N, M, B> {
+    /// Lets one more address, the alias, name the page that an address names.
+    pub fn share(
+        &mut self,
+        client: ClientNo,
+        address: Address,
+        alias: Address,
+    ) -> Result<(), ZoneError>
+        ensures refused { result_err result ≡ share_refusal self.old.zone address alias }
+        ensures err { OnErr result (self.new ≡ self.old) }
+        ensures ok { OnOk result (self.new ≡ with_zone self.old (shared self.old.zone client address alias)) }
+        ensures orderly { IsOrderly self.new }
+    {
+        self.zone.share(client, address, alias)
+    }
+
+    /// Lets an address name no page any more. A page ends with its last address.
+    pub fn unmap(&mut self, client: ClientNo, address: Address) -> Result<(), ZoneError>
+        ensures refused { result_err result ≡ unmap_refusal self.old.zone address }
+        ensures err { OnErr result (self.new ≡ self.old) }
+        ensures ok { OnOk result (self.new ≡ with_zone self.old (unmapped self.old.zone client address)) }
+        ensures orderly { IsOrderly self.new }
+    {
+        self.zone.unmap(client, address)
+    }
+
+    /// Pins the page that an address names, also one that is on its way.
+    pub fn pin(&mut self, client: ClientNo, address: Address) -> Result<(), ZoneError>
+        ensures refused { result_err result ≡ pin_refusal self.old.zone address }
+        ensures err { OnErr result (self.new ≡ self.old) }
+        ensures ok { OnOk result (self.new ≡ with_zone self.old (pinned self.old.zone client address)) }
+        ensures orderly { IsOrderly self.new }
+    {
+        self.zone.pin(client, address)
+    }
+
+    /// Takes a pin off the page that an address names.
+    pub fn unpin(&mut self, client: ClientNo, address: Address) -> Result<(), ZoneError>
+        ensures refused { result_err result ≡ unpin_refusal self.old.zone address }
+        ensures err { OnErr result (self.new ≡ self.old) }
+        ensures ok { OnOk result (self.new ≡ with_zone self.old (unpinned self.old.zone client address)) }
+        ensures orderly { IsOrderly self.new }
+    {
+        self.zone.unpin(client, address)
+    }
+
+    /// Hands out the lowest block of this order whose frames are all free, and tells its first frame.
+    pub fn take_order(&mut self, order: Order) -> Result<FrameNo, ZoneError>
+        ensures refused { result_err result ≡ take_order_refusal self.old.zone order }
+        ensures err { OnErr result (self.new ≡ self.old) }
+        ensures first { IfOk result (λ first. lowest_run self.old.zone order ≡ Some first) }
+        ensures ok { IfOk result (λ first. self.new ≡ with_zone self.old (block_taken self.old.zone first order)) }
+        ensures orderly { IsOrderly self.new }
+    {
+        self.zone.take_order(order)
+    }
+
+    /// Takes back the block of this order that was handed out at a first frame.
+    pub fn give_order(&mut self, first: FrameNo, order: Order) -> Result<(), ZoneError>
+        ensures refused { result_err result ≡ give_order_refusal self.old.zone first order }
+        ensures err { OnErr result (self.new ≡ self.old) }
+        ensures ok { OnOk result (self.new ≡ with_zone self.old (block_given self.old.zone first order)) }
+        ensures orderly { IsOrderly self.new }
+    {
+        self.zone.give_order(first, order)
+    }
+
+    /// Hands out the lowest pageblock whose frames are all free.
+    pub fn take_huge(&mut self) -> Result<BlockNo, ZoneError>
+        ensures refused { result_err result ≡ take_order_refusal self.old.zone 9 }
+        ensures err { OnErr result (self.new ≡ self.old) }
+        ensures block { IfOk result (λ block. lowest_run self.old.zone 9 ≡ Some (512 * block)) }
+        ensures ok { IfOk result (λ block. self.new ≡ with_zone self.old (block_taken self.old.zone (512 * block) 9)) }
+        ensures orderly { IsOrderly self.new }
+    {
+        self.zone.take_huge()
+    }
+
+    /// Takes back a pageblock that was handed out as one block.
+    pub fn give_huge(&mut self, block: BlockNo) -> Result<(), ZoneError>
+        ensures refused { result_err result ≡ give_order_refusal self.old.zone (512 * block) 9 }
+        ensures err { OnErr result (self.new ≡ self.old) }
+        ensures ok { OnOk result (self.new ≡ with_zone self.old (block_given self.old.zone (512 * block) 9)) }
+        ensures orderly { IsOrderly self.new }
+    {
+        self.zone.give_huge(block)
+    }
+
+    /// Marks a pageblock, so that the scanners leave it alone.
+    pub fn mark(&mut self, block: BlockNo) -> Result<(), ZoneError>
+        ensures refused { result_err result ≡ mark_refusal self.old.zone block }
+        ensures err { OnErr result (self.new ≡ self.old) }
+        ensures ok { OnOk result (self.new ≡ with_zone self.old (block_marked self.old.zone block)) }
+        ensures orderly { IsOrderly self.new }
+    {
+        self.zone.mark(block)
+    }
+
+    /// Takes the mark off a pageblock.
+    pub fn unmark(&mut self, block: BlockNo) -> Result<(), ZoneError>
+        ensures refused { result_err result ≡ unmark_refusal self.old.zone block }
+        ensures err { OnErr result (self.new ≡ self.old) }
+        ensures ok { OnOk result (self.new ≡ with_zone self.old (block_unmarked self.old.zone block)) }
+        ensures orderly { IsOrderly self.new }
+    {
+        self.zone.unmark(block)
+    }
+}
