@@ -120,7 +120,7 @@ impl<I: Ledger, N: Ledger, M: Ledger, B: Ledger> Machine<I, N, M, B> {
         let Ok(world) = World::open(self.alloc, zone, blocks.get(), self.places, blanks) else {
             return Err(AllocError);
         };
-        self.world = Some(world);
+        self.put_back(world);
         Ok(Reply::Done)
     }
 
@@ -168,7 +168,7 @@ impl<I: Ledger, N: Ledger, M: Ledger, B: Ledger> Machine<I, N, M, B> {
         if world.zone().number() == zone && !world.is_open() {
             return Some(world);
         }
-        self.world = Some(world);
+        self.put_back(world);
         None
     }
 
