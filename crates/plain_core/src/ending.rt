@@ -27,6 +27,7 @@ pub struct Way {
 
 impl PlainZone {
     /// The frames of a page, if it is one of this zone and on its way under this serial.
+    #[inline(always)]
     pub fn way_of(&self, serial: Serial, page: &Page) -> Option<Way>
         ensures own { IsSome result ↔ IsTrue (is_own self.now (record { serial = serial; page = page.now })) }
         ensures named { IfSome result (λ way. (way.page ≡ page.now.number) × (way.serial ≡ serial)) }
@@ -71,6 +72,7 @@ impl PlainZone {
     }
 
     /// Ends a move: the page stands in its target, with the words of its copy.
+    #[inline(always)]
     pub fn arrive(&mut self, way: &Way, copy: &Page)
         requires placed { map.get self.old.placement way.now.page ≡ Some (Moving way.now.serial way.now.source way.now.target) }
         requires unpinned { pins self.old.records way.now.page ≡ 0 }

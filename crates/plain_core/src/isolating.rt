@@ -33,6 +33,7 @@ impl PlainZone {
     }
 
     /// The page that the round isolates next.
+    #[inline(always)]
     pub fn next_pair(&self) -> Option<Pair>
         ensures pair { result ≡ next_pair self.now }
         ensures is_pair { IfSome result (λ pair. IsPair self.now pair.page pair.source pair.target) }
@@ -69,6 +70,7 @@ impl PlainZone {
     }
 
     /// Takes the page of the next pair on its way, under the next serial.
+    #[inline(always)]
     pub fn isolate(&mut self, pair: Pair) -> Isolated
         requires pair { IsPair self.old pair.page pair.source pair.target }
         requires room { length (out self.old.records) + 1 < self.old.room }

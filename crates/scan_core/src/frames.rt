@@ -245,6 +245,7 @@ impl Frames {
 
     /// The next pair between the fingers, which then stand behind its source and at its target. Where there is none they
     /// stay. They have to stand in order, in the zone.
+    #[inline(always)]
     pub fn next_pair(&self, marked: &[bool; 8], fingers: &mut Fingers) -> Step
         requires low { fingers.old.migrate ≤ fingers.old.free }
         requires high { fingers.old.free ≤ length self.now.states }

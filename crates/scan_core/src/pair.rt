@@ -46,6 +46,7 @@ pub fn next_pair(
 }
 
 /// The same of frames of which a list tells the pages that they hold, and a set which of them are free.
+#[inline(always)]
 pub fn next_told(
     holders: &[FrameState],
     free: &NumberSet,

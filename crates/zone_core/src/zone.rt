@@ -255,6 +255,7 @@ impl<I: Ledger, M: Ledger, B: Ledger> Zone<I, M, B> {
     ///
     /// Refused as JournalFull, which the seat notes too, where the journal hasn't two places more than there are pages on
     /// their way.
+    #[inline(always)]
     pub fn isolate_next<N: Ledger>(&mut self, seat: &mut ScanSeat<I, N>) -> Result<Next, ZoneError>
         ensures refused { result_err result ≡ isolate_refusal self.old }
         ensures err { OnErr result (self.new ≡ self.old) }
@@ -288,6 +289,7 @@ impl<I: Ledger, M: Ledger, B: Ledger> Zone<I, M, B> {
 
     /// Ends the move of a page with its copy: the page stands in its new frame, or in its old one where it has a pin. The seat
     /// counts it. A copy that is no page of this zone on its way under its serial, or hasn't its words, is handed back.
+    #[inline(always)]
     pub fn commit(
         &mut self,
         seat: &mut EndSeat<M, B>,
