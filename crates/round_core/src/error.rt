@@ -14,7 +14,7 @@ pub enum RoundError {
     #[error("pages of a broken round are out, or a part of the end seat is missing")]
     Broken,
     /// The least serial whose commit was refused.
-    #[error("the copy of page {0} was refused")]
+    #[error("the copy with serial {0} was refused")]
     Stranger(Serial),
 }
 
