@@ -1,6 +1,7 @@
 -- How the list and the hands of a world stand for its state, and what is true of them.
 use Rattle.std.specs.Prelude.{◌≡◌, ℕ, ◌-◌, ◌*◌, ◌/◌, ◌≤◌, Bool, true, false, List, [], map as each, slice_get, unwrap_or, Option, Some, None}
 use Rattle.word_core.specs.Page.{OnItsWay}
+use Rattle.word_core.specs.Serials.{serials_of}
 use Rattle.world_core.specs.declared.hand.Hand.{Hand}
 use Rattle.world_core.specs.declared.hand.Hand.TheVariants as hand
 use Rattle.world_core.specs.declared.hands.Held.{Held}
@@ -34,10 +35,6 @@ is_nothing _ = false
 -- what hand k, 1 to 4, holds
 abbrev pub held_at : List Held → ℕ → Held
 held_at hands k = unwrap_or (slice_get hands (k - 1)) Nothing
-
--- the serials of pages on their way, in their order
-abbrev pub serials_of : List OnItsWay → List ℕ
-serials_of list = each (λ p. p.serial) list
 
 -- each of these pages, or copies of pages, is one of the zone on its way
 abbrev pub AreOwn : ZoneState → List OnItsWay → Type 0
