@@ -45,12 +45,12 @@ abbrev pub asks_only_help : List Text → Bool
 asks_only_help words = list_all is_help (refusal_of words)
 
 -- the number that a text of decimal digits stands for
-abbrev pub decimal : Text → ℕ
-decimal text = digits_value 10 (without_leading_plus text)
+abbrev pub number_told : Text → ℕ
+number_told text = digits_value 10 (without_leading_plus text)
 
 -- the number that the words give for an option, and where they give none the option's own
 unfoldable pub number_of : List Text → Text → ℕ → ℕ
-number_of words name own = unwrap_or (option_map decimal (one_of name (matches_of options_line words))) own
+number_of words name own = unwrap_or (option_map number_told (one_of name (matches_of options_line words))) own
 
 -- the places of the journal
 abbrev pub journal_of : List Text → ℕ
