@@ -68,12 +68,12 @@ impl BlockCounts {
         self.free[block.get() as usize] -= frames;
     }
 
-    /// Whether a pageblock that isn't marked has any.
-    pub fn is_any_unmarked(&self, marked: &[bool; 8]) -> bool
+    /// Whether it counts a frame in a pageblock that isn't marked.
+    pub fn has_some_unmarked(&self, marked: &[bool; 8]) -> bool
         ensures { result ≡ some_below (λ block. not (true_at marked.now block) && nat_lt 0 (slice_index self.now block)) 8 }
     {
         for block in 0..8 {
-            if is_unmarked(&self.free, marked, block) {
+            if is_counted_unmarked(&self.free, marked, block) {
                 return true;
             }
         }
@@ -106,8 +106,8 @@ impl BlockCounts {
     }
 }
 
-/// Whether a pageblock has frames and isn't marked.
-fn is_unmarked(frames: &[u32; 8], marked: &[bool; 8], block: usize) -> bool
+/// Whether a pageblock isn't marked and a frame of it is counted.
+fn is_counted_unmarked(frames: &[u32; 8], marked: &[bool; 8], block: usize) -> bool
     requires { block < 8 }
     ensures { result ≡ (not (true_at marked.now block) && nat_lt 0 (slice_index frames.now block)) }
 {
