@@ -120,7 +120,7 @@ impl<I: Ledger, N: Ledger, M: Ledger, B: Ledger> Machine<I, N, M, B> {
         let Ok(world) = World::open(self.alloc, zone, blocks.get(), self.places, blanks) else {
             return Err(AllocError);
         };
-        self.put_back(world);
+        self.give_world(world);
         Ok(Reply::Done)
     }
 
@@ -168,12 +168,12 @@ impl<I: Ledger, N: Ledger, M: Ledger, B: Ledger> Machine<I, N, M, B> {
         if world.zone().number() == zone && !world.is_open() {
             return Some(world);
         }
-        self.put_back(world);
+        self.give_world(world);
         None
     }
 
-    /// Takes a world, where there is none.
-    pub fn put_back(&mut self, world: World<I, N, M, B>)
+    /// Gives the machine a world, in place of the one that it has, if it has one.
+    pub fn give_world(&mut self, world: World<I, N, M, B>)
         ensures { self.new ≡ record self.old { world = Some world } }
     {
         self.world = Some(world);

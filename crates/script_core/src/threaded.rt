@@ -269,7 +269,7 @@ impl<I: Ledger + Send + Sync, N: Ledger, M: Ledger + Send + Sync, B: Ledger + Se
     {
         let number = zone.number();
         match audit(&mut zone, &mut seats) {
-            Ok(_) => self.machine.put_back(World::join(zone, seats, rest)),
+            Ok(_) => self.machine.give_world(World::join(zone, seats, rest)),
             Err(_) => self.broken = Some(number),
         }
     }

@@ -13,8 +13,8 @@ pub returns-in-Ok-clause-left : goal.returns-in-Ok-clause-left
 returns-in-Ok-clause-left g c =
     left_whole c.args.self.now.single.places c.args.self.now.client c.args.zone c.audit.new.zone c.args.seats.scan c.audit.new.seats.scan c.args.seats.ends c.audit.new.seats.ends _ _
     (sym c.audit.ensures.refused ∙ ap result_err c.in-Ok.is) c.audit.ensures.same.0 c.audit.ensures.same.1 c.audit.ensures.same.2
-    (ap (λ (m : Single). m.places) c.put_back.ensures ∙ ap (λ (t : Threaded). t.single.places) c.self.view_is)
-    (ap (λ (m : Single). m.world) c.put_back.ensures ∙ ap Some c.join.ensures.world)
+    (ap (λ (m : Single). m.places) c.give_world.ensures ∙ ap (λ (t : Threaded). t.single.places) c.self.view_is)
+    (ap (λ (m : Single). m.world) c.give_world.ensures ∙ ap Some c.join.ensures.world)
     (ap (λ (t : Threaded). t.broken) c.self.view_is ∙ c.requires.whole)
     (ap (λ (t : Threaded). t.client) c.self.view_is)
 
