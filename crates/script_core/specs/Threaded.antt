@@ -153,11 +153,12 @@ IsWorkOn (Compact zone) w places client answer new = IsRoundOn w places client a
 IsWorkOn (Pool zone count blocks) w places client answer new = IsPoolOn count blocks w places client answer new
 IsWorkOn _ w places client answer new = ⊥
 
--- a command that works by threads, and any other
+-- the same over the world of a machine, if it has one
 abbrev pub IsWorkStep : Command → Option WorldState → ℕ → Client → Reply → Threaded → Type 0
 IsWorkStep command None places client answer new = ⊥
 IsWorkStep command (Some w) places client answer new = IsWorkOn command w places client answer new
 
+-- a command where no zone is broken: by threads, or as on one thread
 abbrev pub IsStepBy : Bool → Threaded → Command → Reply → Threaded → Type 0
 IsStepBy true old command answer new = IsWorkStep command old.single.world old.single.places old.client answer new
 IsStepBy false old command answer new = IsStep old.single command answer new.single × (new.broken ≡ None) × (new.client ≡ old.client)
@@ -181,14 +182,16 @@ broken_reply number (Compact zone) = reply.Refused (broken_refusal number zone)
 broken_reply number (Pool zone count blocks) = reply.Refused (broken_refusal number zone)
 broken_reply number (During zone) = reply.Refused (broken_refusal_at number (zone_of zone))
 
--- the one reply to a command, and the machine behind it
+-- a command where the zone with this number is broken, or none is
 abbrev pub IsStepAt : Option ℕ → Threaded → Command → Reply → Threaded → Type 0
 IsStepAt None old command answer new = IsStepBy (is_threaded command old.single.world) old command answer new
 IsStepAt (Some number) old command answer new = (answer ≡ broken_reply number command) × (new ≡ old)
 
+-- a command, where a zone is broken or none is: its reply, and the machine behind it
 abbrev pub IsReplyStep : Threaded → Command → Reply → Threaded → Type 0
 IsReplyStep old command answer new = IsStepAt old.broken old command answer new
 
+-- one reply to a command, with the number of its line
 pub record IsOneReply (old : Threaded) (c : Numbered) (answers : List Answer) (new : Threaded) : Type 0 where
   pub reply : Reply
   pub one : answers ≡ record { line = c.line; reply = reply } ∷ []
