@@ -52,7 +52,7 @@ pub fn program<R: Input, W: Output, F: Output, H: Threads + Wait + Sync>(
         → (result ≡ 0) ⊎ LacksMemory result (W.contents writer.old) (W.contents writer.new)
         (F.contents faults.old) (F.contents faults.new) (F.stuck faults.new)) }
     ensures quiet { result ≡ 2 → Keeps (W.contents writer.old) (W.contents writer.new) }
-    // The script has no fault, and was answered, and one without rounds and pools as on one thread.
+    // The script has no fault, and was answered, and one without rounds, pools and blocks as on one thread.
     ensures whole { IfOk words (λ args. refusal_of (texts_of args) ≡ [] → result ≡ 0
         → IfSome (R.remaining reader.old) (λ input. fault_of input ≡ None)) }
     ensures answered { IfOk words (λ args. refusal_of (texts_of args) ≡ [] → result ≡ 0

@@ -1,4 +1,4 @@
--- What the run of a machine with threads says of a script without rounds and pools: what a run on one thread says.
+-- What the run of a machine with threads says of a script without rounds, pools and blocks: what a run on one thread says.
 use Rattle.std.proofs.Common.{◌≡◌, ◌⊎◌, ℕ, List, [], ◌∷◌, ◌++◌, refl, ap, subst, inl, inr, ◌∙◌, Option, Some, None}
 use Rattle.std.specs.Prelude.{IfErr, IfOk, IfSome, OnOk, Result}
 use Rattle.std.specs.List.{AllByRecursion}

@@ -243,7 +243,7 @@ IsThreadedStep old c answers new = IsOneReply old c answers new ⊎ IsBlockStep 
 abbrev pub AsksMemory : Threaded → Command → Type 0
 AsksMemory old command = (old.broken ≡ None) × (Opens old.single command ⊎ IsBlockFor command old.single.world)
 
--- a command is neither a round nor a pool, and no command of a script is
+-- a command is no round, pool or block; no command of a script is one of these
 abbrev pub IsUnthreaded : Command → Type 0
 IsUnthreaded (Compact zone) = ⊥
 IsUnthreaded (Pool zone count blocks) = ⊥
