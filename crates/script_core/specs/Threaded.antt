@@ -239,7 +239,8 @@ pub record IsBlockStep (old : Threaded) (c : Numbered) (answers : List Answer) (
 abbrev pub IsThreadedStep : Threaded → Numbered → List Answer → Threaded → Type 0
 IsThreadedStep old c answers new = IsOneReply old c answers new ⊎ IsBlockStep old c answers new
 
--- a command asks for memory as on one thread, and a block for the receipts of its client besides, so that it has them where no thread is started
+-- the commands that may end a run for want of memory: one that opens a zone, and a block, whose client's receipts are copied before its
+-- thread is started; `compact` and `pool` are answered 31 then
 abbrev pub AsksMemory : Threaded → Command → Type 0
 AsksMemory old command = (old.broken ≡ None) × (Opens old.single command ⊎ IsBlockFor command old.single.world)
 
