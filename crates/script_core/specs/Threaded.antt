@@ -240,7 +240,7 @@ abbrev pub IsThreadedStep : Threaded → Numbered → List Answer → Threaded �
 IsThreadedStep old c answers new = IsOneReply old c answers new ⊎ IsBlockStep old c answers new
 
 -- the commands that may end a run for want of memory: one that opens a zone, and a block, whose client's receipts are copied before its
--- thread is started; `compact` and `pool` are answered 31 then
+-- thread is started; `compact` and `pool` tell of it by 31 in their reply
 abbrev pub AsksMemory : Threaded → Command → Type 0
 AsksMemory old command = (old.broken ≡ None) × (Opens old.single command ⊎ IsBlockFor command old.single.world)
 
