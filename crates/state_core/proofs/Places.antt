@@ -222,7 +222,7 @@ module _ {v : ZoneState} {page : ℕ} {old new : Option Placement} (can : CanCha
     ap (λ (o : Option Placement). one_if (is_some o)) can.at,
   )
 
--- what the record of a call that changes the place of a page has to bring, with the pages that can't be moved then
+-- what the record of a call that changes the place of a page has to bring, with the pages that are noted as unmovable then
 pub record IsTold (v : ZoneState) (page : ℕ) (new : Option Placement) (entry : Record) (unmovable : set.FinSet nat_cmp) : Type 0 where
   pub truthful : IsTruthful (entry ∷ v.records)
   pub well_ended : IsWellEnded (entry ∷ v.records)

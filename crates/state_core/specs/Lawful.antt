@@ -53,7 +53,7 @@ pub record IsLawful (z : ZoneState) : Type 0 where
   -- the blocks that are handed out are blocks of the zone, and no two overlap
   pub blocks : (first order : ℕ) → map.get z.handed_out first ≡ Some order → IsBlock (frame_count z) first order
   pub disjoint : (a b frame : ℕ) → covers (map.get z.handed_out a) a frame ≡ true → covers (map.get z.handed_out b) b frame ≡ true → a ≡ b
-  -- the blocks handed out and the marks are those that the journal tells of, and a page that can't be moved is in use
+  -- the blocks handed out and the marks are those that the journal tells of, and a page that is noted as unmovable is in use
   pub handed : (first : ℕ) → map.get z.handed_out first ≡ handed_out_by z.records first
   pub marks : (block : ℕ) → set.contains z.marked block ≡ is_marked_by z.records block
   pub unmovable : (page : ℕ) → set.contains z.unmovable page ≡ true → IsSome (map.get z.placement page)
