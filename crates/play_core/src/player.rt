@@ -487,6 +487,10 @@ impl<A: Respond> Player<A> {
 }
 
 /// Plays the script that a reader gives on a machine, and writes its replies.
+///
+/// Refused as Syntax or LongLine at the line of the first fault of the script; as Read where a read failed or 10,000,000 saw no end; as
+/// Write where a write failed or took no byte, in place of any other; as Memory where the machine, or the player for a block, found none.
+/// The replies before it are written.
 pub fn play<A: Respond + Drop, R: Input, W: Output>(
     alloc: Global,
     machine: A,
