@@ -69,6 +69,7 @@ impl<A: Respond> Player<A> {
     /// Answers a whole line.
     fn take_line<W: Output>(&mut self, writer: &mut W, text: &[u8]) -> Result<(), RunError>
         requires begins { self.old.held ≡ [] }
+        // So few lines that the number of their replies, 1,001 a line at most, fits 64 bits.
         requires room { self.old.line + 1 < 2 ^ 53 }
         ensures ok { OnOk result ((start : A) (past : List ℕ) (first : Option (List ℕ))
             → newlines text.now ≡ 0 → HasRead A.may start self.old past first (W.contents writer.old)

@@ -45,7 +45,8 @@ abbrev pub world_of : ZoneState → ScanSeat → EndSeat → Bool → List OnIts
 world_of zone scan ends is_open list held =
     record { zone = zone; scan = scan; ends = ends; is_open = is_open; waiting = serials_of list; hands = each hand_as held }
 
--- what a world carries is of its zone, and its list has just the room for the pages that a round can isolate
+-- what a world carries is of its zone, and its list has just the room for the pages that a round can isolate: half of the 512 frames of
+-- each pageblock, since each page on its way takes two
 pub record IsCarried (zone : ZoneState) (scan : ScanSeat) (ends : EndSeat) (is_open : Bool) (list : List OnItsWay) (held : List Held) (capacity : ℕ) : Type 0 where
   pub orderly : IsOrderly (world_of zone scan ends is_open list held)
   pub waiting : AreOwn zone list
