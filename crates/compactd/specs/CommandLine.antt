@@ -32,7 +32,8 @@ options_line =
     with_rule (with_rule (with_rule (with_version (new_app (codes "compactd")))
     (number_rule (codes "copiers") 4)) (number_rule (codes "capacity") 64)) (number_rule (codes "journal") 65536)
 
--- the kinds of clap's answer where the words give no options: none where they give them
+-- the kinds of clap's answer where the words give no options: none where they give them. It is a list since the answer has one of these
+-- kinds, and which isn't said.
 unfoldable pub refusal_of : List Text → Kinds
 refusal_of words = fault_of options_line words
 

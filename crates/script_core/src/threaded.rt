@@ -30,8 +30,8 @@ use zone_core::{Audit, Blanks, Seats, Zone, ZoneError};
 /// How many rounds a pool may run.
 const POOL_ROUNDS: u32 = 4;
 
-/// What a script works on where there are threads: the machine as on one thread, the number of the zone that a round left with pages on
-/// their way, and the client whose calls are made beside rounds.
+/// What a script works on where there are threads: the machine as on one thread, the number of the zone that a round left so that no
+/// audit passes, and the client whose calls are made beside rounds.
 #[derive(Drop)]
 pub(crate) struct Threaded<I: Ledger, N: Ledger, M: Ledger, B: Ledger> {
     alloc: Global,
