@@ -9,7 +9,8 @@ use Rattle.state_core.specs.ZoneState.{ZoneState, lowest_free_frame, lowest_unus
 use Rattle.client_core.specs.declared.error.ClientError.{ClientError}
 use Rattle.client_core.specs.declared.error.ClientError.TheVariants.{Memory, Zone}
 
--- a zone accepted a call, which is refused by the first and leaves what the second says of its answer
+-- some lawful zone didn't refuse the call (`refusal` says when a zone would), and `leaves` holds of it, the answer, and the zone that it
+-- became
 pub record IsAccepted {X : Type 0} (refusal : ZoneState → Option ZoneError) (leaves : ZoneState → X → ZoneState → Type 0) (answer : X) : Type 0 where
   pub zone : ZoneState
   pub lawful : IsLawful zone
@@ -17,7 +18,7 @@ pub record IsAccepted {X : Type 0} (refusal : ZoneState → Option ZoneError) (l
   pub zone_new : ZoneState
   pub left : leaves zone answer zone_new
 
--- a zone refused a call
+-- some lawful zone refused the call with this error
 pub record IsRefused (refusal : ZoneState → Option ZoneError) (error : ZoneError) : Type 0 where
   pub zone : ZoneState
   pub lawful : IsLawful zone

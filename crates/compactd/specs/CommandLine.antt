@@ -32,7 +32,8 @@ options_line =
     with_rule (with_rule (with_rule (with_version (new_app (codes "compactd")))
     (number_rule (codes "copiers") 4)) (number_rule (codes "capacity") 64)) (number_rule (codes "journal") 65536)
 
--- the kinds of clap's answer where the words give no options: none where they give them
+-- the kinds of clap's answer where the words give no options: none where they give them. It is a list since the answer has one of these
+-- kinds, and which isn't said.
 unfoldable pub refusal_of : List Text → Kinds
 refusal_of words = fault_of options_line words
 
@@ -45,12 +46,12 @@ abbrev pub asks_only_help : List Text → Bool
 asks_only_help words = list_all is_help (refusal_of words)
 
 -- the number that a text of decimal digits stands for
-abbrev pub decimal : Text → ℕ
-decimal text = digits_value 10 (without_leading_plus text)
+abbrev pub number_told : Text → ℕ
+number_told text = digits_value 10 (without_leading_plus text)
 
 -- the number that the words give for an option, and where they give none the option's own
 unfoldable pub number_of : List Text → Text → ℕ → ℕ
-number_of words name own = unwrap_or (option_map decimal (one_of name (matches_of options_line words))) own
+number_of words name own = unwrap_or (option_map number_told (one_of name (matches_of options_line words))) own
 
 -- the places of the journal
 abbrev pub journal_of : List Text → ℕ

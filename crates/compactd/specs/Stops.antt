@@ -34,7 +34,7 @@ pub record Stops (places : ℕ) (left left_new old new : Option (List ℕ)) (rea
     (told told_new : Option (List ℕ)) (told_stuck : Bool) : Type 0 where
   pub error : RunError
   pub ends : IfSome left (λ input. IsEnded IsThreadedStep AsksMemory (threaded_at_first places) error.fault input error left left_new old new)
-  -- a script without rounds and pools as on one thread
+  -- a script without rounds, pools and blocks, as on one thread
   pub alone : IfSome left (λ input. IsUnthreadedScript input → EndsIn error.fault places input error left left_new old new)
   pub unread : error.fault ≡ Read → CannotReadOn failed reads reads_new left
   pub unwritten : error.fault ≡ Write → IsTrue stuck

@@ -5,7 +5,7 @@ ghost use Rattle.clap.specs.Words.{FailsBy, IsPlain, IsPlainArg, app_of, found_o
 ghost use Rattle.clap.specs.Kinds.{HasKind};
 ghost use Rattle.clap.specs.declared.builder.command.Command.TheViews.{out-Command as fields_of};
 ghost use Rattle.clap.specs.declared.builder.value_parser.ValueParser.TheVariants.{Signed};
-ghost use Rattle.compactd.specs.CommandLine.{number_rule, options_line, refusal_of, decimal, IsGiven, texts_of, FindsUpTo};
+ghost use Rattle.compactd.specs.CommandLine.{number_rule, options_line, refusal_of, number_told, IsGiven, texts_of, FindsUpTo};
 
 use clap::builder::ValueParser;
 use clap::error::ErrorKind;
@@ -87,7 +87,7 @@ fn number<const MOST: u32>(matches: &ArgMatches<'_>, name: &str, own: u32) -> u3
     requires found { FindsUpTo (found_of matches.now) name.now MOST }
     requires low { 1 ≤ own }
     requires high { own ≤ MOST }
-    ensures value { result ≡ unwrap_or (option_map decimal (one_text (found_of matches.now) name.now)) own }
+    ensures value { result ≡ unwrap_or (option_map number_told (one_text (found_of matches.now) name.now)) own }
     ensures least { 1 ≤ result }
     ensures most { result ≤ MOST }
 {

@@ -29,8 +29,8 @@ const FAULT: u8 = 1;
 const REFUSED: u8 = 2;
 
 /// Runs the script that the reader gives, as the words of the command line say, and its rounds on threads. The result is the exit
-/// status: 0 where the whole script was read, 1 for a fault of the run and 2 where the words were refused. What the clauses say of
-/// bytes holds for a reader and a writer that tell theirs.
+/// status: 0 where the whole script was answered or help was asked for, 1 for a fault of the run or for want of memory, and 2 where the
+/// words were refused. What the clauses say of bytes holds for a reader and a writer that tell theirs.
 pub fn program<R: Input, W: Output, F: Output, H: Threads + Wait + Sync>(
     rt: &H,
     alloc: Global,
@@ -52,7 +52,7 @@ pub fn program<R: Input, W: Output, F: Output, H: Threads + Wait + Sync>(
         → (result ≡ 0) ⊎ LacksMemory result (W.contents writer.old) (W.contents writer.new)
         (F.contents faults.old) (F.contents faults.new) (F.stuck faults.new)) }
     ensures quiet { result ≡ 2 → Keeps (W.contents writer.old) (W.contents writer.new) }
-    // The script has no fault, and was answered, and one without rounds and pools as on one thread.
+    // The script has no fault, and was answered, and one without rounds, pools and blocks as on one thread.
     ensures whole { IfOk words (λ args. refusal_of (texts_of args) ≡ [] → result ≡ 0
         → IfSome (R.remaining reader.old) (λ input. fault_of input ≡ None)) }
     ensures answered { IfOk words (λ args. refusal_of (texts_of args) ≡ [] → result ≡ 0

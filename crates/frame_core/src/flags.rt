@@ -37,7 +37,7 @@ impl Flags for PageFlags {
 }
 
 impl PageFlags {
-    /// The flags of a page that can't be moved or can, and that was stored to or not.
+    /// The flags of a page that was mapped as unmovable or not, and that was stored to or not.
     pub fn of(unmovable: bool, dirty: bool) -> Self
         ensures flags { result ≡ page_flags unmovable dirty }
         ensures unmovable { is_unmovable result ≡ unmovable }
@@ -51,7 +51,7 @@ impl PageFlags {
         }
     }
 
-    /// Whether the page can't be moved.
+    /// Whether the page was mapped as unmovable.
     pub fn is_unmovable(self) -> bool
         ensures { result ≡ is_unmovable self }
     {

@@ -49,7 +49,7 @@ impl Order {
         u32::from(self.number)
     }
 
-    /// How many frames a block of this order has, 8 to 512.
+    /// How many frames a block of this order has: 8 to 512, since an order is 3 to 9.
     pub fn frames(self) -> u32
         ensures value { result ≡ 2 ^ self }
         ensures low { 3 ≤ self }

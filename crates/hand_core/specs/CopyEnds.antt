@@ -12,10 +12,6 @@ use Rattle.hand_core.specs.CopyQueue.{messages_of, left_in_queue}
 abbrev pub Way : Type 0
 Way = QueueName Message
 
--- what came off: a copy or an end mark, under the number of its sender
-abbrev pub Arrival : Type 0
-Arrival = Message
-
 -- a sender: its number, the copies that it sent, in their order, and whether it put its mark
 pub record DoneSender : Type 0 where
   pub way : Way
@@ -24,33 +20,34 @@ pub record DoneSender : Type 0 where
   pub marked : Bool
   pub closed : Bool
 
--- the taker of the copies of so many senders, over a queue with so much room: what came off, in its order
+-- the taker of the copies of so many senders, over a queue with so much room: what came off, in its order, each a copy or an end mark
+-- under the number of its sender
 pub record DoneTaker : Type 0 where
   pub way : Way
   pub room : ℕ
   pub senders : ℕ
-  pub came : List Arrival
+  pub came : List Message
 
--- the copy that an arrival is, if it is one
-abbrev pub copies_in_one : Arrival → List OnItsWay
+-- the copy that a message is, if it is one
+abbrev pub copies_in_one : Message → List OnItsWay
 copies_in_one (Copy sender copy) = copy ∷ []
 copies_in_one (Mark sender) = []
 
--- the copies among the arrivals, in their order
-abbrev pub copies_in : List Arrival → List OnItsWay
+-- the copies among what came off, in their order
+abbrev pub copies_in : List Message → List OnItsWay
 copies_in came = flat_map copies_in_one came
 
--- the copies of one sender among the arrivals, in their order
-abbrev pub copies_of : ℕ → List Arrival → List OnItsWay
+-- the copies of one sender among what came off, in their order
+abbrev pub copies_of : ℕ → List Message → List OnItsWay
 copies_of sender came = copies_in (messages_of sender came)
 
--- whether an arrival is the sender's mark
-abbrev pub is_mark_of : ℕ → Arrival → Bool
+-- whether a message is the sender's mark
+abbrev pub is_mark_of : ℕ → Message → Bool
 is_mark_of sender (Copy other copy) = false
 is_mark_of sender (Mark other) = other == sender
 
--- whether the sender's mark is among the arrivals
-abbrev pub has_mark : List Arrival → ℕ → Bool
+-- whether the sender's mark is among what came off
+abbrev pub has_mark : List Message → ℕ → Bool
 has_mark came sender = list_any (is_mark_of sender) came
 
 -- whether the mark of every sender came off
@@ -58,7 +55,7 @@ abbrev pub has_ended : DoneTaker → Bool
 has_ended t = list_all (has_mark t.came) (range_with_len 0 t.senders)
 
 -- what the queue between a sender and the taker holds of this sender: what it put into it and didn't come off
-abbrev pub queue_between : DoneSender → DoneTaker → List Arrival
+abbrev pub queue_between : DoneSender → DoneTaker → List Message
 queue_between s t = left_in_queue s.number s.sent s.marked t.came
 
 -- the copy that a call of the taker answers, if it answers one

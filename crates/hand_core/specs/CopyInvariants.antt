@@ -4,7 +4,8 @@ use Rattle.crossbeam_channel.specs.Claims.{view, IsSeatAt}
 use Rattle.crossbeam_channel.specs.Ends.{sends_on, receives_on}
 use Rattle.hand_core.specs.declared.done_sender.DoneSender.TheInside as sender
 use Rattle.hand_core.specs.declared.done_taker.DoneTaker.TheInside as taker
-use Rattle.hand_core.specs.CopyEnds.{Arrival, has_mark}
+use Rattle.hand_core.specs.declared.copy_queue.Message.{Message}
+use Rattle.hand_core.specs.CopyEnds.{has_mark}
 
 -- the sender's pass is a seat at its channel, and it put no mark unless it is closed
 pub record IsSending (s : sender.Inside) : Type 0 where
@@ -13,8 +14,8 @@ pub record IsSending (s : sender.Inside) : Type 0 where
   pub sender : (view s.pass).sender ≡ s.number
   pub fresh : s.closed ≡ false → (view s.pass).marked ≡ false
 
--- for each of four senders whether its mark is among the arrivals
-abbrev pub marks_of_four : List Arrival → List Bool
+-- for each of four senders whether its mark is among what came off
+abbrev pub marks_of_four : List Message → List Bool
 marks_of_four came = has_mark came 0 ∷ has_mark came 1 ∷ has_mark came 2 ∷ has_mark came 3 ∷ []
 
 -- the taker's pass is a seat at its channel, and it has noted whose marks came off

@@ -11,10 +11,6 @@ use Rattle.hand_core.specs.PageQueue.{left_in_queue}
 abbrev pub HandOver : Type 0
 HandOver = QueueName Note
 
--- what stands in the queue of a hand-over, in its order: pages, and end marks
-abbrev pub Queued : Type 0
-Queued = List Note
-
 -- the giver of a hand-over to so many takers, whose queue has so much room: the pages given, in their order, and the end marks put
 pub record Giver : Type 0 where
   pub hand_over : HandOver
@@ -43,8 +39,8 @@ have_ended takers = list_all (λ (t : Taker). t.ended) takers
 abbrev pub marks_taken : List Taker → ℕ
 marks_taken takers = count_by (λ (t : Taker). t.ended) takers
 
--- the queue between a giver and all its takers: what was put into it and didn't come off
-abbrev pub queue_between : Giver → List Taker → Queued
+-- the queue between a giver and all its takers: the pages and end marks that were put into it and didn't come off, in their order
+abbrev pub queue_between : Giver → List Taker → List Note
 queue_between giver takers = left_in_queue giver.given giver.marks (length (taken_by takers)) (marks_taken takers)
 
 -- what an answer changes: a page joins the list, an end mark ends the taker, and where the giver is gone nothing changes

@@ -13,7 +13,7 @@ use Rattle.hand_core.specs.Queue.{Each}
 abbrev pub known : ℕ → Bool → List OnItsWay → ℕ → List OnItsWay → ℕ → Known
 known shares gives given marks taken ended = record { shares = shares; gives = gives; given = given; marks = marks; taken = taken; ended = ended }
 
--- what the giver knows at first: it has every share
+-- what the giver knows at first: it has every share; 1024 is any number above that of the takers
 abbrev pub giver_knows : Known
 giver_knows = known 1024 true [] 0 [] 0
 

@@ -110,7 +110,8 @@ impl Huge {
 }
 
 /// Gives a block back to the zone that handed it out. Where the zone refuses it, it is handed back, and the zone is as it was:
-/// refused as JournalFull, and as Range or NotHuge where the zone hasn't handed it out, or took it back by its number.
+/// refused as Range where the zone has no such block, JournalFull, or NotHuge where the zone hasn't handed it out, or took it back by
+/// its number.
 pub fn give<K: Shape, I: Ledger, M: Ledger, B: Ledger, R: Wait>(
     rt: &R,
     shared: &SharedZone<K, I, M, B>,

@@ -1,4 +1,4 @@
 pub mod Endings
 pub mod Pooling
-pub mod SerialRuns
 pub mod SeriesOfCalls
+pub mod SingleRuns

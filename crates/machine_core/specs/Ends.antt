@@ -23,7 +23,7 @@ abbrev pub is_over : Result Totals RunError → Bool
 is_over (Ok totals) = true
 is_over (Err e) = is_of_script e.fault
 
--- a reader failed behind lines that have no fault but those of an end there, and these are answered
+-- a read failed behind these bytes; they have no fault, or just the one that an end there would make, and their commands are answered
 pub record FailsBehind (places : ℕ) (left left_new old new : Option (List ℕ)) (line : ℕ) : Type 0 where
   pub past : List ℕ
   pub read : Consumes left left_new past

@@ -2,7 +2,7 @@
 use Rattle.std.specs.Prelude.{ℕ, zero, suc, ◌+◌, ◌*◌, ◌/◌, Bool, true, false, nat_eq, if◌then◌else◌, List, [], ◌∷◌, ◌++◌, Option, Some, None, unwrap_or}
 use Rattle.frame_core.specs.declared.place.Address.{Address}
 use Rattle.state_core.specs.declared.error.ZoneError.{ZoneError}
-use Rattle.state_core.specs.declared.error.ZoneError.TheVariants.{JournalFull, NoFrame, NoBlock}
+use Rattle.state_core.specs.declared.error.ZoneError.TheVariants.{JournalFull, Unmapped, NoFrame, NoBlock}
 use Rattle.world_core.specs.declared.hand.Finished.{Finished}
 use Rattle.world_core.specs.declared.hand.Scanned.{Scanned}
 use Rattle.world_core.specs.declared.hand.Scanned.TheVariants as scan
@@ -86,7 +86,7 @@ ending serial ended.Back = reply.PutBack serial
 
 -- what is known of a page, which changes nothing
 abbrev pub looked : WorldState → Option Known → Answered
-looked world None = refused 3 world
+looked world None = refused (number_of Unmapped) world
 looked world (Some known) = says (reply.Looked known) world
 
 -- the pageblock that begins at this frame is handed out, if there is one

@@ -1,7 +1,7 @@
 ghost use Rattle.std.specs.Prelude.{◌≡◌, ◌<◌, ◌≤◌, [], bit_and, true, false, ⊤, Some, None, IfErr, IfNone, IfOk, IfSome, OnErr, OnOk};
 ghost use Rattle.machine_core.specs.Machine.{call_at, call_step, calls_step, compact_on, ending, found, open_step, page_step, pool_from, pool_on, pool_step, series_step, step_on, stopped_by, during_on};
-ghost use Rattle.machine_core.specs.Serial.{IsSerialStep, IsStep, Opens, serial_at_first};
-ghost use Rattle.machine_core.specs.Serial.{is_at_rest};
+ghost use Rattle.machine_core.specs.Single.{IsSingleStep, IsStep, Opens, single_at_first};
+ghost use Rattle.machine_core.specs.Single.{is_at_rest};
 ghost use Rattle.text_core.specs.Grammar.{address_of, zone_of};
 ghost use Rattle.text_core.specs.declared.reply.Reply.TheVariants as reply;
 ghost use Rattle.zone_core.specs.Books.{AreFor};
@@ -40,9 +40,9 @@ impl<I: Ledger, N: Ledger, M: Ledger, B: Ledger> Model for Machine<I, N, M, B> {
     ghost use Rattle.zone_core.specs.Books.{AreFor};
     ghost use Rattle.std.specs.Coded.{codes};
     ghost use Rattle.plain_core.specs.contracts.plain.PlainZone as plain_zone;
-    ghost use Rattle.machine_core.specs.Serial.{Serial};
+    ghost use Rattle.machine_core.specs.Single.{Single};
 
-    ghost Value = { Serial };
+    ghost Value = { Single };
 
     ghost coded = { Prim.hlevel (codes, plain_zone.the_row.coded) };
 
@@ -52,7 +52,7 @@ impl<I: Ledger, N: Ledger, M: Ledger, B: Ledger> Model for Machine<I, N, M, B> {
 }
 
 impl<I: Ledger, N: Ledger, M: Ledger, B: Ledger> Respond for Machine<I, N, M, B> {
-    ghost may = { IsSerialStep };
+    ghost may = { IsSingleStep };
 
     ghost asks = { Opens };
 
@@ -73,7 +73,7 @@ impl<I: Ledger, N: Ledger, M: Ledger, B: Ledger> Machine<I, N, M, B> {
     pub fn new(alloc: Global, places: u32, blanks: Blanks) -> Self
         requires places { (0 < places) × (places ≤ 65536) }
         requires blanks { AreFor blanks I.name I.parts N.name N.parts M.name M.parts B.name B.parts }
-        ensures { result ≡ serial_at_first places }
+        ensures { result ≡ single_at_first places }
     {
         Machine {
             alloc,
@@ -120,7 +120,7 @@ impl<I: Ledger, N: Ledger, M: Ledger, B: Ledger> Machine<I, N, M, B> {
         let Ok(world) = World::open(self.alloc, zone, blocks.get(), self.places, blanks) else {
             return Err(AllocError);
         };
-        self.put_back(world);
+        self.give_world(world);
         Ok(Reply::Done)
     }
 
@@ -161,19 +161,19 @@ impl<I: Ledger, N: Ledger, M: Ledger, B: Ledger> Machine<I, N, M, B> {
     pub fn take_closed(&mut self, zone: ZoneNo) -> Option<World<I, N, M, B>>
         ensures given { IfSome result (λ world. (self.old.world ≡ Some world) × (is_at_rest zone (Some world) ≡ true)) }
         ensures closed { IfSome result (λ world. world.is_open ≡ false) }
-        ensures left { IfSome result (λ _. self.new ≡ serial_at_first self.old.places) }
+        ensures left { IfSome result (λ _. self.new ≡ single_at_first self.old.places) }
         ensures none { IfNone result ((self.new ≡ self.old) × (is_at_rest zone self.old.world ≡ false)) }
     {
         let world = self.world.take()?;
         if world.zone().number() == zone && !world.is_open() {
             return Some(world);
         }
-        self.put_back(world);
+        self.give_world(world);
         None
     }
 
-    /// Takes a world, where there is none.
-    pub fn put_back(&mut self, world: World<I, N, M, B>)
+    /// Gives the machine a world, in place of the one that it has, if it has one.
+    pub fn give_world(&mut self, world: World<I, N, M, B>)
         ensures { self.new ≡ record self.old { world = Some world } }
     {
         self.world = Some(world);

@@ -65,7 +65,7 @@ pub fn run_text<W: Output>(
     ensures fault { IfErr result (λ error. IsTrue (is_of_script error.fault) → fault_of script.now ≡ Some error) }
     ensures output { IsTrue (is_over result) → Appends (W.contents writer.old) (W.contents writer.new)
         (output_of options.journal script.now) }
-    // It is read in at most ten million pieces.
+    // Each read gives a byte at least, so a text of fewer than 10,000,000 bytes ends before the reads do.
     ensures read { length script.now < 10000000 → IfErr result (λ error. error.fault ≢ Fault.Read) }
     ensures write { IfErr result (λ error. error.fault ≡ Fault.Write → StopsIn (answers_of options.journal script.now)
         (W.contents writer.old) (W.contents writer.new) error.line) }

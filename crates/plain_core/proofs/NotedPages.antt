@@ -57,7 +57,7 @@ module _ (notes : List Note) (page : ℕ) (note : Note) (within : page < length 
         | inr other ↦ placement_there notes page note within q other.1
       ])
 
-  -- the page can't be moved now
+  -- the page is noted as unmovable now
   pub unmovable_set : says_unmovable (Some note) ≡ true → gathered (is_unmovable_of changed) (length changed) ≡ set.insert (gathered (is_unmovable_of notes) (length notes)) page
   unmovable_set is =
       ap (gathered (is_unmovable_of changed)) len
@@ -65,7 +65,7 @@ module _ (notes : List Note) (page : ℕ) (note : Note) (within : page < length 
       (unmovable_past notes) (λ q past. unmovable_past changed q (omega (arith, len, past)))
       (unmovable_here page refl ∙ is) unmovable_there
 
-  -- the page isn't one that can't be moved
+  -- the page isn't noted as unmovable
   pub unmovable_removed : says_unmovable (Some note) ≡ false → gathered (is_unmovable_of changed) (length changed) ≡ set.remove (gathered (is_unmovable_of notes) (length notes)) page
   unmovable_removed is =
       ap (gathered (is_unmovable_of changed)) len

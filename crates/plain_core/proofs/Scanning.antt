@@ -16,7 +16,7 @@ use Rattle.state_core.proofs.Holding.{at_takes, holder_at}
 use Rattle.state_core.proofs.Pairing.{no_target_pair}
 use Rattle.state_core.specs.declared.placement.Placement.TheVariants.{At}
 use Rattle.state_core.specs.Lawful.{IsLawful}
-use Rattle.state_core.specs.Pairs.{is_marked, can_move_if_some, stays_if_some, holder, holds_movable, takes_movable, is_stuck, next_source, next_target, next_pair, pair_at}
+use Rattle.state_core.specs.Pairs.{is_marked, can_move_if_some, stays_if_some, holder, holds_movable, is_free_unmarked, is_stuck, next_source, next_target, next_pair, pair_at}
 use Rattle.state_core.specs.ZoneState.{ZoneState, frame_count, is_held}
 use Rattle.plain_core.specs.declared.plain.PlainZone.TheInside.{Inside}
 use Rattle.plain_core.specs.Sound.{state_of}
@@ -89,7 +89,7 @@ module _ (v : ZoneState) (law : IsLawful v) (states : List FrameState) (movable 
   pub source_seen : (frame : ℕ) → frame < frame_count v → scan.is_source states movable marked frame ≡ holds_movable v frame
   source_seen frame h = λ i. not (marked_seen frame h i) && by_state frame h (slice_get states frame) refl i
 
-  pub target_seen : (frame : ℕ) → frame < frame_count v → scan.is_target states marked frame ≡ takes_movable v frame
+  pub target_seen : (frame : ℕ) → frame < frame_count v → scan.is_target states marked frame ≡ is_free_unmarked v frame
   target_seen frame h = λ i. not (marked_seen frame h i) && free_seen states v fit frame h i
 
   pub stuck_seen : (frame : ℕ) → frame < frame_count v → scan.is_stuck states movable marked frame ≡ is_stuck v frame
@@ -110,7 +110,7 @@ module _ (v : ZoneState) (law : IsLawful v) (states : List FrameState) (movable 
 
   pub next_target_seen : (source : ℕ) → scan.next_target states marked fingers source ≡ next_target v source
   next_target_seen source =
-      highest_same (λ frame. nat_lt source frame && scan.is_target states marked frame) (λ frame. nat_lt source frame && takes_movable v frame) v.free
+      highest_same (λ frame. nat_lt source frame && scan.is_target states marked frame) (λ frame. nat_lt source frame && is_free_unmarked v frame) v.free
       (λ frame h. let high = law.fingers.1 in ap (λ b. nat_lt source frame && b) (target_seen frame (omega (arith, h, high))))
 
   pub pair_seen : (source target : ℕ) → Pair source target ≡ scan.next_step states movable marked fingers → (next_source v ≡ Some source) × (next_target v source ≡ Some target)

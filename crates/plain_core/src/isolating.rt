@@ -119,7 +119,7 @@ impl PlainZone {
         Fingers::at_ends(512 * self.blocks)
     }
 
-    /// Sets the fingers to the ends of the zone.
+    /// Begins a round: the fingers stand at the ends of the zone, and it is noted how many records there are and whether the round is calm.
     pub fn begin_round(&mut self)
         ensures step { self.new ≡ round_begun self.old }
         ensures lawful { IsLawful self.new }

@@ -48,7 +48,7 @@ pub record IsStopped {S : Type 0} (may : Rule S) (start : S) (input : List ℕ) 
   pub begins : Begins may start before
   pub stops : StopsIn begins.answers old new line
 
--- a reader failed behind lines that have no fault but those of an end there, and these are answered
+-- a read failed behind these bytes; they have no fault, or just the one that an end there would make, and their commands are answered
 pub record IsUnread {S : Type 0} (may : Rule S) (start : S) (left left_new old new : Option (List ℕ)) (line : ℕ) : Type 0 where
   pub past : List ℕ
   pub read : Consumes left left_new past

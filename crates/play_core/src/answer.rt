@@ -21,6 +21,7 @@ impl Model for Answer {
 }
 
 impl Answer {
+    /// A reply to this line.
     pub fn new(line: u64, reply: Reply) -> Self
         ensures { result ≡ record { line = line; reply = reply } }
     {
@@ -54,6 +55,7 @@ impl Model for Answers {
 }
 
 impl Answers {
+    /// The answers to 1,000 client lines at most, and the block's own.
     pub fn new(clients: Vec<Answer>, own: Answer) -> Self
         requires { vec_len clients ≤ 1000 }
         ensures { result ≡ clients.items ++ own ∷ [] }

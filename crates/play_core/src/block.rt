@@ -26,18 +26,21 @@ impl Model for ClientLine {
 }
 
 impl ClientLine {
+    /// A client line; None where an argument is out of its range.
     pub fn new(line: u64, call: Option<ClientCall>) -> Self
         ensures { result ≡ record { line = line; call = call } }
     {
         ClientLine { line, call }
     }
 
+    /// Its number, from 1.
     pub fn line(&self) -> u64
         ensures { result ≡ self.now.line }
     {
         self.line
     }
 
+    /// Its call; None where an argument is out of its range.
     pub fn call(&self) -> Option<ClientCall>
         ensures { result ≡ self.now.call }
     {
@@ -88,6 +91,7 @@ impl Block {
         })
     }
 
+    /// The line of its `during`.
     pub fn line(&self) -> u64
         ensures { result ≡ self.now.line }
     {

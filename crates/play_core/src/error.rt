@@ -7,7 +7,7 @@ use thiserror::Error;
 /// What can end a run before its script does.
 #[derive(Clone, Copy, Debug, PartialEq, Eq)]
 pub enum Fault {
-    /// A line is no command, or the last line has no newline, or a block has no end.
+    /// A line is no command, or the last line has no newline, or a block has no end or more than 1,000 client lines.
     Syntax,
     /// A line has more than 200 bytes.
     LongLine,
@@ -45,7 +45,8 @@ impl Fault {
     }
 }
 
-/// Why a run ended, and at which line. Lines count from 1.
+/// Why a run ended, and at which line. Lines count from 1. Of Read it is the line that was being read, of Write the one whose reply wasn't
+/// taken whole, of Memory that of the `zone` or `during`.
 #[derive(Clone, Copy, Debug, PartialEq, Eq, Error)]
 #[error("fault {} at line {line}", .fault.number())]
 pub struct RunError {

@@ -69,6 +69,7 @@ impl<A: Respond> Player<A> {
     /// Answers a whole line.
     fn take_line<W: Output>(&mut self, writer: &mut W, text: &[u8]) -> Result<(), RunError>
         requires begins { self.old.held ≡ [] }
+        // So few lines that the number of their replies, 1,001 a line at most, fits 64 bits.
         requires room { self.old.line + 1 < 2 ^ 53 }
         ensures ok { OnOk result ((start : A) (past : List ℕ) (first : Option (List ℕ))
             → newlines text.now ≡ 0 → HasRead A.may start self.old past first (W.contents writer.old)
@@ -487,6 +488,10 @@ impl<A: Respond> Player<A> {
 }
 
 /// Plays the script that a reader gives on a machine, and writes its replies.
+///
+/// Refused as Syntax or LongLine at the line of the first fault of the script; as Read where a read failed or 10,000,000 saw no end; as
+/// Write where a write failed or took no byte, in place of any other; as Memory where the machine, or the player for a block, found none.
+/// The replies before it are written.
 pub fn play<A: Respond + Drop, R: Input, W: Output>(
     alloc: Global,
     machine: A,

@@ -21,6 +21,7 @@ impl<W: Write> Model for Sink<W> {
 }
 
 impl<W: Write> Sink<W> {
+    /// A writer with nothing noted yet.
     pub fn new(writer: W) -> Self
         ensures { result ≡ record { taken = W.contents writer; stuck = false } }
     {
@@ -30,6 +31,7 @@ impl<W: Write> Sink<W> {
         }
     }
 
+    /// The writer, where it stands.
     pub fn into_inner(self) -> W
         ensures { W.contents result ≡ self.taken }
     {

@@ -22,6 +22,7 @@ impl<R: Read> Model for Source<R> {
 }
 
 impl<R: Read> Source<R> {
+    /// A reader with nothing noted yet.
     pub fn new(reader: R) -> Self
         ensures { result ≡ record { left = R.remaining reader; reads = 0; failed = false } }
     {
@@ -32,6 +33,7 @@ impl<R: Read> Source<R> {
         }
     }
 
+    /// The reader, where it stands.
     pub fn into_inner(self) -> R
         ensures { R.remaining result ≡ self.left }
     {

@@ -22,8 +22,9 @@ use zone_core::{Audit, Seats, Zone, ZoneError};
 /// Moves what can be moved, by so many copiers, 1 to 4, over queues with room for `cap` pages and copies, 1 to 64. What can fail for
 /// want of memory or of a thread fails before the first page is isolated.
 ///
-/// Refused as Memory or NoWorker; as Broken where `audit` refuses, where an end of a queue was gone, or where a copier's list had
-/// no place for a page; as Stranger where the zone refused a copy.
+/// Refused as Broken where `audit` refuses, before anything else; as Memory or NoWorker, and then no round was begun; as Stranger where
+/// the zone refused a copy; as Broken where an end of a queue was gone, a copier's list had no place for a page, or the audit behind the
+/// round refuses.
 pub fn compact<
     K: Shape + Send + Sync,
     I: Ledger + Send + Sync,

@@ -11,10 +11,11 @@ pub enum RoundError {
     Memory,
     #[error("a thread can't be started")]
     NoWorker,
-    #[error("pages of a broken round are out, or a part of the end seat is missing")]
+    /// An audit was refused, an end of a queue was gone, or a copier's list had no place for a page.
+    #[error("an audit was refused, or a thread of the round ended early")]
     Broken,
     /// The least serial whose commit was refused.
-    #[error("the copy of page {0} was refused")]
+    #[error("the copy with serial {0} was refused")]
     Stranger(Serial),
 }
 

@@ -1,9 +1,13 @@
 /// A step of a page.
 #[derive(Clone, Copy, Debug, PartialEq, Eq)]
 pub enum Point {
+    /// The scanner took it on its way.
     Isolated,
+    /// A copier took it off the queue.
     Taken,
+    /// The copier copied it.
     Copied,
+    /// The zone was brought its copy.
     Ended,
 }
 

@@ -9,6 +9,7 @@ pub trait Shape {
     ghost blocks: { ℕ };
 }
 
+// Any two numbers: a call that passes `Brand` picks its own.
 impl Shape for Brand {
     ghost number = { 0 };
 

@@ -1,4 +1,5 @@
--- The states of frames, as they are kept and as they are.
+-- The states of frames: as they are kept, where the frames of blocks that are handed out are Free, and as they are seen, where these are
+-- Huge.
 use Rattle.std.specs.Prelude.{◌≡◌, ℕ, suc, Bool, List, [], ◌∷◌, if◌then◌else◌}
 use Rattle.std.specs.Ordering.{nat_cmp}
 use Rattle.std.specs.FinSet as set

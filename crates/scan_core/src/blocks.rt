@@ -1,4 +1,4 @@
-//! The free frames of each pageblock.
+//! How many frames of each pageblock are counted.
 
 ghost use Rattle.std.specs.Prelude.{◌≡◌, ℕ, ◌+◌, ◌-◌, ◌<◌, ◌≤◌, ◌&&◌, not, length, nat_lt, slice_get, slice_index, slice_set, Some};
 ghost use Rattle.frame_core.specs.Below.{count_below, lowest, some_below};
@@ -9,10 +9,10 @@ use crate::lists::count_free;
 use frame_core::{BlockNo, FrameState};
 use std::marker::Model;
 
-/// How many frames of each pageblock are free.
+/// How many frames of each pageblock are counted: the free ones, or the members of a set.
 #[derive(Drop)]
 pub struct BlockCounts {
-    free: [u32; 8],
+    counts: [u32; 8],
 }
 
 impl Model for BlockCounts {
@@ -20,9 +20,9 @@ impl Model for BlockCounts {
 
     ghost Value = { List ℕ };
 
-    ghost view = { λ c. c.free };
+    ghost view = { λ c. c.counts };
 
-    ghost invariant = { λ c. length c.free ≡ 8 };
+    ghost invariant = { λ c. length c.counts ≡ 8 };
 }
 
 impl BlockCounts {
@@ -31,25 +31,25 @@ impl BlockCounts {
         ensures len { length result ≡ 8 }
         ensures none { (block : ℕ) → block < 8 → slice_get result block ≡ Some 0 }
     {
-        BlockCounts { free: [0; 8] }
+        BlockCounts { counts: [0; 8] }
     }
 
-    /// The counts of a list of frame states.
+    /// The free frames of a list of frame states are counted.
     pub fn of(frames: &[FrameState]) -> Self
         ensures { CountsFree result frames.now }
     {
-        let mut free = [0; 8];
+        let mut counts = [0; 8];
         for block in 0..8 {
-            free[block] = count_free(frames, block);
+            counts[block] = count_free(frames, block);
         }
-        BlockCounts { free }
+        BlockCounts { counts }
     }
 
-    /// How many frames of a pageblock are free.
+    /// How many frames of a pageblock are counted.
     pub fn get(&self, block: BlockNo) -> u32
         ensures { result ≡ slice_index self.now block }
     {
-        self.free[block.get() as usize]
+        self.counts[block.get() as usize]
     }
 
     /// Counts so many frames more in a pageblock.
@@ -57,7 +57,7 @@ impl BlockCounts {
         requires { slice_index self.old block + frames ≤ 512 }
         ensures { self.new ≡ slice_set self.old block (slice_index self.old block + frames) }
     {
-        self.free[block.get() as usize] += frames;
+        self.counts[block.get() as usize] += frames;
     }
 
     /// Counts so many frames fewer in a pageblock.
@@ -65,40 +65,40 @@ impl BlockCounts {
         requires { frames ≤ slice_index self.old block }
         ensures { self.new ≡ slice_set self.old block (slice_index self.old block - frames) }
     {
-        self.free[block.get() as usize] -= frames;
+        self.counts[block.get() as usize] -= frames;
     }
 
-    /// Whether a pageblock that isn't marked has any.
-    pub fn is_any_unmarked(&self, marked: &[bool; 8]) -> bool
+    /// Whether it counts a frame in a pageblock that isn't marked.
+    pub fn has_some_unmarked(&self, marked: &[bool; 8]) -> bool
         ensures { result ≡ some_below (λ block. not (true_at marked.now block) && nat_lt 0 (slice_index self.now block)) 8 }
     {
         for block in 0..8 {
-            if is_unmarked(&self.free, marked, block) {
+            if is_counted_unmarked(&self.counts, marked, block) {
                 return true;
             }
         }
         false
     }
 
-    /// How many pageblocks are free as a whole.
+    /// How many pageblocks are counted as a whole.
     pub fn whole(&self) -> u32
         ensures count { result ≡ count_below (is_all_free self.now) 8 }
     {
         let mut whole = 0;
         for block in 0..8 {
-            if self.free[block] == 512 {
+            if self.counts[block] == 512 {
                 whole += 1;
             }
         }
         whole
     }
 
-    /// The lowest pageblock that is free as a whole.
+    /// The lowest pageblock that is counted as a whole.
     pub fn first(&self) -> Option<BlockNo>
         ensures lowest { result ≡ lowest (is_all_free self.now) 8 }
     {
         for block in 0..8_u32 {
-            if self.free[block as usize] == 512 {
+            if self.counts[block as usize] == 512 {
                 return BlockNo::new(block);
             }
         }
@@ -106,8 +106,8 @@ impl BlockCounts {
     }
 }
 
-/// Whether a pageblock has frames and isn't marked.
-fn is_unmarked(frames: &[u32; 8], marked: &[bool; 8], block: usize) -> bool
+/// Whether a pageblock isn't marked and a frame of it is counted.
+fn is_counted_unmarked(frames: &[u32; 8], marked: &[bool; 8], block: usize) -> bool
     requires { block < 8 }
     ensures { result ≡ (not (true_at marked.now block) && nat_lt 0 (slice_index frames.now block)) }
 {

@@ -172,10 +172,10 @@ impl FrameSet {
     }
 
     /// Whether some frame of an unmarked pageblock is a member.
-    pub fn is_any_unmarked(&self, marked: &[bool; 8]) -> bool
+    pub fn has_some_unmarked(&self, marked: &[bool; 8]) -> bool
         ensures { result ≡ some_below (λ frame. not (is_marked marked.now frame) && set.contains self.now frame) capacity }
     {
-        self.blocks.is_any_unmarked(marked)
+        self.blocks.has_some_unmarked(marked)
     }
 
     /// The first frame of the lowest run of this order that is in the set.

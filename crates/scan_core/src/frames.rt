@@ -265,6 +265,6 @@ impl Frames {
     pub fn is_any_stuck(&self, marked: &[bool; 8]) -> bool
         ensures { result ≡ some_below (is_stuck self.now.states self.now.movable marked.now) (length self.now.states) }
     {
-        self.stuck.is_any_unmarked(marked)
+        self.stuck.has_some_unmarked(marked)
     }
 }

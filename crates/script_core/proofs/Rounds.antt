@@ -20,27 +20,27 @@ use Rattle.text_core.specs.Grammar.{zone_of}
 use Rattle.client_core.specs.Receipts.{Client}
 use Rattle.script_core.specs.Clients.{AreClientAnswers}
 use Rattle.play_core.specs.Script.{Answer, ClientLine, Numbered, command_of_line}
-use Rattle.machine_core.specs.Serial.{IsStep, Serial}
+use Rattle.machine_core.specs.Single.{IsStep, Single}
 use Rattle.script_core.specs.Threaded.{IsBlockFor, IsReplyStep, IsRoundBeside, IsRoundOver, IsSettledReply, IsStepAt, IsStepBy, IsThreadedStep, IsUnstarted, IsWorkOn, IsWorkStep, Settles, Threaded, broken_reply, is_threaded, left_behind, left_by}
-use Rattle.machine_core.specs.Serial.{is_at_rest, number_is_at_rest}
+use Rattle.machine_core.specs.Single.{is_at_rest, number_is_at_rest}
 
 -- a command that works by threads
 pub threaded_step : (old : Threaded) (command : Command) (answer : Reply) (new : Threaded) (w : WorldState) (places : ℕ) (client : Client)
-    → old.serial.world ≡ Some w → is_threaded command (Some w) ≡ true → places ≡ old.serial.places → client ≡ old.client
-    → IsWorkOn command w places client answer new → IsStepBy (is_threaded command old.serial.world) old command answer new
+    → old.single.world ≡ Some w → is_threaded command (Some w) ≡ true → places ≡ old.single.places → client ≡ old.client
+    → IsWorkOn command w places client answer new → IsStepBy (is_threaded command old.single.world) old command answer new
 threaded_step old command answer new w places client is threaded same_places same_client on =
     let P : ℕ → Type 0 = λ n. IsWorkOn command w n client answer new in
-    let C : Client → Type 0 = λ k. IsWorkOn command w old.serial.places k answer new in
-    let W : Option WorldState → Type 0 = λ o. IsWorkStep command o old.serial.places old.client answer new in
+    let C : Client → Type 0 = λ k. IsWorkOn command w old.single.places k answer new in
+    let W : Option WorldState → Type 0 = λ o. IsWorkStep command o old.single.places old.client answer new in
     let S : Bool → Type 0 = λ b. IsStepBy b old command answer new in
     subst S (sym (ap (is_threaded command) is ∙ threaded)) (subst W (sym is) (subst C same_client (subst P same_places on)))
 
 -- any other command, which the machine answers as on one thread
-pub other_step : (old : Threaded) (command : Command) (answer : Reply) (new : Threaded) (machine : Serial)
-    → machine ≡ old.serial → is_threaded command old.serial.world ≡ false → IsStep machine command answer new.serial → new.broken ≡ None → new.client ≡ old.client
-    → IsStepBy (is_threaded command old.serial.world) old command answer new
+pub other_step : (old : Threaded) (command : Command) (answer : Reply) (new : Threaded) (machine : Single)
+    → machine ≡ old.single → is_threaded command old.single.world ≡ false → IsStep machine command answer new.single → new.broken ≡ None → new.client ≡ old.client
+    → IsStepBy (is_threaded command old.single.world) old command answer new
 other_step old command answer new machine same runs step none client =
-    let M : Serial → Type 0 = λ m. IsStep m command answer new.serial in
+    let M : Single → Type 0 = λ m. IsStep m command answer new.single in
     let S : Bool → Type 0 = λ b. IsStepBy b old command answer new in
     subst S (sym runs) (subst M same step, none, client)
 
@@ -52,7 +52,7 @@ broken_step old command answer new number is told same =
     subst S (sym is) (told, same)
 
 pub whole_step : (old : Threaded) (command : Command) (answer : Reply) (new : Threaded)
-    → old.broken ≡ None → IsStepBy (is_threaded command old.serial.world) old command answer new → IsReplyStep old command answer new
+    → old.broken ≡ None → IsStepBy (is_threaded command old.single.world) old command answer new → IsReplyStep old command answer new
 whole_step old command answer new is step =
     let S : Option ℕ → Type 0 = λ o. IsStepAt o old command answer new in
     subst S (sym is) step
@@ -65,25 +65,25 @@ broken_line old command answer new number is told same line =
     inl (record { reply = answer; one = refl; step = broken_step old command answer new number is told same })
 
 pub whole_line : (old : Threaded) (command : Command) (answer : Reply) (new : Threaded)
-    → old.broken ≡ None → IsStepBy (is_threaded command old.serial.world) old command answer new
+    → old.broken ≡ None → IsStepBy (is_threaded command old.single.world) old command answer new
     → (line : ℕ) → IsThreadedStep old (command_of_line line command) (record { line = line; reply = answer } ∷ []) new
 whole_line old command answer new is step line =
     inl (record { reply = answer; one = refl; step = whole_step old command answer new is step })
 
 -- what a machine is whose zone passes its audit, and one whose zone doesn't
 pub left_whole : (places : ℕ) (client : Client) (zone zone_new : ZoneState) (scan scan_new : ScanSeat) (ends ends_new : EndSeat) (refusal : Option ZoneError) (new : Threaded)
-    → refusal ≡ None → zone_new ≡ zone → scan_new ≡ scan → ends_new ≡ ends → new.serial.places ≡ places
-    → new.serial.world ≡ Some (world_closed zone_new scan_new ends_new) → new.broken ≡ None → new.client ≡ client → new ≡ left_by places client zone scan ends refusal
+    → refusal ≡ None → zone_new ≡ zone → scan_new ≡ scan → ends_new ≡ ends → new.single.places ≡ places
+    → new.single.world ≡ Some (world_closed zone_new scan_new ends_new) → new.broken ≡ None → new.client ≡ client → new ≡ left_by places client zone scan ends refusal
 left_whole places client zone zone_new scan scan_new ends ends_new refusal new passes same_zone same_scan same_ends same_places world none same_client =
     let is : world_closed zone_new scan_new ends_new ≡ world_closed zone scan ends = λ i. world_closed (same_zone i) (same_scan i) (same_ends i) in
-    let there : new.serial.world ≡ Some (world_closed zone scan ends) = world ∙ ap Some is in
-    let here : new ≡ left_by places client zone scan ends None = λ i. record { serial = record { places = same_places i; world = there i }; broken = none i; client = same_client i } in
+    let there : new.single.world ≡ Some (world_closed zone scan ends) = world ∙ ap Some is in
+    let here : new ≡ left_by places client zone scan ends None = λ i. record { single = record { places = same_places i; world = there i }; broken = none i; client = same_client i } in
     here ∙ ap (left_by places client zone scan ends) (sym passes)
 
 pub left_broken : (places : ℕ) (client : Client) (zone : ZoneState) (scan : ScanSeat) (ends : EndSeat) (error : ZoneError) (refusal : Option ZoneError) (new : Threaded)
-    → refusal ≡ Some error → new.serial.places ≡ places → new.serial.world ≡ None → new.broken ≡ Some zone.number → new.client ≡ client → new ≡ left_by places client zone scan ends refusal
+    → refusal ≡ Some error → new.single.places ≡ places → new.single.world ≡ None → new.broken ≡ Some zone.number → new.client ≡ client → new ≡ left_by places client zone scan ends refusal
 left_broken places client zone scan ends error refusal new refused same_places none number same_client =
-    let here : new ≡ left_by places client zone scan ends (Some error) = λ i. record { serial = record { places = same_places i; world = none i }; broken = number i; client = same_client i } in
+    let here : new ≡ left_by places client zone scan ends (Some error) = λ i. record { single = record { places = same_places i; world = none i }; broken = number i; client = same_client i } in
     here ∙ ap (left_by places client zone scan ends) (sym refused)
 
 -- numbers that don't differ
@@ -145,7 +145,7 @@ block_for number zone world w is there closed =
 
 -- what ran is the same of the machine that gave its world
 module _ (w : WorldState) (old given : Threaded) (c : Numbered) (answers : List Answer) (new : Threaded)
-    (places : given.serial.places ≡ old.serial.places) (client : given.client ≡ old.client) where
+    (places : given.single.places ≡ old.single.places) (client : given.client ≡ old.client) where
   round_beside : IsRoundBeside w given c answers new → IsRoundBeside w old c answers new
   round_beside b = record {
     over = b.over;
@@ -167,7 +167,7 @@ module _ (w : WorldState) (old given : Threaded) (c : Numbered) (answers : List 
     left = u.left ∙ (λ i. left_by (places i) (client i) u.zone w.scan w.ends (audit_refusal u.zone w.ends));
   }
 
-  pub block_step : old.serial.world ≡ Some w → old.broken ≡ None → IsBlockFor c.command old.serial.world
+  pub block_step : old.single.world ≡ Some w → old.broken ≡ None → IsBlockFor c.command old.single.world
       → IsRoundBeside w given c answers new ⊎ IsUnstarted w given c answers new → IsThreadedStep old c answers new
   block_step there whole block (inl b) = inr (record { world = w; there = there; whole = whole; block = block; ran = inl (round_beside b) })
   block_step there whole block (inr u) = inr (record { world = w; there = there; whole = whole; block = block; ran = inr (unstarted u) })
@@ -175,7 +175,7 @@ module _ (w : WorldState) (old given : Threaded) (c : Numbered) (answers : List 
 -- nothing ran over the zone and the seats that a world was split into
 pub nothing_ran : (w : WorldState) (old : Threaded) (c : Numbered) (answers : List Answer) (new : Threaded) (zone_old zone : ZoneState) (scan_old scan : ScanSeat) (ends_old ends : EndSeat)
     (places : ℕ) (client : Client) → zone_old ≡ w.zone → scan_old ≡ w.scan → ends_old ≡ w.ends → (scan ≡ scan_old) × (ends ≡ ends_old)
-    → places ≡ old.serial.places → client ≡ old.client → IsKept zone → HasShape zone_old.number zone_old.blocks zone
+    → places ≡ old.single.places → client ≡ old.client → IsKept zone → HasShape zone_old.number zone_old.blocks zone
     → answers ≡ record { line = c.line; reply = reply.Refused 32 } ∷ [] → new ≡ left_by places client zone scan ends (audit_refusal zone ends) → IsUnstarted w old c answers new
 nothing_ran w old c answers new zone_old zone scan_old scan ends_old ends places client same_zone same_scan same_ends same same_places same_client kept shape one left =
     let scans : scan ≡ w.scan = same.0 ∙ same_scan in
@@ -191,7 +191,7 @@ nothing_ran w old c answers new zone_old zone scan_old scan ends_old ends places
 -- a round over that zone and those seats, with the client of a machine beside it
 pub beside_client : (w : WorldState) (old : Threaded) (c : Numbered) (answers : List Answer) (new : Threaded) (over : IsRoundOver w)
     (client_old client : Client) (lines : List ClientLine) (told : List Answer) (own : Reply) (places : ℕ)
-    → client_old ≡ old.client → lines ≡ c.clients → places ≡ old.serial.places → answers ≡ told ++ record { line = c.line; reply = own } ∷ []
+    → client_old ≡ old.client → lines ≡ c.clients → places ≡ old.single.places → answers ≡ told ++ record { line = c.line; reply = own } ∷ []
     → AreClientAnswers client_old lines told client → IsSettledReply over.zone client over.result own → new ≡ left_behind places client over → IsRoundBeside w old c answers new
 beside_client w old c answers new over client_old client lines told own places same_client same_lines same_places answers_are clients settled left = record {
   over = over;

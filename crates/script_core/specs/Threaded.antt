@@ -33,11 +33,11 @@ use Rattle.text_core.specs.Grammar.{zone_of}
 use Rattle.client_core.specs.Receipts.{Agrees, Client}
 use Rattle.script_core.specs.Clients.{AreClientAnswers}
 use Rattle.play_core.specs.Script.{Answer, Numbered, commands_of}
-use Rattle.machine_core.specs.Serial.{IsStep, Opens, Serial, is_at_rest, number_is_at_rest, serial_at_first}
+use Rattle.machine_core.specs.Single.{IsStep, Opens, Single, is_at_rest, number_is_at_rest, single_at_first}
 
 -- the machine as on one thread, the number of the zone that a round left broken, if one did, and the client of the blocks
 pub record Threaded : Type 0 where
-  pub serial : Serial
+  pub single : Single
   pub broken : Option ℕ
   pub client : Client
 
@@ -47,7 +47,7 @@ client_at_first = record { number = 1; receipts = [] }
 
 -- before the first command
 abbrev pub threaded_at_first : ℕ → Threaded
-threaded_at_first places = record { serial = serial_at_first places; broken = None; client = client_at_first }
+threaded_at_first places = record { single = single_at_first places; broken = None; client = client_at_first }
 
 -- whether a command of one line works on the zone by threads: a round and a pool do
 abbrev pub is_threaded : Command → Option WorldState → Bool
@@ -73,9 +73,9 @@ Settles (Err error) = IsWant error
 -- the machine behind a round: the zone makes a world with its seats again where its audit passes, and else it is broken
 abbrev pub left_by : ℕ → Client → ZoneState → ScanSeat → EndSeat → Option ZoneError → Threaded
 left_by places client zone scan ends None =
-    record { serial = record { places = places; world = Some (world_closed zone scan ends) }; broken = None; client = client }
+    record { single = record { places = places; world = Some (world_closed zone scan ends) }; broken = None; client = client }
 left_by places client zone scan ends (Some error) =
-    record { serial = serial_at_first places; broken = Some zone.number; client = client }
+    record { single = single_at_first places; broken = Some zone.number; client = client }
 
 -- a round over the zone of a world, in whatever schedule: what came of it
 pub record IsRoundOver (w : WorldState) : Type 0 where
@@ -153,14 +153,15 @@ IsWorkOn (Compact zone) w places client answer new = IsRoundOn w places client a
 IsWorkOn (Pool zone count blocks) w places client answer new = IsPoolOn count blocks w places client answer new
 IsWorkOn _ w places client answer new = ⊥
 
--- a command that works by threads, and any other
+-- the same over the world of a machine, if it has one
 abbrev pub IsWorkStep : Command → Option WorldState → ℕ → Client → Reply → Threaded → Type 0
 IsWorkStep command None places client answer new = ⊥
 IsWorkStep command (Some w) places client answer new = IsWorkOn command w places client answer new
 
+-- a command where no zone is broken: by threads, or as on one thread
 abbrev pub IsStepBy : Bool → Threaded → Command → Reply → Threaded → Type 0
-IsStepBy true old command answer new = IsWorkStep command old.serial.world old.serial.places old.client answer new
-IsStepBy false old command answer new = IsStep old.serial command answer new.serial × (new.broken ≡ None) × (new.client ≡ old.client)
+IsStepBy true old command answer new = IsWorkStep command old.single.world old.single.places old.client answer new
+IsStepBy false old command answer new = IsStep old.single command answer new.single × (new.broken ≡ None) × (new.client ≡ old.client)
 
 -- the number by which a command on a zone is refused where a zone with this number is broken
 abbrev pub broken_refusal : ℕ → ℕ → ℕ
@@ -181,14 +182,16 @@ broken_reply number (Compact zone) = reply.Refused (broken_refusal number zone)
 broken_reply number (Pool zone count blocks) = reply.Refused (broken_refusal number zone)
 broken_reply number (During zone) = reply.Refused (broken_refusal_at number (zone_of zone))
 
--- the one reply to a command, and the machine behind it
+-- a command where the zone with this number is broken, or none is
 abbrev pub IsStepAt : Option ℕ → Threaded → Command → Reply → Threaded → Type 0
-IsStepAt None old command answer new = IsStepBy (is_threaded command old.serial.world) old command answer new
+IsStepAt None old command answer new = IsStepBy (is_threaded command old.single.world) old command answer new
 IsStepAt (Some number) old command answer new = (answer ≡ broken_reply number command) × (new ≡ old)
 
+-- a command, where a zone is broken or none is: its reply, and the machine behind it
 abbrev pub IsReplyStep : Threaded → Command → Reply → Threaded → Type 0
 IsReplyStep old command answer new = IsStepAt old.broken old command answer new
 
+-- one reply to a command, with the number of its line
 pub record IsOneReply (old : Threaded) (c : Numbered) (answers : List Answer) (new : Threaded) : Type 0 where
   pub reply : Reply
   pub one : answers ≡ record { line = c.line; reply = reply } ∷ []
@@ -208,7 +211,7 @@ pub record IsRoundBeside (w : WorldState) (old : Threaded) (c : Numbered) (answe
   pub answers_are : answers ≡ told ++ record { line = c.line; reply = own } ∷ []
   pub clients : AreClientAnswers old.client c.clients told client
   pub settled : IsSettledReply over.zone client over.result own
-  pub left : new ≡ left_behind old.serial.places client over
+  pub left : new ≡ left_behind old.single.places client over
 
 -- the client's thread can't be started: nothing ran, and that is the one reply
 pub record IsUnstarted (w : WorldState) (old : Threaded) (c : Numbered) (answers : List Answer) (new : Threaded) : Type 0 where
@@ -216,7 +219,7 @@ pub record IsUnstarted (w : WorldState) (old : Threaded) (c : Numbered) (answers
   pub kept : IsKept zone
   pub shape : HasShape w.zone.number w.zone.blocks zone
   pub one : answers ≡ record { line = c.line; reply = reply.Refused 32 } ∷ []
-  pub left : new ≡ left_by old.serial.places old.client zone w.scan w.ends (audit_refusal zone w.ends)
+  pub left : new ≡ left_by old.single.places old.client zone w.scan w.ends (audit_refusal zone w.ends)
 
 -- whether a command is a block for the zone that is open, while no round is open by hand
 abbrev pub IsBlockFor : Command → Option WorldState → Type 0
@@ -226,9 +229,9 @@ IsBlockFor _ world = ⊥
 -- a block whose client lines may run
 pub record IsBlockStep (old : Threaded) (c : Numbered) (answers : List Answer) (new : Threaded) : Type 0 where
   pub world : WorldState
-  pub there : old.serial.world ≡ Some world
+  pub there : old.single.world ≡ Some world
   pub whole : old.broken ≡ None
-  pub block : IsBlockFor c.command old.serial.world
+  pub block : IsBlockFor c.command old.single.world
   pub ran : IsRoundBeside world old c answers new ⊎ IsUnstarted world old c answers new
 
 -- The replies to a command and its client lines, and the machine behind them. A block may always be answered by one reply, as on one thread:
@@ -236,11 +239,12 @@ pub record IsBlockStep (old : Threaded) (c : Numbered) (answers : List Answer) (
 abbrev pub IsThreadedStep : Threaded → Numbered → List Answer → Threaded → Type 0
 IsThreadedStep old c answers new = IsOneReply old c answers new ⊎ IsBlockStep old c answers new
 
--- a command asks for memory as on one thread, and a block for the receipts of its client besides, so that it has them where no thread is started
+-- the commands that may end a run for want of memory: one that opens a zone, and a block, whose client's receipts are copied before its
+-- thread is started; `compact` and `pool` tell of it by 31 in their reply
 abbrev pub AsksMemory : Threaded → Command → Type 0
-AsksMemory old command = (old.broken ≡ None) × (Opens old.serial command ⊎ IsBlockFor command old.serial.world)
+AsksMemory old command = (old.broken ≡ None) × (Opens old.single command ⊎ IsBlockFor command old.single.world)
 
--- a command is neither a round nor a pool, and no command of a script is
+-- a command is no round, pool or block; no command of a script is one of these
 abbrev pub IsUnthreaded : Command → Type 0
 IsUnthreaded (Compact zone) = ⊥
 IsUnthreaded (Pool zone count blocks) = ⊥

@@ -1,5 +1,5 @@
 ghost use Rattle.std.specs.Prelude.{◌≡◌, OnErr, OnOk};
-ghost use Rattle.machine_core.specs.Serial.{IsStep, Opens};
+ghost use Rattle.machine_core.specs.Single.{IsStep, Opens};
 ghost use Rattle.script_core.specs.Threaded.{Threaded};
 
 use frame_core::ZoneNo;
@@ -17,8 +17,8 @@ pub(crate) trait Alone {
 
     /// Puts the reply to a command as on one thread in place of the one there. It fails only for want of memory.
     fn reply_alone(&mut self, command: Command, reply: &mut Reply) -> Result<(), AllocError>
-        ensures ok { OnOk result (IsStep (seen self.old).serial command reply.new (seen self.new).serial) }
-        ensures memory { OnErr result (Opens (seen self.old).serial command) }
+        ensures ok { OnOk result (IsStep (seen self.old).single command reply.new (seen self.new).single) }
+        ensures memory { OnErr result (Opens (seen self.old).single command) }
         ensures broken { (seen self.new).broken ≡ (seen self.old).broken }
         ensures client { (seen self.new).client ≡ (seen self.old).client };
 }

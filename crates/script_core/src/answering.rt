@@ -34,15 +34,15 @@ impl<
     ghost ready = { λ now.
         ((old : _) (zone : _) → (A.seen old.now).broken ≡ None → R.pre now.round old zone)
         × ((old : _) (zone : _) (reply : _) (new : _) → (A.seen old.now).broken ≡ None → R.post now.round old zone reply new
-        → IsStepBy (is_threaded (Compact zone) (A.seen old.now).serial.world) (A.seen old.now) (Compact zone) reply (A.seen new.now))
+        → IsStepBy (is_threaded (Compact zone) (A.seen old.now).single.world) (A.seen old.now) (Compact zone) reply (A.seen new.now))
         × ((old : _) (zone : _) (count : _) (blocks : _) → (A.seen old.now).broken ≡ None → P.pre now.pool old zone count blocks)
         × ((old : _) (zone : _) (count : _) (blocks : _) (reply : _) (new : _) → (A.seen old.now).broken ≡ None
         → P.post now.pool old zone count blocks reply new
-        → IsStepBy (is_threaded (Pool zone count blocks) (A.seen old.now).serial.world) (A.seen old.now) (Pool zone count blocks) reply (A.seen new.now))
+        → IsStepBy (is_threaded (Pool zone count blocks) (A.seen old.now).single.world) (A.seen old.now) (Pool zone count blocks) reply (A.seen new.now))
         × ((old : _) (block : _) → (A.seen old.now).broken ≡ None → D.pre now.block old block)
         × ((old : _) (block : _) (result : _) (new : _) → (A.seen old.now).broken ≡ None → D.post now.block old block result new
         → IfOk result (λ answers. IsThreadedStep (A.seen old.now) (command_in_block block) answers (A.seen new.now))
-        × OnErr result (IsBlockFor (command_in_block block).command (A.seen old.now).serial.world)) };
+        × OnErr result (IsBlockFor (command_in_block block).command (A.seen old.now).single.world)) };
 
     fn respond(&mut self, command: Command, reply: &mut Reply) -> Result<(), AllocError> {
         if let Some(number) = self.machine.broken_zone() {

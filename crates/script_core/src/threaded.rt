@@ -30,8 +30,8 @@ use zone_core::{Audit, Blanks, Seats, Zone, ZoneError};
 /// How many rounds a pool may run.
 const POOL_ROUNDS: u32 = 4;
 
-/// What a script works on where there are threads: the machine as on one thread, the number of the zone that a round left with pages on
-/// their way, and the client whose calls are made beside rounds.
+/// What a script works on where there are threads: the machine as on one thread, the number of the zone that a round left so that no
+/// audit passes, and the client whose calls are made beside rounds.
 #[derive(Drop)]
 pub(crate) struct Threaded<I: Ledger, N: Ledger, M: Ledger, B: Ledger> {
     alloc: Global,
@@ -50,7 +50,7 @@ impl<I: Ledger, N: Ledger, M: Ledger, B: Ledger> Model for Threaded<I, N, M, B> 
 
     ghost coded = { Prim.hlevel (codes, plain_zone.the_row.coded) };
 
-    ghost view = { λ t. record { serial = t.machine; broken = t.broken; client = t.client } };
+    ghost view = { λ t. record { single = t.machine; broken = t.broken; client = t.client } };
 }
 
 impl<I: Ledger, N: Ledger, M: Ledger, B: Ledger> Threaded<I, N, M, B> {
@@ -93,7 +93,7 @@ impl<I: Ledger + Send + Sync, N: Ledger, M: Ledger + Send + Sync, B: Ledger + Se
     #[inline(never)]
     pub(crate) fn answer_compact<H: Threads + Wait + Sync>(&mut self, rt: &H, zone: ZoneNo) -> Reply
         requires whole { self.old.broken ≡ None }
-        ensures { IsStepBy (is_threaded (Command.Compact zone) self.old.serial.world) self.old (Command.Compact zone) result self.new }
+        ensures { IsStepBy (is_threaded (Command.Compact zone) self.old.single.world) self.old (Command.Compact zone) result self.new }
     {
         let Some(world) = self.machine.take_closed(zone) else {
             return self.machine.compact(zone);
@@ -111,7 +111,7 @@ impl<I: Ledger + Send + Sync, N: Ledger, M: Ledger + Send + Sync, B: Ledger + Se
         blocks: PoolBlocks,
     ) -> Reply
         requires whole { self.old.broken ≡ None }
-        ensures { IsStepBy (is_threaded (Command.Pool zone count blocks) self.old.serial.world) self.old (Command.Pool zone count blocks) result self.new }
+        ensures { IsStepBy (is_threaded (Command.Pool zone count blocks) self.old.single.world) self.old (Command.Pool zone count blocks) result self.new }
     {
         let Some(world) = self.machine.take_closed(zone) else {
             return self.machine.pool(zone, count, blocks);
@@ -128,7 +128,7 @@ impl<I: Ledger + Send + Sync, N: Ledger, M: Ledger + Send + Sync, B: Ledger + Se
     ) -> Result<Answers, AllocError>
         requires whole { self.old.broken ≡ None }
         ensures ok { IfOk result (λ answers. IsThreadedStep self.old (command_in_block block) answers self.new) }
-        ensures memory { OnErr result (IsBlockFor (command_in_block block).command self.old.serial.world) }
+        ensures memory { OnErr result (IsBlockFor (command_in_block block).command self.old.single.world) }
     {
         let Some(zone) = zone_of(block.zone()) else {
             return Ok(block.answered(Reply::Refused(1)));
@@ -142,10 +142,10 @@ impl<I: Ledger + Send + Sync, N: Ledger, M: Ledger + Send + Sync, B: Ledger + Se
 
     /// Runs a round over the zone of a world, which the machine gives for it.
     fn run_round<H: Threads + Wait + Sync>(&mut self, rt: &H, world: World<I, N, M, B>) -> Reply
-        requires given { self.old.serial.world ≡ None }
+        requires given { self.old.single.world ≡ None }
         requires whole { self.old.broken ≡ None }
         requires closed { world.is_open ≡ false }
-        ensures { IsRoundOn world self.old.serial.places self.old.client result self.new }
+        ensures { IsRoundOn world self.old.single.places self.old.client result self.new }
     {
         let Ok((zone, mut seats, rest)) = world.split() else {
             unreachable!()
@@ -163,7 +163,7 @@ impl<I: Ledger + Send + Sync, N: Ledger, M: Ledger + Send + Sync, B: Ledger + Se
         world: World<I, N, M, B>,
         block: Block,
     ) -> Result<Answers, AllocError>
-        requires given { self.old.serial.world ≡ None }
+        requires given { self.old.single.world ≡ None }
         requires whole { self.old.broken ≡ None }
         requires closed { world.is_open ≡ false }
         ensures { IfOk result (λ answers. IsRoundBeside world self.old (command_in_block block) answers self.new ⊎ IsUnstarted world self.old (command_in_block block) answers self.new) }
@@ -229,10 +229,10 @@ impl<I: Ledger + Send + Sync, N: Ledger, M: Ledger + Send + Sync, B: Ledger + Se
         count: BlockCount,
         blocks: PoolBlocks,
     ) -> Reply
-        requires given { self.old.serial.world ≡ None }
+        requires given { self.old.single.world ≡ None }
         requires whole { self.old.broken ≡ None }
         requires closed { world.is_open ≡ false }
-        ensures { IsPoolOn count blocks world self.old.serial.places self.old.client result self.new }
+        ensures { IsPoolOn count blocks world self.old.single.places self.old.client result self.new }
     {
         let Ok((zone, mut seats, rest)) = world.split() else {
             unreachable!()
@@ -261,15 +261,15 @@ impl<I: Ledger + Send + Sync, N: Ledger, M: Ledger + Send + Sync, B: Ledger + Se
 
     /// Takes a zone back with its seats. Where its audit fails it is dropped, and its number is kept.
     fn take_back(&mut self, mut zone: Zone<I, M, B>, mut seats: Seats<I, N, M, B>, rest: Rest)
-        requires given { self.old.serial.world ≡ None }
+        requires given { self.old.single.world ≡ None }
         requires whole { self.old.broken ≡ None }
         requires rest { rest ≡ zone.blocks }
-        ensures left { self.new ≡ left_by self.old.serial.places self.old.client zone seats.scan seats.ends (audit_refusal zone seats.ends) }
+        ensures left { self.new ≡ left_by self.old.single.places self.old.client zone seats.scan seats.ends (audit_refusal zone seats.ends) }
         ensures exact { 64 ≤ seats.ends.parts → seats.ends.moved + seats.ends.back ≡ seats.scan.count → audit_refusal zone seats.ends ≡ None }
     {
         let number = zone.number();
         match audit(&mut zone, &mut seats) {
-            Ok(_) => self.machine.put_back(World::join(zone, seats, rest)),
+            Ok(_) => self.machine.give_world(World::join(zone, seats, rest)),
             Err(_) => self.broken = Some(number),
         }
     }

@@ -27,7 +27,7 @@ module _ (v : ZoneState) (law : IsLawful v) (spare : length (out v.records) < v.
         in_use = law.in_use;
         out = refl;
         ways = λ p serial. (λ way. way, λ way. way);
-        given = λ first. refl;
+        handed = λ first. refl;
         marks = λ block. refl;
         swept = λ quiet. swept_loaded v client address word (law.swept (quiet_before v (Load client address word (value_at v address word)) law refl quiet));
       })
@@ -40,7 +40,7 @@ module _ (v : ZoneState) (law : IsLawful v) (spare : length (out v.records) < v.
     in_use = law.in_use;
     out = refl;
     ways = λ p serial. (λ way. way, λ way. way);
-    given = λ first. refl;
+    handed = λ first. refl;
     marks = λ block. refl;
     swept = λ quiet. swept_stored v client address word value (law.swept (quiet_before v (Store client address word value) law refl quiet));
   })

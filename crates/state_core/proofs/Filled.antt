@@ -8,7 +8,7 @@ use Rattle.std.proofs.lemmas.Bool.{not-true}
 use Rattle.frame_core.proofs.Searches.{count_same, count_from_same}
 use Rattle.frame_core.specs.Below.{one_if, count_below, count_from}
 use Rattle.state_core.specs.Packed.{IsPacked, is_unmarked, unmarked_free, whole_runs, free_runs, unmarked_whole, marked_whole}
-use Rattle.state_core.specs.Pairs.{is_marked, takes_movable}
+use Rattle.state_core.specs.Pairs.{is_marked, is_free_unmarked}
 use Rattle.state_core.specs.ZoneState.{ZoneState, frame_count, is_free, is_whole}
 use Rattle.state_core.proofs.Runs.{count_from_none, filled_runs, quotient, runs_most}
 
@@ -60,7 +60,7 @@ module _ (size rest : ℕ) (whole : size * rest ≡ 512) where
       filled_runs (is_unmarked v) (is_free v) size (frame_count v / size) (unmarked_free v) size_some
       (λ k h counted. packed.each k (omega (arith, runs_fill v.blocks)) (not-true (is_marked v k) counted))
       (λ i k h. ap (λ (block : ℕ). not (set.contains v.marked block)) (block_of_run i k h ∙ sym (first_of_run i)))
-      (ap (count_below (takes_movable v)) (runs_fill v.blocks)) where
+      (ap (count_below (is_free_unmarked v)) (runs_fill v.blocks)) where
         first_of_run : (i : ℕ) → (size * i) / 512 ≡ i / rest
         first_of_run i = let plain : size * i ≡ size * i + 0 = omega arith in ap (λ (m : ℕ). m / 512) plain ∙ block_of_run i 0 size_some
 
@@ -74,7 +74,7 @@ pub order_bounded : (p : ℕ → Bool) (blocks order : ℕ) → order ≤ 9 → 
 order_bounded p blocks order h = runs_bounded (2 ^ order) (2 ^ (9 - order)) (order_whole order h) p blocks
 
 pub runs_bound : (v : ZoneState) (order : ℕ) → order ≤ 9 → free_runs v (2 ^ order) ≤ unmarked_free v / 2 ^ order
-runs_bound v order h = order_bounded (takes_movable v) v.blocks order h
+runs_bound v order h = order_bounded (is_free_unmarked v) v.blocks order h
 
 -- whole pageblocks
 
@@ -124,7 +124,7 @@ module _ (v : ZoneState) where
   pub whole_is_runs : unmarked_whole v ≡ free_runs v 512
   whole_is_runs =
       let blocks : v.blocks ≡ frame_count v / 512 = omega arith in
-      count_same _ _ v.blocks (λ block h. block_is_run (is_free v) block) ∙ ap (whole_runs (takes_movable v) 512) blocks
+      count_same _ _ v.blocks (λ block h. block_is_run (is_free v) block) ∙ ap (whole_runs (is_free_unmarked v) 512) blocks
 
   pub packed_whole : IsPacked v → unmarked_whole v ≡ unmarked_free v / 512
   packed_whole packed = whole_is_runs ∙ packed_runs 512 1 (omega arith) v packed

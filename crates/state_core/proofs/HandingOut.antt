@@ -11,7 +11,7 @@ use Rattle.frame_core.proofs.Searches.{count_from_all, count_from_full, lowest_i
 use Rattle.frame_core.specs.Below.{lowest, one_if, some_below, count_from}
 use Rattle.frame_core.specs.Order.{is_aligned}
 use Rattle.journal_core.specs.declared.record.Record.TheVariants.{TakeHuge, GiveHuge}
-use Rattle.journal_core.specs.Blocks.{given_out}
+use Rattle.journal_core.specs.Blocks.{handed_out_by}
 use Rattle.journal_core.specs.Moves.{out}
 use Rattle.state_core.specs.declared.placement.Placement.TheVariants.{At}
 use Rattle.state_core.specs.Clear.{BlocksAreClear}
@@ -152,10 +152,10 @@ module _ (v : ZoneState) (first order : ℕ) (run : is_run v order first ≡ tru
       | inr x ↦ elim (covers_taken b frame f) [ inl y ↦ absurd (uncovered a frame y.1 x.1) | inr y ↦ law.disjoint a b frame x.1 y.1 ]
     ]
 
-    given_taken : (f : ℕ) → map.get taken.handed_out f ≡ given_out (TakeHuge first order ∷ v.records) f
-    given_taken f = elim (eqb_tells f first) [
-      | inl same ↦ get_insert_same v.handed_out first f order same.1 ∙ sym (cond-true (nat_eq first f) (Some order) (given_out v.records f) (eq-eqb first f (sym same.1)))
-      | inr other ↦ get_insert_other v.handed_out first f order other.1 ∙ law.given f ∙ sym (cond-false (nat_eq first f) (Some order) (given_out v.records f) (ne_eqb first f (λ e. other.1 (sym e))))
+    handed_taken : (f : ℕ) → map.get taken.handed_out f ≡ handed_out_by (TakeHuge first order ∷ v.records) f
+    handed_taken f = elim (eqb_tells f first) [
+      | inl same ↦ get_insert_same v.handed_out first f order same.1 ∙ sym (cond-true (nat_eq first f) (Some order) (handed_out_by v.records f) (eq-eqb first f (sym same.1)))
+      | inr other ↦ get_insert_other v.handed_out first f order other.1 ∙ law.handed f ∙ sym (cond-false (nat_eq first f) (Some order) (handed_out_by v.records f) (ne_eqb first f (λ e. other.1 (sym e))))
     ]
 
     pub lawful_block_taken : IsLawful (block_taken v first order)
@@ -175,7 +175,7 @@ module _ (v : ZoneState) (first order : ℕ) (run : is_run v order first ≡ tru
       clear = clear_taken;
       blocks = blocks_taken;
       disjoint = disjoint_taken;
-      given = given_taken;
+      handed = handed_taken;
       marks = law.marks;
       unmovable = law.unmovable;
       fingers = law.fingers;
@@ -246,10 +246,10 @@ module _ (v : ZoneState) (law : IsLawful v) (first order : ℕ) (at : map.get v.
       and_from _ _ block_of_zone
       (eq-eqb _ _ (count_from_all (is_free given) first (2 ^ order) (λ frame low high. free_given_in frame (in_block_from first order frame low high))))
 
-  given_fewer : (f : ℕ) → map.get given.handed_out f ≡ given_out (GiveHuge first order ∷ v.records) f
-  given_fewer f = elim (eqb_tells f first) [
-    | inl same ↦ get_remove_same v.handed_out first f same.1 ∙ sym (cond-true (nat_eq first f) None (given_out v.records f) (eq-eqb first f (sym same.1)))
-    | inr other ↦ get_remove_other v.handed_out first f other.1 ∙ law.given f ∙ sym (cond-false (nat_eq first f) None (given_out v.records f) (ne_eqb first f (λ e. other.1 (sym e))))
+  handed_fewer : (f : ℕ) → map.get given.handed_out f ≡ handed_out_by (GiveHuge first order ∷ v.records) f
+  handed_fewer f = elim (eqb_tells f first) [
+    | inl same ↦ get_remove_same v.handed_out first f same.1 ∙ sym (cond-true (nat_eq first f) None (handed_out_by v.records f) (eq-eqb first f (sym same.1)))
+    | inr other ↦ get_remove_other v.handed_out first f other.1 ∙ law.handed f ∙ sym (cond-false (nat_eq first f) None (handed_out_by v.records f) (ne_eqb first f (λ e. other.1 (sym e))))
   ]
 
   blocks_given : (f o : ℕ) → map.get given.handed_out f ≡ Some o → IsBlock (frame_count v) f o
@@ -275,7 +275,7 @@ module _ (v : ZoneState) (law : IsLawful v) (first order : ℕ) (at : map.get v.
     clear = λ page frame e. (or_parts _ _ (sym (held_given frame) ∙ law.clear page frame e)).0;
     blocks = blocks_given;
     disjoint = λ a b frame e f. law.disjoint a b frame (covers_given a frame e).1 (covers_given b frame f).1;
-    given = given_fewer;
+    handed = handed_fewer;
     marks = law.marks;
     unmovable = law.unmovable;
     fingers = law.fingers;

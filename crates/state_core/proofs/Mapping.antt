@@ -153,7 +153,7 @@ module _ (v : ZoneState) (client : ℕ) (address : Address) (unmovable : Bool) (
         own_way = λ serial. (λ under. cc, λ way. absurd (both_ways _ (ap (λ o. is_under o serial) can.unused) ((law.under_way page serial).1 way)));
         other_ways = λ q serial ne. (λ way. way, λ way. way);
         ways = ap (λ o. length (out v.records) + places.ways_of o) can.unused;
-        given = λ first. refl;
+        handed = λ first. refl;
         marks = λ block. refl;
         stay = stay unmovable;
       }

@@ -42,7 +42,7 @@ module _ (v : ZoneState) (law : IsLawful v) (spare : length (out v.records) < v.
     clear = law.clear;
     blocks = law.blocks;
     disjoint = law.disjoint;
-    given = law.given;
+    handed = law.handed;
     marks = marks_more;
     unmovable = law.unmovable;
     fingers = law.fingers;
@@ -68,7 +68,7 @@ module _ (v : ZoneState) (law : IsLawful v) (spare : length (out v.records) < v.
     clear = law.clear;
     blocks = law.blocks;
     disjoint = law.disjoint;
-    given = law.given;
+    handed = law.handed;
     marks = marks_fewer;
     unmovable = law.unmovable;
     fingers = law.fingers;

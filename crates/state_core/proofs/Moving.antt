@@ -6,7 +6,7 @@ use Rattle.frame_core.specs.declared.place.Address.{Address}
 use Rattle.journal_core.specs.declared.record.Cause.{Cause}
 use Rattle.journal_core.specs.declared.record.Record.{Record}
 use Rattle.journal_core.specs.declared.record.Record.TheVariants.{Isolate, Moved, Back}
-use Rattle.journal_core.specs.Blocks.{given_out, is_marked_by}
+use Rattle.journal_core.specs.Blocks.{handed_out_by, is_marked_by}
 use Rattle.journal_core.specs.History.{page_at, last, dirty, pins, maps}
 use Rattle.journal_core.specs.Moves.{out, IsWellEnded}
 use Rattle.journal_core.specs.Truth.{IsTruthful}
@@ -28,17 +28,17 @@ pub record IsStill (records : List Record) (entry : Record) : Type 0 where
   pub dirty : (page : ℕ) → dirty (entry ∷ records) page ≡ dirty records page
   pub pins : (page : ℕ) → pins (entry ∷ records) page ≡ pins records page
   pub maps : (page : ℕ) → maps (entry ∷ records) page ≡ maps records page
-  pub given : (first : ℕ) → given_out (entry ∷ records) first ≡ given_out records first
+  pub handed : (first : ℕ) → handed_out_by (entry ∷ records) first ≡ handed_out_by records first
   pub marks : (block : ℕ) → is_marked_by (entry ∷ records) block ≡ is_marked_by records block
 
 pub isolate_still : (records : List Record) (serial page : ℕ) → IsStill records (Isolate serial page)
-isolate_still records serial page = record { names = λ a. refl; last = λ p w. refl; dirty = λ p. refl; pins = λ p. refl; maps = λ p. refl; given = λ f. refl; marks = λ b. refl }
+isolate_still records serial page = record { names = λ a. refl; last = λ p w. refl; dirty = λ p. refl; pins = λ p. refl; maps = λ p. refl; handed = λ f. refl; marks = λ b. refl }
 
 pub moved_still : (records : List Record) (serial : ℕ) → IsStill records (Moved serial)
-moved_still records serial = record { names = λ a. refl; last = λ p w. refl; dirty = λ p. refl; pins = λ p. refl; maps = λ p. refl; given = λ f. refl; marks = λ b. refl }
+moved_still records serial = record { names = λ a. refl; last = λ p w. refl; dirty = λ p. refl; pins = λ p. refl; maps = λ p. refl; handed = λ f. refl; marks = λ b. refl }
 
 pub back_still : (records : List Record) (serial : ℕ) (cause : Cause) → IsStill records (Back serial cause)
-back_still records serial cause = record { names = λ a. refl; last = λ p w. refl; dirty = λ p. refl; pins = λ p. refl; maps = λ p. refl; given = λ f. refl; marks = λ b. refl }
+back_still records serial cause = record { names = λ a. refl; last = λ p w. refl; dirty = λ p. refl; pins = λ p. refl; maps = λ p. refl; handed = λ f. refl; marks = λ b. refl }
 
 -- what the record of a move has to bring
 pub record IsRecorded (v : ZoneState) (entry : Record) (page : ℕ) (new : Placement) : Type 0 where
@@ -76,7 +76,7 @@ module _ {v : ZoneState} {page : ℕ} {old new : Placement} (can : CanSettle v p
         own_way = recorded.own_way;
         other_ways = recorded.other_ways;
         ways = recorded.ways;
-        given = still.given;
+        handed = still.handed;
         marks = still.marks;
         stay = λ q e. some_same q ∙ law.unmovable q e;
       })

@@ -5,7 +5,7 @@ use Rattle.std.specs.FinMap as map
 use Rattle.frame_core.specs.Address.{InRange}
 use Rattle.frame_core.specs.declared.place.Address.{Address}
 use Rattle.journal_core.specs.declared.record.Record.{Record}
-use Rattle.journal_core.specs.Blocks.{given_out, is_marked_by}
+use Rattle.journal_core.specs.Blocks.{handed_out_by, is_marked_by}
 use Rattle.journal_core.specs.History.{page_at, maps, pins}
 use Rattle.journal_core.specs.Moves.{out, IsWellEnded}
 use Rattle.journal_core.specs.Truth.{IsTruthful}
@@ -23,7 +23,7 @@ pub record IsNoted (v : ZoneState) (entry : Record) : Type 0 where
   pub in_use : (page : ℕ) → IsSome (map.get v.placement page) → (0 < maps (entry ∷ v.records) page) × (maps (entry ∷ v.records) page ≤ 4) × (pins (entry ∷ v.records) page ≤ 255)
   pub out : out (entry ∷ v.records) ≡ out v.records
   pub ways : (page serial : ℕ) → IsOutWith v.records page serial ↔ IsOutWith (entry ∷ v.records) page serial
-  pub given : (first : ℕ) → given_out (entry ∷ v.records) first ≡ given_out v.records first
+  pub handed : (first : ℕ) → handed_out_by (entry ∷ v.records) first ≡ handed_out_by v.records first
   pub marks : (block : ℕ) → is_marked_by (entry ∷ v.records) block ≡ is_marked_by v.records block
   pub swept : SweptIfQuiet (noted v entry)
 
@@ -46,7 +46,7 @@ lawful_noted v law entry spare told =
       clear = law.clear;
       blocks = law.blocks;
       disjoint = law.disjoint;
-      given = λ first. law.given first ∙ sym (told.given first);
+      handed = λ first. law.handed first ∙ sym (told.handed first);
       marks = λ block. law.marks block ∙ sym (told.marks block);
       unmovable = law.unmovable;
       fingers = law.fingers;

@@ -63,7 +63,7 @@ module _ (number blocks places : ℕ) where
     clear = λ page frame h. absurd (both_ways _ (untaken page frame) h);
     blocks = λ first order e. absurd (none-some _ (sym (no_block first) ∙ e));
     disjoint = λ a b frame h k. absurd (both_ways _ (uncovered a frame) h);
-    given = no_block;
+    handed = no_block;
     marks = set.contains-empty nat_cmp;
     unmovable = λ page e. absurd (both_ways _ (set.contains-empty nat_cmp page) e);
     fingers = (omega arith, omega arith);

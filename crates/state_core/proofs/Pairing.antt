@@ -6,7 +6,7 @@ use Rattle.std.proofs.lemmas.Option.{same_Some, none-some}
 use Rattle.frame_core.proofs.Searches.{lowest_is, lowest_some, lowest_before}
 use Rattle.state_core.specs.declared.round.Pair.{Pair}
 use Rattle.state_core.specs.Lawful.{IsLawful}
-use Rattle.state_core.specs.Pairs.{IsSource, IsTarget, IsPair, HaveMet, is_marked, can_move, can_move_if_some, holder, holds_movable, takes_movable, next_source, next_target, pair_from, pair_at, next_pair}
+use Rattle.state_core.specs.Pairs.{IsSource, IsTarget, IsPair, HaveMet, is_marked, can_move, can_move_if_some, holder, holds_movable, is_free_unmarked, next_source, next_target, pair_from, pair_at, next_pair}
 use Rattle.state_core.specs.ZoneState.{ZoneState, frame_count, is_free}
 use Rattle.state_core.proofs.Highest.{highest_is, highest_some, highest_above}
 use Rattle.state_core.proofs.Holding.{holder_at, holder_found}
@@ -22,7 +22,7 @@ abbrev pub is_from : ZoneState → ℕ → Bool
 is_from v frame = nat_le v.migrate frame && holds_movable v frame
 
 abbrev pub is_to : ZoneState → ℕ → ℕ → Bool
-is_to v source frame = nat_lt source frame && takes_movable v frame
+is_to v source frame = nat_lt source frame && is_free_unmarked v frame
 
 module _ (v : ZoneState) (law : IsLawful v) where
   pub source_passes : (page frame : ℕ) → IsSource v page frame → is_from v frame ≡ true
@@ -55,7 +55,7 @@ module _ (v : ZoneState) (law : IsLawful v) where
 
   passes_target : (source frame : ℕ) → frame < v.free → is_to v source frame ≡ true → IsTarget v source frame
   passes_target source frame high e =
-      let parts = and_parts (nat_lt source frame) (takes_movable v frame) e in
+      let parts = and_parts (nat_lt source frame) (is_free_unmarked v frame) e in
       let inner = and_parts (not (is_marked v frame)) (is_free v frame) parts.1 in
       record {
         free = inner.1;

@@ -46,7 +46,7 @@ module _ (v : ZoneState) (client : ℕ) (address : Address) (page : ℕ) (named 
           ];
       out = refl;
       ways = λ p serial. (λ way. way, λ way. way);
-      given = λ first. refl;
+      handed = λ first. refl;
       marks = λ block. refl;
       swept = swept_ended v (pinned v client address) (Pin client address) law refl refl refl;
     })
@@ -59,7 +59,7 @@ module _ (v : ZoneState) (client : ℕ) (address : Address) (page : ℕ) (named 
       in_use = λ q used. (let before = law.in_use q used in (before.0, before.1, omega (arith, before.2)));
       out = refl;
       ways = λ p serial. (λ way. way, λ way. way);
-      given = λ first. refl;
+      handed = λ first. refl;
       marks = λ block. refl;
       swept = swept_ended v (unpinned v client address) (Unpin client address) law refl refl refl;
     })

@@ -11,7 +11,7 @@ use Rattle.frame_core.specs.Address.{InRange}
 use Rattle.frame_core.specs.Below.{one_if, some_below, count_below}
 use Rattle.frame_core.specs.declared.place.Address.{Address}
 use Rattle.journal_core.specs.declared.record.Record.{Record}
-use Rattle.journal_core.specs.Blocks.{given_out, is_marked_by}
+use Rattle.journal_core.specs.Blocks.{handed_out_by, is_marked_by}
 use Rattle.journal_core.specs.History.{page_at, maps, pins}
 use Rattle.journal_core.specs.Moves.{out, is_out, page_of, IsWellEnded}
 use Rattle.journal_core.specs.Truth.{IsTruthful}
@@ -222,7 +222,7 @@ module _ {v : ZoneState} {page : ℕ} {old new : Option Placement} (can : CanCha
     ap (λ (o : Option Placement). one_if (is_some o)) can.at,
   )
 
--- what the record of a call that changes the place of a page has to bring, with the pages that can't be moved then
+-- what the record of a call that changes the place of a page has to bring, with the pages that are noted as unmovable then
 pub record IsTold (v : ZoneState) (page : ℕ) (new : Option Placement) (entry : Record) (unmovable : set.FinSet nat_cmp) : Type 0 where
   pub truthful : IsTruthful (entry ∷ v.records)
   pub well_ended : IsWellEnded (entry ∷ v.records)
@@ -234,7 +234,7 @@ pub record IsTold (v : ZoneState) (page : ℕ) (new : Option Placement) (entry :
   pub own_way : (serial : ℕ) → IsTrue (is_under new serial) ↔ IsOutWith (entry ∷ v.records) page serial
   pub other_ways : (q serial : ℕ) → q ≢ page → IsOutWith v.records q serial ↔ IsOutWith (entry ∷ v.records) q serial
   pub ways : length (out (entry ∷ v.records)) + ways_of (map.get v.placement page) ≡ length (out v.records) + ways_of new
-  pub given : (first : ℕ) → given_out (entry ∷ v.records) first ≡ given_out v.records first
+  pub handed : (first : ℕ) → handed_out_by (entry ∷ v.records) first ≡ handed_out_by v.records first
   pub marks : (block : ℕ) → is_marked_by (entry ∷ v.records) block ≡ is_marked_by v.records block
   pub stay : (q : ℕ) → set.contains unmovable q ≡ true → IsSome (map.get (put v.placement page new) q)
 
@@ -274,7 +274,7 @@ module _ {v : ZoneState} {page : ℕ} {old new : Option Placement} (can : CanCha
         clear = geometry.clear;
         blocks = law.blocks;
         disjoint = law.disjoint;
-        given = λ first. law.given first ∙ sym (told.given first);
+        handed = λ first. law.handed first ∙ sym (told.handed first);
         marks = λ block. law.marks block ∙ sym (told.marks block);
         unmovable = told.stay;
         fingers = fingers;

@@ -73,7 +73,7 @@ module _ (v : ZoneState) (client : ℕ) (address alias : Address) (page frame : 
             ];
         out = refl;
         ways = λ p serial. (λ way. way, λ way. way);
-        given = λ first. refl;
+        handed = λ first. refl;
         marks = λ block. refl;
         swept = swept_ended v next (Share client address alias) law refl refl refl;
       })

@@ -79,7 +79,7 @@ module _ (v : ZoneState) (client : ℕ) (address : Address) (page frame : ℕ) (
             ];
         out = refl;
         ways = λ p serial. (λ way. way, λ way. way);
-        given = λ first. refl;
+        handed = λ first. refl;
         marks = λ block. refl;
         swept = swept_ended v after (Unmap client address) law refl refl refl;
       })
@@ -141,7 +141,7 @@ module _ (v : ZoneState) (client : ℕ) (address : Address) (page frame : ℕ) (
         own_way = λ serial. (λ under. cc, λ way. absurd (both_ways _ (ap (λ o. is_under o serial) can.at) ((law.under_way page serial).1 way)));
         other_ways = λ q serial ne. (λ way. way, λ way. way);
         ways = ap (λ o. length (out v.records) + ways_of o) can.at;
-        given = λ first. refl;
+        handed = λ first. refl;
         marks = λ block. refl;
         stay = λ q e. elim (eqb_tells q page) [
           | inl same ↦ absurd (both_ways _ (contains_remove_same v.unmovable page q same.1) e)

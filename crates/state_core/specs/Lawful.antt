@@ -5,7 +5,7 @@ use Rattle.std.specs.FinSet as set
 use Rattle.frame_core.specs.Below.{count_below}
 use Rattle.frame_core.specs.Address.{InRange}
 use Rattle.frame_core.specs.declared.place.Address.{Address}
-use Rattle.journal_core.specs.Blocks.{given_out, is_marked_by}
+use Rattle.journal_core.specs.Blocks.{handed_out_by, is_marked_by}
 use Rattle.journal_core.specs.History.{page_at, maps, pins}
 use Rattle.journal_core.specs.Moves.{out, is_out, page_of, IsWellEnded}
 use Rattle.journal_core.specs.Truth.{IsTruthful}
@@ -53,8 +53,8 @@ pub record IsLawful (z : ZoneState) : Type 0 where
   -- the blocks that are handed out are blocks of the zone, and no two overlap
   pub blocks : (first order : ℕ) → map.get z.handed_out first ≡ Some order → IsBlock (frame_count z) first order
   pub disjoint : (a b frame : ℕ) → covers (map.get z.handed_out a) a frame ≡ true → covers (map.get z.handed_out b) b frame ≡ true → a ≡ b
-  -- the blocks handed out and the marks are those that the journal tells of, and a page that can't be moved is in use
-  pub given : (first : ℕ) → map.get z.handed_out first ≡ given_out z.records first
+  -- the blocks handed out and the marks are those that the journal tells of, and a page that is noted as unmovable is in use
+  pub handed : (first : ℕ) → map.get z.handed_out first ≡ handed_out_by z.records first
   pub marks : (block : ℕ) → set.contains z.marked block ≡ is_marked_by z.records block
   pub unmovable : (page : ℕ) → set.contains z.unmovable page ≡ true → IsSome (map.get z.placement page)
   -- the fingers stand in the zone, in order, and the latest round began with records that are still there

@@ -5,7 +5,7 @@ use Rattle.std.specs.FinSet as set
 use Rattle.frame_core.specs.Below.{count_below, count_from, some_below}
 use Rattle.state_core.specs.declared.placement.Placement.{Placement}
 use Rattle.state_core.specs.declared.placement.Placement.TheVariants.{At, Moving}
-use Rattle.state_core.specs.Pairs.{is_marked, takes_movable}
+use Rattle.state_core.specs.Pairs.{is_marked, is_free_unmarked}
 use Rattle.state_core.specs.ZoneState.{ZoneState, frame_count, is_free, is_held, is_whole}
 
 -- whether a frame stands in no marked pageblock
@@ -18,7 +18,7 @@ place_of z frame = count_below (is_unmarked z) frame
 
 -- how many frames of unmarked pageblocks are free
 abbrev pub unmarked_free : ZoneState → ℕ
-unmarked_free z = count_below (takes_movable z) (frame_count z)
+unmarked_free z = count_below (is_free_unmarked z) (frame_count z)
 
 -- the frame in place i is free just where i is below the number of free ones
 pub record IsPacked (z : ZoneState) : Type 0 where
@@ -30,7 +30,7 @@ whole_runs p size n = count_below (λ i. nat_eq (count_from p (size * i) size) s
 
 -- how many aligned runs of so many frames of unmarked pageblocks are free
 abbrev pub free_runs : ZoneState → ℕ → ℕ
-free_runs z size = whole_runs (takes_movable z) size (frame_count z / size)
+free_runs z size = whole_runs (is_free_unmarked z) size (frame_count z / size)
 
 -- how many unmarked pageblocks are whole
 abbrev pub unmarked_whole : ZoneState → ℕ

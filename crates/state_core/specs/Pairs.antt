@@ -65,8 +65,8 @@ abbrev pub holds_movable : ZoneState → ℕ → Bool
 holds_movable z frame = not (is_marked z frame) && can_move_if_some z (holder z frame)
 
 -- whether a frame is free, in an unmarked pageblock
-abbrev pub takes_movable : ZoneState → ℕ → Bool
-takes_movable z frame = not (is_marked z frame) && is_free z frame
+abbrev pub is_free_unmarked : ZoneState → ℕ → Bool
+is_free_unmarked z frame = not (is_marked z frame) && is_free z frame
 
 -- the lowest source
 abbrev pub next_source : ZoneState → Option ℕ
@@ -74,7 +74,7 @@ next_source z = lowest (λ frame. nat_le z.migrate frame && holds_movable z fram
 
 -- the highest target of a source
 abbrev pub next_target : ZoneState → ℕ → Option ℕ
-next_target z source = highest (λ frame. nat_lt source frame && takes_movable z frame) z.free
+next_target z source = highest (λ frame. nat_lt source frame && is_free_unmarked z frame) z.free
 
 -- a source with its page and its target, if it has both
 abbrev pub pair_from : ℕ → Option ℕ → Option ℕ → Option Pair

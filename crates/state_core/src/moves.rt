@@ -6,7 +6,7 @@ use word_core::Isolated;
 pub enum Next {
     /// A page, which is on its way from here on.
     Page(Isolated),
-    /// The fingers met: there is no page left that has a frame to go to.
+    /// The scanners met: no pair is left between the fingers.
     Met,
 }
 

@@ -1,4 +1,4 @@
-//! Which addresses have an entry, by walks over all entries: for tests and audits.
+//! Which addresses have an entry, by walks over all entries: for tests that compare them with the lists.
 
 ghost use Rattle.std.specs.Prelude.{◌≡◌, ◌≢◌, ℕ, ◌<◌, ◌≤◌, List, length, IfSome, IfNone};
 ghost use Rattle.frame_core.specs.Address.{InRange};

@@ -133,7 +133,7 @@ call_on z c = calls_on z (option_map One c)
 abbrev pub series_on : Option ℕ → Option Series → Command
 series_on z s = calls_on z (option_map SeriesOf s)
 
--- the calls that a client may make by itself; one whose argument is out of its range is None
+-- the calls that a client may make by itself: None where there is no such row, Some None where an argument is out of its range
 abbrev pub client_row : Token → List Token → Option (Option Call)
 client_row Map (Number s ∷ Number v ∷ []) = Some (map_call (address_of s v) false)
 client_row Map (Number s ∷ Number v ∷ Unmovable ∷ []) = Some (map_call (address_of s v) true)

@@ -22,9 +22,9 @@ abbrev pub counts_text : Info → List ℕ
 counts_text i = codes "free=" ++ decimal i.free ++ codes " pages=" ++ decimal i.pages ++ codes " moving=" ++ decimal i.moving
     ++ codes " huge=" ++ decimal i.huge ++ codes " whole=" ++ decimal i.whole
 
--- 1 where something is so, and 0 where not
-abbrev pub one_if : Bool → List ℕ
-one_if b = decimal (if b then 1 else 0)
+-- what is told of a flag: 1 where it is set, and 0 where not
+abbrev pub flag_text : Bool → List ℕ
+flag_text b = decimal (if b then 1 else 0)
 
 -- the pins of a page, and the addresses that name it
 abbrev pub uses_text : ℕ → ℕ → List ℕ
@@ -33,8 +33,8 @@ uses_text pins maps = codes " pins=" ++ decimal pins ++ codes " maps=" ++ decima
 -- what is known of a page, without a newline
 abbrev pub look_text : Look → List ℕ
 look_text (At frame flags pins maps) =
-    codes "frame=" ++ decimal frame ++ codes " dirty=" ++ one_if (is_dirty flags)
-    ++ codes " unmovable=" ++ one_if (is_unmovable flags) ++ uses_text pins maps
+    codes "frame=" ++ decimal frame ++ codes " dirty=" ++ flag_text (is_dirty flags)
+    ++ codes " unmovable=" ++ flag_text (is_unmovable flags) ++ uses_text pins maps
 look_text (Moving serial pins maps) = codes "moving serial=" ++ decimal serial ++ uses_text pins maps
 
 -- why a round stopped

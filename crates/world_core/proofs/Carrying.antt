@@ -14,12 +14,13 @@ use Rattle.journal_core.specs.History.{page_at}
 use Rattle.journal_core.specs.declared.record.Record.TheVariants.{Unmap}
 use Rattle.journal_core.specs.Moves.{isolated, out}
 use Rattle.word_core.specs.Page.{OnItsWay}
+use Rattle.word_core.specs.Serials.{serials_of}
 use Rattle.state_core.specs.declared.error.ZoneError.{ZoneError}
 use Rattle.state_core.specs.declared.error.ZoneError.TheVariants.{Range, JournalFull, Occupied, NoFrame}
 use Rattle.world_core.specs.declared.hand.Hand.TheVariants as hand
 use Rattle.world_core.specs.declared.hands.Held.{Held}
 use Rattle.world_core.specs.declared.hands.Held.TheVariants.{Nothing, Page, Copy}
-use Rattle.world_core.specs.Carried.{hand_as, page_held, copy_held, is_nothing, serials_of, world_of, IsCarried}
+use Rattle.world_core.specs.Carried.{hand_as, page_held, copy_held, is_nothing, world_of, IsCarried}
 use Rattle.state_core.specs.declared.moves.Next.TheVariants.{Page as Found, Met}
 use Rattle.state_core.specs.declared.round.Pair.{Pair}
 use Rattle.state_core.specs.declared.placement.Placement.{Placement}

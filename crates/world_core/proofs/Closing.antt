@@ -8,11 +8,12 @@ use Rattle.journal_core.specs.declared.record.Cause.TheVariants.{NotCopied}
 use Rattle.journal_core.specs.Moves.{out, is_out, page_of}
 use Rattle.journal_core.proofs.OnTheWay.{out_empty, none_out}
 use Rattle.word_core.specs.Page.{OnItsWay}
+use Rattle.word_core.specs.Serials.{serials_of}
 use Rattle.state_core.specs.declared.error.ZoneError.TheVariants.{Missing, Out}
 use Rattle.world_core.specs.declared.hand.Hand.TheVariants as hand
 use Rattle.world_core.specs.declared.hands.Held.{Held}
 use Rattle.world_core.specs.declared.hands.Held.TheVariants.{Nothing, Page, Copy}
-use Rattle.world_core.specs.Carried.{hand_as, is_nothing, serials_of, AreOwn, world_of, IsCarried, IsRest}
+use Rattle.world_core.specs.Carried.{hand_as, is_nothing, AreOwn, world_of, IsCarried, IsRest}
 use Rattle.state_core.specs.Lawful.{IsLawful}
 use Rattle.state_core.specs.Ending.{IsOwnCopy, put_back_to_source}
 use Rattle.zone_core.specs.Seats.{ScanSeat, EndSeat, audit_refusal}

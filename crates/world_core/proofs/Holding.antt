@@ -6,11 +6,12 @@ use Rattle.std.specs.Option.{option_and_then}
 use Rattle.journal_core.specs.declared.record.Cause.TheVariants.{Pinned}
 use Rattle.journal_core.specs.History.{pins}
 use Rattle.word_core.specs.Page.{OnItsWay}
+use Rattle.word_core.specs.Serials.{serials_of}
 use Rattle.world_core.specs.declared.hand.Hand.{Hand}
 use Rattle.world_core.specs.declared.hand.Hand.TheVariants as hand
 use Rattle.world_core.specs.declared.hands.Held.{Held}
 use Rattle.world_core.specs.declared.hands.Held.TheVariants.{Nothing, Page, Copy}
-use Rattle.world_core.specs.Carried.{hand_as, page_held, copy_held, is_nothing, held_at, serials_of, world_of, IsCarried}
+use Rattle.world_core.specs.Carried.{hand_as, page_held, copy_held, is_nothing, held_at, world_of, IsCarried}
 use Rattle.state_core.specs.Ending.{IsOwnCopy, committed, put_back_to_source, moved_to_target}
 use Rattle.zone_core.specs.Seats.{ScanSeat, EndSeat, seat_ended}
 use Rattle.world_core.specs.World.{WorldState, hand_of, with_hand, serial_in, page_in, copy_in, take_step, copy_step, finish_step, finished_as, finished_in, finished_by, taken_by}

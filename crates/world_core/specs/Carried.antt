@@ -1,6 +1,7 @@
 -- How the list and the hands of a world stand for its state, and what is true of them.
 use Rattle.std.specs.Prelude.{◌≡◌, ℕ, ◌-◌, ◌*◌, ◌/◌, ◌≤◌, Bool, true, false, List, [], map as each, slice_get, unwrap_or, Option, Some, None}
 use Rattle.word_core.specs.Page.{OnItsWay}
+use Rattle.word_core.specs.Serials.{serials_of}
 use Rattle.world_core.specs.declared.hand.Hand.{Hand}
 use Rattle.world_core.specs.declared.hand.Hand.TheVariants as hand
 use Rattle.world_core.specs.declared.hands.Held.{Held}
@@ -35,10 +36,6 @@ is_nothing _ = false
 abbrev pub held_at : List Held → ℕ → Held
 held_at hands k = unwrap_or (slice_get hands (k - 1)) Nothing
 
--- the serials of pages on their way, in their order
-abbrev pub serials_of : List OnItsWay → List ℕ
-serials_of list = each (λ p. p.serial) list
-
 -- each of these pages, or copies of pages, is one of the zone on its way
 abbrev pub AreOwn : ZoneState → List OnItsWay → Type 0
 AreOwn zone list = (i : ℕ) (p : OnItsWay) → slice_get list i ≡ Some p → IsOwnCopy zone p
@@ -48,7 +45,8 @@ abbrev pub world_of : ZoneState → ScanSeat → EndSeat → Bool → List OnIts
 world_of zone scan ends is_open list held =
     record { zone = zone; scan = scan; ends = ends; is_open = is_open; waiting = serials_of list; hands = each hand_as held }
 
--- what a world carries is of its zone, and its list has just the room for the pages that a round can isolate
+-- what a world carries is of its zone, and its list has just the room for the pages that a round can isolate: half of the 512 frames of
+-- each pageblock, since each page on its way takes two
 pub record IsCarried (zone : ZoneState) (scan : ScanSeat) (ends : EndSeat) (is_open : Bool) (list : List OnItsWay) (held : List Held) (capacity : ℕ) : Type 0 where
   pub orderly : IsOrderly (world_of zone scan ends is_open list held)
   pub waiting : AreOwn zone list

@@ -5,7 +5,8 @@ ghost use Rattle.std.specs.VecDeque.{deque_capacity};
 ghost use Rattle.journal_core.specs.Moves.{page_of};
 ghost use Rattle.state_core.specs.Lawful.{IsLawful};
 ghost use Rattle.state_core.specs.Ending.{IsOwnCopy};
-ghost use Rattle.world_core.specs.Carried.{serials_of, AreOwn};
+ghost use Rattle.word_core.specs.Serials.{serials_of};
+ghost use Rattle.world_core.specs.Carried.{AreOwn};
 ghost use Rattle.zone_core.specs.Seats.{seat_ended};
 ghost use Rattle.world_core.specs.World.{IsRising, finished_as, finished_in, all_put_back};
 

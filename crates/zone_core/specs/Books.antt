@@ -17,7 +17,7 @@ pub record AreFor (blanks : Blanks) (isolated isolated_parts rounds rounds_parts
   pub moved_is : IsFor blanks.moved.name blanks.moved.parts moved moved_parts
   pub back_is : IsFor blanks.back.name blanks.back.parts back back_parts
 
--- the share of isolated pages is whole, and the shares of ended pages are cut into 64 parts
+-- the share of isolated pages is whole, and the shares of ended pages are cut into 64 parts: so many seats may end moves at once
 pub record AreCut (isolated_parts moved_parts back_parts : ℕ) : Type 0 where
   pub isolated : isolated_parts ≡ 1
   pub moved : moved_parts ≡ 64

@@ -59,8 +59,8 @@ impl<I: Ledger, N: Ledger> Model for ScanSeat<I, N> {
     ghost invariant = { λ s. (s.isolated.parts ≡ 1) × (s.begun.parts ≡ 1) };
 }
 
-/// A seat of those who end moves. It counts the pages that were moved and put back with it. A zone opens with one of 64
-/// parts.
+/// A seat of those who end moves. It counts the pages that were moved and put back with it. A zone opens with one that has all
+/// 64 parts.
 #[derive(Drop)]
 pub struct EndSeat<M: Ledger, B: Ledger> {
     parts: u64,

@@ -250,8 +250,8 @@ impl<I: Ledger, M: Ledger, B: Ledger> Zone<I, M, B> {
         seat.begin();
     }
 
-    /// Takes the lowest page that may be moved, and the highest free frame above it, between the fingers: the page is on its
-    /// way from here on. The seat counts it, and notes each answer.
+    /// Takes the lowest page that may be moved, and the highest free frame above it, in unmarked pageblocks between the fingers: the page
+    /// is on its way from here on. The seat counts it, and notes each answer.
     ///
     /// Refused as JournalFull, which the seat notes too, where the journal hasn't two places more than there are pages on
     /// their way.
@@ -351,7 +351,8 @@ impl<I: Ledger, M: Ledger, B: Ledger> Zone<I, M, B> {
         Ok(())
     }
 
-    /// What is known of the page that an address names: its frame and flags, or its serial where it is on its way.
+    /// What is known of the page that an address names: its frame and flags, or its serial where it is on its way, and its pins and how
+    /// many addresses name it.
     ///
     /// Refused as Unmapped.
     pub fn look(&self, address: Address) -> Result<Look, ZoneError>

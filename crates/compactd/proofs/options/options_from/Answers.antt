@@ -7,7 +7,7 @@ use Rattle.clap.specs.Kinds.{HasKind}
 use Rattle.clap.specs.Faults.{is_simple_and_free}
 use Rattle.clap.proofs.OnLiterals.{clap_on_literals}
 use Rattle.clap.proofs.WalkLemmas.{one_text-rows}
-use Rattle.compactd.specs.CommandLine.{options_line, refusal_of, number_of, decimal}
+use Rattle.compactd.specs.CommandLine.{options_line, refusal_of, number_of, number_told}
 use Rattle.compactd.proofs.Found.{option_finds}
 use Rattle.compactd.proofs.options.options_from.Goals as goal
 
@@ -55,8 +55,8 @@ returns-clause-ok g c =
     let words = map g.S.AsStr.text c.args.words.now in
     let line = c.in_ok-command_line.ensures.options in
     let rows = (c.in_ok-matches.ensures.matches (ap is_simple line ∙ is_plain)).0 ∙ ap (λ (a : App). matches_of a words) line in
-    let read : (name : Text) (own : ℕ) → unwrap_or (option_map decimal (one_text (found_of c.in_ok-matches.matches) name)) own ≡ number_of words name own =
-    λ name own. ap (λ (o : Option Text). unwrap_or (option_map decimal o) own) (one_text-rows (found_of c.in_ok-matches.matches) name ∙ ap (one_of name) rows) in
+    let read : (name : Text) (own : ℕ) → unwrap_or (option_map number_told (one_text (found_of c.in_ok-matches.matches) name)) own ≡ number_of words name own =
+    λ name own. ap (λ (o : Option Text). unwrap_or (option_map number_told o) own) (one_text-rows (found_of c.in_ok-matches.matches) name ∙ ap (one_of name) rows) in
     let copiers = c.number.ensures.value ∙ read (codes "copiers") 2 in
     let capacity = c.number-2.ensures.value ∙ read (codes "capacity") 8 in
     let journal = c.number-3.ensures.value ∙ read (codes "journal") 65536 in

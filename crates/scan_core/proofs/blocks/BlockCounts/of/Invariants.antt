@@ -5,6 +5,6 @@ use Rattle.scan_core.proofs.blocks.BlockCounts.of.Given as goal
 
 abbrev pub invariant-loop-block : goal.invariant-loop-block
 invariant-loop-block l = record {
-  eight : length l.free ≡ 8;
-  each : (k : ℕ) → k < l.block → slice_get l.free k ≡ Some (free_in_block l.frames k);
+  eight : length l.counts ≡ 8;
+  each : (k : ℕ) → k < l.block → slice_get l.counts k ≡ Some (free_in_block l.frames k);
 }

@@ -7,6 +7,6 @@ pub returns : goal.returns
 returns c =
     let all : c.loop-block.block ≡ 8 = omega arith in
     record {
-      count = c.loop-block.invariant.so_far ∙ ap (count_below (is_all_free c.self.inside.free)) all
+      count = c.loop-block.invariant.so_far ∙ ap (count_below (is_all_free c.self.inside.counts)) all
           ∙ ap (λ (counts : List ℕ). count_below (is_all_free counts) 8) c.self.view_is;
     }

@@ -4,4 +4,4 @@ use Rattle.scan_core.specs.BlockCounts.{is_all_free}
 use Rattle.scan_core.proofs.blocks.BlockCounts.whole.Given as goal
 
 abbrev pub invariant-loop-block : goal.invariant-loop-block
-invariant-loop-block l = record { so_far : l.whole ≡ count_below (is_all_free l.self-inside.free) l.block; few : l.whole ≤ l.block }
+invariant-loop-block l = record { so_far : l.whole ≡ count_below (is_all_free l.self-inside.counts) l.block; few : l.whole ≤ l.block }

@@ -6,4 +6,4 @@ use Rattle.scan_core.proofs.Sounding.{stuck_by_set}
 use Rattle.scan_core.proofs.frames.Frames.is_any_stuck.Goals as goal
 
 pub returns : goal.returns
-returns c = c.is_any_unmarked.ensures ∙ stuck_by_set c.self.inside c.self.invariant c.args.marked.now ∙ ap (λ (frames : Frames). some_below (is_stuck frames.states frames.movable c.args.marked.now) (length frames.states)) c.self.view_is
+returns c = c.has_some_unmarked.ensures ∙ stuck_by_set c.self.inside c.self.invariant c.args.marked.now ∙ ap (λ (frames : Frames). some_below (is_stuck frames.states frames.movable c.args.marked.now) (length frames.states)) c.self.view_is

@@ -1,6 +1,6 @@
 use Rattle.std.proofs.Common.{ap, sym, ◌∙◌}
 use Rattle.text_core.specs.declared.command.Command.TheVariants.{Pool}
-use Rattle.machine_core.specs.Serial.{Serial}
+use Rattle.machine_core.specs.Single.{Single}
 use Rattle.script_core.specs.Threaded.{Threaded}
 use Rattle.script_core.proofs.Rounds.{threaded_step}
 use Rattle.script_core.proofs.threaded.Threaded.answer_pool.Goals as goal
@@ -9,8 +9,8 @@ pub returns : goal.returns
 returns g c =
     let given = c.in-Some.ensures.given in
     threaded_step c.args.self.now (Pool c.args.zone c.args.count c.args.blocks) c.run_pool.result c.run_pool.new.self c.in-Some.world _ _
-    (ap (λ (t : Threaded). t.serial.world) (sym c.self.view_is) ∙ given.0)
+    (ap (λ (t : Threaded). t.single.world) (sym c.self.view_is) ∙ given.0)
     given.1
-    (ap (λ (s : Serial). s.places) c.in-Some.ensures.left ∙ ap (λ (t : Threaded). t.serial.places) c.self.view_is)
+    (ap (λ (s : Single). s.places) c.in-Some.ensures.left ∙ ap (λ (t : Threaded). t.single.places) c.self.view_is)
     (ap (λ (t : Threaded). t.client) c.self.view_is)
     c.run_pool.ensures

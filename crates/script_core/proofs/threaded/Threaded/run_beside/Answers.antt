@@ -38,7 +38,7 @@ returns g c =
     c.in_ok-client.client both.client c.into_parts-lines.result.0.items both.answers.items c.settled_reply-own.result _
     (c.in_ok-client.ensures ∙ ap (λ (t : Threaded). t.client) c.self.view_is)
     c.into_parts-lines.ensures.clients
-    (ap (λ (t : Threaded). t.serial.places) c.self.view_is)
+    (ap (λ (t : Threaded). t.single.places) c.self.view_is)
     (search rules)
     (MatchOption-at_some _ _ both c.in-Some.is ran.ensures.played)
     c.settled_reply-own.ensures

@@ -10,7 +10,7 @@ returns g c =
     let report = c.reserve_alone-zone.result.1 in
     let collector = c.collector-collector in
     let reserved = c.reserve_alone-zone.ensures in
-    pool_done c.args.world c.args.self.now.client c.args.self.now.serial.places c.args.count c.args.blocks
+    pool_done c.args.world c.args.self.now.client c.args.self.now.single.places c.args.count c.args.blocks
     c.in-Ok.zone c.reserve_alone-zone.result.0 c.in-Ok.seats.scan seats.scan c.in-Ok.seats.ends seats.ends
     collector.result report c.pool_reply.result c.take_back.new.self
     c.in-Ok.ensures.zone c.in-Ok.ensures.scan c.in-Ok.ensures.ends c.in-Ok.ensures.whole

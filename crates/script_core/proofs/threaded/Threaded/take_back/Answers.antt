@@ -4,17 +4,17 @@ use Rattle.std.specs.Prelude.{IsOk}
 use Rattle.std.specs.Result.{result_err}
 use Rattle.state_core.specs.declared.error.ZoneError.{ZoneError}
 use Rattle.state_core.specs.declared.information.Audit.{Audit}
-use Rattle.machine_core.specs.Serial.{Serial}
+use Rattle.machine_core.specs.Single.{Single}
 use Rattle.script_core.specs.Threaded.{Threaded}
 use Rattle.script_core.proofs.Rounds.{left_broken, left_whole}
 use Rattle.script_core.proofs.threaded.Threaded.take_back.Goals as goal
 
 pub returns-in-Ok-clause-left : goal.returns-in-Ok-clause-left
 returns-in-Ok-clause-left g c =
-    left_whole c.args.self.now.serial.places c.args.self.now.client c.args.zone c.audit.new.zone c.args.seats.scan c.audit.new.seats.scan c.args.seats.ends c.audit.new.seats.ends _ _
+    left_whole c.args.self.now.single.places c.args.self.now.client c.args.zone c.audit.new.zone c.args.seats.scan c.audit.new.seats.scan c.args.seats.ends c.audit.new.seats.ends _ _
     (sym c.audit.ensures.refused ∙ ap result_err c.in-Ok.is) c.audit.ensures.same.0 c.audit.ensures.same.1 c.audit.ensures.same.2
-    (ap (λ (m : Serial). m.places) c.put_back.ensures ∙ ap (λ (t : Threaded). t.serial.places) c.self.view_is)
-    (ap (λ (m : Serial). m.world) c.put_back.ensures ∙ ap Some c.join.ensures.world)
+    (ap (λ (m : Single). m.places) c.give_world.ensures ∙ ap (λ (t : Threaded). t.single.places) c.self.view_is)
+    (ap (λ (m : Single). m.world) c.give_world.ensures ∙ ap Some c.join.ensures.world)
     (ap (λ (t : Threaded). t.broken) c.self.view_is ∙ c.requires.whole)
     (ap (λ (t : Threaded). t.client) c.self.view_is)
 
@@ -23,10 +23,10 @@ returns-in-Ok-clause-exact g c = λ whole settled. sym c.audit.ensures.refused �
 
 pub returns-in-Err-clause-left : goal.returns-in-Err-clause-left
 returns-in-Err-clause-left g c =
-    left_broken c.args.self.now.serial.places c.args.self.now.client c.args.zone c.args.seats.scan c.args.seats.ends _ _ _
+    left_broken c.args.self.now.single.places c.args.self.now.client c.args.zone c.args.seats.scan c.args.seats.ends _ _ _
     (sym c.audit.ensures.refused ∙ ap result_err c.in-Err.is)
-    (ap (λ (t : Threaded). t.serial.places) c.self.view_is)
-    (ap (λ (t : Threaded). t.serial.world) c.self.view_is ∙ c.requires.given)
+    (ap (λ (t : Threaded). t.single.places) c.self.view_is)
+    (ap (λ (t : Threaded). t.single.world) c.self.view_is ∙ c.requires.given)
     (ap Some c.number-number.ensures)
     (ap (λ (t : Threaded). t.client) c.self.view_is)
 

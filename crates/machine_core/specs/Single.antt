@@ -7,13 +7,13 @@ use Rattle.machine_core.specs.Machine.{opens, step}
 use Rattle.play_core.specs.Script.{Answer, Numbered}
 
 -- the places of a journal, and the world of its zone, if one was opened
-pub record Serial : Type 0 where
+pub record Single : Type 0 where
   pub places : ℕ
   pub world : Option WorldState
 
 -- before the first command
-abbrev pub serial_at_first : ℕ → Serial
-serial_at_first places = record { places = places; world = None }
+abbrev pub single_at_first : ℕ → Single
+single_at_first places = record { places = places; world = None }
 
 -- whether the zone with this number is open, and no round is open by hand
 abbrev pub is_at_rest : ℕ → Option WorldState → Bool
@@ -26,16 +26,16 @@ number_is_at_rest None world = false
 number_is_at_rest (Some zone) world = is_at_rest zone world
 
 -- the reply to a command, and the machine behind it
-pub record IsStep (old : Serial) (command : Command) (reply : Reply) (new : Serial) : Type 0 where
+pub record IsStep (old : Single) (command : Command) (reply : Reply) (new : Single) : Type 0 where
   pub step_is : record { reply = reply; world = new.world } ≡ step old.places old.world command
   pub places_are : new.places ≡ old.places
 
 -- a command that opens a zone asks for memory
-abbrev pub Opens : Serial → Command → Type 0
+abbrev pub Opens : Single → Command → Type 0
 Opens m command = IsTrue (opens m.world command)
 
 -- the one reply to a command, whatever client lines it has
-pub record IsSerialStep (old : Serial) (c : Numbered) (answers : List Answer) (new : Serial) : Type 0 where
+pub record IsSingleStep (old : Single) (c : Numbered) (answers : List Answer) (new : Single) : Type 0 where
   pub reply : Reply
   pub one : answers ≡ record { line = c.line; reply = reply } ∷ []
   pub step : IsStep old c.command reply new
