@@ -109,7 +109,7 @@ fn command_line<'a>(alloc: Global) -> Result<Command<'a>, AllocError>
         alloc,
         "capacity",
         value_parser!(u32).range(1..=64),
-        "Pages that may wait for a copier, 1 to 64 [default: 8]",
+        "Pages that a queue of a round holds, 1 to 64 [default: 8]",
     );
     let journal = number_option(
         alloc,

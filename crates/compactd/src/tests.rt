@@ -921,7 +921,7 @@ fn refuses_arguments(rt: HostRuntime) -> Result<(), Fail> {
 const HELP: [&str; 6] = [
     "Usage: compactd [OPTIONS]",
     "--copiers <N>   Copiers that a round has, 1 to 4 [default: 2]",
-    "--capacity <N>  Pages that may wait for a copier, 1 to 64 [default: 8]",
+    "--capacity <N>  Pages that a queue of a round holds, 1 to 64 [default: 8]",
     "--journal <N>   Records that the journal holds, 1 to 65536 [default: 65536]",
     "  zone Z B, info Z\n",
     "  during Z, then lines of a client as above, then end\n",

@@ -2,7 +2,8 @@
 //!
 //! Contracts see a journal as its records, the newest first, and the places that are left. The words for what records
 //! say stand in `specs/`: `History` which page an address names, the last value of a word, and pins; `Moves` what is on its
-//! way; `Ends` that each page that was isolated ends once; `Blocks` the blocks that are handed out and those that are marked.
+//! way; `Ends` that each page that was isolated ends once; `Truth` that loads gave what was stored; `Blocks` the blocks that are
+//! handed out and those that are marked.
 #![tactic(auto)]
 
 mod journal;

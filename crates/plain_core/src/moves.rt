@@ -1,4 +1,4 @@
-//! The pages that were isolated, and how many of them are out.
+//! The pages that were isolated, and how many of them are out and were put back.
 
 ghost use Rattle.std.specs.Prelude.{◌≡◌, ◌+◌, ◌<◌, ◌++◌, [], ◌∷◌, length, slice_get, IfOk};
 

@@ -8,7 +8,7 @@ use Rattle.frame_core.specs.Below.{lowest, count_below}
 use Rattle.frame_core.specs.declared.state.FrameState.{FrameState}
 use Rattle.frame_core.proofs.Lists.{slice_get_set_same, slice_get_set_other}
 use Rattle.frame_core.proofs.Searches.{count_more, count_same, count_from_more, count_from_same, lowest_same}
-use Rattle.scan_core.specs.BlockCounts.{CountsFree, is_all_free}
+use Rattle.scan_core.specs.BlockCounts.{CountsFree, is_all_counted}
 use Rattle.scan_core.specs.Frames.{is_free_state, free_at, free_frames, free_in_block, is_whole, blocks_of}
 use Rattle.scan_core.proofs.Bounds.{count_past, lowest_past, count_from_short}
 
@@ -28,7 +28,7 @@ within_list xs i x is = elim (leb_tells (length xs) i) [
   none_some None x none is = cc
   none_some (Some y) x none is = cc
 
-pub full_as_whole : (counts : List ℕ) (states : List FrameState) → CountsFree counts states → (block : ℕ) → block < 8 → is_all_free counts block ≡ is_whole states block
+pub full_as_whole : (counts : List ℕ) (states : List FrameState) → CountsFree counts states → (block : ℕ) → block < 8 → is_all_counted counts block ≡ is_whole states block
 full_as_whole counts states right block h = ap (λ n. nat_eq n 512) (get_or_from_slice_get counts block _ 0 (right.each block h))
 
 -- a pageblock that the frames don't fill isn't free as a whole
@@ -38,18 +38,18 @@ not_whole_past states block past =
     ne_eqb (free_in_block states block) 512 (λ all. absurd (omega (arith, short, all)))
 
 -- the pageblocks that are free as a whole, by their counts
-pub whole_counted : (counts : List ℕ) (states : List FrameState) → CountsFree counts states → length states ≤ 4096 → count_below (is_all_free counts) 8 ≡ count_below (is_whole states) (blocks_of states)
+pub whole_counted : (counts : List ℕ) (states : List FrameState) → CountsFree counts states → length states ≤ 4096 → count_below (is_all_counted counts) 8 ≡ count_below (is_whole states) (blocks_of states)
 whole_counted counts states right few = upto 8 (omega arith) (λ block h. h) where
-  upto : (n : ℕ) → blocks_of states ≤ n → ((block : ℕ) → block < n → block < 8) → count_below (is_all_free counts) n ≡ count_below (is_whole states) (blocks_of states)
+  upto : (n : ℕ) → blocks_of states ≤ n → ((block : ℕ) → block < n → block < 8) → count_below (is_all_counted counts) n ≡ count_below (is_whole states) (blocks_of states)
   upto n most within =
-      count_same (is_all_free counts) (is_whole states) n (λ block h. full_as_whole counts states right block (within block h))
+      count_same (is_all_counted counts) (is_whole states) n (λ block h. full_as_whole counts states right block (within block h))
       ∙ count_past (is_whole states) (blocks_of states) n most (λ block low h. not_whole_past states block low)
 
-pub first_counted : (counts : List ℕ) (states : List FrameState) → CountsFree counts states → length states ≤ 4096 → lowest (is_all_free counts) 8 ≡ lowest (is_whole states) (blocks_of states)
+pub first_counted : (counts : List ℕ) (states : List FrameState) → CountsFree counts states → length states ≤ 4096 → lowest (is_all_counted counts) 8 ≡ lowest (is_whole states) (blocks_of states)
 first_counted counts states right few = upto 8 (omega arith) (λ block h. h) where
-  upto : (n : ℕ) → blocks_of states ≤ n → ((block : ℕ) → block < n → block < 8) → lowest (is_all_free counts) n ≡ lowest (is_whole states) (blocks_of states)
+  upto : (n : ℕ) → blocks_of states ≤ n → ((block : ℕ) → block < n → block < 8) → lowest (is_all_counted counts) n ≡ lowest (is_whole states) (blocks_of states)
   upto n most within =
-      lowest_same (is_all_free counts) (is_whole states) n (λ block h. full_as_whole counts states right block (within block h))
+      lowest_same (is_all_counted counts) (is_whole states) n (λ block h. full_as_whole counts states right block (within block h))
       ∙ lowest_past (is_whole states) (blocks_of states) n most (λ block low h. not_whole_past states block low)
 
 -- one frame is used for something else

@@ -9,7 +9,7 @@ use Rattle.std.proofs.lemmas.Option.{get_or_from_slice_get}
 use Rattle.frame_core.specs.Below.{count_below, count_from, lowest, one_if, some_below}
 use Rattle.frame_core.specs.Order.{is_aligned}
 use Rattle.frame_core.proofs.Searches.{count_none, count_some, some_at, some_one, lowest_is, lowest_none}
-use Rattle.scan_core.specs.BlockCounts.{is_all_free}
+use Rattle.scan_core.specs.BlockCounts.{is_all_counted}
 use Rattle.scan_core.specs.FrameSet.{Counts, all_of_block, count_in_block, is_run_of}
 use Rattle.frame_core.specs.declared.state.FrameState.{FrameState}
 use Rattle.scan_core.specs.Frames.{free_at, true_at}
@@ -111,7 +111,7 @@ unmarked_by_counts p marked blocks count counts = by_bound 8 (λ b h. h) (λ f h
       some_at (λ block. not (true_at marked block) && nat_lt 0 (slice_index blocks block)) n (found.0 / 512) low
       (λ i. parts.0 i && lt-ltb 0 (slice_index blocks (found.0 / 512)) (omega (arith, counted, some)) i))
 
-pub full_by_counts : (p : ℕ → Bool) (blocks : List ℕ) (count : ℕ) → Counts count blocks p → (block : ℕ) → block < 8 → is_all_free blocks block ≡ all_of_block p block
+pub full_by_counts : (p : ℕ → Bool) (blocks : List ℕ) (count : ℕ) → Counts count blocks p → (block : ℕ) → block < 8 → is_all_counted blocks block ≡ all_of_block p block
 full_by_counts p blocks count counts block h = ap (λ n. nat_eq n 512) (get_or_from_slice_get blocks block _ 0 (counts.each block h))
 
 -- what a run adds to counts, and what it takes from them

@@ -8,5 +8,5 @@ pub record CountsFree (counts : List ℕ) (states : List FrameState) : Type 0 wh
   pub each : (block : ℕ) → block < 8 → slice_get counts block ≡ Some (free_in_block states block)
 
 -- whether all frames of a pageblock are counted
-abbrev pub is_all_free : List ℕ → ℕ → Bool
-is_all_free counts block = nat_eq (slice_index counts block) 512
+abbrev pub is_all_counted : List ℕ → ℕ → Bool
+is_all_counted counts block = nat_eq (slice_index counts block) 512

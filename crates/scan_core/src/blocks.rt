@@ -3,7 +3,7 @@
 ghost use Rattle.std.specs.Prelude.{◌≡◌, ℕ, ◌+◌, ◌-◌, ◌<◌, ◌≤◌, ◌&&◌, not, length, nat_lt, slice_get, slice_index, slice_set, Some};
 ghost use Rattle.frame_core.specs.Below.{count_below, lowest, some_below};
 ghost use Rattle.scan_core.specs.Frames.{blocks_of, is_whole, true_at};
-ghost use Rattle.scan_core.specs.BlockCounts.{CountsFree, is_all_free};
+ghost use Rattle.scan_core.specs.BlockCounts.{CountsFree, is_all_counted};
 
 use crate::lists::count_free;
 use frame_core::{BlockNo, FrameState};
@@ -82,7 +82,7 @@ impl BlockCounts {
 
     /// How many pageblocks are counted as a whole.
     pub fn whole(&self) -> u32
-        ensures count { result ≡ count_below (is_all_free self.now) 8 }
+        ensures count { result ≡ count_below (is_all_counted self.now) 8 }
     {
         let mut whole = 0;
         for block in 0..8 {
@@ -95,7 +95,7 @@ impl BlockCounts {
 
     /// The lowest pageblock that is counted as a whole.
     pub fn first(&self) -> Option<BlockNo>
-        ensures lowest { result ≡ lowest (is_all_free self.now) 8 }
+        ensures lowest { result ≡ lowest (is_all_counted self.now) 8 }
     {
         for block in 0..8_u32 {
             if self.counts[block as usize] == 512 {

@@ -1,8 +1,7 @@
 -- The profile by which a script is read: the first line that isn't skipped tells.
-use Rattle.std.specs.Prelude.{ℕ, Bool, false, ◌&&◌, List, [], ◌∷◌, bytes_eq, codes, Option, Some, Result, Ok}
+use Rattle.std.specs.Prelude.{ℕ, Bool, false, ◌&&◌, List, [], ◌∷◌, bytes_eq, codes}
 use Rattle.text_core.specs.declared.command.Command.{Command}
 use Rattle.text_core.specs.declared.command.Command.TheVariants.{Profile2}
-use Rattle.text_core.specs.declared.error.ScriptError.{ScriptError}
 use Rattle.text_core.specs.declared.profile.Profile.{Profile}
 use Rattle.text_core.specs.declared.profile.Profile.TheVariants.{Untold, One, Two}
 
@@ -16,8 +15,3 @@ abbrev pub profile_told : Command → Profile → Profile
 profile_told Profile2 Untold = Two
 profile_told _ Untold = One
 profile_told _ profile = profile
-
--- the profile behind a line; a skipped one tells nothing
-abbrev pub profile_behind : Result (Option Command) ScriptError → Profile → Profile
-profile_behind (Ok (Some command)) profile = profile_told command profile
-profile_behind _ profile = profile
