@@ -935,7 +935,7 @@ fn shows_help(rt: HostRuntime) -> Result<(), Fail> {
         assert!(rt; text.contains(part), "{part}");
     }
     assert!(rt; found.faults.is_empty());
-    assert_eq!(rt; found.status, 0);
+    assert!(rt; found.status == 0);
     Ok(())
 }
 
@@ -947,9 +947,9 @@ fn shows_its_version(rt: HostRuntime) -> Result<(), Fail> {
         &["--version"],
         FIRST_PAGE.script.as_bytes(),
     )?;
-    assert_eq!(rt; found.replies.as_slice(), b"compactd 0.1.0\n".as_slice());
+    assert!(rt; found.replies.as_slice() == b"compactd 0.1.0\n".as_slice());
     assert!(rt; found.faults.is_empty());
-    assert_eq!(rt; found.status, 0);
+    assert!(rt; found.status == 0);
     Ok(())
 }
 
@@ -965,9 +965,9 @@ fn says_where_memory_is_short(rt: HostRuntime) -> Result<(), Fail> {
         let line_1 = found.faults.as_slice() == b"compactd: fault 48 at line 1\n".as_slice();
         assert!(rt; line_0 || line_1);
     } else {
-        assert_eq!(rt; found.replies.as_slice(), FIRST_PAGE.replies.as_bytes());
+        assert!(rt; found.replies.as_slice() == FIRST_PAGE.replies.as_bytes());
         assert!(rt; found.faults.is_empty());
-        assert_eq!(rt; found.status, 0);
+        assert!(rt; found.status == 0);
     }
     Ok(())
 }

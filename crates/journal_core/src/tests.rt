@@ -5,15 +5,15 @@ use std::test::Fail;
 fn keeps_records_in_order(rt: HostRuntime) -> Result<(), Fail> {
     let mut journal = Journal::open(rt.alloc(), 2)?;
     assert!(rt; journal.is_empty());
-    assert_eq!(rt; journal.room(), 2);
+    assert!(rt; journal.room() == 2);
     assert!(rt; journal.last().is_none());
     journal.push(Record::Moved { serial: 4 });
     journal.push(Record::Moved { serial: 5 });
-    assert_eq!(rt; journal.len(), 2);
-    assert_eq!(rt; journal.last().copied(), Some(Record::Moved { serial: 5 }));
-    assert_eq!(rt; journal.room(), 0);
-    assert_eq!(rt; journal.get(0).copied(), Some(Record::Moved { serial: 4 }));
-    assert_eq!(rt; journal.get(1).copied(), Some(Record::Moved { serial: 5 }));
+    assert!(rt; journal.len() == 2);
+    assert!(rt; journal.last().copied() == Some(Record::Moved { serial: 5 }));
+    assert!(rt; journal.room() == 0);
+    assert!(rt; journal.get(0).copied() == Some(Record::Moved { serial: 4 }));
+    assert!(rt; journal.get(1).copied() == Some(Record::Moved { serial: 5 }));
     assert!(rt; journal.get(2).is_none());
     Ok(())
 }

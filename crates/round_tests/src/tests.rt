@@ -118,9 +118,9 @@ fn fill<K: Shape, I: Ledger, M: Ledger, B: Ledger, R: Wait + Abort>(
     pages: u32,
 ) {
     for number in 0..pages {
-        assert_eq!(rt; map_at(rt, shared, number), Ok(()));
+        assert!(rt; map_at(rt, shared, number) == Ok(()));
         let stored = store(rt, shared, number, u64::from(number) + 1);
-        assert_eq!(rt; stored, Ok(()));
+        assert!(rt; stored == Ok(()));
     }
 }
 
@@ -131,7 +131,7 @@ fn assert_words<K: Shape, I: Ledger, M: Ledger, B: Ledger, R: Wait + Abort>(
     pages: u32,
 ) {
     for number in 0..pages {
-        assert_eq!(rt; load(rt, shared, number), Ok(u64::from(number) + 1));
+        assert!(rt; load(rt, shared, number) == Ok(u64::from(number) + 1));
     }
 }
 

@@ -10,22 +10,22 @@ use std::test::Fail;
 #[test]
 fn frames_know_what_is_free(rt: HostRuntime) -> Result<(), Fail> {
     let mut frames = Frames::open(rt.alloc(), 2)?;
-    assert_eq!(rt; frames.len(), 1024);
-    assert_eq!(rt; frames.blocks(), 2);
-    assert_eq!(rt; frames.free(), 1024);
-    assert_eq!(rt; frames.whole_blocks(), 2);
-    assert_eq!(rt; frames.lowest_free(), FrameNo::new(0));
+    assert!(rt; frames.len() == 1024);
+    assert!(rt; frames.blocks() == 2);
+    assert!(rt; frames.free() == 1024);
+    assert!(rt; frames.whole_blocks() == 2);
+    assert!(rt; frames.lowest_free() == FrameNo::new(0));
     fill(&rt, &mut frames, 0, 6);
     fill(&rt, &mut frames, 2, 7);
-    assert_eq!(rt; frames.free(), 1022);
-    assert_eq!(rt; frames.whole_blocks(), 1);
-    assert_eq!(rt; frames.lowest_free(), FrameNo::new(1));
+    assert!(rt; frames.free() == 1022);
+    assert!(rt; frames.whole_blocks() == 1);
+    assert!(rt; frames.lowest_free() == FrameNo::new(1));
     fill(&rt, &mut frames, 1, 8);
-    assert_eq!(rt; frames.lowest_free(), FrameNo::new(3));
+    assert!(rt; frames.lowest_free() == FrameNo::new(3));
     assert!(rt; !frames.is_free(frame(&rt, 2)));
-    assert_eq!(rt; frames.state(frame(&rt, 2)), holding(&rt, 7));
+    assert!(rt; frames.state(frame(&rt, 2)) == holding(&rt, 7));
     empty(&rt, &mut frames, 0);
-    assert_eq!(rt; frames.lowest_free(), FrameNo::new(0));
+    assert!(rt; frames.lowest_free() == FrameNo::new(0));
     Ok(())
 }
 
@@ -42,25 +42,25 @@ fn rounds_take_the_lowest_page_to_the_highest_frame(rt: HostRuntime) -> Result<(
     assert!(rt; frames.is_any_stuck(&unmarked));
     let mut fingers = Fingers::at_ends(1024);
     let step = frames.next_pair(&unmarked, &mut fingers);
-    assert_eq!(rt; step, pair(&rt, 5, 1023));
-    assert_eq!(rt;
-        fingers,
-        Fingers {
-            migrate: 6,
-            free: 1023
-        }
+    assert!(rt; step == pair(&rt, 5, 1023));
+    assert!(rt;
+        fingers
+            == Fingers {
+                migrate: 6,
+                free: 1023
+            }
     );
     let mut marked = [false; 8];
     marked[1] = true;
     let step = frames.next_pair(&marked, &mut fingers);
-    assert_eq!(rt; step, pair(&rt, 9, 511));
-    assert_eq!(rt; frames.next_pair(&unmarked, &mut fingers), Step::Met);
-    assert_eq!(rt;
-        fingers,
-        Fingers {
-            migrate: 10,
-            free: 511
-        }
+    assert!(rt; step == pair(&rt, 9, 511));
+    assert!(rt; frames.next_pair(&unmarked, &mut fingers) == Step::Met);
+    assert!(rt;
+        fingers
+            == Fingers {
+                migrate: 10,
+                free: 511
+            }
     );
     Ok(())
 }
@@ -77,31 +77,31 @@ fn a_list_has_its_pair(rt: HostRuntime) {
     let mut fingers = Fingers::new();
     fingers.free = 4;
     let step = next_pair(&frames, &movable, &[false], &mut fingers);
-    assert_eq!(rt; step, pair(&rt, 1, 3));
+    assert!(rt; step == pair(&rt, 1, 3));
     let mut fingers = Fingers::at_ends(4);
     let step = next_pair(&frames, &movable, &[true], &mut fingers);
-    assert_eq!(rt; step, Step::Met);
+    assert!(rt; step == Step::Met);
 }
 
 #[test]
 fn blocks_are_counted(rt: HostRuntime) {
     let mut frames = [FrameState::Free; 1024];
     frames[6] = FrameState::Huge;
-    assert_eq!(rt; whole_blocks(&frames), 1);
-    assert_eq!(rt; first_whole(&frames), BlockNo::new(1));
+    assert!(rt; whole_blocks(&frames) == 1);
+    assert!(rt; first_whole(&frames) == BlockNo::new(1));
     let mut counts = BlockCounts::of(&frames);
     let block = block_of(frame(&rt, 6));
     if counts.get(block) < 512 {
         counts.more(block, 1);
     }
-    assert_eq!(rt; counts.whole(), 2);
-    assert_eq!(rt; counts.first(), BlockNo::new(0));
+    assert!(rt; counts.whole() == 2);
+    assert!(rt; counts.first() == BlockNo::new(0));
     let block = block_of(frame(&rt, 512));
     if counts.get(block) >= 8 {
         counts.fewer(block, 8);
     }
-    assert_eq!(rt; counts.whole(), 1);
-    assert_eq!(rt; counts.first(), BlockNo::new(0));
+    assert!(rt; counts.whole() == 1);
+    assert!(rt; counts.first() == BlockNo::new(0));
 }
 
 #[test]
@@ -115,16 +115,16 @@ fn sets_have_what_walks_find(rt: HostRuntime) {
         let member = turn % 3 != 2;
         set.put(number, member);
         members[number as usize] = member;
-        assert_eq!(rt; set.contains(number), member);
-        assert_eq!(rt; set.lowest(), lowest_true(&members));
+        assert!(rt; set.contains(number) == member);
+        assert!(rt; set.lowest() == lowest_true(&members));
     }
     for number in 0..4096_u32 {
-        assert_eq!(rt; set.contains(number), members[number as usize]);
+        assert!(rt; set.contains(number) == members[number as usize]);
         set.remove(number);
     }
-    assert_eq!(rt; set.lowest(), None);
+    assert!(rt; set.lowest() == None);
     set.insert(4095);
-    assert_eq!(rt; set.lowest(), Some(4095));
+    assert!(rt; set.lowest() == Some(4095));
 }
 
 #[test]
@@ -134,11 +134,11 @@ fn blocks_of_each_order_are_held(rt: HostRuntime) -> Result<(), Fail> {
     for number in 3..10_u32 {
         let order = Order::new(number).expect(&rt, "an order");
         let found = frames.first_run(order);
-        assert_eq!(rt; found, FrameNo::new(order.frames()));
+        assert!(rt; found == FrameNo::new(order.frames()));
         if let Some(first) = found {
             let free = frames.free();
             frames.hold(first, order);
-            assert_eq!(rt; Some(frames.free()), free.checked_sub(order.frames()));
+            assert!(rt; Some(frames.free()) == free.checked_sub(order.frames()));
             assert!(rt; frames.first_run(order) != found);
         }
     }
@@ -150,9 +150,9 @@ fn a_list_has_its_run(rt: HostRuntime) {
     let mut frames = [FrameState::Free; 24];
     frames[3] = FrameState::Huge;
     let order = Order::new(3).expect(&rt, "an order");
-    assert_eq!(rt; first_run(&frames, order), FrameNo::new(8));
+    assert!(rt; first_run(&frames, order) == FrameNo::new(8));
     let order = Order::new(4).expect(&rt, "an order");
-    assert_eq!(rt; first_run(&frames, order), None);
+    assert!(rt; first_run(&frames, order) == None);
 }
 
 fn lowest_true(members: &[bool; 4096]) -> Option<u32> {

@@ -37,18 +37,18 @@ fn runs_rounds_where_there_are_threads(rt: HostRuntime) -> Result<(), Fail> {
     let script: &[u8] = b"zone 0 2\nmap 0 0 0\ncompact 0\nscan 0\ncompact 0\nlook 0 0 0\n";
     let (written, ended) = played(&rt, script)?;
     let expected = b"ok\nok\nrefused 32\nserial=0\nrefused 45\nmoving serial=0 pins=0 maps=1\n";
-    assert_eq!(rt; written.as_slice(), expected.as_slice());
+    assert!(rt; written.as_slice() == expected.as_slice());
     assert!(rt; ended.is_ok());
     let (written, ended) = played_on_threads(&rt, rt.alloc(), script);
     let expected =
         b"ok\nok\nisolated=1 moved=1 back=0 stopped=met\nmet\nrefused 45\nframe=1023 dirty=0 unmovable=0 pins=0 maps=1\n";
-    assert_eq!(rt; written.as_slice(), expected.as_slice());
-    assert_eq!(rt;
-        ended,
-        Ok(Totals {
-            lines: 6,
-            replies: 6
-        })
+    assert!(rt; written.as_slice() == expected.as_slice());
+    assert!(rt;
+        ended
+            == Ok(Totals {
+                lines: 6,
+                replies: 6
+            })
     );
     Ok(())
 }
@@ -60,12 +60,12 @@ fn pools_where_there_are_threads(rt: HostRuntime) -> Result<(), Fail> {
     let (written, ended) = played(&rt, script)?;
     let expected =
         b"refused 43\nok\nrefused 43\nmet\nrefused 45\nback=0\nok\ngot=1 rounds=0 stopped=32 blocks=1\n";
-    assert_eq!(rt; written.as_slice(), expected.as_slice());
+    assert!(rt; written.as_slice() == expected.as_slice());
     assert!(rt; ended.is_ok());
     let (written, ended) = played_on_threads(&rt, rt.alloc(), script);
     let expected =
         b"refused 43\nok\nrefused 43\nmet\nrefused 45\nback=0\nok\ngot=1 rounds=2 stopped=noblock blocks=1\n";
-    assert_eq!(rt; written.as_slice(), expected.as_slice());
+    assert!(rt; written.as_slice() == expected.as_slice());
     assert!(rt; ended.is_ok());
     Ok(())
 }
@@ -88,7 +88,7 @@ fn pools_without_a_round(rt: HostRuntime) -> Result<(), Fail> {
     ];
     for (script, expected) in rows {
         let (written, ended) = played(&rt, script)?;
-        assert_eq!(rt; written.as_slice(), expected);
+        assert!(rt; written.as_slice() == expected);
         assert!(rt; ended.is_ok());
     }
     Ok(())
@@ -146,13 +146,13 @@ fn runs_no_client_without_threads(rt: HostRuntime) -> Result<(), Fail> {
     let script = b"zone 0 1\nmap 0 0 0\nduring 0\nunmap 0 0 0\nend\nlook 0 0 0\n";
     let (written, ended) = played(&rt, script)?;
     let expected = b"ok\nok\nrefused 32\nframe=0 dirty=0 unmovable=0 pins=0 maps=1\n";
-    assert_eq!(rt; written.as_slice(), expected.as_slice());
-    assert_eq!(rt;
-        ended,
-        Ok(Totals {
-            lines: 6,
-            replies: 4
-        })
+    assert!(rt; written.as_slice() == expected.as_slice());
+    assert!(rt;
+        ended
+            == Ok(Totals {
+                lines: 6,
+                replies: 4
+            })
     );
     Ok(())
 }
@@ -171,16 +171,16 @@ fn block_of(alloc: Global, clients: u32) -> Result<Vec<u8>, Fail> {
 #[test]
 fn takes_no_more_than_1000_client_lines(rt: HostRuntime) -> Result<(), Fail> {
     let (written, ended) = played(&rt, &block_of(rt.alloc(), 1000)?)?;
-    assert_eq!(rt; written.as_slice(), b"refused 43\n".as_slice());
+    assert!(rt; written.as_slice() == b"refused 43\n".as_slice());
     assert!(rt; ended.is_ok());
     let (written, ended) = played(&rt, &block_of(rt.alloc(), 1001)?)?;
     assert!(rt; written.is_empty());
-    assert_eq!(rt;
-        ended,
-        Err(RunError {
-            fault: Fault::Syntax,
-            line: 1002
-        })
+    assert!(rt;
+        ended
+            == Err(RunError {
+                fault: Fault::Syntax,
+                line: 1002
+            })
     );
     Ok(())
 }
@@ -191,13 +191,13 @@ fn runs_a_script(rt: HostRuntime) -> Result<(), Fail> {
         b"zone 0 1\n# a page\nmap 0 0 0\nload 0 0 0 3\n\nstore 0 0 0 3 7\nload 0 0 0 3\ninfo 0\n";
     let (written, ended) = played(&rt, script)?;
     let expected = b"ok\nok\nvalue=0\nok\nvalue=7\nfree=511 pages=1 moving=0 huge=0 whole=0\n";
-    assert_eq!(rt; written.as_slice(), expected.as_slice());
-    assert_eq!(rt;
-        ended,
-        Ok(Totals {
-            lines: 8,
-            replies: 6
-        })
+    assert!(rt; written.as_slice() == expected.as_slice());
+    assert!(rt;
+        ended
+            == Ok(Totals {
+                lines: 8,
+                replies: 6
+            })
     );
     Ok(())
 }
@@ -220,7 +220,7 @@ fn moves_pages(rt: HostRuntime) -> Result<(), Fail> {
     ];
     for (script, expected) in rows {
         let (written, ended) = played(&rt, script)?;
-        assert_eq!(rt; written.as_slice(), expected);
+        assert!(rt; written.as_slice() == expected);
         assert!(rt; ended.is_ok());
     }
     Ok(())
@@ -245,7 +245,7 @@ fn refuses_what_a_hand_lacks(rt: HostRuntime) -> Result<(), Fail> {
     ];
     for (script, expected) in rows {
         let (written, ended) = played(&rt, script)?;
-        assert_eq!(rt; written.as_slice(), expected);
+        assert!(rt; written.as_slice() == expected);
         assert!(rt; ended.is_ok());
     }
     Ok(())
@@ -277,7 +277,7 @@ fn makes_series_of_calls(rt: HostRuntime) -> Result<(), Fail> {
     ];
     for (script, expected) in rows {
         let (written, ended) = played(&rt, script)?;
-        assert_eq!(rt; written.as_slice(), expected);
+        assert!(rt; written.as_slice() == expected);
         assert!(rt; ended.is_ok());
     }
     Ok(())
@@ -297,7 +297,7 @@ fn is_read_by_profile_2(rt: HostRuntime) -> Result<(), Fail> {
     ];
     for (script, expected) in rows {
         let (written, ended) = played(&rt, script)?;
-        assert_eq!(rt; written.as_slice(), expected);
+        assert!(rt; written.as_slice() == expected);
         assert!(rt; ended.is_ok());
     }
     Ok(())
@@ -310,7 +310,7 @@ fn refuses_in_order(rt: HostRuntime) -> Result<(), Fail> {
     let (written, ended) = played(&rt, script)?;
     let expected =
         b"refused 43\nrefused 1\nok\nrefused 1\nrefused 44\nrefused 1\nrefused 43\nrefused 1\nok\nrefused 5\nrefused 3\n";
-    assert_eq!(rt; written.as_slice(), expected.as_slice());
+    assert!(rt; written.as_slice() == expected.as_slice());
     assert!(rt; ended.is_ok());
     Ok(())
 }
@@ -334,7 +334,7 @@ fn stops_at_a_fault(rt: HostRuntime) -> Result<(), Fail> {
     ];
     for (script, fault, line) in rows {
         let (_, ended) = played(&rt, script)?;
-        assert_eq!(rt; ended, Err(RunError { fault, line }));
+        assert!(rt; ended == Err(RunError { fault, line }));
     }
     Ok(())
 }
@@ -357,14 +357,14 @@ fn stops_where_a_read_fails(rt: HostRuntime) -> Result<(), Fail> {
     let mut source = Source::new(Broken(b"zone 0 1\n#\ninfo"));
     let mut sink = Sink::new(Vec::new(rt.alloc()));
     let ended = run(rt.alloc(), &mut source, &mut sink, OPTIONS);
-    assert_eq!(rt;
-        ended,
-        Err(RunError {
-            fault: Fault::Read,
-            line: 3
-        })
+    assert!(rt;
+        ended
+            == Err(RunError {
+                fault: Fault::Read,
+                line: 3
+            })
     );
-    assert_eq!(rt; sink.into_inner().as_slice(), b"ok\n".as_slice());
+    assert!(rt; sink.into_inner().as_slice() == b"ok\n".as_slice());
     Ok(())
 }
 
@@ -398,12 +398,12 @@ fn names_the_line_of_a_reply_that_is_not_taken(rt: HostRuntime) {
             let script: &[u8] = b"zone 0 1\n#\nmap 0 0 0\nload 0 0 0 0\n";
             let mut sink = Sink::new(Full { room, fails });
             let ended = run_text(rt.alloc(), script, &mut sink, OPTIONS);
-            assert_eq!(rt;
-                ended,
-                Err(RunError {
-                    fault: Fault::Write,
-                    line
-                })
+            assert!(rt;
+                ended
+                    == Err(RunError {
+                        fault: Fault::Write,
+                        line
+                    })
             );
         }
     }
@@ -416,12 +416,12 @@ fn names_the_line_of_during_for_a_round_that_is_not_taken(rt: HostRuntime) {
         let script: &[u8] = b"zone 0 1\nmap 0 0 0\nduring 0\nload 0 0 0 0\nend\ninfo 0\n";
         let mut sink = Sink::new(Full { room, fails: true });
         let ended = run_on_threads(&rt, rt.alloc(), &mut Text::new(script), &mut sink, OPTIONS);
-        assert_eq!(rt;
-            ended,
-            Err(RunError {
-                fault: Fault::Write,
-                line
-            })
+        assert!(rt;
+            ended
+                == Err(RunError {
+                    fault: Fault::Write,
+                    line
+                })
         );
     }
 }
@@ -431,13 +431,13 @@ fn stops_where_a_read_fails_in_a_block(rt: HostRuntime) -> Result<(), Fail> {
     let mut source = Source::new(Broken(b"zone 0 1\nduring 0\nload 0 0 0 0\n"));
     let mut sink = Sink::new(Vec::new(rt.alloc()));
     let ended = run(rt.alloc(), &mut source, &mut sink, OPTIONS);
-    assert_eq!(rt;
-        ended,
-        Err(RunError {
-            fault: Fault::Read,
-            line: 4
-        })
+    assert!(rt;
+        ended
+            == Err(RunError {
+                fault: Fault::Read,
+                line: 4
+            })
     );
-    assert_eq!(rt; sink.into_inner().as_slice(), b"ok\n".as_slice());
+    assert!(rt; sink.into_inner().as_slice() == b"ok\n".as_slice());
     Ok(())
 }

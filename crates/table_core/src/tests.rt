@@ -16,8 +16,8 @@ fn lists_the_names_of_a_frame_in_rising_order(rt: HostRuntime) -> Result<(), Fai
     bind(&rt, &mut tables, address(&rt, 3, 6), frame);
     bind(&rt, &mut tables, address(&rt, 3, 4), frame);
     assert!(rt; !tables.has_room(frame));
-    assert_eq!(rt; tables.entry(address(&rt, 7, 4095)), Entry::Present(frame));
-    assert_eq!(rt; tables.entry(address(&rt, 7, 4094)), Entry::Absent);
+    assert!(rt; tables.entry(address(&rt, 7, 4095)) == Entry::Present(frame));
+    assert!(rt; tables.entry(address(&rt, 7, 4094)) == Entry::Absent);
     let names = [
         address(&rt, 0, 4095),
         address(&rt, 3, 4),
@@ -33,7 +33,7 @@ fn lists_the_names_of_a_frame_in_rising_order(rt: HostRuntime) -> Result<(), Fai
         address(&rt, 3, 6),
         address(&rt, 7, 4095),
     ];
-    assert_eq!(rt; tables.entry(address(&rt, 3, 4)), Entry::Absent);
+    assert!(rt; tables.entry(address(&rt, 3, 4)) == Entry::Absent);
     assert!(rt; &*tables.mappings(frame) == left.as_slice());
     assert!(rt; &*tables.walk_mappings(frame) == left.as_slice());
     Ok(())

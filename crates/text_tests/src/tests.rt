@@ -187,12 +187,12 @@ fn reads_the_calls_of_profile_2(rt: HostRuntime) {
         (b"unmark 3 7", Call::Unmark(block)),
     ];
     for (line, call) in rows {
-        assert_eq!(rt;
-            read_line(Profile::Two, line),
-            Ok(Some(Command::On {
-                zone,
-                calls: Calls::One(call)
-            }))
+        assert!(rt;
+            read_line(Profile::Two, line)
+                == Ok(Some(Command::On {
+                    zone,
+                    calls: Calls::One(call)
+                }))
         );
     }
     let wrong: [&[u8]; 9] = [
@@ -207,10 +207,7 @@ fn reads_the_calls_of_profile_2(rt: HostRuntime) {
         b"unmark 4 0",
     ];
     for line in wrong {
-        assert_eq!(rt;
-            read_line(Profile::Two, line),
-            Ok(Some(Command::OutOfRange))
-        );
+        assert!(rt; read_line(Profile::Two, line) == Ok(Some(Command::OutOfRange)));
     }
     let absent: [&[u8]; 5] = [
         b"huge 0 3",
@@ -221,7 +218,7 @@ fn reads_the_calls_of_profile_2(rt: HostRuntime) {
     ];
     for line in absent {
         for profile in [Profile::Untold, Profile::One] {
-            assert_eq!(rt; read_line(profile, line), Err(ScriptError::Syntax));
+            assert!(rt; read_line(profile, line) == Err(ScriptError::Syntax));
         }
     }
 }
@@ -237,13 +234,13 @@ fn reads_pools(rt: HostRuntime) {
         (Profile::Two, b"pool 3 8 9", of_order),
     ];
     for (profile, line, blocks) in rows {
-        assert_eq!(rt;
-            read_line(profile, line),
-            Ok(Some(Command::Pool {
-                zone,
-                count,
-                blocks
-            }))
+        assert!(rt;
+            read_line(profile, line)
+                == Ok(Some(Command::Pool {
+                    zone,
+                    count,
+                    blocks
+                }))
         );
     }
 }
@@ -251,12 +248,9 @@ fn reads_pools(rt: HostRuntime) {
 #[test]
 fn is_told_its_profile_once(rt: HostRuntime) {
     let line: &[u8] = b" profile  2 ";
-    assert_eq!(rt;
-        read_line(Profile::Untold, line),
-        Ok(Some(Command::Profile2))
-    );
-    assert_eq!(rt; read_line(Profile::One, line), Err(ScriptError::Syntax));
-    assert_eq!(rt; read_line(Profile::Two, line), Err(ScriptError::Syntax));
+    assert!(rt; read_line(Profile::Untold, line) == Ok(Some(Command::Profile2)));
+    assert!(rt; read_line(Profile::One, line) == Err(ScriptError::Syntax));
+    assert!(rt; read_line(Profile::Two, line) == Err(ScriptError::Syntax));
     let wrong: [&[u8]; 5] = [
         b"profile",
         b"profile 1",
@@ -265,11 +259,11 @@ fn is_told_its_profile_once(rt: HostRuntime) {
         b"Profile 2",
     ];
     for line in wrong {
-        assert_eq!(rt; read_line(Profile::Untold, line), Err(ScriptError::Syntax));
+        assert!(rt; read_line(Profile::Untold, line) == Err(ScriptError::Syntax));
     }
-    assert_eq!(rt; Profile::Untold.behind(&Command::Profile2), Profile::Two);
-    assert_eq!(rt; Profile::Untold.behind(&Command::OutOfRange), Profile::One);
-    assert_eq!(rt; Profile::Two.behind(&Command::OutOfRange), Profile::Two);
+    assert!(rt; Profile::Untold.behind(&Command::Profile2) == Profile::Two);
+    assert!(rt; Profile::Untold.behind(&Command::OutOfRange) == Profile::One);
+    assert!(rt; Profile::Two.behind(&Command::OutOfRange) == Profile::Two);
 }
 
 #[test]
@@ -433,24 +427,15 @@ fn tests_each_range(rt: HostRuntime) {
         b"pool 0 9",
     ];
     for line in lines {
-        assert_eq!(rt;
-            read_line(Profile::One, line),
-            Ok(Some(Command::OutOfRange))
-        );
+        assert!(rt; read_line(Profile::One, line) == Ok(Some(Command::OutOfRange)));
     }
 }
 
 #[test]
 fn reads_no_more_than_200_bytes(rt: HostRuntime) {
-    assert_eq!(rt; read_line(Profile::One, &[b'#'; 200]), Ok(None));
-    assert_eq!(rt;
-        read_line(Profile::One, &[b'#'; 201]),
-        Err(ScriptError::LongLine)
-    );
-    assert_eq!(rt;
-        read_line(Profile::One, &[b' '; 201]),
-        Err(ScriptError::LongLine)
-    );
+    assert!(rt; read_line(Profile::One, &[b'#'; 200]) == Ok(None));
+    assert!(rt; read_line(Profile::One, &[b'#'; 201]) == Err(ScriptError::LongLine));
+    assert!(rt; read_line(Profile::One, &[b' '; 201]) == Err(ScriptError::LongLine));
 }
 
 /// The reply to a pool.
@@ -505,7 +490,7 @@ fn prints_pools(rt: HostRuntime) {
         ),
     ];
     for (reply, expected) in rows {
-        assert_eq!(rt; reply_text(reply).as_str(), expected);
+        assert!(rt; reply_text(reply).as_str() == expected);
     }
 }
 
@@ -594,6 +579,6 @@ fn prints_replies(rt: HostRuntime) {
         (Reply::Refused(44), "refused 44\n"),
     ];
     for (reply, expected) in rows {
-        assert_eq!(rt; reply_text(reply).as_str(), expected);
+        assert!(rt; reply_text(reply).as_str() == expected);
     }
 }

@@ -101,9 +101,9 @@ fn two_in_hand<
         move || -> Client { plays_beside(rt, lock, held, user, calls) },
         move || -> Result<Round, RoundError> { round_of(rt, alloc, lock, &mut seats, 2, held) },
     );
-    assert_eq!(rt; counts_of(rt, round), (2, 0));
-    assert_eq!(rt; gate.held_in_vain.load(Ordering::SeqCst), 0);
-    assert_eq!(rt; settled(rt, &shared, &[opener, user]), Ok(()));
+    assert!(rt; counts_of(rt, round) == (2, 0));
+    assert!(rt; gate.held_in_vain.load(Ordering::SeqCst) == 0);
+    assert!(rt; settled(rt, &shared, &[opener, user]) == Ok(()));
 }
 
 #[test]
@@ -136,9 +136,9 @@ fn pins_what_is_held<
         move || -> Client { plays_beside(rt, lock, held, user, calls) },
         move || -> Result<Round, RoundError> { round_of(rt, alloc, lock, &mut seats, 1, held) },
     );
-    assert_eq!(rt; counts_of(rt, round), (0, 1));
+    assert!(rt; counts_of(rt, round) == (0, 1));
     play(rt, &shared, &mut user, &[(Call::Unpin(0), Answer::Done)]);
-    assert_eq!(rt; settled(rt, &shared, &[user]), Ok(()));
+    assert!(rt; settled(rt, &shared, &[user]) == Ok(()));
 }
 
 #[test]
@@ -191,9 +191,9 @@ fn waits_for_what_is_held<
         move || -> Client { waits_beside(rt, lock, held, user, calls) },
         move || -> Result<Round, RoundError> { round_of(rt, alloc, lock, &mut seats, 1, held) },
     );
-    assert_eq!(rt; counts_of(rt, round), (1, 0));
-    assert_eq!(rt; user.receipts().len(), 3);
-    assert_eq!(rt; settled(rt, &shared, &[user]), Ok(()));
+    assert!(rt; counts_of(rt, round) == (1, 0));
+    assert!(rt; user.receipts().len() == 3);
+    assert!(rt; settled(rt, &shared, &[user]) == Ok(()));
 }
 
 #[test]
@@ -287,11 +287,8 @@ fn shares_a_page<
         },
         move || -> [(u32, u32); 3] { three_rounds(rt, alloc, lock, &mut seats) },
     );
-    assert_eq!(rt; counts, [(64, 0), (0, 0), (0, 0)]);
-    assert_eq!(rt;
-        (first.receipts().len(), second.receipts().len()),
-        (400, 400)
-    );
+    assert!(rt; counts == [(64, 0), (0, 0), (0, 0)]);
+    assert!(rt; (first.receipts().len(), second.receipts().len()) == (400, 400));
     let mut all = Vec::with_capacity(alloc, 8).expect(rt, "memory");
     for own in [opener, first, second] {
         all.push(own).expect(rt, "memory");
@@ -299,9 +296,9 @@ fn shares_a_page<
     for idle in 3..8 {
         all.push(client(rt, alloc, idle)).expect(rt, "memory");
     }
-    assert_eq!(rt; settled(rt, &shared, &all), Ok(()));
+    assert!(rt; settled(rt, &shared, &all) == Ok(()));
     let second = [client(rt, alloc, 1)];
-    assert_eq!(rt; settled(rt, &shared, &second), mismatch(rt, 1, 0));
+    assert!(rt; settled(rt, &shared, &second) == mismatch(rt, 1, 0));
 }
 
 #[test]

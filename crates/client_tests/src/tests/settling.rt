@@ -58,15 +58,15 @@ fn settles<K: Shape, I: Ledger, N: Ledger, M: Ledger, B: Ledger, R: Wait + Abort
     requires blanks { AreFor blanks I.name I.parts N.name N.parts M.name M.parts B.name B.parts }
 {
     let Opening { shared, .. } = must_open::<K, I, N, M, B, R>(rt, alloc, 99, blanks);
-    assert_eq!(rt; settled(rt, &shared, &[]), Ok(()));
+    assert!(rt; settled(rt, &shared, &[]) == Ok(()));
     let clients = clients_of(rt, alloc, &shared);
-    assert_eq!(rt; settled(rt, &shared, &clients), Ok(()));
+    assert!(rt; settled(rt, &shared, &clients) == Ok(()));
     let idle = [client(rt, alloc, 3), client(rt, alloc, 1)];
-    assert_eq!(rt; settled(rt, &shared, &idle), mismatch(rt, 1, 0));
+    assert!(rt; settled(rt, &shared, &idle) == mismatch(rt, 1, 0));
     let mut late = client(rt, alloc, 2);
     play(rt, &shared, &mut late, &[(Call::Unpin(0), Answer::Done)]);
-    assert_eq!(rt; settled(rt, &shared, &[late]), mismatch(rt, 2, 0));
-    assert_eq!(rt; settled(rt, &shared, &clients), mismatch(rt, 2, 3));
+    assert!(rt; settled(rt, &shared, &[late]) == mismatch(rt, 2, 0));
+    assert!(rt; settled(rt, &shared, &clients) == mismatch(rt, 2, 3));
     clients
 }
 
@@ -77,7 +77,7 @@ fn settling_names_the_first_that_differs(rt: HostRuntime) {
         rt.alloc(),
         Blanks::new(),
     );
-    assert_eq!(rt; clients.len(), 2);
+    assert!(rt; clients.len() == 2);
 }
 
 /// Of two zones in which the same calls were made but for the last, the receipts of one are refused by the other.
@@ -91,10 +91,10 @@ fn differs_from_another<K: Shape, I: Ledger, N: Ledger, M: Ledger, B: Ledger, R:
     requires blanks { AreFor blanks I.name I.parts N.name N.parts M.name M.parts B.name B.parts }
 {
     let Opening { shared, .. } = must_open::<K, I, N, M, B, R>(rt, alloc, 99, blanks);
-    assert_eq!(rt; settled(rt, &shared, clients), mismatch(rt, 1, 0));
+    assert!(rt; settled(rt, &shared, clients) == mismatch(rt, 1, 0));
     let mut first = client(rt, alloc, 1);
     play(rt, &shared, &mut first, &[(Call::Map(0), Answer::Frame(0))]);
-    assert_eq!(rt; settled(rt, &shared, clients), mismatch(rt, 1, 1));
+    assert!(rt; settled(rt, &shared, clients) == mismatch(rt, 1, 1));
 }
 
 #[test]

@@ -99,7 +99,7 @@ fn last_sender<R: Abort>(rt: &R, taker: &DoneTaker, senders: &mut Vec<DoneSender
 
 // Each sender's copies came whole and in its order.
 fn assert_in_order<R: Abort>(rt: &R, copies: Vec<Copied>) {
-    assert_eq!(rt; copies.len(), 600);
+    assert!(rt; copies.len() == 600);
     let mut next = [0; 4];
     for copy in copies {
         let serial = copy.serial();
@@ -187,7 +187,7 @@ fn opens_in_range_only(rt: HostRuntime) {
         let Err(error) = done_open(&rt, rt.alloc(), senders, cap) else {
             panic!(rt; "opened for {senders} senders and room for {cap}");
         };
-        assert_eq!(rt; error, HandError::Range);
+        assert!(rt; error == HandError::Range);
     }
 }
 
@@ -199,7 +199,7 @@ fn hands_the_copy_back_where_the_taker_is_gone(rt: HostRuntime) -> Result<(), Fa
     let Err(copy) = one.send(&rt, copied(0, 3).ok_or("in range")?) else {
         panic!(rt; "sent a copy to nobody");
     };
-    assert_eq!(rt; copy.serial(), 3);
+    assert!(rt; copy.serial() == 3);
     assert!(rt; is_page(&copy.into_page(), 3));
     assert!(rt; one.close(&rt).is_err());
     Ok(())
@@ -216,7 +216,7 @@ fn answers_gone_behind_the_copies_where_the_senders_are_gone(rt: HostRuntime) ->
     let Came::Copy(copy) = taker.take(&rt) else {
         panic!(rt; "the copy is lost");
     };
-    assert_eq!(rt; copy.page_no().get(), 1);
+    assert!(rt; copy.page_no().get() == 1);
     assert!(rt; matches!(taker.take(&rt), Came::Gone));
     Ok(())
 }

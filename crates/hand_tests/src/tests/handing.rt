@@ -155,8 +155,8 @@ fn assert_settles<R: Abort>(rt: &R, giver: Giver, takers: Vec<Taker>)
     let Ok(settled) = settle(giver, takers) else {
         panic!(rt; "the hand-over isn't settled");
     };
-    assert_eq!(rt; settled.base, BASE);
-    assert_eq!(rt; settled.count, u64::from(PAGES));
+    assert!(rt; settled.base == BASE);
+    assert!(rt; settled.count == u64::from(PAGES));
 }
 
 fn to_one_taker<R: Threads + Wait + Abort + Sync>(rt: &R, alloc: Global, cap: usize) {
@@ -298,8 +298,8 @@ fn settles_with_no_page(rt: HostRuntime) {
     let Ok(settled) = settle(giver, takers) else {
         panic!(rt; "the hand-over isn't settled");
     };
-    assert_eq!(rt; settled.base, 0);
-    assert_eq!(rt; settled.count, 0);
+    assert!(rt; settled.base == 0);
+    assert!(rt; settled.count == 0);
 }
 
 #[test]
@@ -312,14 +312,14 @@ fn hands_over_the_page_with_the_last_serial(rt: HostRuntime) -> Result<(), Fail>
     let Took::Page(page) = one.take(&rt) else {
         panic!(rt; "the page is lost");
     };
-    assert_eq!(rt; page.serial(), u32::MAX);
+    assert!(rt; page.serial() == u32::MAX);
     assert!(rt; matches!(one.take(&rt), Took::End));
     let takers = vec![in rt.alloc(); one].expect(&rt, "memory");
     let Ok(settled) = settle(giver, takers) else {
         panic!(rt; "the hand-over isn't settled");
     };
-    assert_eq!(rt; settled.base, u32::MAX);
-    assert_eq!(rt; settled.count, 1);
+    assert!(rt; settled.base == u32::MAX);
+    assert!(rt; settled.count == 1);
     Ok(())
 }
 
@@ -329,10 +329,10 @@ fn opens_in_range_only(rt: HostRuntime) {
         let Err(error) = open(&rt, rt.alloc(), 0, takers, cap) else {
             panic!(rt; "opened for {takers} takers and room for {cap}");
         };
-        assert_eq!(rt; error, HandError::Range);
-        assert_eq!(rt; error.number(), 22);
+        assert!(rt; error == HandError::Range);
+        assert!(rt; error.number() == 22);
     }
-    assert_eq!(rt; HandError::Memory.number(), 21);
+    assert!(rt; HandError::Memory.number() == 21);
 }
 
 #[test]
@@ -343,7 +343,7 @@ fn hands_the_page_back_where_no_taker_is_left(rt: HostRuntime) -> Result<(), Fai
     let Err(page) = giver.give(&rt, page) else {
         panic!(rt; "gave a page to nobody");
     };
-    assert_eq!(rt; page.serial(), BASE);
+    assert!(rt; page.serial() == BASE);
     assert!(rt; is_page(&page.into_page(), 0));
     assert!(rt; giver.close(&rt).is_err());
     Ok(())
@@ -359,7 +359,7 @@ fn answers_gone_behind_the_pages_where_the_giver_is_gone(rt: HostRuntime) -> Res
     let Took::Page(page) = one.take(&rt) else {
         panic!(rt; "the page is lost");
     };
-    assert_eq!(rt; page.serial(), BASE);
+    assert!(rt; page.serial() == BASE);
     assert!(rt; matches!(one.take(&rt), Took::Gone));
     assert!(rt; matches!(one.take(&rt), Took::Gone));
     Ok(())

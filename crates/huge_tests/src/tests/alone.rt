@@ -32,10 +32,7 @@ fn comes_back<
         let vpage = VPage::new(frame).expect(rt, "a virtual page");
         let frame = FrameNo::new(frame).expect(rt, "a frame");
         let address = Address { space, vpage };
-        assert_eq!(rt;
-            zone.map_at(client, address, PageFlags::empty(), frame),
-            Ok(())
-        );
+        assert!(rt; zone.map_at(client, address, PageFlags::empty(), frame) == Ok(()));
     }
     let collector = Collector {
         copiers: 2,
@@ -45,11 +42,11 @@ fn comes_back<
     };
     let mut seats = Seats { scan, ends };
     let (zone, report) = reserve_alone(rt, alloc, &collector, zone, &mut seats, 1, &NoGate);
-    assert_eq!(rt; frames_of(&report).as_slice(), [0].as_slice());
-    assert_eq!(rt; report.rounds, 1);
-    assert_eq!(rt; report.stop, Stop::Enough);
-    assert_eq!(rt; zone.number(), number);
-    assert_eq!(rt; zone.info().held, 512);
+    assert!(rt; frames_of(&report).as_slice() == [0].as_slice());
+    assert!(rt; report.rounds == 1);
+    assert!(rt; report.stop == Stop::Enough);
+    assert!(rt; zone.number() == number);
+    assert!(rt; zone.info().held == 512);
 }
 
 #[test]

@@ -33,20 +33,14 @@ fn gives_back<
     requires blanks { AreFor blanks I.name I.parts N.name N.parts M.name M.parts B.name B.parts }
 {
     let mut opening = opened::<K, I, N, M, B, R>(rt, alloc, 2, 65536, blanks);
-    assert_eq!(rt; map_at(rt, &opening.shared, 0), Ok(()));
-    assert_eq!(rt; map_at(rt, &opening.shared, 512), Ok(()));
+    assert!(rt; map_at(rt, &opening.shared, 0) == Ok(()));
+    assert!(rt; map_at(rt, &opening.shared, 512) == Ok(()));
     let huge = last_block(rt, reserved(rt, alloc, &mut opening, 16, 8, 2));
-    assert_eq!(rt;
-        (huge.frame().get(), huge.order().get(), huge.block().get()),
-        (768, 8, 1)
-    );
-    assert_eq!(rt; info(rt, &opening.shared).held, 512);
+    assert!(rt; (huge.frame().get(), huge.order().get(), huge.block().get()) == (768, 8, 1));
+    assert!(rt; info(rt, &opening.shared).held == 512);
     assert!(rt; give(rt, &opening.shared, huge).is_ok());
     let held = info(rt, &opening.shared);
-    assert_eq!(rt;
-        (held.free, held.pages, held.huge, held.held),
-        (766, 2, 1, 256)
-    );
+    assert!(rt; (held.free, held.pages, held.huge, held.held) == (766, 2, 1, 256));
 }
 
 #[test]
@@ -72,10 +66,10 @@ fn hands_back_what_is_refused<
     let Err((error, huge)) = give(rt, &opening.shared, huge) else {
         panic!(rt; "the block is taken back");
     };
-    assert_eq!(rt; error, ZoneError::JournalFull);
-    assert_eq!(rt; info(rt, &opening.shared), before);
+    assert!(rt; error == ZoneError::JournalFull);
+    assert!(rt; info(rt, &opening.shared) == before);
     let (frame, order) = huge.into_parts();
-    assert_eq!(rt; (frame.get(), order.get()), (0, 9));
+    assert!(rt; (frame.get(), order.get()) == (0, 9));
 }
 
 #[test]
@@ -103,8 +97,8 @@ fn refuses_a_block_of_another<
     let Err((error, huge)) = give(rt, &opening.shared, huge) else {
         panic!(rt; "the block is taken back");
     };
-    assert_eq!(rt; error, ZoneError::NotHuge);
-    assert_eq!(rt; huge.into_block().get(), 0);
+    assert!(rt; error == ZoneError::NotHuge);
+    assert!(rt; huge.into_block().get() == 0);
 }
 
 fn offers_its_block_to_another<

@@ -82,8 +82,8 @@ fn a_client_pins<
         move || -> Result<(), ZoneError> { pin_held(rt, lock, held) },
         move || -> Result<Round, RoundError> { round_of(rt, alloc, lock, &mut seats, 1, 1, held) },
     );
-    assert_eq!(rt; pinned, Ok(()));
-    assert_eq!(rt; counts_of(rt, round), (0, 1, 0, 1));
+    assert!(rt; pinned == Ok(()));
+    assert!(rt; counts_of(rt, round) == (0, 1, 0, 1));
     assert!(rt; is_pinned(rt, &shared));
 }
 
@@ -133,9 +133,9 @@ fn a_client_waits<
         move || -> (Result<(), ZoneError>, Result<u64, ZoneError>) { visit(rt, lock, held) },
         move || -> Result<Round, RoundError> { round_of(rt, alloc, lock, &mut seats, 1, 1, held) },
     );
-    assert_eq!(rt; (stored, loaded), (Err(ZoneError::Moving), Ok(1)));
-    assert_eq!(rt; counts_of(rt, round), (0, 1, 1, 0));
-    assert_eq!(rt; load(rt, &shared, 0), Ok(1));
+    assert!(rt; (stored, loaded) == (Err(ZoneError::Moving), Ok(1)));
+    assert!(rt; counts_of(rt, round) == (0, 1, 1, 0));
+    assert!(rt; load(rt, &shared, 0) == Ok(1));
 }
 
 #[test]

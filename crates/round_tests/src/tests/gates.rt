@@ -69,8 +69,8 @@ fn two_copiers<
         held_in_vain: AtomicU64::new(0),
     };
     let round = round_of(rt, alloc, &shared, &mut seats, 2, 2, &gate);
-    assert_eq!(rt; counts_of(rt, round), (0, 2, 2, 0));
-    assert_eq!(rt; gate.held_in_vain.load(Ordering::SeqCst), 0);
+    assert!(rt; counts_of(rt, round) == (0, 2, 2, 0));
+    assert!(rt; gate.held_in_vain.load(Ordering::SeqCst) == 0);
 }
 
 #[test]
@@ -128,11 +128,11 @@ fn notes_each_taken<
     let Ok(round) = round_of(rt, alloc, &shared, &mut seats, 4, 8, &gate) else {
         panic!(rt; "the round is refused");
     };
-    assert_eq!(rt; round.count, 512);
+    assert!(rt; round.count == 512);
     let notes = [&gate.first, &gate.second, &gate.third, &gate.fourth];
-    assert_eq!(rt; round.by_copier.len(), notes.len());
+    assert!(rt; round.by_copier.len() == notes.len());
     for (list, note) in round.by_copier.iter().zip(notes) {
-        assert_eq!(rt; list.len() as u64, note.load(Ordering::SeqCst));
+        assert!(rt; list.len() as u64 == note.load(Ordering::SeqCst));
     }
 }
 

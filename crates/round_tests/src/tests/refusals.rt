@@ -64,10 +64,10 @@ fn waits_for_the_page_that_is_out<
     let before = told(rt, &shared);
     let refused = round_of(rt, alloc, &shared, &mut seats, 2, 8, &NoGate);
     assert!(rt; matches!(refused, Err(RoundError::Broken)));
-    assert_eq!(rt; told(rt, &shared), before);
+    assert!(rt; told(rt, &shared) == before);
     put_back(rt, &shared, &mut seats, page);
     let round = round_of(rt, alloc, &shared, &mut seats, 2, 8, &NoGate);
-    assert_eq!(rt; counts_of(rt, round), (1, 2, 2, 0));
+    assert!(rt; counts_of(rt, round) == (1, 2, 2, 0));
     assert_words(rt, &shared, 2);
 }
 
@@ -91,10 +91,10 @@ fn waits_for_the_part_that_is_missing<
     };
     let refused = round_of(rt, alloc, &shared, &mut seats, 1, 1, &NoGate);
     assert!(rt; matches!(refused, Err(RoundError::Broken)));
-    assert_eq!(rt; told(rt, &shared), before);
+    assert!(rt; told(rt, &shared) == before);
     seats.ends.join(part);
     let round = round_of(rt, alloc, &shared, &mut seats, 1, 1, &NoGate);
-    assert_eq!(rt; counts_of(rt, round), (0, 2, 2, 0));
+    assert!(rt; counts_of(rt, round) == (0, 2, 2, 0));
 }
 
 /// Where memory or a thread is refused the zone is as before, and the next round is made.
@@ -118,10 +118,10 @@ fn is_made_where_nothing_is_refused<
     let mut round = round_of(rt, alloc, &shared, &mut seats, 4, 8, &NoGate);
     if let Err(refused) = round {
         assert!(rt; matches!(refused, RoundError::Memory | RoundError::NoWorker));
-        assert_eq!(rt; told(rt, &shared), before);
+        assert!(rt; told(rt, &shared) == before);
         round = round_of(rt, alloc, &shared, &mut seats, 4, 8, &NoGate);
     }
-    assert_eq!(rt; counts_of(rt, round), (0, 2, 2, 0));
+    assert!(rt; counts_of(rt, round) == (0, 2, 2, 0));
 }
 
 #[test]

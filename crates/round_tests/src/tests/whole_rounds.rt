@@ -31,7 +31,7 @@ fn assert_shared<R: Abort>(rt: &R, alloc: Global, round: &Round) {
             carried = carried.saturating_add(1);
         }
     }
-    assert_eq!(rt; carried, u64::from(round.count));
+    assert!(rt; carried == u64::from(round.count));
 }
 
 /// The pages of the lower half move up, and a second round moves nothing.
@@ -49,20 +49,20 @@ fn moves_the_lower_half<
     requires blanks { AreFor blanks I.name I.parts N.name N.parts M.name M.parts B.name B.parts }
 {
     let Opening { shared, mut seats } = must_open::<K, I, N, M, B, R>(rt, alloc, 2, blanks);
-    assert_eq!(rt; shared.blocks(), 2);
+    assert!(rt; shared.blocks() == 2);
     fill(rt, &shared, 512);
     let Ok(round) = round_of(rt, alloc, &shared, &mut seats, copiers, cap, &NoGate) else {
         panic!(rt; "the round is refused");
     };
-    assert_eq!(rt; round.stopped, Stop::Met);
-    assert_eq!(rt; round.by_copier.len(), copiers);
+    assert!(rt; round.stopped == Stop::Met);
+    assert!(rt; round.by_copier.len() == copiers);
     assert_shared(rt, alloc, &round);
-    assert_eq!(rt; counts_of(rt, Ok(round)), (0, 512, 512, 0));
+    assert!(rt; counts_of(rt, Ok(round)) == (0, 512, 512, 0));
     assert_words(rt, &shared, 512);
     let round = round_of(rt, alloc, &shared, &mut seats, copiers, cap, &NoGate);
-    assert_eq!(rt; counts_of(rt, round), (512, 0, 0, 0));
+    assert!(rt; counts_of(rt, round) == (512, 0, 0, 0));
     let info = shared.into_zone().info();
-    assert_eq!(rt; (info.pages, info.moving, info.whole), (512, 0, 1));
+    assert!(rt; (info.pages, info.moving, info.whole) == (512, 0, 1));
 }
 
 #[test]
@@ -103,10 +103,10 @@ fn packs_what_was_thinned<
 {
     let Opening { shared, mut seats } = must_open::<K, I, N, M, B, R>(rt, alloc, 4, blanks);
     for number in 0..1024 {
-        assert_eq!(rt; map_at(rt, &shared, number), Ok(()));
+        assert!(rt; map_at(rt, &shared, number) == Ok(()));
     }
     for number in 0..100 {
-        assert_eq!(rt; unmap(rt, &shared, number * step), Ok(()));
+        assert!(rt; unmap(rt, &shared, number * step) == Ok(()));
     }
     let round = round_of(rt, alloc, &shared, &mut seats, copiers, 8, &NoGate);
     assert!(rt; round.is_ok());
@@ -135,8 +135,8 @@ fn a_thinned_zone_is_packed(rt: HostRuntime) {
 
 #[test]
 fn errors_have_numbers(rt: HostRuntime) {
-    assert_eq!(rt; RoundError::Memory.number(), 31);
-    assert_eq!(rt; RoundError::NoWorker.number(), 32);
-    assert_eq!(rt; RoundError::Broken.number(), 33);
-    assert_eq!(rt; RoundError::Stranger(7).number(), 34);
+    assert!(rt; RoundError::Memory.number() == 31);
+    assert!(rt; RoundError::NoWorker.number() == 32);
+    assert!(rt; RoundError::Broken.number() == 33);
+    assert!(rt; RoundError::Stranger(7).number() == 34);
 }

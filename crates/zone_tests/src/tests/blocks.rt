@@ -34,7 +34,7 @@ fn hands_blocks_out<I: Ledger, N: Ledger, M: Ledger, B: Ledger, R: Abort>(
         whole: 0,
         held: 256,
     };
-    assert_eq!(rt; opening.info(), told);
+    assert!(rt; opening.info() == told);
 }
 
 /// A pageblock is handed out, and marked, in a zone of two whose first has a page.
@@ -52,7 +52,7 @@ fn hands_a_pageblock_out<I: Ledger, N: Ledger, M: Ledger, B: Ledger, R: Abort>(
             (Call::Mark(1), Answer::Refused(ZoneError::Marked)),
         ],
     );
-    assert_eq!(rt; opening.marked(rt, 1), Some(true));
+    assert!(rt; opening.marked(rt, 1) == Some(true));
     opening.plays(
         rt,
         &[
@@ -61,8 +61,8 @@ fn hands_a_pageblock_out<I: Ledger, N: Ledger, M: Ledger, B: Ledger, R: Abort>(
             (Call::Mark(2), Answer::Refused(ZoneError::Range)),
         ],
     );
-    assert_eq!(rt; opening.marked(rt, 1), Some(false));
-    assert_eq!(rt; opening.marked(rt, 2), None);
+    assert!(rt; opening.marked(rt, 1) == Some(false));
+    assert!(rt; opening.marked(rt, 2) == None);
 }
 
 /// What is tried with a zone that was just opened.

@@ -22,11 +22,8 @@ pub fn assert_counts<I: Ledger, M: Ledger, B: Ledger, R: Abort + AllocGlobal>(
     let states = states(rt, frames);
     let told = zone.info();
     assert_told(rt, told, &states);
-    assert_eq!(rt; told.huge as usize, blocks_out(zone.journal()));
-    assert_eq!(rt;
-        (frames.free(), frames.whole_blocks()),
-        (told.free, told.whole)
-    );
+    assert!(rt; told.huge as usize == blocks_out(zone.journal()));
+    assert!(rt; (frames.free(), frames.whole_blocks()) == (told.free, told.whole));
     assert_free(rt, frames, &states);
     for number in 3..10 {
         assert_run(rt, frames, &states, number);
@@ -66,12 +63,9 @@ fn assert_told<R: Abort>(rt: &R, told: Info, states: &[FrameState]) {
         .chunks(512)
         .filter(|block| block.iter().all(is_free))
         .count();
-    assert_eq!(rt; (told.pages as usize, told.held as usize), (pages, held));
-    assert_eq!(rt;
-        (told.moving as usize, told.moving as usize),
-        (sources, targets)
-    );
-    assert_eq!(rt; (told.free as usize, told.whole as usize), (free, whole));
+    assert!(rt; (told.pages as usize, told.held as usize) == (pages, held));
+    assert!(rt; (told.moving as usize, told.moving as usize) == (sources, targets));
+    assert!(rt; (told.free as usize, told.whole as usize) == (free, whole));
 }
 
 fn is_free(state: &FrameState) -> bool {
@@ -95,10 +89,10 @@ fn blocks_out(journal: &Journal) -> usize {
 fn assert_free<R: Abort>(rt: &R, frames: &Frames, states: &[FrameState]) {
     for number in 0..frames.len() {
         let state = states.get(number as usize).expect(rt, "a frame");
-        assert_eq!(rt; frames.is_free(frame(rt, number)), is_free(state));
+        assert!(rt; frames.is_free(frame(rt, number)) == is_free(state));
     }
     let lowest = frames.lowest_free().map(|frame| frame.get() as usize);
-    assert_eq!(rt; lowest, states.iter().position(is_free));
+    assert!(rt; lowest == states.iter().position(is_free));
 }
 
 /// The first run of an order is the lowest aligned one whose frames are all free.
@@ -108,10 +102,7 @@ fn assert_run<R: Abort>(rt: &R, frames: &Frames, states: &[FrameState], number: 
     let mut runs = states.chunks(size);
     let lowest = runs.position(|run| run.iter().all(is_free));
     let first = frames.first_run(order).map(|frame| frame.get() as usize);
-    assert_eq!(rt;
-        first.map(|first| (first / size, first % size)),
-        lowest.map(|place| (place, 0))
-    );
+    assert!(rt; first.map(|first| (first / size, first % size)) == lowest.map(|place| (place, 0)));
 }
 
 /// The number of a page that was just mapped is the lowest that no other page has.
@@ -124,7 +115,7 @@ fn assert_newest<R: Abort>(rt: &R, journal: &Journal, states: &[FrameState]) {
         .iter()
         .filter_map(|state| page_in(journal, state))
         .filter(|page| *page < newest);
-    assert_eq!(rt; lower.count(), newest.get() as usize);
+    assert!(rt; lower.count() == newest.get() as usize);
 }
 
 /// The page that a frame holds, or that left it.
@@ -179,17 +170,14 @@ fn assert_page<R: Abort>(rt: &R, frames: &Frames, frame: FrameNo, list: &Listed,
             ..
         } => {
             assert!(rt; matches!(state, FrameState::Holds(_)));
-            assert_eq!(rt; (number, maps as usize), (frame.get(), addresses));
-            assert_eq!(rt; list.entry, Entry::Present(frame));
-            assert_eq!(rt; frames.movable(frame), pins == 0 && !unmovable);
+            assert!(rt; (number, maps as usize) == (frame.get(), addresses));
+            assert!(rt; list.entry == Entry::Present(frame));
+            assert!(rt; frames.movable(frame) == (pins == 0 && !unmovable));
         }
         Answer::OnItsWay { serial, maps, .. } => {
-            assert_eq!(rt;
-                (state, maps as usize),
-                (FrameState::Source(serial), addresses)
-            );
+            assert!(rt; (state, maps as usize) == (FrameState::Source(serial), addresses));
             let source = frame;
-            assert_eq!(rt; list.entry, Entry::Migration { serial, source });
+            assert!(rt; list.entry == Entry::Migration { serial, source });
         }
         _ => panic!(rt; "nothing is told of a page"),
     }

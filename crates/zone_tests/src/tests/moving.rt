@@ -60,7 +60,7 @@ fn assert_audit<I: Ledger, N: Ledger, M: Ledger, B: Ledger, R: Abort>(
         moved,
         back,
     };
-    assert_eq!(rt; opening.audit(), Ok(counted));
+    assert!(rt; opening.audit() == Ok(counted));
 }
 
 fn moves_a_page<I: Ledger, N: Ledger, M: Ledger, B: Ledger, R: Abort>(
@@ -69,7 +69,7 @@ fn moves_a_page<I: Ledger, N: Ledger, M: Ledger, B: Ledger, R: Abort>(
 ) {
     maps_words(rt, opening);
     let page = opening.isolated(rt);
-    assert_eq!(rt; page.page_no().get(), 0);
+    assert!(rt; page.page_no().get() == 0);
     let ended = opening.commit(page.copy_into_new());
     assert!(rt; matches!(ended, Ok(Ended::Moved)));
     assert_words(rt, opening);
@@ -111,9 +111,9 @@ fn commits_a_changed_copy<I: Ledger, N: Ledger, M: Ledger, B: Ledger, R: Abort>(
     let Err(Stranger(copy)) = opening.commit(Isolated::new(serial, page).copy_into_new()) else {
         panic!(rt; "a changed copy is committed");
     };
-    assert_eq!(rt; copy.serial(), serial);
-    assert_eq!(rt; copy.page().word(last), 14);
-    assert_eq!(rt; told(rt, opening), before);
+    assert!(rt; copy.serial() == serial);
+    assert!(rt; copy.page().word(last) == 14);
+    assert!(rt; told(rt, opening) == before);
     let mut page = copy.into_page();
     page.set_word(last, 13);
     let ended = opening.commit(Isolated::new(serial, page).copy_into_new());
@@ -141,7 +141,7 @@ fn splits_a_seat<I: Ledger, N: Ledger, M: Ledger, B: Ledger, R: Abort + AllocGlo
     for part in parts {
         opening.join(part);
     }
-    assert_eq!(rt; opening.audit(), Err(ZoneError::Missing));
+    assert!(rt; opening.audit() == Err(ZoneError::Missing));
     opening.join(last);
     assert_audit(rt, opening, 0, 1);
 }
@@ -152,7 +152,7 @@ fn ends_a_serial_twice<I: Ledger, N: Ledger, M: Ledger, B: Ledger, R: Abort>(
 ) {
     maps_words(rt, opening);
     let page = opening.isolated(rt);
-    assert_eq!(rt; opening.audit(), Err(ZoneError::Out));
+    assert!(rt; opening.audit() == Err(ZoneError::Out));
     let second = Isolated::new(page.serial(), twin_of(rt, page.page()));
     let third = Isolated::new(page.serial(), twin_of(rt, page.page()));
     let ended = opening.commit(page.copy_into_new());
@@ -199,7 +199,7 @@ fn fills_a_journal<I: Ledger, N: Ledger, M: Ledger, B: Ledger, R: Abort>(
     opening.plays(rt, &[(Call::Map(NINE), Answer::Frame(0))]);
     for serial in 0..32767 {
         let page = opening.isolated(rt);
-        assert_eq!(rt; page.serial(), serial);
+        assert!(rt; page.serial() == serial);
         assert!(rt; opening.put_back(page).is_ok());
     }
     opening.begin_round();
@@ -212,7 +212,7 @@ fn fills_a_journal<I: Ledger, N: Ledger, M: Ledger, B: Ledger, R: Abort>(
             (Call::Load(NINE, 0), Answer::Refused(ZoneError::JournalFull)),
         ],
     );
-    assert_eq!(rt; opening.records(), 65536);
+    assert!(rt; opening.records() == 65536);
 }
 
 /// A round that began with a page that may be moved is quiet, also behind a load, up to this call.

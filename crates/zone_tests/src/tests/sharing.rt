@@ -62,7 +62,7 @@ fn shares_and_unmaps<I: Ledger, N: Ledger, M: Ledger, B: Ledger, R: Abort>(
         ],
     );
     let told = opening.info();
-    assert_eq!(rt; (told.free, told.pages), (512, 0));
+    assert!(rt; (told.free, told.pages) == (512, 0));
 }
 
 fn keeps_a_pinned_page<I: Ledger, N: Ledger, M: Ledger, B: Ledger, R: Abort>(
@@ -128,7 +128,7 @@ fn pins_a_page_on_its_way<I: Ledger, N: Ledger, M: Ledger, B: Ledger, R: Abort>(
         serial: 0,
         cause: Cause::Pinned,
     };
-    assert_eq!(rt; opening.record(3), Some(back));
+    assert!(rt; opening.record(3) == Some(back));
     opening.plays(rt, &[(Call::Look(NINE), at_frame_zero(1, 1))]);
 }
 

@@ -49,7 +49,7 @@ fn hands_out_three_orders<I: Ledger, N: Ledger, M: Ledger, B: Ledger, R: Abort>(
         whole: 0,
         held: 256,
     };
-    assert_eq!(rt; opening.info(), told);
+    assert!(rt; opening.info() == told);
 }
 
 /// In two pageblocks, each with a page in its first frame.
@@ -75,7 +75,7 @@ fn hands_out_half_pageblocks<I: Ledger, N: Ledger, M: Ledger, B: Ledger, R: Abor
         whole: 0,
         held: 256,
     };
-    assert_eq!(rt; opening.info(), told);
+    assert!(rt; opening.info() == told);
 }
 
 /// The first page leaves its pageblock, which is handed out behind that.
@@ -157,7 +157,7 @@ fn leaves_a_marked_pageblock<I: Ledger, N: Ledger, M: Ledger, B: Ledger, R: Abor
         whole: 2,
         held: 0,
     };
-    assert_eq!(rt; opening.info(), told);
+    assert!(rt; opening.info() == told);
 }
 
 fn marks_no_pageblock_beyond<I: Ledger, N: Ledger, M: Ledger, B: Ledger, R: Abort>(

@@ -33,8 +33,8 @@ fn joined_again<I: Ledger, N: Ledger, M: Ledger, B: Ledger, R: Abort>(
     let Ok((zone, seats, rest)) = world.split() else {
         panic!(rt; "a closed world is not split");
     };
-    assert_eq!(rt; zone.number().get(), 3);
-    assert_eq!(rt; (zone.blocks(), rest.blocks()), (1, 1));
+    assert!(rt; zone.number().get() == 3);
+    assert!(rt; (zone.blocks(), rest.blocks()) == (1, 1));
     WorldOpening {
         world: World::join(zone, seats, rest),
     }
@@ -68,7 +68,7 @@ fn splits_a_world<I: Ledger, N: Ledger, M: Ledger, B: Ledger, R: Abort + AllocGl
             (Step::Finish(1), Answer::Moved(1)),
         ],
     );
-    assert_eq!(rt; opening.info().moving, 0);
+    assert!(rt; opening.info().moving == 0);
 }
 
 #[test]

@@ -46,15 +46,15 @@ fn calls_each<I: Ledger, N: Ledger, M: Ledger, B: Ledger, R: Abort + AllocGlobal
         whole: 0,
         held: 0,
     };
-    assert_eq!(rt; opening.info(), told);
+    assert!(rt; opening.info() == told);
     let loaded = Record::Load {
         client: client(rt),
         address: address(rt, LAST),
         word: word(rt, 7),
         value: u64::MAX,
     };
-    assert_eq!(rt; opening.record(3), Some(loaded));
-    assert_eq!(rt; ZoneError::NotMarked.number(), 18);
+    assert!(rt; opening.record(3) == Some(loaded));
+    assert!(rt; ZoneError::NotMarked.number() == 18);
 }
 
 #[test]
