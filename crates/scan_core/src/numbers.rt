@@ -145,16 +145,14 @@ impl NumberSet {
         requires { word < 64 }
         ensures { (number : ℕ) → set.contains self.new number ≡ ((nat_eq (number / 64) word && has_bit mask (number % 64)) || set.contains self.old number) }
     {
-        let bits = self.bits.get(word);
-        self.bits.set(word, bits | mask);
+        self.bits.add(word, mask);
     }
 
     fn clear(&mut self, word: u32, mask: u64)
         requires { word < 64 }
         ensures { (number : ℕ) → set.contains self.new number ≡ (not (nat_eq (number / 64) word && has_bit mask (number % 64)) && set.contains self.old number) }
     {
-        let bits = self.bits.get(word);
-        self.bits.set(word, bits & !mask);
+        self.bits.remove(word, mask);
     }
 }
 
