@@ -13,8 +13,8 @@ use crate::bits::Bits;
 use frame_core::Order;
 use std::marker::Model;
 
-/// A set of numbers below 4,096. It takes no memory of its own, and each call looks at a few words; only `lowest_absent` may go through all
-/// of its 64.
+/// A set of numbers below 4,096. It takes no memory of its own, and each call looks at a few words:
+/// `lowest_absent` alone goes through all 64 at most.
 #[derive(Drop)]
 pub struct NumberSet {
     bits: Bits,
