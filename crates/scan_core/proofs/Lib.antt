@@ -1,3 +1,4 @@
+pub mod Absent
 pub mod Bounds
 pub mod Counting
 pub mod Found

@@ -44,6 +44,27 @@ has_bit_and a b i = ap (λ n. nat_eq n 1) (bit_at_and a b i) ∙ one_min (bit_at
 pub has_bit_not : (n i : ℕ) → n < 2 ^ 64 → i < 64 → has_bit (2 ^ 64 - 1 - n) i ≡ not (has_bit n i)
 has_bit_not n i h l = ap (λ k. nat_eq k 1) (bit_at_not w64 n i h l) ∙ one_less (bit_at n i) (bit_at-lt n i)
 
+or_swap : (a b : Bool) → (a || b) ≡ (b || a)
+or_swap true true = refl
+or_swap true false = refl
+or_swap false true = refl
+or_swap false false = refl
+
+and_not_swap : (a b : Bool) → (a && not b) ≡ (not b && a)
+and_not_swap true true = refl
+and_not_swap true false = refl
+and_not_swap false true = refl
+and_not_swap false false = refl
+
+-- a word that got the bits of a mask
+pub has_bit_added : (had mask i : ℕ) → has_bit (bit_or had mask) i ≡ (has_bit mask i || has_bit had i)
+has_bit_added had mask i = has_bit_or had mask i ∙ or_swap (has_bit had i) (has_bit mask i)
+
+-- a word that lost them
+pub has_bit_removed : (had mask i : ℕ) → mask < 2 ^ 64 → i < 64 → has_bit (bit_and had (2 ^ 64 - 1 - mask)) i ≡ (not (has_bit mask i) && has_bit had i)
+has_bit_removed had mask i fits low =
+    has_bit_and had (2 ^ 64 - 1 - mask) i ∙ ap (λ b. has_bit had i && b) (has_bit_not mask i fits low) ∙ and_not_swap (has_bit had i) (has_bit mask i)
+
 pub has_bit_zero : (i : ℕ) → has_bit 0 i ≡ false
 has_bit_zero i = ap (λ n. nat_eq n 1) (bit_at-zero i)
 
@@ -108,6 +129,17 @@ pub one_word : (words : List ℕ) (word bits i : ℕ) → word < length words �
 one_word words word bits i within = elim (eqb_tells i word) [
   | inl at ↦ (ap (slice_index (slice_set words word bits)) at.1 ∙ get_or-set_same words word bits 0 within ∙ sym (ap (λ b. if b then bits else slice_index words i) (eq-eqb i word at.1)))
   | inr away ↦ (get_or-set_other words word i bits 0 away.1 ∙ sym (ap (λ b. if b then bits else slice_index words i) (ne_eqb i word away.1)))
+]
+
+-- two words of which none is empty
+pub both_some : (a b : ℕ) → 0 < a → 0 < b → nat_lt 0 a ≡ nat_lt 0 b
+both_some a b some other = lt-ltb 0 a some ∙ sym (lt-ltb 0 b other)
+
+-- the summary stays where a word that changes stays empty, or doesn't become so
+pub still_summed : (words : List ℕ) (summary word bits : ℕ) → word < length words → nat_lt 0 bits ≡ nat_lt 0 (slice_index words word) → (i : ℕ) → has_bit summary i ≡ nat_lt 0 (slice_index words i) → has_bit summary i ≡ nat_lt 0 (slice_index (slice_set words word bits) i)
+still_summed words summary word bits within same i each = each ∙ elim (eqb_tells i word) [
+  | inl at ↦ (ap (λ k. nat_lt 0 (slice_index words k)) at.1 ∙ sym same ∙ sym (ap (nat_lt 0) (ap (slice_index (slice_set words word bits)) at.1 ∙ get_or-set_same words word bits 0 within)))
+  | inr away ↦ sym (ap (nat_lt 0) (get_or-set_other words word i bits 0 away.1))
 ]
 
 -- zeros are zero, past the end too

@@ -1,6 +1,6 @@
 -- The numbers whose bits are set.
-use Rattle.std.proofs.Common.{◌≡◌, ◌≢◌, ℕ, zero, suc, ◌+◌, ◌-◌, ◌*◌, ◌/◌, ◌%◌, ◌^◌, ◌<◌, ◌≤◌, Bool, true, false, not, List, length, inl, inr, refl, sym, ap, ◌∙◌, slice_index, eq-eqb, get_or-set_same, get_or-set_other, arith, w64}
-use Rattle.std.specs.Prelude.{nat_eq, ◌&&◌, ◌||◌, bit_and, bit_or, slice_set, if◌then◌else◌, Some, None}
+use Rattle.std.proofs.Common.{◌≡◌, ◌≢◌, ℕ, zero, suc, ◌+◌, ◌*◌, ◌/◌, ◌%◌, ◌^◌, ◌<◌, ◌≤◌, Bool, true, false, not, List, length, inl, inr, refl, sym, ap, ◌∙◌, slice_index, eq-eqb, arith, w64}
+use Rattle.std.specs.Prelude.{nat_eq, ◌&&◌, ◌||◌, bit_and, if◌then◌else◌, Some, None}
 use Rattle.std.specs.Int.{trailing_zeros}
 use Rattle.std.specs.Ordering.{nat_cmp}
 use Rattle.std.specs.Cmp.{nat_cmp_total, unsigned_tied}
@@ -13,7 +13,7 @@ use Rattle.frame_core.specs.Below.{lowest}
 use Rattle.frame_core.proofs.Searches.{lowest_is, lowest_none, lowest_same}
 use Rattle.scan_core.specs.Bits.{has_bit, has_number, IsFirstWord}
 use Rattle.scan_core.specs.NumberSet.{capacity, gathered, numbers_of}
-use Rattle.scan_core.proofs.Masking.{has_bit_or, has_bit_and, has_bit_not, has_bit_pow, has_bit_zero}
+use Rattle.scan_core.proofs.Masking.{has_bit_pow, has_bit_zero}
 
 pub capacity_is : capacity ≡ 4096
 unfolding capacity
@@ -61,45 +61,6 @@ no_member_past words len n past = member words len n ∙ no_number_past words n 
 pub same_members : (s t : set.FinSet nat_cmp) → ((n : ℕ) → set.contains s n ≡ set.contains t n) → s ≡ t
 same_members s t same = set.same_set nat_cmp_total set.nat_cmp-IsAntisymmetric s t same
 
-or_swap : (a b : Bool) → (a || b) ≡ (b || a)
-or_swap true true = refl
-or_swap true false = refl
-or_swap false true = refl
-or_swap false false = refl
-
-and_not_swap : (a b : Bool) → (a && not b) ≡ (not b && a)
-and_not_swap true true = refl
-and_not_swap true false = refl
-and_not_swap false true = refl
-and_not_swap false false = refl
-
--- one word got bits
-pub filled : (words : List ℕ) (word mask bits : ℕ) → length words ≡ 64 → word < 64 → bits ≡ slice_index words word → (n : ℕ) → has_number (slice_set words word (bit_or bits mask)) n ≡ ((nat_eq (n / 64) word && has_bit mask (n % 64)) || has_number words n)
-filled words word mask bits len within had n = elim (eqb_tells (n / 64) word) [
-  | inl at ↦ (ap (λ k. has_bit (slice_index (slice_set words word (bit_or bits mask)) k) (n % 64)) at.1
-      ∙ ap (λ w. has_bit w (n % 64)) (get_or-set_same words word (bit_or bits mask) 0 (omega (arith, len)))
-      ∙ has_bit_or bits mask (n % 64) ∙ or_swap (has_bit bits (n % 64)) (has_bit mask (n % 64))
-      ∙ sym (λ i. (eq-eqb (n / 64) word at.1 i && has_bit mask (n % 64)) || has_bit (sym had i) (n % 64))
-      ∙ ap (λ k. (nat_eq (n / 64) word && has_bit mask (n % 64)) || has_bit (slice_index words k) (n % 64)) (sym at.1))
-  | inr away ↦ (ap (λ w. has_bit w (n % 64)) (get_or-set_other words word (n / 64) (bit_or bits mask) 0 away.1)
-      ∙ ap (λ b. (b && has_bit mask (n % 64)) || has_number words n) (sym (ne_eqb (n / 64) word away.1)))
-]
-
--- one word lost bits
-pub cleared : (words : List ℕ) (word mask bits : ℕ) → mask < 2 ^ 64 → length words ≡ 64 → word < 64 → bits ≡ slice_index words word → (n : ℕ) → has_number (slice_set words word (bit_and bits (2 ^ 64 - 1 - mask))) n ≡ (not (nat_eq (n / 64) word && has_bit mask (n % 64)) && has_number words n)
-cleared words word mask bits fits len within had n =
-    let low : n % 64 < 64 = omega arith in
-    elim (eqb_tells (n / 64) word) [
-      | inl at ↦ (ap (λ k. has_bit (slice_index (slice_set words word (bit_and bits (2 ^ 64 - 1 - mask))) k) (n % 64)) at.1
-          ∙ ap (λ w. has_bit w (n % 64)) (get_or-set_same words word (bit_and bits (2 ^ 64 - 1 - mask)) 0 (omega (arith, len)))
-          ∙ has_bit_and bits (2 ^ 64 - 1 - mask) (n % 64) ∙ ap (λ b. has_bit bits (n % 64) && b) (has_bit_not mask (n % 64) fits low)
-          ∙ and_not_swap (has_bit bits (n % 64)) (has_bit mask (n % 64))
-          ∙ sym (λ i. not (eq-eqb (n / 64) word at.1 i && has_bit mask (n % 64)) && has_bit (sym had i) (n % 64))
-          ∙ ap (λ k. not (nat_eq (n / 64) word && has_bit mask (n % 64)) && has_bit (slice_index words k) (n % 64)) (sym at.1))
-      | inr away ↦ (ap (λ w. has_bit w (n % 64)) (get_or-set_other words word (n / 64) (bit_and bits (2 ^ 64 - 1 - mask)) 0 away.1)
-          ∙ ap (λ b. not (b && has_bit mask (n % 64)) && has_number words n) (sym (ne_eqb (n / 64) word away.1)))
-    ]
-
 -- the one number whose bit a mask has
 pub only_bit : (number n : ℕ) → (nat_eq (n / 64) (number / 64) && has_bit (1 * 2 ^ (number % 64) % 2 ^ 64) (n % 64)) ≡ nat_eq n number
 only_bit number n =
@@ -128,15 +89,31 @@ lowest_number words word bits len first had fits =
       | inr other ↦ (let before : j / 64 < word = omega (arith, other.1) in ap (λ w. has_bit w (j % 64)) (first.before (j / 64) before) ∙ has_bit_zero (j % 64))
     ])
 
-pub filled_members : (words new : List ℕ) (s : set.FinSet nat_cmp) (word mask bits : ℕ) → numbers_of words ≡ s → length words ≡ 64 → word < 64 → bits ≡ slice_index words word → new ≡ slice_set words word (bit_or bits mask) → length new ≡ length words → (n : ℕ) → set.contains (numbers_of new) n ≡ ((nat_eq (n / 64) word && has_bit mask (n % 64)) || set.contains s n)
-filled_members words new s word mask bits view len within had now same n =
-    member new (same ∙ len) n ∙ ap (λ ws. has_number ws n) now ∙ filled words word mask bits len within had n
-    ∙ ap (λ b. (nat_eq (n / 64) word && has_bit mask (n % 64)) || b) (sym (member words len n) ∙ ap (λ t. set.contains t n) view)
+-- the words where one of them changed
+module _ (words new : List ℕ) (s : set.FinSet nat_cmp) (word mask : ℕ) (view : numbers_of words ≡ s) (len : length words ≡ 64) (same : length new ≡ length words) (others : (other : ℕ) → other ≢ word → slice_index new other ≡ slice_index words other) where
+  had : (n : ℕ) → has_number words n ≡ set.contains s n
+  had n = sym (member words len n) ∙ ap (λ t. set.contains t n) view
 
-pub cleared_members : (words new : List ℕ) (s : set.FinSet nat_cmp) (word mask bits : ℕ) → mask < 2 ^ 64 → numbers_of words ≡ s → length words ≡ 64 → word < 64 → bits ≡ slice_index words word → new ≡ slice_set words word (bit_and bits (2 ^ 64 - 1 - mask)) → length new ≡ length words → (n : ℕ) → set.contains (numbers_of new) n ≡ (not (nat_eq (n / 64) word && has_bit mask (n % 64)) && set.contains s n)
-cleared_members words new s word mask bits fits view len within had now same n =
-    member new (same ∙ len) n ∙ ap (λ ws. has_number ws n) now ∙ cleared words word mask bits fits len within had n
-    ∙ ap (λ b. not (nat_eq (n / 64) word && has_bit mask (n % 64)) && b) (sym (member words len n) ∙ ap (λ t. set.contains t n) view)
+  other_word : (n : ℕ) → n / 64 ≢ word → has_number new n ≡ has_number words n
+  other_word n away = ap (λ w. has_bit w (n % 64)) (others (n / 64) away)
+
+  -- it got bits
+  pub filled_members : ((i : ℕ) → i < 64 → has_bit (slice_index new word) i ≡ (has_bit mask i || has_bit (slice_index words word) i)) → (n : ℕ) → set.contains (numbers_of new) n ≡ ((nat_eq (n / 64) word && has_bit mask (n % 64)) || set.contains s n)
+  filled_members bits n = member new (same ∙ len) n ∙ elim (eqb_tells (n / 64) word) [
+    | inl at ↦ (ap (λ k. has_bit (slice_index new k) (n % 64)) at.1 ∙ bits (n % 64) (omega arith)
+        ∙ ap (λ k. has_bit mask (n % 64) || has_bit (slice_index words k) (n % 64)) (sym at.1)
+        ∙ (λ i. (sym (eq-eqb (n / 64) word at.1) i && has_bit mask (n % 64)) || had n i))
+    | inr away ↦ (other_word n away.1 ∙ (λ i. (sym (ne_eqb (n / 64) word away.1) i && has_bit mask (n % 64)) || had n i))
+  ]
+
+  -- it lost bits
+  pub cleared_members : ((i : ℕ) → i < 64 → has_bit (slice_index new word) i ≡ (not (has_bit mask i) && has_bit (slice_index words word) i)) → (n : ℕ) → set.contains (numbers_of new) n ≡ (not (nat_eq (n / 64) word && has_bit mask (n % 64)) && set.contains s n)
+  cleared_members bits n = member new (same ∙ len) n ∙ elim (eqb_tells (n / 64) word) [
+    | inl at ↦ (ap (λ k. has_bit (slice_index new k) (n % 64)) at.1 ∙ bits (n % 64) (omega arith)
+        ∙ ap (λ k. not (has_bit mask (n % 64)) && has_bit (slice_index words k) (n % 64)) (sym at.1)
+        ∙ (λ i. not (sym (eq-eqb (n / 64) word at.1) i && has_bit mask (n % 64)) && had n i))
+    | inr away ↦ (other_word n away.1 ∙ (λ i. not (sym (ne_eqb (n / 64) word away.1) i && has_bit mask (n % 64)) && had n i))
+  ]
 
 -- the set in which no bit is set
 pub no_members : (words : List ℕ) → length words ≡ 64 → ((word : ℕ) → slice_index words word ≡ 0) → numbers_of words ≡ set.empty

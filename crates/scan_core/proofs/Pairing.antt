@@ -1,18 +1,20 @@
 -- What the scanners find is the pair, and where they find none there is none.
 use Rattle.std.proofs.Common.{◌≡◌, ℕ, ◌<◌, ◌≤◌, Bool, true, false, not, List, inl, inr, refl, sym, ap, ◌∙◌, arith}
-use Rattle.std.specs.Prelude.{Some, None, nat_le, nat_lt, ◌&&◌}
+use Rattle.std.specs.Prelude.{Option, Some, None, nat_le, nat_lt, slice_get, ◌&&◌}
 use Rattle.std.specs.FinSet as set
 use Rattle.std.specs.Ordering.{nat_cmp}
 use Rattle.std.proofs.lemmas.Bool.{ltb-true, leb-true, lt-ltb, le-leb}
 use Rattle.std.proofs.lemmas.Bool.Decides.{leb_tells}
 use Rattle.frame_core.specs.declared.state.FrameState.{FrameState}
+use Rattle.frame_core.specs.declared.state.FrameState.TheVariants.{Free, Holds, Huge, Source, Target}
 use Rattle.frame_core.specs.Below.{highest, lowest}
 use Rattle.frame_core.proofs.Searches.{lowest_some, lowest_before, no_lowest}
 use Rattle.scan_core.specs.declared.fingers.Fingers.{Fingers}
-use Rattle.scan_core.specs.Frames.{free_at, holds_at, true_at}
+use Rattle.scan_core.specs.Frames.{free_at, holds_at, is_free_state, is_holding_state, true_at}
 use Rattle.scan_core.specs.Pairs.{IsSource, IsTarget, IsPair, is_marked, is_source, is_target, next_source, next_target}
 use Rattle.scan_core.specs.Seen.{IsTold}
 use Rattle.scan_core.proofs.Bounds.{highest_some, highest_above, no_highest}
+use Rattle.scan_core.proofs.Masking.{and_false}
 
 both : (a b : Bool) → (a && b) ≡ true → (a ≡ true) × (b ≡ true)
 both true b e = (refl, e)
@@ -114,3 +116,24 @@ module _ (states holders : List FrameState) (free : set.FinSet nat_cmp) (movable
 
   pub target_told : (source : ℕ) → highest (λ frame. nat_lt source frame && (not (is_marked marked frame) && set.contains free frame)) fingers.free ≡ next_target states marked fingers source
   target_told source = ap (λ (h : ℕ → Bool). highest (λ frame. nat_lt source frame && (not (is_marked marked frame) && h frame)) fingers.free) (λ i n. told.free n i)
+
+-- a frame that is free holds no page
+pub free_holds_none : (state : Option FrameState) → is_free_state state ≡ true → is_holding_state state ≡ false
+free_holds_none None free = refl
+free_holds_none (Some Free) free = refl
+free_holds_none (Some (Holds page)) free = cc
+free_holds_none (Some (Source serial)) free = cc
+free_holds_none (Some (Target serial)) free = cc
+free_holds_none (Some Huge) free = cc
+
+-- so no page is told of one
+pub told_empty : (states holders : List FrameState) (free : set.FinSet nat_cmp) → IsTold states holders free → (frame : ℕ) → set.contains free frame ≡ true → holds_at holders frame ≡ false
+told_empty states holders free told frame is = told.holds frame ∙ free_holds_none (slice_get states frame) (sym (told.free frame) ∙ is)
+
+-- free frames are passed over: none of them is a source
+pub sources_passed : (holders : List FrameState) (movable marked : List Bool) (free : set.FinSet nat_cmp) (from next frame : ℕ) → ((k : ℕ) → set.contains free k ≡ true → holds_at holders k ≡ false) → ((k : ℕ) → k < next → (nat_le from k && is_source holders movable marked k) ≡ false) → ((k : ℕ) → next ≤ k → k < frame → set.contains free k ≡ true) → (k : ℕ) → k < frame → (nat_le from k && is_source holders movable marked k) ≡ false
+sources_passed holders movable marked free from next frame empty before are k below = elim (leb_tells next k) [
+  | inl passed ↦ (ap (λ holds. nat_le from k && (not (is_marked marked k) && (holds && true_at movable k))) (empty k (are k passed.1 below))
+      ∙ ap (λ b. nat_le from k && b) (and_false (not (is_marked marked k))) ∙ and_false (nat_le from k))
+  | inr earlier ↦ before k earlier.1
+]

@@ -1,6 +1,6 @@
 //! 4,096 bits.
 
-ghost use Rattle.std.specs.Prelude.{◌≡◌, ℕ, ◌+◌, ◌<◌, ◌≤◌, length, nat_lt, slice_index, slice_set, MatchOption, if◌then◌else◌};
+ghost use Rattle.std.specs.Prelude.{◌≡◌, ◌≢◌, ℕ, ◌+◌, ◌<◌, ◌≤◌, ◌&&◌, ◌||◌, not, length, nat_lt, slice_index, MatchOption, if◌then◌else◌};
 ghost use Rattle.scan_core.specs.Bits.{has_bit, IsFirstWord};
 ghost use Rattle.scan_core.specs.NumberSet.{in_run};
 
@@ -45,14 +45,35 @@ impl Bits {
         self.words[word as usize]
     }
 
-    /// Writes the 64 bits of a word.
-    pub fn set(&mut self, word: u32, bits: u64)
+    /// Sets the bits of a mask in a word.
+    #[inline(always)]
+    pub fn add(&mut self, word: u32, mask: u64)
         requires { word < 64 }
-        ensures set { self.new ≡ slice_set self.old word bits }
+        ensures bits { (i : ℕ) → i < 64 → has_bit (slice_index self.new word) i ≡ (has_bit mask i || has_bit (slice_index self.old word) i) }
+        ensures others { (other : ℕ) → other ≢ word → slice_index self.new other ≡ slice_index self.old other }
         ensures len { length self.new ≡ length self.old }
     {
+        let had = self.words[word as usize];
+        let bits = had | mask;
         self.words[word as usize] = bits;
-        self.summary = summarized(self.summary, 1 << word, bits);
+        if had == 0 {
+            self.summary = summarized(self.summary, 1 << word, bits);
+        }
+    }
+
+    /// Clears the bits of a mask in a word.
+    #[inline(always)]
+    pub fn remove(&mut self, word: u32, mask: u64)
+        requires { word < 64 }
+        ensures bits { (i : ℕ) → i < 64 → has_bit (slice_index self.new word) i ≡ (not (has_bit mask i) && has_bit (slice_index self.old word) i) }
+        ensures others { (other : ℕ) → other ≢ word → slice_index self.new other ≡ slice_index self.old other }
+        ensures len { length self.new ≡ length self.old }
+    {
+        let left = self.words[word as usize] & !mask;
+        self.words[word as usize] = left;
+        if left == 0 {
+            self.summary &= !(1 << word);
+        }
     }
 
     /// Writes the same bits to each of so many words from a first one on.

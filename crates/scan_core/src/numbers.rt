@@ -1,6 +1,6 @@
 //! Sets of numbers below 4,096.
 
-ghost use Rattle.std.specs.Prelude.{◌≡◌, ℕ, ◌+◌, ◌*◌, ◌/◌, ◌%◌, ◌^◌, ◌<◌, ◌≤◌, ◌&&◌, ◌||◌, not, true, nat_eq, nat_lt, IfSome, if◌then◌else◌};
+ghost use Rattle.std.specs.Prelude.{◌≡◌, ℕ, ◌+◌, ◌*◌, ◌/◌, ◌%◌, ◌^◌, ◌<◌, ◌≤◌, ◌&&◌, ◌||◌, not, true, false, nat_eq, nat_lt, IfSome, if◌then◌else◌};
 ghost use Rattle.std.specs.Ordering.{nat_cmp};
 ghost use Rattle.std.specs.FinSet as set;
 ghost use Rattle.frame_core.specs.Below.{lowest};
@@ -13,7 +13,8 @@ use crate::bits::Bits;
 use frame_core::Order;
 use std::marker::Model;
 
-/// A set of numbers below 4,096. It takes no memory of its own, and each call looks at a few words.
+/// A set of numbers below 4,096. It takes no memory of its own, and each call looks at a few words:
+/// `lowest_absent` alone goes through all 64 at most.
 #[derive(Drop)]
 pub struct NumberSet {
     bits: Bits,
@@ -94,6 +95,28 @@ impl NumberSet {
         Some(64 * word + self.bits.get(word).trailing_zeros())
     }
 
+    /// The lowest number from a first one on that isn't of the set: 4,096 if each of them is.
+    #[inline(always)]
+    pub fn lowest_absent(&self, from: u32) -> u32
+        requires { from < 4096 }
+        ensures least { from ≤ result }
+        ensures most { result ≤ 4096 }
+        ensures absent { set.contains self.now result ≡ false }
+        ensures before { (number : ℕ) → from ≤ number → number < result → set.contains self.now number ≡ true }
+    {
+        let absent = !self.bits.get(from / 64) >> (from % 64);
+        if absent != 0 {
+            return from + absent.trailing_zeros();
+        }
+        for word in from / 64 + 1..64 {
+            let absent = !self.bits.get(word);
+            if absent != 0 {
+                return 64 * word + absent.trailing_zeros();
+            }
+        }
+        4096
+    }
+
     /// Puts in the 2^order numbers from a first one on.
     pub fn insert_run(&mut self, first: u32, order: Order)
         requires within { first < 4096 }
@@ -145,16 +168,14 @@ impl NumberSet {
         requires { word < 64 }
         ensures { (number : ℕ) → set.contains self.new number ≡ ((nat_eq (number / 64) word && has_bit mask (number % 64)) || set.contains self.old number) }
     {
-        let bits = self.bits.get(word);
-        self.bits.set(word, bits | mask);
+        self.bits.add(word, mask);
     }
 
     fn clear(&mut self, word: u32, mask: u64)
         requires { word < 64 }
         ensures { (number : ℕ) → set.contains self.new number ≡ (not (nat_eq (number / 64) word && has_bit mask (number % 64)) && set.contains self.old number) }
     {
-        let bits = self.bits.get(word);
-        self.bits.set(word, bits & !mask);
+        self.bits.remove(word, mask);
     }
 }
 

@@ -1,9 +1,10 @@
 //! The pair of frames that a round takes next.
 
-ghost use Rattle.std.specs.Prelude.{◌≡◌, ◌*◌, ◌<◌, ◌≤◌, ◌&&◌, not, List, length, nat_lt};
+ghost use Rattle.std.specs.Prelude.{◌≡◌, ◌*◌, ◌<◌, ◌≤◌, ◌&&◌, ℕ, not, true, false, List, length, nat_lt};
 ghost use Rattle.std.specs.FinSet as set;
 ghost use Rattle.frame_core.specs.Below.{highest};
 ghost use Rattle.frame_core.specs.declared.state.FrameState.{FrameState as Stated};
+ghost use Rattle.scan_core.specs.Frames.{holds_at};
 ghost use Rattle.scan_core.specs.Seen.{IsTold};
 ghost use Rattle.scan_core.specs.Pairs.{is_marked, is_source, next_source, next_step, after_step, Finds};
 
@@ -16,7 +17,7 @@ use frame_core::{FrameNo, FrameState};
 /// The next pair between the fingers, which then stand behind its source and at its target. Where there is none they stay. There
 /// are 4,096 frames at most; `movable` has a place for each of them, and `marked` for each of their pageblocks.
 ///
-/// Each frame is looked at about once a round: the searches begin at the fingers.
+/// Each frame is looked at about once a round at most, and no free one as a source: the searches begin at the fingers.
 pub fn next_pair(
     frames: &[FrameState],
     movable: &[bool],
@@ -59,6 +60,7 @@ pub fn next_told(
     requires marked { length holders.now ≤ 512 * length marked.now }
     requires low { fingers.old.migrate ≤ fingers.old.free }
     requires high { fingers.old.free ≤ length holders.now }
+    requires empty { (frame : ℕ) → set.contains free.now frame ≡ true → holds_at holders.now frame ≡ false }
 
     ensures pair { (states : List Stated) → IsTold states holders.now free.now → Finds states movable.now marked.now fingers.old result }
     ensures step { (states : List Stated) → IsTold states holders.now free.now → result ≡ next_step states movable.now marked.now fingers.old }
@@ -67,7 +69,7 @@ pub fn next_told(
     ensures low { fingers.new.migrate ≤ fingers.new.free }
     ensures high { fingers.new.free ≤ length holders.now }
 {
-    let Some(source) = next_source(holders, movable, marked, *fingers) else {
+    let Some(source) = next_source(holders, free, movable, marked, *fingers) else {
         return Step::Met;
     };
     let Some(target) = next_target(free, marked, *fingers, source) else {
@@ -78,9 +80,10 @@ pub fn next_told(
     Step::Pair { source, target }
 }
 
-/// The lowest frame between the fingers that a page may be taken from.
+/// The lowest frame between the fingers that a page may be taken from. Free frames are passed over, many at once.
 fn next_source(
     holders: &[FrameState],
+    free: &NumberSet,
     movable: &[bool],
     marked: &[bool],
     fingers: Fingers,
@@ -89,12 +92,19 @@ fn next_source(
     requires movable { length movable.now ≡ length holders.now }
     requires marked { length holders.now ≤ 512 * length marked.now }
     requires high { fingers.free ≤ length holders.now }
+    requires empty { (frame : ℕ) → set.contains free.now frame ≡ true → holds_at holders.now frame ≡ false }
     ensures { result ≡ next_source holders.now movable.now marked.now fingers }
 {
-    for frame in fingers.migrate..fingers.free {
+    let mut next = fingers.migrate;
+    while next < fingers.free {
+        let frame = free.lowest_absent(next);
+        if frame >= fingers.free {
+            return None;
+        }
         if is_source(holders, movable, marked, frame as usize) {
             return FrameNo::new(frame);
         }
+        next = frame + 1;
     }
     None
 }
