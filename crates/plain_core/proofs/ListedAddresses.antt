@@ -12,7 +12,7 @@ use Rattle.journal_core.proofs.OnTheWay.{out_below}
 use Rattle.journal_core.specs.History.{page_at, is_page, names, maps}
 use Rattle.journal_core.specs.Moves.{isolated}
 use Rattle.table_core.specs.declared.entry.Entry.{Entry}
-use Rattle.table_core.specs.declared.entry.Entry.TheVariants.{Migration}
+use Rattle.table_core.specs.declared.entry.Entry.TheVariants.{Present, Migration}
 use Rattle.table_core.specs.Tables.{entry_at, is_listed, count_listed}
 use Rattle.state_core.specs.declared.placement.Placement.{Placement}
 use Rattle.state_core.specs.declared.placement.Placement.TheVariants.{At, Moving}
@@ -99,6 +99,20 @@ module _ (entries : List Entry) (v : ZoneState) (fit : EntriesFit entries v) (la
       let known = (law.under_way page.0 (isolated v.records)).0 (ap (λ (o : Option Placement). is_under o (isolated v.records)) page.2 ∙ eq-eqb (isolated v.records) (isolated v.records) refl) in
       let below = out_below v.records law.well_ended (isolated v.records) known.0 in
       absurd (omega (arith, below))
+
+  -- no address names a page that left a frame which no page takes up, or in which a page rests
+  pub none_left : (frame : ℕ) → is_used v frame ≡ false → (a : Address) (serial : ℕ) → InRange a → entry_at entries a ≢ Migration serial frame
+  none_left frame unused a serial range e =
+      untrue _ (none_listed frame unused a range) (ap (λ (x : Entry). is_listed x frame) e ∙ eq-eqb frame frame refl)
+
+  pub page_rests : (page frame : ℕ) → map.get v.placement page ≡ Some (At frame) → (a : Address) (serial : ℕ) → InRange a → entry_at entries a ≢ Migration serial frame
+  page_rests page frame at a serial range e =
+      let by = names_of a range frame (ap (λ (x : Entry). is_listed x frame) e ∙ eq-eqb frame frame refl) in
+      let same : by.page ≡ page = law.apart by.page page frame by.takes (ap (λ (p : Option Placement). takes_up p frame) at ∙ eq-eqb frame frame refl) in
+      let two : Some by.placement ≡ Some (At frame) = sym by.at ∙ ap (map.get v.placement) same ∙ at in
+      let is : by.placement ≡ At frame = cc in
+      let bad : Present frame ≡ Migration serial frame = sym (ap (λ (p : Placement). entry_for (Some p)) is) ∙ sym by.entry ∙ e in
+      cc
 
   -- what is listed under the source of a page on its way is the page's, and nothing is under its target
   module _ (page serial source target : ℕ) (at : map.get v.placement page ≡ Some (Moving serial source target)) where

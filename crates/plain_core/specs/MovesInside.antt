@@ -2,9 +2,9 @@
 use Rattle.std.specs.Prelude.{◌≡◌, ◌+◌, ◌^◌, ◌<◌, ◌≤◌, length, vec_capacity}
 use Rattle.plain_core.specs.declared.moves.Moves.TheInside.{Inside}
 
--- each page that ended its move was isolated, and the list has the room that was made first
+-- each page that is out or was put back was isolated, and the list has the room that was made first
 pub record IsKept (z : Inside) : Type 0 where
-  pub ended : z.moved + z.back ≤ length z.pages.items
+  pub isolated : z.out + z.back ≤ length z.pages.items
   pub within : length z.pages.items ≤ z.places
   pub room : vec_capacity z.pages ≡ z.places
   pub few : z.places < 2 ^ 32

@@ -98,6 +98,7 @@ impl PlainZone {
     }
 
     /// Ends a move: the page stands in its source again.
+    #[inline(always)]
     pub fn go_back(&mut self, way: &Way, cause: Cause)
         requires placed { map.get self.old.placement way.now.page ≡ Some (Moving way.now.serial way.now.source way.now.target) }
         requires cause { HasCause cause (pins self.old.records way.now.page) }

@@ -17,7 +17,7 @@ use frame_core::{FrameNo, FrameState, PageFlags, PageNo};
 use journal_core::Record;
 use scan_core::{Fingers, Step};
 use state_core::{Pair, Placement};
-use word_core::{Isolated, Page};
+use word_core::Isolated;
 
 impl PlainZone {
     /// The page that a frame holds.
@@ -60,15 +60,6 @@ impl PlainZone {
         PageFlags::of(note.unmovable, note.dirty)
     }
 
-    /// A page as it is carried.
-    fn carried(&self, page: PageNo, frame: FrameNo) -> Page
-        requires { map.get self.now.placement page ≡ Some (At frame) }
-        ensures { result ≡ page_now self.now page }
-    {
-        self.words
-            .read_out(frame, self.number, page, self.flags_of(page))
-    }
-
     /// Takes the page of the next pair on its way, under the next serial.
     #[inline(always)]
     pub fn isolate(&mut self, pair: Pair) -> Isolated
@@ -83,7 +74,7 @@ impl PlainZone {
             source,
             target,
         } = pair;
-        let carried = self.carried(page, source);
+        let flags = self.flags_of(page);
         let serial = self.moves.isolate(page);
         self.frames.to_source(source, serial);
         self.frames.to_target(target, serial);
@@ -94,11 +85,10 @@ impl PlainZone {
             target,
         };
         self.notes.place(page, way);
-        self.fingers = Fingers {
-            migrate: source.get() + 1,
-            free: target.get(),
-        };
+        self.fingers.migrate = source.get() + 1;
+        self.fingers.free = target.get();
         self.history.note(Record::Isolate { serial, page });
+        let carried = self.words.read_out(source, self.number, page, flags);
         Isolated::new(serial, carried)
     }
 

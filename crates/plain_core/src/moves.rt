@@ -7,21 +7,22 @@ use state_core::Audit;
 use std::alloc::{AllocError, Global};
 use std::marker::Model;
 
-/// The pages that were isolated, by serial, and how many were moved and put back.
+/// The pages that were isolated, by serial, and how many of them are out and were put back: the others were moved.
 #[derive(Drop)]
 pub struct Moves {
     pages: Vec<PageNo>,
     places: u32,
-    moved: u32,
+    out: u32,
     back: u32,
 }
 
 impl Model for Moves {
+    ghost use Rattle.std.specs.Prelude.{◌-◌, length};
     ghost use Rattle.plain_core.specs.Moves.{Moves as Seen};
 
     ghost Value = { Seen };
 
-    ghost view = { λ z. record { pages = z.pages.items; places = z.places; moved = z.moved; back = z.back } };
+    ghost view = { λ z. record { pages = z.pages.items; places = z.places; moved = length z.pages.items - z.out - z.back; back = z.back } };
 
     ghost use Rattle.plain_core.specs.MovesInside.{IsKept};
 
@@ -37,7 +38,7 @@ impl Moves {
         Ok(Moves {
             pages,
             places,
-            moved: 0,
+            out: 0,
             back: 0,
         })
     }
@@ -53,7 +54,7 @@ impl Moves {
     pub fn out(&self) -> u32
         ensures { result + self.now.moved + self.now.back ≡ length self.now.pages }
     {
-        self.isolated() - self.moved - self.back
+        self.out
     }
 
     /// The page that was isolated under a serial.
@@ -71,6 +72,7 @@ impl Moves {
     {
         let serial = self.isolated();
         self.pages.push_reserved(page);
+        self.out += 1;
         serial
     }
 
@@ -79,7 +81,7 @@ impl Moves {
         requires { self.old.moved + self.old.back < length self.old.pages }
         ensures { self.new ≡ record self.old { moved = self.old.moved + 1 } }
     {
-        self.moved += 1;
+        self.out -= 1;
     }
 
     /// One of the pages that are out was put back.
@@ -87,6 +89,7 @@ impl Moves {
         requires { self.old.moved + self.old.back < length self.old.pages }
         ensures { self.new ≡ record self.old { back = self.old.back + 1 } }
     {
+        self.out -= 1;
         self.back += 1;
     }
 
@@ -98,7 +101,7 @@ impl Moves {
     {
         Audit {
             isolated: self.isolated(),
-            moved: self.moved,
+            moved: self.isolated() - self.out - self.back,
             back: self.back,
         }
     }

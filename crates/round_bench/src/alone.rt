@@ -28,13 +28,10 @@ pub fn move_alone<I: Ledger, N: Ledger, M: Ledger, B: Ledger, R: Clock>(
     let start = Instant::now(rt)?;
     let moved = move_all(&mut zone, &mut seats);
     let whole = nanos_since(rt, &start)?;
-    let start = Instant::now(rt)?;
-    let _none = move_all(&mut zone, &mut seats);
-    let empty = nanos_since(rt, &start)?;
     Ok(Times {
         moved,
         whole,
-        empty,
+        ..Times::NONE
     })
 }
 

@@ -1,14 +1,29 @@
--- That copies of the absent entry name nothing.
-use Rattle.std.proofs.Common.{◌≡◌, ℕ, zero, suc, List, replicate, refl, ap, ◌∙◌}
-use Rattle.std.specs.Prelude.{slice_get, unwrap_or}
-use Rattle.table_core.specs.declared.entry.Entry.{Entry}
-use Rattle.table_core.specs.declared.entry.Entry.TheVariants.{Absent}
+-- Where no address is listed under a frame, none names anything.
+use Rattle.std.proofs.Common.{◌≡◌, ℕ, zero, suc, List, length, replicate, refl, ap, sym, ◌∙◌}
+use Rattle.std.specs.Prelude.{Option, Some, None, slice_get, unwrap_or}
+use Rattle.std.proofs.lemmas.List.{length-replicate}
+use Rattle.table_core.specs.EntriesInside.{entry_by, entries_of, AreKept}
 use Rattle.table_core.specs.Tables.{place_of, IsBlank}
+use Rattle.table_core.proofs.Writing.{seen}
 
-absent_at : (n place : ℕ) → unwrap_or (slice_get (replicate n Absent) place) Absent ≡ Absent
-absent_at zero place = refl
-absent_at (suc n) zero = refl
-absent_at (suc n) (suc place) = absent_at n place
+all_same : (n place : ℕ) (o : Option ℕ) → unwrap_or (slice_get (replicate n o) place) o ≡ o
+all_same zero place o = refl
+all_same (suc n) zero o = refl
+all_same (suc n) (suc place) o = all_same n place o
 
-pub blank : (n : ℕ) (entries : List Entry) → entries ≡ replicate n Absent → IsBlank entries
-blank n entries e a = ap (λ (xs : List Entry). unwrap_or (slice_get xs (place_of a)) Absent) e ∙ absent_at n (place_of a)
+pub blank : (n : ℕ) (serials frames : List (Option ℕ)) → frames ≡ replicate n None → IsBlank (entries_of serials frames)
+blank n serials frames e a =
+    seen serials frames a
+    ∙ ap (λ (under : List (Option ℕ)). entry_by serials (unwrap_or (slice_get under (place_of a)) None)) e
+    ∙ ap (entry_by serials) (all_same n (place_of a) None)
+
+pub kept_blank : (n : ℕ) (serials frames : List (Option ℕ)) → n ≡ 32768 → frames ≡ replicate n None → AreKept serials frames
+kept_blank n serials frames count e = record {
+  count = ap length e ∙ length-replicate n None ∙ count;
+  within = λ place frame at.
+      let none : None ≡ Some frame =
+      sym (all_same n place None)
+      ∙ sym (ap (λ (under : List (Option ℕ)). unwrap_or (slice_get under place) None) e)
+      ∙ ap (λ (o : Option (Option ℕ)). unwrap_or o None) at in
+      cc;
+}

@@ -4,3 +4,4 @@ pub mod Listing
 mod Passing
 pub mod Rising
 mod Walking
+mod Writing

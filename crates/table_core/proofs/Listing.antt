@@ -34,19 +34,18 @@ place_at place = div-add-mod place 4096
 pub range_at : (place : ℕ) → place < 32768 → InRange (address_at place)
 range_at place h = let whole = div-add-mod place 4096 in record { space = omega arith; vpage = omega arith }
 
--- an entry that is read by its index, and the list that is read so
-pub entry_read : (entries : List Entry) (a : Address) (index : ℕ) (entry : Entry) → index ≡ place_of a → index < length entries → entry ≡ get_or entries index entry →
-    entry_at entries a ≡ entry
-entry_read entries a index entry at within read =
+-- an entry that is got by its place, and a list that is read by its index
+pub entry_got : (entries : List Entry) (a : Address) (place : ℕ) (entry : Entry) → place ≡ place_of a → slice_get entries place ≡ Some entry → entry_at entries a ≡ entry
+entry_got entries a place entry at got =
     ap (λ (p : ℕ). unwrap_or (slice_get entries p) Absent) (sym at)
-    ∙ ap (λ (o : Option Entry). unwrap_or o Absent) (slice_get-get_or entries index entry within) ∙ sym read
+    ∙ ap (λ (o : Option Entry). unwrap_or o Absent) got
 
 pub list_read : (lists : List (List Address)) (frame index : ℕ) (names : List Address) → index ≡ frame → index < length lists → names ≡ get_or lists index names →
     slice_get lists frame ≡ Some names
 list_read lists frame index names at within read = ap (slice_get lists) (sym at) ∙ slice_get-get_or lists index names within ∙ ap Some (sym read)
 
 -- a slice that was written as a whole
-pub rewritten : (old new : List Entry) (n : ℕ) → length new ≡ n → length old ≡ n → take n (new ++ drop (length new) old) ≡ new
+pub rewritten : {X : Type 0} (old new : List X) (n : ℕ) → length new ≡ n → length old ≡ n → take n (new ++ drop (length new) old) ≡ new
 rewritten old new n a b = take-append-le n new (drop (length new) old) (omega arith) ∙ take_all n new (omega arith)
 
 -- one entry is another, or not
@@ -241,17 +240,14 @@ real entries a count some = elim (leb_tells (length entries) (place_of a)) [
   | inr here ↦ (address_at (place_of a), range_at (place_of a) (omega (arith, here.1)), place_at (place_of a))
 ]
 
--- each address that had an entry is in the list of its frame
-pub replaces : (old new : List Entry) (from to : Entry) (frame : ℕ) (names : List Address) → length old ≡ 32768 → IsListOf old frame names →
-    from ≢ Absent → is_listed from frame ≡ true →
-    ((a : Address) → IsIn names a → entry_at old a ≡ from → entry_at new a ≡ to) →
-    ((a : Address) → entry_at old a ≢ from → entry_at new a ≡ entry_at old a) → Replaces old new from to
-replaces old new from to frame names count list some under named other = record {
-  there = λ a e. (let b = real old a count (λ none. some (sym e ∙ none)) in
-      let at : entry_at old b.0 ≡ from = ap (λ (p : ℕ). unwrap_or (slice_get old p) Absent) b.2 ∙ e in
-      ap (λ (p : ℕ). unwrap_or (slice_get new p) Absent) (sym b.2) ∙ named b.0 ((list.just.each b.0).1 (b.1, ap (λ x. is_listed x frame) at ∙ under)) at);
-  elsewhere = other;
-}
+-- what holds of the absent entry and at each address that there is holds at every address
+pub everywhere : (entries : List Entry) → length entries ≡ 32768 → (Holds : Entry → Type 0) → Holds Absent →
+    ((a : Address) → InRange a → Holds (entry_at entries a)) → (a : Address) → Holds (entry_at entries a)
+everywhere entries count Holds none here a = elim (leb_tells (length entries) (place_of a)) [
+  | inl past ↦ subst Holds (sym (ap (λ (o : Option Entry). unwrap_or o Absent) (slice_get_past entries (place_of a) past.1))) none
+  | inr low ↦ subst Holds (ap (λ (p : ℕ). unwrap_or (slice_get entries p) Absent) (place_at (place_of a)))
+      (here (address_at (place_of a)) (range_at (place_of a) (omega (arith, low.1))))
+]
 
 -- a page goes on its way: its addresses stay listed under the frame that it left
 pub listed_moved : (old new : List Entry) (lists : List (List Address)) (frame serial : ℕ) → AreListed old lists → length new ≡ 32768 →

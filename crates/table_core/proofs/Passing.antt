@@ -1,13 +1,12 @@
 -- One address more of a walk over a list of addresses.
 use Rattle.std.proofs.Common.{◌≡◌, ◌≢◌, ℕ, zero, suc, ◌+◌, ◌<◌, ◌≤◌, List, [], ◌∷◌, ◌++◌, length, drop, ◌⊎◌, inl, inr, refl, sym, ap, subst, ◌∙◌, arith}
-use Rattle.std.specs.Prelude.{Some, slice_get, unwrap_or}
+use Rattle.std.specs.Prelude.{Option, Some, slice_get, slice_set}
 use Rattle.std.proofs.lemmas.Bool.Decides.{eqb_tells, leb_tells}
+use Rattle.frame_core.proofs.Lists.{slice_get_set_same, slice_get_set_other}
 use Rattle.frame_core.specs.declared.place.Address.{Address}
 use Rattle.table_core.specs.declared.entry.Entry.{Entry}
-use Rattle.table_core.specs.declared.entry.Entry.TheVariants.{Absent}
 use Rattle.table_core.specs.Names.{IsIn, IsRising}
 use Rattle.table_core.specs.Tables.{place_of, entry_at}
-use Rattle.table_core.proofs.Listing.{Changes}
 use Rattle.table_core.proofs.Rising.{from_pushed, to_pushed, rising_pushed}
 
 pub drop_at : {X : Type 0} (xs : List X) (i : ℕ) (x : X) → slice_get xs i ≡ Some x → drop i xs ≡ x ∷ drop (suc i) xs
@@ -20,51 +19,38 @@ some_index [] a h = absurd h
 some_index (x ∷ xs) a (inl e) = (0, omega arith, ap Some e)
 some_index (x ∷ xs) a (inr h) = let w = some_index xs a h in (suc w.0, omega (arith, w.1), w.2)
 
--- the addresses below n were passed: the first entry became the second there, and no other entry changed
-pub record Passed (old new : List Entry) (names : List Address) (from to : Entry) (n : ℕ) : Type 0 where
-  pub there : (k : ℕ) (a : Address) → k < n → slice_get names k ≡ Some a → entry_at old a ≡ from → entry_at new a ≡ to
-  pub either : (a : Address) → entry_at old a ≡ from → (entry_at new a ≡ from) ⊎ (entry_at new a ≡ to)
-  pub other : (a : Address) → entry_at old a ≢ from → entry_at new a ≡ entry_at old a
+-- the addresses below n are listed under a frame, and where none of the list stands, nothing changed
+pub record Under (old new : List (Option ℕ)) (names : List Address) (frame n : ℕ) : Type 0 where
+  pub named : (k : ℕ) (a : Address) → k < n → slice_get names k ≡ Some a → slice_get new (place_of a) ≡ Some (Some frame)
+  pub other : (place : ℕ) → ((a : Address) → IsIn names a → place_of a ≢ place) → slice_get new place ≡ slice_get old place
 
-module _ (old now : List Entry) (names : List Address) (from to : Entry) (n : ℕ) (passed : Passed old now names from to n) (x : Address) (at : slice_get names n ≡ Some x) where
-  is_x : (k : ℕ) (a : Address) → n ≤ k → k < n + 1 → slice_get names k ≡ Some a → x ≡ a
-  is_x k a low high e =
-      let same : n ≡ k = omega arith in
-      let both : Some x ≡ Some a = sym at ∙ ap (slice_get names) same ∙ e in cc
+in_at : (names : List Address) (k : ℕ) (a : Address) → slice_get names k ≡ Some a → IsIn names a
+in_at [] k a e = cc
+in_at (x ∷ xs) zero a e = (let same : x ≡ a = cc in inl same)
+in_at (x ∷ xs) (suc k) a e = inr (in_at xs k a e)
 
-  pub pass_changed : (new : List Entry) → Changes now new x to → entry_at now x ≡ from → Passed old new names from to (n + 1)
-  pass_changed new change is = record {
-    there = λ k a low e was. elim (eqb_tells (place_of a) (place_of x)) [
-      | inl same ↦ change.here a same.1
-      | inr other ↦ change.elsewhere a other.1 ∙ elim (leb_tells n k) [
-        | inl end ↦ absurd (other.1 (sym (ap place_of (is_x k a end.1 low e))))
-        | inr under ↦ passed.there k a under.1 e was
-      ]
-    ];
-    either = λ a was. elim (eqb_tells (place_of a) (place_of x)) [
-      | inl same ↦ inr (change.here a same.1)
-      | inr other ↦ elim (passed.either a was) [ inl e ↦ inl (change.elsewhere a other.1 ∙ e) | inr e ↦ inr (change.elsewhere a other.1 ∙ e) ]
-    ];
-    other = λ a ne. elim (eqb_tells (place_of a) (place_of x)) [
-      | inl same ↦ absurd (ne (sym (passed.other a ne) ∙ ap (λ (p : ℕ). unwrap_or (slice_get now p) Absent) same.1 ∙ is))
-      | inr other ↦ change.elsewhere a other.1 ∙ passed.other a ne
-    ];
-  }
+pub under_more : (old now : List (Option ℕ)) (names : List Address) (frame n : ℕ) → Under old now names frame n → (x : Address) → slice_get names n ≡ Some x →
+    (index : ℕ) → index ≡ place_of x → index < length now → Under old (slice_set now index (Some frame)) names frame (n + 1)
+under_more old now names frame n under x at index is within = record {
+  named = λ k a low e. elim (eqb_tells (place_of a) index) [
+    | inl same ↦ slice_get_set_same now index (place_of a) (Some frame) same.1 within
+    | inr apart ↦ slice_get_set_other now index (place_of a) (Some frame) apart.1
+        ∙ under.named k a (before k a low e apart.1) e
+  ];
+  other = λ place none. slice_get_set_other now index place (Some frame) (λ e. none x (in_at names n x at) (sym is ∙ sym e)) ∙ under.other place none;
+} where
+  before : (k : ℕ) (a : Address) → k < n + 1 → slice_get names k ≡ Some a → place_of a ≢ index → k < n
+  before k a low e apart = elim (leb_tells n k) [
+    | inl end ↦ (let same : n ≡ k = omega (arith, end.1) in
+        let both : Some x ≡ Some a = sym at ∙ ap (slice_get names) same ∙ e in
+        let one : x ≡ a = cc in
+        absurd (apart (sym (ap place_of one) ∙ sym is)))
+    | inr low ↦ low.1
+  ]
 
-  pub pass_kept : entry_at now x ≢ from → Passed old now names from to (n + 1)
-  pass_kept isnt = record {
-    there = λ k a low e was. elim (leb_tells n k) [
-      | inl end ↦ (let same = is_x k a end.1 low e in
-          elim (passed.either a was) [ inl is ↦ absurd (isnt (ap (entry_at now) same ∙ is)) | inr is ↦ is ])
-      | inr under ↦ passed.there k a under.1 e was
-    ];
-    either = passed.either;
-    other = passed.other;
-  }
-
-pub pass_all : (old new : List Entry) (names : List Address) (from to : Entry) (n : ℕ) → Passed old new names from to n → length names ≤ n →
-    (a : Address) → IsIn names a → entry_at old a ≡ from → entry_at new a ≡ to
-pass_all old new names from to n passed all a h was = let w = some_index names a h in passed.there w.0 a (omega (arith, w.1)) w.2 was
+pub under_all : (old new : List (Option ℕ)) (names : List Address) (frame n : ℕ) → Under old new names frame n → length names ≤ n →
+    (a : Address) → IsIn names a → slice_get new (place_of a) ≡ Some (Some frame)
+under_all old new names frame n under all a h = let w = some_index names a h in under.named w.0 a (omega (arith, w.1)) w.2
 
 -- those with an entry were found, but for the rest, which comes behind them
 pub record Found (entries : List Entry) (names : List Address) (entry : Entry) (found rest : List Address) : Type 0 where

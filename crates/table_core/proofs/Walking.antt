@@ -2,8 +2,8 @@
 use Rattle.std.proofs.Common.{◌≡◌, ◌≢◌, ℕ, ◌+◌, ◌<◌, ◌≤◌, true, List, [], ◌∷◌, ◌++◌, length, inl, inr, refl, sym, ap, subst, ◌∙◌, arith}
 use Rattle.std.specs.Prelude.{Option, Some, slice_get, unwrap_or}
 use Rattle.std.proofs.lemmas.Bool.{eq-eqb}
-use Rattle.std.proofs.lemmas.Bool.Decides.{eqb_tells, leb_tells}
-use Rattle.std.proofs.lemmas.Option.{slice_get-get_or, slice_get_past}
+use Rattle.std.proofs.lemmas.Bool.Decides.{eqb_tells}
+use Rattle.std.proofs.lemmas.Option.{slice_get-get_or}
 use Rattle.frame_core.specs.Address.{InRange}
 use Rattle.frame_core.specs.declared.place.Address.{Address}
 use Rattle.table_core.specs.declared.entry.Entry.{Entry}
@@ -90,9 +90,9 @@ by_serial entries lists listed found serial source one just = record {
   );
 }
 
-pub none_by_serial : (entries : List Entry) (serial : ℕ) → ((a : Address) (source : ℕ) → entry_at entries a ≢ Migration serial source) →
+pub none_by_serial : (entries : List Entry) (serial : ℕ) → ((a : Address) (source : ℕ) → InRange a → entry_at entries a ≢ Migration serial source) →
     AreJust [] (λ a. (s : ℕ) × (entry_at entries a ≡ Migration serial s))
-none_by_serial entries serial none = record { rising = tt; each = λ a. (λ h. absurd h, λ h. absurd (none a h.1.0 h.1.1)) }
+none_by_serial entries serial none = record { rising = tt; each = λ a. (λ h. absurd h, λ h. absurd (none a h.1.0 h.0 h.1.1)) }
 
 -- no entry before a place has the serial
 abbrev pub NoneBefore : List Entry → ℕ → ℕ → Type 0
@@ -105,9 +105,6 @@ none_on entries serial place read none at isnt a source low e = elim (eqb_tells 
   | inr other ↦ none a source (omega (arith, other.1)) e
 ]
 
-pub none_at_all : (entries : List Entry) (serial place : ℕ) → NoneBefore entries serial place → length entries ≤ place →
-    (a : Address) (source : ℕ) → entry_at entries a ≢ Migration serial source
-none_at_all entries serial place none end a source e = elim (leb_tells (length entries) (place_of a)) [
-  | inl past ↦ (let bad : Absent ≡ Migration serial source = sym (ap (λ (o : Option Entry). unwrap_or o Absent) (slice_get_past entries (place_of a) past.1)) ∙ e in cc)
-  | inr under ↦ none a source (omega (arith, under.1)) e
-]
+pub none_at_all : (entries : List Entry) (serial place : ℕ) → NoneBefore entries serial place → 32768 ≤ place →
+    (a : Address) (source : ℕ) → InRange a → entry_at entries a ≢ Migration serial source
+none_at_all entries serial place none end a source range = none a source (omega (arith, range.space, range.vpage))

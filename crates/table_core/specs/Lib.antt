@@ -1,3 +1,4 @@
+pub mod EntriesInside
 pub mod Listed
 pub mod Names
 pub mod Tables

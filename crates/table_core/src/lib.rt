@@ -3,6 +3,7 @@
 //! Contracts see the tables as the list of their entries, and read it by `entry_at`.
 #![tactic(auto)]
 
+mod entries;
 mod entry;
 mod names;
 mod tables;

@@ -4,20 +4,18 @@ ghost use Rattle.frame_core.specs.declared.place.Address.{Address as Named};
 ghost use Rattle.table_core.specs.Names.{IsIn, IsRising, AreJust};
 ghost use Rattle.table_core.specs.Tables.{entry_at, is_listed, count_listed, IsBlank, ChangesOnly, Replaces};
 
+use crate::entries::Entries;
 use crate::entry::Entry;
 use crate::names::{Names, index_of, none_named};
 use arrayvec::ArrayVec;
-use frame_core::{Address, FrameNo, Serial, filled};
+use frame_core::{Address, FrameNo, Serial};
 use std::alloc::{AllocError, Global};
 use std::marker::Model;
-
-/// 8 spaces with 4096 virtual pages each.
-pub(crate) const ENTRIES: usize = 32768;
 
 /// The entry of each address of a zone, and for each frame the addresses that are listed under it.
 #[derive(Drop)]
 pub struct Tables {
-    pub(crate) entries: Vec<Entry>,
+    pub(crate) entries: Entries,
     lists: Vec<Names>,
 }
 
@@ -28,10 +26,10 @@ impl Model for Tables {
 
     ghost Value = { Kept };
 
-    ghost view = { λ t. record { entries = t.entries.items; frames = length t.lists.items } };
+    ghost view = { λ t. t.entries };
 
-    ghost invariant = { λ t. AreListed t.entries.items t.lists.items
-        × (vec_capacity t.entries ≡ 32768)
+    ghost invariant = { λ t. AreListed t.entries.entries t.lists.items
+        × (t.entries.frames ≡ length t.lists.items)
         × (vec_capacity t.lists ≡ length t.lists.items) };
 }
 
@@ -42,9 +40,11 @@ impl Tables {
         ensures blank { IfOk result (λ tables. IsBlank tables.entries) }
         ensures frames { IfOk result (λ tables. tables.frames ≡ 512 * blocks) }
     {
-        let entries = filled(alloc, Entry::Absent, ENTRIES)?;
-        let lists = none_named(alloc, 512 * blocks as usize)?;
-        Ok(Tables { entries, lists })
+        let frames = 512 * blocks as usize;
+        Ok(Tables {
+            entries: Entries::open(alloc, frames)?,
+            lists: none_named(alloc, frames)?,
+        })
     }
 
     /// What an address names.
@@ -52,8 +52,7 @@ impl Tables {
         ensures value { result ≡ entry_at self.now.entries address }
         ensures range { InRange address }
     {
-        let place = index_of(&address);
-        self.entries[place]
+        self.entries.get(index_of(&address))
     }
 
     /// Whether a further address may name a frame: fewer than 4 are listed under it.
@@ -64,16 +63,18 @@ impl Tables {
         self.lists[frame.get() as usize].as_slice().len() < 4
     }
 
-    /// Lets an absent address name the page in a frame. `has_room` has to be true of the frame.
+    /// Lets an absent address name the page in a frame. `has_room` has to be true of the frame, and no address may name a page
+    /// that left it.
     pub fn set(&mut self, address: Address, frame: FrameNo)
         requires absent { entry_at self.old.entries address ≡ Entry.Absent }
         requires within { frame < self.old.frames }
         requires room { count_listed self.old.entries frame < 4 }
+        requires resting { (a : Named) (serial : ℕ) → InRange a → entry_at self.old.entries a ≢ Entry.Migration serial frame }
         ensures set { ChangesOnly self.old.entries self.new.entries address (Entry.Present frame) }
         ensures range { InRange address }
         ensures frames { self.new.frames ≡ self.old.frames }
     {
-        self.entries[index_of(&address)] = Entry::Present(frame);
+        self.entries.set(index_of(&address), frame);
         self.lists[frame.get() as usize].insert(address);
     }
 
@@ -84,28 +85,23 @@ impl Tables {
         ensures range { InRange address }
         ensures frames { self.new.frames ≡ self.old.frames }
     {
-        let index = index_of(&address);
-        if let Entry::Present(frame) = self.entries[index] {
-            self.entries[index] = Entry::Absent;
+        let place = index_of(&address);
+        if let Entry::Present(frame) = self.entries.get(place) {
+            self.entries.clear(place);
             self.lists[frame.get() as usize].remove(&address);
         }
     }
 
     /// Sends the page in a frame on its way: each address that named the frame names the migration now. No address may name a
-    /// migration with this serial before.
+    /// migration with this serial, or from this frame, before.
     pub fn to_migration(&mut self, frame: FrameNo, serial: Serial)
         requires within { frame < self.old.frames }
         requires fresh { (a : Named) (source : ℕ) → InRange a → entry_at self.old.entries a ≢ Entry.Migration serial source }
+        requires resting { (a : Named) (other : ℕ) → InRange a → entry_at self.old.entries a ≢ Entry.Migration other frame }
         ensures replaced { Replaces self.old.entries self.new.entries (Entry.Present frame) (Entry.Migration serial frame) }
         ensures frames { self.new.frames ≡ self.old.frames }
     {
-        let present = Entry::Present(frame);
-        let migration = Entry::Migration {
-            serial,
-            source: frame,
-        };
-        let names = self.lists[frame.get() as usize].as_slice();
-        replace(&mut self.entries, names, &present, &migration);
+        self.entries.to_migration(frame, serial);
     }
 
     /// Ends a migration: each address that named it names the frame now. `source` is the frame that the page left. Each
@@ -119,10 +115,8 @@ impl Tables {
         ensures replaced { Replaces self.old.entries self.new.entries (Entry.Migration serial source) (Entry.Present frame) }
         ensures frames { self.new.frames ≡ self.old.frames }
     {
-        let migration = Entry::Migration { serial, source };
-        let present = Entry::Present(frame);
         let names = self.lists[source.get() as usize].as_slice();
-        replace(&mut self.entries, names, &migration, &present);
+        self.entries.to_present(names, serial, source, frame);
         self.lists.swap(source.get() as usize, frame.get() as usize);
     }
 
@@ -145,32 +139,16 @@ impl Tables {
     }
 }
 
-/// Puts an entry in the place of another one, at each of some addresses that has it.
-fn replace(entries: &mut [Entry], names: &[Address], from: &Entry, to: &Entry)
-    requires { length entries.old ≡ 32768 }
-    ensures named { (a : Named) → IsIn names.now a → entry_at entries.old a ≡ from.now → entry_at entries.new a ≡ to.now }
-    ensures other { (a : Named) → entry_at entries.old a ≢ from.now → entry_at entries.new a ≡ entry_at entries.old a }
-    ensures count { length entries.new ≡ 32768 }
-{
-    for name in names {
-        let index = index_of(name);
-        if entries[index] == *from {
-            entries[index] = *to;
-        }
-    }
-}
-
 /// Those of four addresses at most that have this entry.
-fn those_with(entries: &[Entry], names: &[Address], entry: &Entry) -> ArrayVec<Address, 4>
-    requires count { length entries.now ≡ 32768 }
+fn those_with(entries: &Entries, names: &[Address], entry: &Entry) -> ArrayVec<Address, 4>
     requires few { length names.now ≤ 4 }
     requires rising { IsRising names.now }
     ensures rising { IsRising result.items }
-    ensures each { (a : Named) → IsIn result.items a ↔ (IsIn names.now a × (entry_at entries.now a ≡ entry.now)) }
+    ensures each { (a : Named) → IsIn result.items a ↔ (IsIn names.now a × (entry_at entries.now.entries a ≡ entry.now)) }
 {
     let mut found = ArrayVec::new();
     for name in names {
-        if entries[index_of(name)] == *entry {
+        if entries.get(index_of(name)) == *entry {
             found.push(*name);
         }
     }

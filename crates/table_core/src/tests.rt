@@ -1,4 +1,7 @@
-ghost use Rattle.std.specs.Prelude.{◌≡◌, ◌<◌};
+ghost use Rattle.std.specs.Prelude.{◌≡◌, ◌≢◌, ℕ, ◌<◌};
+ghost use Rattle.frame_core.specs.Address.{InRange};
+ghost use Rattle.frame_core.specs.declared.place.Address.{Address as Named};
+ghost use Rattle.table_core.specs.Tables.{entry_at};
 
 use crate::{Entry, Tables};
 use frame_core::{Address, FrameNo, SpaceNo, VPage};
@@ -39,10 +42,12 @@ fn lists_the_names_of_a_frame_in_rising_order(rt: HostRuntime) -> Result<(), Fai
     Ok(())
 }
 
-/// Lets an address name a frame that has room for it.
+/// Lets an address name a frame that has room for it, while no page is on its way.
 fn bind<R: Abort>(rt: &R, tables: &mut Tables, address: Address, frame: FrameNo)
-    requires { frame < tables.old.frames }
-    ensures { tables.new.frames ≡ tables.old.frames }
+    requires within { frame < tables.old.frames }
+    requires resting { (a : Named) (serial source : ℕ) → InRange a → entry_at tables.old.entries a ≢ Entry.Migration serial source }
+    ensures frames { tables.new.frames ≡ tables.old.frames }
+    ensures resting { (a : Named) (serial source : ℕ) → InRange a → entry_at tables.new.entries a ≢ Entry.Migration serial source }
 {
     let named = address;
     if !tables.has_room(frame) {

@@ -6,8 +6,9 @@ ghost use Rattle.frame_core.specs.declared.place.Address.{Address as Named};
 ghost use Rattle.table_core.specs.Names.{IsIn, IsRising, AreJust};
 ghost use Rattle.table_core.specs.Tables.{place_of, entry_at};
 
+use crate::entries::{ADDRESSES, Entries};
 use crate::entry::Entry;
-use crate::tables::{ENTRIES, Tables};
+use crate::tables::Tables;
 use arrayvec::ArrayVec;
 use frame_core::{Address, FrameNo, Serial, SpaceNo, VPage};
 
@@ -31,15 +32,14 @@ impl Tables {
 }
 
 /// The addresses that have an entry: four at most do.
-fn walk(entries: &[Entry], entry: &Entry) -> ArrayVec<Address, 4>
-    requires count { length entries.now ≡ 32768 }
-    requires few { (names : List Named) → IsRising names
-        → ((a : Named) → IsIn names a → InRange a × (entry_at entries.now a ≡ entry.now)) → length names ≤ 4 }
-    ensures { AreJust result.items (λ a. entry_at entries.now a ≡ entry.now) }
+fn walk(entries: &Entries, entry: &Entry) -> ArrayVec<Address, 4>
+    requires { (names : List Named) → IsRising names
+        → ((a : Named) → IsIn names a → InRange a × (entry_at entries.now.entries a ≡ entry.now)) → length names ≤ 4 }
+    ensures { AreJust result.items (λ a. entry_at entries.now.entries a ≡ entry.now) }
 {
     let mut found = ArrayVec::new();
-    for place in 0..ENTRIES {
-        if entries[place] == *entry {
+    for place in 0..ADDRESSES {
+        if entries.get(place) == *entry {
             found.push(address_at(place));
         }
     }
@@ -47,16 +47,15 @@ fn walk(entries: &[Entry], entry: &Entry) -> ArrayVec<Address, 4>
 }
 
 /// The frame that the page left which is on its way under a serial.
-fn source_of(entries: &[Entry], serial: Serial) -> Option<FrameNo>
-    requires { length entries.now ≡ 32768 }
-    ensures some { IfSome result (λ source. (a : Named) × InRange a × (entry_at entries.now a ≡ Entry.Migration serial source)) }
-    ensures none { IfNone result ((a : Named) (source : ℕ) → entry_at entries.now a ≢ Entry.Migration serial source) }
+fn source_of(entries: &Entries, serial: Serial) -> Option<FrameNo>
+    ensures some { IfSome result (λ source. (a : Named) × InRange a × (entry_at entries.now.entries a ≡ Entry.Migration serial source)) }
+    ensures none { IfNone result ((a : Named) (source : ℕ) → InRange a → entry_at entries.now.entries a ≢ Entry.Migration serial source) }
 {
-    for entry in entries {
+    for place in 0..ADDRESSES {
         if let Entry::Migration {
             serial: under,
             source,
-        } = *entry
+        } = entries.get(place)
         {
             if under == serial {
                 return Some(source);

@@ -1,12 +1,11 @@
 use Rattle.std.proofs.Common.{◌≡◌, ◌≢◌, ℕ, suc, ◌+◌, List, ◌∷◌, length, drop, sym, ap, subst, ◌∙◌, arith, rules}
-use Rattle.std.specs.Prelude.{Option, Some, slice_get, unwrap_or}
+use Rattle.std.specs.Prelude.{Some}
 use Rattle.arrayvec.specs.ArrayVec.{ArrayVec}
 use Rattle.std.proofs.lemmas.List.{drop_all}
 use Rattle.std.proofs.lemmas.Option.{slice_get-get_or}
 use Rattle.frame_core.specs.declared.place.Address.{Address}
-use Rattle.table_core.specs.declared.entry.Entry.{Entry}
-use Rattle.table_core.specs.declared.entry.Entry.TheVariants.{Absent}
 use Rattle.table_core.specs.Tables.{entry_at}
+use Rattle.table_core.proofs.Listing.{entry_got}
 use Rattle.table_core.proofs.Passing.{Found, drop_at, find_none, find_more, find_same, find_all}
 use Rattle.table_core.proofs.tables.those_with.Goals as goal
 use Rattle.table_core.proofs.tables.those_with.Goals.{Joined-eq, then-eq, else-eq}
@@ -14,8 +13,8 @@ use Rattle.table_core.proofs.tables.those_with.Goals.{Joined-eq, then-eq, else-e
 pub loop-name-init : goal.loop-name-init
 loop-name-init c = record {
   few = omega (arith, ap length c.new-found.ensures);
-  found = subst (λ (found : List Address). Found c.args.entries.now c.args.names.now c.args.entry.now found c.args.names.now) (sym c.new-found.ensures)
-      (find_none c.args.entries.now c.args.names.now c.args.entry.now c.requires.rising);
+  found = subst (λ (found : List Address). Found c.args.entries.now.entries c.args.names.now c.args.entry.now found c.args.names.now) (sym c.new-found.ensures)
+      (find_none c.args.entries.now.entries c.args.names.now c.args.entry.now c.requires.rising);
 }
 
 next : (c : Joined-eq) → drop c.loop-name.name-index c.args.names.now ≡ c.name-item.result ∷ drop (c.loop-name.name-index + 1) c.args.names.now
@@ -24,32 +23,29 @@ next c =
     (slice_get-get_or c.args.names.now c.loop-name.name-index c.name-item.result c.loop-name-test.true ∙ ap Some (sym c.name-item.is))
     ∙ ap (λ (n : ℕ). c.name-item.result ∷ drop n c.args.names.now) (let more : suc c.loop-name.name-index ≡ c.loop-name.name-index + 1 = omega arith in more)
 
-entry_is : (c : Joined-eq) → entry_at c.args.entries.now c.name-item.result ≡ c.index-entries-index_of.result
-entry_is c =
-    ap (λ (p : ℕ). unwrap_or (slice_get c.args.entries.now p) Absent) (sym c.index_of.ensures.place)
-    ∙ ap (λ (o : Option Entry). unwrap_or o Absent) (slice_get-get_or c.args.entries.now c.index_of.result c.index-entries-index_of.result (omega (arith, c.index_of.ensures.range, c.requires.count)))
-    ∙ sym c.index-entries-index_of.is
+entry_is : (c : Joined-eq) → entry_at c.args.entries.now.entries c.name-item.result ≡ c.get.result
+entry_is c = entry_got c.args.entries.now.entries c.name-item.result c.index_of.result c.get.result c.index_of.ensures.place c.get.ensures
 
-known : (c : Joined-eq) → Found c.args.entries.now c.args.names.now c.args.entry.now c.loop-name.found.items (c.name-item.result ∷ drop (c.loop-name.name-index + 1) c.args.names.now)
-known c = subst (Found c.args.entries.now c.args.names.now c.args.entry.now c.loop-name.found.items) (next c) c.loop-name.invariant.found
+known : (c : Joined-eq) → Found c.args.entries.now.entries c.args.names.now c.args.entry.now c.loop-name.found.items (c.name-item.result ∷ drop (c.loop-name.name-index + 1) c.args.names.now)
+known c = subst (Found c.args.entries.now.entries c.args.names.now c.args.entry.now c.loop-name.found.items) (next c) c.loop-name.invariant.found
 
 pub loop-name-preserved : goal.loop-name-preserved
 loop-name-preserved c =
     let rest = drop (c.loop-name.name-index + 1) c.args.names.now in
     elim c.if-eq.branch [
-      | then-eq w ↦ (let same : c.index-entries-index_of.result ≡ c.args.entry.now = search rules in
+      | then-eq w ↦ (let same : c.get.result ≡ c.args.entry.now = search rules in
           let items = ap (λ (v : ArrayVec Address). v.items) w.found-is ∙ w.push.ensures.items in
           record {
             few = omega (arith, c.loop-name.invariant.few, ap (λ (v : ArrayVec Address). length v.items) w.found-is, w.push.ensures.len);
-            found = subst (λ (found : List Address). Found c.args.entries.now c.args.names.now c.args.entry.now found rest) (sym items)
-                (find_more c.args.entries.now c.args.names.now c.args.entry.now c.loop-name.found.items rest c.name-item.result (known c) (entry_is c ∙ same));
+            found = subst (λ (found : List Address). Found c.args.entries.now.entries c.args.names.now c.args.entry.now found rest) (sym items)
+                (find_more c.args.entries.now.entries c.args.names.now c.args.entry.now c.loop-name.found.items rest c.name-item.result (known c) (entry_is c ∙ same));
           })
-      | else-eq w ↦ (let other : c.index-entries-index_of.result ≢ c.args.entry.now = search rules in
+      | else-eq w ↦ (let other : c.get.result ≢ c.args.entry.now = search rules in
           let items = ap (λ (v : ArrayVec Address). v.items) w.found-is in
           record {
             few = omega (arith, c.loop-name.invariant.few, ap (λ (v : ArrayVec Address). length v.items) w.found-is);
-            found = subst (λ (found : List Address). Found c.args.entries.now c.args.names.now c.args.entry.now found rest) (sym items)
-                (find_same c.args.entries.now c.args.names.now c.args.entry.now c.loop-name.found.items rest c.name-item.result (known c) (λ e. other (sym (entry_is c) ∙ e)));
+            found = subst (λ (found : List Address). Found c.args.entries.now.entries c.args.names.now c.args.entry.now found rest) (sym items)
+                (find_same c.args.entries.now.entries c.args.names.now c.args.entry.now c.loop-name.found.items rest c.name-item.result (known c) (λ e. other (sym (entry_is c) ∙ e)));
           })
     ]
 
@@ -58,6 +54,6 @@ returns-clause-rising c = c.loop-name.invariant.found.rising
 
 pub returns-clause-each : goal.returns-clause-each
 returns-clause-each c =
-    find_all c.args.entries.now c.args.names.now c.args.entry.now c.loop-name.found.items
-    (subst (Found c.args.entries.now c.args.names.now c.args.entry.now c.loop-name.found.items)
+    find_all c.args.entries.now.entries c.args.names.now c.args.entry.now c.loop-name.found.items
+    (subst (Found c.args.entries.now.entries c.args.names.now c.args.entry.now c.loop-name.found.items)
     (drop_all c.loop-name.name-index c.args.names.now c.loop-name-test.false) c.loop-name.invariant.found)

@@ -13,12 +13,13 @@ use Rattle.plain_core.proofs.Facts.{held_by}
 use Rattle.plain_core.proofs.MoveEnds.{still_free, two_puts}
 use Rattle.plain_core.proofs.SearchesAndCounts.{free_seen}
 use Rattle.state_core.specs.Pairs.{can_move}
-use Rattle.plain_core.proofs.ListedAddresses.{fresh_serial}
+use Rattle.state_core.specs.ZoneState.{ZoneState}
+use Rattle.plain_core.proofs.ListedAddresses.{fresh_serial, page_rests}
 use Rattle.plain_core.specs.Fits.{MovesFit}
 use Rattle.plain_core.specs.History.{told}
 use Rattle.plain_core.specs.Moves.{Moves}
-use Rattle.state_core.proofs.Facts.{isolated_most, not_none}
-use Rattle.plain_core.proofs.Tables.{placement_seen, note_within}
+use Rattle.state_core.proofs.Facts.{frame_within, isolated_most, not_none}
+use Rattle.plain_core.proofs.Tables.{placement_seen, note_within, words_seen}
 use Rattle.plain_core.specs.Notes.{unused_note}
 use Rattle.plain_core.specs.declared.note.Note.{Note}
 use Rattle.plain_core.proofs.OutAndEnded.{moves_more}
@@ -27,7 +28,7 @@ use Rattle.plain_core.proofs.Isolation.{isolated_frames, isolated_words, isolate
 use Rattle.state_core.proofs.Settled.{can_isolate, isolate_recorded, target_within, swept_if_isolated}
 use Rattle.plain_core.proofs.Relocation.{Settling, FramesSettled, MovableSettled, settle_sound, settle_view}
 use Rattle.plain_core.proofs.plain.PlainZone.isolate.Goals as goal
-use Rattle.plain_core.proofs.plain.PlainZone.isolate.Goals.{After-note}
+use Rattle.plain_core.proofs.plain.PlainZone.isolate.Goals.{After-read_out-carried}
 
 pub to_source-requires : goal.to_source-requires
 to_source-requires c =
@@ -58,27 +59,27 @@ place-requires c =
     ap is_some (placement_seen c.self.inside c.args.self.now c.self.view_is c.args.pair.page ∙ (can_isolate c.args.self.now c.args.pair sound.lawful c.requires.pair).at)
 
 -- the note of the page
-abbrev noted : After-note → Note
+abbrev noted : After-read_out-carried → Note
 noted c = get_or c.self.inside.notes c.args.pair.page unused_note
 
-note_is : (c : After-note) → slice_get c.self.inside.notes c.args.pair.page ≡ Some (noted c)
+note_is : (c : After-read_out-carried) → slice_get c.self.inside.notes c.args.pair.page ≡ Some (noted c)
 note_is c =
     let sound : IsSound c.self.inside c.args.self.now = subst (IsSound c.self.inside) c.self.view_is c.self.invariant in
     let used = not_none _ (At c.args.pair.source) (can_isolate c.args.self.now c.args.pair sound.lawful c.requires.pair).at in
     slice_get-get_or c.self.inside.notes c.args.pair.page unused_note (note_within c.self.inside c.args.self.now sound c.args.pair.page used)
 
 -- the fields after the call
-abbrev after : After-note → Inside
+abbrev after : After-read_out-carried → Inside
 after c = record c.self.inside {
   frames = c.to_target.new.self;
   tables = c.to_migration.new.self;
   notes = c.place.new.self;
   moves = c.isolate-serial.new.self;
-  fingers = record { migrate = c.get.result + 1; free = c.get-2.result };
+  fingers = record { migrate = c.get.result + 1; free = c.get-self-inside.result };
   history = c.note.new.self;
 }
 
-settling : (c : After-note) → Settling c.self.inside (after c) c.args.self.now c.args.pair.page (At c.args.pair.source) (Moving (isolated c.args.self.now.records) c.args.pair.source c.args.pair.target) (Isolate (isolated c.args.self.now.records) c.args.pair.page) (noted c) (c.args.pair.source + 1) c.args.pair.target
+settling : (c : After-read_out-carried) → Settling c.self.inside (after c) c.args.self.now c.args.pair.page (At c.args.pair.source) (Moving (isolated c.args.self.now.records) c.args.pair.source c.args.pair.target) (Isolate (isolated c.args.self.now.records) c.args.pair.page) (noted c) (c.args.pair.source + 1) c.args.pair.target
 settling c =
     let z = c.self.inside in
     let v = c.args.self.now in
@@ -110,7 +111,7 @@ settling c =
       notes = c.place.ensures (noted c) (note_is c) ∙ ap (λ (n : ℕ). slice_set z.notes pair.page (record (noted c) { placement = Some (Moving n pair.source pair.target) })) serial;
       moves = subst (λ (moves : Moves). MovesFit moves (Isolate (isolated v.records) pair.page ∷ v.records) (v.room - 1)) (sym c.isolate-serial.ensures.pages)
           (moves_more z.moves v.records v.room sound.moves pair.page (omega arith));
-      fingers_are = λ i. record { migrate = c.get.ensures.value i + 1; free = c.get-2.ensures.value i };
+      fingers_are = λ i. record { migrate = c.get.ensures.value i + 1; free = c.get-self-inside.ensures.value i };
       fingers = (omega arith, omega arith);
       swept = swept_if_isolated v pair law is;
       history = c.note.ensures ∙ ap (λ (n : ℕ). told z.history (Isolate n pair.page)) serial;
@@ -144,3 +145,25 @@ to_migration-requires-clause-fresh c =
     let sound : IsSound c.self.inside c.args.self.now = subst (IsSound c.self.inside) c.self.view_is c.self.invariant in
     let serial : c.isolate-serial.result ≡ isolated c.args.self.now.records = c.isolate-serial.ensures.serial ∙ sound.moves.count in
     λ a source range e. fresh_serial c.self.inside.tables.entries c.args.self.now sound.entries sound.lawful a source range (e ∙ ap (λ (n : ℕ). Migration n source) serial)
+
+pub to_migration-requires-clause-resting : goal.to_migration-requires-clause-resting
+to_migration-requires-clause-resting c =
+    let sound : IsSound c.self.inside c.args.self.now = subst (IsSound c.self.inside) c.self.view_is c.self.invariant in
+    let at = (can_isolate c.args.self.now c.args.pair sound.lawful c.requires.pair).at in
+    page_rests c.self.inside.tables.entries c.args.self.now sound.entries sound.lawful c.args.pair.page c.args.pair.source at
+
+pub read_out-carried-requires : goal.read_out-carried-requires
+read_out-carried-requires c =
+    let sound : IsSound c.self.inside c.args.self.now = subst (IsSound c.self.inside) c.self.view_is c.self.invariant in
+    let at = (can_isolate c.args.self.now c.args.pair sound.lawful c.requires.pair).at in
+    omega (arith, frame_within c.args.self.now sound.lawful c.args.pair.page (At c.args.pair.source) at, sound.words.count)
+
+pub returns-clause-page : goal.returns-clause-page
+returns-clause-page c =
+    let sound : IsSound c.self.inside c.args.self.now = subst (IsSound c.self.inside) c.self.view_is c.self.invariant in
+    let at = (can_isolate c.args.self.now c.args.pair sound.lawful c.requires.pair).at in
+    let serial = c.isolate-serial.ensures.serial ∙ sound.moves.count in
+    let zone = ap (λ (u : ZoneState). u.number) c.self.view_is in
+    let words = words_seen c.self.inside.words c.args.self.now sound.words sound.lawful c.args.pair.page (At c.args.pair.source) at in
+    let page = c.read_out-carried.ensures ∙ (λ i. record { zone = zone i; number = c.args.pair.page; flags = c.flags_of-flags.ensures i; words = words i }) in
+    λ i. record { serial = (c.new.ensures.serial ∙ serial) i; page = (c.new.ensures.page ∙ page) i }

@@ -8,7 +8,7 @@ use Rattle.state_core.proofs.Facts.{spare}
 use Rattle.state_core.proofs.Finding.{some_lowest, unused_is}
 use Rattle.state_core.proofs.Placed.{CanPlace}
 use Rattle.plain_core.proofs.FreshPage.{Placing, fresh_note, after_place, place_view, place_sound}
-use Rattle.plain_core.proofs.ListedAddresses.{count_none, not_used}
+use Rattle.plain_core.proofs.ListedAddresses.{count_none, none_left, not_used}
 use Rattle.plain_core.proofs.SearchesAndCounts.{free_seen}
 use Rattle.scan_core.specs.Frames.{Frames}
 use Rattle.plain_core.proofs.plain.PlainZone.place.Goals as goal
@@ -98,3 +98,8 @@ pub set-requires-clause-room : goal.set-requires-clause-room
 set-requires-clause-room c =
     let sound : IsSound c.self.inside c.args.self.now = subst (IsSound c.self.inside) c.self.view_is c.self.invariant in
     omega (arith, count_none c.self.inside.tables.entries c.args.self.now sound.entries sound.lawful c.args.frame (not_used _ _ c.requires.free))
+
+pub set-requires-clause-resting : goal.set-requires-clause-resting
+set-requires-clause-resting c =
+    let sound : IsSound c.self.inside c.args.self.now = subst (IsSound c.self.inside) c.self.view_is c.self.invariant in
+    none_left c.self.inside.tables.entries c.args.self.now sound.entries sound.lawful c.args.frame (not_used _ _ c.requires.free)

@@ -6,7 +6,7 @@ use Rattle.state_core.specs.declared.placement.Placement.TheVariants.{At}
 use Rattle.state_core.proofs.Facts.{frame_within, page_stands, spare}
 use Rattle.state_core.proofs.Sharing.{CanShare}
 use Rattle.plain_core.specs.Sound.{IsSound}
-use Rattle.plain_core.proofs.ListedAddresses.{count_names}
+use Rattle.plain_core.proofs.ListedAddresses.{count_names, page_rests}
 use Rattle.plain_core.proofs.Noting.{Noting, noting_holds}
 use Rattle.plain_core.proofs.Shared.{sharing}
 use Rattle.plain_core.proofs.Tables.{note_seen, placement_seen}
@@ -68,3 +68,9 @@ revise-requires-clause-stays c =
     let sound : IsSound c.self.inside c.args.self.now = subst (IsSound c.self.inside) c.self.view_is c.self.invariant in
     let seen = note_seen c.self.inside c.args.self.now c.self.view_is sound c.page_at-page.result c.page_at-page.ensures.in_use c.get-note.result c.get-note.ensures in
     ap (λ (n : Note). is_some n.placement) c.with_address.ensures ∙ ap is_some seen.placement ∙ c.page_at-page.ensures.in_use
+
+pub set-requires-clause-resting : goal.set-requires-clause-resting
+set-requires-clause-resting c =
+    let sound : IsSound c.self.inside c.args.self.now = subst (IsSound c.self.inside) c.self.view_is c.self.invariant in
+    let at = page_stands c.args.self.now c.args.address (At c.args.frame) c.page_at-page.result c.page_at-page.ensures.named c.requires.frame in
+    page_rests c.self.inside.tables.entries c.args.self.now sound.entries sound.lawful c.page_at-page.result c.args.frame at

@@ -1,30 +1,26 @@
-use Rattle.std.proofs.Common.{◌≡◌, List, length, ap, sym, subst, refl, ◌∙◌, arith}
+use Rattle.std.proofs.Common.{◌≡◌, ap, sym, subst, refl, arith}
 use Rattle.std.proofs.lemmas.Bool.{eq-eqb}
-use Rattle.frame_core.specs.declared.place.Address.{Address}
-use Rattle.table_core.specs.declared.entry.Entry.{Entry}
 use Rattle.table_core.specs.declared.entry.Entry.TheVariants.{Migration}
 use Rattle.table_core.specs.Listed.{IsListOf}
-use Rattle.table_core.specs.Names.{IsIn, AreJust}
+use Rattle.table_core.specs.Names.{AreJust}
 use Rattle.table_core.specs.Tables.{Tables, entry_at}
 use Rattle.table_core.proofs.Listing.{list_read, just_those}
 use Rattle.table_core.proofs.tables.Tables.mappings_moving.Goals as goal
 use Rattle.table_core.proofs.tables.Tables.mappings_moving.Goals.{After-as_slice-names}
 
-list : (c : After-as_slice-names) → IsListOf c.self.inside.entries.items c.args.source c.as_slice-names.result.now
+list : (c : After-as_slice-names) → IsListOf c.self.inside.entries.entries c.args.source c.as_slice-names.result.now
 list c =
-    subst (IsListOf c.self.inside.entries.items c.args.source) (sym c.as_slice-names.ensures.value)
+    subst (IsListOf c.self.inside.entries.entries c.args.source) (sym c.as_slice-names.ensures.value)
     (c.self.invariant.0.each c.args.source c.index.result.now
-    (list_read c.self.inside.lists.items c.args.source c.get.result c.index.result.now c.get.ensures.value (omega (arith, c.get.ensures.value, c.requires, ap (λ (t : Tables). t.frames) c.self.view_is)) c.index.ensures))
+    (list_read c.self.inside.lists.items c.args.source c.get.result c.index.result.now c.get.ensures.value (omega (arith, c.get.ensures.value, c.requires, c.self.invariant.1, ap (λ (t : Tables). t.frames) c.self.view_is)) c.index.ensures))
 
 pub those_with-requires : goal.those_with-requires
 those_with-requires c = record {
-  count = ap length c.deref.ensures.value ∙ c.self.invariant.0.count;
-  few = (list c.before.before).few;
-  rising = (list c.before.before).just.rising;
+  few = (list c.before).few;
+  rising = (list c.before).just.rising;
 }
 
 pub returns : goal.returns
 returns c =
-    let those = subst (λ (es : List Entry). (a : Address) → (IsIn c.those_with.result.items a → IsIn c.as_slice-names.result.now a × (entry_at es a ≡ Migration c.args.serial c.args.source)) × (IsIn c.as_slice-names.result.now a × (entry_at es a ≡ Migration c.args.serial c.args.source) → IsIn c.those_with.result.items a)) c.deref.ensures.value c.those_with.ensures.each in
     subst (λ (t : Tables). AreJust c.those_with.result.items (λ a. entry_at t.entries a ≡ Migration c.args.serial c.args.source)) c.self.view_is
-    (just_those c.self.inside.entries.items c.args.source c.as_slice-names.result.now c.those_with.result.items (Migration c.args.serial c.args.source) (list c.before.before.before) (eq-eqb c.args.source c.args.source refl) c.those_with.ensures.rising those)
+    (just_those c.self.inside.entries.entries c.args.source c.as_slice-names.result.now c.those_with.result.items (Migration c.args.serial c.args.source) (list c.before.before) (eq-eqb c.args.source c.args.source refl) c.those_with.ensures.rising c.those_with.ensures.each)

@@ -1,0 +1,194 @@
+-- Writes into the frames of addresses and the serials of frames, as changes of the entries.
+use Rattle.std.proofs.Common.{◌≡◌, ◌≢◌, ℕ, suc, ◌<◌, true, false, List, [], ◌∷◌, length, ◌⊎◌, inl, inr, refl, sym, ap, ◌∙◌, arith}
+use Rattle.std.specs.Prelude.{Option, Some, None, ◌↔◌, option_map, slice_get, slice_set, unwrap_or}
+use Rattle.std.proofs.lemmas.Bool.{eq-eqb}
+use Rattle.std.proofs.lemmas.Bool.Decides.{eqb_tells}
+use Rattle.std.proofs.lemmas.List.{map-set, length-map, length-set}
+use Rattle.std.proofs.lemmas.Option.{slice_get-map}
+use Rattle.frame_core.proofs.Lists.{slice_get_set_same, slice_get_set_other}
+use Rattle.frame_core.specs.declared.place.Address.{Address}
+use Rattle.table_core.specs.declared.entry.Entry.{Entry}
+use Rattle.table_core.specs.declared.entry.Entry.TheVariants.{Absent, Present, Migration}
+use Rattle.table_core.specs.EntriesInside.{serial_at, entry_under, entry_by, entries_of, AreKept}
+use Rattle.frame_core.specs.Address.{InRange}
+use Rattle.table_core.specs.Names.{IsIn}
+use Rattle.table_core.specs.Tables.{place_of, entry_at, is_listed, Replaces}
+use Rattle.table_core.proofs.Listing.{address_at, clash, place_at, real, set_cases}
+
+-- the frame under which an address is listed
+abbrev pub frame_at : List (Option ℕ) → Address → Option ℕ
+frame_at frames a = unwrap_or (slice_get frames (place_of a)) None
+
+by_default : (serials : List (Option ℕ)) (o : Option (Option ℕ)) → unwrap_or (option_map (entry_by serials) o) Absent ≡ entry_by serials (unwrap_or o None)
+by_default serials None = refl
+by_default serials (Some under) = refl
+
+-- what an address names
+pub seen : (serials frames : List (Option ℕ)) (a : Address) → entry_at (entries_of serials frames) a ≡ entry_by serials (frame_at frames a)
+seen serials frames a =
+    ap (λ (o : Option Entry). unwrap_or o Absent) (slice_get-map (entry_by serials) frames (place_of a))
+    ∙ by_default serials (slice_get frames (place_of a))
+
+-- a serial that was written, and the others
+pub written : (serials : List (Option ℕ)) (frame : ℕ) (serial : Option ℕ) → frame < length serials → serial_at (slice_set serials frame serial) frame ≡ serial
+written serials frame serial h = ap (λ (o : Option (Option ℕ)). unwrap_or o None) (slice_get_set_same serials frame frame serial refl h)
+
+pub not_written : (serials : List (Option ℕ)) (frame g : ℕ) (serial : Option ℕ) → g ≢ frame → serial_at (slice_set serials frame serial) g ≡ serial_at serials g
+not_written serials frame g serial ne = ap (λ (o : Option (Option ℕ)). unwrap_or o None) (slice_get_set_other serials frame g serial ne)
+
+-- entries are the same where the serials of the frames that addresses are listed under are
+pub same_entries : (serials more frames : List (Option ℕ)) → ((place frame : ℕ) → slice_get frames place ≡ Some (Some frame) → serial_at more frame ≡ serial_at serials frame) →
+    entries_of more frames ≡ entries_of serials frames
+same_entries serials more [] same = refl
+same_entries serials more (None ∷ rest) same = ap (λ es. Absent ∷ es) (same_entries serials more rest (λ place. same (suc place)))
+same_entries serials more (Some frame ∷ rest) same =
+    λ i. entry_under frame (same 0 frame refl i) ∷ same_entries serials more rest (λ place. same (suc place)) i
+
+-- an address that names the page in a frame is listed under it, and the page isn't on its way
+resting : (g frame : ℕ) (o : Option ℕ) → entry_under g o ≡ Present frame → (g ≡ frame) × (o ≡ None)
+resting g frame None e = (let at : g ≡ frame = cc in at, refl)
+resting g frame (Some serial) e = cc
+
+moving : (g serial frame : ℕ) (o : Option ℕ) → entry_under g o ≡ Migration serial frame → (g ≡ frame) × (o ≡ Some serial)
+moving g serial frame None e = cc
+moving g serial frame (Some s) e = (let at : g ≡ frame = cc in at, let same : s ≡ serial = cc in ap Some same)
+
+pub under : (frame : ℕ) (o : Option ℕ) → is_listed (entry_under frame o) frame ≡ true
+under frame None = eq-eqb frame frame refl
+under frame (Some serial) = eq-eqb frame frame refl
+
+-- no page left a frame, by what addresses say that are listed under it
+pub is_still : (serials : List (Option ℕ)) (frame : ℕ) → ((serial : ℕ) → entry_by serials (Some frame) ≢ Migration serial frame) → serial_at serials frame ≡ None
+is_still serials frame still = none (serial_at serials frame) still where
+  none : (o : Option ℕ) → ((serial : ℕ) → entry_under frame o ≢ Migration serial frame) → o ≡ None
+  none None still = refl
+  none (Some serial) still = absurd (still serial refl)
+
+-- the address of a place names a frame, which no page left that addresses name
+module _ (serials frames : List (Option ℕ)) (frame : ℕ) (within : frame < length serials)
+    (still : (a : Address) (serial : ℕ) → entry_at (entries_of serials frames) a ≢ Migration serial frame) where
+  still_at : (place : ℕ) → slice_get frames place ≡ Some (Some frame) → serial_at serials frame ≡ None
+  still_at place at = is_still serials frame (λ serial e. still (address_at place) serial
+      (seen serials frames (address_at place)
+      ∙ ap (λ (o : Option (Option ℕ)). entry_by serials (unwrap_or o None)) (ap (slice_get frames) (place_at place) ∙ at) ∙ e))
+
+  cleared : (place g : ℕ) → slice_get frames place ≡ Some (Some g) → serial_at (slice_set serials frame None) g ≡ serial_at serials g
+  cleared place g at = elim (eqb_tells g frame) [
+    | inl same ↦ ap (serial_at (slice_set serials frame None)) same.1 ∙ written serials frame None within
+        ∙ sym (ap (serial_at serials) same.1 ∙ still_at place (at ∙ ap (λ (k : ℕ). Some (Some k)) same.1))
+    | inr other ↦ not_written serials frame g None other.1
+  ]
+
+  pub entries_set : (place : ℕ) →
+      entries_of (slice_set serials frame None) (slice_set frames place (Some frame)) ≡ slice_set (entries_of serials frames) place (Present frame)
+  entries_set place =
+      map-set (entry_by (slice_set serials frame None)) frames place (Some frame)
+      ∙ (λ i. slice_set (same_entries serials (slice_set serials frame None) frames cleared i) place (entry_under frame (written serials frame None within i)))
+
+  -- the page in the frame goes on its way
+  module _ (serial : ℕ) where
+    abbrev more : List (Option ℕ)
+    more = slice_set serials frame (Some serial)
+
+    there_by : (u : Option ℕ) → entry_by serials u ≡ Present frame → entry_by more u ≡ Migration serial frame
+    there_by None e = cc
+    there_by (Some g) e =
+        ap (λ (k : ℕ). entry_by more (Some k)) (resting g frame (serial_at serials g) e).0
+        ∙ ap (entry_under frame) (written serials frame (Some serial) within)
+
+    both : (g : ℕ) (o : Option ℕ) → g ≡ frame → ((s : ℕ) → entry_under g o ≢ Migration s frame) → entry_under g o ≢ Present frame → ⊥
+    both g None same still ne = ne (ap Present same)
+    both g (Some s) same still ne = still s (ap (Migration s) same)
+
+    elsewhere_by : (u : Option ℕ) → ((s : ℕ) → entry_by serials u ≢ Migration s frame) → entry_by serials u ≢ Present frame → entry_by more u ≡ entry_by serials u
+    elsewhere_by None still ne = refl
+    elsewhere_by (Some g) still ne = elim (eqb_tells g frame) [
+      | inl same ↦ absurd (both g (serial_at serials g) same.1 still ne)
+      | inr other ↦ ap (entry_under g) (not_written serials frame g (Some serial) other.1)
+    ]
+
+    pub entries_left : Replaces (entries_of serials frames) (entries_of more frames) (Present frame) (Migration serial frame)
+    entries_left = record {
+      there = λ a e. seen more frames a ∙ there_by (frame_at frames a) (sym (seen serials frames a) ∙ e);
+      elsewhere = λ a ne. seen more frames a
+          ∙ elsewhere_by (frame_at frames a) (λ s e. still a s (seen serials frames a ∙ e)) (λ e. ne (seen serials frames a ∙ e))
+          ∙ sym (seen serials frames a);
+    }
+
+-- the addresses of a list, which named a migration, are listed under the frame in which it ends
+module _ (serials frames new : List (Option ℕ)) (names : List Address) (serial source frame : ℕ)
+    (count : length frames ≡ 32768) (source_in : source < length serials) (frame_in : frame < length serials)
+    (named : (a : Address) → IsIn names a ↔ (InRange a × (entry_at (entries_of serials frames) a ≡ Migration serial source)))
+    (left : (a : Address) → is_listed (entry_at (entries_of serials frames) a) source ≡ true → entry_at (entries_of serials frames) a ≡ Migration serial source)
+    (unnamed : frame ≢ source → (a : Address) → is_listed (entry_at (entries_of serials frames) a) frame ≡ false)
+    (here : (a : Address) → IsIn names a → slice_get new (place_of a) ≡ Some (Some frame))
+    (others : (place : ℕ) → ((a : Address) → IsIn names a → place_of a ≢ place) → slice_get new place ≡ slice_get frames place) where
+  abbrev ended : List (Option ℕ)
+  ended = slice_set (slice_set serials source None) frame None
+
+  abbrev old : List Entry
+  old = entries_of serials frames
+
+  come : entry_by ended (Some frame) ≡ Present frame
+  come = ap (entry_under frame) (written (slice_set serials source None) frame None (omega (arith, length-set serials source None)))
+
+  listed_in : (a : Address) (g : ℕ) → frame_at frames a ≡ Some g → is_listed (entry_at old a) g ≡ true
+  listed_in a g at = ap (λ (e : Entry). is_listed e g) (seen serials frames a ∙ ap (entry_by serials) at) ∙ under g (serial_at serials g)
+
+  away : (a : Address) → entry_at old a ≢ Migration serial source → (g : ℕ) → frame_at frames a ≡ Some g → serial_at ended g ≡ serial_at serials g
+  away a ne g at = elim (eqb_tells g source) [
+    | inl same ↦ absurd (ne (left a (ap (is_listed (entry_at old a)) (sym same.1) ∙ listed_in a g at)))
+    | inr off ↦ elim (eqb_tells g frame) [
+      | inl same ↦ absurd (clash _ (listed_in a g at)
+          (ap (is_listed (entry_at old a)) same.1 ∙ unnamed (λ e. off.1 (same.1 ∙ e)) a))
+      | inr other ↦ not_written (slice_set serials source None) frame g None other.1 ∙ not_written serials source g None off.1
+    ]
+  ]
+
+  stays_by : (a : Address) (u : Option ℕ) → entry_at old a ≢ Migration serial source → frame_at frames a ≡ u → entry_by ended u ≡ entry_by serials u
+  stays_by a None ne at = refl
+  stays_by a (Some g) ne at = ap (entry_under g) (away a ne g at)
+
+  pub entries_come : Replaces old (entries_of ended new) (Migration serial source) (Present frame)
+  entries_come = record {
+    there = λ a e. (let b = real old a (length-map frames (entry_by serials) ∙ count) (λ none. (let bad : Absent ≡ Migration serial source = sym none ∙ e in cc)) in
+        let at : entry_at old b.0 ≡ Migration serial source = ap (λ (p : ℕ). unwrap_or (slice_get old p) Absent) b.2 ∙ e in
+        let is = ap (slice_get new) (sym b.2) ∙ here b.0 ((named b.0).1 (b.1, at)) in
+        seen ended new a ∙ ap (λ (o : Option (Option ℕ)). entry_by ended (unwrap_or o None)) is ∙ come);
+    elsewhere = λ a ne. (let same = others (place_of a) (λ b h at. ne (ap (λ (p : ℕ). unwrap_or (slice_get old p) Absent) (sym at) ∙ ((named b).0 h).1)) in
+        seen ended new a ∙ ap (λ (o : Option (Option ℕ)). entry_by ended (unwrap_or o None)) same
+        ∙ stays_by a (frame_at frames a) ne refl ∙ sym (seen serials frames a));
+  }
+
+-- an address of a list has a place, or none has
+named_at : (names : List Address) (place : ℕ) → ((a : Address) × IsIn names a × (place_of a ≡ place)) ⊎ ((a : Address) → IsIn names a → place_of a ≢ place)
+named_at [] place = inr (λ a h. absurd h)
+named_at (x ∷ xs) place = elim (eqb_tells (place_of x) place) [
+  | inl same ↦ inl (x, inl refl, same.1)
+  | inr other ↦ elim (named_at xs place) [
+    | inl one ↦ inl (one.0, inr one.1, one.2)
+    | inr none ↦ inr (λ a h. elim h [ inl is ↦ (λ e. other.1 (ap place_of is ∙ e)) | inr k ↦ none a k ])
+  ]
+]
+
+-- each address stays listed under a frame that there is
+pub kept_set : (serials frames : List (Option ℕ)) (place frame : ℕ) (serial : Option ℕ) → AreKept serials frames → frame < length serials →
+    AreKept (slice_set serials frame serial) (slice_set frames place (Some frame))
+kept_set serials frames place frame serial kept within = record {
+  count = length-set frames place (Some frame) ∙ kept.count;
+  within = λ p g e. elim (set_cases frames place p (Some frame) (Some g) e) [
+    | inl here ↦ (let same : frame ≡ g = (let is = here.1 in cc) in omega (arith, length-set serials frame serial))
+    | inr other ↦ omega (arith, kept.within p g other.1, length-set serials frame serial)
+  ];
+}
+
+pub kept_come : (serials more frames new : List (Option ℕ)) (names : List Address) (frame : ℕ) → AreKept serials frames → length more ≡ length serials → length new ≡ 32768 →
+    frame < length serials → ((a : Address) → IsIn names a → slice_get new (place_of a) ≡ Some (Some frame)) →
+    ((place : ℕ) → ((a : Address) → IsIn names a → place_of a ≢ place) → slice_get new place ≡ slice_get frames place) → AreKept more new
+kept_come serials more frames new names frame kept same count within here others = record {
+  count = count;
+  within = λ place g e. elim (named_at names place) [
+    | inl one ↦ (let two : Some (Some frame) ≡ Some (Some g) = sym (here one.0 one.1) ∙ ap (slice_get new) one.2 ∙ e in let is : frame ≡ g = cc in omega arith)
+    | inr none ↦ omega (arith, kept.within place g (sym (others place none) ∙ e))
+  ];
+}

@@ -1,0 +1,9 @@
+use Rattle.std.proofs.Common.{◌≡◌, length}
+use Rattle.table_core.proofs.Passing.{Under}
+use Rattle.table_core.proofs.entries.list_under.Given as goal
+
+abbrev pub invariant-loop-name : goal.invariant-loop-name
+invariant-loop-name l = record {
+  count : length l.frames ≡ 32768;
+  under : Under l.fn.frames l.frames l.names l.frame l.name-index;
+}

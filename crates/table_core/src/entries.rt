@@ -1,0 +1,128 @@
+//! What each address names, kept so that a page goes on its way, with all of its addresses, by one write.
+
+ghost use Rattle.std.specs.Prelude.{◌≡◌, ◌≢◌, ◌↔◌, ℕ, ◌<◌, true, false, length, slice_get, slice_set, IfOk, Some};
+ghost use Rattle.frame_core.specs.Address.{InRange};
+ghost use Rattle.frame_core.specs.declared.place.Address.{Address as Named};
+ghost use Rattle.table_core.specs.Names.{IsIn};
+ghost use Rattle.table_core.specs.Tables.{place_of, entry_at, is_listed, IsBlank, Replaces};
+
+use crate::entry::Entry;
+use crate::names::index_of;
+use frame_core::{Address, FrameNo, Serial, filled};
+use std::alloc::{AllocError, Global};
+use std::marker::Model;
+
+/// 8 spaces with 4096 virtual pages each.
+pub const ADDRESSES: usize = 32768;
+
+/// The entry of each address: the frame under which the address is listed, and of each frame the serial of the page that left it.
+#[derive(Drop)]
+pub struct Entries {
+    frames: Vec<Option<FrameNo>>,
+    serials: Vec<Option<Serial>>,
+}
+
+impl Model for Entries {
+    ghost use Rattle.std.specs.Prelude.{◌≡◌, length, vec_capacity};
+    ghost use Rattle.table_core.specs.EntriesInside.{entries_of, AreKept};
+    ghost use Rattle.table_core.specs.Tables.{Tables as Kept};
+
+    ghost Value = { Kept };
+
+    ghost view = { λ e. record { entries = entries_of e.serials.items e.frames.items; frames = length e.serials.items } };
+
+    ghost invariant = { λ e. AreKept e.serials.items e.frames.items
+        × (vec_capacity e.frames ≡ 32768)
+        × (vec_capacity e.serials ≡ length e.serials.items) };
+}
+
+impl Entries {
+    /// Each address is absent, in a zone of so many frames. No other call takes memory.
+    pub fn open(alloc: Global, frames: usize) -> Result<Entries, AllocError>
+        ensures blank { IfOk result (λ entries. IsBlank entries.entries) }
+        ensures frames { IfOk result (λ entries. entries.frames ≡ frames) }
+        ensures count { IfOk result (λ entries. length entries.entries ≡ 32768) }
+    {
+        Ok(Entries {
+            frames: filled(alloc, None, ADDRESSES)?,
+            serials: filled(alloc, None, frames)?,
+        })
+    }
+
+    /// What the address of a place names.
+    pub fn get(&self, place: usize) -> Entry
+        requires { place < 32768 }
+        ensures { slice_get self.now.entries place ≡ Some result }
+    {
+        let Some(frame) = self.frames[place] else {
+            return Entry::Absent;
+        };
+        match self.serials[frame.get() as usize] {
+            Some(serial) => Entry::Migration {
+                serial,
+                source: frame,
+            },
+            None => Entry::Present(frame),
+        }
+    }
+
+    /// Lets the address of a place name the page in a frame. No address may name a page that left this frame.
+    pub fn set(&mut self, place: usize, frame: FrameNo)
+        requires place { place < 32768 }
+        requires within { frame < self.old.frames }
+        requires still { (a : Named) (serial : ℕ) → entry_at self.old.entries a ≢ Entry.Migration serial frame }
+        ensures { self.new ≡ record self.old { entries = slice_set self.old.entries place (Entry.Present frame) } }
+    {
+        self.frames[place] = Some(frame);
+        self.serials[frame.get() as usize] = None;
+    }
+
+    /// Lets the address of a place name nothing.
+    pub fn clear(&mut self, place: usize)
+        requires { place < 32768 }
+        ensures { self.new ≡ record self.old { entries = slice_set self.old.entries place Entry.Absent } }
+    {
+        self.frames[place] = None;
+    }
+
+    /// Sends the page in a frame on its way: each address that named the frame names the migration. No address may name
+    /// another page that left this frame.
+    pub fn to_migration(&mut self, frame: FrameNo, serial: Serial)
+        requires within { frame < self.old.frames }
+        requires still { (a : Named) (other : ℕ) → entry_at self.old.entries a ≢ Entry.Migration other frame }
+        ensures replaced { Replaces self.old.entries self.new.entries (Entry.Present frame) (Entry.Migration serial frame) }
+        ensures frames { self.new.frames ≡ self.old.frames }
+        ensures count { length self.new.entries ≡ length self.old.entries }
+    {
+        self.serials[frame.get() as usize] = Some(serial);
+    }
+
+    /// Ends a migration: the addresses that named it, just those of the list, name the frame now. No other address may be listed
+    /// under the frame that the page left, or the one to which it goes.
+    pub fn to_present(&mut self, names: &[Address], serial: Serial, source: FrameNo, frame: FrameNo)
+        requires source_within { source < self.old.frames }
+        requires within { frame < self.old.frames }
+        requires named { (a : Named) → IsIn names.now a ↔ (InRange a × (entry_at self.old.entries a ≡ Entry.Migration serial source)) }
+        requires left { (a : Named) → is_listed (entry_at self.old.entries a) source ≡ true → entry_at self.old.entries a ≡ Entry.Migration serial source }
+        requires unnamed { frame ≢ source → (a : Named) → is_listed (entry_at self.old.entries a) frame ≡ false }
+        ensures replaced { Replaces self.old.entries self.new.entries (Entry.Migration serial source) (Entry.Present frame) }
+        ensures frames { self.new.frames ≡ self.old.frames }
+        ensures count { length self.new.entries ≡ length self.old.entries }
+    {
+        self.serials[source.get() as usize] = None;
+        self.serials[frame.get() as usize] = None;
+        list_under(&mut self.frames, names, frame);
+    }
+}
+
+/// Lists addresses under a frame.
+fn list_under(frames: &mut [Option<FrameNo>], names: &[Address], frame: FrameNo)
+    requires { length frames.old ≡ 32768 }
+    ensures named { (a : Named) → IsIn names.now a → slice_get frames.new (place_of a) ≡ Some (Some frame) }
+    ensures other { (place : ℕ) → ((a : Named) → IsIn names.now a → place_of a ≢ place) → slice_get frames.new place ≡ slice_get frames.old place }
+    ensures count { length frames.new ≡ 32768 }
+{
+    for name in names {
+        frames[index_of(name)] = Some(frame);
+    }
+}
