@@ -1,5 +1,5 @@
 -- What contracts see of the two ends of the copies' queue.
-use Rattle.std.specs.Prelude.{◌≡◌, ℕ, ◌==◌, Bool, true, false, if◌then◌else◌, List, [], ◌∷◌, Option, None, Some}
+use Rattle.std.specs.Prelude.{◌≡◌, ℕ, ◌==◌, Bool, true, false, List, [], ◌∷◌, Option, None, Some}
 use Rattle.std.specs.List.{list_all, list_any, flat_map, range_with_len}
 use Rattle.word_core.specs.Page.{OnItsWay}
 use Rattle.hand_core.specs.declared.copy_queue.Message.{Message}
@@ -79,8 +79,3 @@ copy_tried (Some came) = copy_answered came
 abbrev pub IsTriedInTime : DoneTaker → Option Came → Type 0
 IsTriedInTime t None = has_ended t ≡ false
 IsTriedInTime t (Some came) = IsEndInTime t came
-
--- what a message is answered with once it came off: a copy at once, and a mark with the end where it is the last
-abbrev pub answer_to : DoneTaker → Message → Option Came
-answer_to t (Copy sender copy) = Some (Came.Copy copy)
-answer_to t (Mark sender) = if has_ended t then Some Came.End else None

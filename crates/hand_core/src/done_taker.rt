@@ -45,7 +45,7 @@ pub enum Came {
 
 impl DoneTaker {
     ghost use Rattle.std.specs.Prelude.{◌≡◌, ◌++◌, ◌∷◌, [], false, IfOk, OnErr};
-    ghost use Rattle.hand_core.specs.CopyEnds.{copies_in, has_ended, copy_answered, copy_tried, answer_to, IsEndInTime, IsTriedInTime};
+    ghost use Rattle.hand_core.specs.CopyEnds.{copies_in_one, copies_in, has_ended, copy_answered, copy_tried, IsEndInTime, IsTriedInTime};
 
     /// Takes the next copy, and waits for it. The end is answered once the mark of every sender came off. Behind it nothing
     /// more is taken.
@@ -122,7 +122,8 @@ impl DoneTaker {
 
     // What is answered to a message that came off. A mark is answered only where it is the last.
     fn answered(&self, message: Message) -> Option<Came>
-        ensures { result ≡ answer_to self.now message }
+        ensures copy { copy_tried result ≡ copies_in_one message }
+        ensures end { copies_in_one message ≡ [] → IsTriedInTime self.now result }
     {
         match message {
             Message::Copy(_, copy) => Some(Came::Copy(copy)),
