@@ -1,3 +1,4 @@
+pub mod Answering
 pub mod CopySteps
 pub mod EachEnd
 pub mod Messages

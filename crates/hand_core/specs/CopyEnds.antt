@@ -1,5 +1,5 @@
 -- What contracts see of the two ends of the copies' queue.
-use Rattle.std.specs.Prelude.{◌≡◌, ℕ, ◌==◌, Bool, true, false, List, [], ◌∷◌}
+use Rattle.std.specs.Prelude.{◌≡◌, ℕ, ◌==◌, Bool, true, false, List, [], ◌∷◌, Option, None, Some}
 use Rattle.std.specs.List.{list_all, list_any, flat_map, range_with_len}
 use Rattle.word_core.specs.Page.{OnItsWay}
 use Rattle.hand_core.specs.declared.copy_queue.Message.{Message}
@@ -69,3 +69,13 @@ abbrev pub IsEndInTime : DoneTaker → Came → Type 0
 IsEndInTime t (Came.Copy copy) = has_ended t ≡ false
 IsEndInTime t Came.End = has_ended t ≡ true
 IsEndInTime t Came.Gone = has_ended t ≡ false
+
+-- the copy that a try of the taker answers, if it answers one
+abbrev pub copy_tried : Option Came → List OnItsWay
+copy_tried None = []
+copy_tried (Some came) = copy_answered came
+
+-- the end is answered in time there too: where nothing was there, a mark has yet to come
+abbrev pub IsTriedInTime : DoneTaker → Option Came → Type 0
+IsTriedInTime t None = has_ended t ≡ false
+IsTriedInTime t (Some came) = IsEndInTime t came

@@ -1,6 +1,7 @@
 use crate::copy_queue::{Account, Message, Sends, Turns};
 use crate::error::Gone;
-use crossbeam_channel::{Pass, RuledSender, SendError};
+use crate::patience;
+use crossbeam_channel::{Pass, RuledSender};
 use std::alloc::Global;
 use std::marker::Model;
 use std::sync::Wait;
@@ -46,10 +47,11 @@ impl DoneSender {
             pass,
             ..
         } = self;
-        let Err(refused) = to.send_as::<Sends, R>(rt, pass, Message::Copy(*number, copy)) else {
+        let message = Message::Copy(*number, copy);
+        let Err(refused) = patience::send::<Sends, _, _, _, R>(rt, to, pass, message) else {
             return Ok(());
         };
-        let SendError::Disconnected(Message::Copy(_, copy)) = refused else {
+        let Message::Copy(_, copy) = refused else {
             unreachable!()
         };
         Err(copy)
@@ -68,10 +70,8 @@ impl DoneSender {
             pass,
             ..
         } = self;
-        if to
-            .send_as::<Sends, R>(rt, pass, Message::Mark(*number))
-            .is_err()
-        {
+        let message = Message::Mark(*number);
+        if patience::send::<Sends, _, _, _, R>(rt, to, pass, message).is_err() {
             return Err(Gone);
         }
         Ok(())

@@ -1,6 +1,7 @@
 use crate::error::Gone;
 use crate::page_queue::{Known, Note, Ordered, Puts};
-use crossbeam_channel::{Pass, RuledSender, SendError};
+use crate::patience;
+use crossbeam_channel::{Pass, RuledSender};
 use frame_core::Serial;
 use std::alloc::Global;
 use std::marker::Model;
@@ -49,11 +50,12 @@ impl Giver {
     {
         let Giver { next, to, pass, .. } = self;
         let behind = u64::from(page.serial()) + 1;
-        let Err(refused) = to.send_as::<Puts, R>(rt, pass, Note::Page(page)) else {
+        let note = Note::Page(page);
+        let Err(refused) = patience::send::<Puts, _, _, _, R>(rt, to, pass, note) else {
             *next = behind;
             return Ok(());
         };
-        let SendError::Disconnected(Note::Page(page)) = refused else {
+        let Note::Page(page) = refused else {
             unreachable!()
         };
         Err(page)
@@ -86,7 +88,7 @@ impl Giver {
             pass,
             ..
         } = self;
-        if to.send_as::<Puts, R>(rt, pass, Note::Mark).is_err() {
+        if patience::send::<Puts, _, _, _, R>(rt, to, pass, Note::Mark).is_err() {
             return Err(Gone);
         }
         *marks += 1;

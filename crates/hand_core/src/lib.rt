@@ -12,6 +12,7 @@ mod error;
 mod giver;
 mod opening;
 mod page_queue;
+mod patience;
 mod settling;
 mod taker;
 

@@ -1,4 +1,5 @@
 use crate::page_queue::{Gets, Known, Note, Ordered};
+use crate::patience;
 use crossbeam_channel::{Pass, RuledReceiver};
 use std::alloc::Global;
 use std::marker::Model;
@@ -48,7 +49,7 @@ impl Taker {
         ensures rising { IsRising self.new.taken }
     {
         let Taker { ended, from, pass } = self;
-        let Ok(note) = from.recv_as::<Gets, R>(rt, pass) else {
+        let Ok(note) = patience::receive::<Gets, _, _, _, R>(rt, from, pass) else {
             return Took::Gone;
         };
         if let Note::Page(page) = note {

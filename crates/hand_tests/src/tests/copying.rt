@@ -220,3 +220,29 @@ fn answers_gone_behind_the_copies_where_the_senders_are_gone(rt: HostRuntime) ->
     assert!(rt; matches!(taker.take(&rt), Came::Gone));
     Ok(())
 }
+
+#[test]
+fn takes_without_waiting(rt: HostRuntime) -> Result<(), Fail> {
+    let (mut senders, mut taker) = opened(&rt, rt.alloc(), 2, 4);
+    let mut two = last_sender(&rt, &taker, &mut senders);
+    let mut one = last_sender(&rt, &taker, &mut senders);
+    assert!(rt; taker.try_take(&rt).is_none());
+    assert!(rt; one.close(&rt).is_ok());
+    assert!(rt; two.send(&rt, copied(1, 3).ok_or("in range")?).is_ok());
+    let Some(Came::Copy(copy)) = taker.try_take(&rt) else {
+        panic!(rt; "the copy behind the first mark isn't taken");
+    };
+    assert_eq!(rt; copy.serial(), 1003);
+    assert!(rt; is_page(&copy.into_page(), 3));
+    assert!(rt; taker.try_take(&rt).is_none());
+    assert!(rt; two.close(&rt).is_ok());
+    assert!(rt; matches!(taker.try_take(&rt), Some(Came::End)));
+    Ok(())
+}
+
+#[test]
+fn is_told_without_waiting_that_the_senders_are_gone(rt: HostRuntime) {
+    let (senders, mut taker) = opened(&rt, rt.alloc(), 2, 4);
+    drop(senders);
+    assert!(rt; matches!(taker.try_take(&rt), Some(Came::Gone)));
+}

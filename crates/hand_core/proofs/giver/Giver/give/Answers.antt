@@ -7,8 +7,8 @@ use Rattle.hand_core.proofs.Serials.{serials-snoc}
 use Rattle.hand_core.proofs.PageSteps.{page_in}
 use Rattle.hand_core.proofs.giver.Giver.give.Goals as goal
 
-pub send_as-requires-clause-rule : goal.send_as-requires-clause-rule
-send_as-requires-clause-rule g c =
+pub send-requires-clause-rule : goal.send-requires-clause-rule
+send-requires-clause-rule g c =
     let s = c.self.inside in
     let k = c.self.invariant in
     let is = c.self.view_is in (

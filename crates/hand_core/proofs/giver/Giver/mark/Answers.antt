@@ -1,5 +1,5 @@
 use Rattle.hand_core.proofs.PageSteps.{mark_in}
 use Rattle.hand_core.proofs.giver.Giver.mark.Goals as goal
 
-pub send_as-requires-clause-rule : goal.send_as-requires-clause-rule
-send_as-requires-clause-rule g c = (mark_in _ _ _ c.self.invariant.gives, λ items views rule at. tt)
+pub send-requires-clause-rule : goal.send-requires-clause-rule
+send-requires-clause-rule g c = (mark_in _ _ _ c.self.invariant.gives, λ items views rule at. tt)
