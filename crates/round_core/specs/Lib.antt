@@ -3,4 +3,3 @@ pub mod Crews
 pub mod Errors
 pub mod Kept
 pub mod Rounds
-pub mod Scanning

@@ -1,14 +1,16 @@
 ghost use Rattle.std.specs.Prelude.{◌≡◌, false, IfOk, IfErr};
-ghost use Rattle.hand_core.specs.CopyEnds.{has_ended};
+ghost use Rattle.hand_core.specs.CopyEnds.{has_ended, IsTriedInTime};
 
 use crate::gate::{Gate, Point};
 use crate::shape::Shape;
 use crate::shared_zone::SharedZone;
 use frame_core::Serial;
 use hand_core::{Came, DoneSender, DoneTaker};
+use std::collections::VecDeque;
 use std::sync::Wait;
 use std::sync::ledger::Ledger;
 use std::thread::{Promise, PromisedHandle, Scope, Threads};
+use word_core::Copied;
 use zone_core::EndSeat;
 
 /// What the committer hands back.
@@ -19,11 +21,19 @@ pub(crate) struct Committed<M: Ledger, B: Ledger> {
     pub(crate) whole: bool,
 }
 
-/// Commits each copy that comes, by the one seat.
+/// What comes behind the copies that were gathered.
+enum Behind {
+    More,
+    End,
+    Gone,
+}
+
+/// Commits all copies that come, by the one seat, as many at once as the list has room for.
 fn commit_all<K: Shape, I: Ledger, M: Ledger, B: Ledger, G: Gate, R: Wait>(
     rt: &R,
     shared: &SharedZone<K, I, M, B>,
     mut copies: DoneTaker,
+    mut gathered: VecDeque<Copied>,
     mut seat: EndSeat<M, B>,
     gate: &G,
 ) -> Committed<M, B>
@@ -32,34 +42,56 @@ fn commit_all<K: Shape, I: Ledger, M: Ledger, B: Ledger, G: Gate, R: Wait>(
 {
     let mut stranger = None;
     for _ in rt.forever() {
-        match copies.take(rt) {
-            Came::Copy(copy) => {
-                if let Err(refused) = shared.commit(rt, &mut seat, copy) {
-                    stranger = Some(least(stranger, refused.0.serial()));
-                }
-                gate.at(Point::Ended, 5);
-            }
-            Came::End => {
-                return Committed {
-                    seat,
-                    stranger,
-                    whole: true,
-                };
-            }
-            Came::Gone => break,
+        let behind = gather(rt, &mut copies, &mut gathered);
+        let count = gathered.len();
+        stranger = shared.commit_burst(rt, &mut seat, &mut gathered, stranger);
+        tell_all(gate, count);
+        let whole = match behind {
+            Behind::More => continue,
+            Behind::End => true,
+            Behind::Gone => false,
+        };
+        return Committed {
+            seat,
+            stranger,
+            whole,
+        };
+    }
+    unreachable!()
+}
+
+/// Gathers the copies that are there, until the list is full. For the first it waits.
+fn gather<R: Wait>(rt: &R, copies: &mut DoneTaker, gathered: &mut VecDeque<Copied>) -> Behind
+    requires { has_ended copies.old ≡ false }
+    ensures { result ≡ Behind.More → has_ended copies.new ≡ false }
+{
+    while gathered.len() < gathered.capacity() {
+        match next_copy(rt, copies, gathered.is_empty()) {
+            Some(Came::Copy(copy)) => gathered.push_back_reserved(copy),
+            Some(Came::End) => return Behind::End,
+            Some(Came::Gone) => return Behind::Gone,
+            None => break,
         }
     }
-    Committed {
-        seat,
-        stranger,
-        whole: false,
+    Behind::More
+}
+
+/// Takes the next copy. Unless it waits, there may be none.
+fn next_copy<R: Wait>(rt: &R, copies: &mut DoneTaker, waits: bool) -> Option<Came>
+    requires { has_ended copies.old ≡ false }
+    ensures { IsTriedInTime copies.new result }
+{
+    if waits {
+        Some(copies.take(rt))
+    } else {
+        copies.try_take(rt)
     }
 }
 
-fn least(stranger: Option<Serial>, serial: Serial) -> Serial {
-    match stranger {
-        Some(other) if other < serial => other,
-        _ => serial,
+/// Tells the gate that so many pages were brought to the zone.
+fn tell_all<G: Gate>(gate: &G, count: usize) {
+    for _page in 0..count {
+        gate.at(Point::Ended, 5);
     }
 }
 
@@ -91,6 +123,7 @@ pub(crate) fn start_committer<
     shared: &'e SharedZone<K, I, M, B>,
     senders: Vec<DoneSender>,
     copies: DoneTaker,
+    gathered: VecDeque<Copied>,
     seat: EndSeat<M, B>,
     gate: &'e G,
 ) -> Result<(Vec<DoneSender>, Committer<M, B>), EndSeat<M, B>>
@@ -105,7 +138,7 @@ pub(crate) fn start_committer<
             requires copies { has_ended copies ≡ false }
             requires part { seat.parts ≡ 1 }
             ensures { result.seat.parts ≡ 1 }
-        { commit_all(rt, shared, copies, seat, gate) },
+        { commit_all(rt, shared, copies, gathered, seat, gate) },
     );
     match started {
         Ok(committer) => Ok((senders, committer)),

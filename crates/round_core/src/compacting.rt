@@ -13,14 +13,15 @@ use crate::shared_zone::SharedZone;
 use frame_core::Serial;
 use hand_core::{DoneSender, DoneTaker, Giver, Takers, done_open, open, settle};
 use std::alloc::{AllocError, Global};
+use std::collections::VecDeque;
 use std::sync::Wait;
 use std::sync::ledger::Ledger;
 use std::thread;
 use std::thread::Threads;
 use zone_core::{Audit, Seats, Zone, ZoneError};
 
-/// Moves what can be moved, by so many copiers, 1 to 4, over queues with room for `cap` pages and copies, 1 to 64. What can fail for
-/// want of memory or of a thread fails before the first page is isolated.
+/// Moves what can be moved, by so many copiers, 1 to 4, over queues with room for `cap` pages and copies, 1 to 64. Under one lock at
+/// most so many are isolated or committed. What can fail for want of memory or of a thread fails before the first page is isolated.
 ///
 /// Refused as Broken where `audit` refuses, before anything else; as Memory or NoWorker, and then no round was begun; as Stranger where
 /// the zone refused a copy; as Broken where an end of a queue was gone, a copier's list had no place for a page, or the audit behind the
@@ -48,7 +49,7 @@ pub fn compact<
     ensures early { IsRefusedEarly seats.old.scan seats.new.scan seats.old.ends seats.new.ends result }
 {
     let before = audit(rt, shared, seats)?;
-    let Ok(memory) = reserve(alloc, copiers, 256 * shared.blocks() as usize) else {
+    let Ok(memory) = reserve(alloc, copiers, 256 * shared.blocks() as usize, cap) else {
         return Err(RoundError::Memory);
     };
     let Ok((giver, takers)) = open(rt, alloc, before.isolated, copiers, cap) else {
@@ -101,12 +102,18 @@ fn audit<K: Shape, I: Ledger, N: Ledger, M: Ledger, B: Ledger, R: Wait>(
     Ok(audit)
 }
 
-/// Takes the memory of a round, with room for so many serials in the list of each copier.
-fn reserve(alloc: Global, copiers: usize, serials: usize) -> Result<Memory, AllocError>
+/// Takes the memory of a round, with room for so many serials in the list of each copier, and for so many pages and copies at once.
+fn reserve(
+    alloc: Global,
+    copiers: usize,
+    serials: usize,
+    burst: usize,
+) -> Result<Memory, AllocError>
     ensures serials { IfOk result (λ m. (vec_len m.serials ≡ copiers) × All (λ list. list.items ≡ []) m.serials.items) }
     ensures copiers { IfOk result (λ m. (m.copiers.items ≡ []) × (copiers ≤ vec_capacity m.copiers)) }
     ensures takers { IfOk result (λ m. (m.takers.items ≡ []) × (copiers ≤ vec_capacity m.takers)) }
     ensures lists { IfOk result (λ m. (m.lists.items ≡ []) × (copiers ≤ vec_capacity m.lists)) }
+    ensures pages { IfOk result (λ m. m.pages.items ≡ []) }
 {
     let mut lists_to_fill = Vec::with_capacity(alloc, copiers)?;
     for _copier in 0..copiers {
@@ -117,6 +124,8 @@ fn reserve(alloc: Global, copiers: usize, serials: usize) -> Result<Memory, Allo
         copiers: Vec::with_capacity(alloc, copiers)?,
         takers: Vec::with_capacity(alloc, copiers)?,
         lists: Vec::with_capacity(alloc, copiers)?,
+        pages: VecDeque::with_capacity(alloc, burst)?,
+        gathered: VecDeque::with_capacity(alloc, burst)?,
     })
 }
 
@@ -147,6 +156,7 @@ fn in_scope<
     requires parts { 1 < seats.old.ends.parts }
     requires serials { (vec_len memory.serials ≡ vec_len takers) × All (λ list. list.items ≡ []) memory.serials.items }
     requires memory { (memory.copiers.items ≡ []) × (vec_len takers ≤ vec_capacity memory.copiers) × (memory.takers.items ≡ []) × (vec_len takers ≤ vec_capacity memory.takers) × (memory.lists.items ≡ []) × (vec_len takers ≤ vec_capacity memory.lists) }
+    requires pages { memory.pages.items ≡ [] }
     ensures takers { IfSome result (λ ran. All (λ t. t.hand_over ≡ ran.giver.hand_over) ran.joined.takers.items) }
     ensures listed { IfSome result (λ ran. ran.joined.whole ≡ true → AreListed (map (λ v. v.items) ran.joined.lists.items) ran.joined.takers.items) }
     ensures count { IfSome result (λ ran. (ran.giver.base ≡ giver.base) × IfSome ran.stop (λ _. seats.new.scan.count ≡ ran.giver.base + length ran.giver.given)) }
@@ -167,6 +177,7 @@ fn in_scope<
             requires parts { 1 < lent.now.ends.parts }
             requires serials { (vec_len memory.serials ≡ vec_len takers) × All (λ list. list.items ≡ []) memory.serials.items }
             requires memory { (memory.copiers.items ≡ []) × (vec_len takers ≤ vec_capacity memory.copiers) × (memory.takers.items ≡ []) × (vec_len takers ≤ vec_capacity memory.takers) × (memory.lists.items ≡ []) × (vec_len takers ≤ vec_capacity memory.lists) }
+            requires pages { memory.pages.items ≡ [] }
             ensures takers { IfSome result.1 (λ ran. All (λ t. t.hand_over ≡ ran.giver.hand_over) ran.joined.takers.items) }
             ensures listed { IfSome result.1 (λ ran. ran.joined.whole ≡ true → AreListed (map (λ v. v.items) ran.joined.lists.items) ran.joined.takers.items) }
             ensures count { IfSome result.1 (λ ran. (ran.giver.base ≡ giver.base) × IfSome ran.stop (λ _. result.0.now.scan.count ≡ ran.giver.base + length ran.giver.given)) }

@@ -12,9 +12,11 @@ use crate::shape::Shape;
 use crate::shared_zone::SharedZone;
 use frame_core::Serial;
 use hand_core::{DoneSender, DoneTaker, Giver, Taker, Takers};
+use std::collections::VecDeque;
 use std::sync::Wait;
 use std::sync::ledger::Ledger;
 use std::thread::{Scope, Threads};
+use word_core::{Copied, Isolated};
 use zone_core::{EndSeat, Seats};
 
 /// The memory of a round besides its queues.
@@ -25,6 +27,10 @@ pub(crate) struct Memory {
     pub(crate) copiers: Vec<Copier>,
     pub(crate) takers: Vec<Taker>,
     pub(crate) lists: Vec<Vec<Serial>>,
+    /// For pages that are isolated under one lock.
+    pub(crate) pages: VecDeque<Isolated>,
+    /// For copies that are committed under one lock.
+    pub(crate) gathered: VecDeque<Copied>,
 }
 
 /// What the copiers handed back.
@@ -157,6 +163,7 @@ pub(crate) fn run<
     requires parts { 1 < seats.old.ends.parts }
     requires serials { (vec_len memory.serials ≡ vec_len takers) × All (λ list. list.items ≡ []) memory.serials.items }
     requires memory { (memory.copiers.items ≡ []) × (vec_len takers ≤ vec_capacity memory.copiers) × (memory.takers.items ≡ []) × (vec_len takers ≤ vec_capacity memory.takers) × (memory.lists.items ≡ []) × (vec_len takers ≤ vec_capacity memory.lists) }
+    requires pages { memory.pages.items ≡ [] }
     ensures takers { IfSome result (λ ran. All (λ t. t.hand_over ≡ ran.giver.hand_over) ran.joined.takers.items) }
     ensures listed { IfSome result (λ ran. ran.joined.whole ≡ true → AreListed (map (λ v. v.items) ran.joined.lists.items) ran.joined.takers.items) }
     ensures count { IfSome result (λ ran. (ran.giver.base ≡ giver.base) × IfSome ran.stop (λ _. seats.new.scan.count ≡ ran.giver.base + length ran.giver.given)) }
@@ -170,13 +177,15 @@ pub(crate) fn run<
         copiers,
         takers: joined,
         lists,
+        pages,
+        gathered,
     } = memory;
     let Seats { scan, ends } = seats;
     let Some(part) = ends.split() else {
         unreachable!()
     };
     let (senders, committer) = match start_committer(
-        scope, rt, shared, senders, copies, part, gate,
+        scope, rt, shared, senders, copies, gathered, part, gate,
     ) {
         Ok(started) => started,
         Err(part) => {
@@ -194,7 +203,7 @@ pub(crate) fn run<
         }
     };
     shared.begin_round(rt, scan);
-    let stop = scan_all(rt, shared, scan, ends, &mut giver, gate);
+    let stop = scan_all(rt, shared, scan, ends, &mut giver, pages, gate);
     let _ = giver.close(rt);
     let mut joined = join_copiers(rt, &giver, copiers, joined, lists);
     let Committed {

@@ -1,9 +1,10 @@
-//! Rounds on threads: a scanner isolates pages of a zone, copiers carry them, and a committer ends each move.
+//! Rounds on threads: a scanner isolates pages of a zone in bursts, copiers carry them, and a committer ends their moves in bursts.
 //!
 //! The zone stands under one lock, which keeps it lawful. Contracts see a round by what it changes in the two seats.
 #![tactic(auto)]
 
 mod alone;
+mod burst;
 mod committer;
 mod compacting;
 mod copier;

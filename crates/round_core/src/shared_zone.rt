@@ -1,11 +1,15 @@
 ghost use Rattle.std.specs.Prelude.{◌≤◌};
 
+use crate::burst::{commit_burst, isolate_burst};
+use crate::round::Stop;
 use crate::shape::Shape;
+use frame_core::Serial;
+use std::collections::VecDeque;
 use std::marker::{Model, PhantomData};
 use std::sync::ledger::Ledger;
 use std::sync::{Condvar, Mutex, MutexGuard, Wait};
 use word_core::{Copied, Isolated};
-use zone_core::{EndSeat, Ended, Next, ScanSeat, Stranger, Zone, ZoneError};
+use zone_core::{EndSeat, ScanSeat, Zone};
 
 /// What stands under the lock: a zone, and whether a thread waits for a move in it to end.
 #[derive(Drop)]
@@ -55,10 +59,11 @@ pub struct SharedZone<K: Shape, I: Ledger, M: Ledger, B: Ledger> {
 }
 
 impl<K: Shape, I: Ledger, M: Ledger, B: Ledger> SharedZone<K, I, M, B> {
-    ghost use Rattle.std.specs.Prelude.{◌≡◌, ◌+◌, OnOk, OnErr, IfOk, IfErr};
-    ghost use Rattle.zone_core.specs.Seats.{seat_begun, seat_full, seat_noted, seat_ended, IsFollowed};
+    ghost use Rattle.std.specs.Prelude.{◌≡◌, ◌+◌, [], length, Some, IfSome};
+    ghost use Rattle.word_core.specs.Serials.{HasSerialsFrom};
+    ghost use Rattle.zone_core.specs.Seats.{seat_begun};
     ghost use Rattle.round_core.specs.Kept.{IsKept};
-    ghost use Rattle.round_core.specs.Scanning.{HasNext};
+    ghost use Rattle.round_core.specs.Rounds.{answer_at};
     ghost use Rattle.zone_core.specs.Shape.{HasShape};
 
     /// Puts a zone under a lock. Its number and its pageblocks are those of `K`.
@@ -126,34 +131,39 @@ impl<K: Shape, I: Ledger, M: Ledger, B: Ledger> SharedZone<K, I, M, B> {
         self.lock(rt).zone.begin_round(seat);
     }
 
-    /// Takes the next page of a round on its way.
-    pub(crate) fn isolate_next<N: Ledger, R: Wait>(
+    /// Isolates pages into the empty list until it is full, in their order. Where there are fewer it is answered why.
+    pub(crate) fn isolate_burst<N: Ledger, R: Wait>(
         &self,
         rt: &R,
         seat: &mut ScanSeat<I, N>,
-    ) -> Result<Next, ZoneError>
-        ensures next { IfOk result (HasNext seat.old) }
-        ensures seat { IfOk result (λ next. seat.new ≡ seat_noted seat.old next) }
-        ensures full { OnErr result (seat.new ≡ seat_full seat.old) }
+        pages: &mut VecDeque<Isolated>,
+    ) -> Option<Stop>
+        requires { pages.old.items ≡ [] }
+        ensures serials { HasSerialsFrom seat.old.count pages.new.items }
+        ensures count { seat.new.count ≡ seat.old.count + length pages.new.items }
+        ensures rounds { seat.new.rounds ≡ seat.old.rounds }
+        ensures stopped { IfSome result (λ stop. seat.new.last ≡ Some (answer_at stop)) }
     {
-        self.lock(rt).zone.isolate_next(seat)
+        let mut room = self.lock(rt);
+        isolate_burst(&mut room.zone, seat, pages)
     }
 
-    /// Ends the move of a page with its copy, and wakes those who wait for it.
-    pub(crate) fn commit<R: Wait>(
+    /// Ends the moves of pages with their copies, and wakes those who wait for one. The least serial of those that were refused
+    /// is answered, or that of a stranger before them.
+    pub(crate) fn commit_burst<R: Wait>(
         &self,
         rt: &R,
         seat: &mut EndSeat<M, B>,
-        copy: Copied,
-    ) -> Result<Ended, Stranger<Copied>>
-        ensures back { IfErr result (λ stranger. stranger.0 ≡ copy) }
-        ensures seat { IfOk result (λ ended. seat.new ≡ seat_ended seat.old ended) }
-        ensures err { OnErr result (seat.new ≡ seat.old) }
+        copies: &mut VecDeque<Copied>,
+        stranger: Option<Serial>,
+    ) -> Option<Serial>
+        ensures copies { copies.new.items ≡ [] }
+        ensures parts { seat.new.parts ≡ seat.old.parts }
     {
         let mut room = self.lock(rt);
-        let ended = room.zone.commit(seat, copy);
+        let least = commit_burst(&mut room.zone, seat, copies, stranger);
         self.tell_ended(&mut room);
-        ended
+        least
     }
 
     /// Ends the move of a page that reached no copier, and wakes those who wait for it.

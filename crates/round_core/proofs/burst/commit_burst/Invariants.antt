@@ -1,0 +1,14 @@
+use Rattle.std.proofs.Common.{◌≡◌, length}
+use Rattle.state_core.specs.Lawful.{IsLawful}
+use Rattle.zone_core.specs.Shape.{HasShape}
+use Rattle.round_core.proofs.burst.commit_burst.Given as goal
+
+abbrev pub invariant-loop-copy : goal.invariant-loop-copy
+invariant-loop-copy g l = record {
+  parts : l.seat.parts ≡ l.fn.seat.parts;
+  shape : HasShape l.fn.zone.number l.fn.zone.blocks l.zone;
+  lawful : IsLawful l.zone;
+}
+
+abbrev pub decreases-loop-copy : goal.decreases-loop-copy
+decreases-loop-copy g l = length l.copies.items

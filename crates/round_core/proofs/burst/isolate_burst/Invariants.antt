@@ -1,0 +1,18 @@
+use Rattle.std.proofs.Common.{◌≡◌, ◌+◌, ◌-◌, length}
+use Rattle.std.specs.VecDeque.{deque_capacity}
+use Rattle.state_core.specs.Lawful.{IsLawful}
+use Rattle.word_core.specs.Serials.{HasSerialsFrom}
+use Rattle.zone_core.specs.Shape.{HasShape}
+use Rattle.round_core.proofs.burst.isolate_burst.Given as goal
+
+abbrev pub invariant-loop-zone : goal.invariant-loop-zone
+invariant-loop-zone g l = record {
+  serials : HasSerialsFrom l.fn.scan.count l.pages.items;
+  count : l.scan.count ≡ l.fn.scan.count + length l.pages.items;
+  rounds : l.scan.rounds ≡ l.fn.scan.rounds;
+  shape : HasShape l.fn.zone.number l.fn.zone.blocks l.zone;
+  lawful : IsLawful l.zone;
+}
+
+abbrev pub decreases-loop-zone : goal.decreases-loop-zone
+decreases-loop-zone g l = deque_capacity l.pages - length l.pages.items

@@ -1,0 +1,12 @@
+use Rattle.std.proofs.Common.{◌≡◌, ◌≤◌, length}
+use Rattle.round_core.proofs.scanner.put_back_all.Given as goal
+
+abbrev pub invariant-loop-page : goal.invariant-loop-page
+invariant-loop-page g l = record {
+  parts : l.ends.parts ≡ l.fn.ends.parts;
+  moved : l.ends.moved ≡ l.fn.ends.moved;
+  back : l.fn.ends.back ≤ l.ends.back;
+}
+
+abbrev pub decreases-loop-page : goal.decreases-loop-page
+decreases-loop-page g l = length l.pages.items

@@ -1,0 +1,67 @@
+//! Steps of many pages under one lock.
+
+ghost use Rattle.std.specs.Prelude.{◌≡◌, ◌+◌, [], length, Some, IfSome};
+ghost use Rattle.state_core.specs.Lawful.{IsLawful};
+ghost use Rattle.word_core.specs.Serials.{HasSerialsFrom};
+ghost use Rattle.zone_core.specs.Shape.{HasShape};
+ghost use Rattle.round_core.specs.Rounds.{answer_at};
+
+use crate::round::Stop;
+use frame_core::Serial;
+use std::collections::VecDeque;
+use std::sync::ledger::Ledger;
+use word_core::{Copied, Isolated};
+use zone_core::{EndSeat, Next, ScanSeat, Zone};
+
+/// Isolates pages into the empty list until it is full, in their order. Where there are fewer it is answered why.
+pub(crate) fn isolate_burst<I: Ledger, N: Ledger, M: Ledger, B: Ledger>(
+    zone: &mut Zone<I, M, B>,
+    scan: &mut ScanSeat<I, N>,
+    pages: &mut VecDeque<Isolated>,
+) -> Option<Stop>
+    requires lawful { IsLawful zone.old }
+    requires empty { pages.old.items ≡ [] }
+    ensures serials { HasSerialsFrom scan.old.count pages.new.items }
+    ensures count { scan.new.count ≡ scan.old.count + length pages.new.items }
+    ensures rounds { scan.new.rounds ≡ scan.old.rounds }
+    ensures stopped { IfSome result (λ stop. scan.new.last ≡ Some (answer_at stop)) }
+    ensures shape { HasShape zone.old.number zone.old.blocks zone.new }
+    ensures lawful { IsLawful zone.new }
+{
+    while pages.len() < pages.capacity() {
+        match zone.isolate_next(scan) {
+            Ok(Next::Page(page)) => pages.push_back_reserved(page),
+            Ok(Next::Met) => return Some(Stop::Met),
+            Err(_) => return Some(Stop::JournalFull),
+        }
+    }
+    None
+}
+
+/// Commits all copies, in their order. The least serial of those that were refused is answered, or that of a stranger before them.
+pub(crate) fn commit_burst<I: Ledger, M: Ledger, B: Ledger>(
+    zone: &mut Zone<I, M, B>,
+    seat: &mut EndSeat<M, B>,
+    copies: &mut VecDeque<Copied>,
+    mut stranger: Option<Serial>,
+) -> Option<Serial>
+    requires lawful { IsLawful zone.old }
+    ensures copies { copies.new.items ≡ [] }
+    ensures parts { seat.new.parts ≡ seat.old.parts }
+    ensures shape { HasShape zone.old.number zone.old.blocks zone.new }
+    ensures lawful { IsLawful zone.new }
+{
+    while let Some(copy) = copies.pop_front() {
+        if let Err(refused) = zone.commit(seat, copy) {
+            stranger = Some(least(stranger, refused.0.serial()));
+        }
+    }
+    stranger
+}
+
+fn least(stranger: Option<Serial>, serial: Serial) -> Serial {
+    match stranger {
+        Some(other) if other < serial => other,
+        _ => serial,
+    }
+}
