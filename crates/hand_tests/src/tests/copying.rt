@@ -232,7 +232,7 @@ fn takes_without_waiting(rt: HostRuntime) -> Result<(), Fail> {
     let Some(Came::Copy(copy)) = taker.try_take(&rt) else {
         panic!(rt; "the copy behind the first mark isn't taken");
     };
-    assert_eq!(rt; copy.serial(), 1003);
+    assert!(rt; copy.serial() == 1003);
     assert!(rt; is_page(&copy.into_page(), 3));
     assert!(rt; taker.try_take(&rt).is_none());
     assert!(rt; two.close(&rt).is_ok());
