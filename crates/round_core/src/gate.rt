@@ -11,7 +11,7 @@ pub enum Point {
     Ended,
 }
 
-/// Is called right after each step of a page and before its next one, by the thread that made the step, which holds no lock.
+/// Is called after each step of a page and before its next one, by the thread that made the step, which holds no lock.
 pub trait Gate: Sync {
     /// `who` is 0 for the scanner, 1 to 4 for a copier, and 5 for the committer.
     fn at(&self, point: Point, who: usize);

@@ -1,4 +1,4 @@
-use Rattle.std.proofs.Common.{◌≡◌, ◌+◌, ◌++◌, false, length}
+use Rattle.std.proofs.Common.{◌≡◌, ◌+◌, ◌++◌, length}
 use Rattle.word_core.specs.Serials.{HasSerialsFrom}
 use Rattle.round_core.proofs.scanner.give_all.Given as goal
 
