@@ -1,5 +1,5 @@
 -- The steps of a machine with threads.
-use Rattle.std.proofs.Common.{◌≡◌, ℕ, ◌+◌, ◌≤◌, ◌⊎◌, Bool, true, false, List, [], ◌∷◌, ◌++◌, refl, sym, ap, subst, ◌∙◌, inl, inr, arith, Option, Some, None, Result, Ok, Err}
+use Rattle.std.proofs.Common.{◌≡◌, ℕ, ◌+◌, ◌≤◌, ◌⊎◌, Bool, true, false, List, [], ◌∷◌, refl, sym, ap, subst, ◌∙◌, inl, inr, arith, Option, Some, None, Result, Ok, Err}
 use Rattle.std.specs.Prelude.{IfOk, nat_eq}
 use Rattle.std.proofs.lemmas.Bool.Decides.{nat_tests}
 use Rattle.state_core.specs.declared.error.ZoneError.{ZoneError}
@@ -15,13 +15,11 @@ use Rattle.round_core.specs.Rounds.{IsBroken, IsRefusedEarly, IsRound}
 use Rattle.text_core.specs.declared.command.Command.{Command}
 use Rattle.text_core.specs.declared.command.Command.TheVariants.{During}
 use Rattle.text_core.specs.declared.reply.Reply.{Reply}
-use Rattle.text_core.specs.declared.reply.Reply.TheVariants as reply
 use Rattle.text_core.specs.Grammar.{zone_of}
 use Rattle.client_core.specs.Receipts.{Client}
-use Rattle.script_core.specs.Clients.{AreClientAnswers}
 use Rattle.play_core.specs.Script.{Answer, ClientLine, Numbered, command_of_line}
 use Rattle.machine_core.specs.Single.{IsStep, Single}
-use Rattle.script_core.specs.Threaded.{IsBlockFor, IsReplyStep, IsRoundBeside, IsRoundOver, IsSettledReply, IsStepAt, IsStepBy, IsThreadedStep, IsUnstarted, IsWorkOn, IsWorkStep, Settles, Threaded, broken_reply, is_threaded, left_behind, left_by}
+use Rattle.script_core.specs.Threaded.{IsBlockFor, IsNothingRun, IsReplyStep, IsRoundBeside, IsRoundOver, IsStepAt, IsStepBy, IsThreadedStep, IsTurnBeside, IsUnstarted, IsWorkOn, IsWorkStep, Settles, Threaded, broken_reply, is_threaded, left_by}
 use Rattle.machine_core.specs.Single.{is_at_rest, number_is_at_rest}
 
 -- a command that works by threads
@@ -143,28 +141,36 @@ pub block_for : (number zone : ℕ) (world : Option WorldState) (w : WorldState)
 block_for number zone world w is there closed =
     ap (λ (z : Option ℕ). number_is_at_rest z world) is ∙ ap (is_at_rest zone) there ∙ closed
 
+-- a turn of the client of this machine, with the lines of this block
+pub turn_of : (w : WorldState) (old : Threaded) (c : Numbered) (places : ℕ) (client : Client) (lines : List ClientLine) (told : List Answer) (own : Reply) (new : Threaded)
+    → places ≡ old.single.places → client ≡ old.client → lines ≡ c.clients
+    → IsTurnBeside w places client lines told own new → IsTurnBeside w old.single.places old.client c.clients told own new
+turn_of w old c places client lines told own new same_places same_client same_lines turn =
+    let P : ℕ → Type 0 = λ n. IsTurnBeside w n client lines told own new in
+    let C : Client → Type 0 = λ k. IsTurnBeside w old.single.places k lines told own new in
+    let L : List ClientLine → Type 0 = λ ls. IsTurnBeside w old.single.places old.client ls told own new in
+    subst L same_lines (subst C same_client (subst P same_places turn))
+
 -- what ran is the same of the machine that gave its world
 module _ (w : WorldState) (old given : Threaded) (c : Numbered) (answers : List Answer) (new : Threaded)
     (places : given.single.places ≡ old.single.places) (client : given.client ≡ old.client) where
   round_beside : IsRoundBeside w given c answers new → IsRoundBeside w old c answers new
   round_beside b = record {
-    over = b.over;
-    client = b.client;
     told = b.told;
     own = b.own;
     answers_are = b.answers_are;
-    clients = subst (λ (k : Client). AreClientAnswers k c.clients b.told b.client) client b.clients;
-    settled = b.settled;
-    left = b.left ∙ ap (λ (n : ℕ). left_behind n b.client b.over) places;
+    turn = turn_of w old c given.single.places given.client c.clients b.told b.own new places client refl b.turn;
   }
 
   unstarted : IsUnstarted w given c answers new → IsUnstarted w old c answers new
-  unstarted u = record {
-    zone = u.zone;
-    kept = u.kept;
-    shape = u.shape;
+  unstarted u = let nothing = u.nothing in record {
     one = u.one;
-    left = u.left ∙ (λ i. left_by (places i) (client i) u.zone w.scan w.ends (audit_refusal u.zone w.ends));
+    nothing = record {
+      zone = nothing.zone;
+      kept = nothing.kept;
+      shape = nothing.shape;
+      left = nothing.left ∙ (λ i. left_by (places i) (client i) nothing.zone w.scan w.ends (audit_refusal nothing.zone w.ends));
+    };
   }
 
   pub block_step : old.single.world ≡ Some w → old.broken ≡ None → IsBlockFor c.command old.single.world
@@ -173,33 +179,15 @@ module _ (w : WorldState) (old given : Threaded) (c : Numbered) (answers : List 
   block_step there whole block (inr u) = inr (record { world = w; there = there; whole = whole; block = block; ran = inr (unstarted u) })
 
 -- nothing ran over the zone and the seats that a world was split into
-pub nothing_ran : (w : WorldState) (old : Threaded) (c : Numbered) (answers : List Answer) (new : Threaded) (zone_old zone : ZoneState) (scan_old scan : ScanSeat) (ends_old ends : EndSeat)
-    (places : ℕ) (client : Client) → zone_old ≡ w.zone → scan_old ≡ w.scan → ends_old ≡ w.ends → (scan ≡ scan_old) × (ends ≡ ends_old)
-    → places ≡ old.single.places → client ≡ old.client → IsKept zone → HasShape zone_old.number zone_old.blocks zone
-    → answers ≡ record { line = c.line; reply = reply.Refused 32 } ∷ [] → new ≡ left_by places client zone scan ends (audit_refusal zone ends) → IsUnstarted w old c answers new
-nothing_ran w old c answers new zone_old zone scan_old scan ends_old ends places client same_zone same_scan same_ends same same_places same_client kept shape one left =
+pub nothing_ran : (w : WorldState) (old new : Threaded) (zone_old zone : ZoneState) (scan_old scan : ScanSeat) (ends_old ends : EndSeat)
+    → zone_old ≡ w.zone → scan_old ≡ w.scan → ends_old ≡ w.ends → (scan ≡ scan_old) × (ends ≡ ends_old) → IsKept zone → HasShape zone_old.number zone_old.blocks zone
+    → new ≡ left_by old.single.places old.client zone scan ends (audit_refusal zone ends) → IsNothingRun w old new
+nothing_ran w old new zone_old zone scan_old scan ends_old ends same_zone same_scan same_ends same kept shape left =
     let scans : scan ≡ w.scan = same.0 ∙ same_scan in
     let ends_are : ends ≡ w.ends = same.1 ∙ same_ends in
     record {
       zone = zone;
       kept = kept;
       shape = (shape.0 ∙ ap (λ (z : ZoneState). z.number) same_zone, shape.1 ∙ ap (λ (z : ZoneState). z.blocks) same_zone);
-      one = one;
-      left = left ∙ (λ i. left_by (same_places i) (same_client i) zone (scans i) (ends_are i) (audit_refusal zone (ends_are i)));
+      left = left ∙ (λ i. left_by old.single.places old.client zone (scans i) (ends_are i) (audit_refusal zone (ends_are i)));
     }
-
--- a round over that zone and those seats, with the client of a machine beside it
-pub beside_client : (w : WorldState) (old : Threaded) (c : Numbered) (answers : List Answer) (new : Threaded) (over : IsRoundOver w)
-    (client_old client : Client) (lines : List ClientLine) (told : List Answer) (own : Reply) (places : ℕ)
-    → client_old ≡ old.client → lines ≡ c.clients → places ≡ old.single.places → answers ≡ told ++ record { line = c.line; reply = own } ∷ []
-    → AreClientAnswers client_old lines told client → IsSettledReply over.zone client over.result own → new ≡ left_behind places client over → IsRoundBeside w old c answers new
-beside_client w old c answers new over client_old client lines told own places same_client same_lines same_places answers_are clients settled left = record {
-  over = over;
-  client = client;
-  told = told;
-  own = own;
-  answers_are = answers_are;
-  clients = subst (λ (k : Client). AreClientAnswers k c.clients told client) same_client (subst (λ (ls : List ClientLine). AreClientAnswers client_old ls told client) same_lines clients);
-  settled = settled;
-  left = left ∙ ap (λ (n : ℕ). left_behind n client over) same_places;
-}

@@ -32,7 +32,7 @@ use Rattle.text_core.specs.declared.reply.Stopped.TheVariants as stopped
 use Rattle.text_core.specs.Grammar.{zone_of}
 use Rattle.client_core.specs.Receipts.{Agrees, Client}
 use Rattle.script_core.specs.Clients.{AreClientAnswers}
-use Rattle.play_core.specs.Script.{Answer, Numbered, commands_of}
+use Rattle.play_core.specs.Script.{Answer, ClientLine, Numbered, commands_of}
 use Rattle.machine_core.specs.Single.{IsStep, Opens, Single, is_at_rest, number_is_at_rest, single_at_first}
 
 -- the machine as on one thread, the number of the zone that a round left broken, if one did, and the client of the blocks
@@ -202,24 +202,32 @@ pub record IsSettledReply (zone : ZoneState) (client : Client) (result : Result 
   pub agrees : Agrees zone.records client → answer ≡ round_reply result
   pub differs : (Agrees zone.records client → ⊥) → answer ≡ reply.Refused 35
 
--- a round with the calls of a client beside it: the answers to the client's lines, and behind them the one to the round
-pub record IsRoundBeside (w : WorldState) (old : Threaded) (c : Numbered) (answers : List Answer) (new : Threaded) : Type 0 where
+-- a round with the calls of a client beside it: the answers to the client's lines, the reply to the round, and the machine behind it
+pub record IsTurnBeside (w : WorldState) (places : ℕ) (client : Client) (lines : List ClientLine) (told : List Answer) (own : Reply) (new : Threaded) : Type 0 where
   pub over : IsRoundOver w
-  pub client : Client
+  pub client_behind : Client
+  pub clients : AreClientAnswers client lines told client_behind
+  pub settled : IsSettledReply over.zone client_behind over.result own
+  pub left : new ≡ left_behind places client_behind over
+
+-- a block's round: the answers to the client's lines, and behind them the one to the round
+pub record IsRoundBeside (w : WorldState) (old : Threaded) (c : Numbered) (answers : List Answer) (new : Threaded) : Type 0 where
   pub told : List Answer
   pub own : Reply
   pub answers_are : answers ≡ told ++ record { line = c.line; reply = own } ∷ []
-  pub clients : AreClientAnswers old.client c.clients told client
-  pub settled : IsSettledReply over.zone client over.result own
-  pub left : new ≡ left_behind old.single.places client over
+  pub turn : IsTurnBeside w old.single.places old.client c.clients told own new
 
--- the client's thread can't be started: nothing ran, and that is the one reply
-pub record IsUnstarted (w : WorldState) (old : Threaded) (c : Numbered) (answers : List Answer) (new : Threaded) : Type 0 where
+-- nothing ran over the zone of a world, which the machine has again
+pub record IsNothingRun (w : WorldState) (old new : Threaded) : Type 0 where
   pub zone : ZoneState
   pub kept : IsKept zone
   pub shape : HasShape w.zone.number w.zone.blocks zone
-  pub one : answers ≡ record { line = c.line; reply = reply.Refused 32 } ∷ []
   pub left : new ≡ left_by old.single.places old.client zone w.scan w.ends (audit_refusal zone w.ends)
+
+-- the client's thread can't be started: nothing ran, and that is the one reply
+pub record IsUnstarted (w : WorldState) (old : Threaded) (c : Numbered) (answers : List Answer) (new : Threaded) : Type 0 where
+  pub one : answers ≡ record { line = c.line; reply = reply.Refused 32 } ∷ []
+  pub nothing : IsNothingRun w old new
 
 -- whether a command is a block for the zone that is open, while no round is open by hand
 abbrev pub IsBlockFor : Command → Option WorldState → Type 0

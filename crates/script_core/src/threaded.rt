@@ -1,4 +1,4 @@
-ghost use Rattle.std.specs.Prelude.{◌≡◌, ◌⊎◌, ◌+◌, ◌≤◌, ◌↔◌, false, length, None, IsOk, IfOk, OnErr};
+ghost use Rattle.std.specs.Prelude.{◌≡◌, ◌⊎◌, ◌+◌, ◌≤◌, ◌↔◌, [], false, length, None, IsOk, IfOk, OnErr, IfSome, IfNone, vec_len, vec_capacity};
 ghost use Rattle.std.specs.Result.{result_err};
 ghost use Rattle.round_core.specs.Kept.{IsKept};
 ghost use Rattle.round_core.specs.Rounds.{IsRefusedEarly, IsRound};
@@ -6,7 +6,7 @@ ghost use Rattle.zone_core.specs.Books.{AreFor};
 ghost use Rattle.zone_core.specs.Seats.{audit_refusal};
 ghost use Rattle.zone_core.specs.Shape.{HasShape};
 ghost use Rattle.play_core.specs.Script.{command_in_block};
-ghost use Rattle.script_core.specs.Threaded.{IsBlockFor, IsPoolOn, IsRoundBeside, IsRoundOn, IsSettledReply, IsStepBy, IsThreadedStep, IsUnstarted, broken_refusal, broken_reply, is_threaded, left_by, pool_reply, pool_stopped_as, round_reply, stopped_as, threaded_at_first, told_of};
+ghost use Rattle.script_core.specs.Threaded.{IsBlockFor, IsNothingRun, IsPoolOn, IsRoundBeside, IsRoundOn, IsSettledReply, IsStepBy, IsThreadedStep, IsTurnBeside, IsUnstarted, broken_refusal, broken_reply, is_threaded, left_by, pool_reply, pool_stopped_as, round_reply, stopped_as, threaded_at_first, told_of};
 
 use crate::alone::Alone;
 use crate::beside::{Both, Turn, compact_beside};
@@ -169,9 +169,6 @@ impl<I: Ledger + Send + Sync, N: Ledger, M: Ledger + Send + Sync, B: Ledger + Se
         ensures { IfOk result (λ answers. IsRoundBeside world self.old (command_in_block block) answers self.new ⊎ IsUnstarted world self.old (command_in_block block) answers self.new) }
     {
         let client = self.client.try_clone()?;
-        let Ok((zone, mut seats, rest)) = world.split() else {
-            unreachable!()
-        };
         let line = block.line();
         let (lines, answers) = block.into_parts();
         let turn = Turn {
@@ -179,23 +176,55 @@ impl<I: Ledger + Send + Sync, N: Ledger, M: Ledger + Send + Sync, B: Ledger + Se
             lines,
             answers,
         };
-        let (zone, both) = compact_beside(rt, self.alloc, zone, &mut seats, self.options, turn);
-        let Some(
-            Both {
-                client,
-                answers,
-                round,
-            },
-        ) = both
-        else {
-            self.take_back(zone, seats, rest);
+        let Some((answers, own)) = self.run_turn(rt, world, turn) else {
             let own = Answer::new(line, Reply::Refused(32));
             return Ok(Answers::new(Vec::new(self.alloc), own));
         };
-        let own = settled_reply(&zone, &client, round);
-        self.client = client;
-        self.take_back(zone, seats, rest);
         Ok(Answers::new(answers, Answer::new(line, own)))
+    }
+
+    /// Runs a round over the zone of a world, which the machine gives for it, with a turn of the client beside it. The answers to the
+    /// turn's lines, and the reply to the round; None where the client's thread can't be started.
+    fn run_turn<H: Threads + Wait + Sync>(
+        &mut self,
+        rt: &H,
+        world: World<I, N, M, B>,
+        turn: Turn,
+    ) -> Option<(Vec<Answer>, Reply)>
+        requires given { self.old.single.world ≡ None }
+        requires whole { self.old.broken ≡ None }
+        requires closed { world.is_open ≡ false }
+        requires room { (turn.answers.items ≡ []) × (vec_len turn.lines ≤ vec_capacity turn.answers) }
+        ensures played { IfSome result (λ told. IsTurnBeside world self.old.single.places turn.client turn.lines.items told.0.items told.1 self.new) }
+        ensures none { IfNone result (IsNothingRun world self.old self.new) }
+    {
+        let Ok((zone, mut seats, rest)) = world.split() else {
+            unreachable!()
+        };
+        let (zone, both) = compact_beside(rt, self.alloc, zone, &mut seats, self.options, turn);
+        let Some(both) = both else {
+            self.take_back(zone, seats, rest);
+            return None;
+        };
+        let told = self.settle(&zone, both);
+        self.take_back(zone, seats, rest);
+        Some(told)
+    }
+
+    /// Keeps the client behind its turn. The answers to its lines, and the reply to the round.
+    fn settle(&mut self, zone: &Zone<I, M, B>, both: Both) -> (Vec<Answer>, Reply)
+        ensures client { self.new ≡ record self.old { client = both.client } }
+        ensures answers { result.0.items ≡ both.answers.items }
+        ensures reply { IsSettledReply zone.now both.client both.round result.1 }
+    {
+        let Both {
+            client,
+            answers,
+            round,
+        } = both;
+        let own = settled_reply(zone, &client, round);
+        self.client = client;
+        (answers, own)
     }
 
     /// Runs a round over a zone, with as many copiers and as much room in their queues as the options say.

@@ -1,0 +1,35 @@
+use Rattle.std.proofs.Common.{List, ap, subst, sym, ◌∙◌}
+use Rattle.std.proofs.lemmas.Option.{MatchOption-at_none, MatchOption-at_some}
+use Rattle.zone_core.specs.Seats.{audit_refusal}
+use Rattle.play_core.specs.Script.{Answer}
+use Rattle.script_core.specs.Clients.{AreClientAnswers}
+use Rattle.script_core.specs.Threaded.{Threaded, left_by}
+use Rattle.script_core.proofs.Rounds.{nothing_ran, round_over}
+use Rattle.script_core.proofs.threaded.Threaded.run_turn.Goals as goal
+
+pub returns-in_default-both-clause-none : goal.returns-in_default-both-clause-none
+returns-in_default-both-clause-none g c =
+    let ran = c.compact_beside-zone in
+    let seats = ran.new.seats in
+    nothing_ran c.args.world c.args.self.now c.take_back.new.self c.in-Ok.zone ran.result.0 c.in-Ok.seats.scan seats.scan c.in-Ok.seats.ends seats.ends
+    c.in-Ok.ensures.zone c.in-Ok.ensures.scan c.in-Ok.ensures.ends
+    (MatchOption-at_none _ _ c.in_default-both.is ran.ensures.none)
+    ran.ensures.kept ran.ensures.shape c.take_back.ensures.left
+
+pub returns-clause-played : goal.returns-clause-played
+returns-clause-played g c =
+    let ran = c.compact_beside-zone in
+    let seats = ran.new.seats in
+    let both = c.in-Some.both in
+    record {
+      over = round_over c.args.world c.in-Ok.zone ran.result.0 c.in-Ok.seats.scan seats.scan c.in-Ok.seats.ends seats.ends both.round
+          c.in-Ok.ensures.zone c.in-Ok.ensures.scan c.in-Ok.ensures.ends c.in-Ok.ensures.whole
+          ran.ensures.kept ran.ensures.shape (MatchOption-at_some _ _ both c.in-Some.is ran.ensures.round) (MatchOption-at_some _ _ both c.in-Some.is ran.ensures.early)
+          c.take_back-2.ensures.exact;
+      client_behind = both.client;
+      clients = subst (λ (told : List Answer). AreClientAnswers c.args.turn.client c.args.turn.lines.items told both.client) (sym c.settle-told.ensures.answers)
+          (MatchOption-at_some _ _ both c.in-Some.is ran.ensures.played);
+      settled = c.settle-told.ensures.reply;
+      left = c.take_back-2.ensures.left
+          ∙ ap (λ (t : Threaded). left_by t.single.places t.client ran.result.0 seats.scan seats.ends (audit_refusal ran.result.0 seats.ends)) c.settle-told.ensures.client;
+    }
