@@ -15,6 +15,7 @@ pub record Huge : Type 0 where
 pub record IsHandedOut (block : Huge) : Type 0 where
   pub zone : ZoneState
   pub zone_new : ZoneState
+  pub accepted : take_order_refusal zone block.order ≡ None
   -- no lower block of its order was free
   pub lowest : lowest_run zone block.order ≡ Some block.frame
   pub taken : zone_new ≡ block_taken zone block.frame block.order
