@@ -1,4 +1,4 @@
-ghost use Rattle.std.specs.Prelude.{◌≤◌};
+ghost use Rattle.std.specs.Prelude.{◌≡◌, ◌<◌, ◌≤◌};
 
 use crate::burst::{commit_burst, isolate_burst};
 use crate::round::Stop;
@@ -55,7 +55,8 @@ pub struct SharedZone<K: Shape, I: Ledger, M: Ledger, B: Ledger> {
     room: Mutex<Room<K, I, M, B>>,
     ended: Condvar,
     blocks: u32,
-    ghost few: { blocks ≤ 8 },
+    ghost shape: { blocks ≡ K.blocks },
+    ghost in_range: { (0 < blocks) × (blocks ≤ 8) },
 }
 
 impl<K: Shape, I: Ledger, M: Ledger, B: Ledger> SharedZone<K, I, M, B> {
@@ -91,9 +92,10 @@ impl<K: Shape, I: Ledger, M: Ledger, B: Ledger> SharedZone<K, I, M, B> {
         self.room.into_inner().zone
     }
 
-    /// How many pageblocks the zone has, 1 to 8. Its clause says only that they are 8 at most.
+    /// How many pageblocks the zone has, 1 to 8.
     pub fn blocks(&self) -> u32
-        ensures { result ≤ 8 }
+        ensures blocks { result ≡ K.blocks }
+        ensures range { (0 < result) × (result ≤ 8) }
     {
         self.blocks
     }
