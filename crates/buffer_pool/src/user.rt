@@ -74,19 +74,25 @@ impl Transfer {
     ) -> Result<(), Trouble> {
         client.pin(rt, shared, self.from)?;
         client.pin(rt, shared, self.to)?;
+        self.make_pinned(rt, shared, client)?;
+        client.unpin(rt, shared, self.to)?;
+        client.unpin(rt, shared, self.from)?;
+        Ok(())
+    }
+
+    /// Moves it between buffers that stay where they are meanwhile.
+    fn make_pinned<K: Shape, I: Ledger, M: Ledger, B: Ledger, R: Wait>(
+        &self,
+        rt: &R,
+        shared: &SharedZone<K, I, M, B>,
+        client: &mut Client,
+    ) -> Result<(), Trouble> {
         let there = client.load(rt, shared, self.from, self.word)?;
         let here = client.load(rt, shared, self.to, self.word)?;
         let amount = self.most.min(there);
-        client.store(
-            rt,
-            shared,
-            self.from,
-            self.word,
-            there.saturating_sub(amount),
-        )?;
+        let left = there.saturating_sub(amount);
+        client.store(rt, shared, self.from, self.word, left)?;
         client.store(rt, shared, self.to, self.word, here.saturating_add(amount))?;
-        client.unpin(rt, shared, self.to)?;
-        client.unpin(rt, shared, self.from)?;
         Ok(())
     }
 }

@@ -589,11 +589,54 @@ const ROUNDS: [Case; 18] = [
     },
 ];
 
+/// What is wanted of a run.
+#[derive(Clone, Copy)]
+struct Wanted<'a> {
+    replies: &'a [u8],
+    faults: &'a [u8],
+    status: u8,
+}
+
+impl Case {
+    fn wanted(&self) -> Wanted<'static> {
+        Wanted {
+            replies: self.replies.as_bytes(),
+            faults: self.faults.as_bytes(),
+            status: self.status,
+        }
+    }
+}
+
+/// What came of a run.
 #[derive(Drop)]
 struct Outcome {
     replies: Vec<u8>,
     faults: Vec<u8>,
     status: u8,
+}
+
+impl Outcome {
+    /// Compares it with what is wanted. A failure tells the run, and the number of bytes that was tried.
+    fn assert_is<H: Abort>(
+        &self,
+        rt: &H,
+        wanted: Wanted<'_>,
+        run: &str,
+        bytes: usize,
+    ) -> Result<(), Fail> {
+        assert_eq!(rt;
+            self.replies.as_slice(),
+            wanted.replies,
+            "{run}, {bytes} bytes"
+        );
+        assert_eq!(rt;
+            self.faults.as_slice(),
+            wanted.faults,
+            "{run}, {bytes} bytes"
+        );
+        assert_eq!(rt; self.status, wanted.status, "{run}, {bytes} bytes");
+        Ok(())
+    }
 }
 
 fn words(alloc: Global, arguments: &[&str]) -> Result<Args, AllocError> {
@@ -635,20 +678,7 @@ fn assert_answered<H: Threads + Wait + Abort + Sync>(
     case: &Case,
 ) -> Result<(), Fail> {
     let found = played(rt, alloc, case.arguments, case.script.as_bytes())?;
-    assert_eq!(rt;
-        found.replies.as_slice(),
-        case.replies.as_bytes(),
-        "{}",
-        case.name
-    );
-    assert_eq!(rt;
-        found.faults.as_slice(),
-        case.faults.as_bytes(),
-        "{}",
-        case.name
-    );
-    assert_eq!(rt; found.status, case.status, "{}", case.name);
-    Ok(())
+    found.assert_is(rt, case.wanted(), case.name, case.script.len())
 }
 
 #[test]
@@ -685,19 +715,7 @@ fn reads_a_few_bytes_at_a_time(rt: HostRuntime) -> Result<(), Fail> {
                 calls: usize::MAX,
             };
             let found = played(&rt, rt.alloc(), case.arguments, reader)?;
-            assert_eq!(rt;
-                found.replies.as_slice(),
-                case.replies.as_bytes(),
-                "{size} bytes: {}",
-                case.name
-            );
-            assert_eq!(rt;
-                found.faults.as_slice(),
-                case.faults.as_bytes(),
-                "{size} bytes: {}",
-                case.name
-            );
-            assert_eq!(rt; found.status, case.status, "{size} bytes: {}", case.name);
+            found.assert_is(&rt, case.wanted(), case.name, size)?;
         }
     }
     Ok(())
@@ -736,17 +754,12 @@ fn refuses_lines_of_more_than_200_bytes(rt: HostRuntime) -> Result<(), Fail> {
             calls: usize::MAX,
         };
         let found = played(&rt, rt.alloc(), &[], reader)?;
-        assert_eq!(rt;
-            found.replies.as_slice(),
-            replies.as_bytes(),
-            "{spaces} spaces"
-        );
-        assert_eq!(rt;
-            found.faults.as_slice(),
-            faults.as_bytes(),
-            "{spaces} spaces"
-        );
-        assert_eq!(rt; found.status, status, "{spaces} spaces");
+        let wanted = Wanted {
+            replies: replies.as_bytes(),
+            faults: faults.as_bytes(),
+            status,
+        };
+        found.assert_is(&rt, wanted, "a line with spaces", spaces)?;
     }
     Ok(())
 }
@@ -783,13 +796,12 @@ fn ends_where_a_read_fails(rt: HostRuntime) -> Result<(), Fail> {
         let found = played(&rt, rt.alloc(), &[], reader)?;
         let line = line_of_byte(script, calls);
         let faults = format!(in rt.alloc(); "compactd: fault 46 at line {line}\n")?;
-        assert_eq!(rt;
-            found.replies.as_slice(),
-            lines_before(FIRST_PAGE.replies, line),
-            "{calls} calls"
-        );
-        assert_eq!(rt; found.faults.as_slice(), faults.as_bytes(), "{calls} calls");
-        assert_eq!(rt; found.status, 1, "{calls} calls");
+        let wanted = Wanted {
+            replies: lines_before(FIRST_PAGE.replies, line),
+            faults: faults.as_bytes(),
+            status: 1,
+        };
+        found.assert_is(&rt, wanted, "a reader that fails", calls)?;
     }
     Ok(())
 }
@@ -805,18 +817,14 @@ fn ends_where_a_script_is_cut(rt: HostRuntime) -> Result<(), Fail> {
             let found = played(&rt, rt.alloc(), &[], &script[..size])?;
             let line = line_of_byte(script, size);
             let is_whole = size == 0 || script[size - 1] == b'\n';
-            let faults = format!(in rt.alloc(); "compactd: fault 41 at line {line}\n")?;
-            assert_eq!(rt;
-                found.replies.as_slice(),
-                lines_before(case.replies, line),
-                "{size} bytes"
-            );
-            if is_whole {
-                assert!(rt; found.faults.is_empty(), "{size} bytes");
-            } else {
-                assert_eq!(rt; found.faults.as_slice(), faults.as_bytes(), "{size} bytes");
-            }
-            assert_eq!(rt; found.status, u8::from(!is_whole), "{size} bytes");
+            let fault = format!(in rt.alloc(); "compactd: fault 41 at line {line}\n")?;
+            let faults = if is_whole { "" } else { fault.as_str() };
+            let wanted = Wanted {
+                replies: lines_before(case.replies, line),
+                faults: faults.as_bytes(),
+                status: u8::from(!is_whole),
+            };
+            found.assert_is(&rt, wanted, case.name, size)?;
         }
     }
     Ok(())
@@ -843,19 +851,19 @@ fn ends_where_a_write_fails(rt: HostRuntime) -> Result<(), Fail> {
                     &mut writer,
                     &mut faults,
                 );
+                let found = Outcome {
+                    replies: writer.into_inner().bytes,
+                    faults: faults.into_inner(),
+                    status,
+                };
                 let line = line_of_byte(replies, room);
-                let text = format!(in rt.alloc(); "compactd: fault 47 at line {line}\n")?;
-                assert_eq!(rt;
-                    writer.into_inner().bytes.as_slice(),
-                    &replies[..room],
-                    "room for {room} bytes"
-                );
-                assert_eq!(rt;
-                    faults.into_inner().as_slice(),
-                    text.as_bytes(),
-                    "room for {room} bytes"
-                );
-                assert_eq!(rt; status, 1, "room for {room} bytes");
+                let fault = format!(in rt.alloc(); "compactd: fault 47 at line {line}\n")?;
+                let wanted = Wanted {
+                    replies: &replies[..room],
+                    faults: fault.as_bytes(),
+                    status: 1,
+                };
+                found.assert_is(&rt, wanted, "a writer that fails", room)?;
             }
         }
     }

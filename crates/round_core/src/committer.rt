@@ -4,6 +4,7 @@ ghost use Rattle.hand_core.specs.CopyEnds.{has_ended, IsTriedInTime};
 use crate::gate::{Gate, Point};
 use crate::shape::Shape;
 use crate::shared_zone::SharedZone;
+use crate::stack::stack;
 use frame_core::Serial;
 use hand_core::{Came, DoneSender, DoneTaker};
 use std::collections::VecDeque;
@@ -132,7 +133,8 @@ pub(crate) fn start_committer<
     ensures senders { IfOk result (λ started. started.0 ≡ senders) }
     ensures part { IfErr result (λ seat. seat.parts ≡ 1) }
 {
-    let started = scope.spawn_with(
+    let started = stack().spawn_scoped_with(
+        scope,
         HandsPartBack,
         move || -> Committed<M, B>
             requires copies { has_ended copies ≡ false }

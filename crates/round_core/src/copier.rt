@@ -3,6 +3,7 @@ ghost use Rattle.round_core.specs.Copying.{IsCarried};
 ghost use Rattle.round_core.specs.Crews.{IsUnused, IsUnsent};
 
 use crate::gate::{Gate, Point};
+use crate::stack::stack;
 use frame_core::Serial;
 use hand_core::{DoneSender, Giver, Taker, Took};
 use std::snapshot::Snapshot;
@@ -105,7 +106,8 @@ pub(crate) fn start_copier<'s, 'e, G: Gate, R: Threads + Wait + Sync>(
         taker: Snapshot::of(&taker),
         sender: Snapshot::of(&sender),
     };
-    let started = scope.spawn_with(
+    let started = stack().spawn_scoped_with(
+        scope,
         promise,
         move || -> Carried
             requires taker { IsUnused taker.hand_over taker }

@@ -15,6 +15,7 @@ mod round;
 mod scanner;
 mod shape;
 mod shared_zone;
+mod stack;
 
 pub use alone::compact_alone;
 pub use compacting::compact;

@@ -78,40 +78,46 @@ fn gate_two_copiers(rt: HostRuntime) {
     two_copiers::<Brand, Brand, Brand, Brand, Brand, HostRuntime>(&rt, rt.alloc(), Blanks::new());
 }
 
-/// Notes how many pages each copier took.
+/// Notes how many pages the scanner isolated, each copier took, and the committer ended.
 #[derive(Drop)]
 struct Notes {
+    isolated: AtomicU64,
     first: AtomicU64,
     second: AtomicU64,
     third: AtomicU64,
     fourth: AtomicU64,
+    ended: AtomicU64,
 }
 
 impl Notes {
     fn none() -> Notes {
         Notes {
+            isolated: AtomicU64::new(0),
             first: AtomicU64::new(0),
             second: AtomicU64::new(0),
             third: AtomicU64::new(0),
             fourth: AtomicU64::new(0),
+            ended: AtomicU64::new(0),
         }
     }
 }
 
 impl Gate for Notes {
     fn at(&self, point: Point, who: usize) {
-        let taken = match (point, who) {
+        let note = match (point, who) {
+            (Point::Isolated, 0) => &self.isolated,
             (Point::Taken, 1) => &self.first,
             (Point::Taken, 2) => &self.second,
             (Point::Taken, 3) => &self.third,
             (Point::Taken, 4) => &self.fourth,
+            (Point::Ended, 5) => &self.ended,
             _ => return,
         };
-        taken.fetch_add(1, Ordering::SeqCst);
+        note.fetch_add(1, Ordering::SeqCst);
     }
 }
 
-fn notes_each_taken<
+fn notes_each_page<
     K: Shape + Send + Sync,
     I: Ledger + Send + Sync,
     N: Ledger,
@@ -134,11 +140,13 @@ fn notes_each_taken<
     for (list, note) in round.by_copier.iter().zip(notes) {
         assert!(rt; list.len() as u64 == note.load(Ordering::SeqCst));
     }
+    assert!(rt; gate.isolated.load(Ordering::SeqCst) == 512);
+    assert!(rt; gate.ended.load(Ordering::SeqCst) == 512);
 }
 
 #[test]
 fn each_list_has_what_its_copier_took(rt: HostRuntime) {
-    notes_each_taken::<Brand, Brand, Brand, Brand, Brand, HostRuntime>(
+    notes_each_page::<Brand, Brand, Brand, Brand, Brand, HostRuntime>(
         &rt,
         rt.alloc(),
         Blanks::new(),
