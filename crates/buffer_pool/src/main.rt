@@ -22,16 +22,20 @@ fn main(rt: HostRuntime) -> io::Result<()> {
 
 fn show<R: Print>(rt: &R, outcome: Result<Outcome, Trouble>) -> io::Result<()> {
     let Outcome {
-        sum_before,
-        sum_behind,
+        before,
+        behind,
         receipts,
-        whole_before,
-        whole_behind,
     } = match outcome {
         Ok(outcome) => outcome,
         Err(trouble) => return println!(rt; "failed: {trouble}"),
     };
-    println!(rt; "before: sum {sum_before}, whole pageblocks {whole_before}")?;
-    println!(rt; "behind: sum {sum_behind}, whole pageblocks {whole_behind}")?;
+    println!(rt;
+        "before: sum {}, whole pageblocks {}",
+        before.sum, before.whole
+    )?;
+    println!(rt;
+        "behind: sum {}, whole pageblocks {}",
+        behind.sum, behind.whole
+    )?;
     println!(rt; "calls of users that stand in the journal as they were answered: {receipts}")
 }

@@ -23,18 +23,25 @@ const USERS: u32 = 2;
 
 const ROUNDS: u32 = 20;
 
+/// What is seen of the buffers while nobody uses them.
+#[derive(Clone, Copy)]
+pub struct Seen {
+    /// Over all words of all buffers.
+    pub sum: u64,
+    /// How many pageblocks are whole.
+    pub whole: u32,
+}
+
 /// What came of it.
 #[derive(Clone, Copy)]
 pub struct Outcome {
-    pub sum_before: u64,
-    pub sum_behind: u64,
+    pub before: Seen,
+    pub behind: Seen,
     /// How many calls of the users were accepted.
     pub receipts: usize,
-    pub whole_before: u32,
-    pub whole_behind: u32,
 }
 
-/// Opens a zone, and runs users of its buffers beside rounds.
+/// Opens a zone, runs users of its buffers beside rounds, and settles all clients.
 pub fn run<
     K: Shape + Send + Sync,
     I: Ledger + Send + Sync,
@@ -50,28 +57,43 @@ pub fn run<
     let (zone, scan, ends) = Zone::<I, M, B>::open::<N>(alloc, number, BLOCKS, PLACES, blanks)?;
     let mut seats = Seats { scan, ends };
     let shared = SharedZone::<K, I, M, B>::new(zone);
+    let (outcome, clients) = use_buffers(rt, alloc, &shared, &mut seats)?;
+    settle_clients(&shared.into_zone(), &clients)?;
+    Ok(outcome)
+}
+
+/// Maps the buffers, and runs their users beside rounds. Gives all clients back.
+fn use_buffers<
+    K: Shape + Send + Sync,
+    I: Ledger + Send + Sync,
+    N: Ledger + Send,
+    M: Ledger + Send + Sync,
+    B: Ledger + Send + Sync,
+    R: Threads + Wait + Sync,
+>(
+    rt: &R,
+    alloc: Global,
+    shared: &SharedZone<K, I, M, B>,
+    seats: &mut Seats<I, N, M, B>,
+) -> Result<(Outcome, [Client; 3]), Trouble> {
     let mut keeper = client(alloc, 0)?;
-    map_all(rt, &shared, &mut keeper, USERS)?;
-    let sum_before = sum(rt, &shared, &mut keeper, USERS)?;
-    let whole_before = whole(rt, &shared);
+    map_all(rt, shared, &mut keeper, USERS)?;
+    let before = look(rt, shared, &mut keeper)?;
     let users = (user(alloc, 0)?, user(alloc, 1)?);
-    let (first, second) = use_beside_rounds(rt, alloc, &shared, &mut seats, users)?;
-    let _last = compact(rt, alloc, &shared, &mut seats, 2, 16, &NoGate)?;
-    let sum_behind = sum(rt, &shared, &mut keeper, USERS)?;
-    let whole_behind = whole(rt, &shared);
+    let (first, second) = use_beside_rounds(rt, alloc, shared, seats, users)?;
+    let _last = compact(rt, alloc, shared, seats, 2, 16, &NoGate)?;
+    let behind = look(rt, shared, &mut keeper)?;
+    let (first, second) = (first.client, second.client);
     let receipts = first
-        .client
         .receipts()
         .len()
-        .saturating_add(second.client.receipts().len());
-    settle_clients(&shared.into_zone(), &[keeper, first.client, second.client])?;
-    Ok(Outcome {
-        sum_before,
-        sum_behind,
+        .saturating_add(second.receipts().len());
+    let outcome = Outcome {
+        before,
+        behind,
         receipts,
-        whole_before,
-        whole_behind,
-    })
+    };
+    Ok((outcome, [keeper, first, second]))
 }
 
 /// A thread for each user, and rounds meanwhile.
@@ -135,10 +157,13 @@ fn client(alloc: Global, number: u32) -> Result<Client, Trouble> {
     Ok(Client::new(alloc, number))
 }
 
-/// How many pageblocks are whole.
-fn whole<K: Shape, I: Ledger, M: Ledger, B: Ledger, R: Wait>(
+/// What is seen of the buffers now.
+fn look<K: Shape, I: Ledger, M: Ledger, B: Ledger, R: Wait>(
     rt: &R,
     shared: &SharedZone<K, I, M, B>,
-) -> u32 {
-    shared.lock(rt).zone().info().whole
+    keeper: &mut Client,
+) -> Result<Seen, Trouble> {
+    let sum = sum(rt, shared, keeper, USERS)?;
+    let whole = shared.lock(rt).zone().info().whole;
+    Ok(Seen { sum, whole })
 }

@@ -93,31 +93,59 @@ pub fn beside_rounds<
     requires shape { (K.number ≡ 0) × (K.blocks ≡ 8) }
     requires blanks { AreFor blanks I.name I.parts N.name N.parts M.name M.parts B.name B.parts }
 {
+    let mut opening = open::<K, I, N, M, B, R>(rt, alloc, blanks)?;
+    let mut crowd = clients(alloc, count)?;
+    let (rate, moved) = rate_beside_rounds(rt, alloc, &mut opening, &mut crowd)?;
+    let settled = receipts_of(&crowd);
+    settle(opening, crowd)?;
+    Some(Outcome {
+        rate,
+        settled,
+        moved,
+    })
+}
+
+/// How many thousands of calls clients make in a second beside rounds, and how many pages those move.
+fn rate_beside_rounds<
+    K: Shape + Send + Sync,
+    I: Ledger + Send + Sync,
+    N: Ledger + Send,
+    M: Ledger + Send + Sync,
+    B: Ledger + Send + Sync,
+    R: Threads + Wait + Clock + Sync,
+>(
+    rt: &R,
+    alloc: Global,
+    opening: &mut Opening<K, I, N, M, B>,
+    clients: &mut [Client],
+) -> Option<(u64, u32)> {
     let Opening {
         shared,
-        mut seats,
-        mut keeper,
-    } = open::<K, I, N, M, B, R>(rt, alloc, blanks)?;
-    let mut crowd = clients(alloc, count)?;
+        seats,
+        keeper,
+    } = opening;
     let ended = AtomicBool::new(false);
-    let (lock, flag) = (&shared, &ended);
+    let (lock, flag) = (&*shared, &ended);
     let (rate, moved) = join(
         rt,
-        || -> Option<u64> {
-            let rate = rate(rt, lock, &mut crowd);
+        move || -> Option<u64> {
+            let rate = rate(rt, lock, clients);
             flag.store(true, Ordering::SeqCst);
             rate
         },
-        || -> Option<u32> { run_rounds(rt, alloc, lock, &mut seats, &mut keeper, 8, flag) },
+        move || -> Option<u32> { run_rounds(rt, alloc, lock, seats, keeper, 8, flag) },
     );
-    let settled = receipts_of(&crowd);
-    crowd.push(keeper).ok()?;
-    settle_clients(&shared.into_zone(), &crowd).ok()?;
-    Some(Outcome {
-        rate: rate?,
-        settled,
-        moved: moved?,
-    })
+    Some((rate?, moved?))
+}
+
+/// Compares the receipts of all clients with the journal.
+fn settle<K: Shape, I: Ledger, N: Ledger, M: Ledger, B: Ledger>(
+    opening: Opening<K, I, N, M, B>,
+    mut clients: Vec<Client>,
+) -> Option<()> {
+    let Opening { shared, keeper, .. } = opening;
+    clients.push(keeper).ok()?;
+    settle_clients(&shared.into_zone(), &clients).ok()
 }
 
 /// How many receipts clients have together.
@@ -141,25 +169,43 @@ pub fn wait_beside_rounds<
     requires shape { (K.number ≡ 0) × (K.blocks ≡ 8) }
     requires blanks { AreFor blanks I.name I.parts N.name N.parts M.name M.parts B.name B.parts }
 {
+    let mut opening = open::<K, I, N, M, B, R>(rt, alloc, blanks)?;
+    let mut crowd = clients(alloc, 1)?;
+    let nanos = loads_beside_rounds(rt, alloc, &mut opening, crowd.first_mut()?, cap)?;
+    Waits::of(nanos)
+}
+
+/// How long each load of a client takes beside rounds, in nanoseconds.
+fn loads_beside_rounds<
+    K: Shape + Send + Sync,
+    I: Ledger + Send + Sync,
+    N: Ledger + Send,
+    M: Ledger + Send + Sync,
+    B: Ledger + Send + Sync,
+    R: Threads + Wait + Clock + Sync,
+>(
+    rt: &R,
+    alloc: Global,
+    opening: &mut Opening<K, I, N, M, B>,
+    client: &mut Client,
+    cap: usize,
+) -> Option<Vec<u64>> {
     let Opening {
         shared,
-        mut seats,
-        mut keeper,
-    } = open::<K, I, N, M, B, R>(rt, alloc, blanks)?;
-    let mut crowd = clients(alloc, 1)?;
+        seats,
+        keeper,
+    } = opening;
     let ended = AtomicBool::new(false);
-    let (lock, flag) = (&shared, &ended);
+    let (lock, flag) = (&*shared, &ended);
     let (nanos, moved) = join(
         rt,
-        || -> Option<Vec<u64>> {
-            let nanos = crowd
-                .first_mut()
-                .and_then(|client| time_loads(rt, alloc, lock, client, LOADS));
+        move || -> Option<Vec<u64>> {
+            let nanos = time_loads(rt, alloc, lock, client, LOADS);
             flag.store(true, Ordering::SeqCst);
             nanos
         },
-        || -> Option<u32> { run_rounds(rt, alloc, lock, &mut seats, &mut keeper, cap, flag) },
+        move || -> Option<u32> { run_rounds(rt, alloc, lock, seats, keeper, cap, flag) },
     );
     moved?;
-    Waits::of(nanos?)
+    nanos
 }

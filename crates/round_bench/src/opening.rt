@@ -26,14 +26,19 @@ pub fn half_full<I: Ledger, N: Ledger, M: Ledger, B: Ledger>(
     requires blanks { AreFor blanks I.name I.parts N.name N.parts M.name M.parts B.name B.parts }
 {
     let number = ZoneNo::new(0)?;
-    let (mut zone, scan, ends) = Zone::<I, M, B>::open::<N>(
-        alloc, number, BLOCKS, 65536, blanks,
-    ).ok()?;
-    for page in 0..PAGES {
-        map_page(&mut zone, page)?;
-    }
+    let (zone, scan, ends) = Zone::<I, M, B>::open::<N>(alloc, number, BLOCKS, 65536, blanks).ok()?;
     let seats = Seats { scan, ends };
-    Some(Opening { zone, seats })
+    let mut opening = Opening { zone, seats };
+    fill(&mut opening.zone)?;
+    Some(opening)
+}
+
+/// Maps a page to each frame of the lower half.
+fn fill<I: Ledger, M: Ledger, B: Ledger>(zone: &mut Zone<I, M, B>) -> Option<()> {
+    for page in 0..PAGES {
+        map_page(zone, page)?;
+    }
+    Some(())
 }
 
 /// The virtual page of this number names a fresh page at the lowest free frame.
