@@ -18,19 +18,15 @@ pub fn move_alone<I: Ledger, N: Ledger, M: Ledger, B: Ledger, R: Clock>(
 ) -> io::Result<Times>
     requires blanks { AreFor blanks I.name I.parts N.name N.parts M.name M.parts B.name B.parts }
 {
-    match half_full::<I, N, M, B>(alloc, blanks) {
-        Some(mut opening) => time_alone(rt, &mut opening),
-        None => Ok(Times::NONE),
-    }
-}
-
-/// The same in a zone that is filled.
-fn time_alone<I: Ledger, N: Ledger, M: Ledger, B: Ledger, R: Clock>(
-    rt: &R,
-    opening: &mut Opening<I, N, M, B>,
-) -> io::Result<Times> {
+    let Some(opening) = half_full::<I, N, M, B>(alloc, blanks) else {
+        return Ok(Times::NONE);
+    };
+    let Opening {
+        mut zone,
+        mut seats,
+    } = opening;
     let start = Instant::now(rt)?;
-    let moved = move_all(&mut opening.zone, &mut opening.seats);
+    let moved = move_all(&mut zone, &mut seats);
     let whole = nanos_since(rt, &start)?;
     Ok(Times {
         moved,

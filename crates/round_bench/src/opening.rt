@@ -26,19 +26,14 @@ pub fn half_full<I: Ledger, N: Ledger, M: Ledger, B: Ledger>(
     requires blanks { AreFor blanks I.name I.parts N.name N.parts M.name M.parts B.name B.parts }
 {
     let number = ZoneNo::new(0)?;
-    let (zone, scan, ends) = Zone::<I, M, B>::open::<N>(alloc, number, BLOCKS, 65536, blanks).ok()?;
-    let seats = Seats { scan, ends };
-    let mut opening = Opening { zone, seats };
-    fill(&mut opening.zone)?;
-    Some(opening)
-}
-
-/// Maps a page to each frame of the lower half.
-fn fill<I: Ledger, M: Ledger, B: Ledger>(zone: &mut Zone<I, M, B>) -> Option<()> {
+    let (mut zone, scan, ends) = Zone::<I, M, B>::open::<N>(
+        alloc, number, BLOCKS, 65536, blanks,
+    ).ok()?;
     for page in 0..PAGES {
-        map_page(zone, page)?;
+        map_page(&mut zone, page)?;
     }
-    Some(())
+    let seats = Seats { scan, ends };
+    Some(Opening { zone, seats })
 }
 
 /// The virtual page of this number names a fresh page at the lowest free frame.

@@ -55,33 +55,11 @@ fn time_rounds<
     requires shape { HasShape K.number K.blocks zone }
 {
     let shared = SharedZone::<K, I, M, B>::new(zone);
-    time_both(rt, alloc, &shared, &mut seats, copiers, cap)
-}
-
-/// A round that moves what can be moved, and one with nothing to move.
-fn time_both<
-    K: Shape + Send + Sync,
-    I: Ledger + Send + Sync,
-    N: Ledger,
-    M: Ledger + Send + Sync,
-    B: Ledger + Send + Sync,
-    R: Threads + Wait + Clock + Sync,
->(
-    rt: &R,
-    alloc: Global,
-    shared: &SharedZone<K, I, M, B>,
-    seats: &mut Seats<I, N, M, B>,
-    copiers: usize,
-    cap: usize,
-) -> io::Result<Times>
-    requires copiers { (0 < copiers) × (copiers ≤ 4) }
-    requires cap { (0 < cap) × (cap ≤ 64) }
-{
     let start = Instant::now(rt)?;
-    let moved = moved_by(rt, alloc, shared, seats, copiers, cap);
+    let moved = moved_by(rt, alloc, &shared, &mut seats, copiers, cap);
     let whole = nanos_since(rt, &start)?;
     let start = Instant::now(rt)?;
-    let _none = moved_by(rt, alloc, shared, seats, copiers, cap);
+    let _none = moved_by(rt, alloc, &shared, &mut seats, copiers, cap);
     let empty = nanos_since(rt, &start)?;
     Ok(Times {
         moved,
