@@ -26,7 +26,7 @@ const ROUNDS: u32 = 20;
 /// What is seen of the buffers while nobody uses them.
 #[derive(Clone, Copy)]
 pub struct Seen {
-    /// Over all words of all buffers.
+    /// Over the words of the users in all buffers.
     pub sum: u64,
     /// How many pageblocks are whole.
     pub whole: u32,
