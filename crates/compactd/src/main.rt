@@ -1,13 +1,7 @@
 //! The program: runs the script on its standard input, and writes a reply for each command.
 #![tactic(auto)]
 
-mod options;
-mod program;
-mod report;
-#[cfg(test)]
-mod tests;
-
-use program::program;
+use compactd_core::program;
 use script_core::{Sink, Source};
 use std::process::ExitCode;
 use std::{env, io};

@@ -10,9 +10,6 @@ mod order;
 mod page;
 mod place;
 mod state;
-#[cfg(test)]
-mod tests;
-
 pub use flags::PageFlags;
 pub use hand::HandNo;
 pub use list::filled;

@@ -9,9 +9,6 @@
 mod journal;
 mod law;
 mod record;
-#[cfg(test)]
-mod tests;
-
 pub use journal::Journal;
 pub use law::ends_each_page_once;
 pub use record::{Cause, Record};

@@ -147,9 +147,7 @@ impl<I: Ledger + Send + Sync, N: Ledger, M: Ledger + Send + Sync, B: Ledger + Se
         requires closed { world.is_open ≡ false }
         ensures { IsRoundOn world self.old.single.places self.old.client result self.new }
     {
-        let Ok((zone, mut seats, rest)) = world.split() else {
-            unreachable!()
-        };
+        let (zone, mut seats, rest) = parts_of(world);
         let (zone, round) = self.compact(rt, zone, &mut seats);
         self.take_back(zone, seats, rest);
         reply_to(round)
@@ -198,9 +196,7 @@ impl<I: Ledger + Send + Sync, N: Ledger, M: Ledger + Send + Sync, B: Ledger + Se
         ensures played { IfSome result (λ told. IsTurnBeside world self.old.single.places turn.client turn.lines.items told.0.items told.1 self.new) }
         ensures none { IfNone result (IsNothingRun world self.old self.new) }
     {
-        let Ok((zone, mut seats, rest)) = world.split() else {
-            unreachable!()
-        };
+        let (zone, mut seats, rest) = parts_of(world);
         let (zone, both) = compact_beside(rt, self.alloc, zone, &mut seats, self.options, turn);
         let Some(both) = both else {
             self.take_back(zone, seats, rest);
@@ -263,9 +259,7 @@ impl<I: Ledger + Send + Sync, N: Ledger, M: Ledger + Send + Sync, B: Ledger + Se
         requires closed { world.is_open ≡ false }
         ensures { IsPoolOn count blocks world self.old.single.places self.old.client result self.new }
     {
-        let Ok((zone, mut seats, rest)) = world.split() else {
-            unreachable!()
-        };
+        let (zone, mut seats, rest) = parts_of(world);
         let collector = self.collector(blocks.order());
         let n = count.get() as usize;
         let (zone, report) = reserve_alone(
@@ -302,6 +296,23 @@ impl<I: Ledger + Send + Sync, N: Ledger, M: Ledger + Send + Sync, B: Ledger + Se
             Err(_) => self.broken = Some(number),
         }
     }
+}
+
+/// The zone of a world in which no round is open by hand, its seats and its rest.
+fn parts_of<I: Ledger, N: Ledger, M: Ledger, B: Ledger>(
+    world: World<I, N, M, B>,
+) -> (Zone<I, M, B>, Seats<I, N, M, B>, Rest)
+    requires closed { world.is_open ≡ false }
+    ensures zone { result.0 ≡ world.zone }
+    ensures scan { result.1.scan ≡ world.scan }
+    ensures ends { result.1.ends ≡ world.ends }
+    ensures whole { result.1.ends.parts ≡ 64 }
+    ensures rest { result.2 ≡ world.zone.blocks }
+{
+    let Ok(parts) = world.split() else {
+        unreachable!()
+    };
+    parts
 }
 
 /// The number of the client whose calls are made beside rounds.

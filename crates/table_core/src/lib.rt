@@ -7,8 +7,6 @@ mod entries;
 mod entry;
 mod names;
 mod tables;
-#[cfg(test)]
-mod tests;
 mod walks;
 
 pub use entry::Entry;

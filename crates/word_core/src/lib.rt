@@ -7,8 +7,6 @@
 mod copied;
 mod isolated;
 mod page;
-#[cfg(test)]
-mod tests;
 mod words;
 
 pub use copied::Copied;

@@ -66,7 +66,7 @@ fn hands_a_pageblock_out<I: Ledger, N: Ledger, M: Ledger, B: Ledger, R: Abort>(
 }
 
 /// What is tried with a zone that was just opened.
-#[derive(Clone, Copy, PartialEq, Eq)]
+#[derive(Clone, Copy)]
 enum Trial {
     BlocksOfEachOrderAreHandedOut,
     APageblockIsHandedOutAndMarked,

@@ -7,7 +7,7 @@ use zone_core::{Info, Look, ZoneError};
 pub type Name = (u32, u32);
 
 /// A call of a zone by client 0.
-#[derive(Clone, Copy, Debug, PartialEq, Eq)]
+#[derive(Clone, Copy, Debug)]
 pub enum Call {
     Map(Name),
     MapUnmovable(Name),
@@ -31,7 +31,7 @@ pub enum Call {
 }
 
 /// What a call of a zone or of a world answers.
-#[derive(Clone, Copy, Debug, PartialEq, Eq)]
+#[derive(Clone, Copy, PartialEq, Eq)]
 pub enum Answer {
     Done,
     Frame(u32),

@@ -42,10 +42,31 @@ fn states<R: Abort + AllocGlobal>(rt: &R, frames: &Frames) -> Vec<FrameState> {
 }
 
 fn assert_told<R: Abort>(rt: &R, told: Info, states: &[FrameState]) {
+    assert_used(rt, told, states);
+    assert_moving(rt, told, states);
+    let free = states.iter().filter(|state| is_free(state)).count();
+    let whole = states
+        .chunks(512)
+        .filter(|block| block.iter().all(is_free))
+        .count();
+    assert!(rt; (told.free as usize, told.whole as usize) == (free, whole));
+}
+
+/// The counts of pages, and of frames in blocks that are handed out.
+fn assert_used<R: Abort>(rt: &R, told: Info, states: &[FrameState]) {
     let pages = states
         .iter()
         .filter(|state| matches!(state, FrameState::Holds(_) | FrameState::Source(_)))
         .count();
+    let held = states
+        .iter()
+        .filter(|state| matches!(state, FrameState::Huge))
+        .count();
+    assert!(rt; (told.pages as usize, told.held as usize) == (pages, held));
+}
+
+/// A page on its way has two frames.
+fn assert_moving<R: Abort>(rt: &R, told: Info, states: &[FrameState]) {
     let sources = states
         .iter()
         .filter(|state| matches!(state, FrameState::Source(_)))
@@ -54,18 +75,7 @@ fn assert_told<R: Abort>(rt: &R, told: Info, states: &[FrameState]) {
         .iter()
         .filter(|state| matches!(state, FrameState::Target(_)))
         .count();
-    let held = states
-        .iter()
-        .filter(|state| matches!(state, FrameState::Huge))
-        .count();
-    let free = states.iter().filter(|state| is_free(state)).count();
-    let whole = states
-        .chunks(512)
-        .filter(|block| block.iter().all(is_free))
-        .count();
-    assert!(rt; (told.pages as usize, told.held as usize) == (pages, held));
     assert!(rt; (told.moving as usize, told.moving as usize) == (sources, targets));
-    assert!(rt; (told.free as usize, told.whole as usize) == (free, whole));
 }
 
 fn is_free(state: &FrameState) -> bool {

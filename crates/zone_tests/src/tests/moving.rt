@@ -267,7 +267,7 @@ fn leaves_an_unmovable_page<I: Ledger, N: Ledger, M: Ledger, B: Ledger, R: Abort
 }
 
 /// What is tried with a zone of one pageblock that was just opened.
-#[derive(Clone, Copy, PartialEq, Eq)]
+#[derive(Clone, Copy)]
 enum Trial {
     APageIsMovedWithItsWords,
     AChangedCopyIsHandedBack,

@@ -38,7 +38,7 @@ impl<I: Ledger, N: Ledger, M: Ledger, B: Ledger> Opening<I, N, M, B> {
     pub fn plays<R: Abort>(&mut self, rt: &R, calls: &[(Call, Answer)]) {
         for row in calls {
             let (call, want) = *row;
-            assert_eq!(rt; self.make(rt, call), want, "{call:?}");
+            assert!(rt; self.make(rt, call) == want, "{call:?}");
         }
     }
 

@@ -133,7 +133,7 @@ fn pins_a_page_on_its_way<I: Ledger, N: Ledger, M: Ledger, B: Ledger, R: Abort>(
 }
 
 /// What is tried with a zone of one pageblock that was just opened.
-#[derive(Clone, Copy, PartialEq, Eq)]
+#[derive(Clone, Copy)]
 enum Trial {
     APageHasFourAddressesAtMost,
     APinnedPageKeepsItsLastAddress,

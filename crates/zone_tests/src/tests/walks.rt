@@ -25,7 +25,7 @@ fn plays<I: Ledger, N: Ledger, M: Ledger, B: Ledger, R: Abort + AllocGlobal>(
 ) {
     for row in steps {
         let (step, want) = *row;
-        assert_eq!(rt; opening.make(rt, step), want, "{step:?}");
+        assert!(rt; opening.make(rt, step) == want, "{step:?}");
         assert_kept(rt, opening);
     }
 }
@@ -158,7 +158,7 @@ fn moves_each_address<I: Ledger, N: Ledger, M: Ledger, B: Ledger, R: Abort + All
 }
 
 /// What is tried with a world of one pageblock that was just opened.
-#[derive(Clone, Copy, PartialEq, Eq)]
+#[derive(Clone, Copy)]
 enum Trial {
     APageIsShared,
     APageIsPinnedInMidMove,

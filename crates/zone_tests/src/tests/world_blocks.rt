@@ -168,7 +168,7 @@ fn marks_no_pageblock_beyond<I: Ledger, N: Ledger, M: Ledger, B: Ledger, R: Abor
 }
 
 /// What is tried with a world that was just opened.
-#[derive(Clone, Copy, PartialEq, Eq)]
+#[derive(Clone, Copy)]
 enum Trial {
     BlocksOfThreeOrdersAreHandedOut,
     HalfPageblocksAreHandedOut,

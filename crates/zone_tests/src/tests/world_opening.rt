@@ -10,7 +10,7 @@ use world_core::{Scanned, World, WorldError};
 use zone_core::{Blanks, Ended, Info, Zone};
 
 /// A call of a world: of its zone, or one that names a hand.
-#[derive(Clone, Copy, Debug, PartialEq, Eq)]
+#[derive(Clone, Copy, Debug)]
 pub enum Step {
     Of(Call),
     Scan,
@@ -46,7 +46,7 @@ impl<I: Ledger, N: Ledger, M: Ledger, B: Ledger> WorldOpening<I, N, M, B> {
     pub fn plays<R: Abort>(&mut self, rt: &R, steps: &[(Step, Answer)]) {
         for row in steps {
             let (step, want) = *row;
-            assert_eq!(rt; self.make(rt, step), want, "{step:?}");
+            assert!(rt; self.make(rt, step) == want, "{step:?}");
         }
     }
 
@@ -54,7 +54,7 @@ impl<I: Ledger, N: Ledger, M: Ledger, B: Ledger> WorldOpening<I, N, M, B> {
     pub fn calls<R: Abort>(&mut self, rt: &R, calls: &[(Call, Answer)]) {
         for row in calls {
             let (call, want) = *row;
-            assert_eq!(rt; self.call(rt, call), want, "{call:?}");
+            assert!(rt; self.call(rt, call) == want, "{call:?}");
         }
     }
 

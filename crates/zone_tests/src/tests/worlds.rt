@@ -15,10 +15,8 @@ fn kept_whole<I: Ledger, N: Ledger, M: Ledger, B: Ledger, R: Abort>(
     rt: &R,
     opening: WorldOpening<I, N, M, B>,
 ) -> WorldOpening<I, N, M, B> {
-    let WorldOpening { world } = opening;
-    let Err(world) = world.split() else {
-        panic!(rt; "an open world is split");
-    };
+    let split = opening.world.split();
+    let world = split.err().expect(rt, "a world with an open round");
     assert!(rt; world.is_open());
     WorldOpening { world }
 }

@@ -11,9 +11,9 @@ returns g c =
     let collector = c.collector-collector in
     let reserved = c.reserve_alone-zone.ensures in
     pool_done c.args.world c.args.self.now.client c.args.self.now.single.places c.args.count c.args.blocks
-    c.in-Ok.zone c.reserve_alone-zone.result.0 c.in-Ok.seats.scan seats.scan c.in-Ok.seats.ends seats.ends
+    c.parts_of-zone.result.0 c.reserve_alone-zone.result.0 c.parts_of-zone.result.1.scan seats.scan c.parts_of-zone.result.1.ends seats.ends
     collector.result report c.pool_reply.result c.take_back.new.self
-    c.in-Ok.ensures.zone c.in-Ok.ensures.scan c.in-Ok.ensures.ends c.in-Ok.ensures.whole
+    c.parts_of-zone.ensures.zone c.parts_of-zone.ensures.scan c.parts_of-zone.ensures.ends c.parts_of-zone.ensures.whole
     collector.ensures.rounds (collector.ensures.order ∙ c.order.ensures)
     reserved.kept reserved.shape reserved.got (omega (arith, reserved.most, c.get-n.ensures.value))
     (subst (λ (k : ℕ). (report.stop ≡ stop.Enough) ↔ (length report.got.items ≡ k)) c.get-n.ensures.value reserved.enough)

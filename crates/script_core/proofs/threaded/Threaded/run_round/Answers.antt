@@ -5,8 +5,8 @@ pub returns : goal.returns
 returns g c =
     let seats = c.compact-zone.new.seats in
     record {
-      over = round_over c.args.world c.in-Ok.zone c.compact-zone.result.0 c.in-Ok.seats.scan seats.scan c.in-Ok.seats.ends seats.ends c.compact-zone.result.1
-          c.in-Ok.ensures.zone c.in-Ok.ensures.scan c.in-Ok.ensures.ends c.in-Ok.ensures.whole
+      over = round_over c.args.world c.parts_of-zone.result.0 c.compact-zone.result.0 c.parts_of-zone.result.1.scan seats.scan c.parts_of-zone.result.1.ends seats.ends c.compact-zone.result.1
+          c.parts_of-zone.ensures.zone c.parts_of-zone.ensures.scan c.parts_of-zone.ensures.ends c.parts_of-zone.ensures.whole
           c.compact-zone.ensures.kept c.compact-zone.ensures.shape c.compact-zone.ensures.round c.compact-zone.ensures.early
           c.take_back.ensures.exact;
       answer_is = c.reply_to.ensures;

@@ -11,8 +11,8 @@ pub returns-in_default-both-clause-none : goal.returns-in_default-both-clause-no
 returns-in_default-both-clause-none g c =
     let ran = c.compact_beside-zone in
     let seats = ran.new.seats in
-    nothing_ran c.args.world c.args.self.now c.take_back.new.self c.in-Ok.zone ran.result.0 c.in-Ok.seats.scan seats.scan c.in-Ok.seats.ends seats.ends
-    c.in-Ok.ensures.zone c.in-Ok.ensures.scan c.in-Ok.ensures.ends
+    nothing_ran c.args.world c.args.self.now c.take_back.new.self c.parts_of-zone.result.0 ran.result.0 c.parts_of-zone.result.1.scan seats.scan c.parts_of-zone.result.1.ends seats.ends
+    c.parts_of-zone.ensures.zone c.parts_of-zone.ensures.scan c.parts_of-zone.ensures.ends
     (MatchOption-at_none _ _ c.in_default-both.is ran.ensures.none)
     ran.ensures.kept ran.ensures.shape c.take_back.ensures.left
 
@@ -22,8 +22,8 @@ returns-clause-played g c =
     let seats = ran.new.seats in
     let both = c.in-Some.both in
     record {
-      over = round_over c.args.world c.in-Ok.zone ran.result.0 c.in-Ok.seats.scan seats.scan c.in-Ok.seats.ends seats.ends both.round
-          c.in-Ok.ensures.zone c.in-Ok.ensures.scan c.in-Ok.ensures.ends c.in-Ok.ensures.whole
+      over = round_over c.args.world c.parts_of-zone.result.0 ran.result.0 c.parts_of-zone.result.1.scan seats.scan c.parts_of-zone.result.1.ends seats.ends both.round
+          c.parts_of-zone.ensures.zone c.parts_of-zone.ensures.scan c.parts_of-zone.ensures.ends c.parts_of-zone.ensures.whole
           ran.ensures.kept ran.ensures.shape (MatchOption-at_some _ _ both c.in-Some.is ran.ensures.round) (MatchOption-at_some _ _ both c.in-Some.is ran.ensures.early)
           c.take_back-2.ensures.exact;
       client_behind = both.client;

@@ -1,0 +1,4 @@
+mod frames;
+mod journals;
+mod tables;
+mod words;
