@@ -135,8 +135,9 @@ fn start_crew<
     ensures copiers { IfOk result (λ crew. (vec_len crew.copiers ≡ vec_len outfit.takers) × All (λ c. c.promise.taker.value.hand_over ≡ outfit.giver.hand_over) crew.copiers.items) }
     ensures part { IfErr result (λ part. part.parts ≡ 1) }
 {
-    let (mut outfit, committer) =
-        start_committer(scope, rt, shared, outfit, copies, gathered, part, gate)?;
+    let (mut outfit, committer) = start_committer(
+        scope, rt, shared, outfit, copies, gathered, part, gate,
+    )?;
     if start_copiers(scope, rt, &mut outfit, gate).is_none() {
         return Err(join_early(rt, outfit, committer));
     }
@@ -149,15 +150,7 @@ fn start_crew<
 }
 
 /// Runs a round with the scanner on this thread, and joins its crew.
-fn run_crew<
-    K: Shape,
-    I: Ledger,
-    N: Ledger,
-    M: Ledger,
-    B: Ledger,
-    G: Gate,
-    R: Threads + Wait,
->(
+fn run_crew<K: Shape, I: Ledger, N: Ledger, M: Ledger, B: Ledger, G: Gate, R: Threads + Wait>(
     rt: &R,
     shared: &SharedZone<K, I, M, B>,
     scan: &mut ScanSeat<I, N>,
@@ -237,9 +230,7 @@ pub(crate) fn run<
         unreachable!()
     };
     match start_crew(scope, rt, shared, outfit, copies, gathered, part, gate) {
-        Ok(crew) => Some(run_crew(
-            rt, shared, scan, ends, crew, pages, joined, gate,
-        )),
+        Ok(crew) => Some(run_crew(rt, shared, scan, ends, crew, pages, joined, gate)),
         Err(part) => {
             ends.join(part);
             None

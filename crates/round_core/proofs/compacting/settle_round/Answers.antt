@@ -1,4 +1,4 @@
-use Rattle.std.proofs.Common.{rules, ◌∙◌, sym}
+use Rattle.std.proofs.Common.{rules}
 use Rattle.round_core.proofs.Sharing.{shared}
 use Rattle.round_core.proofs.compacting.settle_round.Goals as goal
 
