@@ -1,11 +1,15 @@
-ghost use Rattle.std.specs.Prelude.{◌≡◌, ◌<◌, ◌≤◌, ◌↔◌, ℕ, false, [], IfOk, vec_len, slice_get, Some};
+ghost use Rattle.std.specs.Prelude.{◌≡◌, ◌<◌, ◌≤◌, ◌↔◌, ℕ, false, [], IfOk, vec_len, slice_get, Some, OnOk, vec_capacity};
+ghost use Rattle.crossbeam_channel.specs.Claims.{view, IsSeatAt};
+ghost use Rattle.crossbeam_channel.specs.Ends.{sends_on};
+ghost use Rattle.hand_core.specs.Queue.{name_of};
+ghost use Rattle.hand_core.specs.CopyQueue.{taker_account};
 
 use crate::copy_queue::{Account, Makes, Message, Turns};
 use crate::done_sender::DoneSender;
 use crate::done_taker::DoneTaker;
 use crate::error::HandError;
-use crossbeam_channel::bounded_with;
-use std::alloc::Global;
+use crossbeam_channel::{Pass, RuledSender, bounded_with};
+use std::alloc::{AllocError, Global};
 
 /// Opens a queue for the copies of so many senders, with room for `cap` copies in it. No later call takes memory.
 ///
@@ -24,25 +28,24 @@ pub fn done_open<R>(
     if senders == 0 || senders > 4 || cap == 0 || cap > 64 {
         return Err(HandError::Range);
     }
-    let Ok(mut all) = Vec::with_capacity(alloc, senders) else {
-        return Err(HandError::Memory);
-    };
-    let Ok((to, from, mut pass)) = bounded_with::<Message, Account, Turns, Global>(alloc, cap)
-    else {
-        return Err(HandError::Memory);
-    };
-    for number in 0..senders {
-        let theirs = to.another::<Makes>(&mut pass);
-        let Ok(to) = to.try_clone() else {
-            return Err(HandError::Memory);
-        };
-        all.push_reserved(DoneSender {
-            number,
-            closed: false,
-            to,
-            pass: theirs,
-        });
-    }
+    opened(alloc, senders, cap).map_err(|_| HandError::Memory)
+}
+
+// The same where the numbers are in range. An error is want of memory.
+fn opened(
+    alloc: Global,
+    senders: usize,
+    cap: usize,
+) -> Result<(Vec<DoneSender>, DoneTaker), AllocError>
+    requires senders { senders ≤ 4 }
+    requires cap { 0 < cap }
+    ensures taker { IfOk result (λ ends. ends.1 ≡ record { way = ends.1.way; room = cap; senders = senders; came = [] }) }
+    ensures senders { IfOk result (λ ends. vec_len ends.0 ≡ senders) }
+    ensures fresh { IfOk result (λ ends. (number : ℕ) → number < senders → slice_get ends.0.items number ≡ Some (record { way = ends.1.way; number = number; sent = []; marked = false; closed = false })) }
+{
+    let mut all = Vec::with_capacity(alloc, senders)?;
+    let (to, from, mut pass) = bounded_with::<Message, Account, Turns, Global>(alloc, cap)?;
+    add_senders(&to, &mut pass, &mut all, senders)?;
     let taker = DoneTaker {
         senders,
         marked: [false; 4],
@@ -50,4 +53,32 @@ pub fn done_open<R>(
         pass,
     };
     Ok((all, taker))
+}
+
+// Adds so many senders. The taker's pass makes them.
+fn add_senders(
+    to: &RuledSender<Message, Account, Turns, Global>,
+    pass: &mut Pass<Message, Account>,
+    all: &mut Vec<DoneSender>,
+    senders: usize,
+) -> Result<(), AllocError>
+    requires room { (all.old.items ≡ []) × (senders ≤ vec_capacity all.old) }
+    requires channel { IsSeatAt (sends_on to.now) pass.old }
+    requires knows { view pass.old ≡ taker_account }
+    ensures channel { IsSeatAt (sends_on to.now) pass.new }
+    ensures knows { OnOk result (view pass.new ≡ record taker_account { made = senders }) }
+    ensures made { OnOk result (vec_len all.new ≡ senders) }
+    ensures fresh { OnOk result ((number : ℕ) → number < senders → slice_get all.new.items number ≡ Some (record { way = name_of (sends_on to.now); number = number; sent = []; marked = false; closed = false })) }
+{
+    for number in 0..senders {
+        let theirs = to.another::<Makes>(pass);
+        let to = to.try_clone()?;
+        all.push_reserved(DoneSender {
+            number,
+            closed: false,
+            to,
+            pass: theirs,
+        });
+    }
+    Ok(())
 }

@@ -1,12 +1,16 @@
-ghost use Rattle.std.specs.Prelude.{◌≡◌, ◌<◌, ◌≤◌, ◌↔◌, false, [], All, IfOk, vec_len};
+ghost use Rattle.std.specs.Prelude.{◌≡◌, ◌+◌, ◌<◌, ◌≤◌, ◌↔◌, false, [], All, IfOk, OnOk, vec_len, vec_capacity};
+ghost use Rattle.crossbeam_channel.specs.Claims.{view, IsSeatAt};
+ghost use Rattle.crossbeam_channel.specs.Ends.{sends_on, receives_on};
+ghost use Rattle.hand_core.specs.Queue.{name_of};
+ghost use Rattle.hand_core.specs.PageQueue.{giver_knows};
 
 use crate::error::HandError;
 use crate::giver::Giver;
 use crate::page_queue::{Known, Note, Ordered, Shares};
 use crate::taker::Taker;
-use crossbeam_channel::bounded_with;
+use crossbeam_channel::{Pass, RuledReceiver, RuledSender, bounded_with};
 use frame_core::Serial;
-use std::alloc::Global;
+use std::alloc::{AllocError, Global};
 
 /// All takers of a hand-over.
 pub type Takers = Vec<Taker>;
@@ -30,23 +34,25 @@ pub fn open<R>(
     if takers == 0 || takers > 4 || cap == 0 || cap > 64 {
         return Err(HandError::Range);
     }
-    let Ok(mut all) = Vec::with_capacity(alloc, takers) else {
-        return Err(HandError::Memory);
-    };
-    let Ok((to, from, mut pass)) = bounded_with::<Note, Known, Ordered, Global>(alloc, cap) else {
-        return Err(HandError::Memory);
-    };
-    for _taker in 0..takers {
-        let theirs = to.another::<Shares>(&mut pass);
-        let Ok(from) = from.try_clone() else {
-            return Err(HandError::Memory);
-        };
-        all.push_reserved(Taker {
-            ended: false,
-            from,
-            pass: theirs,
-        });
-    }
+    opened(alloc, base, takers, cap).map_err(|_| HandError::Memory)
+}
+
+// The same where the numbers are in range. An error is want of memory.
+fn opened(
+    alloc: Global,
+    base: Serial,
+    takers: usize,
+    cap: usize,
+) -> Result<(Giver, Takers), AllocError>
+    requires takers { (0 < takers) × (takers ≤ 4) }
+    requires cap { 0 < cap }
+    ensures giver { IfOk result (λ ends. ends.0 ≡ record { hand_over = ends.0.hand_over; room = cap; takers = takers; base = base; given = []; marks = 0; closed = false }) }
+    ensures takers { IfOk result (λ ends. vec_len ends.1 ≡ takers) }
+    ensures fresh { IfOk result (λ ends. All (λ t. t ≡ record { hand_over = ends.0.hand_over; taken = []; ended = false }) ends.1.items) }
+{
+    let mut all = Vec::with_capacity(alloc, takers)?;
+    let (to, from, mut pass) = bounded_with::<Note, Known, Ordered, Global>(alloc, cap)?;
+    add_takers(&to, &from, &mut pass, &mut all, takers)?;
     let giver = Giver {
         base,
         next: u64::from(base),
@@ -57,4 +63,33 @@ pub fn open<R>(
         pass,
     };
     Ok((giver, all))
+}
+
+// Adds so many takers, each with a share of the giver's.
+fn add_takers(
+    to: &RuledSender<Note, Known, Ordered, Global>,
+    from: &RuledReceiver<Note, Known, Ordered, Global>,
+    pass: &mut Pass<Note, Known>,
+    all: &mut Takers,
+    takers: usize,
+) -> Result<(), AllocError>
+    requires few { takers ≤ 4 }
+    requires room { (all.old.items ≡ []) × (takers ≤ vec_capacity all.old) }
+    requires channel { (receives_on from.now ≡ sends_on to.now) × IsSeatAt (sends_on to.now) pass.old }
+    requires knows { view pass.old ≡ giver_knows }
+    ensures channel { IsSeatAt (sends_on to.now) pass.new }
+    ensures knows { OnOk result ((view pass.new ≡ record giver_knows { shares = (view pass.new).shares }) × ((view pass.new).shares + takers ≡ 1024)) }
+    ensures made { OnOk result (vec_len all.new ≡ takers) }
+    ensures fresh { OnOk result (All (λ t. t ≡ record { hand_over = name_of (sends_on to.now); taken = []; ended = false }) all.new.items) }
+{
+    for _taker in 0..takers {
+        let theirs = to.another::<Shares>(pass);
+        let from = from.try_clone()?;
+        all.push_reserved(Taker {
+            ended: false,
+            from,
+            pass: theirs,
+        });
+    }
+    Ok(())
 }
