@@ -31,7 +31,7 @@ pub fn done_open<R>(
     opened(alloc, senders, cap).map_err(|_| HandError::Memory)
 }
 
-// The same where the numbers are in range. An error is want of memory.
+/// The same where the numbers are in range. An error is want of memory.
 fn opened(
     alloc: Global,
     senders: usize,
@@ -55,7 +55,7 @@ fn opened(
     Ok((all, taker))
 }
 
-// Adds so many senders. The taker's pass makes them.
+/// Adds so many senders. The taker's pass makes them.
 fn add_senders(
     to: &RuledSender<Message, Account, Turns, Global>,
     pass: &mut Pass<Message, Account>,

@@ -37,7 +37,7 @@ pub fn open<R>(
     opened(alloc, base, takers, cap).map_err(|_| HandError::Memory)
 }
 
-// The same where the numbers are in range. An error is want of memory.
+/// The same where the numbers are in range. An error is want of memory.
 fn opened(
     alloc: Global,
     base: Serial,
@@ -65,7 +65,7 @@ fn opened(
     Ok((giver, all))
 }
 
-// Adds so many takers, each with a share of the giver's.
+/// Adds so many takers, each with a share of the giver's.
 fn add_takers(
     to: &RuledSender<Note, Known, Ordered, Global>,
     from: &RuledReceiver<Note, Known, Ordered, Global>,
