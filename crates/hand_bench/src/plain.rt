@@ -17,35 +17,62 @@ pub fn carry<R: Threads + Wait + Sync>(
     pages: u32,
 ) -> Option<Load> {
     let (to, from) = bounded::<Isolated, Global>(alloc, cap).ok()?;
-    let others = (from.clone().ok()?, from.clone().ok()?, from.clone().ok()?);
     let (sent, load) = match takers {
-        1 => {
-            drop(others);
-            join(
-                rt,
-                move || send_all(rt, to, pages),
-                move || take_all(rt, from),
-            )
-        }
-        2 => {
-            let (two, three, four) = others;
-            drop((three, four));
-            join(
-                rt,
-                move || send_all(rt, to, pages),
-                move || take_by_two(rt, from, two),
-            )
-        }
-        _ => {
-            let (two, three, four) = others;
-            join(
-                rt,
-                move || send_all(rt, to, pages),
-                move || take_by_four(rt, (from, two), (three, four)),
-            )
-        }
+        1 => to_one(rt, to, from, pages),
+        2 => to_two(rt, to, pair_of(from)?, pages),
+        _ => to_four(rt, to, pairs_of(from)?, pages),
     };
     if sent { Some(load) } else { None }
+}
+
+fn pair_of(from: Pages) -> Option<(Pages, Pages)> {
+    let other = from.clone().ok()?;
+    Some((from, other))
+}
+
+fn pairs_of(from: Pages) -> Option<((Pages, Pages), (Pages, Pages))> {
+    let (front, back) = pair_of(from)?;
+    let front = pair_of(front)?;
+    Some((front, pair_of(back)?))
+}
+
+fn to_one<R: Threads + Wait + Sync>(
+    rt: &R,
+    to: Sender<Isolated, Global>,
+    from: Pages,
+    pages: u32,
+) -> (bool, Load) {
+    join(
+        rt,
+        move || send_all(rt, to, pages),
+        move || take_all(rt, from),
+    )
+}
+
+fn to_two<R: Threads + Wait + Sync>(
+    rt: &R,
+    to: Sender<Isolated, Global>,
+    both: (Pages, Pages),
+    pages: u32,
+) -> (bool, Load) {
+    join(
+        rt,
+        move || send_all(rt, to, pages),
+        move || take_by_two(rt, both.0, both.1),
+    )
+}
+
+fn to_four<R: Threads + Wait + Sync>(
+    rt: &R,
+    to: Sender<Isolated, Global>,
+    all: ((Pages, Pages), (Pages, Pages)),
+    pages: u32,
+) -> (bool, Load) {
+    join(
+        rt,
+        move || send_all(rt, to, pages),
+        move || take_by_four(rt, all.0, all.1),
+    )
 }
 
 fn send_all<R: Wait>(rt: &R, to: Sender<Isolated, Global>, pages: u32) -> bool {

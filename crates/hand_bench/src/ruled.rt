@@ -16,17 +16,21 @@ pub fn carry<R: Threads + Wait + Sync>(
     pages: u32,
 ) -> Option<Load> {
     let (giver, mut waiting) = open(rt, alloc, 0, takers, cap).ok()?;
-    let one = next_taker(&giver, &mut waiting)?;
-    if takers == 1 {
-        return to_one(rt, alloc, giver, one, pages);
+    match takers {
+        1 => {
+            let one = next_taker(&giver, &mut waiting)?;
+            to_one(rt, alloc, giver, one, pages)
+        }
+        2 => {
+            let both = next_pair(&giver, &mut waiting)?;
+            to_two(rt, alloc, giver, both, pages)
+        }
+        _ => {
+            let front = next_pair(&giver, &mut waiting)?;
+            let back = next_pair(&giver, &mut waiting)?;
+            to_four(rt, alloc, giver, (front, back), pages)
+        }
     }
-    let two = next_taker(&giver, &mut waiting)?;
-    if takers == 2 {
-        return to_two(rt, alloc, giver, (one, two), pages);
-    }
-    let three = next_taker(&giver, &mut waiting)?;
-    let four = next_taker(&giver, &mut waiting)?;
-    to_four(rt, alloc, giver, ((one, two), (three, four)), pages)
 }
 
 fn next_taker(giver: &Giver, takers: &mut Takers) -> Option<Taker>
@@ -35,6 +39,16 @@ fn next_taker(giver: &Giver, takers: &mut Takers) -> Option<Taker>
     ensures others { All (λ t. (t.hand_over ≡ giver.now.hand_over) × (t.ended ≡ false)) takers.new.items }
 {
     takers.pop()
+}
+
+fn next_pair(giver: &Giver, takers: &mut Takers) -> Option<(Taker, Taker)>
+    requires { All (λ t. (t.hand_over ≡ giver.now.hand_over) × (t.ended ≡ false)) takers.old.items }
+    ensures first { IfSome result (λ both. (both.0.hand_over ≡ giver.now.hand_over) × (both.0.ended ≡ false)) }
+    ensures second { IfSome result (λ both. (both.1.hand_over ≡ giver.now.hand_over) × (both.1.ended ≡ false)) }
+    ensures others { All (λ t. (t.hand_over ≡ giver.now.hand_over) × (t.ended ≡ false)) takers.new.items }
+{
+    let one = next_taker(giver, takers)?;
+    Some((one, next_taker(giver, takers)?))
 }
 
 fn to_one<R: Threads + Wait + Sync>(

@@ -7,13 +7,13 @@ use Rattle.script_core.specs.Threaded.{Threaded, left_by}
 use Rattle.script_core.proofs.Rounds.{nothing_ran, round_over}
 use Rattle.script_core.proofs.threaded.Threaded.run_turn.Goals as goal
 
-pub returns-in_default-both-clause-none : goal.returns-in_default-both-clause-none
-returns-in_default-both-clause-none g c =
+pub returns-in_default-clause-none : goal.returns-in_default-clause-none
+returns-in_default-clause-none g c =
     let ran = c.compact_beside-zone in
     let seats = ran.new.seats in
     nothing_ran c.args.world c.args.self.now c.take_back.new.self c.parts_of-zone.result.0 ran.result.0 c.parts_of-zone.result.1.scan seats.scan c.parts_of-zone.result.1.ends seats.ends
     c.parts_of-zone.ensures.zone c.parts_of-zone.ensures.scan c.parts_of-zone.ensures.ends
-    (MatchOption-at_none _ _ c.in_default-both.is ran.ensures.none)
+    (MatchOption-at_none _ _ c.in_default.is ran.ensures.none)
     ran.ensures.kept ran.ensures.shape c.take_back.ensures.left
 
 pub returns-clause-played : goal.returns-clause-played
