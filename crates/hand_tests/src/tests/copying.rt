@@ -6,7 +6,6 @@ use hand_core::{Came, DoneSender, DoneTaker, HandError, done_open, done_settle};
 use std::alloc::Global;
 use std::process::Abort;
 use std::sync::Wait;
-use std::test::Fail;
 use std::thread::{Threads, join};
 use word_core::Copied;
 
@@ -15,6 +14,15 @@ const COPIES: u32 = 150;
 // The copy of a page whose serial tells its sender.
 fn copied(sender: u32, number: u32) -> Option<Copied> {
     Some(isolated(sender.checked_mul(1000)?.checked_add(number)?, number)?.copy_into_new())
+}
+
+fn copy_of<R: Abort>(rt: &R, sender: u32, number: u32) -> Copied {
+    copied(sender, number).expect(rt, "in range")
+}
+
+fn assert_is_copy<R: Abort>(rt: &R, copy: Copied, serial: u32, number: u32) {
+    assert!(rt; copy.serial() == serial);
+    assert!(rt; is_page(&copy.into_page(), number));
 }
 
 // Sends copies of the pages 0 to 149, and closes.
@@ -97,24 +105,27 @@ fn last_sender<R: Abort>(rt: &R, taker: &DoneTaker, senders: &mut Vec<DoneSender
     senders.pop().expect(rt, "a sender")
 }
 
+fn last_two<R: Abort>(
+    rt: &R,
+    taker: &DoneTaker,
+    senders: &mut Vec<DoneSender>,
+) -> (DoneSender, DoneSender)
+    requires { All (λ s. (s.way ≡ taker.now.way) × (s.closed ≡ false)) senders.old.items }
+    ensures ways { (result.0.way ≡ taker.now.way) × (result.1.way ≡ taker.now.way) }
+    ensures open { (result.0.closed ≡ false) × (result.1.closed ≡ false) }
+    ensures others { All (λ s. (s.way ≡ taker.now.way) × (s.closed ≡ false)) senders.new.items }
+{
+    let two = last_sender(rt, taker, senders);
+    let one = last_sender(rt, taker, senders);
+    (one, two)
+}
+
 // Each sender's copies came whole and in its order.
 fn assert_in_order<R: Abort>(rt: &R, copies: Vec<Copied>) {
     assert!(rt; copies.len() == 600);
     let mut next = [0; 4];
     for copy in copies {
-        let serial = copy.serial();
-        let sender = (serial / 1000) as usize;
-        assert!(rt; sender < next.len());
-        let number = next[sender];
-        assert!(rt;
-            number < COPIES && serial % 1000 == number,
-            "{serial} came in the place of {number}"
-        );
-        assert!(rt;
-            is_page(&copy.into_page(), number),
-            "another copy came under {serial}"
-        );
-        next[sender] = number + 1;
+        assert_next(rt, copy, &mut next);
     }
     assert!(rt;
         next.iter().all(|number| *number == COPIES),
@@ -122,12 +133,27 @@ fn assert_in_order<R: Abort>(rt: &R, copies: Vec<Copied>) {
     );
 }
 
+// The copy is the next of its sender.
+fn assert_next<R: Abort>(rt: &R, copy: Copied, next: &mut [u32; 4]) {
+    let serial = copy.serial();
+    let sender = (serial / 1000) as usize;
+    assert!(rt; sender < next.len());
+    let number = next[sender];
+    assert!(rt;
+        number < COPIES && serial % 1000 == number,
+        "{serial} came in the place of {number}"
+    );
+    assert!(rt;
+        is_page(&copy.into_page(), number),
+        "another copy came under {serial}"
+    );
+    next[sender] = number + 1;
+}
+
 fn from_four_senders<R: Threads + Wait + Abort + Sync>(rt: &R, alloc: Global, cap: usize) {
     let (mut senders, taker) = opened(rt, alloc, 4, cap);
-    let four = last_sender(rt, &taker, &mut senders);
-    let three = last_sender(rt, &taker, &mut senders);
-    let two = last_sender(rt, &taker, &mut senders);
-    let one = last_sender(rt, &taker, &mut senders);
+    let back = last_two(rt, &taker, &mut senders);
+    let front = last_two(rt, &taker, &mut senders);
     let ((taker, copies, ended), (front, back)) = join(
         rt,
         move || -> (DoneTaker, Vec<Copied>, bool)
@@ -138,14 +164,28 @@ fn from_four_senders<R: Threads + Wait + Abort + Sync>(rt: &R, alloc: Global, ca
             ((DoneSender, bool), (DoneSender, bool)),
             ((DoneSender, bool), (DoneSender, bool)),
         )
-            requires { (one.closed ≡ false) × (two.closed ≡ false) × (three.closed ≡ false) × (four.closed ≡ false) }
-            ensures { (result.0.0.0.way ≡ one.way) × (result.0.1.0.way ≡ two.way) × (result.1.0.0.way ≡ three.way) × (result.1.1.0.way ≡ four.way) }
-        { send_by_four(rt, (one, two), (three, four)) },
+            requires { (front.0.closed ≡ false) × (front.1.closed ≡ false) × (back.0.closed ≡ false) × (back.1.closed ≡ false) }
+            ensures { (result.0.0.0.way ≡ front.0.way) × (result.0.1.0.way ≡ front.1.way) × (result.1.0.0.way ≡ back.0.way) × (result.1.1.0.way ≡ back.1.way) }
+        { send_by_four(rt, front, back) },
     );
-    assert!(rt; ended && front.0.1 && front.1.1 && back.0.1 && back.1.1);
+    assert!(rt; ended);
     assert_in_order(rt, copies);
-    let senders = vec![in alloc; front.0.0, front.1.0, back.0.0, back.1.0].expect(rt, "memory");
+    let (one, two) = closed_by_two(rt, front);
+    let (three, four) = closed_by_two(rt, back);
+    let senders = vec![in alloc; one, two, three, four].expect(rt, "memory");
     done_settle(taker, senders);
+}
+
+// Both senders put their marks.
+fn closed_by_two<R: Abort>(
+    rt: &R,
+    done: ((DoneSender, bool), (DoneSender, bool)),
+) -> (DoneSender, DoneSender)
+    ensures { (result.0.way ≡ done.0.0.way) × (result.1.way ≡ done.1.0.way) }
+{
+    let ((one, one_closed), (two, two_closed)) = done;
+    assert!(rt; one_closed && two_closed);
+    (one, two)
 }
 
 fn send_by_four<R: Threads + Wait + Sync>(
@@ -184,60 +224,103 @@ fn brings_600_copies_of_four_senders(rt: HostRuntime) {
 #[test]
 fn opens_in_range_only(rt: HostRuntime) {
     for (senders, cap) in [(0, 1), (5, 1), (1, 0), (1, 65)] {
-        let Err(error) = done_open(&rt, rt.alloc(), senders, cap) else {
-            panic!(rt; "opened for {senders} senders and room for {cap}");
-        };
-        assert!(rt; error == HandError::Range);
+        assert!(rt;
+            done_open(&rt, rt.alloc(), senders, cap).err() == Some(HandError::Range),
+            "opened for {senders} senders and room for {cap}"
+        );
     }
 }
 
+fn copy_back<R: Wait + Abort>(rt: &R, sender: &mut DoneSender, copy: Copied) -> Copied
+    requires { sender.old.closed ≡ false }
+    ensures { sender.new.closed ≡ false }
+{
+    let Err(copy) = sender.send(rt, copy) else {
+        panic!(rt; "sent a copy to nobody");
+    };
+    copy
+}
+
 #[test]
-fn hands_the_copy_back_where_the_taker_is_gone(rt: HostRuntime) -> Result<(), Fail> {
+fn hands_the_copy_back_where_the_taker_is_gone(rt: HostRuntime) {
     let (mut senders, taker) = opened(&rt, rt.alloc(), 2, 1);
     let mut one = last_sender(&rt, &taker, &mut senders);
     drop(taker);
-    let Err(copy) = one.send(&rt, copied(0, 3).ok_or("in range")?) else {
-        panic!(rt; "sent a copy to nobody");
-    };
-    assert!(rt; copy.serial() == 3);
-    assert!(rt; is_page(&copy.into_page(), 3));
+    let copy = copy_back(&rt, &mut one, copy_of(&rt, 0, 3));
+    assert_is_copy(&rt, copy, 3, 3);
     assert!(rt; one.close(&rt).is_err());
-    Ok(())
 }
 
-#[test]
-fn answers_gone_behind_the_copies_where_the_senders_are_gone(rt: HostRuntime) -> Result<(), Fail> {
-    let (mut senders, mut taker) = opened(&rt, rt.alloc(), 2, 4);
-    let mut two = last_sender(&rt, &taker, &mut senders);
-    let mut one = last_sender(&rt, &taker, &mut senders);
-    assert!(rt; one.send(&rt, copied(0, 1).ok_or("in range")?).is_ok());
-    assert!(rt; two.close(&rt).is_ok());
-    drop((one, two, senders));
-    let Came::Copy(copy) = taker.take(&rt) else {
+fn opened_for_two<R: Wait + Abort>(rt: &R, alloc: Global) -> ((DoneSender, DoneSender), DoneTaker)
+    ensures senders { (result.0.0.closed ≡ false) × (result.0.1.closed ≡ false) }
+    ensures taker { has_ended result.1 ≡ false }
+{
+    let (mut senders, taker) = opened(rt, alloc, 2, 4);
+    let both = last_two(rt, &taker, &mut senders);
+    (both, taker)
+}
+
+fn taken_copy<R: Wait + Abort>(rt: &R, taker: &mut DoneTaker) -> Copied
+    requires { has_ended taker.old ≡ false }
+    ensures { has_ended taker.new ≡ false }
+{
+    let Came::Copy(copy) = taker.take(rt) else {
         panic!(rt; "the copy is lost");
     };
-    assert!(rt; copy.page_no().get() == 1);
-    assert!(rt; matches!(taker.take(&rt), Came::Gone));
-    Ok(())
+    copy
 }
 
 #[test]
-fn takes_without_waiting(rt: HostRuntime) -> Result<(), Fail> {
-    let (mut senders, mut taker) = opened(&rt, rt.alloc(), 2, 4);
-    let mut two = last_sender(&rt, &taker, &mut senders);
-    let mut one = last_sender(&rt, &taker, &mut senders);
-    assert!(rt; taker.try_take(&rt).is_none());
-    assert!(rt; one.close(&rt).is_ok());
-    assert!(rt; two.send(&rt, copied(1, 3).ok_or("in range")?).is_ok());
-    let Some(Came::Copy(copy)) = taker.try_take(&rt) else {
+fn answers_gone_behind_the_copies_where_the_senders_are_gone(rt: HostRuntime) {
+    let ((mut one, mut two), mut taker) = opened_for_two(&rt, rt.alloc());
+    assert!(rt; one.send(&rt, copy_of(&rt, 0, 1)).is_ok());
+    assert!(rt; two.close(&rt).is_ok());
+    drop((one, two));
+    assert!(rt; taken_copy(&rt, &mut taker).page_no().get() == 1);
+    assert!(rt; matches!(taker.take(&rt), Came::Gone));
+}
+
+// Takes the copy that is there, and doesn't wait.
+fn tried_copy<R: Wait + Abort>(rt: &R, taker: &mut DoneTaker) -> Copied
+    requires { has_ended taker.old ≡ false }
+    ensures { has_ended taker.new ≡ false }
+{
+    let Some(Came::Copy(copy)) = taker.try_take(rt) else {
         panic!(rt; "the copy behind the first mark isn't taken");
     };
-    assert!(rt; copy.serial() == 1003);
-    assert!(rt; is_page(&copy.into_page(), 3));
-    assert!(rt; taker.try_take(&rt).is_none());
-    assert!(rt; two.close(&rt).is_ok());
-    assert!(rt; matches!(taker.try_take(&rt), Some(Came::End)));
-    Ok(())
+    copy
+}
+
+fn assert_finds_nothing<R: Wait + Abort>(rt: &R, taker: &mut DoneTaker)
+    requires { has_ended taker.old ≡ false }
+    ensures { has_ended taker.new ≡ false }
+{
+    assert!(rt; taker.try_take(rt).is_none());
+}
+
+// Tries before each mark and each copy, and behind them.
+fn assert_tries<R: Wait + Abort>(
+    rt: &R,
+    taker: &mut DoneTaker,
+    one: &mut DoneSender,
+    two: &mut DoneSender,
+)
+    requires open { (one.old.closed ≡ false) × (two.old.closed ≡ false) }
+    requires going { has_ended taker.old ≡ false }
+{
+    assert_finds_nothing(rt, taker);
+    assert!(rt; one.close(rt).is_ok());
+    assert!(rt; two.send(rt, copy_of(rt, 1, 3)).is_ok());
+    assert_is_copy(rt, tried_copy(rt, taker), 1003, 3);
+    assert_finds_nothing(rt, taker);
+    assert!(rt; two.close(rt).is_ok());
+    assert!(rt; matches!(taker.try_take(rt), Some(Came::End)));
+}
+
+#[test]
+fn takes_without_waiting(rt: HostRuntime) {
+    let ((mut one, mut two), mut taker) = opened_for_two(&rt, rt.alloc());
+    assert_tries(&rt, &mut taker, &mut one, &mut two);
 }
 
 #[test]

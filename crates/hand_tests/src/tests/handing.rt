@@ -1,11 +1,10 @@
-ghost use Rattle.std.specs.Prelude.{◌≡◌, ◌+◌, ◌<◌, ◌^◌, [], false, All};
+ghost use Rattle.std.specs.Prelude.{◌≡◌, ◌+◌, ◌<◌, ◌^◌, [], false, length, All};
 
 use super::{is_page, isolated};
 use hand_core::{Giver, HandError, Taker, Took, open, settle};
 use std::alloc::Global;
 use std::process::Abort;
 use std::sync::Wait;
-use std::test::Fail;
 use std::thread::{Threads, join};
 use word_core::Isolated;
 
@@ -19,6 +18,12 @@ struct Done {
     taker: Taker,
     pages: Vec<Isolated>,
     ended: bool,
+}
+
+fn page_of<R: Abort>(rt: &R, serial: u32, number: u32) -> Isolated
+    ensures { result.serial ≡ serial }
+{
+    isolated(serial, number).expect(rt, "in range")
 }
 
 // Gives pages with the numbers 0 to count - 1, and closes.
@@ -102,21 +107,26 @@ fn take_by_two<R: Threads + Wait + Sync>(
 fn note_list<R: Abort>(rt: &R, list: Vec<Isolated>, seen: &mut Vec<bool>) {
     let mut next = BASE;
     for page in list {
-        let serial = page.serial();
-        assert!(rt;
-            BASE <= serial && next <= serial && serial < BASE + PAGES,
-            "the list doesn't rise at {serial}"
-        );
-        next = serial + 1;
-        let number = serial - BASE;
-        assert!(rt;
-            is_page(&page.into_page(), number),
-            "another page came under {serial}"
-        );
-        let at = number as usize;
-        assert!(rt; at < seen.len() && !seen[at], "{serial} came twice");
-        seen[at] = true;
+        next = note_page(rt, page, next, seen);
     }
+}
+
+// Notes the page, whose serial is at least `next`, and returns the serial behind it.
+fn note_page<R: Abort>(rt: &R, page: Isolated, next: u32, seen: &mut Vec<bool>) -> u32 {
+    let serial = page.serial();
+    assert!(rt;
+        BASE <= serial && next <= serial && serial < BASE + PAGES,
+        "the list doesn't rise at {serial}"
+    );
+    let number = serial - BASE;
+    assert!(rt;
+        is_page(&page.into_page(), number),
+        "another page came under {serial}"
+    );
+    let at = number as usize;
+    assert!(rt; at < seen.len() && !seen[at], "{serial} came twice");
+    seen[at] = true;
+    serial + 1
 }
 
 fn nothing_seen<R: Abort>(rt: &R, alloc: Global) -> Vec<bool> {
@@ -148,20 +158,67 @@ fn next_taker<R: Abort>(rt: &R, giver: &Giver, takers: &mut Vec<Taker>) -> Taker
     takers.pop().expect(rt, "a taker")
 }
 
-// The giver and all its takers settle: all pages were handed over.
-fn assert_settles<R: Abort>(rt: &R, giver: Giver, takers: Vec<Taker>)
+fn opened_for_one<R: Wait + Abort>(rt: &R, alloc: Global, base: u32, cap: usize) -> (Giver, Taker)
+    ensures giver { (result.0.closed ≡ false) × (result.0.given ≡ []) × (result.0.base ≡ base) }
+    ensures taker { (result.1.hand_over ≡ result.0.hand_over) × (result.1.ended ≡ false) }
+{
+    let (giver, mut takers) = opened(rt, alloc, base, 1, cap);
+    let one = next_taker(rt, &giver, &mut takers);
+    (giver, one)
+}
+
+fn next_two<R: Abort>(rt: &R, giver: &Giver, takers: &mut Vec<Taker>) -> (Taker, Taker)
+    requires { All (λ t. (t.hand_over ≡ giver.now.hand_over) × (t.ended ≡ false)) takers.old.items }
+    ensures hand_over { (result.0.hand_over ≡ giver.now.hand_over) × (result.1.hand_over ≡ giver.now.hand_over) }
+    ensures going { (result.0.ended ≡ false) × (result.1.ended ≡ false) }
+    ensures others { All (λ t. (t.hand_over ≡ giver.now.hand_over) × (t.ended ≡ false)) takers.new.items }
+{
+    let one = next_taker(rt, giver, takers);
+    let two = next_taker(rt, giver, takers);
+    (one, two)
+}
+
+// The giver and all its takers settle: so many pages were handed over from `base` on.
+fn assert_settles<R: Abort>(rt: &R, giver: Giver, takers: Vec<Taker>, base: u32, count: u32)
     requires { All (λ t. t.hand_over ≡ giver.hand_over) takers.items }
 {
     let Ok(settled) = settle(giver, takers) else {
         panic!(rt; "the hand-over isn't settled");
     };
-    assert!(rt; settled.base == BASE);
-    assert!(rt; settled.count == u64::from(PAGES));
+    assert!(rt; settled.base == base);
+    assert!(rt; settled.count == u64::from(count));
+}
+
+fn assert_settles_with_one<R: Abort>(
+    rt: &R,
+    alloc: Global,
+    giver: Giver,
+    one: Taker,
+    base: u32,
+    count: u32,
+)
+    requires { one.hand_over ≡ giver.hand_over }
+{
+    let takers = vec![in alloc; one].expect(rt, "memory");
+    assert_settles(rt, giver, takers, base, count);
+}
+
+// Notes what an ended taker took.
+fn note_done<R: Abort>(rt: &R, done: Done, seen: &mut Vec<bool>) -> Taker
+    ensures { result.hand_over ≡ done.taker.hand_over }
+{
+    let Done {
+        taker,
+        pages,
+        ended,
+    } = done;
+    assert!(rt; ended);
+    note_list(rt, pages, seen);
+    taker
 }
 
 fn to_one_taker<R: Threads + Wait + Abort + Sync>(rt: &R, alloc: Global, cap: usize) {
-    let (giver, mut takers) = opened(rt, alloc, BASE, 1, cap);
-    let one = next_taker(rt, &giver, &mut takers);
+    let (giver, one) = opened_for_one(rt, alloc, BASE, cap);
     let ((giver, closed), one) = join(
         rt,
         move || -> (Giver, bool)
@@ -173,18 +230,16 @@ fn to_one_taker<R: Threads + Wait + Abort + Sync>(rt: &R, alloc: Global, cap: us
             ensures { result.taker.hand_over ≡ one.hand_over }
         { take_all(rt, alloc, one) },
     );
-    assert!(rt; closed && one.ended);
+    assert!(rt; closed);
     let mut seen = nothing_seen(rt, alloc);
-    note_list(rt, one.pages, &mut seen);
+    let one = note_done(rt, one, &mut seen);
     assert_all_seen(rt, &seen);
-    let takers = vec![in alloc; one.taker].expect(rt, "memory");
-    assert_settles(rt, giver, takers);
+    assert_settles_with_one(rt, alloc, giver, one, BASE, PAGES);
 }
 
 fn to_two_takers<R: Threads + Wait + Abort + Sync>(rt: &R, alloc: Global, cap: usize) {
     let (giver, mut takers) = opened(rt, alloc, BASE, 2, cap);
-    let one = next_taker(rt, &giver, &mut takers);
-    let two = next_taker(rt, &giver, &mut takers);
+    let (one, two) = next_two(rt, &giver, &mut takers);
     let ((giver, closed), (one, two)) = join(
         rt,
         move || -> (Giver, bool)
@@ -196,12 +251,12 @@ fn to_two_takers<R: Threads + Wait + Abort + Sync>(rt: &R, alloc: Global, cap: u
             ensures { (result.0.taker.hand_over ≡ one.hand_over) × (result.1.taker.hand_over ≡ two.hand_over) }
         { take_by_two(rt, alloc, one, two) },
     );
-    assert!(rt; closed && one.ended && two.ended);
+    assert!(rt; closed);
     let mut seen = nothing_seen(rt, alloc);
-    note_list(rt, one.pages, &mut seen);
-    note_list(rt, two.pages, &mut seen);
+    let one = note_done(rt, one, &mut seen);
+    let two = note_done(rt, two, &mut seen);
     assert_all_seen(rt, &seen);
-    settle_with_the_last(rt, alloc, giver, one.taker, two.taker);
+    settle_with_the_last(rt, alloc, giver, one, two);
 }
 
 // Without the second taker the hand-over doesn't settle, and everything comes back; with it, it does.
@@ -213,34 +268,40 @@ fn settle_with_the_last<R: Abort>(rt: &R, alloc: Global, giver: Giver, one: Take
         panic!(rt; "settled without the second taker");
     };
     takers.push(two).expect(rt, "memory");
-    assert_settles(rt, giver, takers);
+    assert_settles(rt, giver, takers, BASE, PAGES);
 }
 
 fn to_four_takers<R: Threads + Wait + Abort + Sync>(rt: &R, alloc: Global, cap: usize) {
     let (giver, mut takers) = opened(rt, alloc, BASE, 4, cap);
-    let one = next_taker(rt, &giver, &mut takers);
-    let two = next_taker(rt, &giver, &mut takers);
-    let three = next_taker(rt, &giver, &mut takers);
-    let four = next_taker(rt, &giver, &mut takers);
-    let ((giver, closed), ((one, two), (three, four))) = join(
+    let front = next_two(rt, &giver, &mut takers);
+    let back = next_two(rt, &giver, &mut takers);
+    let ((giver, closed), (front, back)) = join(
         rt,
         move || -> (Giver, bool)
             requires { (giver.closed ≡ false) × (giver.given ≡ []) × (giver.base ≡ BASE) }
             ensures { result.0.hand_over ≡ giver.hand_over }
         { give_all(rt, giver, BASE, PAGES) },
         move || -> ((Done, Done), (Done, Done))
-            requires { (one.ended ≡ false) × (two.ended ≡ false) × (three.ended ≡ false) × (four.ended ≡ false) }
-            ensures { (result.0.0.taker.hand_over ≡ one.hand_over) × (result.0.1.taker.hand_over ≡ two.hand_over) × (result.1.0.taker.hand_over ≡ three.hand_over) × (result.1.1.taker.hand_over ≡ four.hand_over) }
-        { take_by_four(rt, alloc, (one, two), (three, four)) },
+            requires { (front.0.ended ≡ false) × (front.1.ended ≡ false) × (back.0.ended ≡ false) × (back.1.ended ≡ false) }
+            ensures { (result.0.0.taker.hand_over ≡ front.0.hand_over) × (result.0.1.taker.hand_over ≡ front.1.hand_over) × (result.1.0.taker.hand_over ≡ back.0.hand_over) × (result.1.1.taker.hand_over ≡ back.1.hand_over) }
+        { take_by_four(rt, alloc, front, back) },
     );
-    assert!(rt; closed && one.ended && two.ended && three.ended && four.ended);
+    assert!(rt; closed);
     let mut seen = nothing_seen(rt, alloc);
-    for list in [one.pages, two.pages, three.pages, four.pages] {
-        note_list(rt, list, &mut seen);
-    }
+    let (one, two) = note_both(rt, front, &mut seen);
+    let (three, four) = note_both(rt, back, &mut seen);
     assert_all_seen(rt, &seen);
-    let takers = vec![in alloc; one.taker, two.taker, three.taker, four.taker].expect(rt, "memory");
-    assert_settles(rt, giver, takers);
+    let takers = vec![in alloc; one, two, three, four].expect(rt, "memory");
+    assert_settles(rt, giver, takers, BASE, PAGES);
+}
+
+fn note_both<R: Abort>(rt: &R, done: (Done, Done), seen: &mut Vec<bool>) -> (Taker, Taker)
+    ensures { (result.0.hand_over ≡ done.0.taker.hand_over) × (result.1.hand_over ≡ done.1.taker.hand_over) }
+{
+    let (one, two) = done;
+    let one = note_done(rt, one, seen);
+    let two = note_done(rt, two, seen);
+    (one, two)
 }
 
 fn take_by_four<R: Threads + Wait + Sync>(
@@ -290,77 +351,71 @@ fn hands_600_pages_to_four_takers(rt: HostRuntime) {
 
 #[test]
 fn settles_with_no_page(rt: HostRuntime) {
-    let (mut giver, mut takers) = opened(&rt, rt.alloc(), 0, 1, 1);
-    let mut one = next_taker(&rt, &giver, &mut takers);
+    let (mut giver, mut one) = opened_for_one(&rt, rt.alloc(), 0, 1);
     assert!(rt; giver.close(&rt).is_ok());
     assert!(rt; matches!(one.take(&rt), Took::End));
-    let takers = vec![in rt.alloc(); one].expect(&rt, "memory");
-    let Ok(settled) = settle(giver, takers) else {
-        panic!(rt; "the hand-over isn't settled");
+    assert_settles_with_one(&rt, rt.alloc(), giver, one, 0, 0);
+}
+
+fn taken_page<R: Wait + Abort>(rt: &R, taker: &mut Taker) -> Isolated
+    requires { taker.old.ended ≡ false }
+    ensures { (taker.new.ended ≡ false) × (taker.new.hand_over ≡ taker.old.hand_over) }
+{
+    let Took::Page(page) = taker.take(rt) else {
+        panic!(rt; "the page is lost");
     };
-    assert!(rt; settled.base == 0);
-    assert!(rt; settled.count == 0);
+    page
 }
 
 #[test]
-fn hands_over_the_page_with_the_last_serial(rt: HostRuntime) -> Result<(), Fail> {
-    let (mut giver, mut takers) = opened(&rt, rt.alloc(), u32::MAX, 1, 2);
-    let mut one = next_taker(&rt, &giver, &mut takers);
-    let page = isolated(u32::MAX, 0).ok_or("in range")?;
-    assert!(rt; giver.give(&rt, page).is_ok());
+fn hands_over_the_page_with_the_last_serial(rt: HostRuntime) {
+    let (mut giver, mut one) = opened_for_one(&rt, rt.alloc(), u32::MAX, 2);
+    assert!(rt; giver.give(&rt, page_of(&rt, u32::MAX, 0)).is_ok());
     assert!(rt; giver.close(&rt).is_ok());
-    let Took::Page(page) = one.take(&rt) else {
-        panic!(rt; "the page is lost");
-    };
-    assert!(rt; page.serial() == u32::MAX);
+    assert!(rt; taken_page(&rt, &mut one).serial() == u32::MAX);
     assert!(rt; matches!(one.take(&rt), Took::End));
-    let takers = vec![in rt.alloc(); one].expect(&rt, "memory");
-    let Ok(settled) = settle(giver, takers) else {
-        panic!(rt; "the hand-over isn't settled");
-    };
-    assert!(rt; settled.base == u32::MAX);
-    assert!(rt; settled.count == 1);
-    Ok(())
+    assert_settles_with_one(&rt, rt.alloc(), giver, one, u32::MAX, 1);
 }
 
 #[test]
 fn opens_in_range_only(rt: HostRuntime) {
     for (takers, cap) in [(0, 1), (5, 1), (1, 0), (1, 65)] {
-        let Err(error) = open(&rt, rt.alloc(), 0, takers, cap) else {
-            panic!(rt; "opened for {takers} takers and room for {cap}");
-        };
-        assert!(rt; error == HandError::Range);
-        assert!(rt; error.number() == 22);
+        assert!(rt;
+            open(&rt, rt.alloc(), 0, takers, cap).err() == Some(HandError::Range),
+            "opened for {takers} takers and room for {cap}"
+        );
     }
+    assert!(rt; HandError::Range.number() == 22);
     assert!(rt; HandError::Memory.number() == 21);
 }
 
-#[test]
-fn hands_the_page_back_where_no_taker_is_left(rt: HostRuntime) -> Result<(), Fail> {
-    let (mut giver, takers) = opened(&rt, rt.alloc(), BASE, 2, 1);
-    drop(takers);
-    let page = isolated(BASE, 0).ok_or("in range")?;
-    let Err(page) = giver.give(&rt, page) else {
+fn page_back<R: Wait + Abort>(rt: &R, giver: &mut Giver, page: Isolated) -> Isolated
+    requires open { giver.old.closed ≡ false }
+    requires next { page.serial ≡ giver.old.base + length giver.old.given }
+    ensures { giver.new.closed ≡ false }
+{
+    let Err(page) = giver.give(rt, page) else {
         panic!(rt; "gave a page to nobody");
     };
-    assert!(rt; page.serial() == BASE);
-    assert!(rt; is_page(&page.into_page(), 0));
-    assert!(rt; giver.close(&rt).is_err());
-    Ok(())
+    page
 }
 
 #[test]
-fn answers_gone_behind_the_pages_where_the_giver_is_gone(rt: HostRuntime) -> Result<(), Fail> {
-    let (mut giver, mut takers) = opened(&rt, rt.alloc(), BASE, 1, 2);
-    let mut one = next_taker(&rt, &giver, &mut takers);
-    let page = isolated(BASE, 0).ok_or("in range")?;
-    assert!(rt; giver.give(&rt, page).is_ok());
-    drop(giver);
-    let Took::Page(page) = one.take(&rt) else {
-        panic!(rt; "the page is lost");
-    };
+fn hands_the_page_back_where_no_taker_is_left(rt: HostRuntime) {
+    let (mut giver, takers) = opened(&rt, rt.alloc(), BASE, 2, 1);
+    drop(takers);
+    let page = page_back(&rt, &mut giver, page_of(&rt, BASE, 0));
     assert!(rt; page.serial() == BASE);
+    assert!(rt; is_page(&page.into_page(), 0));
+    assert!(rt; giver.close(&rt).is_err());
+}
+
+#[test]
+fn answers_gone_behind_the_pages_where_the_giver_is_gone(rt: HostRuntime) {
+    let (mut giver, mut one) = opened_for_one(&rt, rt.alloc(), BASE, 2);
+    assert!(rt; giver.give(&rt, page_of(&rt, BASE, 0)).is_ok());
+    drop(giver);
+    assert!(rt; taken_page(&rt, &mut one).serial() == BASE);
     assert!(rt; matches!(one.take(&rt), Took::Gone));
     assert!(rt; matches!(one.take(&rt), Took::Gone));
-    Ok(())
 }
