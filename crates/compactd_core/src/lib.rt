@@ -5,4 +5,5 @@
 mod options;
 mod report;
 mod run;
+
 pub use run::program;

@@ -10,6 +10,7 @@ mod order;
 mod page;
 mod place;
 mod state;
+
 pub use flags::PageFlags;
 pub use hand::HandNo;
 pub use list::filled;
