@@ -3,3 +3,4 @@ pub mod Crews
 pub mod Errors
 pub mod Kept
 pub mod Rounds
+pub mod Runs

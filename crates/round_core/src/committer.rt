@@ -2,11 +2,12 @@ ghost use Rattle.std.specs.Prelude.{◌≡◌, false, IfOk, IfErr};
 ghost use Rattle.hand_core.specs.CopyEnds.{has_ended, IsTriedInTime};
 
 use crate::gate::{Gate, Point};
+use crate::memory::Outfit;
 use crate::shape::Shape;
 use crate::shared_zone::SharedZone;
 use crate::stack::stack;
 use frame_core::Serial;
-use hand_core::{Came, DoneSender, DoneTaker};
+use hand_core::{Came, DoneTaker};
 use std::collections::VecDeque;
 use std::sync::Wait;
 use std::sync::ledger::Ledger;
@@ -108,7 +109,8 @@ impl<M: Ledger, B: Ledger> Promise<Committed<M, B>> for HandsPartBack {
 
 pub(crate) type Committer<M, B> = PromisedHandle<Committed<M, B>, HandsPartBack>;
 
-/// Starts the committer. Where no thread can be started the senders go, so that its body, which then runs here, ends at once.
+/// Starts the committer. Where no thread can be started the outfit goes, and the senders with it, so that its body, which
+/// then runs here, ends at once.
 pub(crate) fn start_committer<
     's,
     'e,
@@ -122,15 +124,15 @@ pub(crate) fn start_committer<
     scope: &'s Scope<'s, &'e ()>,
     rt: &'e R,
     shared: &'e SharedZone<K, I, M, B>,
-    senders: Vec<DoneSender>,
+    outfit: Outfit,
     copies: DoneTaker,
     gathered: VecDeque<Copied>,
     seat: EndSeat<M, B>,
     gate: &'e G,
-) -> Result<(Vec<DoneSender>, Committer<M, B>), EndSeat<M, B>>
+) -> Result<(Outfit, Committer<M, B>), EndSeat<M, B>>
     requires copies { has_ended copies ≡ false }
     requires part { seat.parts ≡ 1 }
-    ensures senders { IfOk result (λ started. started.0 ≡ senders) }
+    ensures outfit { IfOk result (λ started. started.0 ≡ outfit) }
     ensures part { IfErr result (λ seat. seat.parts ≡ 1) }
 {
     let started = stack().spawn_scoped_with(
@@ -143,9 +145,9 @@ pub(crate) fn start_committer<
         { commit_all(rt, shared, copies, gathered, seat, gate) },
     );
     match started {
-        Ok(committer) => Ok((senders, committer)),
+        Ok(committer) => Ok((outfit, committer)),
         Err(refused) => {
-            drop(senders);
+            drop(outfit);
             let Committed { seat, .. } = (refused.value)();
             Err(seat)
         }

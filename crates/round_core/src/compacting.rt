@@ -1,19 +1,18 @@
-ghost use Rattle.std.specs.Prelude.{◌≡◌, ◌+◌, ◌*◌, ◌<◌, ◌≤◌, ◌↔◌, ℕ, true, false, [], All, map, Some, Err, IsOk, IfOk, IfErr, OnOk, IfSome, IfNone, length, vec_len, vec_capacity};
-ghost use Rattle.hand_core.specs.CopyEnds.{has_ended};
-ghost use Rattle.round_core.specs.Crews.{IsUnused, IsUnsent, IsNext, AreListed};
+ghost use Rattle.std.specs.Prelude.{◌≡◌, ◌+◌, ◌*◌, ◌<◌, ◌≤◌, ◌↔◌, ℕ, true, map, Some, IsOk, IfOk, IfErr, OnOk, OnSome, IfSome, IfNone, length};
 ghost use Rattle.round_core.specs.Kept.{AreAllEnded};
-ghost use Rattle.round_core.specs.Rounds.{answer_at, IsRound, IsRefusedEarly, IsAfter, IsWant};
+ghost use Rattle.round_core.specs.Rounds.{AreShared, IsRound, IsRefusedEarly, IsAfter, IsWant};
+ghost use Rattle.round_core.specs.Runs.{IsReady, AreJoined, HasRun};
 
-use crate::crew::{Memory, Ran, run};
+use crate::crew::{Ran, run};
 use crate::error::RoundError;
 use crate::gate::Gate;
+use crate::memory::{Joined, Memory, reserve};
 use crate::round::{Round, Stop};
 use crate::shape::Shape;
 use crate::shared_zone::SharedZone;
 use frame_core::Serial;
-use hand_core::{DoneSender, DoneTaker, Giver, Takers, done_open, open, settle};
-use std::alloc::{AllocError, Global};
-use std::collections::VecDeque;
+use hand_core::settle;
+use std::alloc::Global;
 use std::sync::Wait;
 use std::sync::ledger::Ledger;
 use std::thread;
@@ -49,18 +48,11 @@ pub fn compact<
     ensures early { IsRefusedEarly seats.old.scan seats.new.scan seats.old.ends seats.new.ends result }
 {
     let before = audit(rt, shared, seats)?;
-    let Ok(memory) = reserve(alloc, copiers, 256 * shared.blocks() as usize, cap) else {
+    let serials = 256 * shared.blocks() as usize;
+    let Some(memory) = reserve(rt, alloc, before.isolated, copiers, serials, cap) else {
         return Err(RoundError::Memory);
     };
-    let Ok((giver, takers)) = open(rt, alloc, before.isolated, copiers, cap) else {
-        return Err(RoundError::Memory);
-    };
-    let Ok((senders, copies)) = done_open(rt, alloc, copiers, cap) else {
-        return Err(RoundError::Memory);
-    };
-    let Some(ran) = in_scope(
-        rt, shared, seats, giver, takers, senders, copies, memory, gate,
-    ) else {
+    let Some(ran) = in_scope(rt, shared, seats, memory, gate) else {
         audit(rt, shared, seats)?;
         return Err(RoundError::NoWorker);
     };
@@ -102,33 +94,6 @@ fn audit<K: Shape, I: Ledger, N: Ledger, M: Ledger, B: Ledger, R: Wait>(
     Ok(audit)
 }
 
-/// Takes the memory of a round, with room for so many serials in the list of each copier, and for so many pages and copies at once.
-fn reserve(
-    alloc: Global,
-    copiers: usize,
-    serials: usize,
-    burst: usize,
-) -> Result<Memory, AllocError>
-    ensures serials { IfOk result (λ m. (vec_len m.serials ≡ copiers) × All (λ list. list.items ≡ []) m.serials.items) }
-    ensures copiers { IfOk result (λ m. (m.copiers.items ≡ []) × (copiers ≤ vec_capacity m.copiers)) }
-    ensures takers { IfOk result (λ m. (m.takers.items ≡ []) × (copiers ≤ vec_capacity m.takers)) }
-    ensures lists { IfOk result (λ m. (m.lists.items ≡ []) × (copiers ≤ vec_capacity m.lists)) }
-    ensures pages { IfOk result (λ m. m.pages.items ≡ []) }
-{
-    let mut lists_to_fill = Vec::with_capacity(alloc, copiers)?;
-    for _copier in 0..copiers {
-        lists_to_fill.push_reserved(Vec::with_capacity(alloc, serials)?);
-    }
-    Ok(Memory {
-        serials: lists_to_fill,
-        copiers: Vec::with_capacity(alloc, copiers)?,
-        takers: Vec::with_capacity(alloc, copiers)?,
-        lists: Vec::with_capacity(alloc, copiers)?,
-        pages: VecDeque::with_capacity(alloc, burst)?,
-        gathered: VecDeque::with_capacity(alloc, burst)?,
-    })
-}
-
 /// Runs the threads of a round in a scope of their own. None where one of them can't be started.
 fn in_scope<
     K: Shape + Send + Sync,
@@ -142,26 +107,13 @@ fn in_scope<
     rt: &R,
     shared: &SharedZone<K, I, M, B>,
     seats: &mut Seats<I, N, M, B>,
-    giver: Giver,
-    takers: Takers,
-    senders: Vec<DoneSender>,
-    copies: DoneTaker,
     memory: Memory,
     gate: &G,
 ) -> Option<Ran>
-    requires giver { IsNext seats.old.scan.count giver }
-    requires takers { All (IsUnused giver.hand_over) takers.items }
-    requires senders { (vec_len senders ≡ vec_len takers) × All IsUnsent senders.items }
-    requires copies { has_ended copies ≡ false }
+    requires memory { IsReady seats.old.scan.count memory }
     requires parts { 1 < seats.old.ends.parts }
-    requires serials { (vec_len memory.serials ≡ vec_len takers) × All (λ list. list.items ≡ []) memory.serials.items }
-    requires memory { (memory.copiers.items ≡ []) × (vec_len takers ≤ vec_capacity memory.copiers) × (memory.takers.items ≡ []) × (vec_len takers ≤ vec_capacity memory.takers) × (memory.lists.items ≡ []) × (vec_len takers ≤ vec_capacity memory.lists) }
-    requires pages { memory.pages.items ≡ [] }
-    ensures takers { IfSome result (λ ran. All (λ t. t.hand_over ≡ ran.giver.hand_over) ran.joined.takers.items) }
-    ensures listed { IfSome result (λ ran. ran.joined.whole ≡ true → AreListed (map (λ v. v.items) ran.joined.lists.items) ran.joined.takers.items) }
-    ensures count { IfSome result (λ ran. (ran.giver.base ≡ giver.base) × IfSome ran.stop (λ _. seats.new.scan.count ≡ ran.giver.base + length ran.giver.given)) }
-    ensures stopped { IfSome result (λ ran. IfSome ran.stop (λ stop. seats.new.scan.last ≡ Some (answer_at stop))) }
-    ensures rounds { IfSome result (λ _. seats.new.scan.rounds ≡ seats.old.scan.rounds + 1) }
+    ensures ran { IfSome result (HasRun seats.old.scan.count seats.new.scan) }
+    ensures rounds { OnSome result (seats.new.scan.rounds ≡ seats.old.scan.rounds + 1) }
     ensures none { IfNone result (seats.new.scan ≡ seats.old.scan) }
     ensures ends { (seats.new.ends.parts ≡ seats.old.ends.parts) × (seats.old.ends.moved ≤ seats.new.ends.moved) × (seats.old.ends.back ≤ seats.new.ends.back) }
 {
@@ -170,26 +122,15 @@ fn in_scope<
         thread::scope_env(),
         rt,
         move |scope| -> (&mut Seats<I, N, M, B>, Option<Ran>)
-            requires giver { IsNext lent.now.scan.count giver }
-            requires takers { All (IsUnused giver.hand_over) takers.items }
-            requires senders { (vec_len senders ≡ vec_len takers) × All IsUnsent senders.items }
-            requires copies { has_ended copies ≡ false }
+            requires memory { IsReady lent.now.scan.count memory }
             requires parts { 1 < lent.now.ends.parts }
-            requires serials { (vec_len memory.serials ≡ vec_len takers) × All (λ list. list.items ≡ []) memory.serials.items }
-            requires memory { (memory.copiers.items ≡ []) × (vec_len takers ≤ vec_capacity memory.copiers) × (memory.takers.items ≡ []) × (vec_len takers ≤ vec_capacity memory.takers) × (memory.lists.items ≡ []) × (vec_len takers ≤ vec_capacity memory.lists) }
-            requires pages { memory.pages.items ≡ [] }
-            ensures takers { IfSome result.1 (λ ran. All (λ t. t.hand_over ≡ ran.giver.hand_over) ran.joined.takers.items) }
-            ensures listed { IfSome result.1 (λ ran. ran.joined.whole ≡ true → AreListed (map (λ v. v.items) ran.joined.lists.items) ran.joined.takers.items) }
-            ensures count { IfSome result.1 (λ ran. (ran.giver.base ≡ giver.base) × IfSome ran.stop (λ _. result.0.now.scan.count ≡ ran.giver.base + length ran.giver.given)) }
-            ensures stopped { IfSome result.1 (λ ran. IfSome ran.stop (λ stop. result.0.now.scan.last ≡ Some (answer_at stop))) }
-            ensures rounds { IfSome result.1 (λ _. result.0.now.scan.rounds ≡ lent.entry.now.scan.rounds + 1) }
+            ensures ran { IfSome result.1 (HasRun lent.entry.now.scan.count result.0.now.scan) }
+            ensures rounds { OnSome result.1 (result.0.now.scan.rounds ≡ lent.entry.now.scan.rounds + 1) }
             ensures none { IfNone result.1 (result.0.now.scan ≡ lent.entry.now.scan) }
             ensures ends { (result.0.now.ends.parts ≡ lent.entry.now.ends.parts) × (lent.entry.now.ends.moved ≤ result.0.now.ends.moved) × (lent.entry.now.ends.back ≤ result.0.now.ends.back) }
             ensures lent { result.0.ghost_name ≡ lent.entry.ghost_name }
         {
-            let ran = run(
-                scope, rt, shared, lent, giver, takers, senders, copies, memory, gate,
-            );
+            let ran = run(scope, rt, shared, lent, memory, gate);
             (lent, ran)
         },
     );
@@ -205,40 +146,64 @@ fn wind_up<K: Shape, I: Ledger, N: Ledger, M: Ledger, B: Ledger, R: Wait>(
     before: &Audit,
     ran: Ran,
 ) -> Result<Round, RoundError>
-    requires takers { All (λ t. t.hand_over ≡ ran.giver.hand_over) ran.joined.takers.items }
-    requires listed { ran.joined.whole ≡ true → AreListed (map (λ v. v.items) ran.joined.lists.items) ran.joined.takers.items }
-    requires count { (ran.giver.base ≡ before.now.isolated) × IfSome ran.stop (λ _. seats.old.scan.count ≡ ran.giver.base + length ran.giver.given) }
-    requires stopped { IfSome ran.stop (λ stop. seats.old.scan.last ≡ Some (answer_at stop)) }
+    requires ran { HasRun before.now.isolated seats.old.scan ran }
     requires ends { (before.now.moved ≤ seats.old.ends.moved) × (before.now.back ≤ seats.old.ends.back) × (before.now.moved + before.now.back ≡ before.now.isolated) }
     ensures round { IfOk result (λ r. IsAfter before.now seats.old.scan seats.old.ends r) }
     ensures late { IfErr result (λ error. IsWant error → ⊥) }
     ensures same { (seats.new.scan ≡ seats.old.scan) × (seats.new.ends ≡ seats.old.ends) }
 {
-    let Ran {
-        giver,
-        joined,
-        stop,
-        stranger,
-    } = ran;
-    if let Some(serial) = stranger {
-        return Err(RoundError::Stranger(serial));
-    }
-    let Some(stopped) = stop else {
-        return Err(RoundError::Broken);
-    };
-    if !joined.whole {
-        return Err(RoundError::Broken);
-    }
-    let Ok(settled) = settle(giver, joined.takers) else {
-        return Err(RoundError::Broken);
-    };
+    let settled = settle_round(ran)?;
     let after = audit(rt, shared, seats)?;
     Ok(Round {
         base: settled.base,
         count: after.isolated - before.isolated,
         moved: after.moved - before.moved,
         back: after.back - before.back,
-        by_copier: joined.lists,
+        by_copier: settled.by_copier,
+        stopped: settled.stopped,
+    })
+}
+
+/// A round whose hand-over is settled.
+#[derive(Drop)]
+struct Settlement {
+    base: Serial,
+    by_copier: Vec<Vec<Serial>>,
+    stopped: Stop,
+}
+
+/// Settles the hand-over.
+fn settle_round(ran: Ran) -> Result<Settlement, RoundError>
+    requires { AreJoined ran.giver ran.joined }
+    ensures base { IfOk result (λ s. s.base ≡ ran.giver.base) }
+    ensures shared { IfOk result (λ s. AreShared (map (λ v. v.items) s.by_copier.items) s.base (length ran.giver.given)) }
+    ensures stopped { IfOk result (λ s. ran.stop ≡ Some s.stopped) }
+    ensures late { IfErr result (λ error. IsWant error → ⊥) }
+{
+    let stopped = stop_of(&ran)?;
+    let Ran { giver, joined, .. } = ran;
+    let Joined { takers, lists, .. } = joined;
+    let Ok(settled) = settle(giver, takers) else {
+        return Err(RoundError::Broken);
+    };
+    Ok(Settlement {
+        base: settled.base,
+        by_copier: lists,
         stopped,
     })
+}
+
+/// Why the scanner stopped, where all threads came to their ends and the zone refused no copy.
+fn stop_of(ran: &Ran) -> Result<Stop, RoundError>
+    ensures stop { IfOk result (λ stop. ran.now.stop ≡ Some stop) }
+    ensures whole { OnOk result (ran.now.joined.whole ≡ true) }
+    ensures late { IfErr result (λ error. IsWant error → ⊥) }
+{
+    if let Some(serial) = ran.stranger {
+        return Err(RoundError::Stranger(serial));
+    }
+    match ran.stop {
+        Some(stop) if ran.joined.whole => Ok(stop),
+        _ => Err(RoundError::Broken),
+    }
 }

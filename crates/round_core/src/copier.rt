@@ -1,11 +1,11 @@
-ghost use Rattle.std.specs.Prelude.{◌≡◌, ◌<◌, [], false, IfOk};
+ghost use Rattle.std.specs.Prelude.{◌≡◌, ◌<◌, [], false, IfSome};
 ghost use Rattle.round_core.specs.Copying.{IsCarried};
 ghost use Rattle.round_core.specs.Crews.{IsUnused, IsUnsent};
 
 use crate::gate::{Gate, Point};
 use crate::stack::stack;
 use frame_core::Serial;
-use hand_core::{DoneSender, Giver, Taker, Took};
+use hand_core::{DoneSender, Taker, Took};
 use std::snapshot::Snapshot;
 use std::sync::Wait;
 use std::thread::{Promise, PromisedHandle, Scope, Threads};
@@ -85,22 +85,20 @@ impl Promise<Carried> for Carries {
 
 pub(crate) type Copier = PromisedHandle<Carried, Carries>;
 
-/// Starts a copier. Where no thread can be started the giver goes, so that all copiers that run come to their ends.
+/// Starts a copier. None where no thread can be started.
 pub(crate) fn start_copier<'s, 'e, G: Gate, R: Threads + Wait + Sync>(
     scope: &'s Scope<'s, &'e ()>,
     rt: &'e R,
-    giver: Giver,
     taker: Taker,
     sender: DoneSender,
     serials: Vec<Serial>,
     gate: &'e G,
     who: usize,
-) -> Result<(Giver, Copier), ()>
+) -> Option<Copier>
     requires taker { IsUnused taker.hand_over taker }
     requires sender { IsUnsent sender }
     requires serials { serials.items ≡ [] }
-    ensures giver { IfOk result (λ started. started.0 ≡ giver) }
-    ensures taker { IfOk result (λ started. started.1.promise.taker.value ≡ taker) }
+    ensures { IfSome result (λ copier. copier.promise.taker.value ≡ taker) }
 {
     let promise = Carries {
         taker: Snapshot::of(&taker),
@@ -117,7 +115,7 @@ pub(crate) fn start_copier<'s, 'e, G: Gate, R: Threads + Wait + Sync>(
         { carry(rt, taker, sender, serials, gate, who) },
     );
     match started {
-        Ok(copier) => Ok((giver, copier)),
-        Err(_) => Err(()),
+        Ok(copier) => Some(copier),
+        Err(_) => None,
     }
 }

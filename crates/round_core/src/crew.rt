@@ -1,45 +1,23 @@
-ghost use Rattle.std.specs.Prelude.{◌≡◌, ◌+◌, ◌<◌, ◌≤◌, ℕ, true, false, [], ◌∷◌, ◌++◌, All, map, Some, IfOk, IfErr, IfSome, IfNone, length, vec_len, vec_capacity};
+ghost use Rattle.std.specs.Prelude.{◌≡◌, ◌+◌, ◌<◌, ◌≤◌, ℕ, false, All, IfOk, IfErr, OnSome, IfSome, IfNone, vec_len, []};
 ghost use Rattle.hand_core.specs.CopyEnds.{has_ended};
-ghost use Rattle.round_core.specs.Crews.{IsUnused, IsUnsent, IsNext, AreListed};
-ghost use Rattle.round_core.specs.Rounds.{answer_at};
+ghost use Rattle.round_core.specs.Runs.{IsFresh, IsUnstarted, IsEmpty, IsReady, AreJoined, HasRun};
 
 use crate::committer::{Committed, Committer, start_committer};
 use crate::copier::{Carried, Copier, start_copier};
 use crate::gate::Gate;
+use crate::memory::{Bursts, Joined, Memory, Outfit};
 use crate::round::Stop;
 use crate::scanner::scan_all;
 use crate::shape::Shape;
 use crate::shared_zone::SharedZone;
 use frame_core::Serial;
-use hand_core::{DoneSender, DoneTaker, Giver, Taker, Takers};
+use hand_core::{DoneTaker, Giver};
 use std::collections::VecDeque;
 use std::sync::Wait;
 use std::sync::ledger::Ledger;
 use std::thread::{Scope, Threads};
 use word_core::{Copied, Isolated};
-use zone_core::{EndSeat, Seats};
-
-/// The memory of a round besides its queues.
-#[derive(Drop)]
-pub(crate) struct Memory {
-    /// An empty list of serials for each copier.
-    pub(crate) serials: Vec<Vec<Serial>>,
-    pub(crate) copiers: Vec<Copier>,
-    pub(crate) takers: Vec<Taker>,
-    pub(crate) lists: Vec<Vec<Serial>>,
-    /// For pages that are isolated under one lock.
-    pub(crate) pages: VecDeque<Isolated>,
-    /// For copies that are committed under one lock.
-    pub(crate) gathered: VecDeque<Copied>,
-}
-
-/// What the copiers handed back.
-#[derive(Drop)]
-pub(crate) struct Joined {
-    pub(crate) takers: Takers,
-    pub(crate) lists: Vec<Vec<Serial>>,
-    pub(crate) whole: bool,
-}
+use zone_core::{EndSeat, ScanSeat, Seats};
 
 /// How a round ran.
 #[derive(Drop)]
@@ -50,40 +28,37 @@ pub(crate) struct Ran {
     pub(crate) stranger: Option<Serial>,
 }
 
-/// Starts the copiers, the last of them first. Where one can't be started those that run come to their ends.
+/// The threads of a round, and the giver of their pages.
+#[derive(Drop)]
+struct Crew<M: Ledger, B: Ledger> {
+    giver: Giver,
+    copiers: Vec<Copier>,
+    committer: Committer<M, B>,
+}
+
+/// Starts the copiers, the last of them first. None where one can't be started.
 fn start_copiers<'s, 'e, G: Gate, R: Threads + Wait + Sync>(
     scope: &'s Scope<'s, &'e ()>,
     rt: &'e R,
-    mut giver: Giver,
-    mut takers: Takers,
-    mut senders: Vec<DoneSender>,
-    mut serials: Vec<Vec<Serial>>,
-    mut copiers: Vec<Copier>,
+    outfit: &mut Outfit,
     gate: &'e G,
-) -> Result<(Giver, Vec<Copier>), Vec<Copier>>
-    requires takers { All (IsUnused giver.hand_over) takers.items }
-    requires senders { (vec_len senders ≡ vec_len takers) × All IsUnsent senders.items }
-    requires serials { (vec_len serials ≡ vec_len takers) × All (λ list. list.items ≡ []) serials.items }
-    requires copiers { (copiers.items ≡ []) × (vec_len takers ≤ vec_capacity copiers) }
-    ensures giver { IfOk result (λ started. started.0 ≡ giver) }
-    ensures copiers { IfOk result (λ started. (vec_len started.1 ≡ vec_len takers) × All (λ c. c.promise.taker.value.hand_over ≡ giver.hand_over) started.1.items) }
+) -> Option<()>
+    requires { IsUnstarted outfit.old }
+    ensures giver { outfit.new.giver ≡ outfit.old.giver }
+    ensures copiers { OnSome result ((vec_len outfit.new.copiers ≡ vec_len outfit.old.takers) × All (λ c. c.promise.taker.value.hand_over ≡ outfit.old.giver.hand_over) outfit.new.copiers.items) }
 {
-    while let Some(taker) = takers.pop() {
-        let Some(sender) = senders.pop() else {
+    while let Some(taker) = outfit.takers.pop() {
+        let Some(sender) = outfit.senders.pop() else {
             unreachable!()
         };
-        let Some(list) = serials.pop() else {
+        let Some(list) = outfit.serials.pop() else {
             unreachable!()
         };
-        let who = takers.len() + 1;
-        let Ok((back, copier)) = start_copier(scope, rt, giver, taker, sender, list, gate, who)
-        else {
-            return Err(copiers);
-        };
-        giver = back;
-        copiers.push_reserved(copier);
+        let who = outfit.takers.len() + 1;
+        let copier = start_copier(scope, rt, taker, sender, list, gate, who)?;
+        outfit.copiers.push_reserved(copier);
     }
-    Ok((giver, copiers))
+    Some(())
 }
 
 /// Joins the copiers, the first of them first.
@@ -91,49 +66,133 @@ fn join_copiers<R: Threads>(
     rt: &R,
     giver: &Giver,
     mut copiers: Vec<Copier>,
-    mut takers: Takers,
-    mut lists: Vec<Vec<Serial>>,
+    mut joined: Joined,
 ) -> Joined
     requires copiers { All (λ c. c.promise.taker.value.hand_over ≡ giver.now.hand_over) copiers.items }
-    requires takers { (takers.items ≡ []) × (vec_len copiers ≤ vec_capacity takers) }
-    requires lists { (lists.items ≡ []) × (vec_len copiers ≤ vec_capacity lists) }
-    ensures takers { All (λ t. t.hand_over ≡ giver.now.hand_over) result.takers.items }
-    ensures listed { result.whole ≡ true → AreListed (map (λ v. v.items) result.lists.items) result.takers.items }
+    requires joined { IsEmpty (vec_len copiers) joined }
+    ensures { AreJoined giver.now result }
 {
-    let mut whole = true;
     while let Some(copier) = copiers.pop() {
         let Carried {
             taker,
             serials,
-            whole: came_to_end,
+            whole,
             ..
         } = copier.join(rt);
-        takers.push_reserved(taker);
-        lists.push_reserved(serials);
-        whole &= came_to_end;
+        joined.takers.push_reserved(taker);
+        joined.lists.push_reserved(serials);
+        joined.whole &= whole;
     }
-    Joined {
-        takers,
-        lists,
-        whole,
-    }
+    joined
+}
+
+/// The copiers that were started. All else goes, so that they come to their ends.
+fn let_go(outfit: Outfit) -> Vec<Copier> {
+    outfit.copiers
 }
 
 /// Joins the copiers that run, and then the committer.
 fn join_early<M: Ledger, B: Ledger, R: Threads>(
     rt: &R,
-    mut copiers: Vec<Copier>,
+    outfit: Outfit,
     committer: Committer<M, B>,
-) -> Committed<M, B>
-    ensures { result.seat.parts ≡ 1 }
+) -> EndSeat<M, B>
+    ensures { result.parts ≡ 1 }
 {
+    let mut copiers = let_go(outfit);
     while let Some(copier) = copiers.pop() {
         drop(copier.join(rt));
     }
-    committer.join(rt)
+    let Committed { seat, .. } = committer.join(rt);
+    seat
 }
 
-/// Runs the threads of a round, with the scanner on this one. None where one of them can't be started.
+/// Starts the committer and the copiers. Where one of them can't be started those that run come to their ends, and the part is handed
+/// back.
+fn start_crew<
+    's,
+    'e,
+    K: Shape + Send + Sync,
+    I: Ledger + Send + Sync,
+    M: Ledger + Send + Sync,
+    B: Ledger + Send + Sync,
+    G: Gate,
+    R: Threads + Wait + Sync,
+>(
+    scope: &'s Scope<'s, &'e ()>,
+    rt: &'e R,
+    shared: &'e SharedZone<K, I, M, B>,
+    outfit: Outfit,
+    copies: DoneTaker,
+    gathered: VecDeque<Copied>,
+    part: EndSeat<M, B>,
+    gate: &'e G,
+) -> Result<Crew<M, B>, EndSeat<M, B>>
+    requires outfit { IsUnstarted outfit }
+    requires copies { has_ended copies ≡ false }
+    requires part { part.parts ≡ 1 }
+    ensures giver { IfOk result (λ crew. crew.giver ≡ outfit.giver) }
+    ensures copiers { IfOk result (λ crew. (vec_len crew.copiers ≡ vec_len outfit.takers) × All (λ c. c.promise.taker.value.hand_over ≡ outfit.giver.hand_over) crew.copiers.items) }
+    ensures part { IfErr result (λ part. part.parts ≡ 1) }
+{
+    let (mut outfit, committer) = start_committer(
+        scope, rt, shared, outfit, copies, gathered, part, gate,
+    )?;
+    if start_copiers(scope, rt, &mut outfit, gate).is_none() {
+        return Err(join_early(rt, outfit, committer));
+    }
+    let Outfit { giver, copiers, .. } = outfit;
+    Ok(Crew {
+        giver,
+        copiers,
+        committer,
+    })
+}
+
+/// Runs a round with the scanner on this thread, and joins its crew.
+fn run_crew<K: Shape, I: Ledger, N: Ledger, M: Ledger, B: Ledger, G: Gate, R: Threads + Wait>(
+    rt: &R,
+    shared: &SharedZone<K, I, M, B>,
+    scan: &mut ScanSeat<I, N>,
+    ends: &mut EndSeat<M, B>,
+    crew: Crew<M, B>,
+    mut pages: VecDeque<Isolated>,
+    joined: Joined,
+    gate: &G,
+) -> Ran
+    requires giver { IsFresh scan.old.count crew.giver }
+    requires copiers { All (λ c. c.promise.taker.value.hand_over ≡ crew.giver.hand_over) crew.copiers.items }
+    requires pages { pages.items ≡ [] }
+    requires joined { IsEmpty (vec_len crew.copiers) joined }
+    ensures ran { HasRun scan.old.count scan.new result }
+    ensures rounds { scan.new.rounds ≡ scan.old.rounds + 1 }
+    ensures ends { (ends.new.parts ≡ ends.old.parts + 1) × (ends.old.moved ≤ ends.new.moved) × (ends.old.back ≤ ends.new.back) }
+{
+    let Crew {
+        mut giver,
+        copiers,
+        committer,
+    } = crew;
+    shared.begin_round(rt, scan);
+    let stop = scan_all(rt, shared, scan, ends, &mut giver, &mut pages, gate);
+    let _ = giver.close(rt);
+    let mut joined = join_copiers(rt, &giver, copiers, joined);
+    let Committed {
+        seat,
+        stranger,
+        whole,
+    } = committer.join(rt);
+    ends.join(seat);
+    joined.whole &= whole;
+    Ran {
+        giver,
+        joined,
+        stop,
+        stranger,
+    }
+}
+
+/// Runs the threads of a round. None where one of them can't be started.
 pub(crate) fn run<
     's,
     'e,
@@ -149,74 +208,32 @@ pub(crate) fn run<
     rt: &'e R,
     shared: &'e SharedZone<K, I, M, B>,
     seats: &mut Seats<I, N, M, B>,
-    giver: Giver,
-    takers: Takers,
-    senders: Vec<DoneSender>,
-    copies: DoneTaker,
     memory: Memory,
     gate: &'e G,
 ) -> Option<Ran>
-    requires giver { IsNext seats.old.scan.count giver }
-    requires takers { All (IsUnused giver.hand_over) takers.items }
-    requires senders { (vec_len senders ≡ vec_len takers) × All IsUnsent senders.items }
-    requires copies { has_ended copies ≡ false }
+    requires memory { IsReady seats.old.scan.count memory }
     requires parts { 1 < seats.old.ends.parts }
-    requires serials { (vec_len memory.serials ≡ vec_len takers) × All (λ list. list.items ≡ []) memory.serials.items }
-    requires memory { (memory.copiers.items ≡ []) × (vec_len takers ≤ vec_capacity memory.copiers) × (memory.takers.items ≡ []) × (vec_len takers ≤ vec_capacity memory.takers) × (memory.lists.items ≡ []) × (vec_len takers ≤ vec_capacity memory.lists) }
-    requires pages { memory.pages.items ≡ [] }
-    ensures takers { IfSome result (λ ran. All (λ t. t.hand_over ≡ ran.giver.hand_over) ran.joined.takers.items) }
-    ensures listed { IfSome result (λ ran. ran.joined.whole ≡ true → AreListed (map (λ v. v.items) ran.joined.lists.items) ran.joined.takers.items) }
-    ensures count { IfSome result (λ ran. (ran.giver.base ≡ giver.base) × IfSome ran.stop (λ _. seats.new.scan.count ≡ ran.giver.base + length ran.giver.given)) }
-    ensures stopped { IfSome result (λ ran. IfSome ran.stop (λ stop. seats.new.scan.last ≡ Some (answer_at stop))) }
-    ensures rounds { IfSome result (λ _. seats.new.scan.rounds ≡ seats.old.scan.rounds + 1) }
+    ensures ran { IfSome result (HasRun seats.old.scan.count seats.new.scan) }
+    ensures rounds { OnSome result (seats.new.scan.rounds ≡ seats.old.scan.rounds + 1) }
     ensures none { IfNone result (seats.new.scan ≡ seats.old.scan) }
     ensures ends { (seats.new.ends.parts ≡ seats.old.ends.parts) × (seats.old.ends.moved ≤ seats.new.ends.moved) × (seats.old.ends.back ≤ seats.new.ends.back) }
 {
     let Memory {
-        serials,
-        copiers,
-        takers: joined,
-        lists,
-        pages,
-        gathered,
+        outfit,
+        copies,
+        bursts,
+        joined,
     } = memory;
+    let Bursts { pages, gathered } = bursts;
     let Seats { scan, ends } = seats;
     let Some(part) = ends.split() else {
         unreachable!()
     };
-    let (senders, committer) = match start_committer(
-        scope, rt, shared, senders, copies, gathered, part, gate,
-    ) {
-        Ok(started) => started,
+    match start_crew(scope, rt, shared, outfit, copies, gathered, part, gate) {
+        Ok(crew) => Some(run_crew(rt, shared, scan, ends, crew, pages, joined, gate)),
         Err(part) => {
             ends.join(part);
-            return None;
+            None
         }
-    };
-    let started = start_copiers(scope, rt, giver, takers, senders, serials, copiers, gate);
-    let (mut giver, copiers) = match started {
-        Ok(started) => started,
-        Err(copiers) => {
-            let Committed { seat, .. } = join_early(rt, copiers, committer);
-            ends.join(seat);
-            return None;
-        }
-    };
-    shared.begin_round(rt, scan);
-    let stop = scan_all(rt, shared, scan, ends, &mut giver, pages, gate);
-    let _ = giver.close(rt);
-    let mut joined = join_copiers(rt, &giver, copiers, joined, lists);
-    let Committed {
-        seat,
-        stranger,
-        whole,
-    } = committer.join(rt);
-    ends.join(seat);
-    joined.whole &= whole;
-    Some(Ran {
-        giver,
-        joined,
-        stop,
-        stranger,
-    })
+    }
 }

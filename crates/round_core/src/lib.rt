@@ -11,6 +11,7 @@ mod copier;
 mod crew;
 mod error;
 mod gate;
+mod memory;
 mod round;
 mod scanner;
 mod shape;

@@ -22,11 +22,11 @@ pub(crate) fn scan_all<K: Shape, I: Ledger, N: Ledger, M: Ledger, B: Ledger, G: 
     scan: &mut ScanSeat<I, N>,
     ends: &mut EndSeat<M, B>,
     giver: &mut Giver,
-    mut pages: VecDeque<Isolated>,
+    pages: &mut VecDeque<Isolated>,
     gate: &G,
 ) -> Option<Stop>
     requires next { IsNext scan.old.count giver.old }
-    requires pages { pages.items ≡ [] }
+    requires pages { pages.old.items ≡ [] }
     ensures giver { giver.new ≡ record giver.old { given = giver.new.given } }
     ensures count { IfSome result (λ _. IsNext scan.new.count giver.new) }
     ensures stopped { IfSome result (λ stop. scan.new.last ≡ Some (answer_at stop)) }
@@ -34,8 +34,8 @@ pub(crate) fn scan_all<K: Shape, I: Ledger, N: Ledger, M: Ledger, B: Ledger, G: 
     ensures ends { (ends.new.parts ≡ ends.old.parts) × (ends.new.moved ≡ ends.old.moved) × (ends.old.back ≤ ends.new.back) }
 {
     for _ in rt.forever() {
-        let stop = shared.isolate_burst(rt, scan, &mut pages);
-        give_all(rt, shared, ends, giver, &mut pages, gate)?;
+        let stop = shared.isolate_burst(rt, scan, pages);
+        give_all(rt, shared, ends, giver, pages, gate)?;
         if stop.is_some() {
             return stop;
         }

@@ -1,0 +1,188 @@
+//! The memory of a round, which is taken before it begins.
+
+ghost use Rattle.std.specs.Prelude.{◌≡◌, ◌<◌, ◌≤◌, [], false, true, All, IfOk, IfSome, vec_len, vec_capacity};
+ghost use Rattle.hand_core.specs.CopyEnds.{has_ended};
+ghost use Rattle.round_core.specs.Crews.{IsUnused, IsUnsent};
+ghost use Rattle.round_core.specs.Runs.{IsFresh, IsEmpty, IsReady};
+
+use crate::copier::Copier;
+use frame_core::Serial;
+use hand_core::{DoneSender, DoneTaker, Giver, HandError, Taker, Takers, done_open, open};
+use std::alloc::{AllocError, Global};
+use std::collections::VecDeque;
+use word_core::{Copied, Isolated};
+
+/// The memory of a round: its queues and lists.
+#[derive(Drop)]
+pub(crate) struct Memory {
+    pub(crate) outfit: Outfit,
+    pub(crate) copies: DoneTaker,
+    pub(crate) bursts: Bursts,
+    pub(crate) joined: Joined,
+}
+
+/// What the copiers are started with. Once the giver and the senders are gone, all threads that run come to their ends.
+#[derive(Drop)]
+pub(crate) struct Outfit {
+    pub(crate) giver: Giver,
+    pub(crate) takers: Takers,
+    pub(crate) senders: Vec<DoneSender>,
+    /// An empty list of serials for each copier.
+    pub(crate) serials: Vec<Vec<Serial>>,
+    /// Those that were started.
+    pub(crate) copiers: Vec<Copier>,
+}
+
+/// Lists of what is done under one lock.
+#[derive(Drop)]
+pub(crate) struct Bursts {
+    /// For pages that are isolated.
+    pub(crate) pages: VecDeque<Isolated>,
+    /// For copies that are committed.
+    pub(crate) gathered: VecDeque<Copied>,
+}
+
+/// What the copiers handed back.
+#[derive(Drop)]
+pub(crate) struct Joined {
+    pub(crate) takers: Vec<Taker>,
+    pub(crate) lists: Vec<Vec<Serial>>,
+    pub(crate) whole: bool,
+}
+
+/// All ends of both queues.
+#[derive(Drop)]
+struct Queues {
+    giver: Giver,
+    takers: Takers,
+    senders: Vec<DoneSender>,
+    copies: DoneTaker,
+}
+
+/// The lists for the copiers.
+#[derive(Drop)]
+struct Lists {
+    serials: Vec<Vec<Serial>>,
+    copiers: Vec<Copier>,
+    joined: Joined,
+}
+
+/// Takes the memory of a round whose first page has the serial `base`, with room for so many serials in the list of each copier,
+/// and for `cap` pages and copies in the queues and under one lock. None where there is none.
+pub(crate) fn reserve<R>(
+    rt: &R,
+    alloc: Global,
+    base: Serial,
+    copiers: usize,
+    serials: usize,
+    cap: usize,
+) -> Option<Memory>
+    requires { 0 < copiers }
+    ensures { IfSome result (IsReady base) }
+{
+    let Ok(lists) = reserve_lists(alloc, copiers, serials) else {
+        return None;
+    };
+    let Ok(bursts) = reserve_bursts(alloc, cap) else {
+        return None;
+    };
+    let Ok(queues) = open_queues(rt, alloc, base, copiers, cap) else {
+        return None;
+    };
+    let Lists {
+        serials,
+        copiers,
+        joined,
+    } = lists;
+    let Queues {
+        giver,
+        takers,
+        senders,
+        copies,
+    } = queues;
+    Some(Memory {
+        outfit: Outfit {
+            giver,
+            takers,
+            senders,
+            serials,
+            copiers,
+        },
+        copies,
+        bursts,
+        joined,
+    })
+}
+
+/// Takes the memory of the lists of so many copiers, each with room for so many serials.
+fn reserve_lists(alloc: Global, copiers: usize, serials: usize) -> Result<Lists, AllocError>
+    ensures serials { IfOk result (λ l. (vec_len l.serials ≡ copiers) × All (λ list. list.items ≡ []) l.serials.items) }
+    ensures copiers { IfOk result (λ l. (l.copiers.items ≡ []) × (copiers ≤ vec_capacity l.copiers)) }
+    ensures joined { IfOk result (λ l. IsEmpty copiers l.joined) }
+{
+    Ok(Lists {
+        serials: empty_lists(alloc, copiers, serials)?,
+        copiers: Vec::with_capacity(alloc, copiers)?,
+        joined: reserve_joined(alloc, copiers)?,
+    })
+}
+
+/// So many empty lists, each with room for so many serials.
+fn empty_lists(
+    alloc: Global,
+    copiers: usize,
+    serials: usize,
+) -> Result<Vec<Vec<Serial>>, AllocError>
+    ensures { IfOk result (λ lists. (vec_len lists ≡ copiers) × All (λ list. list.items ≡ []) lists.items) }
+{
+    let mut lists = Vec::with_capacity(alloc, copiers)?;
+    for _copier in 0..copiers {
+        lists.push_reserved(Vec::with_capacity(alloc, serials)?);
+    }
+    Ok(lists)
+}
+
+/// Takes the memory of what so many copiers hand back.
+fn reserve_joined(alloc: Global, copiers: usize) -> Result<Joined, AllocError>
+    ensures { IfOk result (IsEmpty copiers) }
+{
+    Ok(Joined {
+        takers: Vec::with_capacity(alloc, copiers)?,
+        lists: Vec::with_capacity(alloc, copiers)?,
+        whole: true,
+    })
+}
+
+/// Takes the memory of bursts of so many pages and copies.
+fn reserve_bursts(alloc: Global, burst: usize) -> Result<Bursts, AllocError>
+    ensures { IfOk result (λ b. b.pages.items ≡ []) }
+{
+    Ok(Bursts {
+        pages: VecDeque::with_capacity(alloc, burst)?,
+        gathered: VecDeque::with_capacity(alloc, burst)?,
+    })
+}
+
+/// Opens both queues.
+fn open_queues<R>(
+    rt: &R,
+    alloc: Global,
+    base: Serial,
+    copiers: usize,
+    cap: usize,
+) -> Result<Queues, HandError>
+    requires { 0 < copiers }
+    ensures giver { IfOk result (λ q. IsFresh base q.giver) }
+    ensures takers { IfOk result (λ q. (vec_len q.takers ≡ copiers) × All (IsUnused q.giver.hand_over) q.takers.items) }
+    ensures senders { IfOk result (λ q. (vec_len q.senders ≡ copiers) × All IsUnsent q.senders.items) }
+    ensures copies { IfOk result (λ q. has_ended q.copies ≡ false) }
+{
+    let (giver, takers) = open(rt, alloc, base, copiers, cap)?;
+    let (senders, copies) = done_open(rt, alloc, copiers, cap)?;
+    Ok(Queues {
+        giver,
+        takers,
+        senders,
+        copies,
+    })
+}
