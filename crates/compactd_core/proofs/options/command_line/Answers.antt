@@ -19,25 +19,25 @@ returns-clause-options c =
     let capacity : c.range-2.result ≡ Signed (pos 1) (pos 64) = search rules in
     let journal : c.range-3.result ≡ Signed (pos 1) (pos 65536) = search rules in
     let start : app_of c.after_help.result ≡ with_version (new_app (codes "compactd")) =
-    ap app_of_fields c.after_help.ensures ∙ ap app_of_fields c.about.ensures ∙ ap app_of_fields c.version.ensures ∙ ap with_version c.new-4.ensures.app in
+    ap app_of_fields c.after_help.ensures ∙ ap app_of_fields c.about.ensures ∙ ap app_of_fields c.version.ensures ∙ ap with_version c.new.ensures.app in
     let one : app_of c.in_ok-arg.field-0 ≡ with_rule (with_version (new_app (codes "compactd"))) (number_rule (codes "copiers") 4) =
-    c.in_ok-arg.ensures.shape c.number_option-copiers.ensures.local ∙ ap₂ with_rule start (c.number_option-copiers.ensures.rule 4 copiers) in
+    c.in_ok-arg.ensures.shape c.number_option.ensures.local ∙ ap₂ with_rule start (c.number_option.ensures.rule 4 copiers) in
     let two : app_of c.in_ok-arg-2.field-0 ≡ with_rule (with_rule (with_version (new_app (codes "compactd"))) (number_rule (codes "copiers") 4)) (number_rule (codes "capacity") 64) =
-    c.in_ok-arg-2.ensures.shape c.number_option-capacity.ensures.local ∙ ap₂ with_rule one (c.number_option-capacity.ensures.rule 64 capacity) in
-    IfOk-weaker c.arg-3.result _ _ (λ command added. added.shape c.number_option-journal.ensures.local ∙ ap₂ with_rule two (c.number_option-journal.ensures.rule 65536 journal)) c.arg-3.ensures
+    c.in_ok-arg-2.ensures.shape c.number_option-2.ensures.local ∙ ap₂ with_rule one (c.number_option-2.ensures.rule 64 capacity) in
+    IfOk-weaker c.arg-3.result _ _ (λ command added. added.shape c.number_option-3.ensures.local ∙ ap₂ with_rule two (c.number_option-3.ensures.rule 65536 journal)) c.arg-3.ensures
 
 pub returns-clause-plain : goal.returns-clause-plain
 returns-clause-plain c =
     let none : args_of c.after_help.result ≡ [] = search rules in
     let groups : groups_of c.after_help.result ≡ [] = search rules in
     let start : IsPlain c.after_help.result = (subst (All IsPlainArg) (sym none) (All-nil IsPlainArg), groups) in
-    let one = added_plain _ _ c.number_option-copiers.result c.in_ok-arg.ensures start c.number_option-copiers.ensures.plain in
-    let two = added_plain _ _ c.number_option-capacity.result c.in_ok-arg-2.ensures one c.number_option-capacity.ensures.plain in
-    IfOk-weaker c.arg-3.result _ _ (λ command added. added_plain _ command c.number_option-journal.result added two c.number_option-journal.ensures.plain) c.arg-3.ensures
+    let one = added_plain _ _ c.number_option.result c.in_ok-arg.ensures start c.number_option.ensures.plain in
+    let two = added_plain _ _ c.number_option-2.result c.in_ok-arg-2.ensures one c.number_option-2.ensures.plain in
+    IfOk-weaker c.arg-3.result _ _ (λ command added. added_plain _ command c.number_option-3.result added two c.number_option-3.ensures.plain) c.arg-3.ensures
 
 pub returns-clause-local : goal.returns-clause-local
 returns-clause-local c =
     let start : (out-Command c.after_help.result).has_globals ≡ false = search rules in
-    let one : (out-Command c.in_ok-arg.field-0).has_globals ≡ false = c.in_ok-arg.ensures.globals ∙ ap₂ (λ (a b : Bool). a || b) start c.number_option-copiers.ensures.local in
-    let two : (out-Command c.in_ok-arg-2.field-0).has_globals ≡ false = c.in_ok-arg-2.ensures.globals ∙ ap₂ (λ (a b : Bool). a || b) one c.number_option-capacity.ensures.local in
-    IfOk-weaker c.arg-3.result _ _ (λ command added. added.globals ∙ ap₂ (λ (a b : Bool). a || b) two c.number_option-journal.ensures.local) c.arg-3.ensures
+    let one : (out-Command c.in_ok-arg.field-0).has_globals ≡ false = c.in_ok-arg.ensures.globals ∙ ap₂ (λ (a b : Bool). a || b) start c.number_option.ensures.local in
+    let two : (out-Command c.in_ok-arg-2.field-0).has_globals ≡ false = c.in_ok-arg-2.ensures.globals ∙ ap₂ (λ (a b : Bool). a || b) one c.number_option-2.ensures.local in
+    IfOk-weaker c.arg-3.result _ _ (λ command added. added.globals ∙ ap₂ (λ (a b : Bool). a || b) two c.number_option-3.ensures.local) c.arg-3.ensures
