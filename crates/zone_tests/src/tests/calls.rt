@@ -7,7 +7,7 @@ use zone_core::{Info, Look, ZoneError};
 pub type Name = (u32, u32);
 
 /// A call of a zone by client 0.
-#[derive(Clone, Copy, Debug)]
+#[derive(Clone, Copy)]
 pub enum Call {
     Map(Name),
     MapUnmovable(Name),

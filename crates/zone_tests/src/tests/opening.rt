@@ -34,11 +34,11 @@ impl<I: Ledger, N: Ledger, M: Ledger, B: Ledger> Opening<I, N, M, B> {
         Opening { zone, scan, ends }
     }
 
-    /// Makes calls, each of which has its answer.
+    /// Makes calls, each of which has its answer. A failure tells which, the first being 0.
     pub fn plays<R: Abort>(&mut self, rt: &R, calls: &[(Call, Answer)]) {
-        for row in calls {
+        for (number, row) in calls.iter().enumerate() {
             let (call, want) = *row;
-            assert!(rt; self.make(rt, call) == want, "{call:?}");
+            assert!(rt; self.make(rt, call) == want, "call {number}");
         }
     }
 

@@ -23,9 +23,9 @@ fn plays<I: Ledger, N: Ledger, M: Ledger, B: Ledger, R: Abort + AllocGlobal>(
     opening: &mut WorldOpening<I, N, M, B>,
     steps: &[(Step, Answer)],
 ) {
-    for row in steps {
+    for (number, row) in steps.iter().enumerate() {
         let (step, want) = *row;
-        assert!(rt; opening.make(rt, step) == want, "{step:?}");
+        assert!(rt; opening.make(rt, step) == want, "step {number}");
         assert_kept(rt, opening);
     }
 }

@@ -10,7 +10,7 @@ use world_core::{Scanned, World, WorldError};
 use zone_core::{Blanks, Ended, Info, Zone};
 
 /// A call of a world: of its zone, or one that names a hand.
-#[derive(Clone, Copy, Debug)]
+#[derive(Clone, Copy)]
 pub enum Step {
     Of(Call),
     Scan,
@@ -42,19 +42,19 @@ impl<I: Ledger, N: Ledger, M: Ledger, B: Ledger> WorldOpening<I, N, M, B> {
         self.world.zone()
     }
 
-    /// Makes calls, each of which has its answer.
+    /// Makes calls, each of which has its answer. A failure tells which, the first being 0.
     pub fn plays<R: Abort>(&mut self, rt: &R, steps: &[(Step, Answer)]) {
-        for row in steps {
+        for (number, row) in steps.iter().enumerate() {
             let (step, want) = *row;
-            assert!(rt; self.make(rt, step) == want, "{step:?}");
+            assert!(rt; self.make(rt, step) == want, "step {number}");
         }
     }
 
     /// Makes calls of its zone, each of which has its answer.
     pub fn calls<R: Abort>(&mut self, rt: &R, calls: &[(Call, Answer)]) {
-        for row in calls {
+        for (number, row) in calls.iter().enumerate() {
             let (call, want) = *row;
-            assert!(rt; self.call(rt, call) == want, "{call:?}");
+            assert!(rt; self.call(rt, call) == want, "call {number}");
         }
     }
 

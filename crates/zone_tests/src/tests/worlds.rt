@@ -26,11 +26,9 @@ fn joined_again<I: Ledger, N: Ledger, M: Ledger, B: Ledger, R: Abort>(
     rt: &R,
     opening: WorldOpening<I, N, M, B>,
 ) -> WorldOpening<I, N, M, B> {
-    let WorldOpening { world } = opening;
-    assert!(rt; !world.is_open());
-    let Ok((zone, seats, rest)) = world.split() else {
-        panic!(rt; "a closed world is not split");
-    };
+    assert!(rt; !opening.world.is_open());
+    let parts = opening.world.split().ok();
+    let (zone, seats, rest) = parts.expect(rt, "the parts of a closed world");
     assert!(rt; zone.number().get() == 3);
     assert!(rt; (zone.blocks(), rest.blocks()) == (1, 1));
     WorldOpening {
