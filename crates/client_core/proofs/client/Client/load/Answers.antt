@@ -8,3 +8,6 @@ returns-clause-accepted g c =
     let is : c.self.inside.number ≡ c.args.self.now.number = search rules in
     subst (λ (number : ℕ). IsAccepted (λ zone. access_refusal zone c.args.address) (loading number c.args.address c.args.word) c.in_ok-value.value) is
     c.in_ok-value.ensures.accepted
+
+pub returns-clause-ok : goal.returns-clause-ok
+returns-clause-ok g c = search rules

@@ -8,3 +8,6 @@ returns-clause-accepted g c =
     let is : c.self.inside.number ≡ c.args.self.now.number = search rules in
     subst (λ (number : ℕ). IsAccepted (λ zone. pin_refusal zone c.args.address) (leaving (λ zone. pinned zone number c.args.address)) tt) is
     c.in_ok-at_once.ensures.accepted
+
+pub returns-clause-ok : goal.returns-clause-ok
+returns-clause-ok g c = search rules

@@ -8,3 +8,6 @@ returns-clause-accepted g c =
     let is : c.self.inside.number ≡ c.args.self.now.number = search rules in
     subst (λ (number : ℕ). IsAccepted (λ zone. share_refusal zone c.args.address c.args.alias) (leaving (λ zone. shared zone number c.args.address c.args.alias)) tt) is
     c.in_ok-once_there.ensures.accepted
+
+pub returns-clause-ok : goal.returns-clause-ok
+returns-clause-ok g c = search rules

@@ -8,3 +8,6 @@ returns-clause-accepted g c =
     let is : c.self.inside.number ≡ c.args.self.now.number = search rules in
     subst (λ (number : ℕ). IsAccepted (λ zone. access_refusal zone c.args.address) (leaving (λ zone. stored zone number c.args.address c.args.word c.args.value)) tt) is
     c.in_ok-once_there.ensures.accepted
+
+pub returns-clause-ok : goal.returns-clause-ok
+returns-clause-ok g c = search rules

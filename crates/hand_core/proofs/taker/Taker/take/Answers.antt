@@ -1,4 +1,4 @@
-use Rattle.std.proofs.Common.{arith}
+use Rattle.std.proofs.Common.{rules, arith}
 use Rattle.hand_core.proofs.PageSteps.{off}
 use Rattle.hand_core.proofs.taker.Taker.take.Goals as goal
 
@@ -6,3 +6,6 @@ pub receive-requires-clause-rule : goal.receive-requires-clause-rule
 receive-requires-clause-rule g c =
     let t = c.self.invariant in
     (off _ _ t.takes (let e = t.share in omega arith), λ items views rule at. tt)
+
+pub returns-in-Page-clause-took : goal.returns-in-Page-clause-took
+returns-in-Page-clause-took g c = search rules

@@ -1,3 +1,4 @@
+use Rattle.std.proofs.Common.{rules}
 use Rattle.std.specs.VecDeque.{deque_capacity}
 use Rattle.state_core.specs.Pinning.{pinned}
 use Rattle.world_core.proofs.Carrying.{carried_done, leaves_pinned}
@@ -8,3 +9,9 @@ invariant_of-self g c =
     let z = c.self.inside in
     carried_done z.zone c.pin.new.self z.scan z.ends z.is_open z.waiting.items z.hands.held (deque_capacity z.waiting) c.self.invariant
     c.pin.result (pinned z.zone c.args.client c.args.address) c.pin.ensures.lawful c.pin.ensures.err c.pin.ensures.ok (leaves_pinned z.zone c.args.client c.args.address)
+
+pub returns-clause-refused : goal.returns-clause-refused
+returns-clause-refused g c = search rules
+
+pub returns-clause-ok : goal.returns-clause-ok
+returns-clause-ok g c = search rules

@@ -1,3 +1,4 @@
+use Rattle.std.proofs.Common.{rules}
 use Rattle.std.specs.Prelude.{◌*◌}
 use Rattle.std.specs.VecDeque.{deque_capacity}
 use Rattle.state_core.specs.HandingOut.{block_taken}
@@ -9,3 +10,9 @@ invariant_of-self g c =
     let z = c.self.inside in
     carried_told z.zone c.take_huge.new.self z.scan z.ends z.is_open z.waiting.items z.hands.held (deque_capacity z.waiting) c.self.invariant
     c.take_huge.result (λ block. block_taken z.zone (512 * block) 9) c.take_huge.ensures.lawful c.take_huge.ensures.err c.take_huge.ensures.ok (λ block. leaves_taken z.zone (512 * block) 9)
+
+pub returns-clause-block : goal.returns-clause-block
+returns-clause-block g c = search rules
+
+pub returns-clause-ok : goal.returns-clause-ok
+returns-clause-ok g c = search rules

@@ -1,4 +1,4 @@
-use Rattle.std.proofs.Common.{◌∙◌, ◌<◌, ◌^◌, ℕ, ap, subst, sym, arith, lit<}
+use Rattle.std.proofs.Common.{rules, ◌∙◌, ◌<◌, ◌^◌, ℕ, ap, subst, sym, arith, lit<}
 use Rattle.std.specs.Prelude.{Some}
 use Rattle.std.specs.FinMap as map
 use Rattle.journal_core.specs.History.{page_at}
@@ -39,3 +39,6 @@ returns-clause-pair g c =
 
 pub returns-in_default-clause-packed : goal.returns-in_default-clause-packed
 returns-in_default-clause-packed g c met quiet none = packed_quiet c.self.inside.plain c.self.invariant.2 quiet none c.in_default.ensures.none
+
+pub returns-in_default-clause-seat : goal.returns-in_default-clause-seat
+returns-in_default-clause-seat g c = search rules
