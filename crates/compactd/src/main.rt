@@ -1,8 +1,7 @@
 //! The program: runs the script on its standard input, and writes a reply for each command.
 #![tactic(auto)]
 
-use compactd_core::program;
-use script_core::{Sink, Source};
+use script_core::{Sink, Source, program};
 use std::process::ExitCode;
 use std::{env, io};
 

@@ -1,4 +1,4 @@
-//! Tests of runs of the program, by `program` of `compactd_core` alone.
+//! Tests of runs of the program, by `program` of `script_core` alone.
 #![tactic(auto)]
 
 #[cfg(test)]

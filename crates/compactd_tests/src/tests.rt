@@ -1,8 +1,7 @@
 mod fakes;
 
-use compactd_core::program;
 use fakes::{Full, Limited, Pieces};
-use script_core::{Sink, Source, Text};
+use script_core::{Sink, Source, Text, program};
 use std::alloc::{AllocError, Global};
 use std::env::Args;
 use std::io::Read;

@@ -3,3 +3,4 @@ pub mod Pools
 pub mod ThreadedRuns
 pub mod ClientAnswers
 pub mod ClientCalls
+mod Endings

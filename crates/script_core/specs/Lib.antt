@@ -1,2 +1,4 @@
 pub mod Clients
 pub mod Threaded
+pub mod Status
+pub mod Stops

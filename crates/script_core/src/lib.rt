@@ -9,11 +9,14 @@ mod alone;
 mod answering;
 mod beside;
 mod on_threads;
+mod process;
+mod report;
 mod threaded;
 
 pub use machine_core::{Options, run, run_text};
 pub use on_threads::run_on_threads;
 pub use play_core::{Fault, Input, Output, RunError, Sink, Source, Text, Totals, write_out};
+pub use process::program;
 pub use text_core::{
     BlockCount, Call, Calls, ClientCall, Command, PageCount, PoolBlocks, PoolStopped, Repeated,
     Reply, ScriptError, Series, Stopped, read_line, reply_text,

@@ -309,10 +309,7 @@ fn parts_of<I: Ledger, N: Ledger, M: Ledger, B: Ledger>(
     ensures whole { result.1.ends.parts ≡ 64 }
     ensures rest { result.2 ≡ world.zone.blocks }
 {
-    let Ok(parts) = world.split() else {
-        unreachable!()
-    };
-    parts
+    world.split().ok().unwrap()
 }
 
 /// The number of the client whose calls are made beside rounds.

@@ -1,46 +1,48 @@
 ghost use Rattle.std.specs.Prelude.{◌≡◌};
 ghost use Rattle.state_core.specs.ErrorNumber.{number_of};
 
-use thiserror::Error;
+use std::error::Error;
+use std::fmt;
+use std::fmt::{Display, Formatter};
 
 /// Why a call of a zone was refused. A call is tested against them in the order of their numbers.
-#[derive(Clone, Copy, Debug, PartialEq, Eq, Error)]
+#[derive(Clone, Copy, Debug, PartialEq, Eq)]
 pub enum ZoneError {
-    #[error("an argument is out of its range")]
+    /// An argument is out of its range.
     Range,
-    #[error("the journal has no place left")]
+    /// The journal has no place left.
     JournalFull,
-    #[error("the address names no page")]
+    /// The address names no page.
     Unmapped,
-    #[error("the page is on its way")]
+    /// The page is on its way.
     Moving,
-    #[error("the address names a page already")]
+    /// The address names a page already.
     Occupied,
-    #[error("no frame is free")]
+    /// No frame is free.
     NoFrame,
-    #[error("the page has 4 addresses already")]
+    /// The page has 4 addresses already.
     ShareFull,
-    #[error("the page has 255 pins already")]
+    /// The page has 255 pins already.
     PinFull,
-    #[error("the page has no pin")]
+    /// The page has no pin.
     NotPinned,
-    #[error("the page has a pin and this is its last address")]
+    /// The page has a pin and this is its last address.
     Pinned,
-    #[error("no block of free frames is left")]
+    /// No block of free frames is left.
     NoBlock,
-    #[error("the block was not handed out")]
+    /// The block was not handed out.
     NotHuge,
-    #[error("the page is not on its way in this zone")]
+    /// The page is not on its way in this zone.
     Stranger,
-    #[error("there is not enough memory")]
+    /// There is not enough memory.
     Memory,
-    #[error("a part of the end seat is missing")]
+    /// A part of the end seat is missing.
     Missing,
-    #[error("a page is on its way")]
+    /// A page is on its way.
     Out,
-    #[error("the pageblock is marked already")]
+    /// The pageblock is marked already.
     Marked,
-    #[error("the pageblock is not marked")]
+    /// The pageblock is not marked.
     NotMarked,
 }
 
@@ -70,4 +72,36 @@ impl ZoneError {
             ZoneError::NotMarked => 18,
         }
     }
+
+    // What it says to a reader.
+    fn text(&self) -> &'static str {
+        match self {
+            ZoneError::Range => "an argument is out of its range",
+            ZoneError::JournalFull => "the journal has no place left",
+            ZoneError::Unmapped => "the address names no page",
+            ZoneError::Moving => "the page is on its way",
+            ZoneError::Occupied => "the address names a page already",
+            ZoneError::NoFrame => "no frame is free",
+            ZoneError::ShareFull => "the page has 4 addresses already",
+            ZoneError::PinFull => "the page has 255 pins already",
+            ZoneError::NotPinned => "the page has no pin",
+            ZoneError::Pinned => "the page has a pin and this is its last address",
+            ZoneError::NoBlock => "no block of free frames is left",
+            ZoneError::NotHuge => "the block was not handed out",
+            ZoneError::Stranger => "the page is not on its way in this zone",
+            ZoneError::Memory => "there is not enough memory",
+            ZoneError::Missing => "a part of the end seat is missing",
+            ZoneError::Out => "a page is on its way",
+            ZoneError::Marked => "the pageblock is marked already",
+            ZoneError::NotMarked => "the pageblock is not marked",
+        }
+    }
 }
+
+impl Display for ZoneError {
+    fn fmt<W: fmt::Write>(&self, f: &mut Formatter<W>) -> fmt::Result {
+        f.pad(self.text())
+    }
+}
+
+impl Error for ZoneError {}

@@ -7,6 +7,7 @@ use journal_core::Record;
 use std::marker::Brand;
 use std::process::Abort;
 use std::sync::ledger::Ledger;
+use std::test::Fail;
 use zone_core::{Blanks, Info, ZoneError};
 
 const NINE: Name = (7, 9);
@@ -60,4 +61,11 @@ fn calls_each<I: Ledger, N: Ledger, M: Ledger, B: Ledger, R: Abort + AllocGlobal
 #[test]
 fn a_zone_answers_each_call(rt: HostRuntime) {
     calls_each::<Brand, Brand, Brand, Brand, HostRuntime>(&rt, Blanks::new());
+}
+
+#[test]
+fn a_refusal_says_why(rt: HostRuntime) -> Result<(), Fail> {
+    let text = format!(in rt.alloc(); "refused: {}", ZoneError::NoFrame)?;
+    assert!(rt; text.as_str() == "refused: no frame is free");
+    Ok(())
 }

@@ -1,3 +1,0 @@
-mod Arguments
-mod Endings
-mod Found

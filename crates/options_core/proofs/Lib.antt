@@ -1,0 +1,2 @@
+mod Arguments
+mod Found

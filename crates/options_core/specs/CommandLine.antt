@@ -1,0 +1,76 @@
+-- What the words of a command line mean: clap's own account of a parse, at the options of this program.
+use Rattle.std.specs.Prelude.{◌≡◌, ℕ, Bool, true, false, List, map, Some, pos, codes, option_map, unwrap_or}
+use Rattle.std.specs.List.{list_all, list_any}
+use Rattle.std.specs.String.{string_bytes}
+use Rattle.std.specs.Vec.Iter.{into_iter_items}
+use Rattle.std.specs.declared.string.String.{String}
+use Rattle.std.specs.declared.vec.IntoIter.{IntoIter}
+use Rattle.std.specs.Str.Parse.{digits_value, without_leading_plus}
+use Rattle.clap.specs.Words.{App, IsSignedIn, Rule, Text, fault_of, matches_of, new_app, new_rule, one_of, one_text, with_rule, without_minus}
+use Rattle.clap.specs.Kinds.{Kinds}
+use Rattle.clap.specs.declared.builder.value_parser.ValueParser.TheVariants.{Signed}
+use Rattle.clap.specs.declared.error.kind.ErrorKind.{ErrorKind}
+use Rattle.clap.specs.declared.error.kind.ErrorKind.TheVariants.{DisplayHelp, DisplayVersion}
+use Rattle.clap.specs.declared.parser.matches.Found.{Found}
+use Rattle.machine_core.specs.declared.options.Options.{Options}
+
+-- the words of the process, as text
+abbrev pub texts_of : {X Y : Type 0} → IntoIter (String X) Y → List Text
+texts_of words = map string_bytes (into_iter_items words)
+
+-- an option `--NAME N`, with N from 1 to most
+abbrev pub number_rule : Text → ℕ → Rule
+number_rule name most =
+    record (new_rule name) { long = Some name; value_names = 1; parser = Some (Signed (pos 1) (pos most)) }
+
+-- `--version` is an option too
+abbrev pub with_version : App → App
+with_version app = record app { top = record app.top { has_version = true } }
+
+-- the three options of the program
+unfoldable pub options_line : App
+options_line =
+    with_rule (with_rule (with_rule (with_version (new_app (codes "compactd")))
+    (number_rule (codes "copiers") 4)) (number_rule (codes "capacity") 64)) (number_rule (codes "journal") 65536)
+
+-- the kinds of clap's answer where the words give no options: none where they give them. It is a list since the answer has one of these
+-- kinds, and which isn't said.
+unfoldable pub refusal_of : List Text → Kinds
+refusal_of words = fault_of options_line words
+
+-- whether clap answers with its help, which is no refusal
+abbrev pub is_help : ErrorKind → Bool
+is_help DisplayHelp = true
+is_help DisplayVersion = true
+is_help _ = false
+
+-- whether they ask for help
+abbrev pub asks_help : List Text → Bool
+asks_help words = list_any is_help (refusal_of words)
+
+-- whether they ask for nothing else, if for anything
+abbrev pub asks_only_help : List Text → Bool
+asks_only_help words = list_all is_help (refusal_of words)
+
+-- the number that a text of decimal digits stands for
+abbrev pub number_told : Text → ℕ
+number_told text = digits_value 10 (without_leading_plus text)
+
+-- the number that the words give for an option, and where they give none the option's own
+unfoldable pub number_of : List Text → Text → ℕ → ℕ
+number_of words name own = unwrap_or (option_map number_told (one_of name (matches_of options_line words))) own
+
+-- the places of the journal
+abbrev pub journal_of : List Text → ℕ
+journal_of words = number_of words (codes "journal") 65536
+
+-- these are the options that the words give
+pub record IsGiven (words : List Text) (options : Options) : Type 0 where
+  pub copiers : options.copiers ≡ number_of words (codes "copiers") 2
+  pub capacity : options.capacity ≡ number_of words (codes "capacity") 8
+  pub journal : options.journal ≡ journal_of words
+
+-- what a parse found for an option, if anything, is a number from 1 to most
+abbrev pub FindsUpTo : Found → Text → ℕ → Type 0
+FindsUpTo found name most =
+    (text : Text) → one_text found name ≡ Some text → (given : Text) × (text ≡ without_minus given) × IsSignedIn (pos 1) (pos most) given

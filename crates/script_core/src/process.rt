@@ -1,0 +1,135 @@
+ghost use Rattle.std.specs.Prelude.{◌≡◌, ◌≢◌, ◌≤◌, ◌⊎◌, [], false, true, None, IfOk, IfErr, IfSome};
+ghost use Rattle.std.specs.Io.KnownBytes.{Appends, Keeps};
+ghost use Rattle.clap.specs.Words.{kind_of};
+ghost use Rattle.options_core.specs.CommandLine.{texts_of, refusal_of, journal_of, is_help, asks_help, asks_only_help};
+ghost use Rattle.script_core.specs.Status.{status_of};
+ghost use Rattle.script_core.specs.Stops.{LacksMemory, Stops};
+ghost use Rattle.play_core.specs.Runs.{IsAnswered};
+ghost use Rattle.play_core.specs.Script.{fault_of};
+ghost use Rattle.machine_core.specs.Replies.{output_of};
+ghost use Rattle.script_core.specs.Threaded.{IsThreadedStep, IsUnthreadedScript, threaded_at_first};
+
+use crate::on_threads::run_on_threads;
+use crate::report::report;
+use clap::Error;
+use clap::error::ErrorKind;
+use machine_core::Options;
+use options_core::given_options;
+use play_core::{Fault, Input, Output, RunError};
+use std::alloc::Global;
+use std::env::Args;
+use std::io;
+use std::io::Write;
+use std::sync::Wait;
+use std::thread::Threads;
+
+/// The exit statuses.
+const DONE: u8 = 0;
+
+const FAULT: u8 = 1;
+
+const REFUSED: u8 = 2;
+
+/// Runs the script that the reader gives, as the words of the command line say, and its rounds on threads. The result is the exit
+/// status: 0 where the whole script was answered or help was asked for, 1 for a fault of the run or for want of memory, and 2 where the
+/// words were refused. What the clauses say of bytes holds for a reader and a writer that tell theirs.
+pub fn program<R: Input, W: Output, F: Output, H: Threads + Wait + Sync>(
+    rt: &H,
+    alloc: Global,
+    words: io::Result<Args>,
+    reader: &mut R,
+    writer: &mut W,
+    faults: &mut F,
+) -> u8
+    ensures status { result ≤ 2 }
+    // Words that aren't all text.
+    ensures unread { IfErr words (λ error. (result ≡ 2) ⊎ LacksMemory result (W.contents writer.old) (W.contents writer.new)
+        (F.contents faults.old) (F.contents faults.new) (F.stuck faults.new)) }
+    // Words that clap refuses give 2, nothing else does, and its help gives 0.
+    ensures refused { IfOk words (λ args. refusal_of (texts_of args) ≢ [] → asks_help (texts_of args) ≡ false
+        → (result ≡ 2) ⊎ LacksMemory result (W.contents writer.old) (W.contents writer.new)
+        (F.contents faults.old) (F.contents faults.new) (F.stuck faults.new)) }
+    ensures refused_only { IfOk words (λ args. result ≡ 2 → asks_only_help (texts_of args) ≡ false) }
+    ensures help { IfOk words (λ args. refusal_of (texts_of args) ≢ [] → asks_only_help (texts_of args) ≡ true
+        → (result ≡ 0) ⊎ LacksMemory result (W.contents writer.old) (W.contents writer.new)
+        (F.contents faults.old) (F.contents faults.new) (F.stuck faults.new)) }
+    ensures quiet { result ≡ 2 → Keeps (W.contents writer.old) (W.contents writer.new) }
+    // The script has no fault, and was answered, and one without rounds, pools and blocks as on one thread.
+    ensures whole { IfOk words (λ args. refusal_of (texts_of args) ≡ [] → result ≡ 0
+        → IfSome (R.remaining reader.old) (λ input. fault_of input ≡ None)) }
+    ensures answered { IfOk words (λ args. refusal_of (texts_of args) ≡ [] → result ≡ 0
+        → IfSome (R.remaining reader.old) (λ input. IsAnswered IsThreadedStep (threaded_at_first (journal_of (texts_of args))) input
+        (W.contents writer.old) (W.contents writer.new))) }
+    ensures replies { IfOk words (λ args. refusal_of (texts_of args) ≡ [] → result ≡ 0
+        → IfSome (R.remaining reader.old) (λ input. IsUnthreadedScript input → Appends (W.contents writer.old) (W.contents writer.new)
+        (output_of (journal_of (texts_of args)) input))) }
+    // There was no memory to read the words, or the run stopped.
+    ensures fault { IfOk words (λ args. result ≡ 1 → LacksMemory result (W.contents writer.old) (W.contents writer.new)
+        (F.contents faults.old) (F.contents faults.new) (F.stuck faults.new) ⊎ Stops (journal_of (texts_of args))
+        (R.remaining reader.old) (R.remaining reader.new) (W.contents writer.old) (W.contents writer.new)
+        (R.reads reader.old) (R.reads reader.new) (R.failed reader.new) (W.stuck writer.new)
+        (F.contents faults.old) (F.contents faults.new) (F.stuck faults.new)) }
+{
+    match given_options(alloc, words) {
+        Ok(options) => play(rt, alloc, reader, writer, faults, options),
+        Err(error) => answer(&error, writer, faults),
+    }
+}
+
+/// Runs the script with these options.
+fn play<R: Input, W: Output, F: Output, H: Threads + Wait + Sync>(
+    rt: &H,
+    alloc: Global,
+    reader: &mut R,
+    writer: &mut W,
+    faults: &mut F,
+    options: Options,
+) -> u8
+    ensures status { result ≤ 1 }
+    ensures whole { result ≡ 0 → IfSome (R.remaining reader.old) (λ input. fault_of input ≡ None) }
+    ensures answered { result ≡ 0 → IfSome (R.remaining reader.old) (λ input.
+        IsAnswered IsThreadedStep (threaded_at_first options.journal) input (W.contents writer.old) (W.contents writer.new)) }
+    ensures replies { result ≡ 0 → IfSome (R.remaining reader.old) (λ input.
+        IsUnthreadedScript input → Appends (W.contents writer.old) (W.contents writer.new) (output_of options.journal input)) }
+    ensures fault { result ≡ 1 → Stops options.journal
+        (R.remaining reader.old) (R.remaining reader.new) (W.contents writer.old) (W.contents writer.new)
+        (R.reads reader.old) (R.reads reader.new) (R.failed reader.new) (W.stuck writer.new)
+        (F.contents faults.old) (F.contents faults.new) (F.stuck faults.new) }
+{
+    match run_on_threads(rt, alloc, reader, writer, options) {
+        Ok(_) => DONE,
+        Err(error) => {
+            report(faults, error);
+            FAULT
+        }
+    }
+}
+
+/// Writes what clap answers in place of options, and gives the status that goes with it.
+fn answer<W: Output, F: Output>(error: &Error, writer: &mut W, faults: &mut F) -> u8
+    ensures status { result ≡ status_of (kind_of error.now) }
+    ensures quiet { is_help (kind_of error.now) ≡ false → Keeps (W.contents writer.old) (W.contents writer.new) }
+    ensures memory { kind_of error.now ≡ ErrorKind.OutOfMemory → LacksMemory result (W.contents writer.old) (W.contents writer.new)
+        (F.contents faults.old) (F.contents faults.new) (F.stuck faults.new) }
+{
+    match error.kind() {
+        ErrorKind::DisplayHelp | ErrorKind::DisplayVersion => {
+            let _ = writer.write_fmt(error);
+            DONE
+        }
+        ErrorKind::OutOfMemory => {
+            report(
+                faults,
+                RunError {
+                    fault: Fault::Memory,
+                    line: 0,
+                },
+            );
+            FAULT
+        }
+        _ => {
+            let _ = faults.write_fmt(error);
+            REFUSED
+        }
+    }
+}
