@@ -1,7 +1,22 @@
-use Rattle.std.proofs.Common.{◌+◌, ◌∙◌, ap, arith}
-use Rattle.zone_core.specs.Seats.{ScanSeat}
+use Rattle.std.proofs.Common.{◌+◌, ◌≤◌, ◌∙◌, ap, arith, subst, sym}
+use Rattle.zone_core.specs.Seats.{EndSeat, ScanSeat}
+use Rattle.round_core.specs.Runs.{HasRun}
 use Rattle.round_core.proofs.Early.{begun}
 use Rattle.round_core.proofs.compacting.compact.Goals as goal
+
+pub wind_up-requires-clause-ran : goal.wind_up-requires-clause-ran
+wind_up-requires-clause-ran g c =
+    let isolated = c.in_ok-before.ensures.counts.0 in
+    subst (λ n. HasRun n c.in_scope.new.seats.scan c.in-Some-in_scope.ran)
+    (ap (λ (s : ScanSeat). s.count) c.audit.ensures.same.0 ∙ sym isolated) c.in-Some-in_scope.ensures.ran
+
+pub wind_up-requires-clause-ends : goal.wind_up-requires-clause-ends
+wind_up-requires-clause-ends g c =
+    let counts = c.in_ok-before.ensures.counts in
+    let same = c.audit.ensures.same.1 in
+    let more = c.in-Some-in_scope.ensures.ends in
+    let ends = c.in_scope.new.seats.ends in
+    (subst (λ n. n ≤ ends.moved) (ap (λ (e : EndSeat). e.moved) same ∙ sym counts.1) more.1, subst (λ n. n ≤ ends.back) (ap (λ (e : EndSeat). e.back) same ∙ sym counts.2) more.2, counts.3)
 
 pub returns-clause-early : goal.returns-clause-early
 returns-clause-early g c =

@@ -1,8 +1,33 @@
-use Rattle.std.proofs.Common.{rules, ◌≡◌, ◌∙◌, ap, Some, []}
+use Rattle.std.proofs.Common.{rules, arith, ◌≡◌, ◌∙◌, ◌+◌, ◌<◌, ◌≤◌, ℕ, ap, refl, Some, []}
 use Rattle.std.proofs.lemmas.List.Elements.{All-pop, All-push, All-same}
 use Rattle.hand_core.specs.PageEnds.{Taker}
 use Rattle.round_core.specs.Crews.{IsUnused, IsUnsent}
 use Rattle.round_core.proofs.crew.start_copiers.Goals as goal
+
+-- where there was a taker there was one of the others
+none_left : (takers others left : ℕ) → others ≡ takers → left + 1 ≡ takers → others ≡ 0 → ⊥
+none_left takers others left as_many some none = omega arith
+
+room_left : (copiers takers all capacity left : ℕ) → copiers + takers ≡ all → all ≤ capacity → left + 1 ≡ takers → copiers < capacity
+room_left copiers takers all capacity left started room some = omega arith
+
+pub start_copier-requires : goal.start_copier-requires
+start_copier-requires g c =
+    let old = c.loop-taker.invariant in
+    let outfit = c.loop-taker.outfit in
+    let taker = All-pop (IsUnused c.args.outfit.now.giver.hand_over) outfit.takers.items c.pop.new.self.items (Some c.in-Some.taker) c.in-Some.ensures.items old.takers in
+    let sender = All-pop IsUnsent outfit.senders.items c.pop-in-Some.new.self.items (Some c.in-Some-pop.sender) c.in-Some-pop.ensures.items old.senders in
+    let list = All-pop (λ v. v.items ≡ []) outfit.serials.items c.pop-in-Some-2.new.self.items (Some c.in-Some-pop-2.list) c.in-Some-pop-2.ensures.items old.lists in
+    (c.type_bounds.sync-G, (c.type_bounds.sync-R, (record { of_it = refl; open_still = taker.1.open_still; none = taker.1.none }, (sender.1, list.1))))
+
+pub unreachable-requires : goal.unreachable-requires
+unreachable-requires g c = none_left _ _ _ c.loop-taker.invariant.as_many_senders c.in-Some.ensures.cases c.in_default-pop.ensures.cases.0
+
+pub unreachable-requires-in_default-pop-2 : goal.unreachable-requires-in_default-pop-2
+unreachable-requires-in_default-pop-2 g c = none_left _ _ _ c.loop-taker.invariant.as_many_lists c.in-Some.ensures.cases c.in_default-pop-2.ensures.cases.0
+
+pub push_reserved-requires : goal.push_reserved-requires
+push_reserved-requires g c = room_left _ _ _ _ _ c.loop-taker.invariant.started c.loop-taker.invariant.room c.in-Some.ensures.cases
 
 pub loop-taker-preserved : goal.loop-taker-preserved
 loop-taker-preserved g c =
