@@ -1,6 +1,6 @@
 use Rattle.std.proofs.Common.{◌≡◌, ◌+◌, ◌++◌, ◌∷◌, [], ℕ, Some, Ok, ap, sym, subst, refl, ◌∙◌}
 use Rattle.play_core.specs.Player.{Player, HasRead}
-use Rattle.play_core.specs.Script.{Answer, command_of_line, line_comes}
+use Rattle.play_core.specs.Script.{command_of_line, line_comes}
 use Rattle.play_core.proofs.Reading.{read_answered, read_lacking, read_stopped}
 use Rattle.play_core.proofs.player.Player.answer.Goals as goal
 
