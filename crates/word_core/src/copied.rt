@@ -1,5 +1,6 @@
 ghost use Rattle.std.specs.Prelude.{◌≡◌};
 
+use crate::isolated::Isolated;
 use crate::page::Page;
 use frame_core::{PageNo, Serial};
 use std::marker::Model;
@@ -17,6 +18,13 @@ impl Model for Copied {
     ghost Value = { OnItsWay };
 
     ghost view = { λ p. record { serial = p.serial; page = p.page } };
+}
+
+/// A blank copy, as it stands in the empty places of a list with fixed room.
+impl Default for Copied {
+    fn default() -> Self {
+        Isolated::default().copy_into_new()
+    }
 }
 
 impl Copied {

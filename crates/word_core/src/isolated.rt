@@ -20,6 +20,13 @@ impl Model for Isolated {
     ghost view = { λ p. record { serial = p.serial; page = p.page } };
 }
 
+/// A blank page, as it stands in the empty places of a list with fixed room.
+impl Default for Isolated {
+    fn default() -> Self {
+        Isolated::new(0, Page::default())
+    }
+}
+
 impl Isolated {
     /// A page under a serial. A zone takes it only where a page with its number is on its way there under this serial, and
     /// else hands it back as a `Stranger`.

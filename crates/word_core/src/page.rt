@@ -22,6 +22,19 @@ impl Model for Page {
     ghost invariant = { λ p. length p.words ≡ 8 };
 }
 
+/// A blank page, as it stands in the empty places of a list with fixed room.
+impl Default for Page {
+    fn default() -> Self {
+        let Some(zone) = ZoneNo::new(0) else {
+            unreachable!()
+        };
+        let Some(number) = PageNo::new(0) else {
+            unreachable!()
+        };
+        Page::new(zone, number)
+    }
+}
+
 impl Page {
     ghost use Rattle.std.specs.Prelude.{◌≡◌, slice_index, slice_set, length};
     ghost use Rattle.word_core.specs.Page.{blank_page};
