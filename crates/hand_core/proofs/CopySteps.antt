@@ -7,14 +7,14 @@ use mathlib.Core.Option.{some, some-ne-none, some-injective}
 use lib.ListN.{get_elem?}
 use Rattle.crossbeam_channel.specs.Fifo.{Pushes, Pops, Forks, Merges, Learns}
 use Rattle.atomic_table.proofs.Lists.{at_set, at_snoc}
-use Rattle.word_core.specs.Page.{OnItsWay}
 use Rattle.hand_core.specs.declared.copy_queue.Message.{Message}
-use Rattle.hand_core.specs.declared.copy_queue.Message.TheVariants.{Copy, Mark}
+use Rattle.hand_core.specs.declared.copy_queue.Message.TheVariants.{Copies, Mark}
 use Rattle.hand_core.specs.declared.copy_queue.Account.{Account}
+use Rattle.hand_core.specs.Handfuls.{Handful}
 use Rattle.hand_core.specs.Queue.{Each}
 use Rattle.hand_core.specs.CopyQueue.{taker_account, sender_account, sender_of, messages_of, all_sent, InTurn, after_send, Comes, folded, nothing_known, Tells}
 use Rattle.hand_core.proofs.EachEnd.{each_set}
-use Rattle.hand_core.proofs.Messages.{messages-append, messages_own, messages_other, nobody_sent, all_sent-copy, all_sent-mark}
+use Rattle.hand_core.proofs.Messages.{messages-append, messages_own, messages_other, nobody_sent, all_sent-copies, all_sent-mark}
 
 -- what the rule says of a sender, and of the taker
 abbrev Sent : (ℕ → ℕ) → ℕ → List Message → ℕ → Account → Type 0
@@ -71,11 +71,11 @@ message_in room number v w x sends own same more queue ends short r at =
       refl,
     )
 
--- a copy goes in at the back
-pub copy_in : (room number : ℕ) (v : Account) (sender : ℕ) (copy : OnItsWay) → v.sends ≡ true → v.sender ≡ sender → v.marked ≡ false → Pushes InTurn room number v (Copy sender copy) (λ w. w ≡ after_send v (Copy sender copy))
-copy_in room number v sender copy sends own fresh =
-    message_in room number v (after_send v (Copy sender copy)) (Copy sender copy) sends (sym own) (refl, refl, refl, refl, refl)
-    (ap (λ k. all_sent v ++ Copy k copy ∷ []) (sym own) ∙ all_sent-copy v copy fresh)
+-- a handful of copies goes in at the back
+pub copies_go_in : (room number : ℕ) (v : Account) (sender : ℕ) (copies : Handful) → v.sends ≡ true → v.sender ≡ sender → v.marked ≡ false → Pushes InTurn room number v (Copies sender copies) (λ w. w ≡ after_send v (Copies sender copies))
+copies_go_in room number v sender copies sends own fresh =
+    message_in room number v (after_send v (Copies sender copies)) (Copies sender copies) sends (sym own) (refl, refl, refl, refl, refl)
+    (ap (λ k. all_sent v ++ Copies k copies ∷ []) (sym own) ∙ all_sent-copies v copies fresh)
 
 -- a sender's mark goes in at the back
 pub mark_in : (room number : ℕ) (v : Account) (sender : ℕ) → v.sends ≡ true → v.sender ≡ sender → v.marked ≡ false → Pushes InTurn room number v (Mark sender) (λ w. w ≡ after_send v (Mark sender))
@@ -83,7 +83,7 @@ mark_in room number v sender sends own fresh =
     message_in room number v (after_send v (Mark sender)) (Mark sender) sends (sym own) (refl, refl, refl, refl, refl)
     (ap (λ k. all_sent v ++ Mark k ∷ []) (sym own) ∙ all_sent-mark v fresh)
 
--- a copy or a mark comes off the front
+-- a handful or a mark comes off the front
 pub off : (number : ℕ) (v : Account) → v.takes ≡ true → Pops InTurn number v (Comes v)
 off number v takes x queue ends r at =
     let w : Account = record v { came = v.came ++ x ∷ [] } in

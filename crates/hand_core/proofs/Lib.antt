@@ -1,6 +1,6 @@
-pub mod Answering
 pub mod CopySteps
 pub mod EachEnd
+pub mod Hands
 pub mod Messages
 pub mod PageSteps
 pub mod Serials

@@ -1,18 +1,17 @@
 -- The messages of one sender among all.
-use Rattle.std.proofs.Common.{◌≡◌, ◌≢◌, ℕ, zero, suc, ◌+◌, ◌<◌, Bool, true, false, List, [], ◌∷◌, ◌++◌, map, sym, refl, ap, ◌∙◌, ◌≤◌, append-nil, arith, cond}
+use Rattle.std.proofs.Common.{◌≡◌, ◌≢◌, ℕ, zero, suc, ◌+◌, ◌<◌, Bool, true, false, true≢false, List, [], ◌∷◌, ◌++◌, map, sym, refl, ap, ◌∙◌, ◌≤◌, append-nil, arith, cond}
 use Rattle.std.specs.Prelude.{◌==◌, ◌||◌, ◌&&◌, take}
 use Rattle.std.specs.List.{list_all, range_with_len}
 use Rattle.std.proofs.lemmas.Bool.{eq-eqb, ne_eqb}
 use Rattle.std.proofs.lemmas.List.Elements.{filter-append}
 use Rattle.std.proofs.lemmas.List.{map-append}
-use Rattle.std.proofs.lemmas.Grind.{flat_map-append}
 use Rattle.std.proofs.lemmas.List.FromFn.{length-range_with_len, get_or-range_with_len}
 use Rattle.std.proofs.lemmas.List.Sums.{AllPass-from_list_all}
-use Rattle.word_core.specs.Page.{OnItsWay}
 use Rattle.hand_core.specs.declared.copy_queue.Message.{Message}
-use Rattle.hand_core.specs.declared.copy_queue.Message.TheVariants.{Copy, Mark}
+use Rattle.hand_core.specs.declared.copy_queue.Message.TheVariants.{Copies, Mark}
 use Rattle.hand_core.specs.declared.copy_queue.Account.{Account}
-use Rattle.hand_core.specs.CopyQueue.{sender_of, messages_of, all_sent}
+use Rattle.hand_core.specs.Handfuls.{Handful, pages_of}
+use Rattle.hand_core.specs.CopyQueue.{sender_of, messages_of, all_sent, Comes}
 use Rattle.hand_core.specs.CopyEnds.{is_mark_of, has_mark, copies_in_one, copies_in, copies_of}
 use Rattle.hand_core.specs.CopyInvariants.{marks_of_four}
 
@@ -37,20 +36,20 @@ nobody_sent sender before x rest none own = nothing none
         not_nil [] ys h = cc
         not_nil (z ∷ xs) ys h = cc
 
--- one copy more, of a sender that put no mark
-pub all_sent-copy : (v : Account) (copy : OnItsWay) → v.marked ≡ false → all_sent v ++ Copy v.sender copy ∷ [] ≡ all_sent (record v { sent = v.sent ++ copy ∷ [] })
-all_sent-copy v copy fresh =
-    let Marked : List OnItsWay → Bool → List Message = λ sent b. map (Copy v.sender) sent ++ cond b (Mark v.sender ∷ []) [] in
-    ap (λ l. l ++ Copy v.sender copy ∷ []) (ap (Marked v.sent) fresh ∙ append-nil (map (Copy v.sender) v.sent))
-    ∙ sym (map-append (Copy v.sender) v.sent (copy ∷ []))
-    ∙ sym (append-nil (map (Copy v.sender) (v.sent ++ copy ∷ [])))
-    ∙ sym (ap (Marked (v.sent ++ copy ∷ [])) fresh)
+-- a handful more, of a sender that put no mark
+pub all_sent-copies : (v : Account) (copies : Handful) → v.marked ≡ false → all_sent v ++ Copies v.sender copies ∷ [] ≡ all_sent (record v { sent = v.sent ++ copies ∷ [] })
+all_sent-copies v copies fresh =
+    let Marked : List Handful → Bool → List Message = λ sent b. map (Copies v.sender) sent ++ cond b (Mark v.sender ∷ []) [] in
+    ap (λ l. l ++ Copies v.sender copies ∷ []) (ap (Marked v.sent) fresh ∙ append-nil (map (Copies v.sender) v.sent))
+    ∙ sym (map-append (Copies v.sender) v.sent (copies ∷ []))
+    ∙ sym (append-nil (map (Copies v.sender) (v.sent ++ copies ∷ [])))
+    ∙ sym (ap (Marked (v.sent ++ copies ∷ [])) fresh)
 
 -- its mark
 pub all_sent-mark : (v : Account) → v.marked ≡ false → all_sent v ++ Mark v.sender ∷ [] ≡ all_sent (record v { marked = true })
 all_sent-mark v fresh =
-    ap (λ (b : Bool). (map (Copy v.sender) v.sent ++ cond b (Mark v.sender ∷ []) []) ++ Mark v.sender ∷ []) fresh
-    ∙ ap (λ l. l ++ Mark v.sender ∷ []) (append-nil (map (Copy v.sender) v.sent))
+    ap (λ (b : Bool). (map (Copies v.sender) v.sent ++ cond b (Mark v.sender ∷ []) []) ++ Mark v.sender ∷ []) fresh
+    ∙ ap (λ l. l ++ Mark v.sender ∷ []) (append-nil (map (Copies v.sender) v.sent))
 
 marks-append : (sender : ℕ) (xs ys : List Message) → has_mark (xs ++ ys) sender ≡ (has_mark xs sender || has_mark ys sender)
 marks-append sender [] ys = refl
@@ -60,20 +59,26 @@ marks-append sender (x ∷ xs) ys = ap (λ b. is_mark_of sender x || b) (marks-a
     or_assoc true b c = refl
     or_assoc false b c = refl
 
--- a copy is nobody's mark
-pub marks-copy : (sender other : ℕ) (copy : OnItsWay) (came : List Message) → has_mark (came ++ Copy other copy ∷ []) sender ≡ has_mark came sender
-marks-copy sender other copy came = marks-append sender came (Copy other copy ∷ []) ∙ nothing (has_mark came sender)
+-- a handful is nobody's mark
+pub marks-copies : (sender other : ℕ) (copies : Handful) (came : List Message) → has_mark (came ++ Copies other copies ∷ []) sender ≡ has_mark came sender
+marks-copies sender other copies came = marks-append sender came (Copies other copies ∷ []) ∙ nothing (has_mark came sender)
   where
     nothing : (b : Bool) → (b || false) ≡ b
     nothing true = refl
     nothing false = refl
 
-pub all_marks-copy : (other : ℕ) (copy : OnItsWay) (came : List Message) (senders : List ℕ) → list_all (has_mark (came ++ Copy other copy ∷ [])) senders ≡ list_all (has_mark came) senders
-all_marks-copy other copy came [] = refl
-all_marks-copy other copy came (sender ∷ senders) = and_both (marks-copy sender other copy came) (all_marks-copy other copy came senders)
+pub all_marks-copies : (other : ℕ) (copies : Handful) (came : List Message) (senders : List ℕ) → list_all (has_mark (came ++ Copies other copies ∷ [])) senders ≡ list_all (has_mark came) senders
+all_marks-copies other copies came [] = refl
+all_marks-copies other copies came (sender ∷ senders) = and_both (marks-copies sender other copies came) (all_marks-copies other copies came senders)
   where
     and_both : {a b c d : Bool} → a ≡ b → c ≡ d → (a && c) ≡ (b && d)
     and_both {a} {b} {c} {d} e f = ap (λ x. x && c) e ∙ ap (λ x. b && x) f
+
+-- the last mark that was waited for comes off with no copies
+pub last_alone : (v w : Account) (m : Message) (senders : List ℕ) → Comes v m w → list_all (has_mark v.came) senders ≡ false → list_all (has_mark w.came) senders ≡ true → copies_in_one m ≡ []
+last_alone v w (Copies sender copies) senders comes going ended =
+    absurd (true≢false (sym ended ∙ ap (λ (u : Account). list_all (has_mark u.came) senders) comes.0 ∙ all_marks-copies sender copies v.came senders ∙ going))
+last_alone v w (Mark sender) senders comes going ended = refl
 
 -- the marks of the first senders among four
 pub marks_of_first : (came : List Message) (senders : ℕ) → senders ≤ 4 → list_all (λ (m : Bool). m) (take senders (marks_of_four came)) ≡ list_all (has_mark came) (range_with_len 0 senders)
@@ -84,15 +89,12 @@ marks_of_first came (suc (suc (suc zero))) few = refl
 marks_of_first came (suc (suc (suc (suc zero)))) few = refl
 marks_of_first came (suc (suc (suc (suc (suc senders))))) few = absurd (omega arith)
 
-pub copies-append : (xs ys : List Message) → copies_in (xs ++ ys) ≡ copies_in xs ++ copies_in ys
-copies-append xs ys = flat_map-append copies_in_one xs ys
-
 -- a sender's mark is one of its messages
 mark_kept : (sender : ℕ) (messages : List Message) → has_mark (messages_of sender messages) sender ≡ has_mark messages sender
 mark_kept sender [] = refl
-mark_kept sender (Copy other copy ∷ messages) = copied (other == sender) (messages_of sender messages) ∙ mark_kept sender messages
+mark_kept sender (Copies other copies ∷ messages) = copied (other == sender) (messages_of sender messages) ∙ mark_kept sender messages
   where
-    copied : (b : Bool) (rest : List Message) → has_mark (cond b (Copy other copy ∷ rest) rest) sender ≡ has_mark rest sender
+    copied : (b : Bool) (rest : List Message) → has_mark (cond b (Copies other copies ∷ rest) rest) sender ≡ has_mark rest sender
     copied true rest = refl
     copied false rest = refl
 mark_kept sender (Mark other ∷ messages) = marked (other == sender) refl ∙ ap (λ b. (other == sender) || b) (mark_kept sender messages)
@@ -108,8 +110,8 @@ nil_front [] ys e = refl
 nil_front (x ∷ xs) ys e = absurd (cc)
 
 -- what came off up to the mark is all
-up_to_mark : (sender : ℕ) (sent : List OnItsWay) (marked : Bool) (came queue : List Message)
-    → came ++ queue ≡ map (Copy sender) sent ++ cond marked (Mark sender ∷ []) [] → has_mark came sender ≡ true → copies_in came ≡ sent
+up_to_mark : (sender : ℕ) (sent : List Handful) (marked : Bool) (came queue : List Message)
+    → came ++ queue ≡ map (Copies sender) sent ++ cond marked (Mark sender ∷ []) [] → has_mark came sender ≡ true → copies_in came ≡ pages_of sent
 up_to_mark sender [] true [] queue is has = absurd (cc)
 up_to_mark sender [] false [] queue is has = absurd (cc)
 up_to_mark sender [] false (x ∷ came) queue is has = absurd (cc)
@@ -119,37 +121,13 @@ up_to_mark sender [] true (x ∷ came) queue is has =
     ap (λ m. copies_in_one m ++ copies_in came) first ∙ ap copies_in rest
 up_to_mark sender (c ∷ sent) marked [] queue is has = absurd (cc)
 up_to_mark sender (c ∷ sent) marked (x ∷ came) queue is has =
-    let first : x ≡ Copy sender c = cc in
-    let rest : came ++ queue ≡ map (Copy sender) sent ++ cond marked (Mark sender ∷ []) [] = cc in
+    let first : x ≡ Copies sender c = cc in
+    let rest : came ++ queue ≡ map (Copies sender) sent ++ cond marked (Mark sender ∷ []) [] = cc in
     let has_rest : has_mark came sender ≡ true = ap (λ m. is_mark_of sender m || has_mark came sender) (sym first) ∙ has in
-    ap (λ m. copies_in_one m ++ copies_in came) first ∙ ap (λ l. c ∷ l) (up_to_mark sender sent marked came queue rest has_rest)
-
-nil_back : (xs ys : List Message) → xs ++ ys ≡ [] → ys ≡ []
-nil_back [] ys e = e
-nil_back (x ∷ xs) ys e = absurd (cc)
-
--- behind the mark there is nothing
-behind_mark : (sender : ℕ) (sent : List OnItsWay) (marked : Bool) (came queue : List Message)
-    → came ++ queue ≡ map (Copy sender) sent ++ cond marked (Mark sender ∷ []) [] → has_mark came sender ≡ true → queue ≡ []
-behind_mark sender [] true [] queue is has = absurd (cc)
-behind_mark sender [] false [] queue is has = absurd (cc)
-behind_mark sender [] false (x ∷ came) queue is has = absurd (cc)
-behind_mark sender [] true (x ∷ came) queue is has = nil_back came queue (cc)
-behind_mark sender (c ∷ sent) marked [] queue is has = absurd (cc)
-behind_mark sender (c ∷ sent) marked (x ∷ came) queue is has =
-    let first : x ≡ Copy sender c = cc in
-    let rest : came ++ queue ≡ map (Copy sender) sent ++ cond marked (Mark sender ∷ []) [] = cc in
-    behind_mark sender sent marked came queue rest (ap (λ m. is_mark_of sender m || has_mark came sender) (sym first) ∙ has)
-
--- once a sender's mark came off, nothing that it sent is left
-pub none_left : (v : Account) (came queue : List Message) → messages_of v.sender (came ++ queue) ≡ all_sent v → has_mark came v.sender ≡ true → messages_of v.sender queue ≡ []
-none_left v came queue is has =
-    behind_mark v.sender v.sent v.marked (messages_of v.sender came) (messages_of v.sender queue)
-    (sym (messages-append v.sender came queue) ∙ is)
-    (mark_kept v.sender came ∙ has)
+    ap (λ m. copies_in_one m ++ copies_in came) first ∙ ap (λ l. c.items ++ l) (up_to_mark sender sent marked came queue rest has_rest)
 
 -- once a sender's mark came off, so did all its copies
-pub all_came : (v : Account) (came queue : List Message) → messages_of v.sender (came ++ queue) ≡ all_sent v → has_mark came v.sender ≡ true → copies_of v.sender came ≡ v.sent
+pub all_came : (v : Account) (came queue : List Message) → messages_of v.sender (came ++ queue) ≡ all_sent v → has_mark came v.sender ≡ true → copies_of v.sender came ≡ pages_of v.sent
 all_came v came queue is has =
     up_to_mark v.sender v.sent v.marked (messages_of v.sender came) (messages_of v.sender queue)
     (sym (messages-append v.sender came queue) ∙ is)

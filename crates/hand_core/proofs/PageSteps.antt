@@ -1,53 +1,61 @@
 -- Each step of a hand-over keeps its rule.
 use Rattle.std.proofs.Common.{◌≡◌, ◌≢◌, ℕ, zero, suc, ◌+◌, ◌-◌, ◌<◌, true, false, true≢false, List, [], ◌∷◌, ◌++◌, length, map, set, All, sym, refl, ap, ◌∙◌, subst, ⊎_elim, append_assoc, append-nil, arith}
 use Rattle.std.specs.Prelude.{replicate, drop}
+use Rattle.std.proofs.lemmas.Grind.{flat_map-append}
 use Rattle.std.proofs.lemmas.List.{map-append, replicate_more}
 use Rattle.std.specs.List.Sorted.{IsPermutation}
 use Rattle.std.proofs.lemmas.List.Sorted.{IsPermutation-refl, IsPermutation-sym, IsPermutation-trans, IsPermutation-append_left, All-permutation, length_permutation}
-use Rattle.std.proofs.Math.Seq.{drop-append_seam}
+use Rattle.std.proofs.Math.Seq.{drop-length}
 use mathlib.Core.Option.{some, some-ne-none}
 use lib.ListN.{get_elem?}
 use Rattle.crossbeam_channel.specs.Fifo.{Pushes, Pops, Forks, Merges, Learns}
 use Rattle.atomic_table.proofs.Lists.{at_set}
 use Rattle.word_core.specs.Page.{OnItsWay}
 use Rattle.hand_core.specs.declared.page_queue.Note.{Note}
-use Rattle.hand_core.specs.declared.page_queue.Note.TheVariants.{Page, Mark}
+use Rattle.hand_core.specs.declared.page_queue.Note.TheVariants.{Pages, Mark}
 use Rattle.hand_core.specs.declared.page_queue.Known.{Known}
 use Rattle.word_core.specs.Serials.{HasSerialsFrom, IsRising}
-use Rattle.hand_core.specs.PageQueue.{giver_knows, taker_knows, total, all_taken, all_ended, InOrder, after_put, after_take, Takes, joined, nothing_known, Settles}
+use Rattle.hand_core.specs.PageQueue.{giver_knows, taker_knows, total, all_taken, all_ended, InOrder, after_put, after_take, Takes, joined, nothing_known, Settles, pages_in as queue_pages}
+use Rattle.hand_core.specs.Handfuls.{Handful, pages_of}
 use Rattle.hand_core.specs.Queue.{Each}
 use Rattle.hand_core.proofs.EachEnd.{each_set, each_new}
-use Rattle.hand_core.proofs.Serials.{serials-snoc, serials_front, serial_at, serials_below, rising-snoc, rising-nil}
+use Rattle.hand_core.proofs.Serials.{serials-append, serials_front, serials_behind, serials_below, rising-append, rising-nil}
 use Rattle.hand_core.proofs.Totals.{total_set, total_same, total_new, total_alone, taken_same, taken_new, taken_longer, taken_joined, taken_alone, all_of_end}
 
-abbrev queue_of : List OnItsWay → ℕ → List Note
-queue_of waiting marks = map Page waiting ++ replicate marks Mark
+abbrev queue_of : List Handful → ℕ → List Note
+queue_of waiting marks = map Pages waiting ++ replicate marks Mark
 
-queued_page : (queue : List Note) (waiting : List OnItsWay) (marks : ℕ) (p : OnItsWay) → queue ≡ queue_of waiting marks → marks ≡ 0 → queue ++ Page p ∷ [] ≡ queue_of (waiting ++ p ∷ []) 0
-queued_page queue waiting marks p is none =
-    ap (λ l. l ++ Page p ∷ []) (is ∙ ap (λ m. map Page waiting ++ replicate m Mark) none ∙ append-nil (map Page waiting))
-    ∙ sym (map-append Page waiting (p ∷ []))
-    ∙ sym (append-nil (map Page (waiting ++ p ∷ [])))
+queued_pages : (queue : List Note) (waiting : List Handful) (marks : ℕ) (h : Handful) → queue ≡ queue_of waiting marks → marks ≡ 0 → queue ++ Pages h ∷ [] ≡ queue_of (waiting ++ h ∷ []) 0
+queued_pages queue waiting marks h is none =
+    ap (λ l. l ++ Pages h ∷ []) (is ∙ ap (λ m. map Pages waiting ++ replicate m Mark) none ∙ append-nil (map Pages waiting))
+    ∙ sym (map-append Pages waiting (h ∷ []))
+    ∙ sym (append-nil (map Pages (waiting ++ h ∷ [])))
 
-queued_mark : (queue : List Note) (waiting : List OnItsWay) (marks : ℕ) → queue ≡ queue_of waiting marks → queue ++ Mark ∷ [] ≡ queue_of waiting (marks + 1)
+queued_mark : (queue : List Note) (waiting : List Handful) (marks : ℕ) → queue ≡ queue_of waiting marks → queue ++ Mark ∷ [] ≡ queue_of waiting (marks + 1)
 queued_mark queue waiting marks is =
     ap (λ l. l ++ Mark ∷ []) is
-    ∙ append_assoc (map Page waiting) (replicate marks Mark) (Mark ∷ [])
-    ∙ ap (λ l. map Page waiting ++ l) (replicate_more marks Mark)
+    ∙ append_assoc (map Pages waiting) (replicate marks Mark) (Mark ∷ [])
+    ∙ ap (λ l. map Pages waiting ++ l) (replicate_more marks Mark)
 
--- a page in front is the first that waits
-front_page : (waiting : List OnItsWay) (marks : ℕ) (p : OnItsWay) (queue : List Note) → Page p ∷ queue ≡ queue_of waiting marks
-    → (rest : List OnItsWay) × (waiting ≡ p ∷ rest) × (queue ≡ queue_of rest marks)
-front_page [] zero p queue is = absurd (cc)
-front_page [] (suc marks) p queue is = absurd (cc)
-front_page (q ∷ waiting) marks p queue is = (waiting, (cc), (cc))
+-- the pages of one handful more
+one_more : (waiting : List Handful) (h : Handful) → pages_of (waiting ++ h ∷ []) ≡ pages_of waiting ++ h.items
+one_more waiting h =
+    flat_map-append (λ (g : Handful). g.items) waiting (h ∷ [])
+    ∙ ap (λ l. pages_of waiting ++ l) (append-nil h.items)
+
+-- a handful in front is the first that waits
+front_pages : (waiting : List Handful) (marks : ℕ) (h : Handful) (queue : List Note) → Pages h ∷ queue ≡ queue_of waiting marks
+    → (rest : List Handful) × (waiting ≡ h ∷ rest) × (queue ≡ queue_of rest marks)
+front_pages [] zero h queue is = absurd (cc)
+front_pages [] (suc marks) h queue is = absurd (cc)
+front_pages (g ∷ waiting) marks h queue is = (waiting, (cc), (cc))
 
 -- behind an end mark there are only end marks
-front_mark : (waiting : List OnItsWay) (marks : ℕ) (queue : List Note) → Mark ∷ queue ≡ queue_of waiting marks
+front_mark : (waiting : List Handful) (marks : ℕ) (queue : List Note) → Mark ∷ queue ≡ queue_of waiting marks
     → (rest : ℕ) × (waiting ≡ []) × (marks ≡ suc rest) × (queue ≡ queue_of [] rest)
 front_mark [] zero queue is = absurd (cc)
 front_mark [] (suc marks) queue is = (marks, refl, refl, (cc))
-front_mark (q ∷ waiting) marks queue is = absurd (cc)
+front_mark (g ∷ waiting) marks queue is = absurd (cc)
 
 abbrev Gave : ℕ → List OnItsWay → ℕ → ℕ → Known → Type 0
 Gave giver given marks number v = v.gives ≡ true → (number ≡ giver) × (v.given ≡ given) × (v.marks ≡ marks)
@@ -89,15 +97,17 @@ opens =
     none zero u other at = other refl
     none (suc j) u other at = some-ne-none u (sym at)
 
--- a page goes in at the back
-pub page_in : (room number : ℕ) (v : Known) (p : OnItsWay) (base : ℕ) → v.gives ≡ true → v.marks ≡ 0 → HasSerialsFrom base v.given → p.serial ≡ base + length v.given
-    → Pushes InOrder room number v (Page p) (λ w. w ≡ after_put v (Page p))
-page_in room number v p base gives unmarked serials next queue ends short r at =
-    let w = after_put v (Page p) in
+-- a handful goes in at the back
+pub pages_in : (room number : ℕ) (v : Known) (h : Handful) (base : ℕ) → v.gives ≡ true → v.marks ≡ 0 → HasSerialsFrom base v.given → HasSerialsFrom (base + length v.given) h.items
+    → Pushes InOrder room number v (Pages h) (λ w. w ≡ after_put v (Pages h))
+pages_in room number v h base gives unmarked serials next queue ends short r at =
+    let w = after_put v (Pages h) in
     let this = r.given number v at gives in
     let count = this.2 in
     let none : r.marks ≡ 0 = omega arith in
-    let given : v.given ++ p ∷ [] ≡ r.off ++ (r.waiting ++ p ∷ []) = ap (λ l. l ++ p ∷ []) this.1 ∙ append_assoc r.off r.waiting (p ∷ []) in
+    let waiting : List Handful = r.waiting ++ h ∷ [] in
+    let given : v.given ++ h.items ≡ r.off ++ pages_of waiting =
+    ap (λ l. l ++ h.items) this.1 ∙ append_assoc r.off (pages_of r.waiting) h.items ∙ ap (λ l. r.off ++ l) (sym (one_more r.waiting h)) in
     let ended : all_ended (set ends number w) ≡ all_ended ends = total_same (λ u. u.ended) ends number v w at refl in
     let marks : v.marks ≡ all_ended (set ends number w) + 0 = omega arith in (
       w,
@@ -105,16 +115,16 @@ page_in room number v p base gives unmarked serials next queue ends short r at =
         giver = r.giver;
         base = base;
         off = r.off;
-        waiting = r.waiting ++ p ∷ [];
+        waiting = waiting;
         marks = 0;
-        serials = subst (HasSerialsFrom base) given (serials-snoc base v.given p serials next);
-        queued = queued_page queue r.waiting r.marks p r.queued none;
+        serials = subst (HasSerialsFrom base) given (serials-append base v.given h.items serials next);
+        queued = queued_pages queue r.waiting r.marks h r.queued none;
         together = subst (λ l. IsPermutation l r.off) (sym (taken_same ends number v w at refl)) r.together;
         rising = each_set Rises ends number w (r.rising number v at) (λ j u other e. r.rising j u e);
         done = λ some. absurd (omega arith);
-        given = each_set (Gave r.giver (r.off ++ (r.waiting ++ p ∷ [])) (all_ended (set ends number w) + 0)) ends number w
+        given = each_set (Gave r.giver (r.off ++ pages_of waiting) (all_ended (set ends number w) + 0)) ends number w
             (λ _. (this.0, given, marks))
-            (λ j u other e. other_giver r.giver (r.off ++ r.waiting) (r.off ++ (r.waiting ++ p ∷ [])) (all_ended ends + r.marks) (all_ended (set ends number w) + 0) number j u this.0 other (r.given j u e));
+            (λ j u other e. other_giver r.giver (r.off ++ pages_of r.waiting) (r.off ++ pages_of waiting) (all_ended ends + r.marks) (all_ended (set ends number w) + 0) number j u this.0 other (r.given j u e));
         shares = total_same (λ u. u.shares) ends number v w at refl ∙ r.shares;
         spent = each_set Spent ends number w (r.spent number v at) (λ j u other e. r.spent j u e);
       },
@@ -141,54 +151,57 @@ mark_in room number v gives queue ends short r at =
         together = subst (λ l. IsPermutation l r.off) (sym (taken_same ends number v w at refl)) r.together;
         rising = each_set Rises ends number w (r.rising number v at) (λ j u other e. r.rising j u e);
         done = λ some. r.done (omega arith);
-        given = each_set (Gave r.giver (r.off ++ r.waiting) (all_ended (set ends number w) + (r.marks + 1))) ends number w
+        given = each_set (Gave r.giver (r.off ++ pages_of r.waiting) (all_ended (set ends number w) + (r.marks + 1))) ends number w
             (λ _. (this.0, this.1, marks))
-            (λ j u other e. other_giver r.giver (r.off ++ r.waiting) (r.off ++ r.waiting) (all_ended ends + r.marks) (all_ended (set ends number w) + (r.marks + 1)) number j u this.0 other (r.given j u e));
+            (λ j u other e. other_giver r.giver (r.off ++ pages_of r.waiting) (r.off ++ pages_of r.waiting) (all_ended ends + r.marks) (all_ended (set ends number w) + (r.marks + 1)) number j u this.0 other (r.given j u e));
         shares = total_same (λ u. u.shares) ends number v w at refl ∙ r.shares;
         spent = each_set Spent ends number w (r.spent number v at) (λ j u other e. r.spent j u e);
       },
       refl,
     )
 
--- a page comes off the front
-page_off : (number : ℕ) (v : Known) (p : OnItsWay) (queue : List Note) (ends : List Known) → v.gives ≡ false → 0 < v.shares → InOrder (Page p ∷ queue) ends → get_elem? ends number ≡ some v
-    → InOrder queue (set ends number (after_take v (Page p))) × IsRising (v.taken ++ p ∷ [])
-page_off number v p queue ends plain share r at =
-    let w = after_take v (Page p) in
-    let front = front_page r.waiting r.marks p queue r.queued in
-    let rest : List OnItsWay = front.0 in
-    let first : r.waiting ≡ p ∷ rest = front.1 in
-    let moved : r.off ++ r.waiting ≡ (r.off ++ p ∷ []) ++ rest = ap (λ l. r.off ++ l) first ∙ sym (append_assoc r.off (p ∷ []) rest) in
+-- a handful comes off the front
+pages_off : (number : ℕ) (v : Known) (h : Handful) (queue : List Note) (ends : List Known) → v.gives ≡ false → 0 < v.shares → InOrder (Pages h ∷ queue) ends → get_elem? ends number ≡ some v
+    → InOrder queue (set ends number (after_take v (Pages h))) × IsRising (v.taken ++ h.items)
+pages_off number v h queue ends plain share r at =
+    let w = after_take v (Pages h) in
+    let front = front_pages r.waiting r.marks h queue r.queued in
+    let rest : List Handful = front.0 in
+    let first : r.waiting ≡ h ∷ rest = front.1 in
+    let moved : r.off ++ pages_of r.waiting ≡ (r.off ++ h.items) ++ pages_of rest =
+    ap (λ l. r.off ++ pages_of l) first ∙ sym (append_assoc r.off h.items (pages_of rest)) in
     let ended : all_ended (set ends number w) ≡ all_ended ends = total_same (λ u. u.ended) ends number v w at refl in
-    let serial : p.serial ≡ r.base + length r.off = serial_at r.base r.off p rest (subst (λ l. HasSerialsFrom r.base (r.off ++ l)) first r.serials) in
+    let serials : HasSerialsFrom r.base ((r.off ++ h.items) ++ pages_of rest) = subst (HasSerialsFrom r.base) moved r.serials in
+    let next : HasSerialsFrom (r.base + length r.off) h.items =
+    serials_behind r.base r.off h.items (serials_front r.base (r.off ++ h.items) (pages_of rest) serials) in
     let below : All (λ (q : OnItsWay). q.serial < r.base + length r.off) v.taken =
     all_of_end (λ q. q.serial < r.base + length r.off) ends number v at
     (All-permutation (λ (q : OnItsWay). q.serial < r.base + length r.off) r.off (all_taken ends) (IsPermutation-sym (all_taken ends) r.off r.together)
-    (serials_below r.base r.off (serials_front r.base r.off r.waiting r.serials))) in
-    let rises : IsRising (v.taken ++ p ∷ []) = rising-snoc v.taken p (r.rising number v at plain) (subst (λ n. All (λ (q : OnItsWay). q.serial < n) v.taken) (sym serial) below) in (
+    (serials_below r.base r.off (serials_front r.base r.off (pages_of r.waiting) r.serials))) in
+    let rises : IsRising (v.taken ++ h.items) = rising-append v.taken (r.base + length r.off) h.items (r.rising number v at plain) below next in (
       record {
         giver = r.giver;
         base = r.base;
-        off = r.off ++ p ∷ [];
+        off = r.off ++ h.items;
         waiting = rest;
         marks = r.marks;
-        serials = subst (HasSerialsFrom r.base) moved r.serials;
+        serials = serials;
         queued = front.2;
-        together = IsPermutation-trans (all_taken (set ends number w)) (all_taken ends ++ p ∷ []) (r.off ++ p ∷ [])
-            (taken_longer ends number v w (p ∷ []) at refl)
-            (IsPermutation-append_left (p ∷ []) (all_taken ends) r.off r.together);
+        together = IsPermutation-trans (all_taken (set ends number w)) (all_taken ends ++ h.items) (r.off ++ h.items)
+            (taken_longer ends number v w h.items at refl)
+            (IsPermutation-append_left h.items (all_taken ends) r.off r.together);
         rising = each_set Rises ends number w (λ _. rises) (λ j u other e. r.rising j u e);
         done = λ some. absurd (nothing (sym first ∙ r.done (omega arith)));
-        given = each_set (Gave r.giver ((r.off ++ p ∷ []) ++ rest) (all_ended (set ends number w) + r.marks)) ends number w
+        given = each_set (Gave r.giver ((r.off ++ h.items) ++ pages_of rest) (all_ended (set ends number w) + r.marks)) ends number w
             (λ gives. absurd (true≢false (sym gives ∙ plain)))
-            (λ j u other e. same_giver r.giver (r.off ++ r.waiting) ((r.off ++ p ∷ []) ++ rest) (all_ended ends + r.marks) (all_ended (set ends number w) + r.marks) j u moved (ap (λ n. n + r.marks) (sym ended)) (r.given j u e));
+            (λ j u other e. same_giver r.giver (r.off ++ pages_of r.waiting) ((r.off ++ h.items) ++ pages_of rest) (all_ended ends + r.marks) (all_ended (set ends number w) + r.marks) j u moved (ap (λ n. n + r.marks) (sym ended)) (r.given j u e));
         shares = total_same (λ u. u.shares) ends number v w at refl ∙ r.shares;
         spent = each_set Spent ends number w (λ none. absurd (omega arith)) (λ j u other e. r.spent j u e);
       },
       rises,
     )
   where
-    nothing : {rest : List OnItsWay} → p ∷ rest ≡ [] → ⊥
+    nothing : {rest : List Handful} → h ∷ rest ≡ [] → ⊥
     nothing e = cc
 
 -- an end mark comes off the front
@@ -202,7 +215,7 @@ mark_off number v queue ends plain share r at =
     let fewer : r.marks ≡ suc left = front.2 in
     let one : all_ended (set ends number w) + v.ended ≡ all_ended ends + (v.ended + 1) = total_set (λ u. u.ended) ends number v w at in
     let marks : all_ended ends + r.marks ≡ all_ended (set ends number w) + left = omega arith in
-    let pages : r.off ++ r.waiting ≡ r.off ++ [] = ap (λ l. r.off ++ l) none in (
+    let pages : r.off ++ pages_of r.waiting ≡ r.off ++ [] = ap (λ l. r.off ++ pages_of l) none in (
       record {
         giver = r.giver;
         base = r.base;
@@ -216,7 +229,7 @@ mark_off number v queue ends plain share r at =
         done = λ some. refl;
         given = each_set (Gave r.giver (r.off ++ []) (all_ended (set ends number w) + left)) ends number w
             (λ gives. absurd (true≢false (sym gives ∙ plain)))
-            (λ j u other e. same_giver r.giver (r.off ++ r.waiting) (r.off ++ []) (all_ended ends + r.marks) (all_ended (set ends number w) + left) j u pages marks (r.given j u e));
+            (λ j u other e. same_giver r.giver (r.off ++ pages_of r.waiting) (r.off ++ []) (all_ended ends + r.marks) (all_ended (set ends number w) + left) j u pages marks (r.given j u e));
         shares = total_same (λ u. u.shares) ends number v w at refl ∙ r.shares;
         spent = each_set Spent ends number w (λ none. absurd (omega arith)) (λ j u other e. r.spent j u e);
       },
@@ -225,7 +238,7 @@ mark_off number v queue ends plain share r at =
 
 -- a taker takes what stands at the front
 pub off : (number : ℕ) (v : Known) → v.gives ≡ false → 0 < v.shares → Pops InOrder number v (Takes v)
-off number v plain share (Page p) queue ends r at = let step = page_off number v p queue ends plain share r at in (after_take v (Page p), step.0, (refl, step.1))
+off number v plain share (Pages h) queue ends r at = let step = pages_off number v h queue ends plain share r at in (after_take v (Pages h), step.0, (refl, step.1))
 off number v plain share Mark queue ends r at = let step = mark_off number v queue ends plain share r at in (after_take v Mark, step.0, (refl, step.1))
 
 -- the giver cuts off a share for a taker
@@ -248,10 +261,10 @@ cuts number v shares queue ends r at =
       together = subst (λ l. IsPermutation l r.off) (sym (taken_new ws taker_knows refl ∙ taken_same ends number v w at refl)) r.together;
       rising = every Rises (r.rising number v at) (λ j plain. rising-nil) r.rising;
       done = λ some. r.done (omega arith);
-      given = every (Gave r.giver (r.off ++ r.waiting) (all_ended (ws ++ taker_knows ∷ []) + r.marks))
-          (same_giver r.giver (r.off ++ r.waiting) (r.off ++ r.waiting) (all_ended ends + r.marks) (all_ended (ws ++ taker_knows ∷ []) + r.marks) number w refl (ap (λ n. n + r.marks) (sym ended)) (r.given number v at))
+      given = every (Gave r.giver (r.off ++ pages_of r.waiting) (all_ended (ws ++ taker_knows ∷ []) + r.marks))
+          (same_giver r.giver (r.off ++ pages_of r.waiting) (r.off ++ pages_of r.waiting) (all_ended ends + r.marks) (all_ended (ws ++ taker_knows ∷ []) + r.marks) number w refl (ap (λ n. n + r.marks) (sym ended)) (r.given number v at))
           (λ j gives. absurd (true≢false (sym gives)))
-          (λ j u e. same_giver r.giver (r.off ++ r.waiting) (r.off ++ r.waiting) (all_ended ends + r.marks) (all_ended (ws ++ taker_knows ∷ []) + r.marks) j u refl (ap (λ n. n + r.marks) (sym ended)) (r.given j u e));
+          (λ j u e. same_giver r.giver (r.off ++ pages_of r.waiting) (r.off ++ pages_of r.waiting) (all_ended ends + r.marks) (all_ended (ws ++ taker_knows ∷ []) + r.marks) j u refl (ap (λ n. n + r.marks) (sym ended)) (r.given j u e));
       shares = let a = total_new (λ u. u.shares) ws taker_knows in let b = total_set (λ u. u.shares) ends number v w at in let e = r.shares in omega arith;
       spent = every Spent (λ none. absurd (omega arith)) (λ j none. absurd (omega arith)) r.spent;
     }
@@ -279,10 +292,10 @@ joins number v other u gives share queue ends r at apart at_other =
       together = IsPermutation-trans (all_taken us) (all_taken ends) r.off (taken_joined ends number other v u both nothing_known apart at was refl refl) r.together;
       rising = every Rises (λ plain. absurd (true≢false (sym gives ∙ plain))) (λ plain. rising-nil) r.rising;
       done = λ some. r.done (omega arith);
-      given = every (Gave r.giver (r.off ++ r.waiting) (all_ended us + r.marks))
-          (same_giver r.giver (r.off ++ r.waiting) (r.off ++ r.waiting) (all_ended ends + r.marks) (all_ended us + r.marks) number both refl (ap (λ n. n + r.marks) (sym ended)) (r.given number v at))
+      given = every (Gave r.giver (r.off ++ pages_of r.waiting) (all_ended us + r.marks))
+          (same_giver r.giver (r.off ++ pages_of r.waiting) (r.off ++ pages_of r.waiting) (all_ended ends + r.marks) (all_ended us + r.marks) number both refl (ap (λ n. n + r.marks) (sym ended)) (r.given number v at))
           (λ none. absurd (true≢false (sym none)))
-          (λ j y e. same_giver r.giver (r.off ++ r.waiting) (r.off ++ r.waiting) (all_ended ends + r.marks) (all_ended us + r.marks) j y refl (ap (λ n. n + r.marks) (sym ended)) (r.given j y e));
+          (λ j y e. same_giver r.giver (r.off ++ pages_of r.waiting) (r.off ++ pages_of r.waiting) (all_ended ends + r.marks) (all_ended us + r.marks) j y refl (ap (λ n. n + r.marks) (sym ended)) (r.given j y e));
       shares = sums (λ y. y.shares) refl refl ∙ r.shares;
       spent = every Spent (λ none. absurd (omega arith)) (λ none. (refl, refl)) r.spent;
     }
@@ -296,13 +309,11 @@ settles number v gives every has_ended all_marks queue ends r at =
     let ended : all_ended ends ≡ v.ended = total_alone (λ u. u.ended) ends number v at whole (λ j u e none. (r.spent j u e none).1) in
     let lists : all_taken ends ≡ v.taken = taken_alone ends number v at whole (λ j u e none. (r.spent j u e none).0) in
     let empty : r.waiting ≡ [] = r.done (omega arith) in
-    let given : v.given ≡ r.off = this.1 ∙ ap (λ l. r.off ++ l) empty ∙ append-nil r.off in
+    let given : v.given ≡ r.off = this.1 ∙ ap (λ l. r.off ++ pages_of l) empty ∙ append-nil r.off in
     let none : r.marks ≡ 0 = omega arith in
-    let came : length r.off ≡ length v.taken = length_permutation (all_taken ends) r.off r.together ∙ ap (λ l. length l) lists in
-    let waiting : r.waiting ≡ drop (length v.taken) v.given =
-    sym (drop-append_seam r.off r.waiting) ∙ ap (λ n. drop n (r.off ++ r.waiting)) came ∙ ap (λ l. drop (length v.taken) l) (sym this.1) in
-    let marks : r.marks ≡ v.marks - v.ended = omega arith in (
+    let came : length v.given ≡ length v.taken = ap (λ l. length l) given ∙ length_permutation (all_taken ends) r.off r.together ∙ ap (λ l. length l) lists in
+    let nothing : queue ≡ [] = r.queued ∙ ap (λ l. map Pages l ++ replicate r.marks Mark) empty ∙ ap (λ m. replicate m Mark) none in (
       subst (λ l. IsPermutation l v.given) lists (subst (λ l. IsPermutation (all_taken ends) l) (sym given) r.together),
-      r.queued ∙ ap (λ l. map Page l ++ replicate r.marks Mark) waiting ∙ ap (λ m. map Page (drop (length v.taken) v.given) ++ replicate m Mark) marks,
-      r.queued ∙ ap (λ l. map Page l ++ replicate r.marks Mark) empty ∙ ap (λ m. replicate m Mark) none,
+      ap queue_pages nothing ∙ sym (ap (λ n. drop n v.given) (sym came) ∙ drop-length v.given),
+      nothing,
     )

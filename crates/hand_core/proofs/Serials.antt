@@ -1,12 +1,13 @@
 -- Serials that follow one another, and lists that rise.
-use Rattle.std.proofs.Common.{◌≡◌, ℕ, zero, suc, ◌+◌, ◌<◌, ◌≤◌, List, [], ◌∷◌, ◌++◌, length, get_or, All, sym, ap, ◌∙◌, subst, refl, arith, length-append, ⊎_elim}
+use Rattle.std.proofs.Common.{◌≡◌, ℕ, zero, suc, ◌+◌, ◌<◌, ◌≤◌, List, [], ◌∷◌, ◌++◌, length, get_or, Some, All, sym, ap, ◌∙◌, subst, refl, arith, length-append, ⊎_elim, append_assoc, append-nil}
+use Rattle.std.specs.Prelude.{slice_get}
 use Rattle.std.proofs.lemmas.Bool.{cases_lt}
 use Rattle.std.proofs.lemmas.List.{map-append}
 use Rattle.std.proofs.Math.ListN.{get_or-append}
 use Rattle.std.proofs.Math.Seq.{get_or-append_seam, take-append_seam, drop-append_seam}
 use Rattle.std.specs.List.{range_with_len}
 use Rattle.std.specs.List.Sorted.{IsStrictlyIncreasing}
-use Rattle.std.proofs.lemmas.List.Elements.{All-map, All-take, All-drop}
+use Rattle.std.proofs.lemmas.List.Elements.{All-map, All-take, All-drop, All-cons, All-nil, All-append}
 use Rattle.word_core.specs.Page.{OnItsWay}
 use Rattle.word_core.specs.Serials.{serials_of, HasSerialsFrom, IsRising}
 
@@ -33,6 +34,16 @@ serials-snoc first pages p h next =
     ∙ sym (range_with_len-suc first (length pages))
     ∙ ap (λ n. range_with_len first n) (sym longer)
 
+-- pages behind them
+pub serials-append : (first : ℕ) (pages more : List OnItsWay) → HasSerialsFrom first pages → HasSerialsFrom (first + length pages) more → HasSerialsFrom first (pages ++ more)
+serials-append first [] more h next = subst (λ n. HasSerialsFrom n more) (let e : first + 0 ≡ first = omega arith in e) next
+serials-append first (p ∷ pages) more h next =
+    let inner = serials-append (first + 1) pages more
+    (tail_of p.serial first (serials_of pages) (range_with_len (first + 1) (length pages)) h)
+    (subst (λ n. HasSerialsFrom n more) (let e : first + suc (length pages) ≡ first + 1 + length pages = omega arith in e) next) in
+    let same : p.serial ≡ first = head_of p.serial first (serials_of pages) (range_with_len (first + 1) (length pages)) h in
+    ap (λ l. p.serial ∷ l) inner ∙ ap (λ n. n ∷ range_with_len (first + 1) (length (pages ++ more))) same
+
 -- the pages in front
 pub serials_front : (first : ℕ) (pages rest : List OnItsWay) → HasSerialsFrom first (pages ++ rest) → HasSerialsFrom first pages
 serials_front first [] rest h = refl
@@ -41,11 +52,28 @@ serials_front first (p ∷ pages) rest h =
     let same : p.serial ≡ first = head_of p.serial first (serials_of (pages ++ rest)) (range_with_len (first + 1) (length (pages ++ rest))) h in
     ap (λ l. p.serial ∷ l) inner ∙ ap (λ n. n ∷ range_with_len (first + 1) (length pages)) same
 
+-- those behind them
+pub serials_behind : (first : ℕ) (pages rest : List OnItsWay) → HasSerialsFrom first (pages ++ rest) → HasSerialsFrom (first + length pages) rest
+serials_behind first [] rest h = subst (λ n. HasSerialsFrom n rest) (let e : first ≡ first + 0 = omega arith in e) h
+serials_behind first (p ∷ pages) rest h =
+    subst (λ n. HasSerialsFrom n rest) (let e : first + 1 + length pages ≡ first + suc (length pages) = omega arith in e)
+    (serials_behind (first + 1) pages rest (tail_of p.serial first (serials_of (pages ++ rest)) (range_with_len (first + 1) (length (pages ++ rest))) h))
+
 -- the page behind them
 pub serial_at : (first : ℕ) (pages : List OnItsWay) (p : OnItsWay) (rest : List OnItsWay) → HasSerialsFrom first (pages ++ p ∷ rest) → p.serial ≡ first + length pages
 serial_at first [] p rest h = let e = head_of p.serial first (serials_of rest) (range_with_len (first + 1) (length rest)) h in omega arith
 serial_at first (q ∷ pages) p rest h =
     let e = serial_at (first + 1) pages p rest (tail_of q.serial first (serials_of (pages ++ p ∷ rest)) (range_with_len (first + 1) (length (pages ++ p ∷ rest))) h) in omega arith
+
+-- the page at one place
+pub serial_of : (first : ℕ) (pages : List OnItsWay) (place : ℕ) (p : OnItsWay) → HasSerialsFrom first pages → Some p ≡ slice_get pages place → (p.serial ≡ first + place) × (place < length pages)
+serial_of first [] place p h is = absurd (cc)
+serial_of first (q ∷ pages) zero p h is =
+    let same : p ≡ q = cc in
+    let serial : p.serial ≡ q.serial = ap (λ (o : OnItsWay). o.serial) same in
+    let e = head_of q.serial first (serials_of pages) (range_with_len (first + 1) (length pages)) h in (omega arith, omega arith)
+serial_of first (q ∷ pages) (suc place) p h is =
+    let e = serial_of (first + 1) pages place p (tail_of q.serial first (serials_of pages) (range_with_len (first + 1) (length pages)) h) is in (omega arith, omega arith)
 
 -- no page has a serial that a later one will have
 pub serials_below : (first : ℕ) (pages : List OnItsWay) → HasSerialsFrom first pages → All (λ (q : OnItsWay). q.serial < first + length pages) pages
@@ -80,6 +108,32 @@ pub rising-snoc : (pages : List OnItsWay) (p : OnItsWay) → IsRising pages → 
 rising-snoc pages p rises below =
     subst IsStrictlyIncreasing (sym (map-append (λ (q : OnItsWay). q.serial) pages (p ∷ [])))
     (increasing-snoc (serials_of pages) p.serial rises (All-map (λ n. n < p.serial) (λ (q : OnItsWay). q.serial) pages below))
+
+-- pages with the next serials
+pub rising-append : (pages : List OnItsWay) (first : ℕ) (more : List OnItsWay) → IsRising pages → All (λ (q : OnItsWay). q.serial < first) pages → HasSerialsFrom first more → IsRising (pages ++ more)
+rising-append pages first [] rises below h = subst IsRising (sym (append-nil pages)) rises
+rising-append pages first (p ∷ more) rises below h =
+    let same : p.serial ≡ first = head_of p.serial first (serials_of more) (range_with_len (first + 1) (length more)) h in
+    let Below : ℕ → OnItsWay → Type 0 = λ n q. q.serial < n in
+    let wider : All (Below (first + 1)) pages = λ k d lt. let low = below k d lt in omega arith in
+    let this : All (Below (first + 1)) (p ∷ []) = All-cons (Below (first + 1)) p [] (omega arith) (All-nil (Below (first + 1))) in
+    subst IsRising (append_assoc pages (p ∷ []) more)
+    (rising-append (pages ++ p ∷ []) (first + 1) more
+    (rising-snoc pages p rises (subst (λ n. All (Below n) pages) (sym same) below))
+    (All-append (Below (first + 1)) pages (p ∷ []) wider this)
+    (tail_of p.serial first (serials_of more) (range_with_len (first + 1) (length more)) h))
+
+-- the pages in front of others rise too
+pub rising_front : (pages more : List OnItsWay) → IsRising (pages ++ more) → IsRising pages
+rising_front pages more rises =
+    front (serials_of pages) (serials_of more) (subst IsStrictlyIncreasing (map-append (λ (q : OnItsWay). q.serial) pages more) rises)
+  where
+    front : (xs ys : List ℕ) → IsStrictlyIncreasing (xs ++ ys) → IsStrictlyIncreasing xs
+    front xs ys all k lt =
+        let longer = length-append xs ys in
+        let this : get_or (xs ++ ys) k 0 ≡ get_or xs k 0 = get_or-append xs ys 0 k (omega arith) in
+        let next : get_or (xs ++ ys) (k + 1) 0 ≡ get_or xs (k + 1) 0 = get_or-append xs ys 0 (k + 1) lt in
+        let e = all k (omega arith) in omega arith
 
 pub rising-nil : IsRising []
 rising-nil k lt = absurd (omega arith)

@@ -1,11 +1,12 @@
 -- What holds of the fields of a sender of copies, and of their taker.
-use Rattle.std.specs.Prelude.{◌≡◌, ◌≤◌, true, false, Bool, List, [], ◌∷◌}
+use Rattle.std.specs.Prelude.{◌≡◌, ◌≤◌, true, false, Bool, List, [], ◌∷◌, ◌++◌}
 use Rattle.crossbeam_channel.specs.Claims.{view, IsSeatAt}
 use Rattle.crossbeam_channel.specs.Ends.{sends_on, receives_on}
 use Rattle.hand_core.specs.declared.done_sender.DoneSender.TheInside as sender
 use Rattle.hand_core.specs.declared.done_taker.DoneTaker.TheInside as taker
 use Rattle.hand_core.specs.declared.copy_queue.Message.{Message}
-use Rattle.hand_core.specs.CopyEnds.{has_mark}
+use Rattle.hand_core.specs.CopyEnds.{has_mark, copies_in}
+use Rattle.word_core.specs.Page.{OnItsWay}
 
 -- the sender's pass is a seat at its channel, and it put no mark unless it is closed
 pub record IsSending (s : sender.Inside) : Type 0 where
@@ -18,10 +19,11 @@ pub record IsSending (s : sender.Inside) : Type 0 where
 abbrev pub marks_of_four : List Message → List Bool
 marks_of_four came = has_mark came 0 ∷ has_mark came 1 ∷ has_mark came 2 ∷ has_mark came 3 ∷ []
 
--- the taker's pass is a seat at its channel, and it has noted whose marks came off
+-- the taker's pass is a seat at its channel, it has noted whose marks came off, and the copies that came off end with those in hand
 pub record IsReceiving (t : taker.Inside) : Type 0 where
   pub seat : IsSeatAt (receives_on t.from) t.pass
   pub takes : (view t.pass).takes ≡ true
   pub made : (view t.pass).made ≡ t.senders
   pub few : t.senders ≤ 4
   pub noted : t.marked ≡ marks_of_four (view t.pass).came
+  pub hand : (before : List OnItsWay) × (copies_in (view t.pass).came ≡ before ++ t.hand)

@@ -1,6 +1,6 @@
 -- What contracts see of the two ends of a hand-over of pages.
-use Rattle.std.specs.Prelude.{ℕ, Bool, true, List, [], ◌∷◌, ◌++◌, length}
-use Rattle.std.specs.List.{flat_map, list_all, count_by}
+use Rattle.std.specs.Prelude.{◌≡◌, ◌≢◌, ℕ, Bool, true, List, [], ◌∷◌, ◌++◌, length}
+use Rattle.std.specs.List.{flat_map, list_all}
 use Rattle.word_core.specs.Page.{OnItsWay}
 use Rattle.hand_core.specs.declared.page_queue.Note.{Note}
 use Rattle.hand_core.specs.declared.taker.Took.{Took}
@@ -21,10 +21,12 @@ pub record Giver : Type 0 where
   pub marks : ℕ
   pub closed : Bool
 
--- a taker: the pages that it took, in their order, and whether it took an end mark
+-- a taker: the pages that it took, in their order, those that came off the queue with the last one and are to be taken next, and
+-- whether it took an end mark
 pub record Taker : Type 0 where
   pub hand_over : HandOver
   pub taken : List OnItsWay
+  pub in_hand : List OnItsWay
   pub ended : Bool
 
 -- the pages of all takers' lists
@@ -35,16 +37,13 @@ taken_by takers = flat_map (λ (t : Taker). t.taken) takers
 abbrev pub have_ended : List Taker → Bool
 have_ended takers = list_all (λ (t : Taker). t.ended) takers
 
--- how many takers took an end mark
-abbrev pub marks_taken : List Taker → ℕ
-marks_taken takers = count_by (λ (t : Taker). t.ended) takers
+-- the pages that the queue between a giver and all its takers holds: those that were given and weren't taken, in their order
+abbrev pub queue_between : Giver → List Taker → List OnItsWay
+queue_between giver takers = left_in_queue giver.given (length (taken_by takers))
 
--- the queue between a giver and all its takers: the pages and end marks that were put into it and didn't come off, in their order
-abbrev pub queue_between : Giver → List Taker → List Note
-queue_between giver takers = left_in_queue giver.given giver.marks (length (taken_by takers)) (marks_taken takers)
-
--- what an answer changes: a page joins the list, an end mark ends the taker, and where the giver is gone nothing changes
-abbrev pub after_answer : Taker → Took → Taker
-after_answer t (Took.Page p) = record t { taken = t.taken ++ p ∷ [] }
-after_answer t Took.End = record t { ended = true }
-after_answer t Took.Gone = t
+-- what an answer changes: a page joins the list, and it is the first of those in hand if there are any; with an empty hand, an end mark
+-- ends the taker, and where the giver is gone nothing changes
+abbrev pub IsAnswered : Taker → Took → Taker → Type 0
+IsAnswered t (Took.Page p) u = (u ≡ record t { taken = t.taken ++ p ∷ []; in_hand = u.in_hand }) × (t.in_hand ≢ [] → t.in_hand ≡ p ∷ u.in_hand)
+IsAnswered t Took.End u = (u ≡ record t { ended = true }) × (t.in_hand ≡ [])
+IsAnswered t Took.Gone u = (u ≡ t) × (t.in_hand ≡ [])

@@ -1,7 +1,8 @@
 -- What holds of the fields of a giver, and of a taker.
-use Rattle.std.specs.Prelude.{◌≡◌, ◌+◌, ◌^◌, ◌<◌, ◌≤◌, true, false, if◌then◌else◌, [], length}
+use Rattle.std.specs.Prelude.{◌≡◌, ◌+◌, ◌^◌, ◌<◌, ◌≤◌, true, false, if◌then◌else◌, List, [], ◌++◌, length}
 use Rattle.crossbeam_channel.specs.Claims.{view, IsSeatAt}
 use Rattle.crossbeam_channel.specs.Ends.{sends_on, receives_on}
+use Rattle.word_core.specs.Page.{OnItsWay}
 use Rattle.word_core.specs.Serials.{HasSerialsFrom, IsRising}
 use Rattle.hand_core.specs.declared.giver.Giver.TheInside as giver
 use Rattle.hand_core.specs.declared.taker.Taker.TheInside as taker
@@ -19,10 +20,13 @@ pub record IsGiving (g : giver.Inside) : Type 0 where
   pub fresh : g.closed ≡ false → g.marks ≡ 0
   pub took_nothing : ((view g.pass).taken ≡ []) × ((view g.pass).ended ≡ 0)
 
--- the taker's pass is a seat at its channel with one share, and its list rises
+-- the taker's pass is a seat at its channel with one share, its list rises and ends with the pages in hand, and behind its end mark
+-- there are none
 pub record IsTaking (t : taker.Inside) : Type 0 where
   pub seat : IsSeatAt (receives_on t.from) t.pass
   pub takes : (view t.pass).gives ≡ false
   pub share : (view t.pass).shares ≡ 1
   pub rising : IsRising (view t.pass).taken
+  pub hand : (before : List OnItsWay) × ((view t.pass).taken ≡ before ++ t.hand)
+  pub empty : t.ended ≡ true → t.hand ≡ []
   pub marked : (view t.pass).ended ≡ (if t.ended then 1 else 0)

@@ -1,12 +1,13 @@
 -- The rule of the pages' queue, from one giver to several takers: what holds of the queue and of its ends after each step.
-use Rattle.std.specs.Prelude.{◌≡◌, ℕ, ◌+◌, ◌<◌, Bool, true, false, List, [], ◌∷◌, ◌++◌, ◌-◌, length, map, replicate, drop}
+use Rattle.std.specs.Prelude.{◌≡◌, ℕ, ◌+◌, ◌<◌, Bool, true, false, List, [], ◌∷◌, ◌++◌, length, map, replicate, drop}
 use Rattle.std.specs.List.{flat_map}
 use Rattle.std.specs.List.Sorted.{IsPermutation}
 use Rattle.word_core.specs.Page.{OnItsWay}
 use Rattle.hand_core.specs.declared.page_queue.Note.{Note}
-use Rattle.hand_core.specs.declared.page_queue.Note.TheVariants.{Page, Mark}
+use Rattle.hand_core.specs.declared.page_queue.Note.TheVariants.{Pages, Mark}
 use Rattle.hand_core.specs.declared.page_queue.Known.{Known}
 use Rattle.word_core.specs.Serials.{HasSerialsFrom, IsRising}
+use Rattle.hand_core.specs.Handfuls.{Handful, pages_of}
 use Rattle.hand_core.specs.Queue.{Each}
 
 -- what an end knows, part by part
@@ -34,38 +35,38 @@ all_taken ends = flat_map (λ (v : Known). v.taken) ends
 abbrev pub all_ended : List Known → ℕ
 all_ended ends = total (λ v. v.ended) ends
 
--- Of the pages given, `off` came off and `waiting` stand in the queue, with so many end marks behind them.
+-- Of the pages given, `off` came off and those of the handfuls `waiting` stand in the queue, with so many end marks behind them.
 -- The number of the giver's end, and the first serial, are `giver` and `base`.
 pub record InOrder (queue : List Note) (ends : List Known) : Type 0 where
   pub giver : ℕ
   pub base : ℕ
   pub off : List OnItsWay
-  pub waiting : List OnItsWay
+  pub waiting : List Handful
   pub marks : ℕ
   -- the pages given have the serials base, base + 1, .. in their order
-  pub serials : HasSerialsFrom base (off ++ waiting)
-  -- the queue is the pages that wait, in this order, and then the end marks
-  pub queued : queue ≡ map Page waiting ++ replicate marks Mark
+  pub serials : HasSerialsFrom base (off ++ pages_of waiting)
+  -- the queue is the handfuls that wait, in this order, and then the end marks
+  pub queued : queue ≡ map Pages waiting ++ replicate marks Mark
   -- the takers' lists together are the pages that came off, each whole and once
   pub together : IsPermutation (all_taken ends) off
   -- each taker's list is strictly rising
   pub rising : Each ends (λ _ v. v.gives ≡ false → IsRising v.taken)
-  -- where a taker has ended, no page waits
+  -- where a taker has ended, nothing waits
   pub done : 0 < all_ended ends → waiting ≡ []
   -- one end gives: it gave these pages, and put each end mark that waits or that ended a taker
-  pub given : Each ends (λ number v. v.gives ≡ true → (number ≡ giver) × (v.given ≡ off ++ waiting) × (v.marks ≡ all_ended ends + marks))
+  pub given : Each ends (λ number v. v.gives ≡ true → (number ≡ giver) × (v.given ≡ off ++ pages_of waiting) × (v.marks ≡ all_ended ends + marks))
   -- an end with no share has taken nothing, so who has every share knows of all lists
   pub shares : total (λ v. v.shares) ends ≡ 1024
   pub spent : Each ends (λ _ v. v.shares ≡ 0 → (v.taken ≡ []) × (v.ended ≡ 0))
 
--- what a page or an end mark that goes in changes for the giver
+-- what a handful or an end mark that goes in changes for the giver
 abbrev pub after_put : Known → Note → Known
-after_put v (Page p) = record v { given = v.given ++ p ∷ [] }
+after_put v (Pages h) = record v { given = v.given ++ h.items }
 after_put v Mark = record v { marks = v.marks + 1 }
 
--- what a page or an end mark that comes off changes for the taker
+-- what a handful or an end mark that comes off changes for the taker
 abbrev pub after_take : Known → Note → Known
-after_take v (Page p) = record v { taken = v.taken ++ p ∷ [] }
+after_take v (Pages h) = record v { taken = v.taken ++ h.items }
 after_take v Mark = record v { ended = v.ended + 1 }
 
 -- a taker's step, and that its list still rises
@@ -80,11 +81,20 @@ joined v taker = record v { shares = v.shares + taker.shares; taken = v.taken ++
 abbrev pub nothing_known : Known
 nothing_known = known 0 false [] 0 [] 0
 
--- what is left in the queue where these pages and so many end marks were put, and so many of each came off
-abbrev pub left_in_queue : List OnItsWay → ℕ → ℕ → ℕ → List Note
-left_in_queue given marks taken ended = map Page (drop taken given) ++ replicate (marks - ended) Mark
+-- the pages of a handful; an end mark has none
+abbrev pub pages_in_one : Note → List OnItsWay
+pages_in_one (Pages h) = h.items
+pages_in_one Mark = []
+
+-- the pages that a queue holds, in their order
+abbrev pub pages_in : List Note → List OnItsWay
+pages_in queue = flat_map pages_in_one queue
+
+-- what is left in the queue of the pages that were given, where so many came off
+abbrev pub left_in_queue : List OnItsWay → ℕ → List OnItsWay
+left_in_queue given taken = drop taken given
 
 -- what the giver learns once it has every share and each end mark ended a taker: each page given was taken once, the queue
--- is what is left, and it is empty
+-- holds what is left, and it is empty
 abbrev pub Settles : Known → List Note → Type 0
-Settles v queue = IsPermutation v.taken v.given × (queue ≡ left_in_queue v.given v.marks (length v.taken) v.ended) × (queue ≡ [])
+Settles v queue = IsPermutation v.taken v.given × (pages_in queue ≡ left_in_queue v.given (length v.taken)) × (queue ≡ [])

@@ -1,5 +1,6 @@
 // The queue of the copies, and the rule that it is under.
 
+use crate::handful::Handful;
 use crossbeam_channel::protocol::{Join, Lesson, Outcome, Protocol, Split};
 use std::collections::LinkedList;
 use word_core::Copied;
@@ -7,7 +8,7 @@ use word_core::Copied;
 /// What stands in the queue, under the number of its sender.
 #[derive(Drop)]
 pub enum Message {
-    Copy(usize, Copied),
+    Copies(usize, Handful<Copied>),
     Mark(usize),
 }
 
@@ -15,14 +16,14 @@ pub enum Message {
 pub struct Account {
     pub sends: bool,
     pub sender: u64,
-    pub sent: LinkedList<Copied>,
+    pub sent: LinkedList<Handful<Copied>>,
     pub marked: bool,
     pub takes: bool,
     pub made: u64,
     pub came: LinkedList<Message>,
 }
 
-/// The rule: the copies of each sender come off in its order, and then its mark.
+/// The rule: the handfuls of each sender come off in its order, and then its mark.
 pub struct Turns;
 
 impl Protocol<Message, Account> for Turns {
@@ -45,7 +46,7 @@ impl Split<Account> for Makes {
     ghost right = { λ v. sender_account v.made };
 }
 
-/// A sender puts a copy or its mark at the back.
+/// A sender puts a handful of copies or its mark at the back.
 pub struct Sends;
 
 impl Outcome<Message, Account> for Sends {
@@ -59,7 +60,7 @@ impl Lesson<Message, Account> for Sends {
     ghost fact = { λ v queue. Unit {0} };
 }
 
-/// The taker takes a copy or a mark off the front.
+/// The taker takes a handful of copies or a mark off the front.
 pub struct Receives;
 
 impl Outcome<Message, Account> for Receives {

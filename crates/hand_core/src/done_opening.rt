@@ -8,10 +8,11 @@ use crate::copy_queue::{Account, Makes, Message, Turns};
 use crate::done_sender::DoneSender;
 use crate::done_taker::DoneTaker;
 use crate::error::HandError;
+use crate::handful::Handful;
 use crossbeam_channel::{Pass, RuledSender, bounded_with};
 use std::alloc::{AllocError, Global};
 
-/// Opens a queue for the copies of so many senders, with room for `cap` copies in it. No later call takes memory.
+/// Opens a queue for the copies of so many senders, with room for `cap` handfuls in it. No later call takes memory.
 ///
 /// Refused as Range where it isn't 1 to 4 senders and a `cap` of 1 to 64, else as Memory where there is none.
 pub fn done_open<R>(
@@ -21,7 +22,7 @@ pub fn done_open<R>(
     cap: usize,
 ) -> Result<(Vec<DoneSender>, DoneTaker), HandError>
     ensures range { (result ≡ Err HandError.Range) ↔ (¬ ((0 < senders) × (senders ≤ 4) × (0 < cap) × (cap ≤ 64))) }
-    ensures taker { IfOk result (λ ends. ends.1 ≡ record { way = ends.1.way; room = cap; senders = senders; came = [] }) }
+    ensures taker { IfOk result (λ ends. ends.1 ≡ record { way = ends.1.way; room = cap; senders = senders; came = []; in_hand = [] }) }
     ensures senders { IfOk result (λ ends. vec_len ends.0 ≡ senders) }
     ensures fresh { IfOk result (λ ends. (number : ℕ) → number < senders → slice_get ends.0.items number ≡ Some (record { way = ends.1.way; number = number; sent = []; marked = false; closed = false })) }
 {
@@ -39,7 +40,7 @@ fn opened(
 ) -> Result<(Vec<DoneSender>, DoneTaker), AllocError>
     requires senders { senders ≤ 4 }
     requires cap { 0 < cap }
-    ensures taker { IfOk result (λ ends. ends.1 ≡ record { way = ends.1.way; room = cap; senders = senders; came = [] }) }
+    ensures taker { IfOk result (λ ends. ends.1 ≡ record { way = ends.1.way; room = cap; senders = senders; came = []; in_hand = [] }) }
     ensures senders { IfOk result (λ ends. vec_len ends.0 ≡ senders) }
     ensures fresh { IfOk result (λ ends. (number : ℕ) → number < senders → slice_get ends.0.items number ≡ Some (record { way = ends.1.way; number = number; sent = []; marked = false; closed = false })) }
 {
@@ -49,6 +50,7 @@ fn opened(
     let taker = DoneTaker {
         senders,
         marked: [false; 4],
+        hand: Handful::new().into_iter(),
         from,
         pass,
     };

@@ -1,5 +1,6 @@
 use crate::copy_queue::{Account, Message, Sends, Turns};
 use crate::error::Gone;
+use crate::handful::Handful;
 use crate::patience;
 use crossbeam_channel::{Pass, RuledSender};
 use std::alloc::Global;
@@ -20,13 +21,14 @@ impl Model for DoneSender {
     ghost use Rattle.crossbeam_channel.specs.Claims.{view as knows};
     ghost use Rattle.crossbeam_channel.specs.Ends.{sends_on};
     ghost use Rattle.hand_core.specs.CopyEnds.{DoneSender as Seen};
+    ghost use Rattle.hand_core.specs.Handfuls.{pages_of};
     ghost use Rattle.hand_core.specs.Queue.{name_of};
 
     ghost Value = { Seen };
 
     ghost use Rattle.hand_core.specs.CopyInvariants.{IsSending};
 
-    ghost view = { λ s. record { way = name_of (sends_on s.to); number = s.number; sent = (knows s.pass).sent; marked = (knows s.pass).marked; closed = s.closed } };
+    ghost view = { λ s. record { way = name_of (sends_on s.to); number = s.number; sent = pages_of (knows s.pass).sent; marked = (knows s.pass).marked; closed = s.closed } };
 
     ghost invariant = { IsSending };
 }
@@ -41,20 +43,42 @@ impl DoneSender {
         ensures back { IfErr result (λ handed_back. handed_back ≡ copy) }
         ensures err { OnErr result (self.new ≡ self.old) }
     {
+        let mut copies = Handful::new();
+        copies.push(copy);
+        let Err(mut refused) = self.send_all(rt, copies) else {
+            return Ok(());
+        };
+        let Some(copy) = refused.pop() else {
+            unreachable!()
+        };
+        Err(copy)
+    }
+
+    /// Puts the copies at the back. The sender must not be closed. Where the taker is gone it hands the copies back.
+    pub fn send_all<R: Wait>(
+        &mut self,
+        rt: &R,
+        copies: Handful<Copied>,
+    ) -> Result<(), Handful<Copied>>
+        requires { self.old.closed ≡ false }
+        ensures ok { OnOk result (self.new ≡ record self.old { sent = self.old.sent ++ copies.items }) }
+        ensures back { IfErr result (λ handed_back. handed_back ≡ copies) }
+        ensures err { OnErr result (self.new ≡ self.old) }
+    {
         let DoneSender {
             number,
             to,
             pass,
             ..
         } = self;
-        let message = Message::Copy(*number, copy);
+        let message = Message::Copies(*number, copies);
         let Err(refused) = patience::send::<Sends, _, _, _, R>(rt, to, pass, message) else {
             return Ok(());
         };
-        let Message::Copy(_, copy) = refused else {
+        let Message::Copies(_, copies) = refused else {
             unreachable!()
         };
-        Err(copy)
+        Err(copies)
     }
 
     /// Puts the sender's end mark, once. After an `Err` too nothing more can be sent.

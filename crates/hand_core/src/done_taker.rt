@@ -1,10 +1,12 @@
 ghost use Rattle.std.specs.Prelude.{◌≡◌, ◌<◌, ◌++◌, ◌∷◌, List, []};
 ghost use Rattle.std.specs.List.{list_all};
 ghost use Rattle.hand_core.specs.CopyQueue.{sender_of};
+ghost use Rattle.hand_core.specs.CopyEnds.{copies_in_one};
 ghost use Rattle.hand_core.specs.CopyInvariants.{marks_of_four};
 
 use crate::copy_queue::{Account, Message, Receives, Turns};
 use crate::patience;
+use arrayvec::IntoIter;
 use crossbeam_channel::{Pass, RecvError, RuledReceiver, TryRecvError};
 use std::alloc::Global;
 use std::marker::Model;
@@ -16,6 +18,8 @@ use word_core::Copied;
 pub struct DoneTaker {
     pub(crate) senders: usize,
     pub(crate) marked: [bool; 4],
+    // The copies that came off the queue and weren't answered yet.
+    pub(crate) hand: IntoIter<Copied, 8>,
     pub(crate) from: RuledReceiver<Message, Account, Turns, Global>,
     pub(crate) pass: Pass<Message, Account>,
 }
@@ -30,7 +34,7 @@ impl Model for DoneTaker {
 
     ghost use Rattle.hand_core.specs.CopyInvariants.{IsReceiving};
 
-    ghost view = { λ t. record { way = name_of (receives_on t.from); room = ruled_capacity (receives_on t.from); senders = t.senders; came = (knows t.pass).came } };
+    ghost view = { λ t. record { way = name_of (receives_on t.from); room = ruled_capacity (receives_on t.from); senders = t.senders; came = (knows t.pass).came; in_hand = t.hand } };
 
     ghost invariant = { IsReceiving };
 }
@@ -44,23 +48,26 @@ pub enum Came {
 }
 
 impl DoneTaker {
-    ghost use Rattle.std.specs.Prelude.{◌≡◌, ◌++◌, ◌∷◌, [], false, IfOk, OnErr};
-    ghost use Rattle.hand_core.specs.CopyEnds.{copies_in_one, copies_in, has_ended, copy_answered, copy_tried, IsEndInTime, IsTriedInTime};
+    ghost use Rattle.std.specs.Prelude.{◌≡◌, ◌++◌, ◌∷◌, [], true, false, IfSome, IfNone, OnOk, OnErr};
+    ghost use Rattle.hand_core.specs.CopyEnds.{copies_taken, has_ended, copy_answered, copy_tried, IsEndInTime, IsTriedInTime};
 
     /// Takes the next copy, and waits for it. The end is answered once the mark of every sender came off. Behind it nothing
     /// more is taken.
     pub fn take<R: Wait>(&mut self, rt: &R) -> Came
         requires { has_ended self.old ≡ false }
-        ensures copies { copies_in self.new.came ≡ copies_in self.old.came ++ copy_answered result }
+        ensures copies { copies_taken self.new ≡ copies_taken self.old ++ copy_answered result }
         ensures end { IsEndInTime self.new result }
-        ensures same { self.new ≡ record self.old { came = self.new.came } }
+        ensures same { self.new ≡ record self.old { came = self.new.came; in_hand = self.new.in_hand } }
     {
         for _ in rt.forever() {
-            let Ok(message) = self.receive(rt) else {
+            if let Some(copy) = self.next_in_hand() {
+                return Came::Copy(copy);
+            }
+            if self.receive(rt).is_err() {
                 return Came::Gone;
-            };
-            if let Some(came) = self.answered(message) {
-                return came;
+            }
+            if self.has_all_marks() {
+                return Came::End;
             }
         }
         unreachable!()
@@ -71,65 +78,73 @@ impl DoneTaker {
     /// where none is answered, and after `None` the end has yet to come.
     pub fn try_take<R: Wait>(&mut self, rt: &R) -> Option<Came>
         requires { has_ended self.old ≡ false }
-        ensures copies { copies_in self.new.came ≡ copies_in self.old.came ++ copy_tried result }
+        ensures copies { copies_taken self.new ≡ copies_taken self.old ++ copy_tried result }
         ensures end { IsTriedInTime self.new result }
-        ensures same { self.new ≡ record self.old { came = self.new.came } }
+        ensures same { self.new ≡ record self.old { came = self.new.came; in_hand = self.new.in_hand } }
     {
         for _ in rt.forever() {
-            let message = match self.try_receive(rt) {
-                Ok(message) => message,
+            if let Some(copy) = self.next_in_hand() {
+                return Some(Came::Copy(copy));
+            }
+            match self.try_receive(rt) {
+                Ok(()) => {}
                 Err(TryRecvError::Empty) => return None,
                 Err(TryRecvError::Disconnected) => return Some(Came::Gone),
-            };
-            if let Some(came) = self.answered(message) {
-                return Some(came);
+            }
+            if self.has_all_marks() {
+                return Some(Came::End);
             }
         }
         unreachable!()
     }
 
-    // Takes what stands at the front, and notes whose mark it is.
-    fn receive<R: Wait>(&mut self, rt: &R) -> Result<Message, RecvError>
-        ensures ok { IfOk result (λ message. self.new ≡ record self.old { came = self.old.came ++ message ∷ [] }) }
+    // Takes the first of the copies that are in hand.
+    fn next_in_hand(&mut self) -> Option<Copied>
+        ensures some { IfSome result (λ copy. copies_taken self.new ≡ copies_taken self.old ++ copy ∷ []) }
+        ensures none { IfNone result ((self.new ≡ self.old) × (self.old.in_hand ≡ [])) }
+        ensures same { self.new ≡ record self.old { in_hand = self.new.in_hand } }
+    {
+        self.hand.next()
+    }
+
+    // Takes what stands at the front, with an empty hand.
+    fn receive<R: Wait>(&mut self, rt: &R) -> Result<(), RecvError>
+        requires { self.old.in_hand ≡ [] }
+        ensures taken { OnOk result (copies_taken self.new ≡ copies_taken self.old) }
+        ensures end { OnOk result (has_ended self.old ≡ false → has_ended self.new ≡ true → self.new.in_hand ≡ []) }
+        ensures same { self.new ≡ record self.old { came = self.new.came; in_hand = self.new.in_hand } }
         ensures err { OnErr result (self.new ≡ self.old) }
     {
         let DoneTaker {
             marked,
+            hand,
             from,
             pass,
             ..
         } = self;
         let message = patience::receive::<Receives, _, _, _, R>(rt, from, pass)?;
-        note(marked, &message);
-        Ok(message)
+        keep(marked, hand, message);
+        Ok(())
     }
 
     // The same without waiting.
-    fn try_receive<R: Wait>(&mut self, rt: &R) -> Result<Message, TryRecvError>
-        ensures ok { IfOk result (λ message. self.new ≡ record self.old { came = self.old.came ++ message ∷ [] }) }
+    fn try_receive<R: Wait>(&mut self, rt: &R) -> Result<(), TryRecvError>
+        requires { self.old.in_hand ≡ [] }
+        ensures taken { OnOk result (copies_taken self.new ≡ copies_taken self.old) }
+        ensures end { OnOk result (has_ended self.old ≡ false → has_ended self.new ≡ true → self.new.in_hand ≡ []) }
+        ensures same { self.new ≡ record self.old { came = self.new.came; in_hand = self.new.in_hand } }
         ensures err { OnErr result (self.new ≡ self.old) }
     {
         let DoneTaker {
             marked,
+            hand,
             from,
             pass,
             ..
         } = self;
         let message = from.try_recv_as::<Receives, R>(rt, pass)?;
-        note(marked, &message);
-        Ok(message)
-    }
-
-    // What is answered to a message that came off. A mark is answered only where it is the last.
-    fn answered(&self, message: Message) -> Option<Came>
-        ensures copy { copy_tried result ≡ copies_in_one message }
-        ensures end { copies_in_one message ≡ [] → IsTriedInTime self.now result }
-    {
-        match message {
-            Message::Copy(_, copy) => Some(Came::Copy(copy)),
-            Message::Mark(_) if self.has_all_marks() => Some(Came::End),
-            Message::Mark(_) => None,
-        }
+        keep(marked, hand, message);
+        Ok(())
     }
 
     fn has_all_marks(&self) -> bool
@@ -139,13 +154,16 @@ impl DoneTaker {
     }
 }
 
-// Notes whose mark it is, if it is one.
-fn note(marked: &mut [bool; 4], message: &Message)
-    requires { sender_of message.now < 4 }
-    ensures { (came : List Message) → marked.old ≡ marks_of_four came → marked.new ≡ marks_of_four (came ++ message.now ∷ []) }
+// Keeps the copies of what came off in the empty hand, or notes whose mark it is.
+fn keep(marked: &mut [bool; 4], hand: &mut IntoIter<Copied, 8>, message: Message)
+    requires sender { sender_of message < 4 }
+    requires empty { hand.old ≡ [] }
+    ensures marked { (came : List Message) → marked.old ≡ marks_of_four came → marked.new ≡ marks_of_four (came ++ message ∷ []) }
+    ensures hand { hand.new ≡ copies_in_one message }
 {
-    if let Message::Mark(sender) = message {
-        marked[*sender] = true;
+    match message {
+        Message::Copies(_, copies) => *hand = copies.into_iter(),
+        Message::Mark(sender) => marked[sender] = true,
     }
 }
 

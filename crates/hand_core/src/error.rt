@@ -5,7 +5,7 @@ use thiserror::Error;
 pub enum HandError {
     #[error("out of memory")]
     Memory,
-    #[error("there are 1 to 4 takers or senders, and room for 1 to 64 pages")]
+    #[error("there are 1 to 4 takers or senders, and room for 1 to 64 handfuls")]
     Range,
 }
 

@@ -1,4 +1,8 @@
+ghost use Rattle.std.specs.Prelude.{◌≡◌, ◌+◌, ◌^◌, ◌≤◌, length};
+ghost use Rattle.word_core.specs.Serials.{HasSerialsFrom};
+
 use crate::error::Gone;
+use crate::handful::Handful;
 use crate::page_queue::{Known, Note, Ordered, Puts};
 use crate::patience;
 use crossbeam_channel::{Pass, RuledSender};
@@ -38,6 +42,7 @@ impl Model for Giver {
 
 impl Giver {
     ghost use Rattle.std.specs.Prelude.{◌≡◌, ◌+◌, ◌<◌, ◌++◌, ◌∷◌, [], true, false, length, OnOk, OnErr, IfErr};
+    ghost use Rattle.word_core.specs.Serials.{HasSerialsFrom};
 
     /// Puts the page at the back. Its serial has to be the next one, and the giver not closed. Where every taker is gone it
     /// hands the page back.
@@ -48,17 +53,41 @@ impl Giver {
         ensures back { IfErr result (λ handed_back. handed_back ≡ page) }
         ensures err { OnErr result (self.new ≡ self.old) }
     {
-        let Giver { next, to, pass, .. } = self;
-        let behind = u64::from(page.serial()) + 1;
-        let note = Note::Page(page);
-        let Err(refused) = patience::send::<Puts, _, _, _, R>(rt, to, pass, note) else {
-            *next = behind;
+        let mut pages = Handful::new();
+        pages.push(page);
+        let Err(mut refused) = self.give_all(rt, pages) else {
             return Ok(());
         };
-        let Note::Page(page) = refused else {
+        let Some(page) = refused.pop() else {
             unreachable!()
         };
         Err(page)
+    }
+
+    /// Puts the pages at the back, for one taker. Their serials have to be the next ones, and the giver not closed. Where every
+    /// taker is gone it hands the pages back.
+    pub fn give_all<R: Wait>(
+        &mut self,
+        rt: &R,
+        pages: Handful<Isolated>,
+    ) -> Result<(), Handful<Isolated>>
+        requires open { self.old.closed ≡ false }
+        requires next { HasSerialsFrom (self.old.base + length self.old.given) pages.items }
+        ensures ok { OnOk result (self.new ≡ record self.old { given = self.old.given ++ pages.items }) }
+        ensures back { IfErr result (λ handed_back. handed_back ≡ pages) }
+        ensures err { OnErr result (self.new ≡ self.old) }
+    {
+        let Giver { next, to, pass, .. } = self;
+        let behind = serial_behind(&pages, *next);
+        let Err(refused) = patience::send::<Puts, _, _, _, R>(rt, to, pass, Note::Pages(pages))
+        else {
+            *next = behind;
+            return Ok(());
+        };
+        let Note::Pages(pages) = refused else {
+            unreachable!()
+        };
+        Err(pages)
     }
 
     /// Puts an end mark for each taker, once. After an `Err` too nothing more can be given.
@@ -93,5 +122,18 @@ impl Giver {
         }
         *marks += 1;
         Ok(())
+    }
+}
+
+// The serial behind those of the pages, of which the first has the serial `next`.
+fn serial_behind(pages: &[Isolated], next: u64) -> u64
+    requires serials { HasSerialsFrom next pages.now }
+    requires fits { next ≤ 2 ^ 32 }
+    ensures value { result ≡ next + length pages.now }
+    ensures fits { result ≤ 2 ^ 32 }
+{
+    match pages.last() {
+        Some(page) => u64::from(page.serial()) + 1,
+        None => next,
     }
 }

@@ -6,6 +6,7 @@ ghost use Rattle.hand_core.specs.PageQueue.{giver_knows};
 
 use crate::error::HandError;
 use crate::giver::Giver;
+use crate::handful::Handful;
 use crate::page_queue::{Known, Note, Ordered, Shares};
 use crate::taker::Taker;
 use crossbeam_channel::{Pass, RuledReceiver, RuledSender, bounded_with};
@@ -15,7 +16,7 @@ use std::alloc::{AllocError, Global};
 /// All takers of a hand-over.
 pub type Takers = Vec<Taker>;
 
-/// Opens a hand-over whose first page has the serial `base`, with room for `cap` pages in its queue. No later call takes
+/// Opens a hand-over whose first page has the serial `base`, with room for `cap` handfuls in its queue. No later call takes
 /// memory.
 ///
 /// Refused as Range where it isn't 1 to 4 takers and a `cap` of 1 to 64, else as Memory where there is none.
@@ -29,7 +30,7 @@ pub fn open<R>(
     ensures range { (result ≡ Err HandError.Range) ↔ (¬ ((0 < takers) × (takers ≤ 4) × (0 < cap) × (cap ≤ 64))) }
     ensures giver { IfOk result (λ ends. ends.0 ≡ record { hand_over = ends.0.hand_over; room = cap; takers = takers; base = base; given = []; marks = 0; closed = false }) }
     ensures takers { IfOk result (λ ends. vec_len ends.1 ≡ takers) }
-    ensures fresh { IfOk result (λ ends. All (λ t. t ≡ record { hand_over = ends.0.hand_over; taken = []; ended = false }) ends.1.items) }
+    ensures fresh { IfOk result (λ ends. All (λ t. t ≡ record { hand_over = ends.0.hand_over; taken = []; in_hand = []; ended = false }) ends.1.items) }
 {
     if takers == 0 || takers > 4 || cap == 0 || cap > 64 {
         return Err(HandError::Range);
@@ -48,7 +49,7 @@ fn opened(
     requires cap { 0 < cap }
     ensures giver { IfOk result (λ ends. ends.0 ≡ record { hand_over = ends.0.hand_over; room = cap; takers = takers; base = base; given = []; marks = 0; closed = false }) }
     ensures takers { IfOk result (λ ends. vec_len ends.1 ≡ takers) }
-    ensures fresh { IfOk result (λ ends. All (λ t. t ≡ record { hand_over = ends.0.hand_over; taken = []; ended = false }) ends.1.items) }
+    ensures fresh { IfOk result (λ ends. All (λ t. t ≡ record { hand_over = ends.0.hand_over; taken = []; in_hand = []; ended = false }) ends.1.items) }
 {
     let mut all = Vec::with_capacity(alloc, takers)?;
     let (to, from, mut pass) = bounded_with::<Note, Known, Ordered, Global>(alloc, cap)?;
@@ -80,13 +81,14 @@ fn add_takers(
     ensures channel { IsSeatAt (sends_on to.now) pass.new }
     ensures knows { OnOk result ((view pass.new ≡ record giver_knows { shares = (view pass.new).shares }) × ((view pass.new).shares + takers ≡ 1024)) }
     ensures made { OnOk result (vec_len all.new ≡ takers) }
-    ensures fresh { OnOk result (All (λ t. t ≡ record { hand_over = name_of (sends_on to.now); taken = []; ended = false }) all.new.items) }
+    ensures fresh { OnOk result (All (λ t. t ≡ record { hand_over = name_of (sends_on to.now); taken = []; in_hand = []; ended = false }) all.new.items) }
 {
     for _taker in 0..takers {
         let theirs = to.another::<Shares>(pass);
         let from = from.try_clone()?;
         all.push_reserved(Taker {
             ended: false,
+            hand: Handful::new().into_iter(),
             from,
             pass: theirs,
         });

@@ -1,5 +1,6 @@
 // The queue of the pages, and the rule that it is under.
 
+use crate::handful::Handful;
 use crossbeam_channel::protocol::{Join, Lesson, Outcome, Protocol, Split};
 use std::collections::LinkedList;
 use word_core::Isolated;
@@ -7,7 +8,7 @@ use word_core::Isolated;
 /// What stands in the queue.
 #[derive(Drop)]
 pub enum Note {
-    Page(Isolated),
+    Pages(Handful<Isolated>),
     Mark,
 }
 
@@ -54,7 +55,7 @@ impl Join<Known> for Shares {
     ghost spent = { nothing_known };
 }
 
-/// The giver puts a page or an end mark at the back.
+/// The giver puts a handful of pages or an end mark at the back.
 pub struct Puts;
 
 impl Outcome<Note, Known> for Puts {
@@ -68,7 +69,7 @@ impl Lesson<Note, Known> for Puts {
     ghost fact = { λ v queue. Unit {0} };
 }
 
-/// A taker takes a page or an end mark off the front.
+/// A taker takes a handful of pages or an end mark off the front.
 pub struct Gets;
 
 impl Outcome<Note, Known> for Gets {

@@ -1,4 +1,5 @@
-// Sends and receives that try for a while before they sleep: here a sleep and a wake-up cost more than moving dozens of pages.
+//! Sends and receives that try for a while before they sleep: here a sleep and a wake-up cost more than moving dozens of pages.
+
 ghost use Rattle.std.specs.Prelude.{◌≡◌, MatchResult};
 ghost use Rattle.crossbeam_channel.specs.Claims.{view, IsSeatAt};
 ghost use Rattle.crossbeam_channel.specs.Ends.{sends_on, receives_on, ruled_capacity};
@@ -10,8 +11,8 @@ use std::alloc::Global;
 use std::sync::Wait;
 use std::{hint, thread};
 
-// How often a call tries before it sleeps.
-const TRIES: u32 = 1000;
+/// How often a call tries before it sleeps.
+pub const TRIES: u32 = 1000;
 
 // Behind so many tries it lets other threads run in between.
 const SPINS: u32 = 50;
@@ -63,8 +64,8 @@ pub(crate) fn receive<M: Outcome<T, V> + Lesson<T, V>, T: Drop, V, P: Protocol<T
     from.recv_as::<M, R>(rt, pass)
 }
 
-// Between two tries.
-fn pause(tries: u32) {
+/// Between two tries, of which this is one: it spins, and behind many tries it lets other threads run.
+pub fn pause(tries: u32) {
     if tries < SPINS {
         hint::spin_loop();
     } else {

@@ -1,5 +1,6 @@
 use crate::page_queue::{Gets, Known, Note, Ordered};
 use crate::patience;
+use arrayvec::IntoIter;
 use crossbeam_channel::{Pass, RuledReceiver};
 use std::alloc::Global;
 use std::marker::Model;
@@ -10,6 +11,8 @@ use word_core::Isolated;
 #[derive(Drop)]
 pub struct Taker {
     pub(crate) ended: bool,
+    // The pages that came off the queue and weren't answered yet.
+    pub(crate) hand: IntoIter<Isolated, 8>,
     pub(crate) from: RuledReceiver<Note, Known, Ordered, Global>,
     pub(crate) pass: Pass<Note, Known>,
 }
@@ -18,13 +21,14 @@ impl Model for Taker {
     ghost use Rattle.crossbeam_channel.specs.Claims.{view as knows};
     ghost use Rattle.crossbeam_channel.specs.Ends.{receives_on};
     ghost use Rattle.hand_core.specs.PageEnds.{Taker as Seen};
+    ghost use Rattle.hand_core.specs.Handfuls.{before_hand};
     ghost use Rattle.hand_core.specs.Queue.{name_of};
 
     ghost Value = { Seen };
 
     ghost use Rattle.hand_core.specs.PageInvariants.{IsTaking};
 
-    ghost view = { λ t. record { hand_over = name_of (receives_on t.from); taken = (knows t.pass).taken; ended = t.ended } };
+    ghost view = { λ t. record { hand_over = name_of (receives_on t.from); taken = before_hand (knows t.pass).taken t.hand; in_hand = t.hand; ended = t.ended } };
 
     ghost invariant = { IsTaking };
 }
@@ -37,25 +41,78 @@ pub enum Took {
     Gone,
 }
 
-impl Taker {
-    ghost use Rattle.std.specs.Prelude.{◌≡◌, false};
-    ghost use Rattle.word_core.specs.Serials.{IsRising};
-    ghost use Rattle.hand_core.specs.PageEnds.{after_answer};
+// What came off the queue.
+#[derive(Clone, Copy)]
+enum Came {
+    Pages,
+    Mark,
+    Nothing,
+}
 
-    /// Takes what stands at the front, and waits for it. Behind an end mark it takes nothing more.
+impl Taker {
+    ghost use Rattle.std.specs.Prelude.{◌≡◌, ◌≢◌, ◌++◌, ◌∷◌, ◌↔◌, [], true, false, IfSome, IfNone};
+    ghost use Rattle.word_core.specs.Serials.{IsRising};
+    ghost use Rattle.hand_core.specs.PageEnds.{IsAnswered};
+
+    /// Takes the page at the front, and waits for it. Behind an end mark it takes nothing more.
     pub fn take<R: Wait>(&mut self, rt: &R) -> Took
         requires { self.old.ended ≡ false }
-        ensures took { self.new ≡ after_answer self.old result }
+        ensures took { IsAnswered self.old result self.new }
         ensures rising { IsRising self.new.taken }
     {
-        let Taker { ended, from, pass } = self;
+        for _ in rt.forever() {
+            if let Some(page) = self.next_in_hand() {
+                return Took::Page(page);
+            }
+            match self.receive(rt) {
+                Came::Pages => {}
+                Came::Mark => return Took::End,
+                Came::Nothing => return Took::Gone,
+            }
+        }
+        unreachable!()
+    }
+
+    /// Whether pages that were handed over with the last one are in hand, so that the next is taken without waiting.
+    pub fn has_more(&self) -> bool
+        ensures { result ≡ true ↔ self.now.in_hand ≢ [] }
+    {
+        !self.hand.as_slice().is_empty()
+    }
+
+    // Takes the first of the pages that are in hand.
+    fn next_in_hand(&mut self) -> Option<Isolated>
+        ensures some { IfSome result (λ page. self.new ≡ record self.old { taken = self.old.taken ++ page ∷ []; in_hand = self.new.in_hand }) }
+        ensures first { IfSome result (λ page. self.old.in_hand ≡ page ∷ self.new.in_hand) }
+        ensures none { IfNone result ((self.new ≡ self.old) × (self.old.in_hand ≡ [])) }
+        ensures rising { IsRising self.new.taken }
+    {
+        self.hand.next()
+    }
+
+    // Takes what stands at the front of the queue, with an empty hand.
+    fn receive<R: Wait>(&mut self, rt: &R) -> Came
+        requires going { self.old.ended ≡ false }
+        requires empty { self.old.in_hand ≡ [] }
+        ensures pages { result ≡ Came.Pages → self.new ≡ record self.old { in_hand = self.new.in_hand } }
+        ensures mark { result ≡ Came.Mark → self.new ≡ record self.old { ended = true } }
+        ensures nothing { result ≡ Came.Nothing → self.new ≡ self.old }
+        ensures rising { IsRising self.new.taken }
+    {
+        let Taker {
+            ended,
+            hand,
+            from,
+            pass,
+        } = self;
         let Ok(note) = patience::receive::<Gets, _, _, _, R>(rt, from, pass) else {
-            return Took::Gone;
+            return Came::Nothing;
         };
-        if let Note::Page(page) = note {
-            return Took::Page(page);
+        if let Note::Pages(pages) = note {
+            *hand = pages.into_iter();
+            return Came::Pages;
         }
         *ended = true;
-        Took::End
+        Came::Mark
     }
 }

@@ -2,7 +2,7 @@ ghost use Rattle.std.specs.Prelude.{◌≡◌, ◌<◌, true, false, All};
 ghost use Rattle.hand_core.specs.CopyEnds.{has_ended};
 
 use super::{is_page, isolated};
-use hand_core::{Came, DoneSender, DoneTaker, HandError, done_open, done_settle};
+use hand_core::{Came, DoneSender, DoneTaker, HandError, Handful, done_open, done_settle};
 use std::alloc::Global;
 use std::process::Abort;
 use std::sync::Wait;
@@ -328,4 +328,16 @@ fn is_told_without_waiting_that_the_senders_are_gone(rt: HostRuntime) {
     let (senders, mut taker) = opened(&rt, rt.alloc(), 2, 4);
     drop(senders);
     assert!(rt; matches!(taker.try_take(&rt), Some(Came::Gone)));
+}
+
+#[test]
+fn takes_the_copies_of_a_handful_one_by_one(rt: HostRuntime) {
+    let ((mut one, _two), mut taker) = opened_for_two(&rt, rt.alloc());
+    let mut copies = Handful::new();
+    copies.push(copy_of(&rt, 0, 7));
+    copies.push(copy_of(&rt, 0, 8));
+    assert!(rt; one.send_all(&rt, copies).is_ok());
+    assert_is_copy(&rt, taken_copy(&rt, &mut taker), 7, 7);
+    assert_is_copy(&rt, tried_copy(&rt, &mut taker), 8, 8);
+    assert_finds_nothing(&rt, &mut taker);
 }

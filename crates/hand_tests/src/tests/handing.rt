@@ -1,7 +1,8 @@
 ghost use Rattle.std.specs.Prelude.{◌≡◌, ◌+◌, ◌<◌, ◌^◌, [], false, length, All};
+ghost use Rattle.word_core.specs.Serials.{HasSerialsFrom};
 
 use super::{is_page, isolated};
-use hand_core::{Giver, HandError, Taker, Took, open, settle};
+use hand_core::{Giver, HandError, Handful, Taker, Took, open, settle};
 use std::alloc::Global;
 use std::process::Abort;
 use std::sync::Wait;
@@ -418,4 +419,38 @@ fn answers_gone_behind_the_pages_where_the_giver_is_gone(rt: HostRuntime) {
     assert!(rt; taken_page(&rt, &mut one).serial() == BASE);
     assert!(rt; matches!(one.take(&rt), Took::Gone));
     assert!(rt; matches!(one.take(&rt), Took::Gone));
+}
+
+fn three_pages<R: Abort>(rt: &R) -> Handful<Isolated>
+    ensures { HasSerialsFrom BASE result.items }
+{
+    let mut pages = Handful::new();
+    pages.push(page_of(rt, BASE, 0));
+    pages.push(page_of(rt, BASE + 1, 1));
+    pages.push(page_of(rt, BASE + 2, 2));
+    pages
+}
+
+// Takes the page with this number, and tells whether more came with it.
+fn assert_takes<R: Wait + Abort>(rt: &R, taker: &mut Taker, number: u32, has_more: bool)
+    requires going { taker.old.ended ≡ false }
+    requires number { number < 3 }
+    ensures { (taker.new.ended ≡ false) × (taker.new.hand_over ≡ taker.old.hand_over) }
+{
+    let page = taken_page(rt, taker);
+    assert!(rt; page.serial() == BASE + number);
+    assert!(rt; is_page(&page.into_page(), number));
+    assert!(rt; taker.has_more() == has_more);
+}
+
+#[test]
+fn takes_the_pages_of_a_handful_one_by_one(rt: HostRuntime) {
+    let (mut giver, mut one) = opened_for_one(&rt, rt.alloc(), BASE, 2);
+    assert!(rt; giver.give_all(&rt, three_pages(&rt)).is_ok());
+    assert!(rt; giver.close(&rt).is_ok());
+    assert_takes(&rt, &mut one, 0, true);
+    assert_takes(&rt, &mut one, 1, true);
+    assert_takes(&rt, &mut one, 2, false);
+    assert!(rt; matches!(one.take(&rt), Took::End));
+    assert_settles_with_one(&rt, rt.alloc(), giver, one, BASE, 3);
 }

@@ -2,6 +2,7 @@ use Rattle.std.proofs.Common.{◌≡◌, ℕ, zero, suc, ◌+◌, ◌<◌, false
 use Rattle.std.specs.Prelude.{slice_get}
 use Rattle.crossbeam_channel.specs.Ends.{sends_on}
 use Rattle.hand_core.specs.declared.copy_queue.Account.{Account}
+use Rattle.hand_core.specs.Handfuls.{pages_of}
 use Rattle.hand_core.specs.Queue.{name_of}
 use Rattle.hand_core.proofs.CopySteps.{makes}
 use Rattle.hand_core.proofs.done_opening.add_senders.Goals as goal
@@ -32,7 +33,7 @@ loop-number-preserved c =
     let capacity = pushed.capacity in
     let channel = c.in_ok-to.ensures in
     let his = c.another-theirs.ensures.rule.1 in
-    let sent = ap (λ (v : Account). v.sent) his in
+    let sent = ap (λ (v : Account). pages_of v.sent) his in
     let marked = ap (λ (v : Account). v.marked) his in
     record {
       seat = c.another-theirs.ensures.channel.0;

@@ -1,10 +1,12 @@
-use Rattle.std.proofs.Common.{rules, ◌≡◌, ℕ, ◌+◌, ◌<◌, ◌++◌, ◌∷◌, [], List, Some, true, ap, sym, ◌∙◌, subst, append_assoc, arith}
+use Rattle.std.proofs.Common.{rules, ◌≡◌, ℕ, ◌+◌, ◌<◌, ◌++◌, ◌∷◌, [], List, Some, true, length, drop, ap, sym, ◌∙◌, subst, append_assoc, arith}
 use Rattle.crossbeam_channel.specs.Claims.{view}
 use Rattle.hand_core.specs.declared.copy_queue.Account.{Account}
 use Rattle.hand_core.specs.declared.copy_queue.Message.{Message}
 use Rattle.hand_core.specs.CopyEnds.{DoneSender, DoneTaker, copies_of, has_mark, queue_between}
-use Rattle.hand_core.specs.CopyQueue.{Tells, left_in_queue}
-use Rattle.hand_core.proofs.Messages.{all_came, none_left, each_passes}
+use Rattle.hand_core.specs.Handfuls.{pages_of}
+use Rattle.hand_core.specs.CopyQueue.{Tells}
+use Rattle.hand_core.proofs.Messages.{all_came, each_passes}
+use Rattle.std.proofs.Math.Seq.{drop-length}
 use Rattle.std.proofs.lemmas.List.Elements.{All-cons, All-pop}
 use Rattle.hand_core.proofs.CopySteps.{folds, tells}
 use Rattle.hand_core.proofs.done_settling.done_settle.Goals as goal
@@ -19,19 +21,14 @@ learn_as-requires-clause-rule c =
 
 -- what was learned of one sender, under its own names
 compared : (taker : DoneTaker) (s : DoneSender) (w : Account) (queue : List Message) → ((k : ℕ) → k < taker.senders → has_mark taker.came k ≡ true)
-    → w.came ≡ taker.came → w.made ≡ taker.senders → w.sender ≡ s.number → w.sent ≡ s.sent → w.marked ≡ s.marked → Tells w queue
+    → w.came ≡ taker.came → w.made ≡ taker.senders → w.sender ≡ s.number → pages_of w.sent ≡ s.sent → Tells w queue
     → (copies_of s.number taker.came ≡ s.sent) × (queue_between s taker ≡ [])
-compared taker s w queue marked is_came is_made is_number is_sent is_marked told =
+compared taker s w queue marked is_came is_made is_number is_sent told =
     let low : w.sender < taker.senders = subst (λ n. w.sender < n) is_made told.0 in
-    let has : has_mark w.came w.sender ≡ true = subst (λ l. has_mark l w.sender ≡ true) (sym is_came) (marked w.sender low) in (
-      subst (λ k. copies_of k taker.came ≡ s.sent) is_number (subst (λ l. copies_of w.sender l ≡ s.sent) is_came (all_came w w.came queue told.1 has ∙ is_sent)),
-      ap (λ k. left_in_queue k s.sent s.marked taker.came) (sym is_number)
-          ∙ ap (λ l. left_in_queue w.sender l s.marked taker.came) (sym is_sent)
-          ∙ ap (λ b. left_in_queue w.sender w.sent b taker.came) (sym is_marked)
-          ∙ ap (λ l. left_in_queue w.sender w.sent w.marked l) (sym is_came)
-          ∙ sym told.2
-          ∙ none_left w w.came queue told.1 has,
-    )
+    let has : has_mark w.came w.sender ≡ true = subst (λ l. has_mark l w.sender ≡ true) (sym is_came) (marked w.sender low) in
+    let copies : copies_of s.number taker.came ≡ s.sent =
+    subst (λ k. copies_of k taker.came ≡ s.sent) is_number (subst (λ l. copies_of w.sender l ≡ s.sent) is_came (all_came w w.came queue told.1 has ∙ is_sent)) in
+    (copies, ap (λ l. drop (length l) s.sent) copies ∙ drop-length s.sent)
 
 pub loop-sender-preserved : goal.loop-sender-preserved
 loop-sender-preserved c =
@@ -53,8 +50,7 @@ loop-sender-preserved c =
     let made : (view c.absorb.new.pass).made ≡ taker.senders = ap (λ (v : Account). v.made) e ∙ old.made in
     let this = compared taker s (view c.absorb.new.pass) told.0 marked came made
     (ap (λ (v : Account). v.sender) e ∙ c.sender.invariant.sender ∙ ap (λ (u : DoneSender). u.number) is)
-    (ap (λ (v : Account). v.sent) e ∙ ap (λ (u : DoneSender). u.sent) is)
-    (ap (λ (v : Account). v.marked) e ∙ ap (λ (u : DoneSender). u.marked) is)
+    (ap (λ (v : Account). pages_of v.sent) e ∙ ap (λ (u : DoneSender). u.sent) is)
     told.1 in
     let seat = c.learn_as.ensures.channel.0 in
     let way = is in

@@ -12,5 +12,5 @@ invariant-loop-taker l = record {
   knows : view l.pass ≡ record giver_knows { shares = (view l.pass).shares };
   made : vec_len l.all ≡ l._taker;
   room : l.takers ≤ vec_capacity l.all;
-  fresh : All (λ t. t ≡ record { hand_over = name_of (sends_on l.to); taken = []; ended = false }) l.all.items;
+  fresh : All (λ t. t ≡ record { hand_over = name_of (sends_on l.to); taken = []; in_hand = []; ended = false }) l.all.items;
 }

@@ -1,14 +1,15 @@
-use Rattle.std.proofs.Common.{◌≡◌, ◌++◌, ◌∷◌, [], ◌-◌, List, length, suc, Bool, cond, take, Some, true, All, refl, ap, sym, ◌∙◌, subst, append_assoc, append-nil, arith}
-use Rattle.std.specs.List.{filter}
+use Rattle.std.proofs.Common.{◌≡◌, ◌++◌, ◌∷◌, [], ◌-◌, List, take, Some, true, All, ap, sym, ◌∙◌, subst, append_assoc, append-nil, arith}
+use Rattle.std.specs.Prelude.{drop}
+use Rattle.std.proofs.Math.Seq.{drop-length}
 use Rattle.std.specs.List.Sorted.{IsPermutation}
 use Rattle.std.proofs.lemmas.List.Sorted.{IsPermutation-sym, IsPermutation-trans, length_permutation}
-use Rattle.std.proofs.lemmas.List.Sums.{length-filter}
 use Rattle.crossbeam_channel.specs.Claims.{view}
 use Rattle.hand_core.specs.declared.page_queue.Known.{Known}
-use Rattle.hand_core.specs.PageEnds.{Giver, Taker, taken_by, marks_taken}
-use Rattle.hand_core.specs.PageQueue.{left_in_queue}
+use Rattle.hand_core.specs.PageEnds.{Giver, Taker, taken_by}
+use Rattle.hand_core.specs.Handfuls.{before_hand}
 use Rattle.word_core.specs.Serials.{IsRising}
 use Rattle.std.proofs.lemmas.List.Elements.{All-cons, All-pop}
+use Rattle.hand_core.proofs.Hands.{all_taken_is}
 use Rattle.hand_core.proofs.Totals.{list_back}
 use Rattle.hand_core.proofs.PageSteps.{joins, settles}
 use Rattle.hand_core.proofs.settling.take_back.Goals as goal
@@ -40,10 +41,12 @@ loop-taker-preserved c =
     let few_was = old.few in
     let share = his.share in
     let before = old.back in
-    let rising : IsRising t.taken = subst (λ (u : Taker). IsRising u.taken) is his.rising in
+    let all = all_taken_is (view inside.pass).taken in
+    let came : (view inside.pass).taken ≡ t.taken = sym (ap (before_hand (view inside.pass).taken) (his.empty ended) ∙ all) ∙ ap (λ (u : Taker). u.taken) is in
+    let rising : IsRising t.taken = subst IsRising came his.rising in
     let taken : IsPermutation (view c.absorb.new.pass).taken (t.taken ++ taken_by before.0) =
     subst (λ l. IsPermutation l (t.taken ++ taken_by before.0)) (sym (ap (λ (v : Known). v.taken) e))
-    (subst (λ l. IsPermutation (mine.taken ++ l) (t.taken ++ taken_by before.0)) (sym (ap (λ (u : Taker). u.taken) is)) (list_back mine.taken t.taken (taken_by before.0) before.2)) in
+    (subst (λ l. IsPermutation (mine.taken ++ l) (t.taken ++ taken_by before.0)) (sym came) (list_back mine.taken t.taken (taken_by before.0) before.2)) in
     record {
       seat = c.absorb.ensures.channel.0;
       channel = old.channel;
@@ -99,29 +102,7 @@ returns-clause-rising c =
     let empty : left.items ≡ [] = end.items ∙ append-nil c.pop.new.self.items ∙ end.rest ∙ ap (λ n. take (n - 1) left.items) end.cases.0 in
     subst (λ (l : List Taker). All (λ (t : Taker). IsRising t.taken) l) (sym (all_back c.args.takers.items left.items before.0 before.1 empty)) before.3
 
--- each taker took its mark
-all_marked : (takers : List Taker) → All (λ (t : Taker). t.ended ≡ true) takers → length (filter (λ (t : Taker). t.ended) takers) ≡ length takers
-all_marked [] every = refl
-all_marked (t ∷ takers) every =
-    ap (λ (b : Bool). length (cond b (t ∷ filter (λ (u : Taker). u.ended) takers) (filter (λ (u : Taker). u.ended) takers))) (every 0 t (omega arith))
-    ∙ ap suc (all_marked takers (λ k d low. every (suc k) d (omega arith)))
-
 pub returns-clause-empty : goal.returns-clause-empty
 returns-clause-empty c =
-    let giver = c.args.giver in
-    let takers = c.args.takers.items in
-    let old = c.loop-taker.invariant in
-    let knows : Known = view c.loop-taker.pass in
-    let learned = c.learn_as.ensures.rule.1 in
-    let nothing : left_in_queue knows.given knows.marks (length knows.taken) knows.ended ≡ [] = sym learned.1 ∙ learned.2 in
-    let many : length (taken_by takers) ≡ length knows.taken = sym (length_permutation (taken_by takers) giver.given (returns-clause-pages c)) ∙ ap (λ l. length l) (sym old.given) ∙ length_permutation knows.taken knows.given learned.0 in
-    let marks : marks_taken takers ≡ length takers = sym (length-filter (λ (t : Taker). t.ended) takers) ∙ all_marked takers c.requires.ended in
-    let none = c.in_default.ensures.cases in
-    let ended_was = old.ended in
-    let came_back = c.requires.marks.1 in
-    let ended : marks_taken takers ≡ knows.ended = omega arith in
-    ap (λ l. left_in_queue l giver.marks (length (taken_by takers)) (marks_taken takers)) (sym old.given)
-    ∙ ap (λ m. left_in_queue knows.given m (length (taken_by takers)) (marks_taken takers)) (sym old.marks)
-    ∙ ap (λ n. left_in_queue knows.given knows.marks n (marks_taken takers)) many
-    ∙ ap (λ n. left_in_queue knows.given knows.marks (length knows.taken) n) ended
-    ∙ nothing
+    let given = c.args.giver.given in
+    ap (λ n. drop n given) (sym (length_permutation (taken_by c.args.takers.items) given (returns-clause-pages c))) ∙ drop-length given

@@ -1,5 +1,16 @@
+use Rattle.std.proofs.Common.{ap, ◌∙◌}
+use Rattle.std.specs.List.{range_with_len}
+use Rattle.crossbeam_channel.specs.Claims.{view}
+use Rattle.hand_core.specs.CopyEnds.{has_ended}
 use Rattle.hand_core.proofs.CopySteps.{off}
+use Rattle.hand_core.proofs.Messages.{last_alone}
 use Rattle.hand_core.proofs.done_taker.DoneTaker.try_receive.Goals as goal
 
 pub try_recv_as-requires-clause-rule : goal.try_recv_as-requires-clause-rule
 try_recv_as-requires-clause-rule g c = (off _ _ c.self.invariant.takes, λ items views rule at. tt)
+
+pub returns-clause-end : goal.returns-clause-end
+returns-clause-end g c going ended =
+    c.keep.ensures.hand
+    ∙ last_alone (view c.self.inside.pass) (view c.try_recv_as.new.pass) c.in_ok-message.message (range_with_len 0 c.self.inside.senders)
+    c.in_ok-message.ensures.rule (ap has_ended c.self.view_is ∙ going) ended

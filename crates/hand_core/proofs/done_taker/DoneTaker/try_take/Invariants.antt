@@ -1,11 +1,11 @@
 use Rattle.std.proofs.Common.{◌≡◌, false}
-use Rattle.hand_core.specs.CopyEnds.{copies_in, has_ended}
+use Rattle.hand_core.specs.CopyEnds.{copies_taken, has_ended}
 use Rattle.hand_core.proofs.done_taker.DoneTaker.try_take.Given as goal
 
--- only marks came off so far, and not the last one
+-- no copy was answered so far, and the last mark didn't come off
 abbrev pub invariant-loop : goal.invariant-loop
 invariant-loop g l = record {
-  copies : copies_in l.self.came ≡ copies_in l.fn.self.came;
+  copies : copies_taken l.self ≡ copies_taken l.fn.self;
   going : has_ended l.self ≡ false;
-  same : l.self ≡ record l.fn.self { came = l.self.came };
+  same : l.self ≡ record l.fn.self { came = l.self.came; in_hand = l.self.in_hand };
 }

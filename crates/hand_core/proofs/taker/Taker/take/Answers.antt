@@ -1,11 +1,32 @@
-use Rattle.std.proofs.Common.{rules, arith}
-use Rattle.hand_core.proofs.PageSteps.{off}
+use Rattle.std.proofs.Common.{◌≡◌, ◌≢◌, ◌∷◌, [], true, List, ap, sym, refl, ◌∙◌}
+use Rattle.word_core.specs.Page.{OnItsWay}
+use Rattle.hand_core.specs.PageEnds.{Taker}
 use Rattle.hand_core.proofs.taker.Taker.take.Goals as goal
 
-pub receive-requires-clause-rule : goal.receive-requires-clause-rule
-receive-requires-clause-rule g c =
-    let t = c.self.invariant in
-    (off _ _ t.takes (let e = t.share in omega arith), λ items views rule at. tt)
+-- a hand that held pages holds them still
+empty_before : (in_hand : List OnItsWay) (before now : Taker) → before.in_hand ≡ in_hand → (before.in_hand ≢ [] → now ≡ before) → now.in_hand ≡ [] → in_hand ≡ []
+empty_before [] before now is held empty = refl
+empty_before (p ∷ in_hand) before now is held empty = absurd (still (sym empty ∙ ap (λ (t : Taker). t.in_hand) (held other) ∙ is))
+  where
+    still : [] ≡ p ∷ in_hand → ⊥
+    still e = cc
 
-pub returns-in-Page-clause-took : goal.returns-in-Page-clause-took
-returns-in-Page-clause-took g c = search rules
+    other : before.in_hand ≢ []
+    other e = still (sym e ∙ is)
+
+pub returns-in-Mark-clause-took : goal.returns-in-Mark-clause-took
+returns-in-Mark-clause-took g c =
+    let before = c.args.self.now in
+    let old = c.loop.invariant in
+    let none = c.in_default.ensures.none in
+    let empty : before.in_hand ≡ [] = empty_before before.in_hand before c.loop.self refl old.held none.1 in
+    let same = none.0 ∙ old.same ∙ ap (λ l. record before { in_hand = l }) (none.1 ∙ sym empty) in
+    (c.in-Mark.ensures.mark refl ∙ ap (λ (t : Taker). record t { ended = true }) same, empty)
+
+pub returns-in-Nothing-clause-took : goal.returns-in-Nothing-clause-took
+returns-in-Nothing-clause-took g c =
+    let before = c.args.self.now in
+    let old = c.loop.invariant in
+    let none = c.in_default.ensures.none in
+    let empty : before.in_hand ≡ [] = empty_before before.in_hand before c.loop.self refl old.held none.1 in
+    (c.in-Nothing.ensures.nothing refl ∙ none.0 ∙ old.same ∙ ap (λ l. record before { in_hand = l }) (none.1 ∙ sym empty), empty)

@@ -1,0 +1,40 @@
+-- What was answered of what came off a queue, where the last of it is still in hand.
+use Rattle.std.proofs.Common.{◌≡◌, ◌-◌, List, [], ◌∷◌, ◌++◌, length, take, Some, None, Option, MatchOption, IfSome, ap, sym, ◌∙◌, append_assoc, append-nil, length-append, arith}
+use Rattle.std.specs.Option.{option_to_list}
+use Rattle.std.proofs.Math.Seq.{take-append_seam}
+use Rattle.word_core.specs.Page.{OnItsWay}
+use Rattle.hand_core.specs.Handfuls.{before_hand}
+
+pub before_hand_is : (before in_hand : List OnItsWay) → before_hand (before ++ in_hand) in_hand ≡ before
+before_hand_is before in_hand =
+    let all = length-append before in_hand in
+    let left : length (before ++ in_hand) - length in_hand ≡ length before = omega arith in
+    ap (λ n. take n (before ++ in_hand)) left ∙ take-append_seam before in_hand
+
+-- the first page in hand is answered
+pub one_taken : (before : List OnItsWay) (p : OnItsWay) (rest : List OnItsWay) → before_hand (before ++ p ∷ rest) rest ≡ before ++ p ∷ []
+one_taken before p rest = ap (λ l. before_hand l rest) (sym (append_assoc before (p ∷ []) rest)) ∙ before_hand_is (before ++ p ∷ []) rest
+
+-- with an empty hand all was answered
+pub all_taken_is : (came : List OnItsWay) → before_hand came [] ≡ came
+all_taken_is came = ap (λ l. before_hand l []) (sym (append-nil came)) ∙ before_hand_is came []
+
+-- what came off is what was answered, with the next of those in hand, and what is left
+pub hand_step : (came before in_hand rest : List OnItsWay) (next : Option OnItsWay) → came ≡ before ++ in_hand → MatchOption next ((in_hand ≡ []) × (rest ≡ [])) (λ p. in_hand ≡ p ∷ rest)
+    → came ≡ (before ++ option_to_list next) ++ rest
+hand_step came before in_hand rest None is none =
+    is ∙ ap (λ l. before ++ l) none.0 ∙ sym (append-nil (before ++ [])) ∙ ap (λ l. (before ++ []) ++ l) (sym none.1)
+hand_step came before in_hand rest (Some p) is first = is ∙ ap (λ l. before ++ l) first ∙ sym (append_assoc before (p ∷ []) rest)
+
+-- an empty hand stays empty
+pub empty_step : (in_hand rest : List OnItsWay) (next : Option OnItsWay) → in_hand ≡ [] → MatchOption next ((in_hand ≡ []) × (rest ≡ [])) (λ p. in_hand ≡ p ∷ rest) → rest ≡ []
+empty_step in_hand rest None empty none = none.1
+empty_step in_hand rest (Some p) empty first = absurd (cc)
+
+-- the next of those in hand was answered
+pub next_taken : (came before in_hand rest : List OnItsWay) (next : Option OnItsWay) → came ≡ before ++ in_hand → MatchOption next ((in_hand ≡ []) × (rest ≡ [])) (λ p. in_hand ≡ p ∷ rest)
+    → IfSome next (λ p. before_hand came rest ≡ before_hand came in_hand ++ p ∷ [])
+next_taken came before in_hand rest None is none = tt
+next_taken came before in_hand rest (Some p) is first =
+    let now = ap (λ l. before_hand l rest) (hand_step came before in_hand rest (Some p) is first) ∙ before_hand_is (before ++ p ∷ []) rest in
+    let was = ap (λ l. before_hand l in_hand) is ∙ before_hand_is before in_hand in now ∙ ap (λ l. l ++ p ∷ []) (sym was)

@@ -1,6 +1,0 @@
-use Rattle.hand_core.proofs.Answering.{answered_in_time}
-use Rattle.hand_core.proofs.done_taker.DoneTaker.take.Goals as goal
-
-pub returns-in-Some-answered-clause-end : goal.returns-in-Some-answered-clause-end
-returns-in-Some-answered-clause-end g c =
-    answered_in_time c.loop.self c.receive.new.self c.in-Ok.message c.in-Some-answered.came c.loop.invariant.going c.in-Ok.ensures.ok c.in-Some-answered.ensures.copy c.in-Some-answered.ensures.end

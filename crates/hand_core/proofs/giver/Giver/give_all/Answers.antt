@@ -1,0 +1,49 @@
+use Rattle.std.proofs.Common.{◌+◌, length, ap, sym, ◌∙◌, subst, length-append, arith}
+use Rattle.crossbeam_channel.specs.Claims.{view}
+use Rattle.hand_core.specs.declared.page_queue.Known.{Known}
+use Rattle.hand_core.specs.PageEnds.{Giver}
+use Rattle.word_core.specs.Serials.{HasSerialsFrom}
+use Rattle.hand_core.proofs.Serials.{serials-append}
+use Rattle.hand_core.proofs.PageSteps.{pages_in}
+use Rattle.hand_core.proofs.giver.Giver.give_all.Goals as goal
+
+pub serial_behind-behind-requires-clause-serials : goal.serial_behind-behind-requires-clause-serials
+serial_behind-behind-requires-clause-serials g c =
+    let k = c.self.invariant in
+    subst (λ l. HasSerialsFrom c.self.inside.next l) (sym c.deref.ensures.0)
+    (subst (λ n. HasSerialsFrom n c.args.pages.items) (ap (λ (v : Giver). v.base + length v.given) (sym c.self.view_is) ∙ k.next) c.requires.next)
+
+pub send-requires-clause-rule : goal.send-requires-clause-rule
+send-requires-clause-rule g c =
+    let s = c.self.inside in
+    let k = c.self.invariant in
+    let is = c.self.view_is in (
+      pages_in _ _ (view s.pass) c.args.pages s.base k.gives (k.marked ∙ k.fresh (ap (λ (v : Giver). v.closed) is ∙ c.requires.open)) k.serials
+          (subst (λ (v : Giver). HasSerialsFrom (v.base + length v.given) c.args.pages.items) (sym is) c.requires.next),
+      λ items views rule at. tt,
+    )
+
+pub invariant_of-self : goal.invariant_of-self
+invariant_of-self g c =
+    let s = c.self.inside in
+    let k = c.self.invariant in
+    let e = c.in_default.ensures.rule in
+    let next : HasSerialsFrom (s.base + length (view s.pass).given) c.args.pages.items =
+    subst (λ (v : Giver). HasSerialsFrom (v.base + length v.given) c.args.pages.items) (sym c.self.view_is) c.requires.next in
+    let counted = k.next in
+    let behind = c.serial_behind-behind.ensures.value in
+    let longer = length-append (view s.pass).given c.args.pages.items in
+    let same_length = ap (λ l. length l) c.deref.ensures.0 in
+    let length_now = ap (λ (v : Known). length v.given) e in
+    record {
+      seat = c.in_default.ensures.channel.0;
+      gives = ap (λ (v : Known). v.gives) e ∙ k.gives;
+      serials = subst (HasSerialsFrom s.base) (sym (ap (λ (v : Known). v.given) e)) (serials-append s.base (view s.pass).given c.args.pages.items k.serials next);
+      next = omega arith;
+      fits = c.serial_behind-behind.ensures.fits;
+      few = k.few;
+      shares = ap (λ (v : Known). v.shares + s.takers) e ∙ k.shares;
+      marked = ap (λ (v : Known). v.marks) e ∙ k.marked;
+      fresh = k.fresh;
+      took_nothing = (ap (λ (v : Known). v.taken) e ∙ k.took_nothing.0, ap (λ (v : Known). v.ended) e ∙ k.took_nothing.1);
+    }

@@ -1,0 +1,53 @@
+use Rattle.std.proofs.Common.{◌≡◌, ◌++◌, ◌∷◌, [], Bool, List, None, Some, Option, IfSome, ap, sym, ◌∙◌, subst}
+use Rattle.std.specs.Option.{option_to_list}
+use Rattle.crossbeam_channel.specs.Claims.{view}
+use Rattle.word_core.specs.Page.{OnItsWay}
+use Rattle.word_core.specs.Serials.{IsRising}
+use Rattle.hand_core.specs.Handfuls.{before_hand}
+use Rattle.hand_core.specs.PageEnds.{Taker, HandOver}
+use Rattle.hand_core.proofs.Hands.{before_hand_is, hand_step, empty_step, next_taken}
+use Rattle.hand_core.proofs.Serials.{rising_front}
+use Rattle.hand_core.proofs.taker.Taker.next_in_hand.Goals as goal
+
+pub invariant_of-self : goal.invariant_of-self
+invariant_of-self c =
+    let t = c.self.inside in
+    let k = c.self.invariant in
+    let before = k.hand in
+    let next = c.next.ensures.steps in
+    record {
+      seat = k.seat;
+      takes = k.takes;
+      share = k.share;
+      rising = k.rising;
+      hand = (before.0 ++ option_to_list c.next.result, hand_step (view t.pass).taken before.0 t.hand c.next.new.self c.next.result before.1 next);
+      empty = λ ended. empty_step t.hand c.next.new.self c.next.result (k.empty ended) next;
+      marked = k.marked;
+    }
+
+-- what is seen of the taker
+seen : (hand_over : HandOver) (ended : Bool) (now : Taker) (came in_hand rest : List OnItsWay) (next : Option OnItsWay)
+    → record { hand_over = hand_over; taken = before_hand came in_hand; in_hand = in_hand; ended = ended } ≡ now
+    → IfSome next (λ p. before_hand came rest ≡ before_hand came in_hand ++ p ∷ [])
+    → IfSome next (λ p. record { hand_over = hand_over; taken = before_hand came rest; in_hand = rest; ended = ended } ≡ record now { taken = now.taken ++ p ∷ []; in_hand = rest })
+seen hand_over ended now came in_hand rest None is longer = tt
+seen hand_over ended now came in_hand rest (Some p) is longer =
+    let with_taken : List OnItsWay → Taker = λ l. record { hand_over = hand_over; taken = l; in_hand = rest; ended = ended } in
+    ap with_taken longer ∙ ap (λ (t : Taker). record t { taken = t.taken ++ p ∷ []; in_hand = rest }) is
+
+pub returns-clause-some : goal.returns-clause-some
+returns-clause-some c =
+    let t = c.self.inside in
+    let before = c.self.invariant.hand in
+    seen _ t.ended c.args.self.now (view t.pass).taken t.hand c.next.new.self c.next.result c.self.view_is
+    (next_taken (view t.pass).taken before.0 t.hand c.next.new.self c.next.result before.1 c.next.ensures.steps)
+
+pub returns-clause-rising : goal.returns-clause-rising
+returns-clause-rising c =
+    let t = c.self.inside in
+    let k = c.self.invariant in
+    let before = k.hand in
+    let rest = c.next.new.self in
+    let answered : List OnItsWay = before.0 ++ option_to_list c.next.result in
+    let split : (view t.pass).taken ≡ answered ++ rest = hand_step (view t.pass).taken before.0 t.hand rest c.next.result before.1 c.next.ensures.steps in
+    subst IsRising (sym (ap (λ l. before_hand l rest) split ∙ before_hand_is answered rest)) (rising_front answered rest (subst IsRising split k.rising))
