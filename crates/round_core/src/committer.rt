@@ -1,7 +1,7 @@
 ghost use Rattle.std.specs.Prelude.{◌≡◌, false, IfOk, IfErr};
 ghost use Rattle.hand_core.specs.CopyEnds.{has_ended, IsTriedInTime};
 
-use crate::gate::{Gate, Point};
+use crate::gate::{Gate, Point, tell_all};
 use crate::memory::Outfit;
 use crate::shape::Shape;
 use crate::shared_zone::SharedZone;
@@ -47,7 +47,7 @@ fn commit_all<K: Shape, I: Ledger, M: Ledger, B: Ledger, G: Gate, R: Wait>(
         let behind = gather(rt, &mut copies, &mut gathered);
         let count = gathered.len();
         stranger = shared.commit_burst(rt, &mut seat, &mut gathered, stranger);
-        tell_all(gate, count);
+        tell_all(gate, Point::Ended, 5, count);
         let whole = match behind {
             Behind::More => continue,
             Behind::End => true,
@@ -87,13 +87,6 @@ fn next_copy<R: Wait>(rt: &R, copies: &mut DoneTaker, waits: bool) -> Option<Cam
         Some(copies.take(rt))
     } else {
         copies.try_take(rt)
-    }
-}
-
-/// Tells the gate that so many pages were brought to the zone.
-fn tell_all<G: Gate>(gate: &G, count: usize) {
-    for _page in 0..count {
-        gate.at(Point::Ended, 5);
     }
 }
 

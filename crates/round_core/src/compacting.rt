@@ -19,8 +19,10 @@ use std::thread;
 use std::thread::Threads;
 use zone_core::{Audit, Seats, Zone, ZoneError};
 
-/// Moves what can be moved, by so many copiers, 1 to 4, over queues with room for `cap` pages and copies, 1 to 64. Under one lock at
-/// most so many are isolated or committed. What can fail for want of memory or of a thread fails before the first page is isolated.
+/// Moves what can be moved, by so many copiers, 1 to 4, over queues with room for `cap` pages and copies, 1 to 64. Pages are isolated
+/// under one lock as many as a queue has room for, or as a handful for each copier has if that is more: up to eight, and no more than
+/// a queue has room for. As many are committed at most. What can fail for want of memory or of a thread fails before the first page is
+/// isolated.
 ///
 /// Refused as Broken where `audit` refuses, before anything else; as Memory or NoWorker, and then no round was begun; as Stranger where
 /// the zone refused a copy; as Broken where an end of a queue was gone, a copier's list had no place for a page, or the audit behind the

@@ -5,7 +5,7 @@ ghost use Rattle.round_core.specs.Crews.{IsUnused, IsUnsent};
 use crate::gate::{Gate, Point};
 use crate::stack::stack;
 use frame_core::Serial;
-use hand_core::{DoneSender, Taker, Took};
+use hand_core::{DoneSender, Handful, Taker, Took};
 use std::snapshot::Snapshot;
 use std::sync::Wait;
 use std::thread::{Promise, PromisedHandle, Scope, Threads};
@@ -21,8 +21,8 @@ pub struct Carried {
     pub whole: bool,
 }
 
-/// The body of a copier: it takes pages, copies them and sends the copies. It has no zone. It stops short where an end is gone,
-/// or where a page comes off while the list is full.
+/// The body of a copier: it takes pages, copies them and sends the copies, as many together as came together. It has no zone. It
+/// stops short where an end is gone, or where a page comes off while the list is full.
 pub fn carry<G: Gate, R: Wait>(
     rt: &R,
     mut taker: Taker,
@@ -36,6 +36,7 @@ pub fn carry<G: Gate, R: Wait>(
     requires serials { serials.items ≡ [] }
     ensures { IsCarried taker sender result }
 {
+    let mut copies = Handful::new();
     for _ in rt.forever() {
         match taker.take(rt) {
             Took::Page(page) => {
@@ -44,9 +45,12 @@ pub fn carry<G: Gate, R: Wait>(
                     break;
                 }
                 serials.push_reserved(page.serial());
-                let copy = page.copy_into_new();
+                copies.push(page.copy_into_new());
                 gate.at(Point::Copied, who);
-                if sender.send(rt, copy).is_err() {
+                if taker.has_more() && !copies.is_full() {
+                    continue;
+                }
+                if sender.send_all(rt, copies.take()).is_err() {
                     break;
                 }
             }

@@ -4,6 +4,7 @@ ghost use Rattle.round_core.specs.Runs.{IsFresh, IsUnstarted, IsEmpty, IsReady, 
 
 use crate::committer::{Committed, Committer, start_committer};
 use crate::copier::{Carried, Copier, start_copier};
+use crate::division::Division;
 use crate::gate::Gate;
 use crate::memory::{Bursts, Joined, Memory, Outfit};
 use crate::round::Stop;
@@ -157,6 +158,7 @@ fn run_crew<K: Shape, I: Ledger, N: Ledger, M: Ledger, B: Ledger, G: Gate, R: Th
     ends: &mut EndSeat<M, B>,
     crew: Crew<M, B>,
     mut pages: VecDeque<Isolated>,
+    division: Division,
     joined: Joined,
     gate: &G,
 ) -> Ran
@@ -174,7 +176,9 @@ fn run_crew<K: Shape, I: Ledger, N: Ledger, M: Ledger, B: Ledger, G: Gate, R: Th
         committer,
     } = crew;
     shared.begin_round(rt, scan);
-    let stop = scan_all(rt, shared, scan, ends, &mut giver, &mut pages, gate);
+    let stop = scan_all(
+        rt, shared, scan, ends, &mut giver, &mut pages, division, gate,
+    );
     let _ = giver.close(rt);
     let mut joined = join_copiers(rt, &giver, copiers, joined);
     let Committed {
@@ -224,13 +228,17 @@ pub(crate) fn run<
         bursts,
         joined,
     } = memory;
-    let Bursts { pages, gathered } = bursts;
+    let Bursts {
+        division,
+        pages,
+        gathered,
+    } = bursts;
     let Seats { scan, ends } = seats;
     let Some(part) = ends.split() else {
         unreachable!()
     };
     match start_crew(scope, rt, shared, outfit, copies, gathered, part, gate) {
-        Ok(crew) => Some(run_crew(rt, shared, scan, ends, crew, pages, joined, gate)),
+        Ok(crew) => Some(run_crew(rt, shared, scan, ends, crew, pages, division, joined, gate)),
         Err(part) => {
             ends.join(part);
             None

@@ -24,3 +24,10 @@ pub struct NoGate;
 impl Gate for NoGate {
     fn at(&self, _point: Point, _who: usize) {}
 }
+
+/// Tells the gate of a step of so many pages.
+pub(crate) fn tell_all<G: Gate>(gate: &G, point: Point, who: usize, pages: usize) {
+    for _page in 0..pages {
+        gate.at(point, who);
+    }
+}

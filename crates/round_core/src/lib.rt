@@ -9,6 +9,7 @@ mod committer;
 mod compacting;
 mod copier;
 mod crew;
+mod division;
 mod error;
 mod gate;
 mod memory;

@@ -6,6 +6,7 @@ ghost use Rattle.round_core.specs.Crews.{IsUnused, IsUnsent};
 ghost use Rattle.round_core.specs.Runs.{IsFresh, IsEmpty, IsReady};
 
 use crate::copier::Copier;
+use crate::division::Division;
 use frame_core::Serial;
 use hand_core::{DoneSender, DoneTaker, Giver, HandError, Taker, Takers, done_open, open};
 use std::alloc::{AllocError, Global};
@@ -33,9 +34,10 @@ pub(crate) struct Outfit {
     pub(crate) copiers: Vec<Copier>,
 }
 
-/// Lists of what is done under one lock.
+/// Lists of what is done under one lock, and how it is divided.
 #[derive(Drop)]
 pub(crate) struct Bursts {
+    pub(crate) division: Division,
     /// For pages that are isolated.
     pub(crate) pages: VecDeque<Isolated>,
     /// For copies that are committed.
@@ -68,7 +70,7 @@ struct Lists {
 }
 
 /// Takes the memory of a round whose first page has the serial `base`, with room for so many serials in the list of each copier,
-/// and for `cap` pages and copies in the queues and under one lock. None where there is none.
+/// and for `cap` pages and copies in the queues. None where there is none.
 pub(crate) fn reserve<R>(
     rt: &R,
     alloc: Global,
@@ -77,16 +79,18 @@ pub(crate) fn reserve<R>(
     serials: usize,
     cap: usize,
 ) -> Option<Memory>
-    requires { 0 < copiers }
+    requires copiers { (0 < copiers) × (copiers ≤ 4) }
+    requires cap { (0 < cap) × (cap ≤ 64) }
     ensures { IfSome result (IsReady base) }
 {
+    let division = Division::new(copiers, cap);
     let Ok(lists) = reserve_lists(alloc, copiers, serials) else {
         return None;
     };
-    let Ok(bursts) = reserve_bursts(alloc, cap) else {
+    let Ok(bursts) = reserve_bursts(alloc, division) else {
         return None;
     };
-    let Ok(queues) = open_queues(rt, alloc, base, copiers, cap) else {
+    let Ok(queues) = open_queues(rt, alloc, base, copiers, division.handfuls()) else {
         return None;
     };
     let Lists {
@@ -153,23 +157,25 @@ fn reserve_joined(alloc: Global, copiers: usize) -> Result<Joined, AllocError>
     })
 }
 
-/// Takes the memory of bursts of so many pages and copies.
-fn reserve_bursts(alloc: Global, burst: usize) -> Result<Bursts, AllocError>
+/// Takes the memory of bursts that are divided so.
+fn reserve_bursts(alloc: Global, division: Division) -> Result<Bursts, AllocError>
     ensures { IfOk result (λ b. b.pages.items ≡ []) }
 {
+    let burst = division.burst();
     Ok(Bursts {
+        division,
         pages: VecDeque::with_capacity(alloc, burst)?,
         gathered: VecDeque::with_capacity(alloc, burst)?,
     })
 }
 
-/// Opens both queues.
+/// Opens both queues, each with room for so many handfuls.
 fn open_queues<R>(
     rt: &R,
     alloc: Global,
     base: Serial,
     copiers: usize,
-    cap: usize,
+    handfuls: usize,
 ) -> Result<Queues, HandError>
     requires { 0 < copiers }
     ensures giver { IfOk result (λ q. IsFresh base q.giver) }
@@ -177,8 +183,8 @@ fn open_queues<R>(
     ensures senders { IfOk result (λ q. (vec_len q.senders ≡ copiers) × All IsUnsent q.senders.items) }
     ensures copies { IfOk result (λ q. has_ended q.copies ≡ false) }
 {
-    let (giver, takers) = open(rt, alloc, base, copiers, cap)?;
-    let (senders, copies) = done_open(rt, alloc, copiers, cap)?;
+    let (giver, takers) = open(rt, alloc, base, copiers, handfuls)?;
+    let (senders, copies) = done_open(rt, alloc, copiers, handfuls)?;
     Ok(Queues {
         giver,
         takers,

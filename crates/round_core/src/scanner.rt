@@ -1,13 +1,14 @@
-ghost use Rattle.std.specs.Prelude.{◌≡◌, ◌+◌, ◌++◌, ◌≤◌, [], false, Some, length, IfSome};
+ghost use Rattle.std.specs.Prelude.{◌≡◌, ◌+◌, ◌++◌, ◌<◌, ◌≤◌, [], false, Some, length, IfSome, IfNone, OnSome};
 ghost use Rattle.word_core.specs.Serials.{HasSerialsFrom};
 ghost use Rattle.round_core.specs.Crews.{IsNext};
 ghost use Rattle.round_core.specs.Rounds.{answer_at};
 
-use crate::gate::{Gate, Point};
+use crate::division::Division;
+use crate::gate::{Gate, Point, tell_all};
 use crate::round::Stop;
 use crate::shape::Shape;
 use crate::shared_zone::SharedZone;
-use hand_core::Giver;
+use hand_core::{Giver, Handful};
 use std::collections::VecDeque;
 use std::sync::Wait;
 use std::sync::ledger::Ledger;
@@ -23,6 +24,7 @@ pub(crate) fn scan_all<K: Shape, I: Ledger, N: Ledger, M: Ledger, B: Ledger, G: 
     ends: &mut EndSeat<M, B>,
     giver: &mut Giver,
     pages: &mut VecDeque<Isolated>,
+    division: Division,
     gate: &G,
 ) -> Option<Stop>
     requires next { IsNext scan.old.count giver.old }
@@ -35,7 +37,7 @@ pub(crate) fn scan_all<K: Shape, I: Ledger, N: Ledger, M: Ledger, B: Ledger, G: 
 {
     for _ in rt.forever() {
         let stop = shared.isolate_burst(rt, scan, pages);
-        give_all(rt, shared, ends, giver, pages, gate)?;
+        give_all(rt, shared, ends, giver, pages, division, gate)?;
         if stop.is_some() {
             return stop;
         }
@@ -43,13 +45,14 @@ pub(crate) fn scan_all<K: Shape, I: Ledger, N: Ledger, M: Ledger, B: Ledger, G: 
     unreachable!()
 }
 
-/// Gives all pages, in their order. None where the takers are gone, and then those that are left are put back.
+/// Gives all pages, in their order and in handfuls. None where the takers are gone, and then those that are left are put back.
 fn give_all<K: Shape, I: Ledger, M: Ledger, B: Ledger, G: Gate, R: Wait>(
     rt: &R,
     shared: &SharedZone<K, I, M, B>,
     ends: &mut EndSeat<M, B>,
     giver: &mut Giver,
     pages: &mut VecDeque<Isolated>,
+    division: Division,
     gate: &G,
 ) -> Option<()>
     requires open { giver.old.closed ≡ false }
@@ -59,15 +62,50 @@ fn give_all<K: Shape, I: Ledger, M: Ledger, B: Ledger, G: Gate, R: Wait>(
     ensures pages { IfSome result (λ _. pages.new.items ≡ []) }
     ensures ends { (ends.new.parts ≡ ends.old.parts) × (ends.new.moved ≡ ends.old.moved) × (ends.old.back ≤ ends.new.back) }
 {
-    while let Some(page) = pages.pop_front() {
-        gate.at(Point::Isolated, 0);
-        if let Err(page) = giver.give(rt, page) {
-            shared.put_back(rt, ends, page);
+    tell_all(gate, Point::Isolated, 0, pages.len());
+    let share = division.share(pages.len());
+    while let Some(handful) = first_of(pages, share) {
+        if let Err(refused) = giver.give_all(rt, handful) {
+            put_back_handful(rt, shared, ends, refused);
             put_back_all(rt, shared, ends, pages);
             return None;
         }
     }
     Some(())
+}
+
+/// Takes so many pages off the front, or all where there are fewer. None where there are none.
+fn first_of(pages: &mut VecDeque<Isolated>, share: usize) -> Option<Handful<Isolated>>
+    requires { (0 < share) × (share ≤ 8) }
+    ensures first { IfSome result (λ handful. pages.old.items ≡ handful.items ++ pages.new.items) }
+    ensures fewer { OnSome result (length pages.new.items < length pages.old.items) }
+    ensures none { IfNone result ((pages.old.items ≡ []) × (pages.new.items ≡ [])) }
+{
+    let mut handful = Handful::new();
+    while handful.len() < share {
+        let Some(page) = pages.pop_front() else {
+            break;
+        };
+        handful.push(page);
+    }
+    if handful.is_empty() {
+        return None;
+    }
+    Some(handful)
+}
+
+/// Puts the pages of a handful back.
+fn put_back_handful<K: Shape, I: Ledger, M: Ledger, B: Ledger, R: Wait>(
+    rt: &R,
+    shared: &SharedZone<K, I, M, B>,
+    ends: &mut EndSeat<M, B>,
+    handful: Handful<Isolated>,
+)
+    ensures { (ends.new.parts ≡ ends.old.parts) × (ends.new.moved ≡ ends.old.moved) × (ends.old.back ≤ ends.new.back) }
+{
+    for page in handful {
+        shared.put_back(rt, ends, page);
+    }
 }
 
 /// Puts all pages back.

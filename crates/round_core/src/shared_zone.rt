@@ -4,6 +4,7 @@ use crate::burst::{commit_burst, isolate_burst};
 use crate::round::Stop;
 use crate::shape::Shape;
 use frame_core::Serial;
+use hand_core::patience::{TRIES, pause};
 use std::collections::VecDeque;
 use std::marker::{Model, PhantomData};
 use std::sync::ledger::Ledger;
@@ -100,9 +101,15 @@ impl<K: Shape, I: Ledger, M: Ledger, B: Ledger> SharedZone<K, I, M, B> {
         self.blocks
     }
 
-    /// Waits for the lock, and lends the zone as long as the guard lives. What is known of it is what `Room::zone` says. Who
-    /// ends a move through it tells so by `tell_ended`.
+    /// Waits for the lock, which it tries for a while before it sleeps, and lends the zone as long as the guard lives. What is
+    /// known of it is what `Room::zone` says. Who ends a move through it tells so by `tell_ended`.
     pub fn lock<R: Wait>(&self, rt: &R) -> MutexGuard<'_, Room<K, I, M, B>> {
+        for tries in 0..TRIES {
+            if let Some(room) = self.room.try_lock() {
+                return room;
+            }
+            pause(tries);
+        }
         self.room.lock(rt)
     }
 

@@ -1,8 +1,8 @@
-use Rattle.std.proofs.Common.{◌≡◌, false}
+use Rattle.std.proofs.Common.{◌≡◌, ◌++◌, ◌<◌, false, [], length}
 use Rattle.word_core.specs.Serials.{serials_of}
 use Rattle.round_core.proofs.copier.carry.Given as goal
 
--- the list has the serials of the pages taken so far, and their copies were sent
+-- the list has the serials of the pages taken so far, and their copies were sent, but for those kept while more pages are in hand
 abbrev pub invariant-loop : goal.invariant-loop
 invariant-loop g l = record {
   taking : l.taker.ended ≡ false;
@@ -11,5 +11,7 @@ invariant-loop g l = record {
   way : l.sender.way ≡ l.fn.sender.way;
   number : l.sender.number ≡ l.fn.sender.number;
   serials : l.serials.items ≡ serials_of l.taker.taken;
-  copies : l.sender.sent ≡ l.taker.taken;
+  copies : l.sender.sent ++ l.copies.items ≡ l.taker.taken;
+  few : length l.copies.items < 8;
+  kept : l.taker.in_hand ≡ [] → l.copies.items ≡ [];
 }

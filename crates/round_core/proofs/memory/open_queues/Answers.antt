@@ -1,7 +1,22 @@
-use Rattle.std.proofs.Common.{ap, arith}
-use Rattle.hand_core.specs.CopyEnds.{DoneTaker}
+use Rattle.std.proofs.Common.{[], false, ap, refl, sym, subst, arith}
+use Rattle.std.proofs.lemmas.Option.{get_or_from_slice_get}
+use Rattle.hand_core.specs.CopyEnds.{DoneSender, DoneTaker}
+use Rattle.round_core.specs.Crews.{IsUnsent}
 use Rattle.round_core.proofs.Early.{not_ended}
 use Rattle.round_core.proofs.memory.open_queues.Goals as goal
+
+pub returns-clause-senders : goal.returns-clause-senders
+returns-clause-senders g c =
+    let made = c.in_ok-senders.ensures.senders in
+    let senders = c.in_ok-senders.senders.items in
+    let way = c.in_ok-senders.copies.way in (
+      made,
+      λ k d low.
+          let unsent : DoneSender = record { way = way; number = k; sent = []; marked = false; closed = false } in
+          let long = c.in_ok-senders.senders.ok in
+          let is = get_or_from_slice_get senders k unsent d (c.in_ok-senders.ensures.fresh k (omega arith)) in
+          subst IsUnsent (sym is) (record { open_still = refl; none = refl }),
+    )
 
 pub returns-clause-copies : goal.returns-clause-copies
 returns-clause-copies g c =

@@ -3,13 +3,13 @@ use Rattle.word_core.specs.Serials.{HasSerialsFrom}
 use Rattle.round_core.proofs.scanner.give_all.Given as goal
 
 -- what was given and what is left are the pages that there were
-abbrev pub invariant-loop-page : goal.invariant-loop-page
-invariant-loop-page g l = record {
+abbrev pub invariant-loop-handful : goal.invariant-loop-handful
+invariant-loop-handful g l = record {
   serials : HasSerialsFrom (l.giver.base + length l.giver.given) l.pages.items;
   giver : l.giver ≡ record l.fn.giver { given = l.giver.given };
   given : l.giver.given ++ l.pages.items ≡ l.fn.giver.given ++ l.fn.pages.items;
   ends : l.ends ≡ l.fn.ends;
 }
 
-abbrev pub decreases-loop-page : goal.decreases-loop-page
-decreases-loop-page g l = length l.pages.items
+abbrev pub decreases-loop-handful : goal.decreases-loop-handful
+decreases-loop-handful g l = length l.pages.items

@@ -1,0 +1,34 @@
+use Rattle.std.proofs.Common.{◌≡◌, ◌+◌, ◌++◌, length, ap, sym, ◌∙◌, subst, append_assoc, length-append, arith}
+use Rattle.word_core.specs.Serials.{HasSerialsFrom}
+use Rattle.hand_core.specs.PageEnds.{Giver}
+use Rattle.hand_core.proofs.Serials.{serials_front, serials_behind}
+use Rattle.round_core.proofs.scanner.give_all.Goals as goal
+
+pub give_all-requires-clause-next : goal.give_all-requires-clause-next
+give_all-requires-clause-next g c =
+    let giver = c.loop-handful.giver in
+    let next = giver.base + length giver.given in
+    serials_front next c.in-Some.handful.items c.first_of.new.pages.items (subst (HasSerialsFrom next) c.in-Some.ensures.first c.loop-handful.invariant.serials)
+
+pub loop-handful-preserved : goal.loop-handful-preserved
+loop-handful-preserved g c =
+    let giver = c.loop-handful.giver in
+    let new = c.give_all.new.self in
+    let first = c.args.giver.now in
+    let items = c.in-Some.handful.items in
+    let rest = c.first_of.new.pages.items in
+    let next = giver.base + length giver.given in
+    let old = c.loop-handful.invariant in
+    let split = c.in-Some.ensures.first in
+    let ok = c.in_default-give_all.ensures.ok in
+    let base = ap (λ (v : Giver). v.base) ok in
+    let given = ap (λ (v : Giver). v.given) ok in
+    let long = ap (λ l. length l) given in
+    let longer = length-append giver.given items in
+    let behind = serials_behind next items rest (subst (HasSerialsFrom next) split old.serials) in
+    record {
+      serials = subst (λ n. HasSerialsFrom n rest) (let e : next + length items ≡ new.base + length new.given = omega arith in e) behind;
+      giver = ok ∙ ap (λ (v : Giver). record v { given = giver.given ++ items }) old.giver ∙ ap (λ l. record first { given = l }) (sym given);
+      given = ap (λ l. l ++ rest) given ∙ append_assoc giver.given items rest ∙ ap (λ l. giver.given ++ l) (sym split) ∙ old.given;
+      ends = old.ends;
+    }
