@@ -16,7 +16,7 @@ use std::sync::ledger::Ledger;
 use std::thread::Threads;
 use zone_core::{Seats, Zone};
 
-/// Shares a zone for one round, which nobody else has meanwhile, and hands it back with what the round was answered. Its
+/// Runs one round over a zone that nobody else uses meanwhile, and hands the zone back with the round's answer. Its
 /// conditions and its refusals are those of `compact`.
 pub fn compact_alone<
     I: Ledger + Send + Sync,
@@ -44,7 +44,7 @@ pub fn compact_alone<
     compact_shared::<Brand, I, N, M, B, G, R>(rt, alloc, zone, seats, copiers, cap, gate)
 }
 
-/// The same, of the shape that the type names.
+/// Runs the round over a zone with the number and the pageblocks that the type names.
 fn compact_shared<
     K: Shape + Send + Sync,
     I: Ledger + Send + Sync,

@@ -1,4 +1,4 @@
-//! Steps of many pages under one lock.
+//! Steps of many pages under one hold of the lock.
 
 ghost use Rattle.std.specs.Prelude.{◌≡◌, ◌+◌, [], length, Some, IfSome};
 ghost use Rattle.state_core.specs.Lawful.{IsLawful};
@@ -13,7 +13,7 @@ use std::sync::ledger::Ledger;
 use word_core::{Copied, Isolated};
 use zone_core::{EndSeat, Next, ScanSeat, Zone};
 
-/// Isolates pages into the empty list until it is full, in their order. Where there are fewer it is answered why.
+/// Isolates pages into the empty list, in their order, until the list is full. Where it stops before, the answer says why.
 pub(crate) fn isolate_burst<I: Ledger, N: Ledger, M: Ledger, B: Ledger>(
     zone: &mut Zone<I, M, B>,
     scan: &mut ScanSeat<I, N>,
@@ -38,7 +38,7 @@ pub(crate) fn isolate_burst<I: Ledger, N: Ledger, M: Ledger, B: Ledger>(
     None
 }
 
-/// Commits all copies, in their order. The least serial of those that were refused is answered, or that of a stranger before them.
+/// Commits all copies, in their order. The answer is the least serial of those that were refused now or before, if there is one.
 pub(crate) fn commit_burst<I: Ledger, M: Ledger, B: Ledger>(
     zone: &mut Zone<I, M, B>,
     seat: &mut EndSeat<M, B>,

@@ -15,7 +15,8 @@ use std::thread::{Promise, PromisedHandle, Scope, Threads};
 use word_core::Copied;
 use zone_core::EndSeat;
 
-/// What the committer hands back.
+/// What the committer hands back: its part of the end seat, the least serial that was refused, and whether it came to
+/// the end of the copies.
 #[derive(Drop)]
 pub(crate) struct Committed<M: Ledger, B: Ledger> {
     pub(crate) seat: EndSeat<M, B>,
@@ -23,14 +24,14 @@ pub(crate) struct Committed<M: Ledger, B: Ledger> {
     pub(crate) whole: bool,
 }
 
-/// What comes behind the copies that were gathered.
+/// What comes after the copies that were gathered.
 enum Behind {
     More,
     End,
     Gone,
 }
 
-/// Commits all copies that come, by the one seat, as many at once as the list has room for.
+/// Commits all copies that come, with one part of the end seat, as many at once as the list has room for.
 fn commit_all<K: Shape, I: Ledger, M: Ledger, B: Ledger, G: Gate, R: Wait>(
     rt: &R,
     shared: &SharedZone<K, I, M, B>,
@@ -62,7 +63,7 @@ fn commit_all<K: Shape, I: Ledger, M: Ledger, B: Ledger, G: Gate, R: Wait>(
     unreachable!()
 }
 
-/// Gathers the copies that are there, until the list is full. For the first it waits.
+/// Gathers the copies that are there, until the list is full. It waits for the first one only.
 fn gather<R: Wait>(rt: &R, copies: &mut DoneTaker, gathered: &mut VecDeque<Copied>) -> Behind
     requires { has_ended copies.old ≡ false }
     ensures { result ≡ Behind.More → has_ended copies.new ≡ false }
@@ -78,7 +79,7 @@ fn gather<R: Wait>(rt: &R, copies: &mut DoneTaker, gathered: &mut VecDeque<Copie
     Behind::More
 }
 
-/// Takes the next copy. Unless it waits, there may be none.
+/// Takes the next copy. Where it isn't to wait, the answer is none if no copy is there.
 fn next_copy<R: Wait>(rt: &R, copies: &mut DoneTaker, waits: bool) -> Option<Came>
     requires { has_ended copies.old ≡ false }
     ensures { IsTriedInTime copies.new result }
@@ -90,7 +91,7 @@ fn next_copy<R: Wait>(rt: &R, copies: &mut DoneTaker, waits: bool) -> Option<Cam
     }
 }
 
-/// The committer hands its one part of the end seat back.
+/// The committer hands back the one part of the end seat that it was given.
 #[derive(Drop)]
 pub(crate) struct HandsPartBack;
 
@@ -102,8 +103,8 @@ impl<M: Ledger, B: Ledger> Promise<Committed<M, B>> for HandsPartBack {
 
 pub(crate) type Committer<M, B> = PromisedHandle<Committed<M, B>, HandsPartBack>;
 
-/// Starts the committer. Where no thread can be started the outfit goes, and the senders with it, so that its body, which
-/// then runs here, ends at once.
+/// Starts the committer. Where no thread can be started, the committer's body runs on this thread. The outfit is dropped
+/// then, and the senders with it, so that the body ends at once.
 pub(crate) fn start_committer<
     's,
     'e,

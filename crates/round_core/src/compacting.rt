@@ -19,13 +19,13 @@ use std::thread;
 use std::thread::Threads;
 use zone_core::{Audit, Seats, Zone, ZoneError};
 
-/// Moves what can be moved, by so many copiers, 1 to 4, over queues with room for `cap` pages and copies, 1 to 64. Pages are isolated
-/// under one lock as many as a queue has room for, or as a handful for each copier has if that is more: up to eight, and no more than
-/// a queue has room for. As many are committed at most. What can fail for want of memory or of a thread fails before the first page is
-/// isolated.
+/// Moves what can be moved, with 1 to 4 copiers, over queues with room for `cap` pages and for `cap` copies, 1 to 64. Under one hold of
+/// the lock as many pages are isolated as a queue has room for, or as there are in a handful for each copier where that is more. A
+/// handful has up to eight pages, and no more than a queue has room for. At most as many copies are committed under one hold. What can
+/// fail for want of memory or of a thread fails before the first page is isolated.
 ///
 /// Refused as Broken where `audit` refuses, before anything else; as Memory or NoWorker, and then no round was begun; as Stranger where
-/// the zone refused a copy; as Broken where an end of a queue was gone, a copier's list had no place for a page, or the audit behind the
+/// the zone refused a copy; as Broken where an end of a queue was gone, a copier's list had no place for a page, or the audit after the
 /// round refuses.
 pub fn compact<
     K: Shape + Send + Sync,
@@ -61,7 +61,7 @@ pub fn compact<
     wind_up(rt, shared, seats, &before, ran)
 }
 
-/// Audits the zone with its seats. Each page is then ended once, and none is out.
+/// Audits the zone with its seats. Where the answer is Ok, each isolated page has ended once, and none is out.
 fn audit_zone<I: Ledger, N: Ledger, M: Ledger, B: Ledger>(
     zone: &mut Zone<I, M, B>,
     seats: &mut Seats<I, N, M, B>,
@@ -76,7 +76,7 @@ fn audit_zone<I: Ledger, N: Ledger, M: Ledger, B: Ledger>(
     zone.audit(&mut seats.scan, &mut seats.ends)
 }
 
-/// The same under the lock.
+/// Audits the zone under the lock, with its seats.
 fn audit<K: Shape, I: Ledger, N: Ledger, M: Ledger, B: Ledger, R: Wait>(
     rt: &R,
     shared: &SharedZone<K, I, M, B>,
@@ -140,7 +140,7 @@ fn in_scope<
     ran
 }
 
-/// Settles the hand-over and audits the zone.
+/// Settles the hand-over of a round that ran, and audits the zone.
 fn wind_up<K: Shape, I: Ledger, N: Ledger, M: Ledger, B: Ledger, R: Wait>(
     rt: &R,
     shared: &SharedZone<K, I, M, B>,
@@ -166,7 +166,7 @@ fn wind_up<K: Shape, I: Ledger, N: Ledger, M: Ledger, B: Ledger, R: Wait>(
     })
 }
 
-/// A round whose hand-over is settled.
+/// What is known of a round after its hand-over was settled.
 #[derive(Drop)]
 struct Settlement {
     base: Serial,
@@ -174,7 +174,7 @@ struct Settlement {
     stopped: Stop,
 }
 
-/// Settles the hand-over.
+/// Settles the hand-over of a round that ran.
 fn settle_round(ran: Ran) -> Result<Settlement, RoundError>
     requires { AreJoined ran.giver ran.joined }
     ensures base { IfOk result (λ s. s.base ≡ ran.giver.base) }
@@ -195,7 +195,7 @@ fn settle_round(ran: Ran) -> Result<Settlement, RoundError>
     })
 }
 
-/// Why the scanner stopped, where all threads came to their ends and the zone refused no copy.
+/// Why the scanner stopped. Refused as Stranger where the zone refused a copy, and as Broken where some thread didn't come to its end.
 fn stop_of(ran: &Ran) -> Result<Stop, RoundError>
     ensures stop { IfOk result (λ stop. ran.now.stop ≡ Some stop) }
     ensures whole { OnOk result (ran.now.joined.whole ≡ true) }

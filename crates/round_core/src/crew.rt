@@ -20,7 +20,7 @@ use std::thread::{Scope, Threads};
 use word_core::{Copied, Isolated};
 use zone_core::{EndSeat, ScanSeat, Seats};
 
-/// How a round ran.
+/// How a round ran: why its scanner stopped, and what its threads handed back.
 #[derive(Drop)]
 pub(crate) struct Ran {
     pub(crate) giver: Giver,
@@ -29,7 +29,7 @@ pub(crate) struct Ran {
     pub(crate) stranger: Option<Serial>,
 }
 
-/// The threads of a round, and the giver of their pages.
+/// The threads of a round, and the giver of its pages.
 #[derive(Drop)]
 struct Crew<M: Ledger, B: Ledger> {
     giver: Giver,
@@ -87,12 +87,12 @@ fn join_copiers<R: Threads>(
     joined
 }
 
-/// The copiers that were started. All else goes, so that they come to their ends.
+/// The copiers that were started. Everything else is dropped, so that they come to their ends.
 fn let_go(outfit: Outfit) -> Vec<Copier> {
     outfit.copiers
 }
 
-/// Joins the copiers that run, and then the committer.
+/// Joins the copiers that were started, and then the committer.
 fn join_early<M: Ledger, B: Ledger, R: Threads>(
     rt: &R,
     outfit: Outfit,
@@ -108,8 +108,8 @@ fn join_early<M: Ledger, B: Ledger, R: Threads>(
     seat
 }
 
-/// Starts the committer and the copiers. Where one of them can't be started those that run come to their ends, and the part is handed
-/// back.
+/// Starts the committer and the copiers. Where one of them can't be started, those that run come to their ends, and the part of the
+/// end seat is handed back.
 fn start_crew<
     's,
     'e,
@@ -150,7 +150,7 @@ fn start_crew<
     })
 }
 
-/// Runs a round with the scanner on this thread, and joins its crew.
+/// Runs a round with its scanner on this thread, and joins its crew.
 fn run_crew<K: Shape, I: Ledger, N: Ledger, M: Ledger, B: Ledger, G: Gate, R: Threads + Wait>(
     rt: &R,
     shared: &SharedZone<K, I, M, B>,

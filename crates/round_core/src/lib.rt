@@ -1,6 +1,6 @@
-//! Rounds on threads: a scanner isolates pages of a zone in bursts, copiers carry them, and a committer ends their moves in bursts.
+//! Rounds on threads: a scanner isolates pages of a zone in bursts, copiers copy them, and a committer ends their moves in bursts.
 //!
-//! The zone stands under one lock, which keeps it lawful. Contracts see a round by what it changes in the two seats.
+//! The zone is under one lock, which keeps it lawful. Contracts see a round by what it changes in the two seats.
 #![tactic(auto)]
 
 mod alone;

@@ -15,7 +15,7 @@ use std::sync::ledger::Ledger;
 use word_core::Isolated;
 use zone_core::{EndSeat, ScanSeat};
 
-/// Isolates pages and gives them, as many at once as the empty list has room for, until there is nothing left or the journal is
+/// Isolates pages and gives them, as many at once as the empty list has room for, until the scanners meet or the journal is
 /// full. None where the takers are gone.
 pub(crate) fn scan_all<K: Shape, I: Ledger, N: Ledger, M: Ledger, B: Ledger, G: Gate, R: Wait>(
     rt: &R,
@@ -45,7 +45,7 @@ pub(crate) fn scan_all<K: Shape, I: Ledger, N: Ledger, M: Ledger, B: Ledger, G: 
     unreachable!()
 }
 
-/// Gives all pages, in their order and in handfuls. None where the takers are gone, and then those that are left are put back.
+/// Gives all pages, in their order and in handfuls. Where the takers are gone, those that are left are put back, and the answer is none.
 fn give_all<K: Shape, I: Ledger, M: Ledger, B: Ledger, G: Gate, R: Wait>(
     rt: &R,
     shared: &SharedZone<K, I, M, B>,
@@ -74,7 +74,7 @@ fn give_all<K: Shape, I: Ledger, M: Ledger, B: Ledger, G: Gate, R: Wait>(
     Some(())
 }
 
-/// Takes so many pages off the front, or all where there are fewer. None where there are none.
+/// Takes `share` pages off the front, or all where there are fewer. None where there are none.
 fn first_of(pages: &mut VecDeque<Isolated>, share: usize) -> Option<Handful<Isolated>>
     requires { (0 < share) × (share ≤ 8) }
     ensures first { IfSome result (λ handful. pages.old.items ≡ handful.items ++ pages.new.items) }

@@ -12,7 +12,7 @@ use std::sync::{Condvar, Mutex, MutexGuard, Wait};
 use word_core::{Copied, Isolated};
 use zone_core::{EndSeat, ScanSeat, Zone};
 
-/// What stands under the lock: a zone, and whether a thread waits for a move in it to end.
+/// What is under the lock: a zone, and whether a thread waits for the end of a move in it.
 #[derive(Drop)]
 pub struct Room<K: Shape, I: Ledger, M: Ledger, B: Ledger> {
     pub zone: Zone<I, M, B>,
@@ -40,7 +40,7 @@ impl<K: Shape, I: Ledger, M: Ledger, B: Ledger> Room<K, I, M, B> {
     ghost use Rattle.round_core.specs.Kept.{IsKept};
     ghost use Rattle.zone_core.specs.Shape.{HasShape};
 
-    /// The zone, for reading, as whoever takes the lock finds it.
+    /// The zone, to be read, as whoever takes the lock finds it.
     pub fn zone(&self) -> &Zone<I, M, B>
         ensures zone { result.now ≡ self.now }
         ensures kept { IsKept self.now }
@@ -101,8 +101,8 @@ impl<K: Shape, I: Ledger, M: Ledger, B: Ledger> SharedZone<K, I, M, B> {
         self.blocks
     }
 
-    /// Waits for the lock, which it tries for a while before it sleeps, and lends the zone as long as the guard lives. What is
-    /// known of it is what `Room::zone` says. Who ends a move through it tells so by `tell_ended`.
+    /// Waits for the lock, and lends the zone as long as the guard lives. It tries for a while before it sleeps. What is known
+    /// of the zone is what `Room::zone` says. A thread that ends a move through the guard calls `tell_ended`.
     pub fn lock<R: Wait>(&self, rt: &R) -> MutexGuard<'_, Room<K, I, M, B>> {
         for tries in 0..TRIES {
             if let Some(room) = self.room.try_lock() {
@@ -113,7 +113,7 @@ impl<K: Shape, I: Ledger, M: Ledger, B: Ledger> SharedZone<K, I, M, B> {
         self.room.lock(rt)
     }
 
-    /// Waits, without the lock, until a move has ended. It may return before, so the caller looks again.
+    /// Waits, without the lock, until a move has ended. It may return earlier, so the caller has to look again.
     pub fn wait_for_end<'a, R: Wait>(
         &self,
         rt: &R,
@@ -123,7 +123,7 @@ impl<K: Shape, I: Ledger, M: Ledger, B: Ledger> SharedZone<K, I, M, B> {
         self.ended.wait(rt, room)
     }
 
-    /// Wakes those who wait for the end of a move, if there are any.
+    /// Wakes the threads that wait for the end of a move, if there are any.
     pub fn tell_ended(&self, room: &mut Room<K, I, M, B>)
         ensures { room.new ≡ room.old }
     {
@@ -133,14 +133,14 @@ impl<K: Shape, I: Ledger, M: Ledger, B: Ledger> SharedZone<K, I, M, B> {
         }
     }
 
-    /// Begins a round.
+    /// Begins a round under the lock.
     pub(crate) fn begin_round<N: Ledger, R: Wait>(&self, rt: &R, seat: &mut ScanSeat<I, N>)
         ensures { seat.new ≡ seat_begun seat.old }
     {
         self.lock(rt).zone.begin_round(seat);
     }
 
-    /// Isolates pages into the empty list until it is full, in their order. Where there are fewer it is answered why.
+    /// Isolates pages into the empty list, in their order, until the list is full. Where it stops before, the answer says why.
     pub(crate) fn isolate_burst<N: Ledger, R: Wait>(
         &self,
         rt: &R,
@@ -157,8 +157,8 @@ impl<K: Shape, I: Ledger, M: Ledger, B: Ledger> SharedZone<K, I, M, B> {
         isolate_burst(&mut room.zone, seat, pages)
     }
 
-    /// Ends the moves of pages with their copies, and wakes those who wait for one. The least serial of those that were refused
-    /// is answered, or that of a stranger before them.
+    /// Ends the moves of pages with their copies, and wakes the threads that wait for the end of a move. The answer is the
+    /// least serial of those that were refused now or before, if there is one.
     pub(crate) fn commit_burst<R: Wait>(
         &self,
         rt: &R,
@@ -175,7 +175,7 @@ impl<K: Shape, I: Ledger, M: Ledger, B: Ledger> SharedZone<K, I, M, B> {
         least
     }
 
-    /// Ends the move of a page that reached no copier, and wakes those who wait for it.
+    /// Ends the move of a page that wasn't copied, and wakes the threads that wait for the end of a move.
     pub(crate) fn put_back<R: Wait>(&self, rt: &R, seat: &mut EndSeat<M, B>, page: Isolated)
         ensures { (seat.new.parts ≡ seat.old.parts) × (seat.new.moved ≡ seat.old.moved) × (seat.old.back ≤ seat.new.back) }
     {
