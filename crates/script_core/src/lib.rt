@@ -1,9 +1,9 @@
 //! Scripts: a machine with at most one zone answers commands, and a run reads them and writes the replies.
 //!
-//! `play_core` reads a script and writes the replies, and `machine_core` answers on one thread: `run` and `run_text` are its. On threads a
-//! round, a pool or a block may be answered in more than one way, and `specs/Threaded.antt` says in which, and `specs/Clients.antt`
-//! what the calls beside a round are answered: `run_on_threads`. `program` is a run of `compactd`: the words that it is started with, its
-//! streams, and the status that it ends with.
+//! `play_core` reads a script and writes the replies. `machine_core` answers on one thread, by `run` and `run_text`. On threads, by
+//! `run_on_threads`, a round, a pool or a block may be answered in more than one way: `specs/Threaded.antt` says in which, and
+//! `specs/Clients.antt` what the calls during a round are answered. `program` is a run of `compactd`: the words that it is started with,
+//! its streams, and the status that it ends with.
 #![tactic(auto)]
 
 mod alone;
