@@ -10,6 +10,7 @@ pub record Outbox : Type 0 where
   pub bytes : List ℕ
   pub lines : List ℕ
 
+-- no reply waits
 abbrev pub empty : Outbox
 empty = record { bytes = []; lines = [] }
 

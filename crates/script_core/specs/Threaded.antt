@@ -262,5 +262,6 @@ IsUnthreaded (Pool zone count blocks) = ⊥
 IsUnthreaded (During number) = ⊥
 IsUnthreaded _ = ⊤
 
+-- no command of an input is a round, a pool or a block
 abbrev pub IsUnthreadedScript : List ℕ → Type 0
 IsUnthreadedScript input = AllByRecursion (λ c. IsUnthreaded c.command) (commands_of input)

@@ -11,6 +11,7 @@ use Rattle.machine_core.specs.Replies.{answers_of}
 abbrev pub fault_in_profile_1 : List ℕ → Option RunError
 fault_in_profile_1 input = fault_from (by One) 1 (parts_of input)
 
+-- an input with the line `profile 2` before it
 abbrev pub behind_profile_2 : List ℕ → List ℕ
 behind_profile_2 input = codes "profile 2\n" ++ input
 

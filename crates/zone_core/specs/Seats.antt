@@ -26,10 +26,11 @@ pub record EndSeat : Type 0 where
   pub moved : ℕ
   pub back : ℕ
 
--- the two seats that a zone is opened with
+-- the scan seat that a zone is opened with
 abbrev pub fresh_scan_seat : ScanSeat
 fresh_scan_seat = record { count = 0; rounds = 0; last = None }
 
+-- the end seat that a zone is opened with, which has all 64 parts
 abbrev pub fresh_end_seat : EndSeat
 fresh_end_seat = record { parts = 64; moved = 0; back = 0 }
 
