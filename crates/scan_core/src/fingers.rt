@@ -5,9 +5,9 @@ use frame_core::FrameNo;
 /// Where the two scanners of a round stand, as frame numbers. The kernel's compaction has the same two scanners.
 #[derive(Clone, Copy, Debug, PartialEq, Eq)]
 pub struct Fingers {
-    /// The migrate scanner looked for pages to take in all frames below this one.
+    /// The migrate scanner has looked at all frames below this one, for a page to take.
     pub migrate: u32,
-    /// The free scanner looked for frames to take pages to in all frames from this one on.
+    /// The free scanner has looked at all frames from this one on, for a frame to take a page to.
     pub free: u32,
 }
 

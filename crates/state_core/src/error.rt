@@ -11,7 +11,7 @@ use std::fmt::{Display, Formatter};
 pub enum ZoneError {
     /// An argument is out of its range.
     Range,
-    /// The journal has no place left.
+    /// The journal has no place left, besides those that the moving pages need for their ends.
     JournalFull,
     /// The address names no page.
     Unmapped,

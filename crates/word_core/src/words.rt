@@ -25,7 +25,7 @@ impl Model for Words {
 }
 
 impl Words {
-    /// Takes the memory for the words of this many frames, or answers an error where there isn't as much. No other call takes any.
+    /// Takes the memory for the words of this many frames, or answers an error where there isn't enough. No other call takes any.
     pub fn open(alloc: Global, frames: u32) -> Result<Self, AllocError>
         ensures blank { IfOk result (λ rows. rows ≡ replicate frames blank_words) }
         ensures frames { IfOk result (λ rows. length rows ≡ frames) }
