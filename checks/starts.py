@@ -1,6 +1,7 @@
-"""Shows of `./compactd` and `./prove`, over a kit that proves nothing (`checks/kit/rt`), in a temporary folder: that what is proved or compiled
-is used again exactly where the kit, the sources and the build are as they were, whatever the times of files are; that arguments, input, output
-and status are passed on; and what is left where a build fails, is interrupted, or is asked for twice at once.
+"""Shows of `./compactd` and `./prove`, over a kit that proves nothing (`checks/kit/rt`), in a temporary folder: what is
+proved or compiled is used again exactly where the kit, the sources and the build are as they were, whatever the times
+of files are; arguments, input, output and status are passed on; and nothing half made is used or left where a build
+fails, is interrupted, or is asked for twice at once.
 """
 
 import contextlib
@@ -14,7 +15,7 @@ import tempfile
 import time
 
 ROOT = pathlib.Path(__file__).resolve().parent.parent
-PROGRAM = "#!/bin/sh\nwhile read -r line; do echo \"$line\"; done\necho \"ran $*\"\nexit ${2:-0}\n"
+PROGRAM = '#!/bin/sh\nwhile read -r line; do echo "$line"; done\necho "ran $*"\nexit ${2:-0}\n'
 FILES = {
     "crates.txt": "# the crates\nlow: std_thing\ncompactd: low\nother: low\n",
     "HANDLES": "Handles allowed: none.\n",
@@ -27,51 +28,52 @@ FILES = {
     "crates/compactd/stdin": "",
 }
 # What a proof reads: the program's crates without their edits, and nothing of the others.
-PROVED_FILES = """HANDLES crates.txt crates/compactd/src/main.rt crates/compactd/stdin crates/low/proofs/Lib.antt crates/low/specs/Lib.antt
-crates/low/src/lib.rt""".split()
-COMPILES, UNPROVED, LAST = "compiling a build", "this build isn't proved", "compactd is proved: crates/compactd/out/compactd\n"
+READ = sorted(path for path in FILES if "must-fail" not in path and "other" not in path)
+OUT = "crates/compactd/out"
+COMPILES, UNPROVED, AGAIN = "compiling a build", "this build isn't proved", "compiles once more"
+PROVED = (0, f"compactd is proved: {OUT}/compactd\n")
 
 
 class Repository:
     """A small repository with the scripts of this one, and the state of its kit."""
 
     def __init__(self, folder):
-        self.top, self.state, self.temporary = folder / "repository", folder / "kit", folder / "temporary"
-        for path, text in FILES.items():
-            self.write(path, text)
+        self.top, self.state = folder / "repository", folder / "kit"
+        self.temporary, self.python = folder / "temporary", folder / "python"
+        for path in FILES:
+            self.write(path, FILES[path])
         for name in ("compactd", "prove"):
             shutil.copy(ROOT / name, self.top)
         shutil.copytree(ROOT / "launch", self.top / "launch")
-        self.state.mkdir()
-        self.temporary.mkdir()
+        for it in (self.state, self.temporary, self.python):
+            it.mkdir()
+        (self.python / "python3").symlink_to(sys.executable)
         (self.state / "version").write_text("kit one")
         (self.state / "program").write_text(PROGRAM)
         (self.state / "program").chmod(0o755)
 
     def write(self, path, text):
-        """Writes a file with a time long ago."""
+        """Writes a file, with a time long ago."""
         file = self.top / path
         file.parent.mkdir(parents=True, exist_ok=True)
         file.write_text(text)
         os.utime(file, (1, 1))
 
-    def begin(self, name, *arguments, has_kit=True):
-        """Begins a start. Without a kit, PATH has Python alone."""
-        path = [str(ROOT / "checks/kit")] * has_kit + [os.path.dirname(os.path.realpath(sys.executable))]
-        environment = {"PATH": ":".join(path), "KIT_STATE": str(self.state), "TMPDIR": str(self.temporary)}
-        how = {"stdin": subprocess.PIPE, "stdout": subprocess.PIPE, "stderr": subprocess.PIPE, "text": True, "env": environment}
-        return subprocess.Popen([self.top / name, *arguments], **how)
+    def begin(self, words, has_kit=True):
+        """Begins a command of the repository. Without a kit, PATH has Python alone."""
+        path = f"{ROOT / 'checks/kit'}:{self.python}" if has_kit else str(self.python)
+        environment = {"PATH": path, "KIT_STATE": str(self.state), "TMPDIR": str(self.temporary)}
+        streams = dict.fromkeys(("stdin", "stdout", "stderr"), subprocess.PIPE)
+        return subprocess.Popen([self.top / words[0], *words[1:]], env=environment, text=True, **streams)
 
-    def start(self, name, *arguments, has_kit=True):
-        """The status of a start with one line of input, and what it writes to standard output and to standard error."""
-        begun = self.begin(name, *arguments, has_kit=has_kit)
-        return ended(begun)
+    def run(self, *words, has_kit=True):
+        return ended(self.begin(words, has_kit))
 
     def calls(self):
         """The calls of the kit since they were last asked for."""
-        calls = self.state / "calls"
-        found = calls.read_text().split("\n")[:-1] if calls.exists() else []
-        calls.unlink(missing_ok=True)
+        file = self.state / "calls"
+        found = file.read_text().splitlines() if file.exists() else []
+        file.unlink(missing_ok=True)
         return found
 
     @contextlib.contextmanager
@@ -80,139 +82,159 @@ class Repository:
         yield
         (self.state / word).unlink()
 
-    def interrupt(self, name):
-        """The status of a start that is ended while the kit works."""
-        self.calls()
-        with self.kit_that("hangs"):
-            begun = self.begin(name)
-            wait_until(lambda: (self.state / "calls").exists())
-            begun.send_signal(signal.SIGTERM)
-            return ended(begun)[0]
-
 
 def ended(begun):
+    """The status of a command with one line of input, and what it writes to standard output and to standard error."""
     written, said = begun.communicate("a line\n")
     return begun.returncode, written, said
 
 
 def wait_until(holds):
-    for _ in range(1000):
+    for _ in range(3000):
         if holds():
             return
         time.sleep(0.01)
-    sys.exit("checks/starts.py: a start called no kit within ten seconds")
+    sys.exit("starts: no call of the kit within half a minute")
 
 
-def wanted(what, found, expected):
-    if found != expected:
-        sys.exit(f"checks/starts.py: {what}: {found!r}, and not {expected!r}")
+def same(what, found, wanted):
+    if found != wanted:
+        sys.exit(f"starts: {what}: {found!r}, and not {wanted!r}")
 
 
-def answers(repository, what, calls, tells):
-    """A start answers as the program does, after these calls of the kit, and standard error tells just these things."""
-    status, written, said = repository.start("compactd", "--word", "3")
-    wanted(f"{what}: status and output", (status, written), (3, "a line\nran --word 3\n"))
-    wanted(f"{what}: calls of the kit", repository.calls(), calls)
-    wanted(f"{what}: lines of standard error", len(said.splitlines()), len(tells))
-    wanted(f"{what}: standard error", [tell for tell in tells if tell not in said], [])
+def answers(repository, what, calls=(), tells=()):
+    """A start answers as the program does, after these calls of the kit, and has a line on standard error for each of
+    these words."""
+    status, written, said = repository.run("compactd", "--word", "3")
+    same(f"status and output of {what}, beside {said!r}", (status, written), (3, "a line\nran --word 3\n"))
+    same(f"calls of the kit by {what}", repository.calls(), list(calls))
+    same(f"lines of standard error of {what}", len(said.splitlines()), len(tells))
+    same(f"what standard error of {what} lacks, which is {said!r}", [it for it in tells if it not in said], [])
+
+
+def compiles(repository, what):
+    answers(repository, what, ["try"], [COMPILES, UNPROVED])
+
+
+def proves(repository, what):
+    same(f"status and output of {what}", repository.run("prove")[:2], PROVED)
+    same(f"calls of the kit by {what}", repository.calls(), ["ci"])
 
 
 def lacks_a_kit(repository):
-    """Without a kit a start and a proof end with status 70."""
+    """With no kit a start and a proof end with status 70."""
     for name in ("compactd", "prove"):
-        status, written, said = repository.start(name, has_kit=False)
-        wanted(f"{name} with no kit", (status, written, said.count("\n"), "rt has to be on PATH" in said), (70, "", 1, True))
+        status, written, said = repository.run(name, has_kit=False)
+        same(f"{name} with no kit", (status, written, said.count("\n")), (70, "", 1))
+        same(f"{name} with no kit names what it lacks", "rt has to be on PATH" in said, True)
 
 
 def unproved_starts(repository):
-    """An unproved build is compiled once, and again after a change, also one with old times."""
-    answers(repository, "the first start", ["try"], [COMPILES, UNPROVED])
-    answers(repository, "the second start", [], [UNPROVED])
+    """An unproved build is compiled once, and again after a change, whatever its time."""
+    compiles(repository, "the first start")
+    answers(repository, "the second start", tells=[UNPROVED])
     repository.write("crates/low/src/lib.rt", "changed")
-    answers(repository, "a start after a change", ["try"], [COMPILES, UNPROVED])
+    compiles(repository, "a start after a change")
     (repository.state / "version").write_text("kit two")
-    answers(repository, "a start with another kit", ["try"], [COMPILES, UNPROVED])
+    compiles(repository, "a start with another kit")
     repository.write("crates/other/src/lib.rt", "changed")
-    answers(repository, "a start after a change of another crate", [], [UNPROVED])
-    with open(repository.top / "crates/compactd/out/unproved/compactd", "a") as build:
-        build.write("# cut or changed\n")
-    answers(repository, "a start after a change of the build", ["try"], [COMPILES, UNPROVED])
+    answers(repository, "a start after a change of another crate", tells=[UNPROVED])
+    with open(repository.top / OUT / "unproved/compactd", "a") as build:
+        build.write("# another build\n")
+    compiles(repository, "a start after a change of the build")
 
 
 def two_starts(repository):
     """Of two starts at once one compiles, and the other waits for it."""
-    both = [repository.begin("compactd") for _ in range(2)]
-    found = [ended(begun) for begun in both]
-    wanted("two starts at once", [it[:2] for it in found], [(0, "a line\nran \n")] * 2)
-    wanted("calls of the kit for two starts at once", repository.calls(), ["try"])
+    both = [repository.begin(["compactd"]) for _ in range(2)]
+    same("two starts at once", [ended(begun)[:2] for begun in both], [(0, "a line\nran \n")] * 2)
+    same("calls of the kit by two starts at once", repository.calls(), ["try"])
 
 
 def failing_builds(repository):
-    """What isn't compiled ends with status 70, and what isn't proved with 1; what the kit said is told."""
+    """What isn't compiled ends with status 70, and what isn't proved with 1. What the kit said is told."""
     with repository.kit_that("fails"):
-        for name, status in (("compactd", 70), ("prove", 1)):
-            found = repository.start(name)
-            wanted(f"{name} of what is broken", (*found[:2], "this crate is broken" in found[2]), (status, "", True))
+        for name, wanted in (("compactd", 70), ("prove", 1)):
+            status, written, said = repository.run(name)
+            same(f"{name} of what is broken", (status, written), (wanted, ""))
+            same(f"{name} tells what is broken", "this crate is broken" in said, True)
     repository.calls()
-    answers(repository, "a start after one that failed", ["try"], [COMPILES, UNPROVED])
+    compiles(repository, "a start after one that failed")
 
 
 def interrupted(repository):
-    """What is interrupted leaves nothing that is used, and no file behind it."""
+    """What is interrupted leaves no file, and the next start is as the first."""
     for name in ("compactd", "prove"):
-        wanted(f"the status of an interrupted {name}", repository.interrupt(name), 128 + signal.SIGTERM)
-        wanted(f"temporary files of an interrupted {name}", list(repository.temporary.iterdir()), [])
-    wanted("builds after interruptions", list((repository.top / "crates/compactd/out").iterdir()), [])
+        repository.calls()
+        with repository.kit_that("hangs"):
+            begun = repository.begin([name])
+            wait_until((repository.state / "calls").exists)
+            begun.terminate()
+            same(f"status of an interrupted {name}", ended(begun)[0], 128 + signal.SIGTERM)
+        same(f"temporary files of an interrupted {name}", list(repository.temporary.iterdir()), [])
+    same("builds after interruptions", list((repository.top / OUT).iterdir()), [])
     repository.calls()
-    answers(repository, "a start after one that was interrupted", ["try"], [COMPILES, UNPROVED])
+    compiles(repository, "a start after one that was interrupted")
+    proves(repository, "a proof after one that was interrupted")
 
 
 def hidden_build(repository):
     """Where `rt try` leaves no build, it answers itself."""
     with repository.kit_that("hides"):
-        answers(repository, "a start with no build", ["try", "try -- --word 3"], [COMPILES, UNPROVED, "compiles once more"])
+        answers(repository, "a start with no build", ["try", "try -- --word 3"], [COMPILES, UNPROVED, AGAIN])
 
 
 def proved_starts(repository):
     """The proved program runs exactly where it is that of the sources and the kit."""
-    wanted("a proof", repository.start("prove")[:2], (0, LAST))
-    wanted("what a proof reads", (repository.state / "seen").read_text().split(), PROVED_FILES)
-    wanted("calls of the kit for a proof", repository.calls(), ["ci"])
-    answers(repository, "a start of what is proved", [], [])
-    wanted("a start of what is proved, with no kit", repository.start("compactd", has_kit=False), (0, "a line\nran \n", ""))
-    wanted("a proof of what is proved", (repository.start("prove"), repository.calls()), ((0, LAST, ""), []))
+    proves(repository, "a proof")
+    same("what a proof reads", (repository.state / "seen").read_text().split(), READ)
+    answers(repository, "a start of what is proved")
+    same("a start with no kit", repository.run("compactd", has_kit=False), (0, "a line\nran \n", ""))
+    same("a proof of what is proved", (repository.run("prove"), repository.calls()), ((*PROVED, ""), []))
     repository.write("crates/low/proofs/Lib.antt", "changed")
-    answers(repository, "a start after a change of a proof", ["try"], [COMPILES, UNPROVED])
+    compiles(repository, "a start after a change of a proof")
     repository.write("crates/low/proofs/Lib.antt", FILES["crates/low/proofs/Lib.antt"])
-    answers(repository, "a start with the sources as they were", [], [])
+    answers(repository, "a start with the sources as they were")
     repository.write("HANDLES", "Handles allowed: Wait.\n")
-    answers(repository, "a start after a change of HANDLES", ["try"], [COMPILES, UNPROVED])
-    wanted("a proof after a change", (repository.start("prove")[:2], repository.calls()), ((0, LAST), ["ci"]))
+    compiles(repository, "a start after a change of what is allowed")
+    proves(repository, "a proof after a change")
     (repository.state / "version").write_text("kit two")
-    answers(repository, "a start of what another kit proved", ["try"], [COMPILES, UNPROVED])
+    compiles(repository, "a start of what another kit proved")
 
 
 def gate_leaves(repository):
-    """What the gate built counts as proved of the sources that it began with."""
-    note = [sys.executable, repository.top / "launch/program.py"]
-    how = {"text": True, "check": True, "stdout": subprocess.PIPE, "env": {**os.environ, "PATH": f"{ROOT}/checks/kit:{os.environ['PATH']}", "KIT_STATE": str(repository.state)}}
-    sources = subprocess.run(note, **how).stdout.strip()
-    out = repository.top / "crates/compactd/out"
-    out.mkdir()
-    shutil.copy(repository.state / "program", out / "compactd")
-    answers(repository, "a start of what nobody says is proved", ["try"], [COMPILES, UNPROVED])
-    subprocess.run([*note, "proved", sources], **how)
-    answers(repository, "a start of what the gate proved", [], [])
+    """What the gate built is proved of the sources that it began with, and of no others."""
+    path = f"{ROOT / 'checks/kit'}:{os.environ['PATH']}"
+    environment = {**os.environ, "PATH": path, "KIT_STATE": str(repository.state)}
+    note = [sys.executable, "-B", repository.top / "launch/program.py"]
+    sources = subprocess.check_output(note, text=True, env=environment).strip()
+    (repository.top / OUT).mkdir()
+    shutil.copy(repository.state / "program", repository.top / OUT)
+    (repository.top / OUT / "program").rename(repository.top / OUT / "compactd")
+    compiles(repository, "a start of what nobody says is proved")
+    subprocess.check_call([*note, "proved", sources], env=environment)
+    answers(repository, "a start of what the gate proved")
+    repository.write("crates/low/src/lib.rt", "changed")
+    compiles(repository, "a start after a change of what the gate proved")
 
 
-CASES = (lacks_a_kit, unproved_starts, two_starts, failing_builds, interrupted, hidden_build, proved_starts, gate_leaves)
+CASES = (
+    lacks_a_kit,
+    unproved_starts,
+    two_starts,
+    failing_builds,
+    interrupted,
+    hidden_build,
+    proved_starts,
+    gate_leaves,
+)
 
 
 def check():
     for case in CASES:
         with tempfile.TemporaryDirectory(prefix="compactd-starts-") as folder:
             case(Repository(pathlib.Path(folder)))
-    return f"{len(CASES)} cases of starts and proofs: each runs what is fresh, passes on what is given, and leaves nothing half made"
+    return f"{len(CASES)} cases of starts and proofs: what is fresh runs again, and nothing that is half made"
 
 
 if __name__ == "__main__":

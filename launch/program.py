@@ -1,7 +1,9 @@
-"""Where the program lies, the crates that it stands on, and what a build was made from: `compactd`, `prove` and `.ci/run` share this.
+"""Where the program lies, the crates that it stands on, and what a build was made from: what `compactd`, `prove` and
+`.ci/run` share.
 
-A build is fresh while the kit, the sources and the build itself are as its note says; times of files don't matter. As a command this prints
-the digest of the sources, and with the word `proved` and such a digest it notes that the gate's program was made from those sources.
+A build is fresh while the kit, the sources and the build itself are as its note says. Times of files don't matter.
+As a command this prints the digest of the sources. With the word `proved` and such a digest it notes that the program
+which the gate built was made from those sources.
 """
 
 import hashlib
@@ -30,7 +32,8 @@ def stop(why):
 
 
 def end_on_signals():
-    """Has signals end this process by sys.exit, so that what it began is ended too. Those that it was started to ignore stay ignored."""
+    """Has signals end this process by sys.exit, so that what it began is ended too. What it was started to ignore it
+    still ignores."""
     for number in (signal.SIGINT, signal.SIGTERM, signal.SIGHUP):
         if signal.getsignal(number) != signal.SIG_IGN:
             signal.signal(number, lambda number, _: sys.exit(128 + number))
@@ -52,7 +55,7 @@ def crates_below(root):
 
 
 def digest_of(root):
-    """A digest of all that decides whether the program is proved, but the kit: what is allowed, the crates, and their files."""
+    """A digest of all but the kit that a proof of the program reads: what is allowed, the crates, and their files."""
     crates = crates_below(root)
     folders = [root / "crates" / crate / part for crate in crates for part in ("src", "specs", "proofs")]
     files = [root / "HANDLES", *(file for folder in folders for file in sorted(folder.rglob("*")))]
@@ -66,7 +69,8 @@ def kit_version():
     """The version of the Rattle kit whose `rt` is on PATH, or None where there is none."""
     if not shutil.which("rt"):
         return None
-    return subprocess.run(["rt", "version"], stdin=subprocess.DEVNULL, stdout=subprocess.PIPE, text=True).stdout.strip() or None
+    said = subprocess.run(["rt", "version"], stdin=subprocess.DEVNULL, stdout=subprocess.PIPE, text=True)
+    return said.stdout.strip() or None
 
 
 def note_of(build):
