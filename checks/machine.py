@@ -1,9 +1,9 @@
-"""A machine for scripts of compactd that is small and slow, written after docs/SCRIPT.md: which command a line is, what the zone
-does at it, and the reply. The checks compare what the program writes with what this machine writes. Rounds on threads are made
-one page after the other here, since no reply tells the order in which copiers carry pages. So is a round with a client beside it, as
-long as the client does nothing that the round looks at. Where it maps a page, ends one, or gives it its first pin or takes its last one off,
-it is up to the threads which pages the round moves: then a `?` stands in replies for each number that the manual leaves to them, and
-what can't be told at all is `Untold`."""
+"""A machine for scripts of compactd that is small and slow, written after docs/SCRIPT.md: which command a line is, what
+the zone does at it, and the reply. The checks compare what the program writes with what this machine writes. Rounds on
+threads are made one page after the other here, since no reply tells the order in which copiers carry pages. So is a
+round with a client beside it, as long as the client does nothing that the round looks at. Where it maps a page, ends
+one, or gives it its first pin or takes its last one off, it is up to the threads which pages the round moves: then a
+`?` stands in replies for each number that the manual leaves to them, and what can't be told at all is `Untold`."""
 
 import re
 
@@ -56,7 +56,7 @@ class Untold(Exception):
 
 
 class Page:
-    """A page in use. While it is on its way it has a serial, and the frame that it is to move to."""
+    """A page in use. While it is moving it has a serial, and the frame that it is to move to."""
 
     def __init__(self, frame, address, unmovable):
         self.frame = frame
@@ -70,9 +70,9 @@ class Page:
 
 
 class Zone:
-    """A zone, the pages of it that are on their way, and four hands. A frame is free where it is None, or it has a page, the page that
-    is to come, or the block that was handed out. Once the threads decided what a round moved, no frame is told but those of pages that
-    no round moves, and there are at least so many places in the journal."""
+    """A zone, the pages of it that are moving, and four hands. A frame is free where it is None, or it has a
+    page, the page that is to come, or the block that was handed out. Once the threads decided what a round moved, no
+    frame is told but those of pages that no round moves, and there are at least so many places in the journal."""
 
     def __init__(self, number, blocks, places):
         self.number = number
@@ -80,7 +80,7 @@ class Zone:
         self.frames_if_told = [None] * self.size
         self.pages = {}  # by address
         self.places = places
-        self.on_their_way = {}  # by serial
+        self.moving = {}  # by serial
         self.serials = 0
         self.is_open = False
         self.low, self.high = 0, self.size
@@ -103,7 +103,7 @@ class Zone:
     # What each call asks of the zone.
 
     def need_places(self, count):
-        if self.places < count + len(self.on_their_way):
+        if self.places < count + len(self.moving):
             raise Refused(2) if self.is_told else Untold
 
     def need_page(self, address):
@@ -135,7 +135,7 @@ class Zone:
         return frame
 
     def fresh_frame_beside_moves(self, frame):
-        """Each page may have one frame more, and where it is on its way that isn't told."""
+        """Each page may have one frame more, and where it is moving that isn't told."""
         if frame is not None and self.stays_in_use(frame):
             raise Refused(6)
         if frame is not None or self.size <= 2 * self.page_count() + self.held():
@@ -279,7 +279,7 @@ class Zone:
         self.low, self.high = 0, self.size
 
     def take_next(self):
-        """The next page on its way, or None where there is no pair."""
+        """The next page that is to move, or None where there is no pair."""
         self.need_places(2)
         pair = self.next_pair()
         if pair is None:
@@ -288,7 +288,7 @@ class Zone:
         page = self.frames[source]
         page.serial, page.target = self.serials, target
         self.frames[target] = page
-        self.on_their_way[page.serial] = page
+        self.moving[page.serial] = page
         self.serials += 1
         self.places -= 1
         self.low, self.high = source + 1, target
@@ -297,7 +297,7 @@ class Zone:
     def end_move(self, page, is_moved):
         self.places -= 1
         old, new = (page.frame, page.target) if is_moved else (page.target, page.frame)
-        del self.on_their_way[page.serial]
+        del self.moving[page.serial]
         self.frames[old] = None
         page.frame, page.serial, page.target = new, None, None
 
@@ -396,7 +396,7 @@ class Zone:
                 page.frame = ANY
 
     def end_beside(self):
-        """The round of a block, behind the client's calls."""
+        """The round of a block, after the client's calls."""
         client, self.client = self.client, None
         if client.is_free:
             back = ANY if client.pins else 0
@@ -487,7 +487,7 @@ class Zone:
 
     def info(self):
         return (
-            f"free={self.free_frames()} pages={self.page_count()} moving={len(self.on_their_way)}"
+            f"free={self.free_frames()} pages={self.page_count()} moving={len(self.moving)}"
             f" huge={len(self.handed_out)} whole={self.whole_pageblocks()}"
         )
 
@@ -506,8 +506,8 @@ class Zone:
 
 
 class Client:
-    """What is known of a block while its client makes calls: the places of the journal at its beginning, whether the threads decide
-    what the round moves, and whether a page had no pin and got one."""
+    """What is known of a block while its client makes calls: the places of the journal at its beginning, whether the
+    threads decide what the round moves, and whether a page had no pin and got one."""
 
     def __init__(self, places):
         self.places = places
@@ -519,7 +519,8 @@ def listed(numbers):
     return ",".join(str(number) for number in numbers) or "-"
 
 
-# The forms of the commands of both profiles, and their calls of the zone. Capital letters stand for numbers; Z is the zone.
+# The forms of the commands of both profiles, and their calls of the zone. Capital letters stand for numbers; Z is the
+# zone.
 CALLS = {
     "map Z S V": lambda zone, s, v: zone.map((s, v)),
     "map Z S V unmovable": lambda zone, s, v: zone.map((s, v), unmovable=True),
@@ -556,7 +557,8 @@ CALLS_OF_PROFILE_2 = {
 }
 OPENING = "zone Z BLOCKS"
 BLOCK = "during X"
-CLIENT_CALLS = {form: CALLS[form] for form in CALLS if form.split()[0] in ("map", "mapat", "share", "unmap", "store", "load", "pin", "unpin")}
+CLIENT_WORDS = ("map", "mapat", "share", "unmap", "store", "load", "pin", "unpin")
+CLIENT_CALLS = {form: CALLS[form] for form in CALLS if form.split()[0] in CLIENT_WORDS}
 
 
 def by_shape(forms):
@@ -569,13 +571,15 @@ CLIENT_SHAPES = by_shape(CLIENT_CALLS)
 
 
 def number_of(word):
-    if not 1 <= len(word) <= MOST_DIGITS or any(digit not in b"0123456789" for digit in word) or int(word) > LARGEST_NUMBER:
+    is_of_digits = 1 <= len(word) <= MOST_DIGITS and all(digit in b"0123456789" for digit in word)
+    if not is_of_digits or int(word) > LARGEST_NUMBER:
         raise Fault(41)
     return int(word)
 
 
 class Machine:
-    """A run of a script: its profile, which the first line that isn't skipped tells, its zone, and the block that has begun."""
+    """A run of a script: its profile, which the first line that isn't skipped tells, its zone, and the block that has
+    begun."""
 
     def __init__(self, places=65536):
         self.places = places
@@ -584,7 +588,8 @@ class Machine:
         self.block = None
 
     def answer(self, line):
-        """The replies to a line, without its newline: none to one that is skipped, or within a block; its `end` has all of the block."""
+        """The replies to a line, without its newline: none to one that is skipped, or within a block; its `end` has all
+        of the block."""
         if len(line) > LONGEST_LINE:
             raise Fault(42)
         words = [word for word in line.split(b" ") if word]
@@ -649,7 +654,8 @@ class Machine:
 
 
 class Block:
-    """A block that has begun: its zone's number, its client lines, and their replies, or the number that it is refused with."""
+    """A block that has begun: its zone's number, its client lines, and their replies, or the number that it is refused
+    with."""
 
     def __init__(self, number):
         self.number = number
@@ -683,7 +689,8 @@ def reply_of(call):
 
 def fits(found, told):
     """Whether a text is what the machine tells, with a number where it tells none."""
-    return found == told or ANY in told and re.fullmatch(re.escape(told).replace(re.escape(ANY), "[0-9]+"), found) is not None
+    pattern = re.escape(told).replace(re.escape(ANY), "[0-9]+")
+    return found == told or ANY in told and re.fullmatch(pattern, found) is not None
 
 
 def text_of(replies):

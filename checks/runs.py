@@ -1,21 +1,87 @@
-"""Runs of the program, for the checks that draw scripts: each script is what standard input gives, and the first argument of a check is
-the program."""
+"""What the checks share: the program that they run, the C that is preloaded into it, and how a check ends.
 
+A check is a file of this folder with a function `main`, which gives the line that says what was shown, and raises
+`Failed` where it isn't so. `start` runs it."""
+
+import argparse
+import collections
 import concurrent.futures
 import multiprocessing
+import os
+import pathlib
+import shutil
 import subprocess
 import sys
 
-PROCESSORS = 4
+ROOT = pathlib.Path(__file__).resolve().parent.parent
+BUILT = ROOT / "crates/compactd/out/compactd"
+FLAGS = ["-shared", "-fPIC", "-fuse-ld=lld", "-nostdlib", "-O1", "-fno-builtin"]
+
+Ran = collections.namedtuple("Ran", "status output error")
+chosen = BUILT
+
+
+class Failed(Exception):
+    """What a check shows isn't so, or it can't be tried."""
+
+
+def start(main):
+    """Runs a check by itself, and ends with status 1 where it fails."""
+    global chosen
+    sys.stdout.reconfigure(line_buffering=True)
+    parser = argparse.ArgumentParser(description=sys.modules["__main__"].__doc__)
+    parser.add_argument("--program", default=BUILT, metavar="PATH", help="the program, where not that of the gate")
+    chosen = pathlib.Path(parser.parse_args().program).resolve()
+    try:
+        print(main())
+    except Failed as failed:
+        sys.exit(str(failed))
+
+
+def program():
+    """The path of the program that is checked."""
+    if not os.access(chosen, os.X_OK) or chosen.is_dir():
+        raise Failed(f"there is no program {chosen}: `./prove` builds it, and so does `bash .ci/run`")
+    return str(chosen)
+
+
+def run(script, options=(), **variables):
+    """The status of a run over a script, and what it writes to standard output and to standard error, as bytes.
+    Variables of the environment may be set for it."""
+    environment = {**os.environ, **{name: str(value) for name, value in variables.items()}}
+    return finished([program(), *options], input=script, env=environment)
+
+
+def finished(command, **given):
+    ran = subprocess.run(command, capture_output=True, **given)
+    return Ran(ran.returncode, ran.stdout, ran.stderr)
 
 
 def written_for(script, options=()):
-    """The status of a run, and what it writes to standard output and to standard error."""
-    ran = subprocess.run([sys.argv[1], *options], input=script, capture_output=True)
-    return ran.returncode, ran.stdout.decode(errors="replace"), ran.stderr.decode(errors="replace")
+    """The same as text."""
+    ran = run(script, options)
+    return Ran(ran.status, ran.output.decode(errors="replace"), ran.error.decode(errors="replace"))
+
+
+def preload(name, folder):
+    """Builds the library of `checks/preload/NAME.c` in a folder. A run with it in `LD_PRELOAD` has it in front of the C
+    library."""
+    source, library = ROOT / f"checks/preload/{name}.c", pathlib.Path(folder) / f"{name}.so"
+    built = finished([rt().parent.parent / "toolchain/bin/clang", *FLAGS, "-o", library, source])
+    if built.status != 0:
+        raise Failed(f"{source} isn't compiled: {built.error.decode(errors='replace')}")
+    return library
+
+
+def rt():
+    """The command of the Rattle kit, which is in its folder `bin`."""
+    command = shutil.which("rt")
+    if command is None:
+        raise Failed("the Rattle kit's `rt` isn't to be found")
+    return pathlib.Path(command).resolve()
 
 
 def each(work, many):
     """What comes of each one, worked out on all processors."""
-    with concurrent.futures.ProcessPoolExecutor(PROCESSORS, multiprocessing.get_context("fork")) as pool:
+    with concurrent.futures.ProcessPoolExecutor(None, multiprocessing.get_context("fork")) as pool:
         yield from pool.map(work, many, chunksize=10)

@@ -1,18 +1,13 @@
-#!/usr/bin/env bash
-# 500 random scripts, with rounds, pools and clients beside rounds, of 1, 2 and 4 copiers and capacities 1, 8 and 64, are answered as
-# docs/SCRIPT.md says: each reply is that of checks/machine.py. In the blocks in mid-script the clients leave alone what rounds look at, so
-# that nothing is open; in the last ones they map pages, end some and pin them, and it is up to the threads what the rounds move. Each
-# load of a client has its own last store. Besides, and without that machine: the counts of each info line are together the frames of the
-# zone, each page of a round was moved or put back, and at the end no two pages have one frame. The scripts are drawn from a fixed
-# seed. Ends with status 1 where it isn't so.
-set -euo pipefail
+"""500 random scripts, with rounds, pools and clients beside rounds, are answered as docs/SCRIPT.md says.
 
-source "$(dirname -- "${BASH_SOURCE[0]}")/built.sh"
+They have 1, 2 and 4 copiers and capacities 1, 8 and 64, and each reply is that of checks/machine.py. In the blocks in
+mid-script the clients leave alone what rounds look at, so that nothing is open; in the last ones they map pages, end
+some and pin them, and it is up to the threads what the rounds move. Each load of a client has its own last store.
+Besides, and without that machine: the counts of each info line are together the frames of the zone, each page of a
+round was moved or put back, and at the end no two pages have one frame. The scripts are drawn from a fixed seed."""
 
-PYTHONPATH=$root/checks python3 -B - "$program" <<'PYTHON'
 import collections
 import random
-import sys
 
 import machine
 import runs
@@ -46,7 +41,8 @@ class Author:
         }
         self.machine = machine.Machine(self.options["journal"])
         self.lines = []  # as they are written
-        self.asked, self.replies = [], []  # what is answered, and how: of a block first the client lines, then its first line
+        # What is answered, and how: of a block first the client lines, then its first line.
+        self.asked, self.replies = [], []
         self.begun = []
         self.blocks = self.draw.randrange(1, 9)
         self.end = 0  # where the replies to the last lines begin, which tell all that is left
@@ -109,11 +105,11 @@ class Author:
             self.say("pin 0 2 0")
 
     def rest_of_block(self, count, is_good):
-        """So many client lines, of those that are good ones behind the lines before."""
+        """So many client lines, of those that are good ones after the lines before."""
         number = self.machine.block.number
         while count > 0:
             word = self.draw.choice(OF_A_CLIENT)
-            arguments = getattr(self, f"behind_{word}")()
+            arguments = getattr(self, f"arguments_of_{word}")()
             if is_good(word, arguments.split()):
                 self.say(f"{word} {number} {arguments}")
                 count -= 1
@@ -157,7 +153,8 @@ class Author:
         return self.draw.choice(["8 0", "0 4096", "7 4095", "18446744073709551615 0"])
 
     def frame(self):
-        return self.draw.choice([self.draw.randrange(512 * self.blocks), 512 * self.blocks - 1, 512 * self.blocks, 4096])
+        size = 512 * self.blocks
+        return self.draw.choice([self.draw.randrange(size), size - 1, size, 4096])
 
     def block(self):
         return self.draw.choice([self.draw.randrange(self.blocks), self.draw.randrange(9)])
@@ -173,7 +170,7 @@ class Author:
         while not self.can_say(word):
             word = self.draw.choice(COMMON)
         zone = self.draw.choice([0] * 60 + [1, 4])
-        arguments = getattr(self, f"behind_{word}", lambda: "")()
+        arguments = getattr(self, f"arguments_of_{word}", lambda: "")()
         return f"{word} {zone} {arguments}".rstrip()
 
     def can_say(self, word):
@@ -184,61 +181,61 @@ class Author:
     def unmovable(self):
         return self.draw.choice(["", "", "", " unmovable"])
 
-    def behind_zone(self):
+    def arguments_of_zone(self):
         return str(self.draw.randrange(10))
 
-    def behind_map(self):
+    def arguments_of_map(self):
         return self.address() + self.unmovable()
 
-    def behind_mapat(self):
+    def arguments_of_mapat(self):
         return f"{self.address()} {self.frame()}{self.unmovable()}"
 
-    def behind_fill(self):
+    def arguments_of_fill(self):
         return f"{self.address()} {self.draw.choice([0, 1, 30, 300, 4096, 4097])}"
 
-    def behind_thin(self):
+    def arguments_of_thin(self):
         return f"{self.address()} {self.draw.choice([0, 1, 10, 100])} {self.draw.choice([0, 1, 2, 7, 2**64 - 1])}"
 
-    def behind_share(self):
+    def arguments_of_share(self):
         return f"{self.address()} {self.address()}"
 
-    def behind_store(self):
+    def arguments_of_store(self):
         return f"{self.address()} {self.draw.randrange(9)} {self.number()}"
 
-    def behind_load(self):
+    def arguments_of_load(self):
         return f"{self.address()} {self.draw.randrange(9)}"
 
-    def behind_take(self):
+    def arguments_of_take(self):
         return str(self.draw.choice([1, 2, 3, 4, 1, 2, 3, 4, 0, 5]))
 
-    def behind_give(self):
+    def arguments_of_give(self):
         if self.machine.profile == 1 or self.draw.random() < 0.3:
             return str(self.block())
         if self.zone().handed_out and self.draw.random() < 0.6:
             return "{} {}".format(*self.one_of(self.zone().handed_out))
         return f"{self.frame()} {self.order()}"
 
-    def behind_huge(self):
+    def arguments_of_huge(self):
         return "" if self.machine.profile == 1 or self.draw.random() < 0.3 else str(self.order())
 
-    def behind_pool(self):
+    def arguments_of_pool(self):
         count = self.draw.choice([1, 1, 2, 3, 8, 0, 9])
-        return f"{count} {self.behind_huge()}"
+        return f"{count} {self.arguments_of_huge()}"
 
-    def behind_mark(self):
+    def arguments_of_mark(self):
         return str(self.block())
 
-    behind_unmap = behind_look = behind_pin = behind_unpin = address
-    behind_copy = behind_finish = behind_take
-    behind_unmark = behind_mark
+    arguments_of_unmap = arguments_of_look = arguments_of_pin = arguments_of_unpin = address
+    arguments_of_copy = arguments_of_finish = arguments_of_take
+    arguments_of_unmark = arguments_of_mark
 
 
 def fields(reply):
     return {name: value for name, _, value in (word.partition("=") for word in reply.split())}
 
 
-def held_behind(held, command, reply):
-    """How many frames are handed out behind a command."""
+def held_after(held, command, reply):
+    """How many frames are handed out after a command."""
     words = command.split()
     if words[0] == "huge" and "refused" not in reply:
         return held + 2 ** int(fields(reply).get("order", 9))
@@ -261,14 +258,15 @@ def wrong_count(author, replies):
     """A reply whose counts don't add up, if there is one."""
     held = 0
     for command, reply in zip(author.asked, replies):
-        held = held_behind(held, command, reply)
+        held = held_after(held, command, reply)
         if not adds_up(fields(reply), held, 512 * author.blocks):
             return f"`{command}` is answered `{reply}` where {held} frames are handed out"
     return None
 
 
 def has_frames_of_their_own(author, replies):
-    """Whether the pages that the last lines look at, each at all of its addresses, have as many frames as there are pages."""
+    """Whether the pages that the last lines look at, each at all of its addresses, have as many frames as there are
+    pages."""
     looks = [fields(reply) for reply in replies[author.end : -1 : 2]]
     addresses = collections.Counter(look["frame"] for look in looks)
     is_one_page = all(addresses[look["frame"]] == int(look["maps"]) for look in looks)
@@ -282,29 +280,37 @@ def first_difference(author, replies):
     return None
 
 
+def wrong_reply(author, ran):
+    """What is wrong with a run of an author's script, if anything is."""
+    replies = ran.output.splitlines()
+    if ran.status != 0 or ran.error or len(replies) != len(author.replies):
+        return f"status {ran.status}, {ran.error}, {len(replies)} replies and not {len(author.replies)}"
+    wrong = first_difference(author, replies) or wrong_count(author, replies)
+    if not wrong and not has_frames_of_their_own(author, replies):
+        return "two pages have one frame"
+    return wrong
+
+
 def try_script(number):
     """Runs a script, and says what is wrong with it, if anything is, and the words of its replies."""
     author = Author(number)
-    script = author.script()
-    options = [f"--{name}={value}" for name, value in author.options.items()]
-    status, text, fault = runs.written_for(script, options)
-    replies = text.splitlines()
-    if status != 0 or fault or len(replies) != len(author.replies):
-        wrong = f"status {status}, {fault}, {len(replies)} replies and not {len(author.replies)}"
-    else:
-        wrong = first_difference(author, replies) or wrong_count(author, replies)
-        if not wrong and not has_frames_of_their_own(author, replies):
-            wrong = "two pages have one frame"
-    return wrong and f"script {number} with {author.options}: {wrong}", kinds_of(author.asked, replies)
+    ran = runs.written_for(author.script(), [f"--{name}={value}" for name, value in author.options.items()])
+    wrong = wrong_reply(author, ran)
+    kinds = kinds_of(author.asked, ran.output.splitlines())
+    return wrong and f"script {number} with {author.options}: {wrong}", kinds
 
 
 def kinds_of(asked, replies):
     """How often each refusal came, how many rounds moved a page, and how often pools stopped for each reason."""
     refusals = [reply for reply in replies if reply.startswith("refused ")]
-    moved = [command.split()[0] for command, reply in zip(asked, replies) if reply.startswith("isolated=") and not reply.startswith("isolated=0")]
+    moved = [command.split()[0] for command, reply in zip(asked, replies) if has_moved(reply)]
     rounds = [ROUND_BESIDE if word == "during" else ROUND for word in moved]
     pools = [f"pool stopped={fields(reply)['stopped']}" for reply in replies if reply.startswith("got=")]
     return collections.Counter(refusals + rounds + pools)
+
+
+def has_moved(reply):
+    return reply.startswith("isolated=") and not reply.startswith("isolated=0")
 
 
 ROUND = "rounds that moved a page"
@@ -312,13 +318,19 @@ ROUND_BESIDE = "rounds that moved a page beside a client"
 WANTED = {f"refused {number}" for number in [*range(1, 13), 17, 18, 43, 44, 45]} | {ROUND, ROUND_BESIDE}
 WANTED |= {f"pool stopped={reason}" for reason in ("enough", "noblock", "journalfull")}
 
-kinds = collections.Counter()
-for wrong, found in runs.each(try_script, range(SCRIPTS)):
-    if wrong:
-        sys.exit(wrong)
-    kinds += found
-if set(kinds) != WANTED:
-    sys.exit(f"the scripts have other kinds of replies than they should: {sorted(WANTED ^ set(kinds))}")
-told = f"{kinds[ROUND]} {ROUND} and {kinds[ROUND_BESIDE]} beside a client"
-print(f"{SCRIPTS} random scripts, with {told}, have the replies of checks/machine.py, and their counts add up")
-PYTHON
+
+def main():
+    kinds = collections.Counter()
+    for wrong, found in runs.each(try_script, range(SCRIPTS)):
+        if wrong:
+            raise runs.Failed(wrong)
+        kinds += found
+    if set(kinds) != WANTED:
+        wrong = sorted(WANTED ^ set(kinds))
+        raise runs.Failed(f"the scripts have other kinds of replies than they should: {wrong}")
+    told = f"{kinds[ROUND]} {ROUND} and {kinds[ROUND_BESIDE]} beside a client"
+    return f"{SCRIPTS} random scripts, with {told}, have the replies of checks/machine.py, and their counts add up"
+
+
+if __name__ == "__main__":
+    runs.start(main)

@@ -1,0 +1,52 @@
+"""Runs the checks of this folder, or those that are named, and says what each shows and how long it took.
+
+    python3 checks/all.py [--program PATH] [NAME..]
+
+All of them run, also after one that fails. Ends with status 1 where one failed."""
+
+import argparse
+import ast
+import pathlib
+import subprocess
+import sys
+import time
+
+FOLDER = pathlib.Path(__file__).resolve().parent
+SHARED = ("all", "runs", "machine")  # what isn't a check
+
+
+def shows(check):
+    """The first sentence of a check's doc string."""
+    text = ast.get_docstring(ast.parse(check.read_text())) or "It doesn't say what it shows"
+    return " ".join(text.split()).split(". ")[0].rstrip(".")
+
+
+def is_passed(check, options):
+    """Runs a check, with what it says, and tells how long it took."""
+    print(f"check {check.stem}: {shows(check)}.", flush=True)
+    begin = time.monotonic()
+    ran = subprocess.run([sys.executable, "-B", check, *options], stderr=subprocess.STDOUT)
+    ended = "passed" if ran.returncode == 0 else f"FAILED with status {ran.returncode}"
+    print(f"check {check.stem}: {ended} in {time.monotonic() - begin:.1f} s", flush=True)
+    return ran.returncode == 0
+
+
+def main():
+    checks = {path.stem: path for path in sorted(FOLDER.glob("*.py")) if path.stem not in SHARED}
+    parser = argparse.ArgumentParser(description=__doc__, formatter_class=argparse.RawDescriptionHelpFormatter)
+    parser.add_argument("--program", metavar="PATH", help="the program, where not that of the gate")
+    parser.add_argument("names", nargs="*", metavar="NAME", help=", ".join(checks))
+    given = parser.parse_args()
+    if unknown := [name for name in given.names if name not in checks]:
+        parser.error(f"there is no check {unknown[0]}, but {', '.join(checks)}")
+    options = ["--program", given.program] if given.program else []
+    chosen = [checks[name] for name in given.names or checks]
+    begin = time.monotonic()
+    failed = [check.stem for check in chosen if not is_passed(check, options)]
+    told = f"{len(failed)} of {len(chosen)} failed: {', '.join(failed)}" if failed else f"{len(chosen)} passed"
+    print(f"checks: {told}, in {time.monotonic() - begin:.0f} s")
+    return 1 if failed else 0
+
+
+if __name__ == "__main__":
+    sys.exit(main())
