@@ -1,3 +1,6 @@
+ghost use Rattle.std.specs.Prelude.{◌≡◌};
+ghost use Rattle.zone_picture.specs.Cells.{cell_of};
+
 use frame_core::FrameState;
 
 /// What a frame is used for, as it is drawn.
@@ -28,7 +31,9 @@ pub const CELLS: [Cell; 6] = [
 
 impl Cell {
     /// What a frame in this state is drawn as, where the page that it holds may be moved or not.
-    pub fn of(state: FrameState, movable: bool) -> Self {
+    pub fn of(state: FrameState, movable: bool) -> Self
+        ensures { result ≡ cell_of state movable }
+    {
         match state {
             FrameState::Free => Cell::Free,
             FrameState::Holds(_) if movable => Cell::Page,

@@ -1,21 +1,13 @@
 //! The picture: one SVG, with no script in it and no file beside it.
 
 use crate::album::{Caption, Panel, text_of};
-use crate::cell::{CELLS, Cell};
+use crate::pageblock::draw_pageblock;
 use crate::sheet::{BLOCK, CAPTION, MARGIN, Sheet};
 use crate::sign::{SIGNS, Sign};
-use crate::view::{Pageblock, View};
+use crate::view::View;
 use script_core::Reply;
 use std::io;
 use std::io::Write;
-
-/// A cell's side, with the gap after it.
-const SIDE: u32 = 5;
-
-/// How many cells stand in a line, of which a pageblock has eight.
-const LINE: usize = 64;
-
-const LOWEST: &str = "The lowest frame stands at the top left.";
 
 const STYLE: &str = "\
 <style>
@@ -37,10 +29,26 @@ rect { fill: none; stroke-width: 2 }
 </style>
 ";
 
+const FRAMES: &str =
+    "A cell is a frame, and 512 frames are a pageblock. The lowest frame stands at the top left.";
+
 /// Draws panels, from left to right and from top to bottom, below a legend.
 pub fn draw<W: Write>(out: &mut W, panels: &[Panel]) -> io::Result<()> {
-    let signs = SIGNS.iter().filter(|sign| sign.is_among(panels));
-    let sheet = Sheet::of(panels, signs.count());
+    let signs = SIGNS.iter().filter(|sign| sign.is_among(panels)).count();
+    let sheet = Sheet::of(panels, signs);
+    draw_sheet(out, &sheet)?;
+    draw_legend(out, panels, &sheet)?;
+    for (panel, index) in panels.iter().zip(0_u8..32) {
+        let (x, y) = sheet.panel(index);
+        begin_at(out, x, y)?;
+        draw_panel(out, panel, sheet.zone_top())?;
+        end(out)?;
+    }
+    writeln!(out, "</svg>")
+}
+
+/// Begins the picture: its size, its colors and its background.
+fn draw_sheet<W: Write>(out: &mut W, sheet: &Sheet) -> io::Result<()> {
     let (width, height) = (sheet.width(), sheet.height());
     write!(
         out,
@@ -56,76 +64,62 @@ pub fn draw<W: Write>(out: &mut W, panels: &[Panel]) -> io::Result<()> {
     writeln!(
         out,
         "<rect class=\"sheet\" width=\"{width}\" height=\"{height}\" rx=\"6\"/>"
-    )?;
-    draw_legend(out, panels, &sheet)?;
-    for (panel, index) in panels.iter().zip(0_u8..32) {
-        let (x, y) = sheet.panel(index);
-        writeln!(out, "<g transform=\"translate({x},{y})\">")?;
-        draw_panel(out, panel, sheet.zone_top())?;
-        writeln!(out, "</g>")?;
-    }
-    writeln!(out, "</svg>")
+    )
 }
 
-/// Says what a cell is, and what each sign means that the panels have.
+/// Says what a cell is, and what each sign means that is among the panels.
 fn draw_legend<W: Write>(out: &mut W, panels: &[Panel], sheet: &Sheet) -> io::Result<()> {
-    writeln!(
-        out,
-        "<text x=\"{MARGIN}\" y=\"28\">A cell is a frame, and 512 frames are a pageblock. {LOWEST}</text>"
-    )?;
+    writeln!(out, "<text x=\"{MARGIN}\" y=\"28\">{FRAMES}</text>")?;
     let signs = SIGNS.iter().filter(|sign| sign.is_among(panels));
     for (sign, index) in signs.zip(0_u8..8) {
         let (x, y) = sheet.sign(index);
-        writeln!(out, "<g transform=\"translate({x},{y})\">")?;
+        begin_at(out, x, y)?;
         draw_sign(out, *sign)?;
-        writeln!(out, "</g>")?;
+        end(out)?;
     }
     Ok(())
 }
 
 /// Draws a sign, and writes what it means.
 fn draw_sign<W: Write>(out: &mut W, sign: Sign) -> io::Result<()> {
-    let meaning = sign.meaning();
+    let (class, meaning) = (sign.class(), sign.meaning());
     match sign {
-        Sign::Cell(cell) => {
-            let class = cell.class();
-            writeln!(
-                out,
-                "<path class=\"{class}\" d=\"M0 2h15M0 7h15M0 12h15\"/>"
-            )?;
+        Sign::Cell(_) => writeln!(
+            out,
+            "<path class=\"{class}\" d=\"M0 2h15M0 7h15M0 12h15\"/>"
+        )?,
+        Sign::Whole | Sign::Marked => {
+            writeln!(out, "<rect class=\"{class}\" width=\"14\" height=\"14\"/>")?;
         }
-        Sign::Whole => writeln!(out, "<rect class=\"whole\" width=\"14\" height=\"14\"/>")?,
-        Sign::Marked => writeln!(out, "<rect class=\"marked\" width=\"14\" height=\"14\"/>")?,
     }
     writeln!(out, "<text x=\"21\" y=\"11\">{meaning}</text>")
 }
 
-/// Draws a panel: its captions, its zone below them, and the zone's counts.
+/// Draws a panel: its captions, and its zone so far below them.
 fn draw_panel<W: Write>(out: &mut W, panel: &Panel, top: u32) -> io::Result<()> {
     for (caption, index) in panel.captions.iter().zip(0_u8..16) {
-        draw_caption(out, caption, u32::from(index) * CAPTION)?;
+        begin_at(out, 0, u32::from(index) * CAPTION)?;
+        draw_caption(out, caption)?;
+        end(out)?;
     }
-    writeln!(out, "<g transform=\"translate(20,{top})\">")?;
+    begin_at(out, 20, top)?;
     draw_zone(out, &panel.view)?;
-    writeln!(out, "</g>")
+    end(out)
 }
 
 /// Writes a caption: the command, and the reply below it.
-fn draw_caption<W: Write>(out: &mut W, caption: &Caption, top: u32) -> io::Result<()> {
+fn draw_caption<W: Write>(out: &mut W, caption: &Caption) -> io::Result<()> {
     let Caption { title, reply } = caption;
-    writeln!(out, "<g transform=\"translate(0,{top})\">")?;
     writeln!(out, "<text class=\"name\" y=\"12\">{title}</text>")?;
-    writeln!(out, "<text class=\"told\" y=\"27\">{reply}</text>")?;
-    writeln!(out, "</g>")
+    writeln!(out, "<text class=\"told\" y=\"27\">{reply}</text>")
 }
 
-/// Draws the pageblocks of a zone, one below the other, and its counts.
+/// Draws the pageblocks of a zone, one below the other, and the counts.
 fn draw_zone<W: Write>(out: &mut W, view: &View) -> io::Result<()> {
     for (block, number) in view.blocks.iter().zip(0_u8..8) {
-        let top = u32::from(number) * BLOCK;
-        writeln!(out, "<g transform=\"translate(0,{top})\">")?;
-        draw_block(out, block, number)?;
-        writeln!(out, "</g>")?;
+        begin_at(out, 0, u32::from(number) * BLOCK)?;
+        draw_pageblock(out, block, number)?;
+        end(out)?;
     }
     let bottom = view
         .blocks
@@ -137,65 +131,12 @@ fn draw_zone<W: Write>(out: &mut W, view: &View) -> io::Result<()> {
     writeln!(out, "<text class=\"told\" y=\"{bottom}\">{counts}</text>")
 }
 
-/// Draws a pageblock: its cells, a frame around it where it is whole or marked, its number and what is in it.
-fn draw_block<W: Write>(out: &mut W, block: &Pageblock, number: u8) -> io::Result<()> {
-    writeln!(
-        out,
-        "<text class=\"number\" x=\"-8\" y=\"24\">{number}</text>"
-    )?;
-    for kind in CELLS {
-        draw_cells(out, &block.cells, kind)?;
-    }
-    if block.is_whole() {
-        writeln!(
-            out,
-            "<rect class=\"whole\" x=\"-3\" y=\"-3\" width=\"325\" height=\"45\"/>"
-        )?;
-    }
-    if block.marked {
-        writeln!(
-            out,
-            "<rect class=\"marked\" x=\"-3\" y=\"-3\" width=\"325\" height=\"45\"/>"
-        )?;
-    }
-    draw_use(out, block)
+/// Begins a part of the picture whose corner is at a place.
+fn begin_at<W: Write>(out: &mut W, x: u32, y: u32) -> io::Result<()> {
+    writeln!(out, "<g transform=\"translate({x},{y})\">")
 }
 
-/// Writes beside a pageblock what is in it.
-fn draw_use<W: Write>(out: &mut W, block: &Pageblock) -> io::Result<()> {
-    let pages = block.pages();
-    write!(out, "<text x=\"330\" y=\"24\">")?;
-    if block.is_whole() {
-        write!(out, "whole")?;
-    } else if block.is_handed_out() {
-        write!(out, "handed out")?;
-    } else {
-        write!(out, "{pages} {}", if pages == 1 { "page" } else { "pages" })?;
-    }
-    writeln!(out, "</text>")
-}
-
-/// Draws all cells of a kind as one path, with a dash for each cell.
-fn draw_cells<W: Write>(out: &mut W, cells: &[Cell], kind: Cell) -> io::Result<()> {
-    if !cells.contains(&kind) {
-        return Ok(());
-    }
-    write!(out, "<path class=\"{}\" d=\"", kind.class())?;
-    for (line, number) in cells.chunks(LINE).zip(0_u8..8) {
-        draw_line(out, line, kind, u32::from(number) * SIDE + 2)?;
-    }
-    writeln!(out, "\"/>")
-}
-
-/// Draws the cells of a kind that are in a line, with a stroke for each run of them.
-fn draw_line<W: Write>(out: &mut W, line: &[Cell], kind: Cell, y: u32) -> io::Result<()> {
-    let mut x = 0_usize;
-    for run in line.chunk_by(|a, b| a == b) {
-        let width = run.len().saturating_mul(SIDE as usize);
-        if run.first() == Some(&kind) {
-            write!(out, "M{x} {y}h{width}")?;
-        }
-        x = x.saturating_add(width);
-    }
-    Ok(())
+/// Ends the part that began last.
+fn end<W: Write>(out: &mut W) -> io::Result<()> {
+    writeln!(out, "</g>")
 }

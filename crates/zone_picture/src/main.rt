@@ -4,12 +4,13 @@
 mod album;
 mod cell;
 mod drawing;
-mod program;
+mod pageblock;
+mod process;
 mod sheet;
 mod sign;
 mod view;
 
-use program::program;
+use process::program;
 use script_core::Source;
 use std::process::ExitCode;
 use std::{env, io};

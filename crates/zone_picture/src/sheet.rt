@@ -1,5 +1,7 @@
 //! The room that a picture takes, and what stands where.
 
+ghost use Rattle.std.specs.Prelude.{◌<◌, ◌≤◌};
+
 use crate::album::Panel;
 
 /// The width of a panel, and what is left of the first and above it.
@@ -56,21 +58,33 @@ impl Sheet {
     }
 
     pub fn height(&self) -> u32 {
-        let rows = self.panels.div_ceil(2);
-        self.top() + u32::from(rows) * self.panel_height()
+        self.top() + self.rows(self.panels.div_ceil(2))
     }
 
     /// Where the panels begin, below the legend.
-    fn top(&self) -> u32 {
+    fn top(&self) -> u32
+        ensures { result ≤ 10000 }
+    {
         HEADING + u32::from(self.signs.div_ceil(self.entries())) * ENTRY + GAP
     }
 
     /// How many signs stand in a line of the legend.
-    fn entries(&self) -> u8 {
+    fn entries(&self) -> u8
+        ensures { 0 < result }
+    {
         if self.columns() < 2 { 2 } else { 5 }
     }
 
-    fn panel_height(&self) -> u32 {
+    /// The height of so many rows of panels.
+    fn rows(&self, count: u8) -> u32
+        ensures { result ≤ 10000000 }
+    {
+        u32::from(count) * self.panel_height()
+    }
+
+    fn panel_height(&self) -> u32
+        ensures { result ≤ 30000 }
+    {
         self.zone_top() + u32::from(self.blocks) * BLOCK + COUNTS
     }
 
@@ -82,7 +96,7 @@ impl Sheet {
     /// Where a panel stands.
     pub fn panel(&self, index: u8) -> (u32, u32) {
         let x = MARGIN + u32::from(index % 2) * PANEL;
-        let y = self.top() + u32::from(index / 2) * self.panel_height();
+        let y = self.top() + self.rows(index / 2);
         (x, y)
     }
 

@@ -37,6 +37,15 @@ impl Sign {
         }
     }
 
+    /// Its class in the style sheet.
+    pub fn class(self) -> &'static str {
+        match self {
+            Sign::Cell(cell) => cell.class(),
+            Sign::Whole => "whole",
+            Sign::Marked => "marked",
+        }
+    }
+
     /// What the legend says of it.
     pub fn meaning(self) -> &'static str {
         match self {

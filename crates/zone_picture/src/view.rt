@@ -1,4 +1,5 @@
-ghost use Rattle.std.specs.Prelude.{◌≡◌, ◌+◌, ◌*◌, ◌<◌, ◌≤◌, length};
+ghost use Rattle.std.specs.Prelude.{◌≡◌, ◌<◌, IfOk};
+ghost use Rattle.zone_picture.specs.Cells.{cell_at, cells_of};
 
 use crate::cell::Cell;
 use frame_core::{BlockNo, FrameNo};
@@ -64,16 +65,25 @@ impl Pageblock {
 
 /// What each frame of a pageblock is used for.
 fn cells_of(alloc: Global, frames: &Frames, block: u32) -> Result<Vec<Cell>, AllocError>
-    requires { 512 * block + 512 ≤ length frames.now.states }
+    requires { block < 8 }
+    ensures { IfOk result (λ cells. cells.items ≡ cells_of frames.now block) }
 {
     let first = 512 * block;
-    let mut cells = Vec::with_capacity(alloc, 512)?;
-    for number in first..first + 512 {
-        if let Some(frame) = FrameNo::new(number) {
-            cells.push(Cell::of(frames.state(frame), frames.movable(frame)))?;
+    (first..first + 512)
+        .map(|number| cell_at(frames, number))
+        .collect(alloc)
+}
+
+/// What a frame is used for.
+fn cell_at(frames: &Frames, number: u32) -> Cell
+    ensures { result ≡ cell_at frames.now number }
+{
+    match FrameNo::new(number) {
+        Some(frame) if number < frames.len() => {
+            Cell::of(frames.state(frame), frames.movable(frame))
         }
+        _ => Cell::Free,
     }
-    Ok(cells)
 }
 
 /// Whether a pageblock is marked.

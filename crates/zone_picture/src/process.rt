@@ -1,3 +1,7 @@
+ghost use Rattle.std.specs.Prelude.{◌≡◌, ◌≢◌, ◌≤◌, None, IfSome, OnOk};
+ghost use Rattle.std.specs.Io.KnownBytes.{Keeps};
+ghost use Rattle.play_core.specs.Script.{fault_of};
+
 use crate::album::{Album, AlbumError, Panel};
 use crate::drawing::draw;
 use script_core::{Input, Options, RunError, Sink, run_watched};
@@ -52,14 +56,19 @@ enum PictureError {
 
 /// Draws the script that the reader gives. The result is the exit status: 0 where the picture or the help was written, 2 where the words
 /// were refused, and else 1. Why there is no picture is told to the writer of faults.
-pub fn program<R: Input, W: Write + Drop, F: Write, H: Threads + Wait + Sync>(
+pub fn program<R: Input, W: Write, F: Write, H: Threads + Wait + Sync>(
     rt: &H,
     alloc: Global,
     words: io::Result<Args>,
     reader: &mut R,
     writer: &mut W,
     faults: &mut F,
-) -> u8 {
+) -> u8
+    ensures status { result ≤ 2 }
+    // Nothing is written of a script with a fault.
+    ensures quiet { result ≢ 0 → IfSome (R.remaining reader.old) (λ input.
+        fault_of input ≢ None → Keeps (W.contents writer.old) (W.contents writer.new)) }
+{
     match read_words(words) {
         Asked::Picture => picture(rt, alloc, reader, writer, faults),
         Asked::Help => {
@@ -87,13 +96,18 @@ fn read_words(words: io::Result<Args>) -> Asked {
 }
 
 /// Runs the script, draws it, and gives the exit status.
-fn picture<R: Input, W: Write + Drop, F: Write, H: Threads + Wait + Sync>(
+fn picture<R: Input, W: Write, F: Write, H: Threads + Wait + Sync>(
     rt: &H,
     alloc: Global,
     reader: &mut R,
     writer: &mut W,
     faults: &mut F,
-) -> u8 {
+) -> u8
+    ensures status { result ≤ 1 }
+    ensures whole { result ≡ 0 → IfSome (R.remaining reader.old) (λ input. fault_of input ≡ None) }
+    ensures quiet { IfSome (R.remaining reader.old) (λ input.
+        fault_of input ≢ None → Keeps (W.contents writer.old) (W.contents writer.new)) }
+{
     match drawn(rt, alloc, reader, writer) {
         Ok(()) => DONE,
         Err(error) => {
@@ -109,7 +123,11 @@ fn drawn<R: Input, W: Write, H: Threads + Wait + Sync>(
     alloc: Global,
     reader: &mut R,
     writer: &mut W,
-) -> Result<(), PictureError> {
+) -> Result<(), PictureError>
+    ensures whole { OnOk result (IfSome (R.remaining reader.old) (λ input. fault_of input ≡ None)) }
+    ensures quiet { IfSome (R.remaining reader.old) (λ input.
+        fault_of input ≢ None → Keeps (W.contents writer.old) (W.contents writer.new)) }
+{
     let panels = panels_of(rt, alloc, reader)?;
     write_panels(alloc, writer, &panels).map_err(|_| PictureError::Write)
 }
@@ -119,7 +137,9 @@ fn panels_of<R: Input, H: Threads + Wait + Sync>(
     rt: &H,
     alloc: Global,
     reader: &mut R,
-) -> Result<Vec<Panel>, PictureError> {
+) -> Result<Vec<Panel>, PictureError>
+    ensures { OnOk result (IfSome (R.remaining reader.old) (λ input. fault_of input ≡ None)) }
+{
     let mut album = Album::new(alloc);
     let mut replies = Sink::new(io::sink());
     run_watched(rt, alloc, reader, &mut replies, OPTIONS, &mut album).map_err(PictureError::Fault)?;
