@@ -159,6 +159,15 @@ impl<I: Ledger, N: Ledger, M: Ledger, B: Ledger> Machine<I, N, M, B> {
         }
     }
 
+    /// The world of the zone that is open, if one is.
+    #[inline(always)]
+    pub fn world(&self) -> Option<&World<I, N, M, B>>
+        ensures some { IfSome result (λ world. self.now.world ≡ Some world.now) }
+        ensures none { IfNone result (self.now.world ≡ None) }
+    {
+        self.world.as_ref()
+    }
+
     /// Gives away the world of the zone with this number, if it is the open one and no hand round is open.
     pub fn take_closed(&mut self, zone: ZoneNo) -> Option<World<I, N, M, B>>
         ensures given { IfSome result (λ world. (self.old.world ≡ Some world) × (is_at_rest zone (Some world) ≡ true)) }

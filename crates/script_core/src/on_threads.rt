@@ -12,6 +12,7 @@ ghost use Rattle.script_core.specs.Threaded.{AsksMemory, IsBlockFor, IsStepBy, I
 
 use crate::answering::Answering;
 use crate::threaded::Threaded;
+use crate::watched::{NoWatch, Watch, Watched};
 use frame_core::ZoneNo;
 use machine_core::Options;
 use play_core::{Block, Input, Output, RunError, Totals, play};
@@ -60,13 +61,37 @@ pub fn run_on_threads<R: Input, W: Output, H: Threads + Wait + Sync>(
         IsUnthreadedScript input → EndsIn error.fault options.journal input error
         (R.remaining reader.old) (R.remaining reader.new) (W.contents writer.old) (W.contents writer.new))) }
 {
-    run_threaded::<Brand, Brand, Brand, Brand, R, W, H>(
+    run_watched(rt, alloc, reader, writer, options, &mut NoWatch)
+}
+
+/// Runs a script as `run_on_threads` does, and shows a watcher the zone before each command and after it.
+pub fn run_watched<R: Input, W: Output, H: Threads + Wait + Sync, V: Watch>(
+    rt: &H,
+    alloc: Global,
+    reader: &mut R,
+    writer: &mut W,
+    options: Options,
+    watcher: &mut V,
+) -> Result<Totals, RunError>
+    ensures ok { OnOk result (IfSome (R.remaining reader.old) (λ input. fault_of input ≡ None)) }
+    ensures total { IfOk result (λ totals. IfSome (R.remaining reader.old) (λ input.
+        IsTotal IsThreadedStep (threaded_at_first options.journal) input (W.contents writer.old) (W.contents writer.new) totals)) }
+    ensures err { IfErr result (λ error. IfSome (R.remaining reader.old) (λ input.
+        IsEnded IsThreadedStep AsksMemory (threaded_at_first options.journal) error.fault input error
+        (R.remaining reader.old) (R.remaining reader.new) (W.contents writer.old) (W.contents writer.new))) }
+    ensures heard { OnOk result (R.failed reader.new ≡ false) }
+    ensures unread { IfErr result (λ error. error.fault ≡ Fault.Read → CannotReadOn (R.failed reader.new)
+        (R.reads reader.old) (R.reads reader.new) (R.remaining reader.old)) }
+    ensures stuck { IfErr result (λ error. error.fault ≡ Fault.Write → IsTrue (W.stuck writer.new)) }
+{
+    run_threaded::<Brand, Brand, Brand, Brand, R, W, H, V>(
         rt,
         alloc,
         reader,
         writer,
         options,
         Blanks::new(),
+        watcher,
     )
 }
 
@@ -79,6 +104,7 @@ fn run_threaded<
     R: Input,
     W: Output,
     H: Threads + Wait + Sync,
+    V: Watch,
 >(
     rt: &H,
     alloc: Global,
@@ -86,6 +112,7 @@ fn run_threaded<
     writer: &mut W,
     options: Options,
     blanks: Blanks,
+    watcher: &mut V,
 ) -> Result<Totals, RunError>
     requires blanks { AreFor blanks I.name I.parts N.name N.parts M.name M.parts B.name B.parts }
     ensures ok { OnOk result (IfSome (R.remaining reader.old) (λ input. fault_of input ≡ None)) }
@@ -124,5 +151,5 @@ fn run_threaded<
         pool,
         block,
     };
-    play(alloc, answering, reader, writer)
+    play(alloc, Watched { answering, watcher }, reader, writer)
 }

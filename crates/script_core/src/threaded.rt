@@ -68,6 +68,16 @@ impl<I: Ledger, N: Ledger, M: Ledger, B: Ledger> Threaded<I, N, M, B> {
             client: Client::new(alloc, block_client()),
         }
     }
+
+    /// The zone that is open, if one is.
+    #[inline(always)]
+    pub(crate) fn zone(&self) -> Option<&Zone<I, M, B>>
+        ensures some { IfSome result (λ zone. IfSome self.now.single.world (λ world. zone.now ≡ world.zone)) }
+        ensures none { IfNone result (self.now.single.world ≡ None) }
+    {
+        let world = self.machine.world()?;
+        Some(world.zone())
+    }
 }
 
 impl<I: Ledger, N: Ledger, M: Ledger, B: Ledger> Alone for Threaded<I, N, M, B> {

@@ -1,4 +1,4 @@
-use Rattle.script_core.proofs.on_threads.run_on_threads.Given as goal
+use Rattle.script_core.proofs.on_threads.run_watched.Given as goal
 
 abbrev pub ghosts-run_threaded-I-Ledger : goal.ghosts-run_threaded-I-Ledger
 ghosts-run_threaded-I-Ledger g a = record { name = a.blanks.isolated.name; parts = a.blanks.isolated.parts }
