@@ -1,14 +1,15 @@
-//! Calls with plain numbers, and their answers, for tables of tests.
+//! Calls of a world with plain numbers, and their answers, for tables of tests.
 
 use frame_core::{BlockNo, FrameNo, Serial};
-use zone_core::{Info, Look, ZoneError};
+use world_core::WorldError;
+use zone_core::{Look, ZoneError};
 
 /// An address: a space and a virtual page.
 pub type Name = (u32, u32);
 
-/// A call of a zone by client 0.
+/// A call of a world, by client 0.
 #[derive(Clone, Copy)]
-pub enum Call {
+pub enum Step {
     Map(Name),
     MapUnmovable(Name),
     MapAt(Name, u32),
@@ -18,6 +19,7 @@ pub enum Call {
     Store(Name, u32, u64),
     Pin(Name),
     Unpin(Name),
+    Look(Name),
     /// Of a block of this order.
     TakeOrder(u32),
     /// Of the block with this first frame and this order.
@@ -26,11 +28,15 @@ pub enum Call {
     GiveHuge(u32),
     Mark(u32),
     Unmark(u32),
-    Look(Name),
-    Info,
+    Scan,
+    /// By this hand, as the next two.
+    Take(u32),
+    Copy(u32),
+    Finish(u32),
+    Shut,
 }
 
-/// What a call of a zone or of a world answers.
+/// What a call of a world answers.
 #[derive(Clone, Copy, PartialEq, Eq)]
 pub enum Answer {
     Done,
@@ -44,12 +50,11 @@ pub enum Answer {
         pins: u8,
         maps: u8,
     },
-    OnItsWay {
+    Moving {
         serial: Serial,
         pins: u8,
         maps: u8,
     },
-    Told(Info),
     Refused(ZoneError),
     Serial(Serial),
     Met,
@@ -59,6 +64,13 @@ pub enum Answer {
     Shut(u32),
     /// The hand doesn't hold what the call needs, or no page waits.
     NotInHand,
+}
+
+pub fn refused(error: WorldError) -> Answer {
+    match error {
+        WorldError::Zone(error) => Answer::Refused(error),
+        WorldError::Hand => Answer::NotInHand,
+    }
 }
 
 pub fn done(answer: Result<(), ZoneError>) -> Answer {
@@ -91,25 +103,21 @@ pub fn valued(answer: Result<u64, ZoneError>) -> Answer {
 
 pub fn looked(answer: Result<Look, ZoneError>) -> Answer {
     match answer {
-        Ok(look) => found(look),
-        Err(error) => Answer::Refused(error),
-    }
-}
-
-fn found(look: Look) -> Answer {
-    match look {
-        Look::At {
-            frame,
-            flags,
-            pins,
-            maps,
-        } => Answer::At {
+        Ok(
+            Look::At {
+                frame,
+                flags,
+                pins,
+                maps,
+            },
+        ) => Answer::At {
             frame: frame.get(),
             dirty: flags.is_dirty(),
             unmovable: flags.is_unmovable(),
             pins,
             maps,
         },
-        Look::Moving { serial, pins, maps } => Answer::OnItsWay { serial, pins, maps },
+        Ok(Look::Moving { serial, pins, maps }) => Answer::Moving { serial, pins, maps },
+        Err(error) => Answer::Refused(error),
     }
 }
