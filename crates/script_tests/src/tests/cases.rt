@@ -1,27 +1,17 @@
-mod fakes;
-
-use fakes::{Full, Limited, Pieces};
-use script_core::{Sink, Source, Text, program};
-use std::alloc::{AllocError, Global};
-use std::env::Args;
-use std::io::Read;
-use std::process::Abort;
-use std::sync::Wait;
-use std::test::Fail;
-use std::thread::Threads;
+//! Whole scripts, with what the program makes of them.
 
 /// A run of the program: its arguments and its script, and what comes of them.
 #[derive(Clone, Copy)]
-struct Case {
-    name: &'static str,
-    arguments: &'static [&'static str],
-    script: &'static str,
-    replies: &'static str,
-    faults: &'static str,
-    status: u8,
+pub struct Case {
+    pub name: &'static str,
+    pub arguments: &'static [&'static str],
+    pub script: &'static str,
+    pub replies: &'static str,
+    pub faults: &'static str,
+    pub status: u8,
 }
 
-const FIRST_PAGE: Case = Case {
+pub const FIRST_PAGE: Case = Case {
     name: "a page is mapped, read, written and read again",
     arguments: &[],
     script: "zone 0 1\nmap 0 0 0\nload 0 0 0 3\nstore 0 0 0 3 7\nload 0 0 0 3\ninfo 0\n",
@@ -30,7 +20,7 @@ const FIRST_PAGE: Case = Case {
     status: 0,
 };
 
-const CUT_LINE: Case = Case {
+pub const CUT_LINE: Case = Case {
     name: "a line without its newline",
     arguments: &[],
     script: "zone 0 1\nstore 0 0 0 0 12",
@@ -39,7 +29,7 @@ const CUT_LINE: Case = Case {
     status: 1,
 };
 
-const CASES: [Case; 37] = [
+pub const CASES: [Case; 40] = [
     Case {
         name: "nothing",
         arguments: &[],
@@ -107,7 +97,7 @@ const CASES: [Case; 37] = [
         status: 0,
     },
     Case {
-        name: "a page is pinned in mid-move",
+        name: "a page is pinned while it moves",
         arguments: &[],
         script: "zone 0 1\nmap 0 0 0\nstore 0 0 0 1 8\nscan 0\nload 0 0 0 1\nlook 0 0 0\ntake 0 1\npin 0 0 0\ncopy 0 1\nfinish 0 1\nload 0 0 0 1\nlook 0 0 0\n",
         replies: "ok\nok\nok\nserial=0\nrefused 4\nmoving serial=0 pins=0 maps=1\nserial=0\nok\nok\nback serial=0 cause=1\nvalue=8\nframe=0 dirty=1 unmovable=0 pins=1 maps=1\n",
@@ -267,7 +257,7 @@ const CASES: [Case; 37] = [
         status: 1,
     },
     Case {
-        name: "a profile behind a refusal",
+        name: "a profile after a refusal",
         arguments: &[],
         script: "info 0\n#\nprofile 2\n",
         replies: "refused 43\n",
@@ -322,10 +312,34 @@ const CASES: [Case; 37] = [
         faults: "",
         status: 0,
     },
+    Case {
+        name: "arguments out of their ranges",
+        arguments: &[],
+        script: "zone 4 1\nzone 0 0\nzone 0 9\nmap 4 0 0\nmap 0 8 0\nmap 0 0 4096\nmapat 0 0 0 4096 unmovable\nstore 0 0 0 8 1\nload 0 0 0 8\ninfo 4\ninfo 4294967296\nscan 4\ntake 0 0\ncopy 0 5\nfinish 4 1\nshut 4\nlook 0 8 0\nshare 0 0 0 8 0\nshare 0 0 4096 0 0\nunmap 0 0 4096\npin 4 0 0\nunpin 0 8 0\nhuge 4\ngive 0 8\nfill 4 0 0 1\nfill 0 8 0 1\nfill 0 0 0 4097\nthin 4 0 0 1 1\nthin 0 8 0 1 1\nthin 0 0 0 4097 1\ncompact 4\npool 4 1\npool 0 0\npool 0 9\n",
+        replies: "refused 1\nrefused 1\nrefused 1\nrefused 1\nrefused 1\nrefused 1\nrefused 1\nrefused 1\nrefused 1\nrefused 1\nrefused 1\nrefused 1\nrefused 1\nrefused 1\nrefused 1\nrefused 1\nrefused 1\nrefused 1\nrefused 1\nrefused 1\nrefused 1\nrefused 1\nrefused 1\nrefused 1\nrefused 1\nrefused 1\nrefused 1\nrefused 1\nrefused 1\nrefused 1\nrefused 1\nrefused 1\nrefused 1\nrefused 1\n",
+        faults: "",
+        status: 0,
+    },
+    Case {
+        name: "arguments of profile 2 out of their ranges",
+        arguments: &[],
+        script: "profile 2\npool 0 9 3\npool 0 1 2\npool 0 1 10\nhuge 0 2\nhuge 0 10\ngive 0 4096 3\ngive 0 0 2\nmark 0 8\nunmark 4 0\n",
+        replies: "ok\nrefused 1\nrefused 1\nrefused 1\nrefused 1\nrefused 1\nrefused 1\nrefused 1\nrefused 1\nrefused 1\n",
+        faults: "",
+        status: 0,
+    },
+    Case {
+        name: "spaces, zeros and lines that are skipped",
+        arguments: &[],
+        script: "  # a page\n\n zone  0 01 \n   \nmap 0 0 00000000000000000007\ninfo    0  \n",
+        replies: "ok\nok\nfree=511 pages=1 moving=0 huge=0 whole=0\n",
+        faults: "",
+        status: 0,
+    },
 ];
 
 /// Runs with clients beside rounds.
-const CLIENTS: [Case; 14] = [
+pub const CLIENTS: [Case; 14] = [
     Case {
         name: "a client stores and loads in a page that is moved",
         arguments: &[],
@@ -441,7 +455,7 @@ const CLIENTS: [Case; 14] = [
 ];
 
 /// Runs with rounds on threads.
-const ROUNDS: [Case; 18] = [
+pub const ROUNDS: [Case; 18] = [
     Case {
         name: "a round moves two pages up, and a pageblock is whole",
         arguments: &[],
@@ -555,7 +569,7 @@ const ROUNDS: [Case; 18] = [
         status: 0,
     },
     Case {
-        name: "a pool has enough blocks behind a round",
+        name: "a pool has enough blocks after a round",
         arguments: &["--copiers", "4"],
         script: "zone 0 3\nmapat 0 0 0 0\nmapat 0 0 1 512\nstore 0 0 1 0 7\npool 0 2\nload 0 0 1 0\ninfo 0\n",
         replies: "ok\nok\nok\nok\ngot=2 rounds=1 stopped=enough blocks=2,0\nvalue=7\nfree=510 pages=2 moving=0 huge=2 whole=0\n",
@@ -588,393 +602,30 @@ const ROUNDS: [Case; 18] = [
     },
 ];
 
-/// What is wanted of a run.
-#[derive(Clone, Copy)]
-struct Wanted<'a> {
-    replies: &'a [u8],
-    faults: &'a [u8],
-    status: u8,
-}
-
-impl Case {
-    fn wanted(&self) -> Wanted<'static> {
-        Wanted {
-            replies: self.replies.as_bytes(),
-            faults: self.faults.as_bytes(),
-            status: self.status,
-        }
-    }
-}
-
-/// What came of a run.
-#[derive(Drop)]
-struct Outcome {
-    replies: Vec<u8>,
-    faults: Vec<u8>,
-    status: u8,
-}
-
-impl Outcome {
-    /// Compares it with what is wanted. A failure tells the run, and the number of bytes that was tried.
-    fn assert_is<H: Abort>(
-        &self,
-        rt: &H,
-        wanted: Wanted<'_>,
-        run: &str,
-        bytes: usize,
-    ) -> Result<(), Fail> {
-        assert_eq!(rt;
-            self.replies.as_slice(),
-            wanted.replies,
-            "{run}, {bytes} bytes"
-        );
-        assert_eq!(rt;
-            self.faults.as_slice(),
-            wanted.faults,
-            "{run}, {bytes} bytes"
-        );
-        assert_eq!(rt; self.status, wanted.status, "{run}, {bytes} bytes");
-        Ok(())
-    }
-}
-
-fn words(alloc: Global, arguments: &[&str]) -> Result<Args, AllocError> {
-    let mut words = Vec::new(alloc);
-    words.push(String::from_str(alloc, "compactd")?)?;
-    for argument in arguments {
-        words.push(String::from_str(alloc, argument)?)?;
-    }
-    Ok(words.into_iter())
-}
-
-fn played<R: Read + Drop, H: Threads + Wait + Sync>(
-    rt: &H,
-    alloc: Global,
-    arguments: &[&str],
-    reader: R,
-) -> Result<Outcome, AllocError> {
-    let mut replies = Sink::new(Vec::with_capacity(alloc, 4096)?);
-    let mut faults = Sink::new(Vec::with_capacity(alloc, 4096)?);
-    let status = program(
-        rt,
-        alloc,
-        Ok(words(alloc, arguments)?),
-        &mut Source::new(reader),
-        &mut replies,
-        &mut faults,
-    );
-    Ok(Outcome {
-        replies: replies.into_inner(),
-        faults: faults.into_inner(),
-        status,
-    })
-}
-
-/// Runs a case, and compares what comes of it with what is wanted.
-fn assert_answered<H: Threads + Wait + Abort + Sync>(
-    rt: &H,
-    alloc: Global,
-    case: &Case,
-) -> Result<(), Fail> {
-    let found = played(rt, alloc, case.arguments, case.script.as_bytes())?;
-    found.assert_is(rt, case.wanted(), case.name, case.script.len())
-}
-
-#[test]
-fn answers_each_script(rt: HostRuntime) -> Result<(), Fail> {
-    for case in CASES.iter() {
-        assert_answered(&rt, rt.alloc(), case)?;
-    }
-    Ok(())
-}
-
-#[test]
-fn answers_rounds_and_pools(rt: HostRuntime) -> Result<(), Fail> {
-    for case in ROUNDS.iter() {
-        assert_answered(&rt, rt.alloc(), case)?;
-    }
-    Ok(())
-}
-
-#[test]
-fn answers_each_block(rt: HostRuntime) -> Result<(), Fail> {
-    for case in CLIENTS.iter() {
-        assert_answered(&rt, rt.alloc(), case)?;
-    }
-    Ok(())
-}
-
-#[test]
-fn reads_a_few_bytes_at_a_time(rt: HostRuntime) -> Result<(), Fail> {
-    for case in [FIRST_PAGE, CUT_LINE].iter().chain(CLIENTS.iter()) {
-        for size in [1, 2, 7] {
-            let reader = Pieces {
-                rest: case.script.as_bytes(),
-                size,
-                calls: usize::MAX,
-            };
-            let found = played(&rt, rt.alloc(), case.arguments, reader)?;
-            found.assert_is(&rt, case.wanted(), case.name, size)?;
-        }
-    }
-    Ok(())
-}
-
-#[test]
-fn refuses_lines_of_more_than_200_bytes(rt: HostRuntime) -> Result<(), Fail> {
-    for (spaces, size, replies, faults, status) in [
-        (
-            194,
-            4096,
-            "ok\nfree=512 pages=0 moving=0 huge=0 whole=1\n",
-            "",
-            0,
-        ),
-        (
-            194,
-            7,
-            "ok\nfree=512 pages=0 moving=0 huge=0 whole=1\n",
-            "",
-            0,
-        ),
-        (195, 4096, "ok\n", "compactd: fault 42 at line 2\n", 1),
-        (195, 1, "ok\n", "compactd: fault 42 at line 2\n", 1),
-        (195, 2, "ok\n", "compactd: fault 42 at line 2\n", 1),
-        (195, 7, "ok\n", "compactd: fault 42 at line 2\n", 1),
-    ] {
-        let mut script = String::from_str(rt.alloc(), "zone 0 1\ninfo 0")?;
-        for _ in 0..spaces {
-            script.push(' ')?;
-        }
-        script.push('\n')?;
-        let reader = Pieces {
-            rest: script.as_bytes(),
-            size,
-            calls: usize::MAX,
-        };
-        let found = played(&rt, rt.alloc(), &[], reader)?;
-        let wanted = Wanted {
-            replies: replies.as_bytes(),
-            faults: faults.as_bytes(),
-            status,
-        };
-        found.assert_is(&rt, wanted, "a line with spaces", spaces)?;
-    }
-    Ok(())
-}
-
-/// Each line of the script is a command, so the k-th reply is of the k-th line.
-fn line_of_byte(text: &[u8], at: usize) -> usize {
-    1 + text.iter().take(at).filter(|byte| **byte == b'\n').count()
-}
-
-/// The lines of a text before this one.
-fn lines_before(text: &str, line: usize) -> &[u8] {
-    let bytes = text.as_bytes();
-    let mut left = line.saturating_sub(1);
-    for (at, byte) in bytes.iter().enumerate() {
-        if left == 0 {
-            return &bytes[..at];
-        }
-        if *byte == b'\n' {
-            left -= 1;
-        }
-    }
-    bytes
-}
-
-#[test]
-fn ends_where_a_read_fails(rt: HostRuntime) -> Result<(), Fail> {
-    let script = FIRST_PAGE.script.as_bytes();
-    for calls in 0..=script.len() {
-        let reader = Pieces {
-            rest: script,
-            size: 1,
-            calls,
-        };
-        let found = played(&rt, rt.alloc(), &[], reader)?;
-        let line = line_of_byte(script, calls);
-        let faults = format!(in rt.alloc(); "compactd: fault 46 at line {line}\n")?;
-        let wanted = Wanted {
-            replies: lines_before(FIRST_PAGE.replies, line),
-            faults: faults.as_bytes(),
-            status: 1,
-        };
-        found.assert_is(&rt, wanted, "a reader that fails", calls)?;
-    }
-    Ok(())
-}
-
-#[test]
-fn ends_where_a_script_is_cut(rt: HostRuntime) -> Result<(), Fail> {
-    for case in CASES.iter() {
-        if case.name != "two pages in two hands" {
-            continue;
-        }
-        let script = case.script.as_bytes();
-        for size in 0..script.len() {
-            let found = played(&rt, rt.alloc(), &[], &script[..size])?;
-            let line = line_of_byte(script, size);
-            let is_whole = size == 0 || script[size - 1] == b'\n';
-            let fault = format!(in rt.alloc(); "compactd: fault 41 at line {line}\n")?;
-            let faults = if is_whole { "" } else { fault.as_str() };
-            let wanted = Wanted {
-                replies: lines_before(case.replies, line),
-                faults: faults.as_bytes(),
-                status: u8::from(!is_whole),
-            };
-            found.assert_is(&rt, wanted, case.name, size)?;
-        }
-    }
-    Ok(())
-}
-
-#[test]
-fn ends_where_a_write_fails(rt: HostRuntime) -> Result<(), Fail> {
-    let replies = FIRST_PAGE.replies.as_bytes();
-    for full in [Full::Fails, Full::TakesNothing] {
-        for room in 0..replies.len() {
-            for size in [1, 3, 4096] {
-                let mut writer = Sink::new(Limited {
-                    bytes: Vec::with_capacity(rt.alloc(), 4096)?,
-                    room,
-                    size,
-                    full,
-                });
-                let mut faults = Sink::new(Vec::new(rt.alloc()));
-                let status = program(
-                    &rt,
-                    rt.alloc(),
-                    Ok(words(rt.alloc(), &[])?),
-                    &mut Text::new(FIRST_PAGE.script.as_bytes()),
-                    &mut writer,
-                    &mut faults,
-                );
-                let found = Outcome {
-                    replies: writer.into_inner().bytes,
-                    faults: faults.into_inner(),
-                    status,
-                };
-                let line = line_of_byte(replies, room);
-                let fault = format!(in rt.alloc(); "compactd: fault 47 at line {line}\n")?;
-                let wanted = Wanted {
-                    replies: &replies[..room],
-                    faults: fault.as_bytes(),
-                    status: 1,
-                };
-                found.assert_is(&rt, wanted, "a writer that fails", room)?;
-            }
-        }
-    }
-    Ok(())
-}
-
-/// Arguments, a script and the status that they end with.
-const ENDINGS: [(&[&str], &str, u8); 4] = [
-    (&[], "", 0),
-    (&[], "map", 1),
-    (&["--copiers", "5"], "", 2),
-    (&["--help"], "", 0),
+/// Lines that are no command in profile 1.
+pub const FAULTS: [&str; 24] = [
+    "zone 0",
+    "info 0 0",
+    "info +1",
+    "Info 1",
+    "take 3",
+    "pool 3",
+    "fill 0 0 0",
+    "thin 0 0 0 1",
+    "store 0 1 2 3 4 5 6",
+    "store 0 1 2 7 18446744073709551616",
+    "load 0 1 2 000000000000000000007",
+    "compact 3 1",
+    "during 3 1",
+    "end",
+    "profile",
+    "profile 1",
+    "profile 02",
+    "profile 2 2",
+    "Profile 2",
+    "huge 0 3",
+    "give 0 0 3",
+    "mark 0 0",
+    "unmark 0 0",
+    "pool 0 1 3",
 ];
-
-#[test]
-fn keeps_its_status_where_a_fault_is_not_written(rt: HostRuntime) -> Result<(), Fail> {
-    for (arguments, script, status) in ENDINGS.iter() {
-        let mut writer = no_room(rt.alloc());
-        let mut faults = no_room(rt.alloc());
-        let found = program(
-            &rt,
-            rt.alloc(),
-            Ok(words(rt.alloc(), arguments)?),
-            &mut Text::new(script.as_bytes()),
-            &mut writer,
-            &mut faults,
-        );
-        assert_eq!(rt; found, *status, "{arguments:?}");
-    }
-    Ok(())
-}
-
-fn no_room(alloc: Global) -> Sink<Limited> {
-    Sink::new(Limited {
-        bytes: Vec::new(alloc),
-        room: 0,
-        size: 1,
-        full: Full::Fails,
-    })
-}
-
-#[test]
-fn refuses_arguments(rt: HostRuntime) -> Result<(), Fail> {
-    for arguments in [
-        &["--copiers", "5"][..],
-        &["--copiers", "0"][..],
-        &["--capacity", "65"][..],
-        &["--journal", "65537"][..],
-        &["--journal"][..],
-        &["--copiers", "1", "--copiers", "2"][..],
-        &["script"][..],
-        &["--other"][..],
-    ] {
-        let found = played(&rt, rt.alloc(), arguments, FIRST_PAGE.script.as_bytes())?;
-        assert!(rt; found.replies.is_empty(), "{arguments:?}");
-        assert!(rt; found.faults.starts_with(b"error: "), "{arguments:?}");
-        assert_eq!(rt; found.status, 2, "{arguments:?}");
-    }
-    Ok(())
-}
-
-/// Parts of the help.
-const HELP: [&str; 6] = [
-    "Usage: compactd [OPTIONS]",
-    "--copiers <N>   Copiers that a round has, 1 to 4 [default: 2]",
-    "--capacity <N>  Pages that a queue of a round holds, 1 to 64 [default: 8]",
-    "--journal <N>   Records that the journal holds, 1 to 65536 [default: 65536]",
-    "  zone Z B, info Z\n",
-    "  during Z, then lines of a client as above, then end\n",
-];
-
-#[test]
-fn shows_help(rt: HostRuntime) -> Result<(), Fail> {
-    let found = played(&rt, rt.alloc(), &["--help"], FIRST_PAGE.script.as_bytes())?;
-    let text = std::str::from_utf8(found.replies.as_slice())?;
-    for part in HELP.iter() {
-        assert!(rt; text.contains(part), "{part}");
-    }
-    assert!(rt; found.faults.is_empty());
-    assert!(rt; found.status == 0);
-    Ok(())
-}
-
-#[test]
-fn shows_its_version(rt: HostRuntime) -> Result<(), Fail> {
-    let found = played(
-        &rt,
-        rt.alloc(),
-        &["--version"],
-        FIRST_PAGE.script.as_bytes(),
-    )?;
-    assert!(rt; found.replies.as_slice() == b"compactd 0.1.0\n".as_slice());
-    assert!(rt; found.faults.is_empty());
-    assert!(rt; found.status == 0);
-    Ok(())
-}
-
-/// Passes also where any one request for memory is refused, which `rt try --test --fail-alloc` does.
-#[test]
-fn says_where_memory_is_short(rt: HostRuntime) -> Result<(), Fail> {
-    let Ok(found) = played(&rt, rt.alloc(), &[], FIRST_PAGE.script.as_bytes()) else {
-        return Ok(());
-    };
-    if found.status == 1 {
-        assert!(rt; found.replies.is_empty());
-        let line_0 = found.faults.as_slice() == b"compactd: fault 48 at line 0\n".as_slice();
-        let line_1 = found.faults.as_slice() == b"compactd: fault 48 at line 1\n".as_slice();
-        assert!(rt; line_0 || line_1);
-    } else {
-        assert!(rt; found.replies.as_slice() == FIRST_PAGE.replies.as_bytes());
-        assert!(rt; found.faults.is_empty());
-        assert!(rt; found.status == 0);
-    }
-    Ok(())
-}
