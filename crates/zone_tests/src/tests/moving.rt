@@ -160,7 +160,7 @@ impl<I: Ledger, N: Ledger, M: Ledger, B: Ledger> Moving<I, N, M, B> {
         self.assert_audit(rt, 1, 0, 1);
     }
 
-    /// The largest journal has room for 32,767 moves behind the page's map, and then for a load.
+    /// The largest journal has room for 32,767 moves after the page's map, and then for a load.
     fn fills_its_journal(&mut self, rt: &impl Abort) {
         for serial in 0..32767 {
             let page = self.isolated(rt);
