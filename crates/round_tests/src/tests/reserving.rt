@@ -191,8 +191,7 @@ impl<
         collector.reserve(rt, rt.alloc(), &self.shared, &mut self.seats, n, &NoGate)
     }
 
-    /// A collector reports what the case says, and the same is reported of a zone where a part of the end seat is missing, up to
-    /// the first round.
+    /// A collector reports what the case says. Where the end seat isn't whole, a part of it is kept back meanwhile.
     pub fn reserves<R: Threads + Wait + Abort + AllocGlobal + Sync>(mut self, rt: &R, case: &Case) {
         for frame in case.pages.iter() {
             self.keeps(rt, Call::MapAt(*frame, *frame), Answer::Done);
