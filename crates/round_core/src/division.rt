@@ -46,7 +46,9 @@ impl Division {
     }
 
     /// How many pages are isolated or committed under one lock at most: as many as a queue has room for, or a handful for each copier.
-    pub(crate) fn burst(self) -> usize {
+    pub(crate) fn burst(self) -> usize
+        ensures { 0 < result }
+    {
         self.room.max(self.most * self.copiers)
     }
 }
