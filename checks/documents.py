@@ -8,6 +8,7 @@ the lines below each are what it writes, where `..` stands for lines left out. A
 replies below. A block ```rust has lines of the file that the paragraph above it names, in their order."""
 
 import fnmatch
+import itertools
 import os
 import pathlib
 import re
@@ -19,7 +20,7 @@ import runs
 
 SECONDS = 120  # that a command of the README may take
 LEFT_OUT = (".git", "out", "__pycache__")
-SOURCES = ["crates/*/src/*", "crates/*/specs/*", "crates.txt", "checks/*", "bench/*", "examples/*"]
+SOURCES = ["crates/*/src/*", "crates/*/specs/*", "crates.txt", "checks/*", "bench/*", "launch/*", "examples/*"]
 WORD = re.compile(r"[A-Za-z_]\w+")
 NAME = re.compile(r"[A-Za-z_]\w*(?:::[A-Za-z_]\w*)+")
 PATH = re.compile(r"[\w.*-]*/[\w./*-]*|[\w*-]+\.[a-z]+")
@@ -157,10 +158,10 @@ def stand_in_order(lines, file):
     return any(is_found(" " * columns) for columns in (0, 4, 8, 12))
 
 
-def wrong_commands(commands):
-    for command, lines in commands:
-        if wrong := wrong_command(command, lines):
-            yield f"`{command}`: {wrong}"
+def first_wrong_command(commands):
+    """What is wrong with the first command that isn't right, if there is one. Those after it aren't tried."""
+    tried = (f"`{command}`: {wrong}" for command, lines in commands if (wrong := wrong_command(command, lines)))
+    return [*itertools.islice(tried, 1)]
 
 
 def main():
@@ -169,7 +170,7 @@ def main():
     pages, text = [readme, *sorted((runs.ROOT / "docs").glob("*.md"))], readme.read_text()
     faults = [f"{page.name}: {name}" for page in pages for name in (*missing_names(page, tree), *missing_links(page))]
     commands, examples = [*shown_commands(text)], manual.examples(text)
-    faults += [f"README.md: {wrong}" for wrong in (*wrong_commands(commands), *missing_lines(text))]
+    faults += [f"README.md: {wrong}" for wrong in (*first_wrong_command(commands), *missing_lines(text))]
     if not commands:
         faults.append("README.md shows no command")
     if faults:
