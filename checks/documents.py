@@ -34,15 +34,16 @@ class Tree:
 
     def __init__(self):
         self.files = sorted(files_below(runs.ROOT))
-        self.paths = [*self.files, *map(as_named_edit, self.files), *guides_of_the_kit()]
+        paths = {*self.files, *map(as_named_edit, self.files), *guides_of_the_kit()}
+        self.paths = {part for path in paths for part in parts_of(path)}
         self.suffixes = {pathlib.Path(file).suffix for file in self.files}
         self.words_of = {file: words_of(file) for file in self.files}
         self.words = set().union(*self.words_of.values(), words_in(version_of_the_kit()))
 
     def has_path(self, path):
-        """Whether a path, or its part above `out`, is that of a file or folder, or the end of one's path."""
+        """Whether a path, or its part above `out`, is that of a file or folder, or a part of one's path."""
         inside = re.sub(r"(^|/)out(/.*)?$", "", path.removeprefix("./").strip("/"))
-        return not inside or any(fnmatch.fnmatch(f"/{file}/", f"*/{inside}/*") for file in self.paths)
+        return not inside or inside in self.paths or "*" in inside and bool(fnmatch.filter(self.paths, inside))
 
     def has_name(self, name):
         """Whether the parts of a name, such as `Type::function`, stand in one file."""
@@ -63,6 +64,13 @@ def files_below(root):
     for folder, folders, names in os.walk(root):
         folders[:] = [name for name in folders if name not in LEFT_OUT]
         yield from (str(pathlib.Path(folder, name).relative_to(root)) for name in names)
+
+
+def parts_of(path):
+    """What a path is called from each folder in it, up to each folder or the file."""
+    names = path.split("/")
+    spans = itertools.combinations(range(len(names) + 1), 2)
+    return ("/".join(names[first:last]) for first, last in spans)
 
 
 def as_named_edit(file):
