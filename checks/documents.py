@@ -1,11 +1,14 @@
 """README.md and docs/*.md name what is there, and the README shows what is so.
 
 Each path in backticks is a file or a folder of the repository, or a guide of the kit; a path in a folder `out` is one
-that a build makes. Each word of an identifier in backticks stands in some file of `src` or `specs`, of checks/ or
-bench/, or in crates.txt, and the parts of `Type::function` stand in one file. Left out are patterns such as `x_refusal`
-and `IsX`. Links lead to files and headings that are there. In the README lines that begin with `$ ` are commands, and
-the lines below each are what it writes, where `..` stands for lines left out. A block ```script is a script, with its
-replies below. A block ```rust has lines of the file that the paragraph above it names, in their order."""
+that a build makes. Each word of an identifier in backticks stands in some file of `src` or `specs`, of checks/, bench/
+or launch/, or in crates.txt, and so does each name with an underscore in a block of lines. The parts of
+`Type::function` stand in one file. Left out are patterns such as `x_refusal` and `IsX`. Links lead to files and
+headings that are there.
+
+In the README lines that begin with `$ ` are commands, and the lines below each are what it writes, where `..` stands
+for lines left out. A block ```script is a script, with its replies below. A block ```rust has lines of the file that
+the paragraph above it names, in their order."""
 
 import fnmatch
 import itertools
@@ -21,7 +24,9 @@ import runs
 SECONDS = 120  # that a command of the README may take
 LEFT_OUT = (".git", "out", "__pycache__")
 SOURCES = ["crates/*/src/*", "crates/*/specs/*", "crates.txt", "checks/*", "bench/*", "launch/*", "examples/*"]
+TRIED = ("script", "replies", "fault", "rust")
 WORD = re.compile(r"[A-Za-z_]\w+")
+LONG_NAME = re.compile(r"[A-Za-z]\w*_\w+")
 NAME = re.compile(r"[A-Za-z_]\w*(?:::[A-Za-z_]\w*)+")
 PATH = re.compile(r"[\w.*-]*/[\w./*-]*|[\w*-]+\.[a-z]+")
 PATTERN = re.compile(r"(^|_)x(_|$)|[a-z]X$")
@@ -102,6 +107,14 @@ def words_of(file):
 def missing_names(page, tree):
     for code in re.findall(r"`([^`\n]+)`", FENCED.sub("", page.read_text())):
         yield from (f"`{code}`: there is no {name}" for name in tree.missing(code))
+    named = {name for block in plain_blocks(page.read_text()) for name in LONG_NAME.findall(block)}
+    yield from (f"a block that is shown names {name}, which isn't there" for name in sorted(named - tree.words))
+
+
+def plain_blocks(text):
+    """The blocks of a document that are neither scripts nor Rattle, without their margins."""
+    yield from (content for kind, content in FENCED.findall(text) if kind not in TRIED)
+    yield from map(textwrap.dedent, INDENTED.findall(FENCED.sub("", text)))
 
 
 def missing_links(page):
@@ -122,9 +135,7 @@ def has_heading(page, wanted):
 
 def shown_commands(text):
     """The commands that are shown, each with the lines below it."""
-    blocks = [content for _, content in FENCED.findall(text)]
-    blocks += [textwrap.dedent(block) for block in INDENTED.findall(FENCED.sub("", text))]
-    for block in blocks:
+    for block in plain_blocks(text):
         for shown in re.split(r"^\$ ", block, flags=re.M)[1:]:
             command, *lines = shown.splitlines()
             yield command, lines
