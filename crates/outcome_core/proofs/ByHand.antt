@@ -182,7 +182,7 @@ module _ (start : ZoneState) (rest : IsAtRest start) where
   moving_by_hand : IsMoving (by_hand start)
   moving_by_hand = moving_all (frame_count start) (all_isolated start) moving_isolated
 
-  stand_by_hand : StandFrom 0 (by_hand start)
+  pub stand_by_hand : StandFrom 0 (by_hand start)
   stand_by_hand =
       let frames = frames_steps (frame_count start) (round_begun start) begun in
       stand_all (frame_count start) (all_isolated start) (λ page low. stand_past (all_isolated start) moving_isolated.law page (omega (arith, frames)))
@@ -190,7 +190,7 @@ module _ (start : ZoneState) (rest : IsAtRest start) where
   pub none_by_hand : out (by_hand start).records ≡ []
   none_by_hand = nothing_out (by_hand start) moving_by_hand.law stand_by_hand
 
-  back_by_hand : put_back (by_hand start).records ≡ put_back start.records
+  pub back_by_hand : put_back (by_hand start).records ≡ put_back start.records
   back_by_hand = back_all (frame_count start) (all_isolated start) ∙ back_steps (frame_count start) (round_begun start) begun
 
 -- where as many pages were isolated as by hand, none is moving and none was put back, the zone is the one after the round by hand

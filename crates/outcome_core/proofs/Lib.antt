@@ -5,6 +5,5 @@ pub mod Ending
 pub mod Coming
 pub mod ByHand
 pub mod Alone
-pub mod Same
 pub mod Steps
 pub mod Packed

@@ -1,12 +1,13 @@
 -- What a journal says of addresses, words and pins it says without the ends of moves.
-use Rattle.std.proofs.Common.{◌≡◌, ℕ, ◌+◌, ◌-◌, not, cond, ◌&&◌, ◌||◌, List, [], ◌∷◌, refl, ap, nat_eq, Some, None}
+use Rattle.std.proofs.Common.{◌≡◌, ℕ, ◌+◌, ◌-◌, not, cond, ◌&&◌, ◌||◌, List, [], ◌∷◌, refl, ap, nat_eq, Some, None, sym, ◌∙◌}
 use Rattle.frame_core.specs.Below.{one_if}
 use Rattle.journal_core.specs.declared.record.Record.{Record}
 use Rattle.journal_core.specs.declared.record.Record.TheVariants.{Map, Share, Unmap, Store, Load, Pin, Unpin, Isolate, Moved, Back, TakeHuge, GiveHuge, Mark, Unmark}
 use Rattle.frame_core.specs.declared.place.Address.{Address}
 use Rattle.journal_core.specs.History.{page_at, pins, is_page, same_address, last, dirty}
 use Rattle.journal_core.specs.Moves.{isolated}
-use Rattle.outcome_core.specs.Outcome.{without_ends}
+use Rattle.state_core.specs.ZoneState.{ZoneState}
+use Rattle.outcome_core.specs.Outcome.{without_ends, IsSame}
 
 pub page_at-without_ends : (rs : List Record) (a : Address) → page_at (without_ends rs) a ≡ page_at rs a
 page_at-without_ends [] a = refl
@@ -92,3 +93,7 @@ dirty-without_ends (TakeHuge f o ∷ rs) page = dirty-without_ends rs page
 dirty-without_ends (GiveHuge f o ∷ rs) page = dirty-without_ends rs page
 dirty-without_ends (Mark b ∷ rs) page = dirty-without_ends rs page
 dirty-without_ends (Unmark b ∷ rs) page = dirty-without_ends rs page
+
+-- zones that are the same have isolated as many pages
+pub isolated_same : (z w : ZoneState) → IsSame z w → isolated z.records ≡ isolated w.records
+isolated_same z w same = sym (isolated-without_ends z.records) ∙ ap isolated same.records ∙ isolated-without_ends w.records

@@ -2,15 +2,12 @@
 
 ghost use Rattle.std.specs.Prelude.{◌≡◌, ℕ, true, Some, None, []};
 ghost use Rattle.std.specs.FinMap as map;
-ghost use Rattle.frame_core.specs.declared.place.Address.{Address};
 ghost use Rattle.journal_core.specs.History.{pins};
 ghost use Rattle.journal_core.specs.Moves.{isolated, out, put_back};
 ghost use Rattle.journal_core.specs.declared.record.Cause.{Cause};
-ghost use Rattle.state_core.specs.Access.{access_refusal, value_at, loaded, stored};
 ghost use Rattle.state_core.specs.Ending.{moved_to_target, put_back_to_source, HasCause};
 ghost use Rattle.state_core.specs.Isolating.{isolate_refusal};
 ghost use Rattle.state_core.specs.Lawful.{IsLawful};
-ghost use Rattle.state_core.specs.Looking.{look_of};
 ghost use Rattle.state_core.specs.Packed.{IsPacked};
 ghost use Rattle.state_core.specs.Pairs.{is_calm};
 ghost use Rattle.state_core.specs.Rounds.{round_begun};
@@ -38,12 +35,4 @@ pub fn comes_to_by_hand()
 /// A calm round by hand whose scanners met leaves the zone packed, and so does each round that comes to the same.
 pub fn packs_a_calm_zone()
     ensures { (start z : ZoneState) → IsLawful start → is_calm start ≡ true → isolate_refusal (all_isolated start) ≡ None → IsSame (by_hand start) z → IsPacked z }
-{}
-
-/// Two such zones answer a load and a look alike, and after a load or a store they are so still.
-pub fn answers_alike()
-    ensures load { (z w : ZoneState) → IsSame z w → (address : Address) (word : ℕ) → (access_refusal z address ≡ access_refusal w address) × (value_at z address word ≡ value_at w address word) }
-    ensures look { (z w : ZoneState) → IsSame z w → (address : Address) → look_of z address ≡ look_of w address }
-    ensures loaded { (z w : ZoneState) → IsSame z w → (client : ℕ) (address : Address) (word : ℕ) → IsSame (loaded z client address word) (loaded w client address word) }
-    ensures stored { (z w : ZoneState) → IsSame z w → (client : ℕ) (address : Address) (word value : ℕ) → IsSame (stored z client address word value) (stored w client address word value) }
 {}

@@ -8,7 +8,7 @@ use Rattle.outcome_core.specs.ByHand.{all_isolated, by_hand, scan_pair}
 use Rattle.outcome_core.specs.Outcome.{IsSame}
 use Rattle.outcome_core.proofs.Alone.{alone_exact, alone_goes_on, alone_stops, alone_unbegun}
 use Rattle.outcome_core.proofs.Packed.{packed_exact}
-use Rattle.outcome_core.proofs.Same.{isolated_same}
+use Rattle.outcome_core.proofs.Records.{isolated_same}
 use Rattle.outcome_core.proofs.Scanner.{refusal_same}
 use Rattle.state_core.specs.declared.error.ZoneError.{ZoneError}
 use Rattle.state_core.specs.declared.information.Audit.{Audit}
