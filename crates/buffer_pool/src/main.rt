@@ -1,5 +1,5 @@
 //! The buffers of a database, pages of a zone: users move amounts between them, each buffer pinned while it is used, and rounds
-//! of compaction move the buffers meanwhile. Prints the sum over all buffers before and behind it, and how many pageblocks are whole.
+//! of compaction move the buffers meanwhile. Prints the sum over all buffers before and after it, and how many pageblocks are whole.
 #![tactic(auto)]
 
 mod buffers;
@@ -23,7 +23,7 @@ fn main(rt: HostRuntime) -> io::Result<()> {
 fn show<R: Print>(rt: &R, outcome: Result<Outcome, Trouble>) -> io::Result<()> {
     let Outcome {
         before,
-        behind,
+        after,
         receipts,
     } = match outcome {
         Ok(outcome) => outcome,
@@ -34,8 +34,8 @@ fn show<R: Print>(rt: &R, outcome: Result<Outcome, Trouble>) -> io::Result<()> {
         before.sum, before.whole
     )?;
     println!(rt;
-        "behind: sum {}, whole pageblocks {}",
-        behind.sum, behind.whole
+        "after: sum {}, whole pageblocks {}",
+        after.sum, after.whole
     )?;
     println!(rt; "calls of users that stand in the journal as they were answered: {receipts}")
 }

@@ -32,11 +32,11 @@ pub struct Seen {
     pub whole: u32,
 }
 
-/// What came of it.
+/// What came of a run.
 #[derive(Clone, Copy)]
 pub struct Outcome {
     pub before: Seen,
-    pub behind: Seen,
+    pub after: Seen,
     /// How many calls of the users were accepted.
     pub receipts: usize,
 }
@@ -82,7 +82,7 @@ fn use_buffers<
     let users = (user(alloc, 0)?, user(alloc, 1)?);
     let (first, second) = use_beside_rounds(rt, alloc, shared, seats, users)?;
     let _last = compact(rt, alloc, shared, seats, 2, 16, &NoGate)?;
-    let behind = look(rt, shared, &mut keeper)?;
+    let after = look(rt, shared, &mut keeper)?;
     let (first, second) = (first.client, second.client);
     let receipts = first
         .receipts()
@@ -90,7 +90,7 @@ fn use_buffers<
         .saturating_add(second.receipts().len());
     let outcome = Outcome {
         before,
-        behind,
+        after,
         receipts,
     };
     Ok((outcome, [keeper, first, second]))
@@ -127,7 +127,7 @@ fn use_beside_rounds<
     Ok((first?, second?))
 }
 
-/// Runs rounds, one behind the other.
+/// Runs rounds, one after the other.
 fn compact_on<
     K: Shape + Send + Sync,
     I: Ledger + Send + Sync,

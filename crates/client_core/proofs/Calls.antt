@@ -1,4 +1,4 @@
--- What the answer of a zone under its lock tells.
+-- What the answer of a zone under its lock tells of the zone.
 use Rattle.std.proofs.Common.{◌≡◌, sym, Option}
 use Rattle.std.specs.Prelude.{Result, Ok, Err, IfOk, IfErr}
 use Rattle.std.specs.Result.{result_err}

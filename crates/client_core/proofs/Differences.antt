@@ -1,4 +1,4 @@
--- How the items of a list that pass a test go along with another list, and where the two first differ.
+-- The items of a list that pass a test, compared with another list, and where the two first differ.
 use Rattle.std.proofs.Common.{◌≡◌, ◌≢◌, ℕ, zero, suc, refl, ◌+◌, ◌<◌, ◌≤◌, Bool, true, false, List, [], ◌∷◌, ◌++◌, length, take, drop, sym, ap, ◌∙◌, arith}
 use Rattle.std.specs.Prelude.{Some, None, slice_get}
 use Rattle.std.specs.List.{filter}
@@ -8,7 +8,7 @@ use Rattle.std.proofs.lemmas.List.Elements.{filter-append, filter_more}
 use Rattle.std.proofs.Math.Seq.{drop-cons, take-append_seam}
 use Rattle.client_core.specs.Settling.{IsFirstDifference}
 
--- one item more
+-- the first items of a list, with one more
 take_next : {X : Type 0} (xs : List X) (i : ℕ) (x : X) → slice_get xs i ≡ Some x → take (i + 1) xs ≡ take i xs ++ x ∷ []
 take_next xs i x at = take_more xs i x (slice_get_within xs i x at) ∙ ap (λ y. take i xs ++ y ∷ []) (get_or_from_slice_get xs i x x at)
 
@@ -18,30 +18,30 @@ drop_next xs i x at = grind (arith, drop-cons xs i x, slice_get_within xs i x at
 filter_kept : {X : Type 0} (p : X → Bool) (x : X) (xs : List X) → p x ≡ true → filter p (x ∷ xs) ≡ x ∷ filter p xs
 filter_kept p x xs passes = rw passes refl
 
--- the item behind a list
+-- the item after the end of the first list
 slice_get-append : {X : Type 0} (xs rest : List X) (x : X) (n : ℕ) → length xs ≡ n → slice_get (xs ++ x ∷ rest) n ≡ Some x
 slice_get-append [] rest x zero is = refl
 slice_get-append [] rest x (suc n) is = cc
 slice_get-append (y ∷ xs) rest x zero is = cc
 slice_get-append (y ∷ xs) rest x (suc n) is = slice_get-append xs rest x n (omega arith)
 
--- an item within a list
+-- a list has an item at each index below its length
 slice_get-Some : {X : Type 0} (xs : List X) (n : ℕ) → n < length xs → slice_get xs n ≢ None
 slice_get-Some [] n lt none = omega arith
 slice_get-Some (x ∷ xs) zero lt none = cc
 slice_get-Some (x ∷ xs) (suc n) lt none = slice_get-Some xs n (omega arith) none
 
--- an item that fails changes nothing
+-- an item that fails leaves the items that pass as they are
 pub filter-take_past : {X : Type 0} (p : X → Bool) (xs : List X) (i : ℕ) (x : X) → slice_get xs i ≡ Some x → p x ≡ false
     → filter p (take (i + 1) xs) ≡ filter p (take i xs)
 filter-take_past p xs i x at fails = grind (arith, filter_more p xs i x, slice_get_within xs i x at, get_or_from_slice_get xs i x x at, append-nil (filter p (take i xs)))
 
--- one that passes is the next of the other list too
+-- an item that passes, and is the next one of the other list too
 pub filter-take_next : {X : Type 0} (p : X → Bool) (xs ys : List X) (i n : ℕ) (x : X) → slice_get xs i ≡ Some x → p x ≡ true
     → filter p (take i xs) ≡ take n ys → slice_get ys n ≡ Some x → filter p (take (i + 1) xs) ≡ take (n + 1) ys
 filter-take_next p xs ys i n x at passes same there = grind (arith, filter_more p xs i x, slice_get_within xs i x at, get_or_from_slice_get xs i x x at, take_next ys n x there)
 
--- or it isn't
+-- an item that passes, and isn't the next one of the other list
 pub differs_at : {X : Type 0} (p : X → Bool) (xs ys : List X) (i n : ℕ) (x : X) → slice_get xs i ≡ Some x → p x ≡ true
     → filter p (take i xs) ≡ take n ys → n ≤ length ys → slice_get ys n ≢ Some x → IsFirstDifference (filter p xs) ys n
 differs_at p xs ys i n x at passes same le other =

@@ -1,4 +1,4 @@
--- What a call tells of a zone as it stood under its lock: what it was at that moment, and what it was then.
+-- What a call under the lock of a zone tells: what the zone was when the call was made, and what it was afterwards.
 use Rattle.std.specs.Prelude.{◌≡◌, ℕ, Bool, Option, Some, None, unwrap_or}
 use Rattle.frame_core.specs.declared.place.Address.{Address}
 use Rattle.state_core.specs.declared.error.ZoneError.{ZoneError}
@@ -9,8 +9,8 @@ use Rattle.state_core.specs.ZoneState.{ZoneState, lowest_free_frame, lowest_unus
 use Rattle.client_core.specs.declared.error.ClientError.{ClientError}
 use Rattle.client_core.specs.declared.error.ClientError.TheVariants.{Memory, Zone}
 
--- some lawful zone didn't refuse the call (`refusal` says when a zone would), and `leaves` holds of it, the answer, and the zone that it
--- became
+-- a call was accepted: some lawful zone didn't refuse it (`refusal` says when a zone would), and `leaves` holds of this zone, the
+-- answer, and the zone afterwards
 pub record IsAccepted {X : Type 0} (refusal : ZoneState → Option ZoneError) (leaves : ZoneState → X → ZoneState → Type 0) (answer : X) : Type 0 where
   pub zone : ZoneState
   pub lawful : IsLawful zone
@@ -18,31 +18,31 @@ pub record IsAccepted {X : Type 0} (refusal : ZoneState → Option ZoneError) (l
   pub zone_new : ZoneState
   pub left : leaves zone answer zone_new
 
--- some lawful zone refused the call with this error
+-- a call was refused: some lawful zone refused it with this error
 pub record IsRefused (refusal : ZoneState → Option ZoneError) (error : ZoneError) : Type 0 where
   pub zone : ZoneState
   pub lawful : IsLawful zone
   pub refused : refusal zone ≡ Some error
 
--- a call failed for want of memory, or because a zone refused it
+-- a call failed with this error: for want of memory, or because a zone refused it
 abbrev pub IsFailed : (ZoneState → Option ZoneError) → ClientError → Type 0
 IsFailed refusal Memory = Unit {0}
 IsFailed refusal (Zone error) = IsRefused refusal error
 
--- a call that answers nothing leaves one zone
+-- the call answers nothing, and the zone afterwards is what `left` makes of the zone before
 abbrev pub leaving : (ZoneState → ZoneState) → ZoneState → Unit {0} → ZoneState → Type 0
 leaving left zone done zone_new = zone_new ≡ left zone
 
--- a load answers the value of the word
+-- a load answers the value of a word, and leaves its record in the zone
 abbrev pub loading : ℕ → Address → ℕ → ZoneState → ℕ → ZoneState → Type 0
 loading client address word zone value zone_new = (value ≡ value_at zone address word) × (zone_new ≡ loaded zone client address word)
 
--- a map at this frame, of the page that is fresh
+-- a map answers the fresh page, which is in this frame, and leaves the zone with this page
 abbrev pub mapping : ℕ → Address → Bool → ℕ → ZoneState → ℕ → ZoneState → Type 0
 mapping client address unmovable frame zone page zone_new =
     (page ≡ unwrap_or (lowest_unused_page zone) 0) × (zone_new ≡ mapped zone client address unmovable frame)
 
--- the same where the frame is the lowest free one
+-- a map answers the fresh page, which is in the lowest free frame, and leaves the zone with this page
 abbrev pub mapping_lowest : ℕ → Address → Bool → ℕ → ZoneState → ℕ → ZoneState → Type 0
 mapping_lowest client address unmovable frame zone page zone_new =
     (lowest_free_frame zone ≡ Some frame) × mapping client address unmovable frame zone page zone_new

@@ -1,10 +1,10 @@
--- What contracts see of a client, and what it is for its receipts to be its records of a journal.
+-- What contracts see of a client, and what it means that its receipts are its records in a journal.
 use Rattle.std.specs.Prelude.{◌≡◌, ℕ, Bool, false, List, [], ◌∷◌, ◌++◌, nat_eq, reverse}
 use Rattle.std.specs.List.{filter}
 use Rattle.journal_core.specs.declared.record.Record.{Record}
 use Rattle.journal_core.specs.declared.record.Record.TheVariants.{Map, Share, Unmap, Store, Load, Pin, Unpin}
 
--- its number, and the receipts of the calls that were accepted, the oldest first
+-- a client: its number, and the receipts of its accepted calls, the oldest first
 pub record Client : Type 0 where
   pub number : ℕ
   pub receipts : List Record
@@ -24,10 +24,10 @@ is_of number (Pin client address) = nat_eq client number
 is_of number (Unpin client address) = nat_eq client number
 is_of number _ = false
 
--- the records of a client in a journal, which has the newest first: the oldest first
+-- the records of a client in a journal, the oldest first; the journal has the newest first
 abbrev pub records_of : ℕ → List Record → List Record
 records_of number journal = filter (is_of number) (reverse journal)
 
--- a client's receipts are its records
+-- a client's receipts are its records in a journal
 abbrev pub Agrees : List Record → Client → Type 0
 Agrees journal client = records_of client.number journal ≡ client.receipts

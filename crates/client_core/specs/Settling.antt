@@ -4,7 +4,7 @@ use Rattle.journal_core.specs.declared.record.Record.{Record}
 use Rattle.client_core.specs.Receipts.{Client, records_of, Agrees}
 use Rattle.client_core.specs.declared.settling.Mismatch.{Mismatch}
 
--- two lists are the same before an index; at it they differ, or just one of them has ended
+-- two lists are the same before an index; at the index they differ, or only one of them has ended
 pub record IsFirstDifference {X : Type 0} (xs ys : List X) (index : ℕ) : Type 0 where
   pub before : take index xs ≡ take index ys
   pub there : slice_get xs index ≢ slice_get ys index
@@ -14,7 +14,7 @@ pub record Differs (journal : List Record) (client : Client) (mismatch : Mismatc
   pub number : client.number ≡ mismatch.client
   pub index : IsFirstDifference (records_of client.number journal) client.receipts mismatch.index
 
--- the clients before a place agree with the journal, and the one at it doesn't
+-- the clients before the one of the mismatch agree with the journal, and this one doesn't
 pub record IsFirstMismatch (journal : List Record) (clients : List Client) (mismatch : Mismatch) : Type 0 where
   pub place : ℕ
   pub before : All (Agrees journal) (take place clients)

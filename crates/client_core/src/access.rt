@@ -1,4 +1,4 @@
-//! The calls of a client that need a page at an address, and how to wait for the page.
+//! The calls of a client that need a page at an address, and how a call waits for its page.
 
 ghost use Rattle.std.specs.Prelude.{◌≡◌, ◌≢◌, Option, IfOk, IfErr, OnErr};
 ghost use Rattle.std.specs.Result.{result_err};
@@ -18,14 +18,14 @@ use std::sync::Wait;
 use std::sync::ledger::Ledger;
 use zone_core::{Zone, ZoneError};
 
-/// A call of a client, to be made of whichever zone.
+/// A call of a client, which may be made of any zone.
 pub(crate) trait Access {
     type Answer: Drop;
 
-    /// Why a zone refuses it.
+    /// Why a zone refuses the call, if it does.
     ghost refusal: { Self → ZoneState → Option ZoneError };
 
-    /// What it answers of a zone that accepts it, and what the zone is then.
+    /// What a zone that accepts the call answers, and what the zone is afterwards.
     ghost leaves: { Self → ZoneState → Self.Answer → ZoneState → Type 0 };
 
     fn make<I: Ledger, M: Ledger, B: Ledger>(
@@ -39,8 +39,7 @@ pub(crate) trait Access {
         ensures lawful { IsLawful zone.new };
 }
 
-/// Makes a call under the lock of a zone. As long as the page is on its way, it waits until a move has ended and makes the call
-/// again.
+/// Makes a call under the lock of a zone. While its page is moving, it waits until a move has ended and makes the call again.
 pub(crate) fn once_there<A: Access, K: Shape, I: Ledger, M: Ledger, B: Ledger, R: Wait>(
     rt: &R,
     shared: &SharedZone<K, I, M, B>,
@@ -60,7 +59,7 @@ pub(crate) fn once_there<A: Access, K: Shape, I: Ledger, M: Ledger, B: Ledger, R
     unreachable!()
 }
 
-/// Makes a call under the lock of a zone, wherever the page is.
+/// Makes a call under the lock of a zone, and doesn't wait where its page is moving.
 pub(crate) fn at_once<A: Access, K: Shape, I: Ledger, M: Ledger, B: Ledger, R: Wait>(
     rt: &R,
     shared: &SharedZone<K, I, M, B>,

@@ -22,11 +22,11 @@ use std::sync::Wait;
 use std::sync::ledger::Ledger;
 use zone_core::ZoneError;
 
-/// Makes calls of a shared zone under one number, and keeps the record of each that was accepted.
+/// Makes calls of a shared zone under one number, and keeps the record of each call that was accepted.
 ///
-/// Each call first takes the place for its receipt, so `Memory` comes before any refusal of the zone; these stand with each call.
-/// Where a call isn't accepted the client is as it was. A call that finds its page on its way waits until the move has ended; `pin`
-/// and `unpin` never wait.
+/// Each call takes the memory for its receipt first, so the error `Memory` comes before any refusal of the zone. Each call says
+/// what the zone may refuse it as. A call that isn't accepted leaves the client as it was. A call whose page is moving waits until
+/// the move has ended; `pin` and `unpin` never wait.
 #[derive(Drop)]
 pub struct Client {
     number: ClientNo,
@@ -42,7 +42,7 @@ impl Model for Client {
 }
 
 impl Client {
-    /// A client that made no call yet.
+    /// A client that has made no call.
     pub fn new(alloc: Global, number: ClientNo) -> Client
         ensures { result ≡ record { number = number; receipts = [] } }
     {
@@ -52,14 +52,14 @@ impl Client {
         }
     }
 
-    /// Its number.
+    /// The number of the client.
     pub fn number(&self) -> ClientNo
         ensures { result ≡ self.now.number }
     {
         self.number
     }
 
-    /// The same client once more, with the same receipts.
+    /// A copy of the client with the same receipts, or an error where there is no memory for them.
     pub fn try_clone(&self) -> Result<Client, AllocError>
         ensures { IfOk result (λ client. client ≡ self.now) }
     {
@@ -69,15 +69,15 @@ impl Client {
         })
     }
 
-    /// The record of each accepted call, the oldest first.
+    /// The records of the accepted calls, the oldest first.
     pub fn receipts(&self) -> &[Record]
         ensures { result.now ≡ self.now.receipts }
     {
         &self.receipts
     }
 
-    /// Binds an address to a fresh page in the lowest free frame, which is answered. The number of the page stands in the
-    /// receipt. The flags must not have DIRTY.
+    /// Makes an address name a fresh page in the lowest free frame, and answers this frame. The receipt has the number of
+    /// the page. The flags must not have DIRTY.
     ///
     /// The zone refuses as JournalFull, Occupied or NoFrame.
     pub fn map<K: Shape, I: Ledger, M: Ledger, B: Ledger, R: Wait>(
@@ -100,8 +100,7 @@ impl Client {
         Ok(frame)
     }
 
-    /// Binds an address to a fresh page in the frame that is given. The number of the page stands in the receipt. The flags
-    /// must not have DIRTY.
+    /// Makes an address name a fresh page in a given frame. The receipt has the number of the page. The flags must not have DIRTY.
     ///
     /// The zone refuses as Range, JournalFull, Occupied or NoFrame.
     pub fn map_at<K: Shape, I: Ledger, M: Ledger, B: Ledger, R: Wait>(
@@ -125,7 +124,7 @@ impl Client {
         Ok(())
     }
 
-    /// Lets an alias name the page of an address too.
+    /// Makes an alias name the page of an address too.
     ///
     /// The zone refuses as JournalFull, Unmapped, Occupied or ShareFull.
     pub fn share<K: Shape, I: Ledger, M: Ledger, B: Ledger, R: Wait>(
@@ -156,7 +155,7 @@ impl Client {
         Ok(())
     }
 
-    /// Lets an address name no page any more.
+    /// Makes an address name no page any more.
     ///
     /// The zone refuses as JournalFull, Unmapped or Pinned.
     pub fn unmap<K: Shape, I: Ledger, M: Ledger, B: Ledger, R: Wait>(
@@ -250,7 +249,7 @@ impl Client {
         Ok(())
     }
 
-    /// Pins the page that an address names, also while it is on its way.
+    /// Pins the page that an address names, also while the page is moving.
     ///
     /// The zone refuses as JournalFull, Unmapped or PinFull.
     pub fn pin<K: Shape, I: Ledger, M: Ledger, B: Ledger, R: Wait>(
@@ -277,7 +276,7 @@ impl Client {
         Ok(())
     }
 
-    /// Takes a pin off the page that an address names, also while it is on its way.
+    /// Takes a pin off the page that an address names, also while the page is moving.
     ///
     /// The zone refuses as JournalFull, Unmapped or NotPinned.
     pub fn unpin<K: Shape, I: Ledger, M: Ledger, B: Ledger, R: Wait>(

@@ -11,13 +11,13 @@ use zone_core::ZoneError;
 pub enum ClientError {
     #[error("there is no memory for the receipt")]
     Memory,
-    /// The zone refused the call, never because a page is on its way.
+    /// The zone refused the call. This is never because a page is moving.
     #[error("{0}")]
     Zone(ZoneError),
 }
 
 impl ClientError {
-    /// Its number: 31, or the zone's.
+    /// The number of the error: 31 for Memory, or that of the zone's refusal.
     pub fn number(&self) -> u16
         ensures { result ≡ number_of self.now }
     {

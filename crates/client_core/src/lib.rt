@@ -1,6 +1,6 @@
 //! Clients of a shared zone, each with a receipt for every call that was accepted, and the comparison of receipts with a journal.
 //!
-//! A call that meets a page on its way waits until the move has ended. Contracts see a client as its number and its receipts.
+//! A call whose page is moving waits until the move has ended. Contracts see a client as its number and its receipts.
 #![tactic(auto)]
 
 mod access;

@@ -9,8 +9,8 @@ use std::sync::ledger::Ledger;
 use thiserror::Error;
 use zone_core::Zone;
 
-/// The first client whose receipts aren't its records of the journal, and the first index at which these differ or just one of
-/// the two lists has ended.
+/// The first client whose receipts aren't its records in the journal, and the first index at which the two lists differ or
+/// only one of them has ended.
 #[derive(Clone, Copy, Debug, PartialEq, Eq, Error)]
 #[error("the receipts of a client and its records differ")]
 pub struct Mismatch {
@@ -19,7 +19,7 @@ pub struct Mismatch {
 }
 
 impl Mismatch {
-    /// Its number as an error, 35.
+    /// The number of this error, 35.
     pub fn number(&self) -> u16
         ensures { result ≡ 35 }
     {
@@ -43,7 +43,7 @@ fn is_of(client: ClientNo, entry: &Record) -> bool
     }
 }
 
-/// Whether two records are one.
+/// Whether two records are the same.
 fn is_same(entry: &Record, other: &Record) -> bool
     ensures { IsTrue result ↔ (entry.now ≡ other.now) }
 {
@@ -57,7 +57,8 @@ fn has_at(list: &[Record], index: usize, entry: &Record) -> bool
     list.get(index).is_some_and(|found| is_same(found, entry))
 }
 
-/// The first index at which the records of a client and its receipts differ, or just one of the two lists has ended.
+/// The first index at which the records of a client and its receipts differ, or at which only one of the two lists has
+/// ended; none where they are the same.
 fn first_difference(journal: &Journal, client: &Client) -> Option<usize>
     ensures none { IfNone result (Agrees journal.now.records client.now) }
     ensures some { IfSome result (IsFirstDifference (records_of client.now.number journal.now.records) client.now.receipts) }
@@ -82,8 +83,8 @@ fn first_difference(journal: &Journal, client: &Client) -> Option<usize>
     }
 }
 
-/// Compares the receipts of each client with its records in the zone's journal: both are to be the same, in their order. It takes no
-/// memory, and walks over the journal once for each client.
+/// Compares the receipts of each client with its records in the zone's journal: both have to be the same, in the same order. It
+/// takes no memory, and walks over the journal once for each client.
 pub fn settle_clients<I: Ledger, M: Ledger, B: Ledger>(
     zone: &Zone<I, M, B>,
     clients: &[Client],

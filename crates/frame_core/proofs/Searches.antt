@@ -27,7 +27,7 @@ none_right : {A : Type 0} (o r : Option A) → option_or o r ≡ None → r ≡ 
 none_right None r e = e
 none_right (Some x) r e = cc
 
--- k is below n, or is n
+-- a number below suc n is below n, or is n
 below_suc : (k n : ℕ) → k < suc n → (k < n) ⊎ (k ≡ n)
 below_suc k n h = elim (leb_tells n k) [ inl at ↦ let same : k ≡ n = omega (arith, at.1) in inr same | inr under ↦ inl under.1 ]
 
@@ -74,7 +74,7 @@ module _ (p : ℕ → Bool) where
   lowest_some zero k e = cc
   lowest_some (suc n) k e = lowest_next p n k (lowest p n) (p n) refl (λ at. lowest_some n k at) e
 
-  -- below the lowest that passes none does
+  -- no number below the lowest one that passes passes
   pub lowest_before : (n k q : ℕ) → lowest p n ≡ Some k → q < k → p q ≡ false
   lowest_before zero k q e h = cc
   lowest_before (suc n) k q e h = before_next p n k q (lowest p n) (p n) e h (λ at. lowest_before n k q at h) (λ at l. no_lowest n q at l)
@@ -128,7 +128,7 @@ module _ (p : ℕ → Bool) where
   count_most zero = omega arith
   count_most (suc n) = omega (arith, one_most (p n), count_most n)
 
-  -- where the count is the bound each number passes
+  -- where the count of the numbers that pass is n, each number below n passes
   pub count_full : (n k : ℕ) → count_below p n ≡ n → k < n → p k ≡ true
   count_full zero k full h = absurd (omega arith)
   count_full (suc n) k full h =
@@ -167,7 +167,7 @@ module _ (p r : ℕ → Bool) where
             omega arith
       ]
 
-  -- a run of numbers, of which none passed, passes as well
+  -- the numbers first to first + m - 1 fail p and pass r, and p and r agree on each other number below n
   abbrev pub IsRun : ℕ → ℕ → ℕ → Type 0
   IsRun n first m = ((k : ℕ) → first ≤ k → k < first + m → p k ≡ false) × ((k : ℕ) → first ≤ k → k < first + m → r k ≡ true) × ((k : ℕ) → k < n → (k < first) ⊎ (first + m ≤ k) → r k ≡ p k)
 
@@ -192,7 +192,7 @@ module _ (p r : ℕ → Bool) where
         let none : one_if (p n) ≡ 0 = ap one_if (run.0 n (omega arith) (omega arith)) in
         omega (arith, rest m (omega arith) (run_to n first m at run))
 
-  -- the same but that one number more may pass
+  -- whether some number passes stays the same where one more number may pass
   pub some_more : (n k : ℕ) → k < n → p k ≡ false → ((q : ℕ) → q ≢ k → r q ≡ p q) → some_below r n ≡ (some_below p n || r k)
   some_more zero k h fails others = absurd (omega arith)
   some_more (suc n) k h fails others =
@@ -209,7 +209,7 @@ module _ (f g : ℕ → ℕ) where
   sum_same zero same = refl
   sum_same (suc n) same = λ i. same n (omega arith) i + sum_same n (λ k h. same k (omega arith)) i
 
-  -- one more at one number is one more in all
+  -- a sum is one more where one of its terms is one more
   pub sum_more : (n k : ℕ) → k < n → g k ≡ f k + 1 → ((q : ℕ) → q ≢ k → f q ≡ g q) → sum_below g n ≡ sum_below f n + 1
   sum_more zero k h more others = absurd (omega arith)
   sum_more (suc n) k h more others =
@@ -267,7 +267,7 @@ module _ (p r : ℕ → ℕ → Bool) where
   unfolding count_pairs
   pairs_same_below m n same = sum_same _ _ m (λ i h. count_same (p i) (r i) n (λ j l. same i j h l))
 
-  -- one more pair that passes
+  -- a count of pairs is one more where one more pair passes
   pub pairs_more : (m n i j : ℕ) → i < m → j < n → p i j ≡ false → r i j ≡ true → ((k l : ℕ) → (k ≢ i) ⊎ (l ≢ j) → r k l ≡ p k l) → count_pairs r m n ≡ count_pairs p m n + 1
   unfolding count_pairs
   pairs_more m n i j h l fails passes others =

@@ -3,7 +3,7 @@ ghost use Rattle.frame_core.specs.PageFlags.{is_unmovable, is_dirty, page_flags}
 
 use bitflags::{Flag, Flags, bitflag_items};
 
-/// What is noted of a page. UNMOVABLE is set where it was mapped so, and DIRTY once it was stored to.
+/// What a zone notes of a page. UNMOVABLE is set where the page was mapped as unmovable, and DIRTY once it was stored to.
 #[derive(Clone, Copy, Debug, PartialEq, Eq)]
 pub struct PageFlags(u8);
 

@@ -2,7 +2,7 @@ ghost use Rattle.std.specs.Prelude.{◌≡◌, ℕ, ◌<◌, ◌≤◌, ◌↔�
 
 use std::marker::Model;
 
-/// The number of a hand, 1 to 4: who takes pages on their way from a zone, copies them and brings them back.
+/// The number of a hand, 1 to 4. A hand takes isolated pages from a zone, copies them and brings them back.
 #[derive(Clone, Copy, Debug, PartialEq, Eq, PartialOrd, Ord, Hash)]
 pub struct HandNo {
     hand: u8,

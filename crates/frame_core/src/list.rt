@@ -2,7 +2,7 @@ ghost use Rattle.std.specs.Prelude.{◌≡◌, replicate, vec_capacity, IfOk};
 
 use std::alloc::{AllocError, Global};
 
-/// A list of copies, in memory for just so many.
+/// A list of this many copies of a value, with a capacity of exactly as many. The error is for want of memory.
 pub fn filled<T: Copy>(alloc: Global, value: T, count: usize) -> Result<Vec<T>, AllocError>
     ensures items { IfOk result (λ list. list.items ≡ replicate count value) }
     ensures capacity { IfOk result (λ list. vec_capacity list ≡ count) }

@@ -210,7 +210,7 @@ impl VPage {
     }
 }
 
-/// A virtual page of a space: what a client names a page by.
+/// A virtual page of a space. A client names a page by it.
 #[derive(Clone, Copy, Debug, Default, PartialEq, Eq, PartialOrd, Ord, Hash)]
 pub struct Address {
     pub space: SpaceNo,

@@ -8,11 +8,11 @@ pub type Serial = u32;
 pub enum FrameState {
     /// Nothing: a page or a block can have it.
     Free,
-    /// A page that isn't on its way.
+    /// A page that isn't moving.
     Holds(PageNo),
-    /// The frame that a page on its way comes from. It keeps the page's words until the move is committed.
+    /// The frame that an isolated page comes from. It keeps the page's words until the move is committed.
     Source(Serial),
-    /// The frame that a page on its way goes to.
+    /// The frame that an isolated page goes to.
     Target(Serial),
     /// A part of a block that was handed out.
     Huge,

@@ -23,7 +23,7 @@ Sent end_of made all number v = v.sends ≡ true → (end_of v.sender ≡ number
 abbrev Taken : ℕ → List Message → ℕ → ℕ → Account → Type 0
 Taken taker came made number v = v.takes ≡ true → (number ≡ taker) × (v.came ≡ came) × (v.made ≡ made)
 
--- the queue is open, and its one end is the taker
+-- the rule holds of a queue that was just opened, whose one end is the taker
 pub opens : InTurn [] (taker_account ∷ [])
 opens = record {
   came = [];
@@ -108,7 +108,7 @@ off number v takes x queue ends r at =
       (refl, subst (λ n. sender_of x < n) (sym this.2) known),
     )
 
--- a new end stands behind all others
+-- a new end stands after all others
 at_end : (ends : List Account) (new v : Account) (number : ℕ) → get_elem? ends number ≢ some v → get_elem? (ends ++ new ∷ []) number ≡ some v → number ≡ length ends
 at_end [] new v zero old at = refl
 at_end [] new v (suc number) old at = absurd (some-ne-none v (sym at))
@@ -153,7 +153,7 @@ makes number v takes plain queue ends r at =
           (at_snoc ws new u j e);
     }
 
--- the taker takes in what a sender knows
+-- the taker gets the knowledge of a sender
 pub folds : (number : ℕ) (v : Account) (other : ℕ) (u : Account) → v.takes ≡ true → u.sends ≡ true → Merges InTurn number v other u (folded v u) nothing_known
 folds number v other u takes sends queue ends r at apart at_other =
     let both : Account = folded v u in
@@ -181,7 +181,7 @@ folds number v other u takes sends queue ends r at apart at_other =
           (λ j y away e. each_set (Taken r.taker r.came r.made) ends number both (λ _. this) (λ i z apart_i e_i. r.taken i z e_i) j y e);
     }
 
--- who knows what came off and what a sender sent can compare them
+-- an end that knows what was received and what a sender sent can compare them
 pub tells : (number : ℕ) (v : Account) → v.takes ≡ true → v.sends ≡ true → Learns InTurn number v (Tells v)
 tells number v takes sends queue ends r at =
     let this = r.taken number v at takes in

@@ -1,4 +1,4 @@
--- What was answered of what came off a queue, where the last of it is still in hand.
+-- Which of the pages received were answered, where the last of them are still in hand.
 use Rattle.std.proofs.Common.{◌≡◌, ◌-◌, List, [], ◌∷◌, ◌++◌, length, take, Some, None, Option, MatchOption, IfSome, ap, sym, ◌∙◌, append_assoc, append-nil, length-append, arith}
 use Rattle.std.specs.Option.{option_to_list}
 use Rattle.std.proofs.Math.Seq.{take-append_seam}
@@ -15,11 +15,11 @@ before_hand_is before in_hand =
 pub one_taken : (before : List OnItsWay) (p : OnItsWay) (rest : List OnItsWay) → before_hand (before ++ p ∷ rest) rest ≡ before ++ p ∷ []
 one_taken before p rest = ap (λ l. before_hand l rest) (sym (append_assoc before (p ∷ []) rest)) ∙ before_hand_is (before ++ p ∷ []) rest
 
--- with an empty hand all was answered
+-- with an empty hand all pages received were answered
 pub all_taken_is : (came : List OnItsWay) → before_hand came [] ≡ came
 all_taken_is came = ap (λ l. before_hand l []) (sym (append-nil came)) ∙ before_hand_is came []
 
--- what came off is what was answered, with the next of those in hand, and what is left
+-- the pages received are those answered, the next of those in hand, and the rest
 pub hand_step : (came before in_hand rest : List OnItsWay) (next : Option OnItsWay) → came ≡ before ++ in_hand → MatchOption next ((in_hand ≡ []) × (rest ≡ [])) (λ p. in_hand ≡ p ∷ rest)
     → came ≡ (before ++ option_to_list next) ++ rest
 hand_step came before in_hand rest None is none =
@@ -31,7 +31,7 @@ pub empty_step : (in_hand rest : List OnItsWay) (next : Option OnItsWay) → in_
 empty_step in_hand rest None empty none = none.1
 empty_step in_hand rest (Some p) empty first = absurd (cc)
 
--- the next of those in hand was answered
+-- the next of the pages in hand was answered
 pub next_taken : (came before in_hand rest : List OnItsWay) (next : Option OnItsWay) → came ≡ before ++ in_hand → MatchOption next ((in_hand ≡ []) × (rest ≡ [])) (λ p. in_hand ≡ p ∷ rest)
     → IfSome next (λ p. before_hand came rest ≡ before_hand came in_hand ++ p ∷ [])
 next_taken came before in_hand rest None is none = tt

@@ -1,4 +1,4 @@
--- The messages of one sender among all.
+-- The messages of one sender among those of all.
 use Rattle.std.proofs.Common.{◌≡◌, ◌≢◌, ℕ, zero, suc, ◌+◌, ◌<◌, Bool, true, false, true≢false, List, [], ◌∷◌, ◌++◌, map, sym, refl, ap, ◌∙◌, ◌≤◌, append-nil, arith, cond}
 use Rattle.std.specs.Prelude.{◌==◌, ◌||◌, ◌&&◌, take}
 use Rattle.std.specs.List.{list_all, range_with_len}
@@ -24,7 +24,7 @@ messages_own sender x own = ap (λ (b : Bool). cond b (x ∷ []) []) (eq-eqb (se
 pub messages_other : (sender : ℕ) (x : Message) → sender_of x ≢ sender → messages_of sender (x ∷ []) ≡ []
 messages_other sender x other = ap (λ (b : Bool). cond b (x ∷ []) []) (ne_eqb (sender_of x) sender other)
 
--- nothing of a sender means that no message is its own
+-- where no message is the sender's, each message has another sender
 pub nobody_sent : (sender : ℕ) (before : List Message) (x : Message) (rest : List Message) → messages_of sender (before ++ x ∷ rest) ≡ [] → sender_of x ≢ sender
 nobody_sent sender before x rest none own = nothing none
   where
@@ -36,7 +36,7 @@ nobody_sent sender before x rest none own = nothing none
         not_nil [] ys h = cc
         not_nil (z ∷ xs) ys h = cc
 
--- a handful more, of a sender that put no mark
+-- a sender that put no mark sent one handful more
 pub all_sent-copies : (v : Account) (copies : Handful) → v.marked ≡ false → all_sent v ++ Copies v.sender copies ∷ [] ≡ all_sent (record v { sent = v.sent ++ copies ∷ [] })
 all_sent-copies v copies fresh =
     let Marked : List Handful → Bool → List Message = λ sent b. map (Copies v.sender) sent ++ cond b (Mark v.sender ∷ []) [] in
@@ -45,7 +45,7 @@ all_sent-copies v copies fresh =
     ∙ sym (append-nil (map (Copies v.sender) (v.sent ++ copies ∷ [])))
     ∙ sym (ap (Marked (v.sent ++ copies ∷ [])) fresh)
 
--- its mark
+-- a sender that put no mark put it
 pub all_sent-mark : (v : Account) → v.marked ≡ false → all_sent v ++ Mark v.sender ∷ [] ≡ all_sent (record v { marked = true })
 all_sent-mark v fresh =
     ap (λ (b : Bool). (map (Copies v.sender) v.sent ++ cond b (Mark v.sender ∷ []) []) ++ Mark v.sender ∷ []) fresh
@@ -74,13 +74,13 @@ all_marks-copies other copies came (sender ∷ senders) = and_both (marks-copies
     and_both : {a b c d : Bool} → a ≡ b → c ≡ d → (a && c) ≡ (b && d)
     and_both {a} {b} {c} {d} e f = ap (λ x. x && c) e ∙ ap (λ x. b && x) f
 
--- the last mark that was waited for comes off with no copies
+-- the last mark that was waited for is received with no copies
 pub last_alone : (v w : Account) (m : Message) (senders : List ℕ) → Comes v m w → list_all (has_mark v.came) senders ≡ false → list_all (has_mark w.came) senders ≡ true → copies_in_one m ≡ []
 last_alone v w (Copies sender copies) senders comes going ended =
     absurd (true≢false (sym ended ∙ ap (λ (u : Account). list_all (has_mark u.came) senders) comes.0 ∙ all_marks-copies sender copies v.came senders ∙ going))
 last_alone v w (Mark sender) senders comes going ended = refl
 
--- the marks of the first senders among four
+-- the marks of the first senders of four
 pub marks_of_first : (came : List Message) (senders : ℕ) → senders ≤ 4 → list_all (λ (m : Bool). m) (take senders (marks_of_four came)) ≡ list_all (has_mark came) (range_with_len 0 senders)
 marks_of_first came zero few = refl
 marks_of_first came (suc zero) few = refl
@@ -109,7 +109,7 @@ nil_front : (xs ys : List Message) → xs ++ ys ≡ [] → xs ≡ []
 nil_front [] ys e = refl
 nil_front (x ∷ xs) ys e = absurd (cc)
 
--- what came off up to the mark is all
+-- a sender's messages received up to its mark are all that it sent
 up_to_mark : (sender : ℕ) (sent : List Handful) (marked : Bool) (came queue : List Message)
     → came ++ queue ≡ map (Copies sender) sent ++ cond marked (Mark sender ∷ []) [] → has_mark came sender ≡ true → copies_in came ≡ pages_of sent
 up_to_mark sender [] true [] queue is has = absurd (cc)
@@ -126,14 +126,14 @@ up_to_mark sender (c ∷ sent) marked (x ∷ came) queue is has =
     let has_rest : has_mark came sender ≡ true = ap (λ m. is_mark_of sender m || has_mark came sender) (sym first) ∙ has in
     ap (λ m. copies_in_one m ++ copies_in came) first ∙ ap (λ l. c.items ++ l) (up_to_mark sender sent marked came queue rest has_rest)
 
--- once a sender's mark came off, so did all its copies
+-- once a sender's mark was received, so were all its copies
 pub all_came : (v : Account) (came queue : List Message) → messages_of v.sender (came ++ queue) ≡ all_sent v → has_mark came v.sender ≡ true → copies_of v.sender came ≡ pages_of v.sent
 all_came v came queue is has =
     up_to_mark v.sender v.sent v.marked (messages_of v.sender came) (messages_of v.sender queue)
     (sym (messages-append v.sender came queue) ∙ is)
     (mark_kept v.sender came ∙ has)
 
--- each of the first numbers passes
+-- where all numbers of a run pass, each of them does
 pub each_passes : (test : ℕ → Bool) (first count k : ℕ) → list_all test (range_with_len first count) ≡ true → k < count → test (first + k) ≡ true
 each_passes test first count k all low =
     ap test (sym (get_or-range_with_len first count k 0 low))

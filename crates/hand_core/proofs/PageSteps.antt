@@ -37,20 +37,20 @@ queued_mark queue waiting marks is =
     ∙ append_assoc (map Pages waiting) (replicate marks Mark) (Mark ∷ [])
     ∙ ap (λ l. map Pages waiting ++ l) (replicate_more marks Mark)
 
--- the pages of one handful more
+-- the pages of some handfuls and one more
 one_more : (waiting : List Handful) (h : Handful) → pages_of (waiting ++ h ∷ []) ≡ pages_of waiting ++ h.items
 one_more waiting h =
     flat_map-append (λ (g : Handful). g.items) waiting (h ∷ [])
     ∙ ap (λ l. pages_of waiting ++ l) (append-nil h.items)
 
--- a handful in front is the first that waits
+-- a handful at the front of the queue is the first one that waits
 front_pages : (waiting : List Handful) (marks : ℕ) (h : Handful) (queue : List Note) → Pages h ∷ queue ≡ queue_of waiting marks
     → (rest : List Handful) × (waiting ≡ h ∷ rest) × (queue ≡ queue_of rest marks)
 front_pages [] zero h queue is = absurd (cc)
 front_pages [] (suc marks) h queue is = absurd (cc)
 front_pages (g ∷ waiting) marks h queue is = (waiting, (cc), (cc))
 
--- behind an end mark there are only end marks
+-- after an end mark there are only end marks
 front_mark : (waiting : List Handful) (marks : ℕ) (queue : List Note) → Mark ∷ queue ≡ queue_of waiting marks
     → (rest : ℕ) × (waiting ≡ []) × (marks ≡ suc rest) × (queue ≡ queue_of [] rest)
 front_mark [] zero queue is = absurd (cc)
@@ -66,14 +66,14 @@ Spent number v = v.shares ≡ 0 → (v.taken ≡ []) × (v.ended ≡ 0)
 abbrev Rises : ℕ → Known → Type 0
 Rises number v = v.gives ≡ false → IsRising v.taken
 
--- the giver of one hand-over is one end
+-- a hand-over has one giver
 other_giver : (giver : ℕ) (given given_new : List OnItsWay) (marks marks_new number other : ℕ) (u : Known) → number ≡ giver → other ≢ number → Gave giver given marks other u → Gave giver given_new marks_new other u
 other_giver giver given given_new marks marks_new number other u this apart h gives = absurd (apart ((h gives).0 ∙ sym this))
 
 same_giver : (giver : ℕ) (given given_new : List OnItsWay) (marks marks_new other : ℕ) (u : Known) → given ≡ given_new → marks ≡ marks_new → Gave giver given marks other u → Gave giver given_new marks_new other u
 same_giver giver given given_new marks marks_new other u pages count h gives = ((h gives).0, (h gives).1 ∙ pages, (h gives).2 ∙ count)
 
--- the queue is open, and its one end is the giver
+-- the rule holds of a queue that was just opened, whose one end is the giver
 pub opens : InOrder [] (giver_knows ∷ [])
 opens =
     let only : (holds : ℕ → Known → Type 0) → holds 0 giver_knows → Each (giver_knows ∷ []) holds = λ holds h. each_set holds (giver_knows ∷ []) 0 giver_knows h (λ j u other at. absurd (none j u other at)) in
@@ -160,7 +160,7 @@ mark_in room number v gives queue ends short r at =
       refl,
     )
 
--- a handful comes off the front
+-- a handful is received from the front
 pages_off : (number : ℕ) (v : Known) (h : Handful) (queue : List Note) (ends : List Known) → v.gives ≡ false → 0 < v.shares → InOrder (Pages h ∷ queue) ends → get_elem? ends number ≡ some v
     → InOrder queue (set ends number (after_take v (Pages h))) × IsRising (v.taken ++ h.items)
 pages_off number v h queue ends plain share r at =
@@ -204,7 +204,7 @@ pages_off number v h queue ends plain share r at =
     nothing : {rest : List Handful} → h ∷ rest ≡ [] → ⊥
     nothing e = cc
 
--- an end mark comes off the front
+-- an end mark is received from the front
 mark_off : (number : ℕ) (v : Known) (queue : List Note) (ends : List Known) → v.gives ≡ false → 0 < v.shares → InOrder (Mark ∷ queue) ends → get_elem? ends number ≡ some v
     → InOrder queue (set ends number (after_take v Mark)) × IsRising v.taken
 mark_off number v queue ends plain share r at =
@@ -236,7 +236,7 @@ mark_off number v queue ends plain share r at =
       r.rising number v at plain,
     )
 
--- a taker takes what stands at the front
+-- a taker takes the message at the front
 pub off : (number : ℕ) (v : Known) → v.gives ≡ false → 0 < v.shares → Pops InOrder number v (Takes v)
 off number v plain share (Pages h) queue ends r at = let step = pages_off number v h queue ends plain share r at in (after_take v (Pages h), step.0, (refl, step.1))
 off number v plain share Mark queue ends r at = let step = mark_off number v queue ends plain share r at in (after_take v Mark, step.0, (refl, step.1))
@@ -300,7 +300,7 @@ joins number v other u gives share queue ends r at apart at_other =
       spent = every Spent (λ none. absurd (omega arith)) (λ none. (refl, refl)) r.spent;
     }
 
--- who has every share knows the whole
+-- an end that has every share knows all lists
 pub settles : (number : ℕ) (v : Known) → v.gives ≡ true → v.shares ≡ 1024 → 0 < v.ended → v.ended ≡ v.marks → Learns InOrder number v (Settles v)
 settles number v gives every has_ended all_marks queue ends r at =
     let this = r.given number v at gives in

@@ -11,7 +11,7 @@ use Rattle.std.proofs.lemmas.List.Elements.{All-map, All-take, All-drop, All-con
 use Rattle.word_core.specs.Page.{OnItsWay}
 use Rattle.word_core.specs.Serials.{serials_of, HasSerialsFrom, IsRising}
 
--- one number more
+-- the numbers from a first one on, with one more
 range_with_len-suc : (first count : ℕ) → range_with_len first (suc count) ≡ range_with_len first count ++ (first + count) ∷ []
 range_with_len-suc first zero = ap (λ n. n ∷ []) (let e : first ≡ first + 0 = omega arith in e)
 range_with_len-suc first (suc count) =
@@ -24,7 +24,7 @@ tail_of a b xs ys e = cc
 head_of : (a b : ℕ) (xs ys : List ℕ) → a ∷ xs ≡ b ∷ ys → a ≡ b
 head_of a b xs ys e = cc
 
--- one page more
+-- one more page with the next serial
 pub serials-snoc : (first : ℕ) (pages : List OnItsWay) (p : OnItsWay) → HasSerialsFrom first pages → p.serial ≡ first + length pages → HasSerialsFrom first (pages ++ p ∷ [])
 serials-snoc first pages p h next =
     let longer : length (pages ++ p ∷ []) ≡ suc (length pages) = let e = length-append pages (p ∷ []) in omega arith in
@@ -34,7 +34,7 @@ serials-snoc first pages p h next =
     ∙ sym (range_with_len-suc first (length pages))
     ∙ ap (λ n. range_with_len first n) (sym longer)
 
--- pages behind them
+-- more pages with the next serials
 pub serials-append : (first : ℕ) (pages more : List OnItsWay) → HasSerialsFrom first pages → HasSerialsFrom (first + length pages) more → HasSerialsFrom first (pages ++ more)
 serials-append first [] more h next = subst (λ n. HasSerialsFrom n more) (let e : first + 0 ≡ first = omega arith in e) next
 serials-append first (p ∷ pages) more h next =
@@ -44,7 +44,7 @@ serials-append first (p ∷ pages) more h next =
     let same : p.serial ≡ first = head_of p.serial first (serials_of pages) (range_with_len (first + 1) (length pages)) h in
     ap (λ l. p.serial ∷ l) inner ∙ ap (λ n. n ∷ range_with_len (first + 1) (length (pages ++ more))) same
 
--- the pages in front
+-- the pages at the front of a list have serials in order
 pub serials_front : (first : ℕ) (pages rest : List OnItsWay) → HasSerialsFrom first (pages ++ rest) → HasSerialsFrom first pages
 serials_front first [] rest h = refl
 serials_front first (p ∷ pages) rest h =
@@ -52,20 +52,20 @@ serials_front first (p ∷ pages) rest h =
     let same : p.serial ≡ first = head_of p.serial first (serials_of (pages ++ rest)) (range_with_len (first + 1) (length (pages ++ rest))) h in
     ap (λ l. p.serial ∷ l) inner ∙ ap (λ n. n ∷ range_with_len (first + 1) (length pages)) same
 
--- those behind them
+-- the pages after these have the serials that come next
 pub serials_behind : (first : ℕ) (pages rest : List OnItsWay) → HasSerialsFrom first (pages ++ rest) → HasSerialsFrom (first + length pages) rest
 serials_behind first [] rest h = subst (λ n. HasSerialsFrom n rest) (let e : first ≡ first + 0 = omega arith in e) h
 serials_behind first (p ∷ pages) rest h =
     subst (λ n. HasSerialsFrom n rest) (let e : first + 1 + length pages ≡ first + suc (length pages) = omega arith in e)
     (serials_behind (first + 1) pages rest (tail_of p.serial first (serials_of (pages ++ rest)) (range_with_len (first + 1) (length (pages ++ rest))) h))
 
--- the page behind them
+-- the page after some pages has the serial that comes next
 pub serial_at : (first : ℕ) (pages : List OnItsWay) (p : OnItsWay) (rest : List OnItsWay) → HasSerialsFrom first (pages ++ p ∷ rest) → p.serial ≡ first + length pages
 serial_at first [] p rest h = let e = head_of p.serial first (serials_of rest) (range_with_len (first + 1) (length rest)) h in omega arith
 serial_at first (q ∷ pages) p rest h =
     let e = serial_at (first + 1) pages p rest (tail_of q.serial first (serials_of (pages ++ p ∷ rest)) (range_with_len (first + 1) (length (pages ++ p ∷ rest))) h) in omega arith
 
--- the page at one place
+-- the serial of the page at an index
 pub serial_of : (first : ℕ) (pages : List OnItsWay) (place : ℕ) (p : OnItsWay) → HasSerialsFrom first pages → Some p ≡ slice_get pages place → (p.serial ≡ first + place) × (place < length pages)
 serial_of first [] place p h is = absurd (cc)
 serial_of first (q ∷ pages) zero p h is =
@@ -75,7 +75,7 @@ serial_of first (q ∷ pages) zero p h is =
 serial_of first (q ∷ pages) (suc place) p h is =
     let e = serial_of (first + 1) pages place p (tail_of q.serial first (serials_of pages) (range_with_len (first + 1) (length pages)) h) is in (omega arith, omega arith)
 
--- no page has a serial that a later one will have
+-- each page has a lower serial than those that come next
 pub serials_below : (first : ℕ) (pages : List OnItsWay) → HasSerialsFrom first pages → All (λ (q : OnItsWay). q.serial < first + length pages) pages
 serials_below first [] h k d lt = absurd (omega arith)
 serials_below first (p ∷ pages) h zero d lt =
@@ -89,7 +89,7 @@ all_front P xs ys h = subst (All P) (take-append_seam xs ys) (All-take P (length
 pub all_back : {A : Type 0} (P : A → Type 0) (xs ys : List A) → All P (xs ++ ys) → All P ys
 all_back P xs ys h = subst (All P) (drop-append_seam xs ys) (All-drop P (length xs) (xs ++ ys) h)
 
--- a number above all others at the end
+-- a list that rises still does with a number above all others at its end
 increasing-snoc : (xs : List ℕ) (y : ℕ) → IsStrictlyIncreasing xs → All (λ x. x < y) xs → IsStrictlyIncreasing (xs ++ y ∷ [])
 increasing-snoc xs y rises below k lt =
     let longer = length-append xs (y ∷ []) in
@@ -109,7 +109,7 @@ rising-snoc pages p rises below =
     subst IsStrictlyIncreasing (sym (map-append (λ (q : OnItsWay). q.serial) pages (p ∷ [])))
     (increasing-snoc (serials_of pages) p.serial rises (All-map (λ n. n < p.serial) (λ (q : OnItsWay). q.serial) pages below))
 
--- pages with the next serials
+-- a list that rises still does with the pages of the next serials at its end
 pub rising-append : (pages : List OnItsWay) (first : ℕ) (more : List OnItsWay) → IsRising pages → All (λ (q : OnItsWay). q.serial < first) pages → HasSerialsFrom first more → IsRising (pages ++ more)
 rising-append pages first [] rises below h = subst IsRising (sym (append-nil pages)) rises
 rising-append pages first (p ∷ more) rises below h =
@@ -123,7 +123,7 @@ rising-append pages first (p ∷ more) rises below h =
     (All-append (Below (first + 1)) pages (p ∷ []) wider this)
     (tail_of p.serial first (serials_of more) (range_with_len (first + 1) (length more)) h))
 
--- the pages in front of others rise too
+-- the front of a list that rises does so too
 pub rising_front : (pages more : List OnItsWay) → IsRising (pages ++ more) → IsRising pages
 rising_front pages more rises =
     front (serials_of pages) (serials_of more) (subst IsStrictlyIncreasing (map-append (λ (q : OnItsWay). q.serial) pages more) rises)

@@ -13,7 +13,7 @@ use Rattle.hand_core.proofs.Serials.{all_front, all_back}
 abbrev Same : List OnItsWay → List OnItsWay → Type 0
 Same xs ys = IsPermutation xs ys
 
--- equal lists are the same pages
+-- equal lists have the same pages
 pub same_is : (xs ys : List OnItsWay) → xs ≡ ys → IsPermutation xs ys
 same_is xs ys e = subst (λ l. IsPermutation xs l) e (IsPermutation-refl xs)
 
@@ -30,7 +30,7 @@ pub total_new : (f : Known → ℕ) (ends : List Known) (new : Known) → total 
 total_new f [] new = omega arith
 total_new f (x ∷ ends) new = let h = total_new f ends new in omega arith
 
--- no end has more than all together
+-- no end has more than all ends together
 total_at_most : (f : Known → ℕ) (ends : List Known) (number : ℕ) (v : Known) → get_elem? ends number ≡ some v → f v ≤ total f ends
 total_at_most f [] number v at = absurd (some-ne-none v (sym at))
 total_at_most f (x ∷ ends) zero v at = let e : f x ≡ f v = ap f (some-injective x v at) in omega arith
@@ -42,7 +42,7 @@ total_nobody f (x ∷ ends) none idle =
     let a = idle 0 x refl (omega arith) in
     let b = total_nobody f ends (omega arith) (λ j u at. idle (suc j) u at) in omega arith
 
--- where one end has every share, what is nothing for the others is all there is
+-- where one end has every share, and an end with none has nothing, the total is that end's
 pub total_alone : (f : Known → ℕ) (ends : List Known) (number : ℕ) (v : Known) → get_elem? ends number ≡ some v → total (λ u. u.shares) ends ≡ v.shares
     → Each ends (λ _ u. u.shares ≡ 0 → f u ≡ 0) → total f ends ≡ f v
 total_alone f [] number v at whole idle = absurd (some-ne-none v (sym at))
@@ -56,7 +56,7 @@ total_alone f (x ∷ ends) (suc number) v at whole idle =
     let first : f x ≡ 0 = idle 0 x refl (omega arith) in
     let rest = total_alone f ends number v at (omega arith) (λ j u at. idle (suc j) u at) in omega arith
 
--- an end's step that takes nothing
+-- an end's step that takes no page
 pub taken_same : (ends : List Known) (number : ℕ) (v w : Known) → get_elem? ends number ≡ some v → w.taken ≡ v.taken → all_taken (set ends number w) ≡ all_taken ends
 taken_same [] number v w at e = absurd (some-ne-none v (sym at))
 taken_same (x ∷ ends) zero v w at e = ap (λ l. l ++ all_taken ends) (e ∙ ap (λ (u : Known). u.taken) (sym (some-injective x v at)))
@@ -127,7 +127,7 @@ taken_nobody [] none idle = refl
 taken_nobody (x ∷ ends) none idle =
     ap (λ l. l ++ all_taken ends) (idle 0 x refl (omega arith)) ∙ taken_nobody ends (omega arith) (λ j u at. idle (suc j) u at)
 
--- where one end has every share, its list has all that was taken
+-- where one end has every share, its list has all pages that were taken
 pub taken_alone : (ends : List Known) (number : ℕ) (v : Known) → get_elem? ends number ≡ some v → total (λ u. u.shares) ends ≡ v.shares
     → Each ends (λ _ u. u.shares ≡ 0 → u.taken ≡ []) → all_taken ends ≡ v.taken
 taken_alone [] number v at whole idle = absurd (some-ne-none v (sym at))
@@ -139,7 +139,7 @@ taken_alone (x ∷ ends) (suc number) v at whole idle =
     let most = total_at_most (λ (u : Known). u.shares) ends number v at in
     ap (λ l. l ++ all_taken ends) (idle 0 x refl (omega arith)) ∙ taken_alone ends number v at (omega arith) (λ j u at. idle (suc j) u at)
 
--- what holds of all pages that were taken holds of each end's
+-- what holds of all pages that were taken holds of those of each end
 pub all_of_end : (holds : OnItsWay → Type 0) (ends : List Known) (number : ℕ) (v : Known) → get_elem? ends number ≡ some v → All holds (all_taken ends) → All holds v.taken
 all_of_end holds [] number v at every = absurd (some-ne-none v (sym at))
 all_of_end holds (x ∷ ends) zero v at every = subst (λ (u : Known). All holds u.taken) (some-injective x v at) (all_front holds x.taken (all_taken ends) every)

@@ -9,11 +9,11 @@ use Rattle.hand_core.specs.Queue.{QueueName}
 use Rattle.hand_core.specs.CopyQueue.{messages_of}
 use Rattle.hand_core.specs.Handfuls.{before_hand}
 
--- which queue of copies an end belongs to
+-- the name of the queue of copies that an end belongs to
 abbrev pub Way : Type 0
 Way = QueueName Message
 
--- a sender: its number, the copies that it sent, in their order, and whether it put its mark
+-- a sender: its queue, its number, the copies that it sent, in their order, whether it put its mark, and whether it is closed
 pub record DoneSender : Type 0 where
   pub way : Way
   pub number : ℕ
@@ -21,8 +21,8 @@ pub record DoneSender : Type 0 where
   pub marked : Bool
   pub closed : Bool
 
--- the taker of the copies of so many senders, over a queue with so much room: what came off, in its order, each a handful of copies or
--- an end mark under the number of its sender, and the copies of the last handful that are to be taken next
+-- the taker of a queue of copies: its queue, the queue's room in handfuls, the number of senders, the messages received, in their
+-- order, and the copies of the last handful that no call has answered yet
 pub record DoneTaker : Type 0 where
   pub way : Way
   pub room : ℕ
@@ -30,16 +30,16 @@ pub record DoneTaker : Type 0 where
   pub came : List Message
   pub in_hand : List OnItsWay
 
--- the copies of a handful; a mark has none
+-- the copies of a message; a mark has none
 abbrev pub copies_in_one : Message → List OnItsWay
 copies_in_one (Copies sender copies) = copies.items
 copies_in_one (Mark sender) = []
 
--- the copies among what came off, in their order
+-- the copies of some messages, in their order
 abbrev pub copies_in : List Message → List OnItsWay
 copies_in came = flat_map copies_in_one came
 
--- the copies of one sender among what came off, in their order
+-- the copies of one sender among some messages, in their order
 abbrev pub copies_of : ℕ → List Message → List OnItsWay
 copies_of sender came = copies_in (messages_of sender came)
 
@@ -48,40 +48,40 @@ abbrev pub is_mark_of : ℕ → Message → Bool
 is_mark_of sender (Copies other copies) = false
 is_mark_of sender (Mark other) = other == sender
 
--- whether the sender's mark is among what came off
+-- whether the sender's mark is among some messages
 abbrev pub has_mark : List Message → ℕ → Bool
 has_mark came sender = list_any (is_mark_of sender) came
 
--- whether the mark of every sender came off
+-- whether the taker received the mark of every sender
 abbrev pub has_ended : DoneTaker → Bool
 has_ended t = list_all (has_mark t.came) (range_with_len 0 t.senders)
 
--- the copies of a sender that the queue between it and the taker holds: those that it sent and that didn't come off
+-- the copies of a sender that are in the queue: those that it sent and that the taker didn't receive
 abbrev pub queue_between : DoneSender → DoneTaker → List OnItsWay
 queue_between s t = drop (length (copies_of s.number t.came)) s.sent
 
--- the copies that were taken one by one, in their order
+-- the copies that calls of the taker answered, in their order
 abbrev pub copies_taken : DoneTaker → List OnItsWay
 copies_taken t = before_hand (copies_in t.came) t.in_hand
 
--- the copy that a call of the taker answers, if it answers one
+-- the copy that an answer of the taker has, if it has one
 abbrev pub copy_answered : Came → List OnItsWay
 copy_answered (Came.Copy copy) = copy ∷ []
 copy_answered Came.End = []
 copy_answered Came.Gone = []
 
--- the end is answered once the mark of every sender came off, and not before, and then every copy was taken
+-- the answer is the end exactly where the mark of every sender was received, and then every copy was answered
 abbrev pub IsEndInTime : DoneTaker → Came → Type 0
 IsEndInTime t (Came.Copy copy) = has_ended t ≡ false
 IsEndInTime t Came.End = (has_ended t ≡ true) × (t.in_hand ≡ [])
 IsEndInTime t Came.Gone = has_ended t ≡ false
 
--- the copy that a try of the taker answers, if it answers one
+-- the copy that the answer of a try has, if it has one
 abbrev pub copy_tried : Option Came → List OnItsWay
 copy_tried None = []
 copy_tried (Some came) = copy_answered came
 
--- the end is answered in time there too: where nothing was there, a mark has yet to come
+-- the answer of a try is the end exactly where the mark of every sender was received; where nothing was there, a mark has yet to come
 abbrev pub IsTriedInTime : DoneTaker → Option Came → Type 0
 IsTriedInTime t None = has_ended t ≡ false
 IsTriedInTime t (Some came) = IsEndInTime t came

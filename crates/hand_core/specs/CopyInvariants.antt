@@ -1,4 +1,4 @@
--- What holds of the fields of a sender of copies, and of their taker.
+-- What holds of the fields of a sender of copies, and of the taker.
 use Rattle.std.specs.Prelude.{◌≡◌, ◌≤◌, true, false, Bool, List, [], ◌∷◌, ◌++◌}
 use Rattle.crossbeam_channel.specs.Claims.{view, IsSeatAt}
 use Rattle.crossbeam_channel.specs.Ends.{sends_on, receives_on}
@@ -15,11 +15,11 @@ pub record IsSending (s : sender.Inside) : Type 0 where
   pub sender : (view s.pass).sender ≡ s.number
   pub fresh : s.closed ≡ false → (view s.pass).marked ≡ false
 
--- for each of four senders whether its mark is among what came off
+-- for each of four senders whether its mark is among some messages
 abbrev pub marks_of_four : List Message → List Bool
 marks_of_four came = has_mark came 0 ∷ has_mark came 1 ∷ has_mark came 2 ∷ has_mark came 3 ∷ []
 
--- the taker's pass is a seat at its channel, it has noted whose marks came off, and the copies that came off end with those in hand
+-- the taker's pass is a seat at its channel, the fields say whose marks were received, and the copies received end with those in hand
 pub record IsReceiving (t : taker.Inside) : Type 0 where
   pub seat : IsSeatAt (receives_on t.from) t.pass
   pub takes : (view t.pass).takes ≡ true

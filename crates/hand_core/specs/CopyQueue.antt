@@ -6,7 +6,7 @@ use Rattle.hand_core.specs.declared.copy_queue.Account.{Account}
 use Rattle.hand_core.specs.Handfuls.{Handful}
 use Rattle.hand_core.specs.Queue.{Each}
 
--- what an end knows, part by part
+-- what an end knows, made from its parts
 abbrev pub account : Bool → ℕ → List Handful → Bool → Bool → ℕ → List Message → Account
 account sends sender sent marked takes made came = record { sends = sends; sender = sender; sent = sent; marked = marked; takes = takes; made = made; came = came }
 
@@ -18,7 +18,7 @@ taker_account = account false 0 [] false true 0 []
 abbrev pub sender_account : ℕ → Account
 sender_account sender = account true sender [] false false 0 []
 
--- whose copies or mark it is
+-- the number of a message's sender
 abbrev pub sender_of : Message → ℕ
 sender_of (Copies sender copies) = sender
 sender_of (Mark sender) = sender
@@ -27,50 +27,51 @@ sender_of (Mark sender) = sender
 abbrev pub messages_of : ℕ → List Message → List Message
 messages_of sender messages = filter (λ m. sender_of m == sender) messages
 
--- what a sender sent: its handfuls of copies in their order, and its mark behind them
+-- the messages of a sender that sent these handfuls: the handfuls in their order, and its mark after them if it put one
 abbrev pub sent_by : ℕ → List Handful → Bool → List Message
 sent_by sender handfuls marked = map (Copies sender) handfuls ++ (if marked then Mark sender ∷ [] else [])
 
--- all that an end sent
+-- all messages that an end sent
 abbrev pub all_sent : Account → List Message
 all_sent v = sent_by v.sender v.sent v.marked
 
--- what is left in the queue of what a sender sent, where these messages came off
+-- the messages of a sender that are in the queue where those in `came` were received: what it sent, without as many as
+-- are its own among these
 abbrev pub left_in_queue : ℕ → List Handful → Bool → List Message → List Message
 left_in_queue sender handfuls marked came = drop (length (messages_of sender came)) (sent_by sender handfuls marked)
 
--- The messages `came` came off, to the end with the number `taker`. So many senders were made, and each is one end.
+-- The messages `came` were received, by the end with the number `taker`. As many senders as `made` says were made, and each is one end.
 pub record InTurn (queue : List Message) (ends : List Account) : Type 0 where
   pub came : List Message
   pub taker : ℕ
   pub made : ℕ
   pub end_of : ℕ → ℕ
-  -- what came off and what the queue holds of each sender is all that it sent, in its order
+  -- of each sender, the messages received and then those in the queue are all that it sent, in its order
   pub sent : Each ends (λ number v. v.sends ≡ true → (end_of v.sender ≡ number) × (v.sender < made) × (messages_of v.sender (came ++ queue) ≡ all_sent v))
-  -- nobody else sends
+  -- no message is of anyone else
   pub others : (sender : ℕ) → made ≤ sender → messages_of sender (came ++ queue) ≡ []
-  -- one end takes, and it knows all that came off
+  -- one end takes, and it knows all messages received
   pub taken : Each ends (λ number v. v.takes ≡ true → (number ≡ taker) × (v.came ≡ came) × (v.made ≡ made))
 
--- what a handful or a mark that goes in changes for its sender
+-- what a sender knows after it sent a handful or its mark
 abbrev pub after_send : Account → Message → Account
 after_send v (Copies sender copies) = record v { sent = v.sent ++ copies ∷ [] }
 after_send v (Mark sender) = record v { marked = true }
 
--- the taker's step: the handful or the mark came off, and it is one of a sender's
+-- the taker received this message, and it is from one of the senders
 abbrev pub Comes : Account → Message → Account → Type 0
 Comes v message w = (w ≡ record v { came = v.came ++ message ∷ [] }) × (sender_of message < v.made)
 
--- what the taker knows with all that a sender knows
+-- what the taker knows after it got the knowledge of a sender
 abbrev pub folded : Account → Account → Account
 folded v sender = record v { sends = true; sender = sender.sender; sent = sender.sent; marked = sender.marked }
 
--- what an end knows that gave all away
+-- what an end knows that gave its knowledge away
 abbrev pub nothing_known : Account
 nothing_known = account false 0 [] false false 0 []
 
--- what the taker learns with a sender's knowledge: what came off and what the queue holds of it is all that it sent, so the
--- queue holds of it what is left
+-- what the taker learns from its own knowledge and that of a sender: the messages received of the sender and those in the
+-- queue are all that it sent, so the queue holds the others
 abbrev pub Tells : Account → List Message → Type 0
 Tells v queue = (v.sender < v.made)
     × (messages_of v.sender (v.came ++ queue) ≡ all_sent v)

@@ -1,10 +1,10 @@
--- What goes from hand to hand together.
+-- Pages or copies that are handed over together.
 use Rattle.std.specs.Prelude.{List, length, ◌-◌, take}
 use Rattle.std.specs.List.{flat_map}
 use Rattle.arrayvec.specs.ArrayVec.{ArrayVec}
 use Rattle.word_core.specs.Page.{OnItsWay}
 
--- pages or copies that stand in a queue together, in their order
+-- a handful: pages or copies that are in a queue together, in their order
 abbrev pub Handful : Type 0
 Handful = ArrayVec OnItsWay
 
@@ -12,6 +12,6 @@ Handful = ArrayVec OnItsWay
 abbrev pub pages_of : List Handful → List OnItsWay
 pages_of handfuls = flat_map (λ (h : Handful). h.items) handfuls
 
--- the pages that were answered, where these came off a queue and those in hand are the last of them
+-- the pages that calls have answered, where all of these were received and those in hand are the last of them
 abbrev pub before_hand : List OnItsWay → List OnItsWay → List OnItsWay
 before_hand came in_hand = take (length came - length in_hand) came

@@ -7,11 +7,12 @@ use Rattle.hand_core.specs.declared.taker.Took.{Took}
 use Rattle.hand_core.specs.Queue.{QueueName}
 use Rattle.hand_core.specs.PageQueue.{left_in_queue}
 
--- which hand-over an end belongs to
+-- the name of the hand-over that an end belongs to
 abbrev pub HandOver : Type 0
 HandOver = QueueName Note
 
--- the giver of a hand-over to so many takers, whose queue has so much room: the pages given, in their order, and the end marks put
+-- a giver: its hand-over, the queue's room in handfuls, the number of takers, the first serial, the pages given, in their order,
+-- the number of end marks put, and whether it is closed
 pub record Giver : Type 0 where
   pub hand_over : HandOver
   pub room : ℕ
@@ -21,15 +22,15 @@ pub record Giver : Type 0 where
   pub marks : ℕ
   pub closed : Bool
 
--- a taker: the pages that it took, in their order, those that came off the queue with the last one and are to be taken next, and
--- whether it took an end mark
+-- a taker: its hand-over, the pages that it took, in their order, those that were received with the last one and that no call
+-- has answered yet, and whether it took an end mark
 pub record Taker : Type 0 where
   pub hand_over : HandOver
   pub taken : List OnItsWay
   pub in_hand : List OnItsWay
   pub ended : Bool
 
--- the pages of all takers' lists
+-- the pages that all these takers took
 abbrev pub taken_by : List Taker → List OnItsWay
 taken_by takers = flat_map (λ (t : Taker). t.taken) takers
 
@@ -37,12 +38,12 @@ taken_by takers = flat_map (λ (t : Taker). t.taken) takers
 abbrev pub have_ended : List Taker → Bool
 have_ended takers = list_all (λ (t : Taker). t.ended) takers
 
--- the pages that the queue between a giver and all its takers holds: those that were given and weren't taken, in their order
+-- the pages that are in the queue: those that were given and that no taker received, in their order
 abbrev pub queue_between : Giver → List Taker → List OnItsWay
 queue_between giver takers = left_in_queue giver.given (length (taken_by takers))
 
--- what an answer changes: a page joins the list, and it is the first of those in hand if there are any; with an empty hand, an end mark
--- ends the taker, and where the giver is gone nothing changes
+-- what an answer changes: a page joins the list, and it is the first of those in hand if there were any; the end mark and the answer
+-- that the giver is gone need an empty hand; the end mark ends the taker, and the other changes nothing
 abbrev pub IsAnswered : Taker → Took → Taker → Type 0
 IsAnswered t (Took.Page p) u = (u ≡ record t { taken = t.taken ++ p ∷ []; in_hand = u.in_hand }) × (t.in_hand ≢ [] → t.in_hand ≡ p ∷ u.in_hand)
 IsAnswered t Took.End u = (u ≡ record t { ended = true }) × (t.in_hand ≡ [])

@@ -7,7 +7,7 @@ use Rattle.word_core.specs.Serials.{HasSerialsFrom, IsRising}
 use Rattle.hand_core.specs.declared.giver.Giver.TheInside as giver
 use Rattle.hand_core.specs.declared.taker.Taker.TheInside as taker
 
--- the giver's pass is a seat at its channel, it gives the page with the serial `next` next, and it counts the end marks that it put
+-- the giver's pass is a seat at its channel, the page that it gives next has the serial `next`, and it counts the end marks that it put
 pub record IsGiving (g : giver.Inside) : Type 0 where
   pub seat : IsSeatAt (sends_on g.to) g.pass
   pub gives : (view g.pass).gives ≡ true
@@ -20,8 +20,8 @@ pub record IsGiving (g : giver.Inside) : Type 0 where
   pub fresh : g.closed ≡ false → g.marks ≡ 0
   pub took_nothing : ((view g.pass).taken ≡ []) × ((view g.pass).ended ≡ 0)
 
--- the taker's pass is a seat at its channel with one share, its list rises and ends with the pages in hand, and behind its end mark
--- there are none
+-- the taker's pass is a seat at its channel with one share, its list rises and ends with the pages in hand, and after its end mark
+-- no page is in hand
 pub record IsTaking (t : taker.Inside) : Type 0 where
   pub seat : IsSeatAt (receives_on t.from) t.pass
   pub takes : (view t.pass).gives ≡ false

@@ -10,11 +10,11 @@ use Rattle.word_core.specs.Serials.{HasSerialsFrom, IsRising}
 use Rattle.hand_core.specs.Handfuls.{Handful, pages_of}
 use Rattle.hand_core.specs.Queue.{Each}
 
--- what an end knows, part by part
+-- what an end knows, made from its parts
 abbrev pub known : ℕ → Bool → List OnItsWay → ℕ → List OnItsWay → ℕ → Known
 known shares gives given marks taken ended = record { shares = shares; gives = gives; given = given; marks = marks; taken = taken; ended = ended }
 
--- what the giver knows at first: it has every share; 1024 is any number above that of the takers
+-- what the giver knows at first: it has every share; 1024 could be any number above that of the takers
 abbrev pub giver_knows : Known
 giver_knows = known 1024 true [] 0 [] 0
 
@@ -22,12 +22,12 @@ giver_knows = known 1024 true [] 0 [] 0
 abbrev pub taker_knows : Known
 taker_knows = known 1 false [] 0 [] 0
 
--- a number of each end, added up
+-- the sum of a number that each end has
 abbrev pub total : (Known → ℕ) → List Known → ℕ
 total number [] = 0
 total number (v ∷ ends) = number v + total number ends
 
--- the pages of all takers' lists
+-- the pages that all takers took
 abbrev pub all_taken : List Known → List OnItsWay
 all_taken ends = flat_map (λ (v : Known). v.taken) ends
 
@@ -35,8 +35,8 @@ all_taken ends = flat_map (λ (v : Known). v.taken) ends
 abbrev pub all_ended : List Known → ℕ
 all_ended ends = total (λ v. v.ended) ends
 
--- Of the pages given, `off` came off and those of the handfuls `waiting` stand in the queue, with so many end marks behind them.
--- The number of the giver's end, and the first serial, are `giver` and `base`.
+-- Of the pages given, `off` were received, and those of the handfuls `waiting` are in the queue, with `marks` end marks after them.
+-- `giver` is the number of the giver's end, and `base` is the first serial.
 pub record InOrder (queue : List Note) (ends : List Known) : Type 0 where
   pub giver : ℕ
   pub base : ℕ
@@ -47,33 +47,33 @@ pub record InOrder (queue : List Note) (ends : List Known) : Type 0 where
   pub serials : HasSerialsFrom base (off ++ pages_of waiting)
   -- the queue is the handfuls that wait, in this order, and then the end marks
   pub queued : queue ≡ map Pages waiting ++ replicate marks Mark
-  -- the takers' lists together are the pages that came off, each whole and once
+  -- the takers' lists together are the pages that were received, each whole and once
   pub together : IsPermutation (all_taken ends) off
   -- each taker's list is strictly rising
   pub rising : Each ends (λ _ v. v.gives ≡ false → IsRising v.taken)
-  -- where a taker has ended, nothing waits
+  -- where a taker has ended, no page waits
   pub done : 0 < all_ended ends → waiting ≡ []
   -- one end gives: it gave these pages, and put each end mark that waits or that ended a taker
   pub given : Each ends (λ number v. v.gives ≡ true → (number ≡ giver) × (v.given ≡ off ++ pages_of waiting) × (v.marks ≡ all_ended ends + marks))
-  -- an end with no share has taken nothing, so who has every share knows of all lists
+  -- an end with no share has taken nothing, so an end with every share knows all lists
   pub shares : total (λ v. v.shares) ends ≡ 1024
   pub spent : Each ends (λ _ v. v.shares ≡ 0 → (v.taken ≡ []) × (v.ended ≡ 0))
 
--- what a handful or an end mark that goes in changes for the giver
+-- what the giver knows after it gave a handful or put an end mark
 abbrev pub after_put : Known → Note → Known
 after_put v (Pages h) = record v { given = v.given ++ h.items }
 after_put v Mark = record v { marks = v.marks + 1 }
 
--- what a handful or an end mark that comes off changes for the taker
+-- what a taker knows after it took a handful or an end mark
 abbrev pub after_take : Known → Note → Known
 after_take v (Pages h) = record v { taken = v.taken ++ h.items }
 after_take v Mark = record v { ended = v.ended + 1 }
 
--- a taker's step, and that its list still rises
+-- a taker took this message, and its list still rises
 abbrev pub Takes : Known → Note → Known → Type 0
 Takes v note w = (w ≡ after_take v note) × IsRising w.taken
 
--- what the giver knows with a taker's share and all that the taker knows
+-- what the giver knows after it took back a taker's share with what the taker knows
 abbrev pub joined : Known → Known → Known
 joined v taker = record v { shares = v.shares + taker.shares; taken = v.taken ++ taker.taken; ended = v.ended + taker.ended }
 
@@ -90,11 +90,11 @@ pages_in_one Mark = []
 abbrev pub pages_in : List Note → List OnItsWay
 pages_in queue = flat_map pages_in_one queue
 
--- what is left in the queue of the pages that were given, where so many came off
+-- the pages that were given and are in the queue, where this many were received
 abbrev pub left_in_queue : List OnItsWay → ℕ → List OnItsWay
 left_in_queue given taken = drop taken given
 
 -- what the giver learns once it has every share and each end mark ended a taker: each page given was taken once, the queue
--- holds what is left, and it is empty
+-- holds the pages that are left, and it is empty
 abbrev pub Settles : Known → List Note → Type 0
 Settles v queue = IsPermutation v.taken v.given × (pages_in queue ≡ left_in_queue v.given (length v.taken)) × (queue ≡ [])

@@ -8,7 +8,7 @@ use Rattle.crossbeam_channel.specs.declared.flavors.array.Rows.{Rows}
 use Rattle.crossbeam_channel.specs.declared.flavors.array.Key.{Key}
 use Rattle.crossbeam_channel.specs.declared.flavors.array.Doing.{Doing}
 
--- which queue of such messages it is
+-- the name of a queue of such messages
 abbrev pub QueueName : Type 0 → Type 0
 QueueName T = TableId × Badge (Key T)
 
@@ -16,6 +16,6 @@ QueueName T = TableId × Badge (Key T)
 abbrev pub name_of : {T V Q M L A : Type 0} → Rows (Badge (Key T)) (Doing T V) Q M (Key T) L A → QueueName T
 name_of channel = (channel.stamps.shared.table_id, channel.stamps.shared.key)
 
--- what holds of each end, which has a number
+-- a fact holds of each end, under the number of the end
 abbrev pub Each : {V : Type 0} → List V → (ℕ → V → Type 0) → Type 0
 Each {V} ends holds = (number : ℕ) (v : V) → get_elem? ends number ≡ some v → holds number v

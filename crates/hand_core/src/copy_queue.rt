@@ -1,18 +1,18 @@
-// The queue of the copies, and the rule that it is under.
+// The queue of the copies, and its rule.
 
 use crate::handful::Handful;
 use crossbeam_channel::protocol::{Join, Lesson, Outcome, Protocol, Split};
 use std::collections::LinkedList;
 use word_core::Copied;
 
-/// What stands in the queue, under the number of its sender.
+/// A message in the queue: a handful of copies or an end mark, under the number of its sender.
 #[derive(Drop)]
 pub enum Message {
     Copies(usize, Handful<Copied>),
     Mark(usize),
 }
 
-/// What an end knows: a sender what it sent, and the taker what came off. No value of it is made.
+/// What an end knows: a sender knows what it sent, and the taker what it received. This is only for contracts: no value of it is made.
 pub struct Account {
     pub sends: bool,
     pub sender: u64,
@@ -23,7 +23,7 @@ pub struct Account {
     pub came: LinkedList<Message>,
 }
 
-/// The rule: the handfuls of each sender come off in its order, and then its mark.
+/// The rule: of each sender, the handfuls are received in the order in which they were sent, and its mark after them.
 pub struct Turns;
 
 impl Protocol<Message, Account> for Turns {
@@ -60,7 +60,7 @@ impl Lesson<Message, Account> for Sends {
     ghost fact = { λ v queue. Unit {0} };
 }
 
-/// The taker takes a handful of copies or a mark off the front.
+/// The taker takes a handful of copies or a mark from the front.
 pub struct Receives;
 
 impl Outcome<Message, Account> for Receives {
@@ -73,7 +73,7 @@ impl Lesson<Message, Account> for Receives {
     ghost fact = { λ v queue. Unit {0} };
 }
 
-/// The taker takes in what a sender knows.
+/// The taker gets the knowledge of a sender.
 pub struct Folds;
 
 impl Join<Account> for Folds {
@@ -84,7 +84,7 @@ impl Join<Account> for Folds {
     ghost spent = { nothing_known };
 }
 
-/// What the taker learns with a sender's knowledge.
+/// What the taker learns from its own knowledge and that of a sender.
 pub struct Whole;
 
 impl Lesson<Message, Account> for Whole {

@@ -12,9 +12,9 @@ use crate::handful::Handful;
 use crossbeam_channel::{Pass, RuledSender, bounded_with};
 use std::alloc::{AllocError, Global};
 
-/// Opens a queue for the copies of so many senders, with room for `cap` handfuls in it. No later call takes memory.
+/// Opens a queue for the copies of this many senders, with room for `cap` handfuls. No later call takes memory.
 ///
-/// Refused as Range where it isn't 1 to 4 senders and a `cap` of 1 to 64, else as Memory where there is none.
+/// Refused as Range unless there are 1 to 4 senders and a `cap` of 1 to 64, else as Memory where there isn't enough.
 pub fn done_open<R>(
     _rt: &R,
     alloc: Global,
@@ -32,7 +32,7 @@ pub fn done_open<R>(
     opened(alloc, senders, cap).map_err(|_| HandError::Memory)
 }
 
-/// The same where the numbers are in range. An error is want of memory.
+/// Opens a queue where the numbers are in range. The error is for want of memory.
 fn opened(
     alloc: Global,
     senders: usize,
@@ -57,7 +57,7 @@ fn opened(
     Ok((all, taker))
 }
 
-/// Adds so many senders. The taker's pass makes them.
+/// Adds this many senders, which the taker's pass makes.
 fn add_senders(
     to: &RuledSender<Message, Account, Turns, Global>,
     pass: &mut Pass<Message, Account>,

@@ -8,7 +8,7 @@ use std::marker::Model;
 use std::sync::Wait;
 use word_core::Copied;
 
-/// A sending end of the copies' queue.
+/// A sending end of the queue of copies.
 #[derive(Drop)]
 pub struct DoneSender {
     pub(crate) number: usize,
@@ -36,7 +36,8 @@ impl Model for DoneSender {
 impl DoneSender {
     ghost use Rattle.std.specs.Prelude.{◌≡◌, ◌++◌, ◌∷◌, [], true, false, OnOk, OnErr, IfErr};
 
-    /// Puts the copy at the back. The sender must not be closed. Where the taker is gone it hands the copy back.
+    /// Puts a copy at the back of the queue, and waits for room. The sender must not be closed. Where the taker is
+    /// gone, the copy is handed back.
     pub fn send<R: Wait>(&mut self, rt: &R, copy: Copied) -> Result<(), Copied>
         requires { self.old.closed ≡ false }
         ensures ok { OnOk result (self.new ≡ record self.old { sent = self.old.sent ++ copy ∷ [] }) }
@@ -54,7 +55,8 @@ impl DoneSender {
         Err(copy)
     }
 
-    /// Puts the copies at the back. The sender must not be closed. Where the taker is gone it hands the copies back.
+    /// Puts copies at the back of the queue together, and waits for room. The sender must not be closed. Where the
+    /// taker is gone, the copies are handed back.
     pub fn send_all<R: Wait>(
         &mut self,
         rt: &R,
@@ -81,7 +83,7 @@ impl DoneSender {
         Err(copies)
     }
 
-    /// Puts the sender's end mark, once. After an `Err` too nothing more can be sent.
+    /// Puts the sender's end mark, once. Nothing more can be sent afterwards, even where the answer is an `Err`.
     pub fn close<R: Wait>(&mut self, rt: &R) -> Result<(), Gone>
         requires { self.old.closed ≡ false }
         ensures ok { OnOk result (self.new ≡ record self.old { closed = true; marked = true }) }

@@ -5,8 +5,8 @@ use crate::copy_queue::{Folds, Whole};
 use crate::done_sender::DoneSender;
 use crate::done_taker::DoneTaker;
 
-/// Once the taker had its end, what came off of each sender is all that it sent, in its order, and the queue holds nothing of
-/// it. The senders have to be of the taker's queue.
+/// For a taker that was answered the end: what it received of each sender is all that the sender sent, in its order, and the
+/// queue holds nothing of it. The senders have to be of the taker's queue.
 pub fn done_settle(taker: DoneTaker, mut senders: Vec<DoneSender>)
     requires way { All (λ s. s.way ≡ taker.way) senders.items }
     requires ended { has_ended taker ≡ true }

@@ -13,12 +13,12 @@ use std::marker::Model;
 use std::sync::Wait;
 use word_core::Copied;
 
-/// The taking end of the copies' queue.
+/// The taking end of the queue of copies.
 #[derive(Drop)]
 pub struct DoneTaker {
     pub(crate) senders: usize,
     pub(crate) marked: [bool; 4],
-    // The copies that came off the queue and weren't answered yet.
+    // The copies that were received and that no call has answered yet.
     pub(crate) hand: IntoIter<Copied, 8>,
     pub(crate) from: RuledReceiver<Message, Account, Turns, Global>,
     pub(crate) pass: Pass<Message, Account>,
@@ -51,8 +51,8 @@ impl DoneTaker {
     ghost use Rattle.std.specs.Prelude.{◌≡◌, ◌++◌, ◌∷◌, [], true, false, IfSome, IfNone, OnOk, OnErr};
     ghost use Rattle.hand_core.specs.CopyEnds.{copies_taken, has_ended, copy_answered, copy_tried, IsEndInTime, IsTriedInTime};
 
-    /// Takes the next copy, and waits for it. The end is answered once the mark of every sender came off. Behind it nothing
-    /// more is taken.
+    /// Takes the next copy, and waits for it. Once the mark of every sender was received, the answer is the end. Nothing
+    /// more may be taken afterwards.
     pub fn take<R: Wait>(&mut self, rt: &R) -> Came
         requires { has_ended self.old ≡ false }
         ensures copies { copies_taken self.new ≡ copies_taken self.old ++ copy_answered result }
@@ -73,9 +73,9 @@ impl DoneTaker {
         unreachable!()
     }
 
-    /// Takes the next copy if one is there, and doesn't wait: `None` where nothing is there. What is answered is what `take`
-    /// answers. Marks that stand before the copy are taken with it, also where nothing is behind them; but no copy is taken
-    /// where none is answered, and after `None` the end has yet to come.
+    /// Takes the next copy if one is there, and doesn't wait: `None` where none is there. Else it answers as `take` does.
+    /// Marks that stand before the copy are received with it, even where nothing comes after them. No copy is lost where
+    /// none is answered, and after `None` the end has yet to come.
     pub fn try_take<R: Wait>(&mut self, rt: &R) -> Option<Came>
         requires { has_ended self.old ≡ false }
         ensures copies { copies_taken self.new ≡ copies_taken self.old ++ copy_tried result }
@@ -107,7 +107,7 @@ impl DoneTaker {
         self.hand.next()
     }
 
-    // Takes what stands at the front, with an empty hand.
+    // Receives the message at the front of the queue, with no copy in hand.
     fn receive<R: Wait>(&mut self, rt: &R) -> Result<(), RecvError>
         requires { self.old.in_hand ≡ [] }
         ensures taken { OnOk result (copies_taken self.new ≡ copies_taken self.old) }
@@ -127,7 +127,7 @@ impl DoneTaker {
         Ok(())
     }
 
-    // The same without waiting.
+    // Receives the message at the front of the queue, with no copy in hand, and doesn't wait.
     fn try_receive<R: Wait>(&mut self, rt: &R) -> Result<(), TryRecvError>
         requires { self.old.in_hand ≡ [] }
         ensures taken { OnOk result (copies_taken self.new ≡ copies_taken self.old) }
@@ -154,7 +154,7 @@ impl DoneTaker {
     }
 }
 
-// Keeps the copies of what came off in the empty hand, or notes whose mark it is.
+// Keeps the copies of a message in hand, which has to be empty, or notes whose mark it is.
 fn keep(marked: &mut [bool; 4], hand: &mut IntoIter<Copied, 8>, message: Message)
     requires sender { sender_of message < 4 }
     requires empty { hand.old ≡ [] }

@@ -18,7 +18,7 @@ impl HandError {
     ghost use Rattle.std.specs.Prelude.{◌≡◌};
     ghost use Rattle.hand_core.specs.Errors.{number_of};
 
-    /// The error's number, 21 or 22. No script tells it.
+    /// The error's number, 21 or 22. No script prints it.
     pub fn number(&self) -> u16
         ensures { result ≡ number_of self.now }
     {

@@ -12,11 +12,11 @@ use std::marker::Model;
 use std::sync::Wait;
 use word_core::Isolated;
 
-/// The giving end of a hand-over.
+/// The giving end of a hand-over of pages.
 #[derive(Drop)]
 pub struct Giver {
     pub(crate) base: Serial,
-    // The serial of the next page. There is none where it is 2^32.
+    // The serial of the next page. Where it is 2^32 no more page can be given.
     pub(crate) next: u64,
     pub(crate) takers: usize,
     pub(crate) marks: usize,
@@ -44,8 +44,8 @@ impl Giver {
     ghost use Rattle.std.specs.Prelude.{◌≡◌, ◌+◌, ◌<◌, ◌++◌, ◌∷◌, [], true, false, length, OnOk, OnErr, IfErr};
     ghost use Rattle.word_core.specs.Serials.{HasSerialsFrom};
 
-    /// Puts the page at the back. Its serial has to be the next one, and the giver not closed. Where every taker is gone it
-    /// hands the page back.
+    /// Puts a page at the back of the queue, and waits for room. Its serial has to be the next one, and the giver not
+    /// closed. Where every taker is gone, the page is handed back.
     pub fn give<R: Wait>(&mut self, rt: &R, page: Isolated) -> Result<(), Isolated>
         requires open { self.old.closed ≡ false }
         requires next { page.serial ≡ self.old.base + length self.old.given }
@@ -64,8 +64,8 @@ impl Giver {
         Err(page)
     }
 
-    /// Puts the pages at the back, for one taker. Their serials have to be the next ones, and the giver not closed. Where every
-    /// taker is gone it hands the pages back.
+    /// Puts pages at the back of the queue together, for one taker, and waits for room. Their serials have to be the next ones,
+    /// and the giver not closed. Where every taker is gone, the pages are handed back.
     pub fn give_all<R: Wait>(
         &mut self,
         rt: &R,
@@ -90,7 +90,7 @@ impl Giver {
         Err(pages)
     }
 
-    /// Puts an end mark for each taker, once. After an `Err` too nothing more can be given.
+    /// Puts an end mark for each taker, once. Nothing more can be given afterwards, even where the answer is an `Err`.
     pub fn close<R: Wait>(&mut self, rt: &R) -> Result<(), Gone>
         requires { self.old.closed ≡ false }
         ensures ok { OnOk result (self.new.marks ≡ self.old.takers) }
@@ -125,7 +125,7 @@ impl Giver {
     }
 }
 
-// The serial behind those of the pages, of which the first has the serial `next`.
+// The serial that comes after those of the pages, of which the first has the serial `next`.
 fn serial_behind(pages: &[Isolated], next: u64) -> u64
     requires serials { HasSerialsFrom next pages.now }
     requires fits { next ≤ 2 ^ 32 }

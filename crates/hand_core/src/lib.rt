@@ -1,4 +1,4 @@
-//! Pages are handed over between threads: from one giver to at most four takers, and their copies back to one taker.
+//! Hands pages over between threads: from one giver to at most four takers, and their copies back to one taker.
 //!
 //! Contracts see each end as what it gave or took, in its order, under the name of its queue.
 #![tactic(auto)]

@@ -13,13 +13,12 @@ use crossbeam_channel::{Pass, RuledReceiver, RuledSender, bounded_with};
 use frame_core::Serial;
 use std::alloc::{AllocError, Global};
 
-/// All takers of a hand-over.
+/// The takers of a hand-over.
 pub type Takers = Vec<Taker>;
 
-/// Opens a hand-over whose first page has the serial `base`, with room for `cap` handfuls in its queue. No later call takes
-/// memory.
+/// Opens a hand-over whose first page has the serial `base`, with room for `cap` handfuls in its queue. No later call takes memory.
 ///
-/// Refused as Range where it isn't 1 to 4 takers and a `cap` of 1 to 64, else as Memory where there is none.
+/// Refused as Range unless there are 1 to 4 takers and a `cap` of 1 to 64, else as Memory where there isn't enough.
 pub fn open<R>(
     _rt: &R,
     alloc: Global,
@@ -38,7 +37,7 @@ pub fn open<R>(
     opened(alloc, base, takers, cap).map_err(|_| HandError::Memory)
 }
 
-/// The same where the numbers are in range. An error is want of memory.
+/// Opens a hand-over where the numbers are in range. The error is for want of memory.
 fn opened(
     alloc: Global,
     base: Serial,
@@ -66,7 +65,7 @@ fn opened(
     Ok((giver, all))
 }
 
-/// Adds so many takers, each with a share of the giver's.
+/// Adds this many takers, each with a share of the giver's knowledge.
 fn add_takers(
     to: &RuledSender<Note, Known, Ordered, Global>,
     from: &RuledReceiver<Note, Known, Ordered, Global>,

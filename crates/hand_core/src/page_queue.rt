@@ -1,20 +1,20 @@
-// The queue of the pages, and the rule that it is under.
+// The queue of the pages, and its rule.
 
 use crate::handful::Handful;
 use crossbeam_channel::protocol::{Join, Lesson, Outcome, Protocol, Split};
 use std::collections::LinkedList;
 use word_core::Isolated;
 
-/// What stands in the queue.
+/// A message in the queue: a handful of pages or an end mark.
 #[derive(Drop)]
 pub enum Note {
     Pages(Handful<Isolated>),
     Mark,
 }
 
-/// What an end knows of the hand-over: what it gave, and what it took. No value of it is made.
+/// What an end knows of the hand-over: what it gave, and what it took. This is only for contracts: no value of it is made.
 ///
-/// Who has all 1,024 shares knows of every list.
+/// An end that has all 1,024 shares knows the list of every taker.
 pub struct Known {
     pub shares: u64,
     pub gives: bool,
@@ -24,7 +24,7 @@ pub struct Known {
     pub ended: u64,
 }
 
-/// The rule: pages come off in the order in which they were given, and then the end marks.
+/// The rule: pages are taken in the order in which they were given, and the end marks after them.
 pub struct Ordered;
 
 impl Protocol<Note, Known> for Ordered {
@@ -35,7 +35,7 @@ impl Protocol<Note, Known> for Ordered {
     ghost first = { giver_knows };
 }
 
-/// The giver cuts a share off for a taker, and takes it back with what the taker knows.
+/// The giver cuts off a share for a taker, and takes it back with what the taker knows.
 pub struct Shares;
 
 impl Split<Known> for Shares {
@@ -69,7 +69,7 @@ impl Lesson<Note, Known> for Puts {
     ghost fact = { λ v queue. Unit {0} };
 }
 
-/// A taker takes a handful of pages or an end mark off the front.
+/// A taker takes a handful of pages or an end mark from the front.
 pub struct Gets;
 
 impl Outcome<Note, Known> for Gets {
@@ -82,7 +82,7 @@ impl Lesson<Note, Known> for Gets {
     ghost fact = { λ v queue. Unit {0} };
 }
 
-/// What the giver learns once it has every share again.
+/// What the giver learns once it has all shares again.
 pub struct Whole;
 
 impl Lesson<Note, Known> for Whole {

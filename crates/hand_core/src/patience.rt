@@ -14,10 +14,10 @@ use std::{hint, thread};
 /// How often a call tries before it sleeps.
 pub const TRIES: u32 = 1000;
 
-// Behind so many tries it lets other threads run in between.
+// How often a call tries before it lets other threads run between its tries.
 const SPINS: u32 = 50;
 
-/// Puts the message at the back. Where the other side is gone it hands the message back.
+/// Puts the message at the back of the queue, and waits for room. Where the other side is gone, the message is handed back.
 pub(crate) fn send<M: Outcome<T, V> + Lesson<T, V>, T: Drop, V, P: Protocol<T, V>, R: Wait>(
     rt: &R,
     to: &RuledSender<T, V, P, Global>,
@@ -43,7 +43,7 @@ pub(crate) fn send<M: Outcome<T, V> + Lesson<T, V>, T: Drop, V, P: Protocol<T, V
     }
 }
 
-/// Takes the message at the front.
+/// Takes the message at the front of the queue, and waits for one. The error is that the other side is gone and nothing is left.
 pub(crate) fn receive<M: Outcome<T, V> + Lesson<T, V>, T: Drop, V, P: Protocol<T, V>, R: Wait>(
     rt: &R,
     from: &RuledReceiver<T, V, P, Global>,
@@ -64,7 +64,7 @@ pub(crate) fn receive<M: Outcome<T, V> + Lesson<T, V>, T: Drop, V, P: Protocol<T
     from.recv_as::<M, R>(rt, pass)
 }
 
-/// Between two tries, of which this is one: it spins, and behind many tries it lets other threads run.
+/// Waits a moment after a try, given how many tries were made before: it spins at first, and later lets other threads run.
 pub fn pause(tries: u32) {
     if tries < SPINS {
         hint::spin_loop();

@@ -17,8 +17,8 @@ pub struct Settled {
     pub count: u64,
 }
 
-/// Answers Ok exactly where the giver put all its marks and every taker of its hand-over is there and took its mark; else
-/// both come back as they were. The takers have to be of the giver's hand-over.
+/// Answers Ok exactly where the giver put all its marks, every taker of its hand-over is there, and each of them took its
+/// mark. Else all of them are handed back unchanged. The takers have to be of the giver's hand-over.
 pub fn settle(giver: Giver, takers: Takers) -> Result<Settled, (Giver, Takers)>
     requires { All (λ t. t.hand_over ≡ giver.hand_over) takers.items }
     ensures exact { IsOk result ↔ ((giver.marks ≡ giver.takers) × (vec_len takers ≡ giver.takers) × (have_ended takers.items ≡ true)) }
@@ -41,7 +41,7 @@ fn all_ended(takers: &Takers) -> bool
     takers.iter().all(|taker| taker.ended)
 }
 
-// Takes all shares back, where each taker took its mark.
+// Takes all shares back from takers that each took a mark.
 fn take_back(giver: Giver, mut takers: Takers) -> Settled
     requires takers { All (λ t. t.hand_over ≡ giver.hand_over) takers.items }
     requires ended { All (λ t. t.ended ≡ true) takers.items }

@@ -7,11 +7,11 @@ use std::marker::Model;
 use std::sync::Wait;
 use word_core::Isolated;
 
-/// A taking end of a hand-over.
+/// A taking end of a hand-over of pages.
 #[derive(Drop)]
 pub struct Taker {
     pub(crate) ended: bool,
-    // The pages that came off the queue and weren't answered yet.
+    // The pages that were received and that no call has answered yet.
     pub(crate) hand: IntoIter<Isolated, 8>,
     pub(crate) from: RuledReceiver<Note, Known, Ordered, Global>,
     pub(crate) pass: Pass<Note, Known>,
@@ -33,7 +33,7 @@ impl Model for Taker {
     ghost invariant = { IsTaking };
 }
 
-/// What a taker is answered: the page at the front, the end mark, or that the giver is gone and nothing is left.
+/// What a taker is answered: the next page, the end mark, or that the giver is gone and nothing is left.
 #[derive(Drop)]
 pub enum Took {
     Page(Isolated),
@@ -41,7 +41,7 @@ pub enum Took {
     Gone,
 }
 
-// What came off the queue.
+// What was received from the queue.
 #[derive(Clone, Copy)]
 enum Came {
     Pages,
@@ -54,7 +54,7 @@ impl Taker {
     ghost use Rattle.word_core.specs.Serials.{IsRising};
     ghost use Rattle.hand_core.specs.PageEnds.{IsAnswered};
 
-    /// Takes the page at the front, and waits for it. Behind an end mark it takes nothing more.
+    /// Takes the next page, and waits for it. Nothing more is taken after an end mark.
     pub fn take<R: Wait>(&mut self, rt: &R) -> Took
         requires { self.old.ended ≡ false }
         ensures took { IsAnswered self.old result self.new }
@@ -73,7 +73,7 @@ impl Taker {
         unreachable!()
     }
 
-    /// Whether pages that were handed over with the last one are in hand, so that the next is taken without waiting.
+    /// Whether pages that were received with the last one are still in hand, so that the next page is taken without waiting.
     pub fn has_more(&self) -> bool
         ensures { result ≡ true ↔ self.now.in_hand ≢ [] }
     {
@@ -90,7 +90,7 @@ impl Taker {
         self.hand.next()
     }
 
-    // Takes what stands at the front of the queue, with an empty hand.
+    // Receives the message at the front of the queue, with no page in hand.
     fn receive<R: Wait>(&mut self, rt: &R) -> Came
         requires going { self.old.ended ≡ false }
         requires empty { self.old.in_hand ≡ [] }

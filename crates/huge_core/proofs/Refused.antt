@@ -1,4 +1,4 @@
--- What the answer of a zone under its lock tells.
+-- What the answer of a zone under its lock tells of the zone.
 use Rattle.std.proofs.Common.{◌≡◌, ℕ, Bool, true, false, not, sym, subst, Some, None}
 use Rattle.std.specs.Prelude.{Result, Ok, Err, IfErr, OnOk, IfSome, is_none, if◌then◌else◌}
 use Rattle.std.specs.Result.{result_err}
@@ -14,7 +14,7 @@ pub refused : (zone : ZoneState) (order : ℕ) → IsLawful zone → (result : R
 refused zone order lawful (Ok huge) is = tt
 refused zone order lawful (Err error) is = record { zone = zone; lawful = lawful; refused = sym is }
 
--- a refusal that isn't for want of room is for want of a block
+-- where a block is refused and the journal isn't full, no block is free
 pub no_block : (order : ℕ) (error : ZoneError) → IsRefused order error → (error ≡ JournalFull → ⊥) → IsRefused order NoBlock
 no_block order error was other = subst (IsRefused order) (only (has_room was.zone) (is_none (lowest_run was.zone order)) error was.refused other) was
   where

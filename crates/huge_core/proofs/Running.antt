@@ -13,7 +13,7 @@ use Rattle.huge_core.specs.declared.report.Stop.TheVariants as stop
 use Rattle.huge_core.specs.Huge.{IsRefused}
 use Rattle.huge_core.specs.Reserving.{AreRounds, HaveMoved, WereNeeded, IsReason, AreLeft, HasRun}
 
--- it ran so many rounds, each of which was needed and moved a page, and they are no more than it may run
+-- the collector ran `count` rounds so far, each of which was needed and moved a page, and they are no more than it may run
 pub record IsRunning (c : Collector) (scan scan_new : ScanSeat) (ends ends_new : EndSeat) (count : ℕ) : Type 0 where
   pub rounds : List Round
   pub count_is : count ≡ length rounds
@@ -22,7 +22,7 @@ pub record IsRunning (c : Collector) (scan scan_new : ScanSeat) (ends ends_new :
   pub moved : HaveMoved rounds
   pub ran : AreRounds rounds scan scan_new ends ends_new
 
--- before its first round
+-- no round was run yet
 pub not_begun : (c : Collector) (scan : ScanSeat) (ends : EndSeat) → IsRunning c scan scan ends ends 0
 not_begun c scan ends = record {
   rounds = [];
@@ -33,7 +33,7 @@ not_begun c scan ends = record {
   ran = (refl, refl);
 }
 
--- it runs a round that moves a page
+-- the collector runs a round that moves a page
 pub run_on : (c : Collector) (scan scan_between scan_new : ScanSeat) (ends ends_between ends_new : EndSeat) (count : ℕ) (latest : Round)
     → IsRunning c scan scan_between ends ends_between count → (count ≡ c.rounds → ⊥) → IsRefused c.order zone.NoBlock
     → IsRound scan_between scan_new ends_between ends_new latest → (latest.moved ≡ 0 → ⊥)
@@ -50,7 +50,7 @@ run_on c scan scan_between scan_new ends ends_between ends_new count latest was 
       ran = (scan_between, ends_between, was.ran, round);
     }
 
--- it stops behind rounds that each moved a page
+-- the collector stops after rounds that each moved a page
 pub stopped : (c : Collector) (scan scan_behind scan_new : ScanSeat) (ends ends_behind ends_new : EndSeat) (report : Report)
     → IsRunning c scan scan_behind ends ends_behind report.rounds
     → AreLeft report.stop scan_behind scan_new ends_behind ends_new
@@ -68,7 +68,7 @@ stopped c scan scan_behind scan_new ends ends_behind ends_new report was left re
   reason = reason was.rounds was.count_is was.moved;
 }
 
--- it stops behind a round that moved none
+-- the collector stops after a round that moved no page
 pub idled : (c : Collector) (scan scan_between scan_new : ScanSeat) (ends ends_between ends_new : EndSeat) (report : Report) (count : ℕ) (latest : Round)
     → IsRunning c scan scan_between ends ends_between count → (count ≡ c.rounds → ⊥) → IsRefused c.order zone.NoBlock → report.rounds ≡ count + 1
     → IsRound scan_between scan_new ends_between ends_new latest → latest.moved ≡ 0

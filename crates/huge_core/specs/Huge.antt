@@ -6,12 +6,12 @@ use Rattle.state_core.specs.HandingOut.{lowest_run, take_order_refusal, give_ord
 use Rattle.state_core.specs.Lawful.{IsLawful}
 use Rattle.state_core.specs.ZoneState.{ZoneState}
 
--- its first frame, and its order: it has 2 ^ order frames
+-- a block: its first frame, and its order; it has 2 ^ order frames
 pub record Huge : Type 0 where
   pub frame : ℕ
   pub order : ℕ
 
--- a zone handed it out: what the zone was at that moment, and what it was then
+-- a zone handed a block out: what the zone was when the call was made, and what it was afterwards
 pub record IsHandedOut (block : Huge) : Type 0 where
   pub zone : ZoneState
   pub zone_new : ZoneState
@@ -23,13 +23,13 @@ pub record IsHandedOut (block : Huge) : Type 0 where
   pub clear : IsClear zone_new block.frame (2 ^ block.order)
   pub lawful : IsLawful zone_new
 
--- a zone, as it was at that moment, refused to hand out a block of this order
+-- a zone refused to hand out a block of this order: what the zone was when the call was made
 pub record IsRefused (order : ℕ) (error : ZoneError) : Type 0 where
   pub zone : ZoneState
   pub lawful : IsLawful zone
   pub refused : take_order_refusal zone order ≡ Some error
 
--- a zone took a block back that it had handed out: what the zone was at that moment, and what it was then
+-- a zone took a block back that it had handed out: what the zone was when the call was made, and what it was afterwards
 pub record IsTakenBack (block : Huge) : Type 0 where
   pub zone : ZoneState
   pub zone_new : ZoneState
@@ -37,7 +37,7 @@ pub record IsTakenBack (block : Huge) : Type 0 where
   pub given : zone_new ≡ block_given zone block.frame block.order
   pub lawful : IsLawful zone_new
 
--- a zone, as it was at that moment, refused to take a block back
+-- a zone refused to take a block back: what the zone was when the call was made
 pub record IsRefusedBack (block : Huge) (error : ZoneError) : Type 0 where
   pub zone : ZoneState
   pub lawful : IsLawful zone

@@ -12,12 +12,12 @@ use Rattle.huge_core.specs.declared.report.Report.{Report}
 use Rattle.huge_core.specs.declared.report.Stop.{Stop}
 use Rattle.huge_core.specs.declared.report.Stop.TheVariants.{Enough, NoBlock, Rounds, JournalFull, Refused}
 
--- there is a block, it has this order, and a zone handed it out
+-- there is a block of this order, and a zone handed it out
 abbrev pub IsGot : ℕ → Option Huge → Type 0
 IsGot order None = ⊥
 IsGot order (Some block) = (block.order ≡ order) × IsHandedOut block
 
--- these rounds, the latest first, were answered Ok one behind the other, and took the two seats from one state to another
+-- these rounds, the latest first, were answered Ok one after the other, and took the two seats from one state to another
 abbrev pub AreRounds : List Round → ScanSeat → ScanSeat → EndSeat → EndSeat → Type 0
 AreRounds [] scan scan_new ends ends_new = (scan_new ≡ scan) × (ends_new ≡ ends)
 AreRounds (latest ∷ earlier) scan scan_new ends ends_new =
@@ -25,20 +25,20 @@ AreRounds (latest ∷ earlier) scan scan_new ends ends_new =
     × AreRounds earlier scan scan_between ends ends_between
     × IsRound scan_between scan_new ends_between ends_new latest
 
--- each of the rounds moved a page
+-- each of these rounds moved a page
 abbrev pub HaveMoved : List Round → Type 0
 HaveMoved rounds = All (λ (r : Round). 0 < r.moved) rounds
 
--- each of the rounds was run where a zone had refused a block of this order since none was free
+-- before each of these rounds a zone had refused a block of this order, since none was free
 abbrev pub WereNeeded : ℕ → List Round → Type 0
 WereNeeded order rounds = All (λ (r : Round). IsRefused order zone.NoBlock) rounds
 
--- the latest round moved no page and stopped so, and each before it moved one
+-- the latest of these rounds moved no page and stopped for this reason, and each before it moved a page
 abbrev pub HaveIdled : RoundStop → List Round → Type 0
 HaveIdled stop [] = ⊥
 HaveIdled stop (latest ∷ earlier) = (latest.moved ≡ 0) × (latest.stopped ≡ stop) × HaveMoved earlier
 
--- why a collector stopped behind these rounds
+-- why a collector stopped after these rounds
 abbrev pub IsReason : Collector → List Round → Stop → Type 0
 IsReason c rounds Enough = HaveMoved rounds
 IsReason c rounds NoBlock = HaveIdled round.Met rounds
@@ -46,19 +46,19 @@ IsReason c rounds Rounds = HaveMoved rounds × (length rounds ≡ c.rounds) × I
 IsReason c rounds JournalFull = HaveIdled round.JournalFull rounds ⊎ (HaveMoved rounds × IsRefused c.order zone.JournalFull)
 IsReason c rounds (Refused error) = HaveMoved rounds × IsRefused c.order zone.NoBlock
 
--- what the seats are then: as its rounds left them, but for a round that was refused
+-- the seats after a collector stopped: as its rounds left them, or as a round that was refused left them
 abbrev pub AreLeft : Stop → ScanSeat → ScanSeat → EndSeat → EndSeat → Type 0
 AreLeft (Refused error) scan scan_new ends ends_new = IsRefusedEarly scan scan_new ends ends_new (Err error)
 AreLeft stop scan scan_new ends ends_new = (scan_new ≡ scan) × (ends_new ≡ ends)
 
--- the rounds that a collector ran, by the seats before it and behind it
+-- the rounds that a collector ran, by the seats before and after its call
 pub record HasRun (c : Collector) (scan scan_new : ScanSeat) (ends ends_new : EndSeat) (report : Report) : Type 0 where
-  -- those that were answered Ok, the latest first: it tells how many, and they are no more than it may run
+  -- the rounds that were answered Ok, the latest first: the report tells how many, and they are no more than the collector may run
   pub rounds : List Round
   pub count : report.rounds ≡ length rounds
   pub most : report.rounds ≤ c.rounds
   pub needed : WereNeeded c.order rounds
-  -- the seats behind them, and behind the call
+  -- the seats after these rounds
   pub scan_behind : ScanSeat
   pub ends_behind : EndSeat
   pub ran : AreRounds rounds scan scan_behind ends ends_behind

@@ -14,8 +14,8 @@ use std::sync::ledger::Ledger;
 use std::thread::Threads;
 use zone_core::{Seats, Zone};
 
-/// Shares a zone for one reservation, which nobody else has meanwhile, and hands it back with what was reserved. It is asked
-/// for 1 to 8 blocks.
+/// Runs one reservation over a zone that nobody else uses meanwhile, and hands the zone back with what was reserved. It is
+/// asked for 1 to 8 blocks.
 pub fn reserve_alone<
     I: Ledger + Send + Sync,
     N: Ledger,
@@ -43,7 +43,7 @@ pub fn reserve_alone<
     reserve_shared::<Brand, I, N, M, B, G, R>(rt, alloc, collector, zone, seats, n, gate)
 }
 
-/// The same, of the shape that the type names.
+/// Runs the reservation over a zone with the number and the pageblocks that the type names.
 fn reserve_shared<
     K: Shape + Send + Sync,
     I: Ledger + Send + Sync,

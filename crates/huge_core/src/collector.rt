@@ -13,16 +13,17 @@ use std::sync::ledger::Ledger;
 use std::thread::Threads;
 use zone_core::{Seats, ZoneError};
 
-/// Reserves blocks of free frames, and runs rounds where there are too few.
+/// Reserves blocks of free frames, and runs rounds where too few are free. The kernel's kcompactd compacts memory in the
+/// background; a collector works only when it is called.
 #[derive(Clone, Copy, Debug)]
 pub struct Collector {
     /// The copiers of a round, 1 to 4.
     pub copiers: usize,
-    /// The room in the queues of a round, 1 to 64.
+    /// The room in the queues of a round, 1 to 64 pages.
     pub cap: usize,
-    /// How many rounds it may run in one call, 0 to 16.
+    /// How many rounds it may run in one call of `reserve`, 0 to 16.
     pub rounds: u32,
-    /// The order of its blocks, 3 to 9.
+    /// The order of the blocks that it reserves, 3 to 9.
     pub order: Order,
     ghost copiers_in_range: { (0 < copiers) × (copiers ≤ 4) },
     ghost cap_in_range: { (0 < cap) × (cap ≤ 64) },
@@ -32,8 +33,8 @@ pub struct Collector {
 impl Collector {
     ghost use Rattle.huge_core.specs.Reserving.{IsGot, HasRun};
 
-    /// Reserves so many blocks, 1 to 8, one after the other. Where none is free it runs a round, as long as it may and its rounds
-    /// move pages.
+    /// Reserves up to `n` blocks, 1 to 8, one after the other. Where no block is free it runs a round, as long as it may and its
+    /// rounds move pages.
     pub fn reserve<
         K: Shape + Send + Sync,
         I: Ledger + Send + Sync,
@@ -82,7 +83,7 @@ impl Collector {
         Report { got, rounds, stop }
     }
 
-    /// Takes free blocks until there are so many.
+    /// Takes free blocks until there are `n`, or until the zone refuses one.
     fn fill<K: Shape, I: Ledger, M: Ledger, B: Ledger, R: Wait>(
         &self,
         rt: &R,
@@ -118,7 +119,7 @@ fn take<K: Shape, I: Ledger, M: Ledger, B: Ledger, R: Wait>(
     Huge::take(&mut room.zone, order)
 }
 
-/// Why a collector stops behind a round that moved no page.
+/// Why a collector stops after a round that moved no page.
 fn idle_stop(stopped: RoundStop) -> Stop
     ensures met { stopped ≡ RoundStop.Met → result ≡ Stop.NoBlock }
     ensures full { stopped ≡ RoundStop.JournalFull → result ≡ Stop.JournalFull }

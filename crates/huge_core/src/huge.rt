@@ -13,7 +13,7 @@ use std::sync::Wait;
 use std::sync::ledger::Ledger;
 use zone_core::{Zone, ZoneError};
 
-/// A block of frames that a zone handed out. It can't be cloned, and one that is dropped stays handed out.
+/// A block of frames that a zone handed out. It can't be cloned. A block that is dropped stays handed out.
 #[must_use]
 #[derive(Drop, Debug)]
 pub struct Huge {
@@ -51,7 +51,7 @@ impl Huge {
         Ok(Huge { frame, order })
     }
 
-    /// Gives the block back, or is handed back itself.
+    /// Gives the block back to the zone. Where the zone refuses, the block is handed back.
     fn give<I: Ledger, M: Ledger, B: Ledger>(
         self,
         zone: &mut Zone<I, M, B>,
@@ -70,7 +70,7 @@ impl Huge {
         }
     }
 
-    /// Its first frame. It has the frames from there on, as many as its order says.
+    /// The first frame of the block, which has 2^order frames from there on.
     pub fn frame(&self) -> FrameNo
         ensures value { result ≡ self.now.frame }
         ensures aligned { IsTrue (is_aligned self.now.order result) }
@@ -78,21 +78,21 @@ impl Huge {
         self.frame
     }
 
-    /// Its order, 3 to 9: it has 2^order frames.
+    /// The order of the block, 3 to 9: it has 2^order frames.
     pub fn order(&self) -> Order
         ensures { result ≡ self.now.order }
     {
         self.order
     }
 
-    /// The pageblock that it lies in.
+    /// The pageblock that the block is in.
     pub fn block(&self) -> BlockNo
         ensures { result ≡ self.now.frame / 512 }
     {
         block_of(self.frame)
     }
 
-    /// Its first frame and its order, by which `Zone::give_order` takes it back.
+    /// The first frame of the block and its order. `Zone::give_order` takes it back by these.
     pub fn into_parts(self) -> (FrameNo, Order)
         ensures frame { result.0 ≡ self.frame }
         ensures order { result.1 ≡ self.order }
@@ -101,7 +101,7 @@ impl Huge {
         (self.frame, self.order)
     }
 
-    /// The pageblock that it lies in. `Zone::give_huge` takes it back by this number where its order is 9.
+    /// The pageblock that the block is in. `Zone::give_huge` takes it back by this number where its order is 9.
     pub fn into_block(self) -> BlockNo
         ensures { result ≡ self.frame / 512 }
     {
@@ -109,9 +109,11 @@ impl Huge {
     }
 }
 
-/// Gives a block back to the zone that handed it out. Where the zone refuses it, it is handed back, and the zone is as it was:
-/// refused as Range where the zone has no such block, JournalFull, or NotHuge where the zone hasn't handed it out, or took it back by
-/// its number.
+/// Gives a block back to the zone that handed it out. Where the zone refuses, the block is handed back with the error, and the zone
+/// is as it was.
+///
+/// Refused as Range where the zone has no such block, as JournalFull, or as NotHuge where the zone hasn't handed it out, or took it
+/// back by its number.
 pub fn give<K: Shape, I: Ledger, M: Ledger, B: Ledger, R: Wait>(
     rt: &R,
     shared: &SharedZone<K, I, M, B>,

@@ -1,6 +1,6 @@
 //! A collector of blocks of free frames, which runs rounds as it needs them.
 //!
-//! A block that a zone handed out is a `Huge`; contracts see it as its first frame and its order.
+//! A block that a zone handed out is a `Huge`. Contracts see it as its first frame and its order.
 #![tactic(auto)]
 
 mod alone;

@@ -4,7 +4,7 @@ use crate::record::Record;
 use std::alloc::{AllocError, Global};
 use std::marker::Model;
 
-/// Records in order, in room that is made once.
+/// Records in the order in which they were appended. The memory for all of them is taken once, when the journal is opened.
 #[derive(Drop)]
 pub struct Journal {
     records: Vec<Record>,
@@ -23,7 +23,7 @@ impl Model for Journal {
 }
 
 impl Journal {
-    /// An empty journal with this many places. Nothing takes memory after it.
+    /// An empty journal with this many places, or an error where there is no memory for them. No later call takes memory.
     pub fn open(alloc: Global, places: u32) -> Result<Journal, AllocError>
         ensures { IfOk result (λ j. j ≡ record { records = []; room = places }) }
     {
@@ -45,14 +45,14 @@ impl Journal {
         self.records.is_empty()
     }
 
-    /// The number of places that are left.
+    /// The number of places that are left for records.
     pub fn room(&self) -> u32
         ensures { result ≡ self.now.room }
     {
         self.places - self.records.len() as u32
     }
 
-    /// The record at a place, the oldest at 0. None from the number of records on.
+    /// The record at a place, the oldest at 0, or none where no record has this place.
     pub fn get(&self, index: usize) -> Option<&Record>
         ensures { option_copied result ≡ slice_get (reverse self.now.records) index }
     {

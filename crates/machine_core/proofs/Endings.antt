@@ -29,7 +29,7 @@ module _ (places : ℕ) (left left_new old new : Option (List ℕ)) where
   over_written (Ok totals) ok err is = ok
   over_written (Err e) ok err is = known_weaker left (λ input. EndsIn e.fault places input e left left_new old new) (λ input. Appends old new (output_of places input)) (λ input known end. (fault_says e.fault input e is end).1) err
 
-  -- what is said of a fault, where that is the fault
+  -- what is said of a fault holds of the fault that ended the run
   at_fault : (f : Fault) (P : List ℕ → RunError → Type 0) → ((input : List ℕ) (e : RunError) → EndsIn f places input e left left_new old new → P input e) → (r : Result Totals RunError)
       → IfErr r (λ e. IfSome left (λ input. EndsIn e.fault places input e left left_new old new)) → IfErr r (λ e. e.fault ≡ f → IfSome left (λ input. P input e))
   at_fault f P says r h = MatchResult-weaker r h (λ _ u. u) (λ e ends is. known_weaker left (λ input. EndsIn e.fault places input e left left_new old new) (λ input. P input e)

@@ -8,7 +8,7 @@ use Rattle.text_core.specs.declared.pool.PoolBlocks.{PoolBlocks}
 use Rattle.text_core.specs.Pool.{pool_order, told_as}
 use Rattle.machine_core.specs.Machine.{next_first, pool_from, pooled, says, stopped_by, unless_stopped}
 
--- a block more, where n are left
+-- a pool gets one more block, where n are left
 module _ (blocks : PoolBlocks) (got : List ℕ) (n : ℕ) (w : WorldState) where
   abbrev order : ℕ
   order = pool_order blocks
@@ -21,7 +21,7 @@ module _ (blocks : PoolBlocks) (got : List ℕ) (n : ℕ) (w : WorldState) where
       ∙ ap (λ (o : Option ℕ). pool_from blocks (got ++ told_as blocks (unwrap_or o 0) ∷ []) m (with_zone w (block_taken w.zone (unwrap_or o 0) order))) lowest
       ∙ ap (pool_from blocks (got ++ told_as blocks first ∷ []) m) (sym is)
 
-  -- and one that is refused
+  -- a pool is refused a block
   pub pool_from-ends : (m : ℕ) (error : ZoneError) → n ≡ suc m → take_order_refusal w.zone order ≡ Some error
       → pool_from blocks got n w ≡ says (pooled blocks got (stopped_by error)) w
   pool_from-ends m error left refused =

@@ -31,14 +31,14 @@ module _ (c : Repeated) (s v further done n m : ℕ) (w after : WorldState) (lef
       ≡ (let a = page_step c w (address_of s v) in unless_refused done a.reply a.world (series_from c s (v + further) further (done + 1) m a.world))
   first_call = ap (λ (k : ℕ). series_from c s v further done k w) left
 
-  -- a call that is accepted
+  -- a call of a series is accepted
   pub series_from-on : (r : Reply) → record { reply = r; world = after } ≡ page_step c w (address_of s v) → ((number : ℕ) → r ≡ reply.Refused number → ⊥)
       → series_from c s v further done n w ≡ series_from c s (v + further) further (done + 1) m after
   series_from-on r told accepted =
       first_call ∙ ap (λ (a : Answered). unless_refused done a.reply a.world (series_from c s (v + further) further (done + 1) m a.world)) (sym told)
       ∙ goes_on r done after _ accepted
 
-  -- a call that is refused
+  -- a call of a series is refused
   pub series_from-ends : (number : ℕ) → record { reply = reply.Refused number; world = after } ≡ page_step c w (address_of s v)
       → series_from c s v further done n w ≡ says (reply.DoneUntil done number) after
   series_from-ends number told =

@@ -18,12 +18,12 @@ use Rattle.machine_core.specs.Single.{IsSingleStep, Opens, Single, single_at_fir
 use Rattle.play_core.proofs.Waiting.{stops_more}
 use Rattle.play_core.proofs.Variants.{known_weaker}
 
--- the replies to commands and to those behind them
+-- the replies to commands and to more commands after them
 answers_from-append : (places : ℕ) (w : Option WorldState) (xs ys : List Numbered) → answers_from places w (xs ++ ys) ≡ answers_from places w xs ++ answers_from places (world_behind places w xs) ys
 answers_from-append places w [] ys = refl
 answers_from-append places w (c ∷ xs) ys = ap (λ (r : List Answer). record { line = c.line; reply = (step places w c.command).reply } ∷ r) (answers_from-append places (step places w c.command).world xs ys)
 
--- the replies, and the world behind them
+-- these are the machine's replies to commands, and this is its world after them
 record AreSteps (places : ℕ) (w : Option WorldState) (commands : List Numbered) (answers : List Answer) (new : Single) : Type 0 where
   pub answers_are : answers ≡ answers_from places w commands
   pub world_is : new.world ≡ world_behind places w commands
@@ -86,7 +86,7 @@ module _ (places : ℕ) where
         written = subst A steps.answers_are h.written;
       }
 
--- a run of a machine that starts as one on one thread says what a run on one thread says
+-- a run of a machine that starts as one on one thread does, which says what a run on one thread says
 module _ (places : ℕ) (left left_new old new : Option (List ℕ)) (start : Single) (first : start ≡ single_at_first places) where
   pub totals_by_single : (r : Result Totals RunError) → IfOk r (λ totals. IfSome left (λ input. IsTotal IsSingleStep start input old new totals))
       → IfOk r (λ totals. IfSome left (λ input. totals ≡ totals_of places input))

@@ -1,4 +1,4 @@
--- How a run can end.
+-- How a run may end.
 use Rattle.std.specs.Prelude.{◌≡◌, ℕ, ◌+◌, ◌⊎◌, Bool, true, false, IsTrue, List, ◌∷◌, ◌++◌, Option, Some, None, IfSome, Result, Ok, Err}
 use Rattle.std.specs.Io.KnownBytes.{Appends, Consumes}
 use Rattle.play_core.specs.declared.error.Fault.{Fault}
@@ -10,7 +10,7 @@ use Rattle.text_core.specs.Reply.{newlines}
 use Rattle.play_core.specs.Script.{StopsIn, IsBeginning, IsOfEnd, Numbered, commands_of, fault_of, texts}
 use Rattle.machine_core.specs.Replies.{answers_from, answers_of, output_of, world_behind}
 
--- whether a fault is one of the script itself
+-- whether a fault is in the script itself
 abbrev pub is_of_script : Fault → Bool
 is_of_script Syntax = true
 is_of_script LongLine = true
@@ -23,7 +23,7 @@ abbrev pub is_over : Result Totals RunError → Bool
 is_over (Ok totals) = true
 is_over (Err e) = is_of_script e.fault
 
--- a read failed behind these bytes; they have no fault, or just the one that an end there would make, and their commands are answered
+-- a read failed after these bytes; they have no fault, or only the one that an end there would make, and their commands were answered
 pub record FailsBehind (places : ℕ) (left left_new old new : Option (List ℕ)) (line : ℕ) : Type 0 where
   pub past : List ℕ
   pub read : Consumes left left_new past
@@ -31,7 +31,7 @@ pub record FailsBehind (places : ℕ) (left left_new old new : Option (List ℕ)
   pub written : Appends old new (output_of places past)
   pub at : line ≡ newlines past + 1
 
--- behind these commands comes one that opens a zone, at this line
+-- after these commands comes one that opens a zone, at this line
 pub record IsOpening (places : ℕ) (input : List ℕ) (before : List Numbered) (line : ℕ) : Type 0 where
   pub command : Numbered
   pub behind : List Numbered
@@ -40,13 +40,13 @@ pub record IsOpening (places : ℕ) (input : List ℕ) (before : List Numbered) 
   pub at : line ≡ command.line
 
 -- there was no memory for the zone that the command at this line opens, or for the block that the line begins, and the commands before it
--- are answered
+-- were answered
 pub record LacksMemory (places : ℕ) (input : List ℕ) (old new : Option (List ℕ)) (line : ℕ) : Type 0 where
   pub before : List Numbered
   pub opening : IsOpening places input before line ⊎ IsBeginning input before line
   pub written : Appends old new (texts (answers_from places None before))
 
--- what each fault that ends a run says
+-- how a run ended that was ended by this fault
 abbrev pub EndsIn : Fault → ℕ → List ℕ → RunError → (left left_new old new : Option (List ℕ)) → Type 0
 EndsIn Syntax places input e left left_new old new = (fault_of input ≡ Some e) × Appends old new (output_of places input)
 EndsIn LongLine places input e left left_new old new = (fault_of input ≡ Some e) × Appends old new (output_of places input)

@@ -46,60 +46,61 @@ pub record Answered : Type 0 where
 abbrev pub says : Reply → WorldState → Answered
 says reply after = record { reply = reply; world = after }
 
--- a refusal, which leaves this world
+-- a refusal with this number, which leaves this world
 abbrev pub refused : ℕ → WorldState → Answered
 refused number w = says (reply.Refused number) w
 
--- a call of the zone that has no answer
+-- the reply `ok`, and the world with this zone
 abbrev pub done : WorldState → ZoneState → Answered
 done w zone = says reply.Done (with_zone w zone)
 
--- a refusal of the zone, which leaves this world, or else an answer
+-- the refusal of the zone, which leaves this world, and where there is none the given answer
 abbrev pub unless : Option ZoneError → WorldState → Answered → Answered
 unless None world answered = answered
 unless (Some error) world answered = refused (number_of error) world
 
--- what the world answers and leaves, or else a refusal, since a hand doesn't hold what the call needs
+-- the reply and the world of a step, or refusal 45 where a hand doesn't hold what the call needs
 abbrev pub by_hand : {A : Type 0} → (A → Reply) → WorldState → Option (A × WorldState) → Answered
 by_hand told world None = refused 45 world
 by_hand told world (Some (answer, after)) = says (told answer) after
 
--- the same of a copy, which has no answer
+-- the reply `ok` and the world of a copy, or refusal 45 where the hand doesn't hold a page
 abbrev pub copied : WorldState → Option WorldState → Answered
 copied world None = refused 45 world
 copied world (Some after) = says reply.Done after
 
--- a fresh page in this frame, if there is one
+-- the answer to a map: a fresh page in this frame, or the refusal that there is no frame
 abbrev pub fresh_page : WorldState → Address → Bool → Option ℕ → Answered
 fresh_page w a unmovable None = refused (number_of NoFrame) w
 fresh_page w a unmovable (Some frame) = done w (mapped w.zone 0 a unmovable frame)
 
--- what a scan found
+-- the reply for what a scan found
 abbrev pub found : Scanned → Reply
 found (scan.Serial serial) = reply.Serial serial
 found scan.Met = reply.Met
 
--- how the move of the page with this serial ended
+-- the reply for how the move of the page with this serial ended
 abbrev pub ending : ℕ → Ended → Reply
 ending serial ended.Moved = reply.Moved serial
 ending serial ended.Back = reply.PutBack serial
 
--- what is known of a page, which changes nothing
+-- the answer to a look: what is known of the page, or the refusal that there is none; nothing changes
 abbrev pub looked : WorldState → Option Known → Answered
 looked world None = refused (number_of Unmapped) world
 looked world (Some known) = says (reply.Looked known) world
 
--- the pageblock that begins at this frame is handed out, if there is one
+-- the answer to `huge`: the pageblock that begins at this frame is handed out, or the refusal that there is no block
 abbrev pub handed_out : WorldState → Option ℕ → Answered
 handed_out w None = refused (number_of NoBlock) w
 handed_out w (Some first) = says (reply.Block (first / 512)) (with_zone w (block_taken w.zone first 9))
 
--- the block of this order that begins at this frame is handed out, if there is one
+-- the answer to `huge` with an order: the block of this order that begins at this frame is handed out, or the refusal
+-- that there is no block
 abbrev pub order_handed_out : WorldState → ℕ → Option ℕ → Answered
 order_handed_out w order None = refused (number_of NoBlock) w
 order_handed_out w order (Some first) = says (reply.HandedOut first order) (with_zone w (block_taken w.zone first order))
 
--- a call on the zone that is open, by client number 0
+-- the reply to a call on the open zone, made as client 0, and the world after it
 abbrev pub call_step : WorldState → Call → Answered
 call_step w (Map a unmovable) = unless (map_refusal w.zone a) w (fresh_page w a unmovable (lowest_free_frame w.zone))
 call_step w (MapAt a frame unmovable) = unless (map_at_refusal w.zone a frame) w (fresh_page w a unmovable (Some frame))
@@ -130,57 +131,58 @@ abbrev pub call_at : Repeated → Address → Call
 call_at repeated.Map a = Map a false
 call_at repeated.Unmap a = Unmap a
 
--- that call, or a refusal where the page is none of the space
+-- the answer to the call of a series at this address, or refusal 1 where the space has no such page
 abbrev pub page_step : Repeated → WorldState → Option Address → Answered
 page_step c w None = refused 1 w
 page_step c w (Some a) = call_step w (call_at c a)
 
--- where a call was refused behind so many others, that ends a series, and else it goes on
+-- a series ends where a call was refused after `done` others, and goes on where it wasn't
 abbrev pub unless_refused : ℕ → Reply → WorldState → Answered → Answered
 unless_refused done (reply.Refused number) w rest = says (reply.DoneUntil done number) w
 unless_refused done _ w rest = rest
 
--- n more calls behind so many: at page v of space s, and at each page that is so much further, in order up to the first refusal
+-- n more calls of a series after `done` others: at page v of space s, and then each `further` pages further, in order, up to
+-- the first refusal
 abbrev pub series_from : Repeated → (s v further done n : ℕ) → WorldState → Answered
 series_from c s v further done zero w = says (reply.AllDone done) w
 series_from c s v further done (suc n) w = let a = page_step c w (address_of s v) in
     unless_refused done a.reply a.world (series_from c s (v + further) further (done + 1) n a.world)
 
--- the calls of a series
+-- the answer to a series of calls
 abbrev pub series_step : WorldState → Series → Answered
 series_step w s = series_from s.call s.space s.first s.step 0 s.count w
 
--- the calls of one command
+-- the answer to the calls of a command
 abbrev pub calls_step : WorldState → Calls → Answered
 calls_step w (One call) = call_step w call
 calls_step w (SeriesOf series) = series_step w series
 
--- why a pool stops where a block is refused it: where none is free it needs a round, for which no worker can be had
+-- why a pool stops where it is refused a block: where none is free it needs a round, for which no worker can be had without threads
 abbrev pub stopped_by : ZoneError → PoolStopped
 stopped_by JournalFull = stopped.JournalFull
 stopped_by _ = stopped.Refused 32
 
--- the reply to a pool that ran no round and got the blocks that these numbers tell
+-- the reply to a pool that ran no round and got the blocks that these numbers name
 abbrev pub pooled : PoolBlocks → List ℕ → PoolStopped → Reply
 pooled blocks got why = reply.Pool blocks (record { items = got }) 0 why
 
--- the first frame of the lowest free block of an order
+-- the first frame of the lowest free block of an order, and 0 where there is no such block
 abbrev pub next_first : WorldState → ℕ → ℕ
 next_first w order = unwrap_or (lowest_run w.zone order) 0
 
--- a refusal ends a pool behind these blocks, and else it goes on
+-- a pool stops after these blocks where the next one is refused, and goes on where it isn't
 abbrev pub unless_stopped : Option ZoneError → PoolBlocks → List ℕ → WorldState → Answered → Answered
 unless_stopped None blocks got w rest = rest
 unless_stopped (Some error) blocks got w rest = says (pooled blocks got (stopped_by error)) w
 
--- n more blocks behind these: the lowest that is free, one after the other, up to the first that is refused
+-- n more blocks of a pool after these: the lowest free block each time, up to the first that is refused
 abbrev pub pool_from : PoolBlocks → List ℕ → ℕ → WorldState → Answered
 pool_from blocks got zero w = says (pooled blocks got stopped.Enough) w
 pool_from blocks got (suc n) w = let order = pool_order blocks in let first = next_first w order in
     unless_stopped (take_order_refusal w.zone order) blocks got w
     (pool_from blocks (got ++ told_as blocks first ∷ []) n (with_zone w (block_taken w.zone first order)))
 
--- a pool of so many blocks, where no round is open by hand
+-- the answer to a pool of `count` blocks, which is refused 45 where a hand round is open
 abbrev pub pool_step : WorldState → ℕ → PoolBlocks → Answered
 pool_step w count blocks = if w.is_open then refused 45 w else pool_from blocks [] count w
 
@@ -189,45 +191,45 @@ pub record Step : Type 0 where
   pub reply : Reply
   pub world : Option WorldState
 
--- an answer of the zone that is open
+-- the answer of the open zone, as a step
 abbrev pub answered : Answered → Step
 answered a = record { reply = a.reply; world = Some a.world }
 
--- a refusal of the machine, which leaves what there is
+-- a refusal with this number, which changes nothing
 abbrev pub declined : ℕ → Option WorldState → Step
 declined number world = record { reply = reply.Refused number; world = world }
 
--- a zone with so many pageblocks and places in its journal is opened, where none is yet
+-- the step of opening a zone with this many pageblocks and places in its journal, which is refused 44 where one was opened before
 abbrev pub open_step : ℕ → ℕ → ℕ → Option WorldState → Step
 open_step zone blocks places None = answered (says reply.Done (world_opened zone blocks places))
 open_step zone blocks places (Some w) = declined 44 (Some w)
 
--- calls on the zone with this number, where that is the one that is open
+-- the step of calls on the zone with this number, which is refused 43 where this isn't the open one
 abbrev pub step_on : ℕ → Calls → Option WorldState → Step
 step_on zone calls None = declined 43 None
 step_on zone calls (Some w) = if nat_eq zone w.zone.number then answered (calls_step w calls) else declined 43 (Some w)
 
--- the number by which a round is refused where no worker can be had for it
+-- the number of the refusal of a round, for which no worker can be had without threads
 abbrev pub round_refusal : ℕ → WorldState → ℕ
 round_refusal zone w = if nat_eq zone w.zone.number then (if w.is_open then 45 else 32) else 43
 
--- a round over the zone with this number, without threads
+-- the step of a round over the zone with this number, without threads
 abbrev pub compact_on : ℕ → Option WorldState → Step
 compact_on zone None = declined 43 None
 compact_on zone (Some w) = declined (round_refusal zone w) (Some w)
 
--- a pool of blocks of the zone with this number, where that is the one that is open
+-- the step of a pool of blocks of the zone with this number, which is refused 43 where this isn't the open one
 abbrev pub pool_on : ℕ → ℕ → PoolBlocks → Option WorldState → Step
 pool_on zone count blocks None = declined 43 None
 pool_on zone count blocks (Some w) =
     if nat_eq zone w.zone.number then answered (pool_step w count blocks) else declined 43 (Some w)
 
--- a round with a client's calls beside it, without threads: nothing of it is done
+-- the step of a round during which a client makes calls, without threads: nothing of it is done
 abbrev pub during_on : Option ℕ → Option WorldState → Step
 during_on None world = declined 1 world
 during_on (Some zone) world = compact_on zone world
 
--- any command, where a zone is opened with these places in its journal
+-- the step of any command; a zone that it opens has this many places in its journal
 abbrev pub step : ℕ → Option WorldState → Command → Step
 step places world OutOfRange = declined 1 world
 step places world Profile2 = record { reply = reply.Done; world = world }

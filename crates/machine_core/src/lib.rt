@@ -1,7 +1,7 @@
-//! A machine on one thread answers the commands of a script: it has at most one zone.
+//! A machine on one thread that answers the commands of a script. It has at most one zone.
 //!
 //! `specs/Machine.antt` says what a command does, `specs/Replies.antt` what is written for a whole input, and `specs/Ends.antt` how
-//! a run can end. `run` does just that.
+//! a run may end. `run` does exactly that.
 #![tactic(auto)]
 
 mod machine;

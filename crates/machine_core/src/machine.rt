@@ -69,7 +69,7 @@ impl<I: Ledger, N: Ledger, M: Ledger, B: Ledger> Respond for Machine<I, N, M, B>
 }
 
 impl<I: Ledger, N: Ledger, M: Ledger, B: Ledger> Machine<I, N, M, B> {
-    /// No zone yet. One that is opened has so many places in its journal.
+    /// A machine with no zone. A zone that it opens has this many places in its journal, 1 to 65,536.
     pub fn new(alloc: Global, places: u32, blanks: Blanks) -> Self
         requires places { (0 < places) × (places ≤ 65536) }
         requires blanks { AreFor blanks I.name I.parts N.name N.parts M.name M.parts B.name B.parts }
@@ -83,7 +83,7 @@ impl<I: Ledger, N: Ledger, M: Ledger, B: Ledger> Machine<I, N, M, B> {
         }
     }
 
-    /// Puts the reply to a command of one line in place of the one there. It fails only for want of memory.
+    /// Answers a command of one line, and writes the reply over the one that is passed. It fails only for want of memory.
     pub fn reply_to(&mut self, command: Command, reply: &mut Reply) -> Result<(), AllocError>
         ensures ok { OnOk result (IsStep self.old command reply.new self.new) }
         ensures memory { OnErr result (Opens self.old command) }
@@ -104,7 +104,8 @@ impl<I: Ledger, N: Ledger, M: Ledger, B: Ledger> Machine<I, N, M, B> {
         Ok(())
     }
 
-    /// Opens a zone, where none is open yet. It is apart, since it has room for a whole world, which other commands do without.
+    /// Opens a zone, where none was opened before. This is a function of its own since it needs room for a whole world, which
+    /// no other command does.
     #[inline(never)]
     fn open(&mut self, zone: ZoneNo, blocks: BlockCount) -> Result<Reply, AllocError>
         ensures ok { IfOk result (λ reply. record { reply = reply; world = self.new.world } ≡ open_step zone blocks self.old.places self.old.world) }
@@ -124,7 +125,7 @@ impl<I: Ledger, N: Ledger, M: Ledger, B: Ledger> Machine<I, N, M, B> {
         Ok(Reply::Done)
     }
 
-    /// A round over the zone with this number, where that is the one that is open: without threads no worker can be had.
+    /// The reply to a round over the zone with this number. Without threads no worker can be had, so the round isn't run.
     pub fn compact(&self, zone: ZoneNo) -> Reply
         ensures { record { reply = result; world = self.now.world } ≡ compact_on zone self.now.world }
     {
@@ -136,7 +137,8 @@ impl<I: Ledger, N: Ledger, M: Ledger, B: Ledger> Machine<I, N, M, B> {
         }
     }
 
-    /// The same with a client's calls beside it, over the zone with this number, which may be none of a zone.
+    /// The reply to a round during which a client makes calls, over the zone with this number, which may be out of
+    /// range. The round isn't run.
     fn during(&self, number: u64) -> Reply
         ensures { record { reply = result; world = self.now.world } ≡ during_on (zone_of number) self.now.world }
     {
@@ -146,7 +148,7 @@ impl<I: Ledger, N: Ledger, M: Ledger, B: Ledger> Machine<I, N, M, B> {
         }
     }
 
-    /// A pool of blocks of the zone with this number, where that is the one that is open.
+    /// Reserves blocks of the zone with this number, if it is the open one.
     pub fn pool(&mut self, zone: ZoneNo, count: BlockCount, blocks: PoolBlocks) -> Reply
         ensures answer { record { reply = result; world = self.new.world } ≡ pool_on zone count blocks self.old.world }
         ensures places { self.new.places ≡ self.old.places }
@@ -157,7 +159,16 @@ impl<I: Ledger, N: Ledger, M: Ledger, B: Ledger> Machine<I, N, M, B> {
         }
     }
 
-    /// Gives the world of the zone with this number away, where no round is open by hand.
+    /// The world of the zone that is open, if one is.
+    #[inline(always)]
+    pub fn world(&self) -> Option<&World<I, N, M, B>>
+        ensures some { IfSome result (λ world. self.now.world ≡ Some world.now) }
+        ensures none { IfNone result (self.now.world ≡ None) }
+    {
+        self.world.as_ref()
+    }
+
+    /// Gives away the world of the zone with this number, if it is the open one and no hand round is open.
     pub fn take_closed(&mut self, zone: ZoneNo) -> Option<World<I, N, M, B>>
         ensures given { IfSome result (λ world. (self.old.world ≡ Some world) × (is_at_rest zone (Some world) ≡ true)) }
         ensures closed { IfSome result (λ world. world.is_open ≡ false) }
@@ -172,14 +183,14 @@ impl<I: Ledger, N: Ledger, M: Ledger, B: Ledger> Machine<I, N, M, B> {
         None
     }
 
-    /// Gives the machine a world, in place of the one that it has, if it has one.
+    /// Gives the machine a world, which replaces the one that it has, if it has one.
     pub fn give_world(&mut self, world: World<I, N, M, B>)
         ensures { self.new ≡ record self.old { world = Some world } }
     {
         self.world = Some(world);
     }
 
-    /// Answers calls on the zone with this number, where that is the one that is open.
+    /// Answers calls on the zone with this number, if it is the open one.
     fn call(&mut self, zone: ZoneNo, calls: Calls, reply: &mut Reply)
         ensures answer { record { reply = reply.new; world = self.new.world } ≡ step_on zone calls self.old.world }
         ensures places { self.new.places ≡ self.old.places }
@@ -191,7 +202,7 @@ impl<I: Ledger, N: Ledger, M: Ledger, B: Ledger> Machine<I, N, M, B> {
     }
 }
 
-/// Answers a pool of blocks of the zone of a world, where no round is open by hand.
+/// Answers a pool of blocks of the zone of a world, where no hand round is open.
 fn answer_pool<I: Ledger, N: Ledger, M: Ledger, B: Ledger>(
     world: &mut World<I, N, M, B>,
     count: BlockCount,
@@ -206,7 +217,7 @@ fn answer_pool<I: Ledger, N: Ledger, M: Ledger, B: Ledger>(
     }
 }
 
-/// Takes the lowest free blocks, up to so many. Where none is free a round is needed, and without threads no worker can be had.
+/// Takes the lowest free blocks, `count` at most. Where none is free a round is needed, and without threads no worker can be had for it.
 fn reserve<I: Ledger, N: Ledger, M: Ledger, B: Ledger>(
     world: &mut World<I, N, M, B>,
     count: BlockCount,
@@ -237,7 +248,7 @@ fn reserve<I: Ledger, N: Ledger, M: Ledger, B: Ledger>(
     }
 }
 
-/// Why a pool without threads stops where a block is refused it.
+/// Why a pool without threads stops where it is refused a block.
 fn stopped_by(error: ZoneError) -> PoolStopped
     ensures { result ≡ stopped_by error }
 {
@@ -261,7 +272,7 @@ fn answer_all<I: Ledger, N: Ledger, M: Ledger, B: Ledger>(
     }
 }
 
-/// Makes the calls of a series one after the other, up to the first that is refused.
+/// Makes the calls of a series one after the other, up to the first one that is refused.
 fn answer_series<I: Ledger, N: Ledger, M: Ledger, B: Ledger>(
     world: &mut World<I, N, M, B>,
     series: Series,
@@ -286,7 +297,7 @@ fn answer_series<I: Ledger, N: Ledger, M: Ledger, B: Ledger>(
     Reply::AllDone(count)
 }
 
-/// Answers a call of a series at its page, where that is one of the space.
+/// Answers the call of a series for a page, which is refused where the space has no such page.
 fn answer_at<I: Ledger, N: Ledger, M: Ledger, B: Ledger>(
     world: &mut World<I, N, M, B>,
     repeated: Repeated,
@@ -329,7 +340,7 @@ fn map_page<I: Ledger, N: Ledger, M: Ledger, B: Ledger>(
     *reply = mapped.map_or_else(by_zone, |_| Reply::Done);
 }
 
-/// Takes a page away from an address.
+/// Takes an address from a page.
 fn unmap_page<I: Ledger, N: Ledger, M: Ledger, B: Ledger>(
     world: &mut World<I, N, M, B>,
     address: Address,
@@ -340,7 +351,7 @@ fn unmap_page<I: Ledger, N: Ledger, M: Ledger, B: Ledger>(
     tell_done(world.unmap(script_client(), address), reply);
 }
 
-/// A page of a space, where it has so many.
+/// The address of a page in a space, if the space has such a page.
 fn address(space: SpaceNo, page: u128) -> Option<Address>
     ensures { result ≡ address_of space page }
 {
@@ -394,7 +405,7 @@ fn answer<I: Ledger, N: Ledger, M: Ledger, B: Ledger>(
     }
 }
 
-/// Tells that a call was done, or its refusal.
+/// Writes the reply that a call was done, or its refusal.
 fn tell_done(outcome: Result<(), ZoneError>, reply: &mut Reply)
     ensures ok { OnOk outcome (reply.new ≡ Reply.Done) }
     ensures err { IfErr outcome (λ error. reply.new ≡ Reply.Refused (number_of error)) }
@@ -402,7 +413,7 @@ fn tell_done(outcome: Result<(), ZoneError>, reply: &mut Reply)
     *reply = outcome.map_or_else(by_zone, |()| Reply::Done);
 }
 
-/// Tells the value of a word, or a refusal.
+/// Writes the reply with the value of a word, or a refusal.
 fn tell_value(outcome: Result<u64, ZoneError>, reply: &mut Reply)
     ensures ok { IfOk outcome (λ value. reply.new ≡ Reply.Value value) }
     ensures err { IfErr outcome (λ error. reply.new ≡ Reply.Refused (number_of error)) }
@@ -410,7 +421,7 @@ fn tell_value(outcome: Result<u64, ZoneError>, reply: &mut Reply)
     *reply = outcome.map_or_else(by_zone, Reply::Value);
 }
 
-/// Tells what is known of a page, or a refusal.
+/// Writes the reply with what is known of a page, or a refusal.
 fn tell_look(outcome: Result<Look, ZoneError>, reply: &mut Reply)
     ensures ok { IfOk outcome (λ look. reply.new ≡ Reply.Looked look) }
     ensures err { IfErr outcome (λ error. reply.new ≡ Reply.Refused (number_of error)) }
@@ -418,7 +429,7 @@ fn tell_look(outcome: Result<Look, ZoneError>, reply: &mut Reply)
     *reply = outcome.map_or_else(by_zone, Reply::Looked);
 }
 
-/// Tells the pageblock that was handed out, or a refusal.
+/// Writes the reply with the pageblock that was handed out, or a refusal.
 fn tell_block(outcome: Result<BlockNo, ZoneError>, reply: &mut Reply)
     ensures ok { IfOk outcome (λ block. reply.new ≡ Reply.Block block) }
     ensures err { IfErr outcome (λ error. reply.new ≡ Reply.Refused (number_of error)) }
@@ -426,7 +437,7 @@ fn tell_block(outcome: Result<BlockNo, ZoneError>, reply: &mut Reply)
     *reply = outcome.map_or_else(by_zone, Reply::Block);
 }
 
-/// Tells the block of this order that was handed out, or a refusal.
+/// Writes the reply with the block of this order that was handed out, or a refusal.
 fn tell_handed_out(outcome: Result<FrameNo, ZoneError>, order: Order, reply: &mut Reply)
     ensures ok { IfOk outcome (λ first. reply.new ≡ Reply.HandedOut first order) }
     ensures err { IfErr outcome (λ error. reply.new ≡ Reply.Refused (number_of error)) }
@@ -434,7 +445,7 @@ fn tell_handed_out(outcome: Result<FrameNo, ZoneError>, order: Order, reply: &mu
     *reply = outcome.map_or_else(by_zone, |first| Reply::HandedOut { first, order });
 }
 
-/// Tells what a scan found, or a refusal.
+/// Writes the reply with what a scan found, or a refusal.
 fn tell_scan(outcome: Result<Scanned, WorldError>, reply: &mut Reply)
     ensures ok { IfOk outcome (λ scanned. reply.new ≡ found scanned) }
     ensures err { IfErr outcome (λ error. reply.new ≡ Reply.Refused (world_number_of error)) }
@@ -442,7 +453,7 @@ fn tell_scan(outcome: Result<Scanned, WorldError>, reply: &mut Reply)
     *reply = outcome.map_or_else(by_world, scan_reply);
 }
 
-/// Tells the serial of the page that a hand took, or a refusal.
+/// Writes the reply with the serial of the page that a hand took, or a refusal.
 fn tell_serial(outcome: Result<Serial, WorldError>, reply: &mut Reply)
     ensures ok { IfOk outcome (λ serial. reply.new ≡ Reply.Serial serial) }
     ensures err { IfErr outcome (λ error. reply.new ≡ Reply.Refused (world_number_of error)) }
@@ -450,7 +461,7 @@ fn tell_serial(outcome: Result<Serial, WorldError>, reply: &mut Reply)
     *reply = outcome.map_or_else(by_world, Reply::Serial);
 }
 
-/// Tells that a hand copied its page, or a refusal.
+/// Writes the reply that a hand copied its page, or a refusal.
 fn tell_copy(outcome: Result<(), WorldError>, reply: &mut Reply)
     ensures ok { OnOk outcome (reply.new ≡ Reply.Done) }
     ensures err { IfErr outcome (λ error. reply.new ≡ Reply.Refused (world_number_of error)) }
@@ -458,7 +469,7 @@ fn tell_copy(outcome: Result<(), WorldError>, reply: &mut Reply)
     *reply = outcome.map_or_else(by_world, |()| Reply::Done);
 }
 
-/// Tells how a move ended, or a refusal.
+/// Writes the reply with how a move ended, or a refusal.
 fn tell_end(outcome: Result<Finished, WorldError>, reply: &mut Reply)
     ensures ok { IfOk outcome (λ finished. reply.new ≡ ending finished.serial finished.ended) }
     ensures err { IfErr outcome (λ error. reply.new ≡ Reply.Refused (world_number_of error)) }
@@ -466,7 +477,7 @@ fn tell_end(outcome: Result<Finished, WorldError>, reply: &mut Reply)
     *reply = outcome.map_or_else(by_world, end_reply);
 }
 
-/// Tells how many pages were put back, or a refusal.
+/// Writes the reply with how many pages were put back, or a refusal.
 fn tell_shut(outcome: Result<u32, WorldError>, reply: &mut Reply)
     ensures ok { IfOk outcome (λ count. reply.new ≡ Reply.Shut count) }
     ensures err { IfErr outcome (λ error. reply.new ≡ Reply.Refused (world_number_of error)) }
@@ -474,21 +485,21 @@ fn tell_shut(outcome: Result<u32, WorldError>, reply: &mut Reply)
     *reply = outcome.map_or_else(by_world, Reply::Shut);
 }
 
-/// A refusal of the zone.
+/// The reply for a refusal of the zone.
 fn by_zone(error: ZoneError) -> Reply
     ensures { result ≡ reply.Refused (number_of error) }
 {
     Reply::Refused(error.number())
 }
 
-/// A refusal of the world.
+/// The reply for a refusal of the world.
 fn by_world(error: WorldError) -> Reply
     ensures { result ≡ reply.Refused (world_number_of error) }
 {
     Reply::Refused(error.number())
 }
 
-/// What a scan found.
+/// The reply for what a scan found.
 fn scan_reply(scanned: Scanned) -> Reply
     ensures { result ≡ found scanned }
 {
@@ -498,7 +509,7 @@ fn scan_reply(scanned: Scanned) -> Reply
     }
 }
 
-/// How the move of a page ended.
+/// The reply for how the move of a page ended.
 fn end_reply(finished: Finished) -> Reply
     ensures { result ≡ ending finished.serial finished.ended }
 {
@@ -509,7 +520,7 @@ fn end_reply(finished: Finished) -> Reply
     }
 }
 
-/// The flags of a page that is mapped.
+/// The flags for mapping a page.
 pub fn flags(unmovable: bool) -> PageFlags
     ensures clean { bit_and result.0 2 ≡ 0 }
     ensures unmovable { is_unmovable result ≡ unmovable }
@@ -521,7 +532,7 @@ pub fn flags(unmovable: bool) -> PageFlags
     }
 }
 
-/// The number of the client that a script's own calls are made for.
+/// The number of the client that makes the script's own calls: 0.
 fn script_client() -> ClientNo
     ensures { result ≡ 0 }
 {

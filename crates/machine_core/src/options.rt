@@ -3,9 +3,9 @@ ghost use Rattle.std.specs.Prelude.{◌<◌, ◌≤◌};
 /// What a script runs with.
 #[derive(Clone, Copy, Debug, PartialEq, Eq)]
 pub struct Options {
-    /// The threads that copy in a round, 1 to 4.
+    /// The copiers of a round, 1 to 4.
     pub copiers: usize,
-    /// How many pages a queue of a round holds, 1 to 64.
+    /// The room of each queue of a round, 1 to 64 pages.
     pub capacity: usize,
     /// The places of a zone's journal, 1 to 65536.
     pub journal: u32,

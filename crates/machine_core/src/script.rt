@@ -15,33 +15,33 @@ use std::marker::Brand;
 use std::sync::ledger::Ledger;
 use zone_core::Blanks;
 
-/// Runs a script: reads its lines, answers its commands and writes the replies, up to its end or to the first fault. A round is
-/// refused, since there are no threads. The clauses speak of a reader and a writer that tell their bytes, in whatever pieces they
-/// give and take them.
+/// Runs a script: reads its lines, answers its commands and writes the replies, up to its end or to its first fault. A round is
+/// refused, since there are no threads. The clauses speak of readers and writers that tell their bytes, whatever pieces these are
+/// read and written in.
 pub fn run<R: Input, W: Output>(
     alloc: Global,
     reader: &mut R,
     writer: &mut W,
     options: Options,
 ) -> Result<Totals, RunError>
-    // The script has no fault, and is answered.
+    // The script has no fault, and all of its commands are answered.
     ensures ok { OnOk result (IfSome (R.remaining reader.old) (λ input. fault_of input ≡ None)) }
     ensures totals { IfOk result (λ totals. IfSome (R.remaining reader.old) (λ input.
         totals ≡ totals_of options.journal input)) }
 
-    // A fault of the script is its first one, and the replies before it are written.
+    // A fault in the script is its first one, and the replies to the commands before it are written.
     ensures fault { IfErr result (λ error. IsTrue (is_of_script error.fault) → IfSome (R.remaining reader.old) (λ input.
         fault_of input ≡ Some error)) }
     ensures output { IsTrue (is_over result) → IfSome (R.remaining reader.old) (λ input.
         Appends (W.contents writer.old) (W.contents writer.new) (output_of options.journal input)) }
 
-    // A read failed, or ten million saw no end; a write failed, or took no byte.
+    // Where a read ended the run, it failed, or ten million reads didn't come to the end; where a write did, it failed or took no byte.
     ensures heard { OnOk result (R.failed reader.new ≡ false) }
     ensures unread { IfErr result (λ error. error.fault ≡ Fault.Read → CannotReadOn (R.failed reader.new)
         (R.reads reader.old) (R.reads reader.new) (R.remaining reader.old)) }
     ensures stuck { IfErr result (λ error. error.fault ≡ Fault.Write → IsTrue (W.stuck writer.new)) }
 
-    // Whatever else ends the run, the replies before it are written, but where it is that they can't be.
+    // Whatever else ends the run, the replies to the commands before are written, unless it is that they can't be.
     ensures read { IfErr result (λ error. error.fault ≡ Fault.Read → OnSome (R.remaining reader.old)
         (FailsBehind options.journal (R.remaining reader.old) (R.remaining reader.new)
         (W.contents writer.old) (W.contents writer.new) error.line)) }
@@ -53,7 +53,7 @@ pub fn run<R: Input, W: Output>(
     run_with::<Brand, Brand, Brand, Brand, R, W>(alloc, reader, writer, options, Blanks::new())
 }
 
-/// Runs a script that lies in memory. No read of it fails.
+/// Runs a script that is in memory. No read of it fails.
 pub fn run_text<W: Output>(
     alloc: Global,
     script: &[u8],
@@ -65,7 +65,7 @@ pub fn run_text<W: Output>(
     ensures fault { IfErr result (λ error. IsTrue (is_of_script error.fault) → fault_of script.now ≡ Some error) }
     ensures output { IsTrue (is_over result) → Appends (W.contents writer.old) (W.contents writer.new)
         (output_of options.journal script.now) }
-    // Each read gives a byte at least, so a text of fewer than 10,000,000 bytes ends before the reads do.
+    // Each read gives at least a byte, so ten million reads come to the end of a text with fewer than 10,000,000 bytes.
     ensures read { length script.now < 10000000 → IfErr result (λ error. error.fault ≢ Fault.Read) }
     ensures write { IfErr result (λ error. error.fault ≡ Fault.Write → StopsIn (answers_of options.journal script.now)
         (W.contents writer.old) (W.contents writer.new) error.line) }
@@ -76,7 +76,7 @@ pub fn run_text<W: Output>(
     run(alloc, &mut Text::new(script), writer, options)
 }
 
-/// Runs a script. Its zone, if it opens one, is named by the ledgers.
+/// Runs a script. The ledgers name the zone that it opens, if it opens one.
 fn run_with<I: Ledger, N: Ledger, M: Ledger, B: Ledger, R: Input, W: Output>(
     alloc: Global,
     reader: &mut R,

@@ -7,7 +7,7 @@ use Rattle.std.proofs.lemmas.Iterator.{items_from_drains}
 use Rattle.std.proofs.lemmas.Iterator.Adapters.{YieldsList-from_vec}
 use Rattle.std.proofs.lemmas.List.{map-id}
 
--- a run to the end gives all that was still to come
+-- a run to the end gives all items that were still to come
 pub whole_run : {X Z : Type 0} (words : IntoIter X Z) (run : Run (into_iter_steps {X = X} {Z = Z})) → run.from ≡ words → run.whole ≡ true
     → run.items ≡ into_iter_items words
 unfolding YieldsRun

@@ -25,14 +25,14 @@ use Rattle.clap.specs.declared.parser.matches.MatchedArg.{MatchedArg}
 use Rattle.clap.proofs.CallerLemmas.{entry_by_id, same_rules_by_id}
 use Rattle.options_core.specs.CommandLine.{FindsUpTo, number_rule, options_line}
 
--- what holds of all values holds of the first
+-- what holds of all values of a list holds of the first
 first_passes : {X : Type 0} (P : X → Type 0) (xs : List X) (x : X) → All P xs → slice_get xs 0 ≡ Some x → P x
 first_passes P [] x all is = cc
 first_passes P (y ∷ ys) x all is =
     let same : y ≡ x = cc in
     subst P same (All-get_or P (y ∷ ys) 0 y (omega arith) all)
 
--- an argument of the caller's with an id of its own, that takes the numbers from 1 to most
+-- an argument of the caller's with an id of its own, which takes the numbers from 1 to most
 record Takes (old : Command) (k : ℕ) (d : Arg) (id : List ℕ) (most : ℕ) : Type 0 where
   pub within : k < length (args_of old)
   pub id_is : (slice_index_or (args_of old) k d).id.now ≡ id
@@ -42,7 +42,7 @@ record Takes (old : Command) (k : ℕ) (d : Arg) (id : List ℕ) (most : ℕ) : 
   pub parser : (slice_index_or (args_of old) k d).value_parser ≡ Some (Signed (pos 1) (pos most))
 
 module _ (old : Command) (m : ArgMatches) (p : IsParsedFrom old m) (k : ℕ) (d : Arg) (id : List ℕ) (most : ℕ) (takes : Takes old k d id most) where
-  -- an argument of the built command with that id is the caller's
+  -- an argument of the built command with this id is the caller's
   same_rules : (j : ℕ) (x : Arg) → j < length (args_of p.built) → slice_index_or (args_of p.built) j x ≡ x → bytes_eq x.id.now id ≡ true
       → SameRules (slice_index_or (args_of old) k d) x
   same_rules j x within at same =
@@ -59,7 +59,7 @@ module _ (old : Command) (m : ArgMatches) (p : IsParsedFrom old m) (k : ℕ) (d 
   reading : (r : Reading) → HasReading p.built id r → reading_of (Signed (pos 1) (pos most)) ≡ r
   reading r any = ap reading_of (sym (parser_is any.1 (same_rules any.0 any.1 any.2 any.3 any.4.0))) ∙ any.4.1
 
-  -- what one entry gives
+  -- the value that an entry gives
   entry_finds : (x : MatchedArg) (v : Bor (List ℕ)) (e : Entry) → groups_of p.built ≡ [] → slice_get x.vals.items 0 ≡ Some v
       → e.1 ≡ x → e.0.now ≡ id → EntryPasses p.built e
       → (read_as x.reading v.now ≡ without_minus v.now) × IsSignedIn (pos 1) (pos most) v.now
@@ -119,7 +119,7 @@ most_at (suc (suc n)) = 65536
 abbrev pub rules_at : List Rule
 rules_at = number_rule (id_at 0) (most_at 0) ∷ number_rule (id_at 1) (most_at 1) ∷ number_rule (id_at 2) (most_at 2) ∷ []
 
--- no two of them are one
+-- no two of the three ids are the same
 distinct : (j k : ℕ) → j < 3 → k < 3 → bytes_eq (id_at j) (id_at k) ≡ true → j ≡ k
 distinct zero zero lj lk e = refl
 distinct zero (suc zero) lj lk e = cc

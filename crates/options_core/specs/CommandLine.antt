@@ -23,44 +23,44 @@ abbrev pub number_rule : Text → ℕ → Rule
 number_rule name most =
     record (new_rule name) { long = Some name; value_names = 1; parser = Some (Signed (pos 1) (pos most)) }
 
--- `--version` is an option too
+-- the command line with the option `--version`
 abbrev pub with_version : App → App
 with_version app = record app { top = record app.top { has_version = true } }
 
--- the three options of the program
+-- the command line with the three options of the program
 unfoldable pub options_line : App
 options_line =
     with_rule (with_rule (with_rule (with_version (new_app (codes "compactd")))
     (number_rule (codes "copiers") 4)) (number_rule (codes "capacity") 64)) (number_rule (codes "journal") 65536)
 
--- the kinds of clap's answer where the words give no options: none where they give them. It is a list since the answer has one of these
--- kinds, and which isn't said.
+-- the kinds of clap's answer where the words give no options, and none where they give them. It is a list since the answer has one of
+-- these kinds, and which one isn't said.
 unfoldable pub refusal_of : List Text → Kinds
 refusal_of words = fault_of options_line words
 
--- whether clap answers with its help, which is no refusal
+-- whether clap answers with its help or its version, which isn't a refusal
 abbrev pub is_help : ErrorKind → Bool
 is_help DisplayHelp = true
 is_help DisplayVersion = true
 is_help _ = false
 
--- whether they ask for help
+-- whether the words ask for the help or the version
 abbrev pub asks_help : List Text → Bool
 asks_help words = list_any is_help (refusal_of words)
 
--- whether they ask for nothing else, if for anything
+-- whether clap answers, if it does, only with its help or its version
 abbrev pub asks_only_help : List Text → Bool
 asks_only_help words = list_all is_help (refusal_of words)
 
--- the number that a text of decimal digits stands for
+-- the number that decimal digits stand for
 abbrev pub number_told : Text → ℕ
 number_told text = digits_value 10 (without_leading_plus text)
 
--- the number that the words give for an option, and where they give none the option's own
+-- the number that the words give for an option, and `own` where they give none
 unfoldable pub number_of : List Text → Text → ℕ → ℕ
 number_of words name own = unwrap_or (option_map number_told (one_of name (matches_of options_line words))) own
 
--- the places of the journal
+-- the number of places that the words give to the journal
 abbrev pub journal_of : List Text → ℕ
 journal_of words = number_of words (codes "journal") 65536
 

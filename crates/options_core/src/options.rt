@@ -1,4 +1,4 @@
-//! The program's arguments.
+//! The options of the program.
 ghost use Rattle.std.specs.Prelude.{◌≡◌, ◌≤◌, Some, false, codes, map, option_map, pos, unwrap_or, [], ◌∷◌, IfOk, IfErr, IsErrAnd};
 ghost use Rattle.std.specs.Vec.Iter.{into_iter_items};
 ghost use Rattle.clap.specs.Words.{FailsBy, IsPlain, IsPlainArg, app_of, found_of, kind_of, one_text, rule_of};
@@ -31,7 +31,7 @@ and in profile 2, where the first line is `profile 2`:
 
 docs/SCRIPT.md has what each does, its replies, refusals and faults, and examples.";
 
-/// The options that the process was started with, or clap's answer in their place.
+/// The options that the process was started with, or clap's answer where it isn't options: a refusal, the help or the version.
 pub fn given_options(alloc: Global, words: io::Result<Args>) -> Result<Options, Error>
     ensures unread { IfErr words (λ error. IsErrAnd result (λ answer. HasKind (ErrorKind.ValueValidation ∷ []) answer)) }
     ensures refused { IfOk words (λ args. FailsBy (refusal_of (texts_of args)) result) }
@@ -69,7 +69,7 @@ fn no_text(alloc: Global) -> Result<Error, AllocError>
     )
 }
 
-/// What the words ask for, the first of which is the program's name.
+/// The options that the words give, or clap's answer. The first word is the program's name.
 fn options_from<'a, S: AsStr>(alloc: Global, words: &'a [S]) -> Result<Options, Error>
     ensures refused { FailsBy (refusal_of (map S.text words.entry.now)) result }
     ensures ok { IfOk result (IsGiven (map S.text words.entry.now)) }
@@ -82,7 +82,7 @@ fn options_from<'a, S: AsStr>(alloc: Global, words: &'a [S]) -> Result<Options, 
     })
 }
 
-/// The number that was given for an option, 1 to `MOST`, or the option's own.
+/// The number that was given for an option, 1 to `MOST`, or the number `own` where none was given.
 fn number<const MOST: u32>(matches: &ArgMatches<'_>, name: &str, own: u32) -> u32
     requires found { FindsUpTo (found_of matches.now) name.now MOST }
     requires low { 1 ≤ own }

@@ -1,4 +1,4 @@
--- A block is handed out, or taken back: its frames, and that the tables stand for the zone then.
+-- A block is handed out or taken back: its frames, and that the tables still stand for the zone.
 use Rattle.std.proofs.Common.{◌≡◌, ◌≢◌, ℕ, zero, suc, ◌+◌, ◌^◌, ◌<◌, ◌≤◌, Bool, true, false, List, length, ◌⊎◌, inl, inr, refl, sym, ap, ◌∙◌, arith}
 use Rattle.std.specs.Prelude.{Option, Some, None, slice_get, slice_set, nat_eq, nat_le, ◌&&◌, ◌||◌, if◌then◌else◌, IsTrue}
 use Rattle.std.specs.FinMap as map
@@ -38,7 +38,7 @@ use Rattle.plain_core.proofs.OutAndEnded.{moves_kept}
 use Rattle.plain_core.proofs.SearchesAndCounts.{free_seen, order_past, orders_seen}
 use Rattle.plain_core.proofs.Tabulating.{tabulated_insert, tabulated_remove}
 
--- frames that change together
+-- the states of frames after a run of them changed together
 length_with_run : (states : List FrameState) (first n : ℕ) (state : FrameState) → length (with_run states first n state) ≡ length states
 unfolding with_run
 length_with_run states first zero state = refl
@@ -59,7 +59,7 @@ off_run states first (suc n) state k away =
     let other : k ≢ first + n = elim away [ inl under ↦ omega arith | inr above ↦ omega arith ] in
     slice_get_set_other (with_run states first n state) (first + n) k state other ∙ off_run states first n state k (elim away [ inl under ↦ inl under | inr above ↦ inr (omega arith) ])
 
--- a frame that isn't of a block
+-- a frame outside a block is below its first frame or above its last
 off_block : (first order frame : ℕ) → in_block first order frame ≡ false → (frame < first) ⊎ (first + 2 ^ order ≤ frame)
 off_block first order frame e = elim (leb_tells first frame) [
   | inl low ↦ elim (leb_tells (first + 2 ^ order) frame) [ inl above ↦ inr above.1 | inr under ↦ absurd (both_ways _ e (in_block_from first order frame low.1 under.1)) ]
@@ -83,7 +83,7 @@ pub order_held : (o : Option ℕ) (order : ℕ) → is_order o order ≡ true �
 order_held None order e = cc
 order_held (Some held) order e = ap Some (eqb-true held order e)
 
--- the free blocks of the tables are those of the zone
+-- the free blocks in the tables are those of the zone
 module _ (states : List FrameState) (v : ZoneState) (fit : FramesFit states v) where
   pub block_seen : (order first : ℕ) → runs.has_block states order first ≡ has_block v order first
   block_seen order first = ap (λ n. is_aligned order first && nat_le (first + 2 ^ order) n) fit.count
@@ -112,7 +112,7 @@ module _ (z : Inside) (v : ZoneState) (sound : IsSound z v) (view : state_of z �
   pub take_within : first + 2 ^ order ≤ length z.handed_out
   take_within = omega (arith, blocks.run_within v first order run, sound.orders)
 
-  -- whether a frame is of a block
+  -- whether a frame is held is the same in the list of blocks and in the zone
   held_same : (frame : ℕ) → held_at z.handed_out frame ≡ is_held v frame
   held_same frame = λ i. some_below (λ q. covers (orders_seen z v view i q) q frame) (sound.orders i)
 
@@ -138,7 +138,7 @@ module _ (z : Inside) (v : ZoneState) (sound : IsSound z v) (view : state_of z �
     ];
   }
 
-  -- the fields then
+  -- the fields after the block was handed out
   abbrev pub after_take : History → Inside
   after_take history = record z { frames = record z.frames { states = with_run z.frames.states first (2 ^ order) Huge }; handed_out = slice_set z.handed_out first (Some order); history = history }
 
@@ -187,7 +187,7 @@ module _ (z : Inside) (v : ZoneState) (sound : IsSound z v) (view : state_of z �
   pub give_huge : all_from (huge_at z.frames.states) first (2 ^ order) ≡ true
   give_huge = eq-eqb _ _ (count_from_all (huge_at z.frames.states) first (2 ^ order) (λ frame low high. ap is_huge_state (sound.frames.of_block frame (omega (arith, high, within_given)) (held_of v sound.lawful first order frame at (in_block_from first order frame low high)))))
 
-  -- the orders then
+  -- the list of blocks after the block was taken back
   orders_then : (q : ℕ) → order_of (slice_set z.handed_out first None) q ≡ map.get (map.remove v.handed_out first) q
   orders_then q = elim (eqb_tells q first) [
     | inl same ↦ ap (order_of (slice_set z.handed_out first None)) same.1 ∙ order_here z.handed_out first None give_first ∙ sym (get_remove_same v.handed_out first q same.1)
@@ -218,7 +218,7 @@ module _ (z : Inside) (v : ZoneState) (sound : IsSound z v) (view : state_of z �
     ];
   }
 
-  -- the fields then
+  -- the fields after the block was taken back
   abbrev pub after_give : History → Inside
   after_give history = record z { frames = record z.frames { states = with_run z.frames.states first (2 ^ order) Free }; handed_out = slice_set z.handed_out first None; history = history }
 

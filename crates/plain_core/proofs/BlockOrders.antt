@@ -1,4 +1,4 @@
--- The blocks that are handed out: how many they are, and their frames, when one is taken or given.
+-- How many blocks are handed out, and how many frames they have, when one is taken or given back.
 use Rattle.std.proofs.Common.{◌≡◌, ◌≢◌, ℕ, ◌+◌, ◌-◌, ◌^◌, ◌<◌, ◌≤◌, false, ◌⊎◌, List, length, inl, inr, refl, sym, subst, ap, ◌∙◌, arith}
 use Rattle.std.specs.Prelude.{Option, Some, None, is_some, slice_set, IsTrue, ◌||◌}
 use Rattle.std.specs.Option.{option_and_then}
@@ -23,7 +23,7 @@ module _ (orders : List (Option ℕ)) (first : ℕ) (o : Option ℕ) (within : f
   pub order_there : (q : ℕ) → q ≢ first → order_of (slice_set orders first o) q ≡ order_of orders q
   order_there q other = ap (option_and_then (λ (order : Option ℕ). order)) (slice_get_set_other orders first q o other)
 
--- one block more: it and its frames are counted
+-- one more block is counted, with its frames
 module _ (fewer more : List (Option ℕ)) (first order : ℕ) (one : IsOneMore (order_of fewer) (order_of more) first order) (same : length fewer ≡ length more) (within : first + 2 ^ order ≤ length more) (clear : (frame : ℕ) → IsTrue (covers (Some order) first frame) → held_at fewer frame ≡ false) where
   below : first < length more
   below = omega (arith, pow_pos order)
@@ -46,12 +46,12 @@ module _ (fewer more : List (Option ℕ)) (first order : ℕ) (one : IsOneMore (
       out_of_block k (inl under) = and_left _ _ (lt-leb first k under)
       out_of_block k (inr above) = and_right _ _ (le-ltb k (first + 2 ^ order) above)
 
--- a block of the list may be handed out: its frames are of none
+-- a block may be handed out: its frames are in none that is
 pub record CanTake (orders : List (Option ℕ)) (first order : ℕ) : Type 0 where
   pub within : first + 2 ^ order ≤ length orders
   pub clear : (frame : ℕ) → IsTrue (covers (Some order) first frame) → held_at orders frame ≡ false
 
--- it is handed out, and its frames are of no other block
+-- a block may be taken back: it is handed out, and its frames are in no other block
 pub record CanGive (orders : List (Option ℕ)) (first order : ℕ) : Type 0 where
   pub here : order_of orders first ≡ Some order
   pub within : first + 2 ^ order ≤ length orders

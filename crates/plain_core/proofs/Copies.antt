@@ -10,7 +10,7 @@ use Rattle.plain_core.specs.declared.note.Note.{Note}
 use Rattle.plain_core.specs.HandedOut.{order_of}
 use Rattle.plain_core.specs.Notes.{unused_note, placement_of, is_unmovable_of, says_unmovable}
 
--- what a list of copies has at a place
+-- what a list of n copies has at an index
 pub copies : {X : Type 0} (n i : ℕ) (x : X) → (slice_get (replicate n x) i ≡ Some x) ⊎ (slice_get (replicate n x) i ≡ None)
 copies n i x = elim (leb_tells n i) [ inl past ↦ inr (slice_get_past (replicate n x) i (simp length-replicate past.1)) | inr within ↦ inl (slice_get_replicate n i x within.1) ]
 

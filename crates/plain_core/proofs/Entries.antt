@@ -1,4 +1,4 @@
--- One address names something else: the entries of a zone go on fitting.
+-- One address names something else: the entries still stand for the zone.
 use Rattle.std.proofs.Common.{◌≡◌, ◌≢◌, true, false, List, ◌⊎◌, inl, inr, sym, ap, ◌∙◌}
 use Rattle.std.specs.Prelude.{nat_eq, ◌&&◌}
 use Rattle.std.proofs.lemmas.Bool.Decides.{eqb_tells}

@@ -14,10 +14,10 @@ use Rattle.plain_core.specs.Sound.{state_of}
 use Rattle.state_core.specs.ZoneState.{ZoneState, noted}
 use Rattle.state_core.proofs.Facts.{chosen}
 
--- a page that isn't on its way is held by its frame
+-- the frame of a page that isn't moving holds the page
 pub held_by : (frames : List FrameState) (v : ZoneState) → FramesFit frames v → (page frame : ℕ) → map.get v.placement page ≡ Some (At frame) → slice_get frames frame ≡ Some (Holds page)
 held_by frames v fit page frame e = fit.of_page page frame (Holds page) (ap (λ (o : Option Placement). state_by page o frame) e ∙ chosen frame _ _)
 
--- one more record, and nothing else
+-- the state with one more record, and nothing else changed
 pub noted_view : (z : Inside) (v : ZoneState) (history : History) (entry : Record) → state_of z ≡ v → history ≡ told z.history entry → state_of (record z { history = history }) ≡ noted v entry
 noted_view z v history entry view is = ap (λ (h : History). state_of (record z { history = h })) is ∙ ap (λ (u : ZoneState). noted u entry) view

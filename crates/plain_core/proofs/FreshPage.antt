@@ -1,4 +1,4 @@
--- A fresh page in a free frame: the tables of the zone go on fitting.
+-- A fresh page in a free frame: the tables still stand for the zone.
 use Rattle.std.proofs.Common.{◌≡◌, ◌≢◌, ℕ, ◌<◌, Bool, true, false, not, List, length, inl, inr, refl, sym, ap, ◌∙◌, arith}
 use Rattle.std.specs.Prelude.{Option, Some, None, is_some, slice_get, slice_set, nat_eq, ◌&&◌, if◌then◌else◌}
 use Rattle.std.specs.Option.{option_and_then}
@@ -82,7 +82,7 @@ module _ (v : ZoneState) (client : ℕ) (address : Address) (unmovable : Bool) (
     kept = λ g off gone. slice_get_set_other frames frame g (Holds page) (away g gone);
   })
 
-  -- where the page of another address is
+  -- the placement of the page of each other address stays
   placement_there : (b : Address) → same_address b address ≡ false → placement_at next b ≡ placement_at v b
   placement_there b e = ap (option_and_then (map.get next.placement)) (named_there v client address unmovable page frame can b e) ∙ by_name (page_at v.records b) refl where
     by_name : (o : Option ℕ) → page_at v.records b ≡ o → option_and_then (map.get next.placement) (page_at v.records b) ≡ option_and_then (map.get v.placement) (page_at v.records b)
@@ -192,7 +192,7 @@ module _ (z : Inside) (v : ZoneState) (client : ℕ) (address : Address) (unmova
         movable = movable_placed v client address unmovable page frame can z.frames.movable sound.movable;
       }
 
-  -- where the notes had the fresh page: nowhere
+  -- before the call the notes had no placement for the fresh page
   unused_before : placement_of z.notes page ≡ None
   unused_before = sym (get_placements z.notes page) ∙ ap (λ (u : ZoneState). map.get u.placement page) known.view ∙ known.can.unused
 

@@ -1,4 +1,4 @@
--- The notes of pages: which numbers are in use, and how many, when one changes.
+-- Which page numbers are in use by their notes, and how many, when one note changes.
 use Rattle.std.proofs.Common.{◌≡◌, ◌≢◌, ℕ, zero, suc, ◌+◌, ◌-◌, ◌<◌, ◌≤◌, Bool, true, false, not, List, length, inl, inr, refl, sym, ap, ◌∙◌, get_or, arith}
 use Rattle.std.specs.Prelude.{Option, Some, None, is_some, is_none, nat_eq, nat_lt, slice_set, ◌&&◌, if◌then◌else◌}
 use Rattle.std.specs.FinSet as set
@@ -26,7 +26,7 @@ pub in_use_most : (notes : List Note) (n : ℕ) → count_below (is_in_use notes
 in_use_most notes zero = omega arith
 in_use_most notes (suc n) = omega (arith, one_most (is_in_use notes n), in_use_most notes n)
 
--- a number in use has a note
+-- a page number that is in use has a note
 pub in_use_within : (notes : List Note) (page : ℕ) → is_in_use notes page ≡ true → page < length notes
 in_use_within notes page used = elim (slice_get_cases notes page).1 [
   | inl here ↦ here.1
@@ -48,7 +48,7 @@ module _ (notes : List Note) (page : ℕ) (note : Note) (within : page < length 
   pub placement_there : (q : ℕ) → q ≢ page → placement_of (slice_set notes page note) q ≡ placement_of notes q
   placement_there q other = ap (option_and_then (λ (n : Note). n.placement)) (slice_get_set_other notes page q note other)
 
-  -- how many are in use: one more, one fewer, or as many
+  -- the number of pages in use is one more, one fewer, or as it was
   pub gained : is_in_use notes page ≡ false → is_some note.placement ≡ true → count_below (is_in_use (slice_set notes page note)) (length (slice_set notes page note)) ≡ count_below (is_in_use notes) (length notes) + 1
   gained was is =
       ap (count_below (is_in_use (slice_set notes page note))) (length-set notes page note)
@@ -70,7 +70,7 @@ module _ (notes : List Note) (page : ℕ) (note : Note) (within : page < length 
       ap (count_below (is_in_use (slice_set notes page note))) (length-set notes page note)
       ∙ count_same (is_in_use (slice_set notes page note)) (is_in_use notes) (length notes) (λ q h. in_use_kept same q)
 
--- whether the number was in use, as a call reads it
+-- whether the page number was in use, as a call reads it
 pub was_in_use : (notes v : List Note) (place page : ℕ) (note : Note) (was : Bool) → notes ≡ v → page < length v → place ≡ page → note ≡ get_or notes place note → was ≡ is_some note.placement → (place < length notes) × (is_in_use notes place ≡ was)
 was_in_use notes v place page note was same page_in at read is =
     let within : place < length notes = omega (arith, page_in, at, ap length same) in (
@@ -80,7 +80,7 @@ was_in_use notes v place page note was same page_in at read is =
     )
 
 module _ (z : Inside) (counted : IsCounted z) (page : ℕ) (note : Note) (within : page < length z.notes.items) where
-  -- the numbers that aren't in use, once a number is put among them or taken out
+  -- the numbers that aren't in use, after one was put among them or taken out
   unused_then : (unused : set.FinSet nat_cmp) (number : ℕ) (is : Bool) → number ≡ page → is ≡ is_some note.placement → ((q : ℕ) → set.contains unused q ≡ (if nat_eq q number then not is else set.contains z.unused q))
       → (q : ℕ) → set.contains unused q ≡ (nat_lt q (length (slice_set z.notes.items page note)) && is_none (placement_of (slice_set z.notes.items page note) q))
   unused_then unused number is at used put q = put q ∙ ap (λ k. if nat_eq q k then not is else set.contains z.unused q) at ∙ elim (eqb_tells q page) [
@@ -115,7 +115,7 @@ module _ (z : Inside) (counted : IsCounted z) (page : ℕ) (note : Note) (within
       unused = unused_then unused number is at used put;
     }
 
--- a page in use is placed elsewhere
+-- a page in use gets another placement
 pub placed_counted : (z : Inside) → IsCounted z → (page : ℕ) (note : Note) → is_in_use z.notes.items page ≡ true → is_some note.placement ≡ true → IsCounted (record z { notes = with_item z.notes page note })
 placed_counted z counted page note used placed =
     kept_counted z counted page note (in_use_within z.notes.items page used) z.unused page true refl (sym placed) unused used where

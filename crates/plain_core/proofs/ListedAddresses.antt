@@ -57,7 +57,7 @@ module _ (entries : List Entry) (v : ZoneState) (fit : EntriesFit entries v) (la
           takes = ap (λ (o : Option Placement). takes_up o frame) page.2 ∙ takes_listed p frame (sym (ap (λ (x : Entry). is_listed x frame) entry) ∙ e);
         }
 
-  -- none is listed under a frame that no page takes up
+  -- no address is listed under a frame that no page takes up
   pub none_listed : (frame : ℕ) → is_used v frame ≡ false → (a : Address) → InRange a → is_listed (entry_at entries a) frame ≡ false
   none_listed frame unused a range = by_list (is_listed (entry_at entries a) frame) refl where
     by_list : (b : Bool) → is_listed (entry_at entries a) frame ≡ b → b ≡ false
@@ -71,7 +71,7 @@ module _ (entries : List Entry) (v : ZoneState) (fit : EntriesFit entries v) (la
       pairs_same_below _ (λ space vpage. false) 8 4096 (λ space vpage h l. none_listed frame unused (record { space = space; vpage = vpage }) (record { space = h; vpage = l }))
       ∙ pairs_none (λ space vpage. false) 8 4096 (λ i j. refl)
 
-  -- under the frame of a page just the addresses that name the page are listed
+  -- exactly the addresses that name a page are listed under its frame
   pub listed_names : (page frame : ℕ) → map.get v.placement page ≡ Some (At frame) → (a : Address) → InRange a → is_listed (entry_at entries a) frame ≡ names v.records a page
   listed_names page frame at a range = by_list (is_listed (entry_at entries a) frame) (page_at v.records a) refl refl where
     by_list : (b : Bool) (o : Option ℕ) → is_listed (entry_at entries a) frame ≡ b → page_at v.records a ≡ o → b ≡ is_page (page_at v.records a) page
@@ -91,7 +91,7 @@ module _ (entries : List Entry) (v : ZoneState) (fit : EntriesFit entries v) (la
       pairs_same_below _ (λ space vpage. names v.records (record { space = space; vpage = vpage }) page) 8 4096
       (λ space vpage h l. listed_names page frame at (record { space = space; vpage = vpage }) (record { space = h; vpage = l }))
 
-  -- no address has the serial that is the next
+  -- no entry has the serial that is given next
   pub fresh_serial : (a : Address) (source : ℕ) → InRange a → entry_at entries a ≢ Migration (isolated v.records) source
   fresh_serial a source range e =
       let way = migration_is (placement_at v a) (isolated v.records) source (sym (fit.each a range) ∙ e) in
@@ -100,7 +100,7 @@ module _ (entries : List Entry) (v : ZoneState) (fit : EntriesFit entries v) (la
       let below = out_below v.records law.well_ended (isolated v.records) known.0 in
       absurd (omega (arith, below))
 
-  -- no address names a page that left a frame which no page takes up, or in which a page rests
+  -- no address names a page that left a frame which no page takes up, or which holds a page
   pub none_left : (frame : ℕ) → is_used v frame ≡ false → (a : Address) (serial : ℕ) → InRange a → entry_at entries a ≢ Migration serial frame
   none_left frame unused a serial range e =
       untrue _ (none_listed frame unused a range) (ap (λ (x : Entry). is_listed x frame) e ∙ eq-eqb frame frame refl)
@@ -114,7 +114,7 @@ module _ (entries : List Entry) (v : ZoneState) (fit : EntriesFit entries v) (la
       let bad : Present frame ≡ Migration serial frame = sym (ap (λ (p : Placement). entry_for (Some p)) is) ∙ sym by.entry ∙ e in
       cc
 
-  -- what is listed under the source of a page on its way is the page's, and nothing is under its target
+  -- the addresses listed under the source of a moving page name that page, and none is listed under its target
   module _ (page serial source target : ℕ) (at : map.get v.placement page ≡ Some (Moving serial source target)) where
     same_page : (frame : ℕ) → takes_up (Some (Moving serial source target)) frame ≡ true → (a : Address) (by : Names a frame) → by.placement ≡ Moving serial source target
     same_page frame takes a by =

@@ -34,7 +34,7 @@ use Rattle.state_core.proofs.Facts.{taken, skipped, page_named, frame_within, fr
 use Rattle.plain_core.proofs.Facts.{noted_view, held_by}
 use Rattle.state_core.proofs.Accessed.{lawful_stored, lawful_loaded}
 
--- what the entry of an address says of its page
+-- what the entry of an address says of the placement of its page
 pub absent_refused : (o : Option Placement) → entry_for o ≡ Absent → Some Unmapped ≡ placement_refusal o
 absent_refused None e = refl
 absent_refused (Some (At frame)) e = cc
@@ -86,7 +86,7 @@ module _ (rows : List (List ℕ)) (v : ZoneState) (law : IsLawful v) (fit : Word
   within : frame < length rows
   within = omega (arith, frame_within v law page (At frame) at, fit.count)
 
-  -- what is last stored, after the store
+  -- the last value of each word after the store
   last_is : (q w : ℕ) → last (Store client address word value ∷ v.records) q w ≡ (if nat_eq page q && nat_eq word w then value else last v.records q w)
   last_is q w = ap (λ (o : Option ℕ). if is_page o q && nat_eq word w then value else last v.records q w) named
 
@@ -129,7 +129,7 @@ module _ (rows : List (List ℕ)) (v : ZoneState) (law : IsLawful v) (fit : Word
     ];
   }
 
-  -- the notes after the store: the page is dirty
+  -- the notes after the store, which says that the page is dirty
   pub stored_notes : (notes : List Note) (note : Note) → NotesFit notes v → slice_get notes page ≡ Some note → NotesFit (slice_set notes page (record note { dirty = true })) (stored v client address word value)
   stored_notes notes note old e = record {
     count = length-set notes page (record note { dirty = true }) ∙ old.count;
@@ -161,7 +161,7 @@ word_read z v sound address frame word at small =
     get_or_from_slice_get (words_of z.words frame) word _ 0 (sound.words.each page.0 (At frame) word page.2 small)
     ∙ ap (λ (o : Option ℕ). last v.records (unwrap_or o 0) word) (sym page.1)
 
--- the page that an address names, where it isn't on its way
+-- what is known of the page that an address names, where the page isn't moving
 pub record Resident (z : Inside) (v : ZoneState) (address : Address) (frame : ℕ) : Type 0 where
   pub page : ℕ
   pub named : page_at v.records address ≡ Some page

@@ -29,7 +29,7 @@ module _ (marks : List Bool) (block : ℕ) (mark : Bool) (eight : length marks �
   no_mark_then : (q : ℕ) → 8 ≤ q → true_at (slice_set marks block mark) q ≡ false
   no_mark_then q h = ap (λ (o : Option Bool). unwrap_or o false) (slice_get_past (slice_set marks block mark) q (omega (arith, length-set marks block mark)))
 
--- the fields when a mark has been set or taken off
+-- the fields after a mark was set or taken off
 abbrev pub after_mark : Inside → ℕ → Bool → History → Inside
 after_mark z block mark history = record z { marked = slice_set z.marked block mark; history = history }
 
@@ -74,7 +74,7 @@ module _ (z : Inside) (v : ZoneState) (sound : IsSound z v) (view : state_of z �
       λ i. record (state_of z) { records = (is i).records; room = (is i).room; round = (is i).round; marked = marked i } in
       here ∙ ap (λ (s : ZoneState). block_unmarked s block) view
 
--- a mark as an array is read
+-- a mark, as it is read from an array
 pub mark_read : (marks : List Bool) (block : ℕ) → slice_index_or marks block false ≡ true_at marks block
 mark_read [] block = refl
 mark_read (mark ∷ rest) zero = refl

@@ -43,7 +43,7 @@ right_false : (a b : Bool) → (a || b) ≡ false → b ≡ false
 right_false true b e = cc
 right_false false b e = e
 
--- one of the two frames of a page on its way is its own now, and the other is free
+-- one of the two frames of a moving page holds it now, and the other is free
 module _ (frames : List FrameState) (page kept left : ℕ) (apart : kept ≢ left) (kept_in : kept < length frames) (left_in : left < length frames) where
   abbrev one_set : List FrameState
   one_set = slice_set frames left Free
@@ -118,7 +118,7 @@ module _ (v : ZoneState) (page serial source target : ℕ) (law : IsLawful v) (a
   pub ending_room : 0 < v.room
   ending_room = let left = law.room_left in omega (arith, out_fewer v page serial source target law at)
 
-  -- its two frames
+  -- the source and the target of a moving page are noted as such
   pub source_on_way : (frames : List FrameState) → FramesFit frames v → way_at frames source ≡ true
   source_on_way frames fit = ap is_way_state (fit.of_page page source (Source serial) (ap (λ o. state_by page o source) at ∙ chosen source _ _))
 
@@ -127,7 +127,7 @@ module _ (v : ZoneState) (page serial source target : ℕ) (law : IsLawful v) (a
       let apart = frames_apart v page serial source target law at in
       ap is_way_state (fit.of_page page target (Target serial) (ap (λ o. state_by page o target) at ∙ ap (λ b. if b then Some (Source serial) else if nat_eq target target then Some (Target serial) else None) (ne_eqb target source (λ e. apart (sym e))) ∙ chosen target _ _))
 
-  -- the page afterwards
+  -- what a move or a put back leaves of the page
   pub moved_settled : IsSettled v (relocated v (Moved serial) page (At target)) page target source
   moved_settled = record {
     here = at_page v page (Moving serial source target) (At target) (can_move_on v page serial source target law at) (Moved serial);
@@ -148,18 +148,18 @@ module _ (v : ZoneState) (page serial source target : ℕ) (law : IsLawful v) (a
     names = λ address. refl;
   }
 
--- two frames are used for something else, and whether the page may be taken is noted
+-- two frames change their states, one after the other
 pub two_puts : (f a b : Frames) (i j : ℕ) (x y : FrameState) → a ≡ record f { states = slice_set f.states i x } → b ≡ record a { states = slice_set a.states j y } → b ≡ record f { states = slice_set (slice_set f.states i x) j y }
 two_puts f a b i j x y first second = second ∙ ap (λ (fs : Frames). record fs { states = slice_set fs.states j y }) first
 
--- a page ends its way in one of its frames, and leaves the other
+-- a page's move ends in one of its frames, and the other is free
 pub left_settled : (f a b : Frames) (kept left page : ℕ) (can : Bool) → a ≡ record f { states = slice_set f.states left Free } → b ≡ record { states = slice_set a.states kept (Holds page); movable = slice_set a.movable kept can } → b ≡ record { states = slice_set (slice_set f.states left Free) kept (Holds page); movable = slice_set f.movable kept can }
 left_settled f a b kept left page can first second = second ∙ ap (λ (fs : Frames). record { states = slice_set fs.states kept (Holds page); movable = slice_set fs.movable kept can }) first
 
--- a frame of a page on its way, where the other one was left
+-- one frame of a moving page is still noted as such after the other was freed
 pub still_on_way : (f a : Frames) (kept left : ℕ) → kept ≢ left → a ≡ record f { states = slice_set f.states left Free } → way_at f.states kept ≡ true → way_at a.states kept ≡ true
 still_on_way f a kept left apart now way = ap (λ (fs : Frames). way_at fs.states kept) now ∙ ap is_way_state (slice_get_set_other f.states left kept Free apart) ∙ way
 
--- a free frame, where another one is used for something else
+-- a free frame is still free after another one changed its state
 pub still_free : (f a : Frames) (frame other : ℕ) (state : FrameState) → frame ≢ other → a ≡ record f { states = slice_set f.states other state } → free_at f.states frame ≡ true → free_at a.states frame ≡ true
 still_free f a frame other state apart now free = ap (λ (fs : Frames). free_at fs.states frame) now ∙ ap is_free_state (slice_get_set_other f.states other frame state apart) ∙ free

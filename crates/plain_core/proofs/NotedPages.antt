@@ -32,7 +32,7 @@ module _ (notes : List Note) (page : ℕ) (note : Note) (within : page < length 
   unmovable_past : (ns : List Note) (n : ℕ) → length ns ≤ n → is_unmovable_of ns n ≡ false
   unmovable_past ns n past = ap says_unmovable (slice_get_past ns n past)
 
-  -- the page is there now
+  -- the placements after the page got another placement
   pub placements_set : (p : Placement) → note.placement ≡ Some p → tabulated (placement_of changed) (length changed) ≡ map.insert (tabulated (placement_of notes) (length notes)) page p
   placements_set p is =
       ap (tabulated (placement_of changed)) len
@@ -40,7 +40,7 @@ module _ (notes : List Note) (page : ℕ) (note : Note) (within : page < length 
       (placement_past notes) (λ q past. placement_past changed q (omega (arith, len, past)))
       (placement_here notes page note within page refl ∙ is) (placement_there notes page note within)
 
-  -- the page is nowhere now
+  -- the placements after the page went out of use
   pub placements_removed : note.placement ≡ None → tabulated (placement_of changed) (length changed) ≡ map.remove (tabulated (placement_of notes) (length notes)) page
   placements_removed is =
       ap (tabulated (placement_of changed)) len
@@ -48,7 +48,7 @@ module _ (notes : List Note) (page : ℕ) (note : Note) (within : page < length 
       (placement_past notes) (λ q past. placement_past changed q (omega (arith, len, past)))
       (placement_here notes page note within page refl ∙ is) (placement_there notes page note within)
 
-  -- the page is where it was
+  -- the placements stay where the page's placement does
   pub placements_kept : note.placement ≡ placement_of notes page → tabulated (placement_of changed) (length changed) ≡ tabulated (placement_of notes) (length notes)
   placements_kept is =
       ap (tabulated (placement_of changed)) len
@@ -57,7 +57,7 @@ module _ (notes : List Note) (page : ℕ) (note : Note) (within : page < length 
         | inr other ↦ placement_there notes page note within q other.1
       ])
 
-  -- the page is noted as unmovable now
+  -- the unmovable pages after this page was noted as one
   pub unmovable_set : says_unmovable (Some note) ≡ true → gathered (is_unmovable_of changed) (length changed) ≡ set.insert (gathered (is_unmovable_of notes) (length notes)) page
   unmovable_set is =
       ap (gathered (is_unmovable_of changed)) len
@@ -65,7 +65,7 @@ module _ (notes : List Note) (page : ℕ) (note : Note) (within : page < length 
       (unmovable_past notes) (λ q past. unmovable_past changed q (omega (arith, len, past)))
       (unmovable_here page refl ∙ is) unmovable_there
 
-  -- the page isn't noted as unmovable
+  -- the unmovable pages after this page was noted as none
   pub unmovable_removed : says_unmovable (Some note) ≡ false → gathered (is_unmovable_of changed) (length changed) ≡ set.remove (gathered (is_unmovable_of notes) (length notes)) page
   unmovable_removed is =
       ap (gathered (is_unmovable_of changed)) len
@@ -73,7 +73,7 @@ module _ (notes : List Note) (page : ℕ) (note : Note) (within : page < length 
       (unmovable_past notes) (λ q past. unmovable_past changed q (omega (arith, len, past)))
       (unmovable_here page refl ∙ is) unmovable_there
 
-  -- the page can be moved as before
+  -- the unmovable pages stay where the note says of this page what it said
   pub unmovable_kept : says_unmovable (Some note) ≡ is_unmovable_of notes page → gathered (is_unmovable_of changed) (length changed) ≡ gathered (is_unmovable_of notes) (length notes)
   unmovable_kept is =
       ap (gathered (is_unmovable_of changed)) len

@@ -1,4 +1,4 @@
--- The note of a page in use changes, and the page stays where it is: the tables of the zone go on fitting.
+-- The note of a page in use changes, and the page stays where it is: the tables still stand for the zone.
 use Rattle.std.proofs.Common.{◌≡◌, ◌≢◌, ℕ, ◌-◌, ◌<◌, List, ◌∷◌, length, refl, sym, ap, subst, ◌∙◌}
 use Rattle.std.specs.Prelude.{Some, is_some, slice_get, slice_set, ◌&&◌}
 use Rattle.std.specs.Option.{option_and_then}
@@ -21,7 +21,7 @@ use Rattle.plain_core.proofs.Facts.{noted_view}
 use Rattle.plain_core.proofs.NotedPages.{placements_kept, unmovable_kept}
 use Rattle.plain_core.proofs.Placement.{GetsPlace, LeavesOthers, notes_fit}
 
--- a record that changes what is noted of one page alone, and neither values nor whether pages are dirty
+-- a record changes pins and addresses of one page alone, no value, and no page's being dirty
 pub record NotesOnly (v : ZoneState) (entry : Record) (page : ℕ) : Type 0 where
   pub last : (q word : ℕ) → last (entry ∷ v.records) q word ≡ last v.records q word
   pub dirty : (q : ℕ) → dirty (entry ∷ v.records) q ≡ dirty v.records q
@@ -45,11 +45,11 @@ pub record Noting (z : Inside) (v : ZoneState) (page : ℕ) (entry : Record) (no
   pub frames_same : tables.frames ≡ z.tables.frames
   pub history_is : history ≡ told z.history entry
 
--- the fields of a zone after it
+-- the fields of a zone after a note changed
 abbrev pub after_noting : Inside → ℕ → Note → Frames → Tables → History → Inside
 after_noting z page changed frames tables history = record z { frames = frames; tables = tables; notes = slice_set z.notes page changed; history = history }
 
--- the page stays where it is
+-- the page stays where it is, as a change of place from a placement to the same one
 pub stays : (v w : ZoneState) (page : ℕ) → IsLawful v → IsLawful w → w.placement ≡ v.placement → w.blocks ≡ v.blocks → w.handed_out ≡ v.handed_out → GetsPlace v w page (map.get v.placement page) (map.get v.placement page)
 stays v w page before after placement blocks handed_out = record {
   before = before;
@@ -91,7 +91,7 @@ module _ (z : Inside) (v : ZoneState) (page : ℕ) (entry : Record) (note change
       let here : state_of (after_noting z page changed frames tables history) ≡ state_of (record z { history = history }) = λ i. record (state_of (record z { history = history })) { placement = p i; unmovable = u i } in
       here ∙ noted_view z v history entry known.view known.history_is
 
-  -- the fields of a zone after it, by its notes
+  -- the fields of a zone after a note changed, given its notes
   abbrev noting_with : List Note → Inside
   noting_with notes = record z { frames = frames; tables = tables; notes = notes; history = history }
 

@@ -10,7 +10,7 @@ use Rattle.journal_core.specs.Moves.{out, page_of, isolated, moved, put_back, Is
 use Rattle.plain_core.specs.Fits.{MovesFit}
 use Rattle.plain_core.specs.Moves.{Moves}
 
--- one more at the end of a list
+-- the last item of a list that one was appended to
 pushed_last : (xs : List ℕ) (x i : ℕ) → i ≡ length xs → slice_get (xs ++ x ∷ []) i ≡ Some x
 pushed_last [] x zero e = refl
 pushed_last [] x (suc i) e = absurd (omega arith)
@@ -28,7 +28,7 @@ length_pushed [] x = omega arith
 length_pushed (y ∷ ys) x = omega (arith, length_pushed ys x)
 
 module _ (moves : Moves) (records : List Record) (room : ℕ) (fit : MovesFit moves records room) where
-  -- a record that tells of no move
+  -- the table of moves after a record that isn't of a move
   pub moves_kept : (entry : Record) → isolated (entry ∷ records) ≡ isolated records → ((serial : ℕ) → page_of (entry ∷ records) serial ≡ page_of records serial) → moved (entry ∷ records) ≡ moved records → put_back (entry ∷ records) ≡ put_back records → 0 < room → MovesFit moves (entry ∷ records) (room - 1)
   moves_kept entry i p m b spare = record {
     count = fit.count ∙ sym i;
@@ -68,7 +68,7 @@ module _ (moves : Moves) (records : List Record) (room : ℕ) (fit : MovesFit mo
     places = (let enough = fit.places in omega arith);
   }
 
-  -- how many are out
+  -- the number of pages that are out
   pub out_is : IsWellEnded records → (n : ℕ) → n + moves.moved + moves.back ≡ length moves.pages → n ≡ length (out records)
   out_is ended n counted = omega (arith, counted, is_balanced records ended, fit.count, fit.moved, fit.back)
 

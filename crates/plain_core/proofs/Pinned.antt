@@ -1,4 +1,4 @@
--- A pin more or less on a page: the tables of the zone go on fitting.
+-- One pin more or less on a page: the tables still stand for the zone.
 use Rattle.std.proofs.Common.{◌≡◌, ◌≢◌, ℕ, ◌+◌, ◌-◌, ◌<◌, Bool, ◌∷◌, not, length, refl, sym, ap, subst, ◌∙◌, arith, nat_eq}
 use Rattle.std.specs.Prelude.{Option, Some, IsSome, slice_get, ◌&&◌}
 use Rattle.std.specs.FinMap as map
@@ -25,7 +25,7 @@ use Rattle.plain_core.proofs.Placement.{movable_said}
 use Rattle.plain_core.proofs.Tables.{note_seen}
 
 module _ (z : Inside) (v : ZoneState) (sound : IsSound z v) (view : state_of z ≡ v) (page : ℕ) (used : IsSome (map.get v.placement page)) (note : Note) (note_is : slice_get z.notes page ≡ Some note) where
-  -- at its frame it is said whether the page may be taken from there
+  -- the frame of the page says whether the page may be taken from it
   said_so : (entry : Record) → IsLawful (noted v entry) → (count : ℕ) → count ≡ pins (entry ∷ v.records) page → ((q : ℕ) → q ≢ page → pins (entry ∷ v.records) q ≡ pins v.records q) → (frames : Frames) → frames ≡ record z.frames { movable = movable_by z.frames.movable (record note { pins = count }) } → MovableFit frames.movable (noted v entry)
   said_so entry lawful count is others frames frames_are =
       let seen = note_seen z v view sound page used note note_is in

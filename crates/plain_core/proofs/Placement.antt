@@ -1,4 +1,4 @@
--- A page gets another place, its first, or none: the tables of the zone go on fitting.
+-- A page gets another place, its first, or none: the tables still stand for the zone.
 use Rattle.std.proofs.Common.{◌≡◌, ◌≢◌, ℕ, ◌*◌, ◌<◌, Bool, true, false, not, List, length, ◌⊎◌, inl, inr, refl, sym, ap, subst, ◌∙◌, arith}
 use Rattle.std.specs.Prelude.{Option, Some, None, IsSome, is_some, slice_get, slice_set, nat_eq, ◌&&◌, ◌||◌, if◌then◌else◌}
 use Rattle.std.specs.FinMap as map
@@ -23,7 +23,7 @@ use Rattle.plain_core.specs.declared.note.Note.{Note}
 use Rattle.plain_core.specs.Notes.{movable_at}
 use Rattle.plain_core.specs.Fits.{state_by, FramesFit, MovableFit, WordsFit, NoteFits, NotesFit}
 
--- the states before and after
+-- the states before and after a page got another place
 pub record GetsPlace (v w : ZoneState) (page : ℕ) (old new : Option Placement) : Type 0 where
   pub before : IsLawful v
   pub after : IsLawful w
@@ -33,27 +33,27 @@ pub record GetsPlace (v w : ZoneState) (page : ℕ) (old new : Option Placement)
   pub blocks : w.blocks ≡ v.blocks
   pub handed_out : w.handed_out ≡ v.handed_out
 
--- how frames change with their page
+-- how the states of frames change when a page gets another place
 pub record FramesPlaced (frames changed : List FrameState) (page : ℕ) (old new : Option Placement) : Type 0 where
   pub count : length changed ≡ length frames
   pub taken : (frame : ℕ) (state : FrameState) → state_by page new frame ≡ Some state → slice_get changed frame ≡ Some state
   pub left : (frame : ℕ) → takes_up old frame ≡ true → takes_up new frame ≡ false → slice_get changed frame ≡ Some Free
   pub kept : (frame : ℕ) → takes_up old frame ≡ false → takes_up new frame ≡ false → slice_get changed frame ≡ slice_get frames frame
 
--- whether the page may be taken is noted at its frame
+-- the frame of the page notes whether the page may be taken from it
 pub record MovablePlaced (movable changed : List Bool) (can : Bool) (new : Option Placement) : Type 0 where
   pub count : length changed ≡ length movable
   pub here : (frame : ℕ) → new ≡ Some (At frame) → slice_get changed frame ≡ Some can
   pub kept : (frame : ℕ) → takes_up new frame ≡ false → slice_get changed frame ≡ slice_get movable frame
 
--- the words of the page are in its frame
+-- the frame of the page has the words of the page
 pub record WordsPlaced (rows changed : List (List ℕ)) (w : ZoneState) (page : ℕ) (new : Option Placement) : Type 0 where
   pub count : length changed ≡ length rows
   pub mine : (placement : Placement) (word : ℕ) → new ≡ Some placement → word < 8 → slice_get (words_of changed (words_frame placement)) word ≡ Some (last w.records page word)
   pub kept : (frame : ℕ) → takes_up new frame ≡ false → words_of changed frame ≡ words_of rows frame
   pub eight : (frame : ℕ) → takes_up new frame ≡ true → length (words_of changed frame) ≡ 8
 
--- a record leaves other pages as they are
+-- a call leaves the values, flags, pins and addresses of all other pages as they are
 pub record LeavesOthers (v w : ZoneState) (page : ℕ) : Type 0 where
   pub last : (q word : ℕ) → q ≢ page → last w.records q word ≡ last v.records q word
   pub dirty : (q : ℕ) → q ≢ page → dirty w.records q ≡ dirty v.records q
@@ -96,14 +96,14 @@ module _ (v w : ZoneState) (page : ℕ) (old new : Option Placement) (gets : Get
   takes : (o p : Option Placement) (g : ℕ) → o ≡ p → takes_up o g ≡ takes_up p g
   takes o p g e = ap (λ (x : Option Placement). takes_up x g) e
 
-  -- a frame of another page is none of this one
+  -- a frame of another page isn't one of this page
   not_old : (q g : ℕ) → q ≢ page → takes_up (map.get v.placement q) g ≡ true → takes_up old g ≡ false
   not_old q g ne has = never _ (λ e. ne (gets.before.apart q page g has (takes _ _ g gets.at ∙ e)))
 
   not_new : (q g : ℕ) → q ≢ page → takes_up (map.get v.placement q) g ≡ true → takes_up new g ≡ false
   not_new q g ne has = never _ (λ e. ne (gets.after.apart q page g (takes _ _ g (gets.others q ne) ∙ has) (takes _ _ g gets.now ∙ e)))
 
-  -- a frame of the page isn't free, and one that isn't of it stays as it was
+  -- a frame that the page takes up isn't free, and a frame that it has nothing to do with is as before
   new_used : (g : ℕ) → takes_up new g ≡ true → is_free w g ≡ false
   new_used g has =
       let mine : takes_up (map.get w.placement page) g ≡ true = takes _ _ g gets.now ∙ has in
@@ -184,7 +184,7 @@ module _ (v w : ZoneState) (page : ℕ) (old new : Option Placement) (gets : Get
     ];
   }
 
--- whether a page may be taken is said at the frame that it stands in
+-- the flags of frames, after the frame of a page got one
 said : (movable : List Bool) (o : Option Placement) (can : Bool) → ((frame : ℕ) → o ≡ Some (At frame) → frame < length movable) → MovablePlaced movable (movable_at movable o can) can o
 said movable None can within = record { count = refl; here = λ g e. cc; kept = λ g gone. refl }
 said movable (Some (At frame)) can within = record {

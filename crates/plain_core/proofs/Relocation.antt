@@ -1,4 +1,4 @@
--- A page in use is somewhere else: the tables of the zone go on fitting.
+-- A page in use gets another place: the tables still stand for the zone.
 use Rattle.std.proofs.Common.{◌≡◌, ◌≢◌, ℕ, ◌-◌, ◌<◌, ◌≤◌, Bool, true, false, not, List, ◌∷◌, length, inl, inr, refl, sym, ap, subst, ◌∙◌}
 use Rattle.std.specs.Prelude.{Option, Some, None, is_some, slice_get, slice_set, nat_eq, ◌&&◌}
 use Rattle.std.specs.Option.{option_and_then}
@@ -39,14 +39,14 @@ use Rattle.plain_core.proofs.NotedPages.{placements_set, unmovable_kept}
 use Rattle.plain_core.proofs.Placement.{GetsPlace, LeavesOthers, FramesPlaced, MovablePlaced, WordsPlaced, frames_fit, movable_fit, words_fit, notes_fit}
 use Rattle.state_core.proofs.Settled.{CanSettle, IsRecorded, at_page, at_other, not_old, lawful_settled}
 
--- how frames change with their page, and what is noted of whether it may be taken
+-- how the states of frames change with the place of a page in use, and what is noted of whether it may be taken
 abbrev pub FramesSettled : List FrameState → List FrameState → ℕ → Placement → Placement → Type 0
 FramesSettled frames changed page old new = FramesPlaced frames changed page (Some old) (Some new)
 
 abbrev pub MovableSettled : List Bool → List Bool → Bool → Placement → Type 0
 MovableSettled movable changed can new = MovablePlaced movable changed can (Some new)
 
--- the words of the page go with it
+-- the words of a page are in its new frame
 pub record WordsSettled (rows settled : List (List ℕ)) (old new : Placement) : Type 0 where
   pub count : length settled ≡ length rows
   pub carried : words_of settled (words_frame new) ≡ words_of rows (words_frame old)
@@ -61,7 +61,7 @@ module _ (v : ZoneState) (page : ℕ) (old new : Placement) (can : CanSettle v p
   some_entry (At frame) e = cc
   some_entry (Moving serial source target) e = cc
 
-  -- another page has another entry
+  -- an entry of another page differs from that of this page
   other_entry : (q : ℕ) (p : Placement) → q ≢ page → map.get v.placement q ≡ Some p → (o : Placement) → o ≡ old → entry_for (Some p) ≢ entry_for (Some o)
   other_entry q (At f) ne at (At g) is e =
       let same : f ≡ g = cc in
@@ -106,7 +106,7 @@ pub record Settling (z changed : Inside) (v : ZoneState) (page : ℕ) (old new :
   pub recorded : IsRecorded v entry page new
   pub spare : 0 < v.room
   pub note_is : slice_get z.notes page ≡ Some note
-  -- what changed
+  -- what changed with the page's place
   pub frames : FramesSettled z.frames.states changed.frames.states page old new
   pub tables : Replaces z.tables.entries changed.tables.entries (entry_for (Some old)) (entry_for (Some new))
   pub words : WordsSettled z.words changed.words old new
@@ -117,7 +117,7 @@ pub record Settling (z changed : Inside) (v : ZoneState) (page : ℕ) (old new :
   pub fingers : (migrate_new ≤ free_new) × (free_new ≤ frame_count v)
   pub swept : SweptIfQuiet (record (relocated v entry page new) { migrate = migrate_new; free = free_new })
   pub history : changed.history ≡ told z.history entry
-  -- what stayed
+  -- what stayed as it was
   pub frames_same : changed.tables.frames ≡ z.tables.frames
   pub number_same : changed.number ≡ z.number
   pub blocks_same : changed.blocks ≡ z.blocks

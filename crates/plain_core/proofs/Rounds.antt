@@ -1,4 +1,4 @@
--- Whether a round begins calm, and what a zone is when it has begun.
+-- Whether a round begins calm, and what a zone is after a round began.
 use Rattle.std.proofs.Common.{◌≡◌, ◌*◌, ℕ, true, length, subst}
 use Rattle.std.specs.Prelude.{Some}
 use Rattle.plain_core.specs.declared.plain.PlainZone.TheInside.{Inside}
@@ -11,7 +11,7 @@ use Rattle.state_core.specs.ZoneState.{ZoneState, frame_count}
 use Rattle.state_core.proofs.Rounds.{begun, lawful_from}
 use Rattle.state_core.proofs.Sweeping.{swept_begun}
 
--- the fields when a round has begun
+-- the fields after a round began
 abbrev pub after_begin : Inside → RoundStart → Inside
 after_begin z start = record z { fingers = record { migrate = 0; free = 512 * z.blocks }; history = record z.history { round = Some start } }
 
@@ -32,7 +32,7 @@ begun_sound z v sound start here as_calm = record {
   movable = record { count = sound.movable.count; each = sound.movable.each };
 }
 
--- a calm zone is swept where its fingers stand at its ends
+-- a calm zone is swept where its fingers are at its ends
 pub swept_at_ends : (v : ZoneState) → IsLawful v → is_calm v ≡ true → (free : ℕ) → frame_count v ≡ free → IsSwept (record v { migrate = 0; free = free })
 swept_at_ends v law calm free ends = subst (λ (n : ℕ). IsSwept (record v { migrate = 0; free = n })) ends (record {
   below = begins.below;

@@ -42,7 +42,7 @@ some_same p r (suc n) same =
 pub fingers_seen : (z : Inside) (v : ZoneState) → state_of z ≡ v → z.fingers ≡ record { migrate = v.migrate; free = v.free }
 fingers_seen z v view = λ i. record { migrate = (view i).migrate; free = (view i).free }
 
--- what a step says of its searches
+-- what a pair that was answered says of the searches for its source and its target
 pair_to : (s source target : ℕ) (t : Option ℕ) → Pair source target ≡ scan.step_to s t → (s ≡ source) × (t ≡ Some target)
 pair_to s source target None e = cc
 pair_to s source target (Some other) e = let first : s ≡ source = cc in let second : other ≡ target = cc in (first, ap Some second)

@@ -1,4 +1,4 @@
--- What the tables of a zone answer.
+-- What searches and counts in the tables of a zone answer.
 use Rattle.std.proofs.Common.{◌≡◌, ℕ, ◌*◌, ◌<◌, ◌≤◌, Bool, true, false, not, List, length, refl, sym, ap, ◌∙◌, get_or, arith}
 use Rattle.std.specs.Prelude.{Option, Some, None, IsSome, IfSome, is_some, is_none, nat_eq, if◌then◌else◌, ◌&&◌, ◌||◌}
 use Rattle.std.specs.Option.{option_and_then}
@@ -35,11 +35,11 @@ placement_at_note notes page d h = ap (option_and_then (λ (note : Note). note.p
 pub placement_past : (notes : List Note) (page : ℕ) → length notes ≤ page → placement_of notes page ≡ None
 placement_past notes page h = ap (option_and_then (λ (note : Note). note.placement)) (slice_get_past notes page h)
 
--- the map of placements has what the notes have
+-- the map of placements agrees with the notes
 pub get_placements : (notes : List Note) (page : ℕ) → get (tabulated (placement_of notes) (length notes)) page ≡ placement_of notes page
 get_placements notes page = get_tabulated_all (placement_of notes) (length notes) page (placement_past notes)
 
--- the state that a page puts a frame in, and which isn't free
+-- a moving page puts a frame of its own in a state, and this state isn't Free
 puts : (page serial : ℕ) (a b : Bool) → (a || b) ≡ true → (state : FrameState) × ((if a then Some (Source serial) else if b then Some (Target serial) else None) ≡ Some state) × (is_free_state (Some state) ≡ false)
 puts page serial true b e = (Source serial, refl, refl)
 puts page serial false true e = (Target serial, refl, refl)
@@ -54,7 +54,7 @@ off : (a b : Bool) → b ≡ true → (not a && not b) ≡ false
 off true b e = refl
 off false b e = ap not e
 
--- a frame is free in the tables just where it is in the state
+-- a frame is free in the tables exactly where it is free in the state
 pub free_seen : (frames : List FrameState) (v : ZoneState) → FramesFit frames v → (frame : ℕ) → frame < frame_count v → free_at frames frame ≡ is_free v frame
 free_seen frames v fit frame within = by_held (is_held v frame) (is_used v frame) refl refl where
   by_held : (held used : Bool) → is_held v frame ≡ held → is_used v frame ≡ used → free_at frames frame ≡ (not (is_used v frame) && not (is_held v frame))
@@ -81,7 +81,7 @@ lowest_unused_seen z v view count =
     ∙ ap (λ (u : ZoneState). lowest (λ page. is_none (get u.placement page)) (length z.notes)) view
     ∙ ap (lowest (λ page. is_none (get v.placement page))) count
 
--- the counts of free frames and of pageblocks that are free as a whole
+-- the counts of free frames and of whole pageblocks
 pub free_counted : (frames : List FrameState) (v : ZoneState) → FramesFit frames v → free_frames frames ≡ count_below (is_free v) (frame_count v)
 free_counted frames v fit =
     count_same (free_at frames) (is_free v) (length frames) (λ frame h. free_seen frames v fit frame (omega (arith, h, fit.count)))

@@ -1,4 +1,4 @@
--- A second address for a page: the tables of the zone go on fitting.
+-- A second address for a page: the tables still stand for the zone.
 use Rattle.std.proofs.Common.{◌≡◌, ℕ, ◌+◌, refl, sym, ap, ◌∙◌, arith}
 use Rattle.std.specs.Prelude.{Some, slice_get}
 use Rattle.std.specs.Option.{option_and_then}

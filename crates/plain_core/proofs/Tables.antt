@@ -42,7 +42,7 @@ abbrev numbers : ℕ → ℕ → List ℕ
 numbers first zero = []
 numbers first (suc n) = first ∷ numbers (suc first) n
 
--- a list that has f of each number in turn
+-- a list whose items are f of the numbers from a first one on
 in_turn : (f : ℕ → ℕ) (xs : List ℕ) (n first : ℕ) → length xs ≡ n →
     ((k : ℕ) → k < n → slice_get xs k ≡ Some (f (first + k))) → xs ≡ each f (numbers first n)
 in_turn f [] zero first e has = refl
@@ -57,7 +57,7 @@ in_turn f (x ∷ xs) (suc n) first e has =
     in_turn f xs n (suc first) (omega arith) (λ k h. has (suc k) (omega arith) ∙ ap (λ (j : ℕ). Some (f j)) (next k)) in
     λ i. here i ∷ rest i
 
--- a page in use has its words in its frame
+-- the frame of a page in use has the page's words
 pub words_seen : (rows : List (List ℕ)) (v : ZoneState) → WordsFit rows v → IsLawful v →
     (page : ℕ) (placement : Placement) → map.get v.placement page ≡ Some placement →
     words_of rows (words_frame placement) ≡ words_now v page
@@ -68,14 +68,14 @@ words_seen rows v fit law page placement at =
       plain : (k : ℕ) → k ≡ 0 + k
       plain k = omega arith
 
--- the marks
+-- the marks of pageblocks are those of the state
 pub mark_seen : (z : Inside) (v : ZoneState) → state_of z ≡ v → (block : ℕ) → block < 8 →
     true_at z.marked block ≡ set.contains v.marked block
 mark_seen z v view block h =
     sym (gathered_in (true_at z.marked) 8 block h)
     ∙ ap (λ (u : ZoneState). set.contains u.marked block) view
 
--- where a page in use is noted
+-- whether a page in use is noted as unmovable
 unmovable_past : (notes : List Note) (page : ℕ) → length notes ≤ page → is_unmovable_of notes page ≡ false
 unmovable_past notes page h = ap says_unmovable (slice_get_past notes page h)
 
@@ -115,7 +115,7 @@ note_seen z v view sound page used note at =
 pub note_within : (z : Inside) (v : ZoneState) → IsSound z v → (page : ℕ) → IsSome (map.get v.placement page) → page < length z.notes
 note_within z v sound page used = omega (arith, sound.lawful.numbered page used, sound.notes.count)
 
--- a page puts a frame in no state but its own
+-- a page gives a state only to its own frames
 by_two : (page q serial : ℕ) (a b : Bool) →
     (if a then Some (Source serial) else if b then Some (Target serial) else None) ≡ Some (Holds q) → ⊥
 by_two page q serial true b e = cc
@@ -134,7 +134,7 @@ holds_by page q (Some (At f)) frame e = let is = by_one page q frame (nat_eq fra
 holds_by page q (Some (Moving serial source target)) frame e =
     absurd (by_two page q serial (nat_eq frame source) (nat_eq frame target) e)
 
--- the state of a frame is that of its block, or that of its page, or free
+-- the state of a frame comes from its block, or from its page, or is Free
 pub record ByPage (v : ZoneState) (frame : ℕ) (state : FrameState) : Type 0 where
   pub page : ℕ
   pub puts : state_by page (map.get v.placement page) frame ≡ Some state
@@ -160,7 +160,7 @@ frame_cases frames v fit frame state within at = by_held (is_held v frame) (is_u
       let same : state ≡ Free = cc in
       inr (inr (free, same))
 
--- the page that a frame's state names stands in it
+-- the page that a frame's state names is in this frame
 pub holds_seen : (frames : List FrameState) (v : ZoneState) → FramesFit frames v → (frame page : ℕ) (state : FrameState) →
     frame < frame_count v → slice_get frames frame ≡ Some state → state ≡ Holds page →
     map.get v.placement page ≡ Some (At frame)
@@ -175,7 +175,7 @@ holds_seen frames v fit frame page state within at holds =
       ])
     ]
 
--- a frame whose state names no page has none
+-- a frame whose state names no page has no page in it
 pub none_seen : (frames : List FrameState) (v : ZoneState) → FramesFit frames v → (frame : ℕ) (state : FrameState) →
     slice_get frames frame ≡ Some state → ((page : ℕ) → state ≡ Holds page → ⊥) → holder v frame ≡ None
 none_seen frames v fit frame state at none =
@@ -183,16 +183,16 @@ none_seen frames v fit frame state at none =
     (let two : Some state ≡ Some (Holds page) = sym at ∙ held_by frames v fit page frame is in
     let same : state ≡ Holds page = cc in none page same))
 
--- what the note of a page says of it
+-- the note of a page says whether the page may be taken
 pub movable_seen : (z : Inside) (v : ZoneState) (page : ℕ) (note : Note) → Noted z v page note →
     (nat_eq note.pins 0 && not note.unmovable) ≡ can_move v page
 movable_seen z v page note noted = λ i. nat_eq (noted.fits.pins i) 0 && not (noted.unmovable i)
 
--- the flags that are noted of a page
+-- the note of a page has the page's flags
 pub flags_seen : (z : Inside) (v : ZoneState) (page : ℕ) (note : Note) → Noted z v page note → page_flags note.unmovable note.dirty ≡ flags_of v page
 flags_seen z v page note noted = λ i. page_flags (noted.unmovable i) (noted.fits.dirty i)
 
--- the block that a frame is of
+-- a frame is in a block that is handed out exactly where its state is Huge
 by_block : (page serial : ℕ) (a b : Bool) →
     (if a then Some (Source serial) else if b then Some (Target serial) else None) ≡ Some Huge → ⊥
 by_block page serial true b e = cc
@@ -224,7 +224,7 @@ no_huge_seen frames v fit frame state within at ne =
     (let two : Some state ≡ Some Huge = sym at ∙ fit.of_block frame within held in let same : state ≡ Huge = cc in
     ne same))
 
--- a page on its way, by its entry and by its serial
+-- a moving page is found by its entry, or by its serial
 pub migration_is : (o : Option Placement) (serial source : ℕ) → entry_for o ≡ Migration serial source →
     (target : ℕ) × (o ≡ Some (Moving serial source target))
 migration_is None serial source e = cc
@@ -256,7 +256,7 @@ look_moving v address page q serial source target n m named at same p u =
     (sym same) ∙ sym (ap (look_by v page) at)
     ∙ sym (ap (option_and_then (λ (r : ℕ). look_by v r (map.get v.placement r))) named)
 
--- whether a page is on its way under a serial
+-- whether a page is moving under a serial
 pub under_is : (o : Option Placement) (serial : ℕ) → is_under o serial ≡ true →
     (source target : ℕ) × (o ≡ Some (Moving serial source target))
 under_is None serial e = cc

@@ -31,7 +31,7 @@ module _ {X : Type 0} where
         | inr isnt ↦ put_other (tabulated f n) n q (f n) isnt.1 ∙ get_tabulated f n q (omega arith)
       ]
 
-  -- where f has nothing from n on, the map is f
+  -- where f has nothing from n on, the map of n numbers has all of f
   pub get_tabulated_all : (f : ℕ → Option X) (n q : ℕ) → ((k : ℕ) → n ≤ k → f k ≡ None) → get (tabulated f n) q ≡ f q
   get_tabulated_all f n q none =
       elim (leb_tells n q) [
@@ -39,7 +39,7 @@ module _ {X : Type 0} where
         | inr within ↦ get_tabulated f n q within.1
       ]
 
-  -- one more entry
+  -- the map after one more entry
   pub tabulated_insert : (f g : ℕ → Option X) (n k : ℕ) (x : X) → ((q : ℕ) → n ≤ q → f q ≡ None) → ((q : ℕ) → n ≤ q → g q ≡ None) → g k ≡ Some x → ((q : ℕ) → q ≢ k → g q ≡ f q) → tabulated g n ≡ insert (tabulated f n) k x
   tabulated_insert f g n k x no_f no_g at others =
       same_map nat_cmp_total nat_cmp-IsAntisymmetric _ _ (λ q.
@@ -48,7 +48,7 @@ module _ {X : Type 0} where
         | inr isnt ↦ get_tabulated_all g n q no_g ∙ others q isnt.1 ∙ sym (get_tabulated_all f n q no_f) ∙ sym (get_insert_other (tabulated f n) k q x isnt.1)
       ])
 
-  -- one entry less
+  -- the map after one entry fewer
   pub tabulated_remove : (f g : ℕ → Option X) (n k : ℕ) → ((q : ℕ) → n ≤ q → f q ≡ None) → ((q : ℕ) → n ≤ q → g q ≡ None) → g k ≡ None → ((q : ℕ) → q ≢ k → g q ≡ f q) → tabulated g n ≡ remove (tabulated f n) k
   tabulated_remove f g n k no_f no_g at others =
       same_map nat_cmp_total nat_cmp-IsAntisymmetric _ _ (λ q.
@@ -91,7 +91,7 @@ gathered_in p (suc n) q h =
       | inr isnt ↦ put_other_set (gathered p n) n q (p n) isnt.1 ∙ gathered_in p n q (omega arith)
     ]
 
--- where none passes from n on, the set has just the numbers that pass
+-- where no number from n on passes, the set has exactly the numbers that pass
 pub contains_gathered : (p : ℕ → Bool) (n q : ℕ) → ((k : ℕ) → n ≤ k → p k ≡ false) → set.contains (gathered p n) q ≡ p q
 contains_gathered p n q none =
     elim (leb_tells n q) [
@@ -99,7 +99,7 @@ contains_gathered p n q none =
       | inr within ↦ gathered_in p n q within.1
     ]
 
--- one more number
+-- the set after one more number
 pub gathered_insert : (p r : ℕ → Bool) (n k : ℕ) → ((q : ℕ) → n ≤ q → p q ≡ false) → ((q : ℕ) → n ≤ q → r q ≡ false) → r k ≡ true → ((q : ℕ) → q ≢ k → r q ≡ p q) → gathered r n ≡ set.insert (gathered p n) k
 gathered_insert p r n k past_p past_r at others =
     set.same_set nat_cmp_total nat_cmp-IsAntisymmetric _ _ (λ q.
@@ -108,7 +108,7 @@ gathered_insert p r n k past_p past_r at others =
       | inr isnt ↦ contains_gathered r n q past_r ∙ others q isnt.1 ∙ sym (contains_gathered p n q past_p) ∙ sym (contains_insert_other (gathered p n) k q isnt.1)
     ])
 
--- one number less
+-- the set after one number fewer
 pub gathered_remove : (p r : ℕ → Bool) (n k : ℕ) → ((q : ℕ) → n ≤ q → p q ≡ false) → ((q : ℕ) → n ≤ q → r q ≡ false) → r k ≡ false → ((q : ℕ) → q ≢ k → r q ≡ p q) → gathered r n ≡ set.remove (gathered p n) k
 gathered_remove p r n k past_p past_r at others =
     set.same_set nat_cmp_total nat_cmp-IsAntisymmetric _ _ (λ q.

@@ -1,4 +1,4 @@
--- An address less for a page, and the end of a page with its last one: the tables of the zone go on fitting.
+-- An address is taken from a page, and with its last one the page goes out of use: the tables still stand for the zone.
 use Rattle.std.proofs.Common.{◌≡◌, ◌≢◌, ℕ, ◌-◌, ◌<◌, List, not, length, false, refl, sym, ap, subst, ◌∙◌, arith, nat_eq}
 use Rattle.std.specs.Prelude.{Option, Some, None, slice_get, slice_set, ◌&&◌}
 use Rattle.std.specs.Option.{option_and_then}
@@ -42,7 +42,7 @@ pub record Unmapping (z : Inside) (v : ZoneState) (client : ℕ) (address : Addr
   pub frames_same : tables.frames ≡ z.tables.frames
   pub history_is : history ≡ told z.history (Unmap client address)
 
--- the fields of a zone after the last one
+-- the fields of a zone after the last address of a page was taken
 abbrev pub after_last : Inside → ℕ → ℕ → Tables → History → Inside
 after_last z page frame tables history = record z {
   frames = record z.frames { states = slice_set z.frames.states frame Free };
@@ -58,7 +58,7 @@ module _ (z : Inside) (v : ZoneState) (client : ℕ) (address : Address) (page f
   abbrev next : ZoneState
   next = noted v (Unmap client address)
 
-  -- another address names the page
+  -- a page that keeps another address
   pub unmapping_one : maps v.records page ≢ 1 → (note : Note) → slice_get z.notes page ≡ Some note → Noting z v page (Unmap client address) note (record note { maps = note.maps - 1 }) z.frames tables history
   unmapping_one more note note_is =
       let sound = known.sound in
@@ -101,7 +101,7 @@ module _ (z : Inside) (v : ZoneState) (client : ℕ) (address : Address) (page f
     leaves : LeavesOthers v gone page
     leaves = record { last = λ q w ne. refl; dirty = λ q ne. refl; pins = λ q ne. refl; maps = maps_others v client address page frame can }
 
-    -- another address names a page that is where it was
+    -- the placement of the page of each other address stays
     placement_there : (a : Address) → same_address a address ≡ false → placement_at gone a ≡ placement_at v a
     placement_there a e = ap (option_and_then (map.get gone.placement)) (named_there v client address page frame can a e) ∙ by_name (page_at v.records a) refl where
       by_name : (o : Option ℕ) → page_at v.records a ≡ o → option_and_then (map.get gone.placement) (page_at v.records a) ≡ option_and_then (map.get v.placement) (page_at v.records a)
@@ -146,7 +146,7 @@ module _ (z : Inside) (v : ZoneState) (client : ℕ) (address : Address) (page f
         λ i. record (state_of z) { records = (known.history_is i).records; room = (known.history_is i).room; round = (known.history_is i).round; placement = p i; unmovable = u i } in
         here ∙ ap (λ (s : ZoneState). without_page (noted s (Unmap client address)) page) known.view
 
-    -- the fields of a zone after it, by its frames and notes
+    -- the fields of a zone after the last address was taken, given its frames and notes
     abbrev last_with : Frames → List Note → Inside
     last_with frames notes = record z { frames = frames; tables = tables; notes = notes; history = history }
 

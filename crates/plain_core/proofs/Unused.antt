@@ -12,7 +12,7 @@ use Rattle.scan_core.proofs.Bounds.{lowest_past}
 use Rattle.scan_core.proofs.Numbering.{capacity_is, member_insert}
 use Rattle.scan_core.proofs.Spanning.{same_by}
 
--- the numbers below a bound, one after another
+-- the set of the numbers below a bound, filled one number after another
 pub none_below : (s : set.FinSet nat_cmp) → s ≡ set.empty → (n : ℕ) → set.contains s n ≡ nat_lt n 0
 none_below s none n = ap (λ t. set.contains t n) none ∙ set.contains-empty nat_cmp n ∙ sym (le-ltb n 0 (omega arith))
 
@@ -23,7 +23,7 @@ one_more_below s t i before now n = ap (λ u. set.contains u n) now ∙ member_i
       ∙ same_by (nat_lt n i) (nat_lt n (i + 1)) (λ e. let h = ltb-true n i e in lt-ltb n (i + 1) (omega (arith, h))) (λ e. let h = ltb-true n (i + 1) e in lt-ltb n i (omega (arith, h, away.1))))
 ]
 
--- the lowest of the numbers below a bound that pass
+-- the lowest number that passes, of those below a bound
 pub lowest_within : (p r : ℕ → Bool) (n : ℕ) → n ≤ 4096 → ((k : ℕ) → r k ≡ (nat_lt k n && p k)) → lowest r capacity ≡ lowest p n
 lowest_within p r n few each =
     lowest_past r n capacity (omega (arith, few, capacity_is)) (λ k from to. each k ∙ ap (λ b. b && p k) (le-ltb k n from))

@@ -19,53 +19,54 @@ use Rattle.state_core.specs.declared.placement.Placement.TheVariants.{At, Moving
 use Rattle.state_core.specs.Pairs.{can_move}
 use Rattle.state_core.specs.ZoneState.{ZoneState, frame_count, is_free, is_held, placement_at, words_frame}
 
--- the state of a frame that a page with this placement takes up
+-- the state that a page with this number and placement gives to a frame, if it takes the frame up
 abbrev pub state_by : ℕ → Option Placement → ℕ → Option FrameState
 state_by page None frame = None
 state_by page (Some (At f)) frame = if nat_eq frame f then Some (Holds page) else None
 state_by page (Some (Moving serial source target)) frame =
     if nat_eq frame source then Some (Source serial) else if nat_eq frame target then Some (Target serial) else None
 
--- what the entry of an address is, by where its page is
+-- the entry of an address whose page has this placement
 abbrev pub entry_for : Option Placement → Entry
 entry_for None = Absent
 entry_for (Some (At frame)) = Present frame
 entry_for (Some (Moving serial source target)) = Migration serial source
 
--- each frame is in the state that its page or block puts it in, and else free
+-- each frame has the state that its page or its block gives to it, and is free where it has neither
 pub record FramesFit (frames : List FrameState) (v : ZoneState) : Type 0 where
   pub count : length frames ≡ frame_count v
   pub of_page : (page frame : ℕ) (state : FrameState) → state_by page (map.get v.placement page) frame ≡ Some state → slice_get frames frame ≡ Some state
   pub of_block : (frame : ℕ) → frame < frame_count v → is_held v frame ≡ true → slice_get frames frame ≡ Some Huge
   pub of_none : (frame : ℕ) → frame < frame_count v → is_free v frame ≡ true → slice_get frames frame ≡ Some Free
 
--- each address has the entry of the page that it names
+-- each address has the entry that the placement of its page asks for
 pub record EntriesFit (entries : List Entry) (v : ZoneState) : Type 0 where
   pub each : (address : Address) → InRange address → entry_at entries address ≡ entry_for (placement_at v address)
 
--- each word of a page in use is the last that was stored
+-- each word of a page in use is the value that was stored there last
 pub record WordsFit (rows : List (List ℕ)) (v : ZoneState) : Type 0 where
   pub count : length rows ≡ frame_count v
   pub eight : (frame : ℕ) → frame < frame_count v → length (words_of rows frame) ≡ 8
   pub each : (page : ℕ) (placement : Placement) (word : ℕ) → map.get v.placement page ≡ Some placement → word < 8 → slice_get (words_of rows (words_frame placement)) word ≡ Some (last v.records page word)
 
--- the notes of a page in use are its own
+-- the note of a page in use says what the journal says of the page
 pub record NoteFits (note : Note) (v : ZoneState) (page : ℕ) : Type 0 where
   pub dirty : note.dirty ≡ dirty v.records page
   pub pins : note.pins ≡ pins v.records page
   pub maps : note.maps ≡ maps v.records page
 
--- those of each page in use are, and each number of the zone has a note
+-- each page number has a note, and the note of each page in use says what the journal says
 pub record NotesFit (notes : List Note) (v : ZoneState) : Type 0 where
   pub count : length notes ≡ frame_count v
   pub each : (page : ℕ) (note : Note) → slice_get notes page ≡ Some note → IsSome note.placement → NoteFits note v page
 
--- a frame that holds a page is noted as movable just where the page may be taken from it
+-- a frame that holds a page is noted as movable exactly where the page may be taken from it
 pub record MovableFit (movable : List Bool) (v : ZoneState) : Type 0 where
   pub count : length movable ≡ frame_count v
   pub each : (page frame : ℕ) → map.get v.placement page ≡ Some (At frame) → slice_get movable frame ≡ Some (can_move v page)
 
--- the page of each serial, and how many were moved and put back; there is room for as many serials as for records
+-- the table of moves has the page of each serial, counts the pages moved and put back, and has room for as many serials
+-- as the journal for records
 pub record MovesFit (moves : Moves) (records : List Record) (room : ℕ) : Type 0 where
   pub count : length moves.pages ≡ isolated records
   pub each : (serial : ℕ) → slice_get moves.pages serial ≡ page_of records serial

@@ -1,10 +1,10 @@
--- What is true of the fields of the blocks that are handed out.
+-- What is true of the fields of the list of blocks that are handed out.
 use Rattle.std.specs.Prelude.{◌≡◌, ◌≤◌, length, is_some, vec_capacity}
 use Rattle.frame_core.specs.Below.{count_below}
 use Rattle.plain_core.specs.HandedOut.{order_of, held_at}
 use Rattle.plain_core.specs.declared.handed_out.HandedOut.TheInside.{Inside}
 
--- the blocks and their frames are counted, and the list never grows
+-- the counts are those of the blocks and of their frames, and the list never grows
 pub record IsCounted (z : Inside) : Type 0 where
   pub few : length z.orders.items ≤ 4096
   pub room : vec_capacity z.orders ≡ length z.orders.items

@@ -3,14 +3,14 @@ use Rattle.std.specs.Prelude.{ℕ, ◌-◌, List, ◌∷◌, Option}
 use Rattle.journal_core.specs.declared.record.Record.{Record}
 use Rattle.state_core.specs.declared.round.RoundStart.{RoundStart}
 
--- the journal as contracts see it, and the round
+-- the journal of a zone, and its latest round
 pub record History : Type 0 where
-  -- the newest first
+  -- the records, the newest first
   pub records : List Record
-  -- the places that are left
+  -- the number of places that are left
   pub room : ℕ
   pub round : Option RoundStart
 
--- one more record
+-- a history with one more record
 abbrev pub told : History → Record → History
 told h entry = record h { records = entry ∷ h.records; room = h.room - 1 }

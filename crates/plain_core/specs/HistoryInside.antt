@@ -4,7 +4,7 @@ use Rattle.state_core.specs.declared.round.RoundStart.{RoundStart}
 use Rattle.state_core.specs.ZoneState.{is_quiet_since}
 use Rattle.plain_core.specs.declared.history.History.TheInside.{Inside}
 
--- the latest round began with records that are still there, and it is noted whether it is quiet
+-- the latest round began when the journal had no more records than now, and the field says whether it is quiet
 pub record IsTold (z : Inside) : Type 0 where
   pub begun : (start : RoundStart) → z.round ≡ Some start → start.records ≤ length z.journal.records
   pub quiet : z.quiet ≡ is_quiet_since z.journal.records z.round

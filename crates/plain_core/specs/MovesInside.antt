@@ -2,7 +2,7 @@
 use Rattle.std.specs.Prelude.{◌≡◌, ◌+◌, ◌^◌, ◌<◌, ◌≤◌, length, vec_capacity}
 use Rattle.plain_core.specs.declared.moves.Moves.TheInside.{Inside}
 
--- each page that is out or was put back was isolated, and the list has the room that was made first
+-- the pages that are out and those that were put back are among those that were isolated, and the list never grows
 pub record IsKept (z : Inside) : Type 0 where
   pub isolated : z.out + z.back ≤ length z.pages.items
   pub within : length z.pages.items ≤ z.places

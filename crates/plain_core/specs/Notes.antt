@@ -9,7 +9,7 @@ use Rattle.state_core.specs.declared.placement.Placement.TheVariants.{At}
 abbrev pub unused_note : Note
 unused_note = record { placement = None; unmovable = false; dirty = false; pins = 0; maps = 0 }
 
--- where the notes have a page
+-- where a page is by its note, if it is in use
 abbrev pub placement_of : List Note → ℕ → Option Placement
 placement_of notes page = option_and_then (λ (note : Note). note.placement) (slice_get notes page)
 
@@ -17,12 +17,12 @@ placement_of notes page = option_and_then (λ (note : Note). note.placement) (sl
 abbrev pub is_in_use : List Note → ℕ → Bool
 is_in_use notes page = is_some (placement_of notes page)
 
--- whether the note of a page says that it is in use and unmovable
+-- whether a note that may be none says that a page is in use and unmovable
 abbrev pub says_unmovable : Option Note → Bool
 says_unmovable None = false
 says_unmovable (Some note) = is_some note.placement && note.unmovable
 
--- the same of a page, by its number
+-- whether the note of a page number says that the page is in use and unmovable
 abbrev pub is_unmovable_of : List Note → ℕ → Bool
 is_unmovable_of notes page = says_unmovable (slice_get notes page)
 
@@ -30,11 +30,11 @@ is_unmovable_of notes page = says_unmovable (slice_get notes page)
 abbrev pub can_move_by : Note → Bool
 can_move_by note = nat_eq note.pins 0 && not note.unmovable
 
--- what is said at each frame, with what the note of a page says at the frame that it stands in
+-- the movable flags of frames, where the frame of a page with this placement got this one; a moving page changes none
 abbrev pub movable_at : List Bool → Option Placement → Bool → List Bool
 movable_at movable (Some (At frame)) can = slice_set movable frame can
 movable_at movable _ can = movable
 
--- what is said at each frame, with what this note says at the frame of its page
+-- the movable flags of frames, where the frame of the page with this note got what the note says
 abbrev pub movable_by : List Bool → Note → List Bool
 movable_by movable note = movable_at movable note.placement (can_move_by note)

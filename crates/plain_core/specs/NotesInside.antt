@@ -5,7 +5,7 @@ use Rattle.frame_core.specs.Below.{count_below}
 use Rattle.plain_core.specs.Notes.{placement_of, is_in_use}
 use Rattle.plain_core.specs.declared.notes.Notes.TheInside.{Inside}
 
--- the numbers in use are counted, the others make a set, and the list never grows
+-- the numbers in use are counted, the set has the others, and the list never grows
 pub record IsCounted (z : Inside) : Type 0 where
   pub few : length z.notes.items ≤ 4096
   pub room : vec_capacity z.notes ≡ length z.notes.items

@@ -10,7 +10,7 @@ use Rattle.scan_core.specs.Frames.{true_at}
 use Rattle.scan_core.specs.NumberSet.{gathered}
 use Rattle.plain_core.specs.Tabulated.{tabulated}
 
--- the state that contracts see
+-- the state that contracts see, read off the fields
 abbrev pub state_of : Inside → ZoneState
 state_of z = record {
   number = z.number;
@@ -26,7 +26,7 @@ state_of z = record {
   round = z.history.round;
 }
 
--- the fields fit a state that is lawful
+-- the state is lawful, and each field stands for its part of it
 pub record IsSound (z : Inside) (v : ZoneState) : Type 0 where
   pub lawful : IsLawful v
   pub orders : length z.handed_out ≡ frame_count v

@@ -23,14 +23,15 @@ impl PlainZone {
         self.moves.out() < self.history.room()
     }
 
-    /// Whether it has room for an isolation, and for its end.
+    /// Whether the journal has room for an isolation and for its end.
     pub fn has_room_for_two(&self) -> bool
         ensures { result ≡ nat_lt (length (out self.now.records) + 1) self.now.room }
     {
         self.moves.out() + 1 < self.history.room()
     }
 
-    /// The frame of the page that an address names, where the page isn't on its way.
+    /// The frame of the page that an address names. An address that names no page is refused as Unmapped, and one whose
+    /// page is moving as Moving.
     pub fn frame_of(&self, address: &Address) -> Result<FrameNo, ZoneError>
         ensures refused { result_err result ≡ placement_refusal (placement_at self.now address.now) }
         ensures frame { IfOk result (λ frame. placement_at self.now address.now ≡ Some (At frame)) }
@@ -43,7 +44,7 @@ impl PlainZone {
         }
     }
 
-    /// Reads a word of the page that the address names.
+    /// Reads a word of the page that an address names.
     pub fn read(&mut self, client: ClientNo, address: Address, frame: FrameNo, word: WordNo) -> u64
         requires room { IsTrue (has_room self.old) }
         requires frame { placement_at self.old address ≡ Some (At frame) }
@@ -61,7 +62,7 @@ impl PlainZone {
         value
     }
 
-    /// Writes a word of the page that the address names.
+    /// Writes a word of the page that an address names.
     pub fn write(
         &mut self,
         client: ClientNo,

@@ -16,7 +16,7 @@ use journal_core::{Cause, Record};
 use state_core::{Audit, Placement};
 use word_core::Page;
 
-/// A page on its way, with its frames.
+/// A moving page, with its serial and its two frames.
 #[derive(Clone, Copy)]
 pub struct Way {
     pub page: PageNo,
@@ -26,7 +26,7 @@ pub struct Way {
 }
 
 impl PlainZone {
-    /// The frames of a page, if it is one of this zone and on its way under this serial.
+    /// The move of a page, if the page is of this zone and is moving under this serial.
     #[inline(always)]
     pub fn way_of(&self, serial: Serial, page: &Page) -> Option<Way>
         ensures own { IsSome result ↔ IsTrue (is_own self.now (record { serial = serial; page = page.now })) }
@@ -55,7 +55,7 @@ impl PlainZone {
         })
     }
 
-    /// Whether a page on its way has the words of this one.
+    /// Whether a moving page has the words of this one.
     pub fn has_words(&self, way: &Way, page: &Page) -> bool
         requires { map.get self.now.placement way.now.page ≡ Some (Moving way.now.serial way.now.source way.now.target) }
         ensures { IsTrue result ↔ (page.now.words ≡ words_now self.now way.now.page) }
@@ -71,7 +71,7 @@ impl PlainZone {
         self.notes.get(page).pins != 0
     }
 
-    /// Ends a move: the page stands in its target, with the words of its copy.
+    /// Ends a move: the page is in its target, with the words of its copy.
     #[inline(always)]
     pub fn arrive(&mut self, way: &Way, copy: &Page)
         requires placed { map.get self.old.placement way.now.page ≡ Some (Moving way.now.serial way.now.source way.now.target) }
@@ -97,7 +97,7 @@ impl PlainZone {
         self.history.note(Record::Moved { serial });
     }
 
-    /// Ends a move: the page stands in its source again.
+    /// Ends a move: the page is in its source again.
     #[inline(always)]
     pub fn go_back(&mut self, way: &Way, cause: Cause)
         requires placed { map.get self.old.placement way.now.page ≡ Some (Moving way.now.serial way.now.source way.now.target) }
@@ -121,14 +121,14 @@ impl PlainZone {
         self.history.note(Record::Back { serial, cause });
     }
 
-    /// Whether the latest round is quiet so far.
+    /// Whether the latest round is still quiet.
     pub fn quiet(&self) -> bool
         ensures { result ≡ is_quiet self.now }
     {
         self.history.quiet()
     }
 
-    /// The counts of pages, where none is on its way.
+    /// The counts of pages isolated, moved and put back, where no page is moving.
     pub fn counted(&self) -> Option<Audit>
         ensures some { IsSome result ↔ (length (out self.now.records) ≡ 0) }
         ensures isolated { IfSome result (λ audit. audit.isolated ≡ isolated self.now.records) }

@@ -30,7 +30,8 @@ impl Model for HandedOut {
 }
 
 impl HandedOut {
-    /// No block of so many frames is handed out. No other call takes memory.
+    /// A list for this many frames in which no block is handed out, or an error where there is no memory for it. No
+    /// other call takes memory.
     pub fn open(alloc: Global, frames: u32) -> Result<Self, AllocError>
         requires { frames ≤ 4096 }
         ensures { IfOk result (λ orders. orders ≡ replicate frames None) }
@@ -50,21 +51,21 @@ impl HandedOut {
         self.blocks
     }
 
-    /// How many frames they have.
+    /// How many frames the blocks have that are handed out.
     pub fn frames(&self) -> u32
         ensures { result ≡ count_below (held_at self.now) (length self.now) }
     {
         self.frames
     }
 
-    /// The order of the block that is handed out at a first frame.
+    /// The order of the block that is handed out from this first frame on, if there is one.
     pub fn order(&self, first: FrameNo) -> Option<Order>
         ensures { result ≡ order_of self.now first }
     {
         *self.orders.get(first.get() as usize)?
     }
 
-    /// A block is handed out.
+    /// Notes that a block is handed out.
     pub fn take(&mut self, first: FrameNo, order: Order)
         requires within { first + 2 ^ order ≤ length self.old }
         requires clear { (frame : ℕ) → IsTrue (covers (Some order) first frame) → held_at self.old frame ≡ false }
@@ -77,7 +78,7 @@ impl HandedOut {
         self.frames += order.frames();
     }
 
-    /// A block is taken back.
+    /// Notes that a block was taken back.
     pub fn give(&mut self, first: FrameNo, order: Order)
         requires here { order_of self.old first ≡ Some order }
         requires within { first + 2 ^ order ≤ length self.old }

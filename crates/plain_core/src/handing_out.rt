@@ -1,4 +1,4 @@
-//! The blocks that are handed out, and taken back.
+//! Handing blocks out, and taking them back.
 
 ghost use Rattle.std.specs.Prelude.{◌≡◌, IsTrue, IfSome};
 ghost use Rattle.std.specs.FinMap as map;
@@ -11,7 +11,7 @@ use frame_core::{FrameNo, Order};
 use journal_core::Record;
 
 impl PlainZone {
-    /// Whether a block of an order may begin at a frame of the zone.
+    /// Whether a block of this order may begin at a frame: it is aligned, and all of it is in the zone.
     pub fn has_block(&self, first: FrameNo, order: Order) -> bool
         ensures { result ≡ has_block self.now order first }
     {
@@ -20,7 +20,7 @@ impl PlainZone {
         first / frames * frames == first && first + frames <= 512 * self.blocks
     }
 
-    /// Whether a block of this order is handed out at a first frame.
+    /// Whether a block of this order is handed out from this first frame on.
     pub fn is_handed_out(&self, first: FrameNo, order: Order) -> bool
         ensures { result ≡ is_order (map.get self.now.handed_out first) order }
     {
@@ -30,7 +30,7 @@ impl PlainZone {
         }
     }
 
-    /// The lowest first frame of a free block of an order.
+    /// The first frame of the lowest free block of an order, if there is one.
     pub fn find_run(&self, order: Order) -> Option<FrameNo>
         ensures lowest { result ≡ lowest_run self.now order }
         ensures run { IfSome result (λ first. IsTrue (is_run self.now order first)) }
@@ -38,7 +38,7 @@ impl PlainZone {
         self.frames.first_run(order)
     }
 
-    /// Hands a free block out.
+    /// Hands out a free block.
     pub fn hand_out(&mut self, first: FrameNo, order: Order)
         requires room { IsTrue (has_room self.old) }
         requires run { IsTrue (is_run self.old order first) }
@@ -53,7 +53,7 @@ impl PlainZone {
         });
     }
 
-    /// Takes a block back that was handed out.
+    /// Takes back a block that was handed out.
     pub fn take_back(&mut self, first: FrameNo, order: Order)
         requires room { IsTrue (has_room self.old) }
         requires held { IsTrue (is_order (map.get self.old.handed_out first) order) }

@@ -9,8 +9,7 @@ use state_core::RoundStart;
 use std::alloc::{AllocError, Global};
 use std::marker::Model;
 
-/// The records of a zone, and how its latest round began. Whether the round is quiet so far is decided from each record
-/// where it is noted.
+/// The records of a zone, and how its latest round began. Each record that is noted decides whether the round is still quiet.
 #[derive(Drop)]
 pub struct History {
     journal: Journal,
@@ -31,7 +30,8 @@ impl Model for History {
 }
 
 impl History {
-    /// No record, with room for so many. No other call takes memory.
+    /// A history with no record and no round, with room for this many records, or an error where there is no memory for
+    /// them. No other call takes memory.
     pub fn open(alloc: Global, places: u32) -> Result<Self, AllocError>
         ensures { IfOk result (λ history. history ≡ record { records = []; room = places; round = None }) }
     {
@@ -43,7 +43,7 @@ impl History {
         })
     }
 
-    /// The records.
+    /// The journal with the records.
     pub fn journal(&self) -> &Journal
         ensures records { result.now.records ≡ self.now.records }
         ensures room { result.now.room ≡ self.now.room }
@@ -51,14 +51,14 @@ impl History {
         &self.journal
     }
 
-    /// The number of places that are left.
+    /// The number of places that are left in the journal.
     pub fn room(&self) -> u32
         ensures { result ≡ self.now.room }
     {
         self.journal.room()
     }
 
-    /// Whether the latest round began calm, and is quiet so far.
+    /// Whether the latest round began calm and is still quiet.
     pub fn quiet(&self) -> bool
         ensures { result ≡ is_quiet_since self.now.records self.now.round }
     {
@@ -74,7 +74,7 @@ impl History {
         self.journal.push(entry);
     }
 
-    /// A round begins, calm or not.
+    /// Notes that a round begins, calm or not.
     pub fn begin_round(&mut self, calm: bool)
         requires { length self.old.records ≤ 65536 }
         ensures { self.new ≡ record self.old { round = Some (record { records = length self.old.records; calm = calm }) } }
@@ -85,7 +85,7 @@ impl History {
     }
 }
 
-/// Whether a call leaves a round quiet.
+/// Whether the call of this record leaves a quiet round quiet.
 fn keeps_quiet(entry: &Record) -> bool
     ensures { result ≡ keeps_quiet entry.now }
 {

@@ -14,7 +14,7 @@ use state_core::Info;
 use table_core::Tables;
 
 impl PlainZone {
-    /// The counts.
+    /// The counts of the zone.
     pub fn info(&self) -> Info
         ensures counts { result ≡ info_of self.now }
         ensures sum { result.free + result.pages + result.moving + result.held ≡ frame_count self.now }
@@ -29,21 +29,21 @@ impl PlainZone {
         }
     }
 
-    /// Its number.
+    /// The number of the zone.
     pub fn number(&self) -> ZoneNo
         ensures { result ≡ self.now.number }
     {
         self.number
     }
 
-    /// How many pageblocks it has.
+    /// How many pageblocks the zone has.
     pub fn blocks(&self) -> u32
         ensures { result ≡ self.now.blocks }
     {
         self.blocks
     }
 
-    /// Its journal.
+    /// The journal of the zone.
     pub fn journal(&self) -> &Journal
         ensures records { result.now.records ≡ self.now.records }
         ensures room { result.now.room ≡ self.now.room }

@@ -20,7 +20,7 @@ use state_core::{Pair, Placement};
 use word_core::Isolated;
 
 impl PlainZone {
-    /// The page that a frame holds.
+    /// The page that a frame holds, if it holds one that isn't moving.
     pub fn holder(&self, frame: FrameNo) -> Option<PageNo>
         requires { frame < frame_count self.now }
         ensures holder { result ≡ holder self.now frame }
@@ -32,7 +32,7 @@ impl PlainZone {
         }
     }
 
-    /// The page that the round isolates next.
+    /// The page that the round isolates next, with its frame and the one that it goes to, if there is such a pair.
     #[inline(always)]
     pub fn next_pair(&self) -> Option<Pair>
         ensures pair { result ≡ next_pair self.now }
@@ -51,7 +51,7 @@ impl PlainZone {
         })
     }
 
-    /// The flags that are noted of a page in use.
+    /// The flags of a page in use.
     pub fn flags_of(&self, page: PageNo) -> PageFlags
         requires { IsSome (map.get self.now.placement page) }
         ensures { result ≡ flags_of self.now page }
@@ -60,7 +60,7 @@ impl PlainZone {
         PageFlags::of(note.unmovable, note.dirty)
     }
 
-    /// Takes the page of the next pair on its way, under the next serial.
+    /// Isolates the page of the next pair under the next serial.
     #[inline(always)]
     pub fn isolate(&mut self, pair: Pair) -> Isolated
         requires pair { IsPair self.old pair.page pair.source pair.target }
@@ -99,17 +99,17 @@ impl PlainZone {
         self.moves.out() == 0 && !self.frames.is_any_stuck(&self.marked)
     }
 
-    /// The fingers with which a round begins: at the bottom of the zone and above its top.
+    /// The fingers with which a round begins: the migrate finger at the bottom of the zone, and the free finger above its top.
     #[tactic(auto, using(crate::proofs::Rounds::swept_at_ends))]
     fn fingers_at_ends(&self) -> Fingers
         ensures ends { result ≡ record { migrate = 0; free = frame_count self.now } }
-        // With these a calm zone is swept.
+        // With these fingers a calm zone is swept.
         ensures swept { is_calm self.now ≡ true → IsSwept (record self.now { migrate = result.migrate; free = result.free }) }
     {
         Fingers::at_ends(512 * self.blocks)
     }
 
-    /// Begins a round: the fingers stand at the ends of the zone, and it is noted how many records there are and whether the round is calm.
+    /// Begins a round: sets the fingers to the ends of the zone, and notes the number of records and whether the round is calm.
     pub fn begin_round(&mut self)
         ensures step { self.new ≡ round_begun self.old }
         ensures lawful { IsLawful self.new }

@@ -1,4 +1,4 @@
-//! What is known of a page that an address names.
+//! What is known of the page that an address names.
 
 ghost use Rattle.std.specs.Prelude.{◌≡◌, Some, IsSome, IfSome};
 ghost use Rattle.std.specs.FinMap as map;
@@ -13,16 +13,16 @@ use frame_core::{Address, PageNo, Serial};
 use state_core::{Look, Placement};
 use table_core::Entry;
 
-/// How a page is used.
+/// How a page is used: its pins and its addresses.
 #[derive(Clone, Copy, Debug, PartialEq, Eq)]
 pub struct Uses {
     pub pins: u8,
-    /// How many addresses name it.
+    /// How many addresses name the page.
     pub maps: u8,
 }
 
 impl PlainZone {
-    /// The page that an address names, also while it is on its way.
+    /// The page that an address names, if it names one. The page may be moving.
     pub fn page_named(&self, address: &Address) -> Option<PageNo>
         ensures page { result ≡ page_at self.now.records address.now }
         ensures in_use { IfSome result (λ page. IsSome (map.get self.now.placement page)) }
@@ -34,7 +34,7 @@ impl PlainZone {
         }
     }
 
-    /// The page of an address that names one.
+    /// The page of an address that is known to name one.
     pub(crate) fn page_at(&self, address: &Address) -> PageNo
         requires { IsSome (page_at self.now.records address.now) }
         ensures named { page_at self.now.records address.now ≡ Some result }
@@ -46,7 +46,7 @@ impl PlainZone {
         page
     }
 
-    /// How the page is used that an address names.
+    /// How the page that an address names is used.
     pub fn uses_at(&self, address: &Address) -> Uses
         requires { IsSome (page_at self.now.records address.now) }
         ensures pins { result.pins ≡ pins_at self.now address.now }
@@ -55,7 +55,7 @@ impl PlainZone {
         self.uses_of(self.page_at(address))
     }
 
-    /// What is known of the page that an address names.
+    /// What is known of the page that an address names, if it names one.
     pub fn look(&self, address: &Address) -> Option<Look>
         ensures { result ≡ look_of self.now address.now }
     {
@@ -80,7 +80,7 @@ impl PlainZone {
         }
     }
 
-    /// The page that is on its way under a serial, or was.
+    /// The page that was isolated under a serial, if one was.
     fn page_under(&self, serial: Serial) -> Option<PageNo>
         ensures { result ≡ page_of self.now.records serial }
     {

@@ -1,4 +1,4 @@
-//! Binding an address to a fresh page.
+//! Making an address name a fresh page.
 
 ghost use Rattle.std.specs.Prelude.{◌≡◌, ◌<◌, nat_lt, Some, None, IsTrue, IsSome, IfSome, is_some};
 ghost use Rattle.journal_core.specs.History.{page_at};
@@ -38,7 +38,7 @@ impl PlainZone {
         self.frames.is_free(frame)
     }
 
-    /// The lowest frame that is free.
+    /// The lowest free frame, if there is one.
     pub fn find_free(&self) -> Option<FrameNo>
         ensures lowest { result ≡ lowest_free_frame self.now }
         ensures free { IfSome result (λ frame. IsTrue (is_free self.now frame)) }
@@ -47,7 +47,7 @@ impl PlainZone {
         self.frames.lowest_free()
     }
 
-    /// The lowest page number that isn't in use: there is one where a frame is free.
+    /// The lowest page number that isn't in use. There is one wherever a frame is free.
     fn unused_page(&self) -> PageNo
         requires { IsSome (lowest_free_frame self.now) }
         ensures { lowest_unused_page self.now ≡ Some result }
@@ -58,7 +58,7 @@ impl PlainZone {
         page
     }
 
-    /// Binds an address to a fresh page in a free frame.
+    /// Makes an address name a fresh page in a free frame.
     pub fn place(&mut self, client: ClientNo, address: Address, unmovable: bool, frame: FrameNo)
         requires room { IsTrue (has_room self.old) }
         requires vacant { page_at self.old.records address ≡ None }

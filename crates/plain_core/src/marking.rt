@@ -1,4 +1,4 @@
-//! The marks of pageblocks, which the scanners leave alone.
+//! The marks of pageblocks. The scanners pass over a marked pageblock.
 
 ghost use Rattle.std.specs.Prelude.{◌≡◌, ◌<◌, nat_lt, IsTrue};
 ghost use Rattle.std.specs.FinSet as set;

@@ -1,4 +1,4 @@
-//! The pages that were isolated, and how many of them are out and were put back.
+//! The pages that were isolated, and how many of them are out and how many were put back.
 
 ghost use Rattle.std.specs.Prelude.{◌≡◌, ◌+◌, ◌<◌, ◌++◌, [], ◌∷◌, length, slice_get, IfOk};
 
@@ -7,7 +7,7 @@ use state_core::Audit;
 use std::alloc::{AllocError, Global};
 use std::marker::Model;
 
-/// The pages that were isolated, by serial, and how many of them are out and were put back: the others were moved.
+/// The pages that were isolated, by serial, and how many of them are out and how many were put back. The others were moved.
 #[derive(Drop)]
 pub struct Moves {
     pages: Vec<PageNo>,
@@ -30,7 +30,7 @@ impl Model for Moves {
 }
 
 impl Moves {
-    /// Room for so many isolations. No other call takes memory.
+    /// A list with room for this many isolations, or an error where there is no memory for it. No other call takes memory.
     pub fn open(alloc: Global, places: u32) -> Result<Self, AllocError>
         ensures { IfOk result (λ moves. moves ≡ record { pages = []; places = places; moved = 0; back = 0 }) }
     {
@@ -50,21 +50,21 @@ impl Moves {
         self.pages.len() as u32
     }
 
-    /// How many pages are on their way.
+    /// How many pages are moving.
     pub fn out(&self) -> u32
         ensures { result + self.now.moved + self.now.back ≡ length self.now.pages }
     {
         self.out
     }
 
-    /// The page that was isolated under a serial.
+    /// The page that was isolated under a serial, if one was.
     pub fn page(&self, serial: Serial) -> Option<PageNo>
         ensures { result ≡ slice_get self.now.pages serial }
     {
         self.pages.get(serial as usize).copied()
     }
 
-    /// A page begins its way under the next serial.
+    /// Notes that a page is isolated, under the next serial, which is answered.
     pub fn isolate(&mut self, page: PageNo) -> Serial
         requires { length self.old.pages < self.old.places }
         ensures serial { result ≡ length self.old.pages }
@@ -76,7 +76,7 @@ impl Moves {
         serial
     }
 
-    /// One of the pages that are out was moved.
+    /// Notes that one of the pages that are out was moved.
     pub fn arrive(&mut self)
         requires { self.old.moved + self.old.back < length self.old.pages }
         ensures { self.new ≡ record self.old { moved = self.old.moved + 1 } }
@@ -84,7 +84,7 @@ impl Moves {
         self.out -= 1;
     }
 
-    /// One of the pages that are out was put back.
+    /// Notes that one of the pages that are out was put back.
     pub fn go_back(&mut self)
         requires { self.old.moved + self.old.back < length self.old.pages }
         ensures { self.new ≡ record self.old { back = self.old.back + 1 } }
@@ -93,7 +93,7 @@ impl Moves {
         self.back += 1;
     }
 
-    /// The counts.
+    /// The counts of pages isolated, moved and put back.
     pub fn counts(&self) -> Audit
         ensures isolated { result.isolated ≡ length self.now.pages }
         ensures moved { result.moved ≡ self.now.moved }

@@ -7,7 +7,7 @@ use state_core::Placement;
 /// What a zone notes of a page number.
 #[derive(Clone, Copy, Debug, PartialEq, Eq)]
 pub struct Note {
-    /// None where no page in use has the number.
+    /// Where the page is; none where no page in use has the number.
     pub placement: Option<Placement>,
     pub unmovable: bool,
     pub dirty: bool,
@@ -17,7 +17,7 @@ pub struct Note {
 }
 
 impl Note {
-    /// Of a number that isn't in use.
+    /// The note of a number that isn't in use.
     pub fn unused() -> Self
         ensures { result ≡ record { placement = None; unmovable = false; dirty = false; pins = 0; maps = 0 } }
     {
@@ -37,7 +37,7 @@ impl Note {
         self.pins == 0 && !self.unmovable
     }
 
-    /// Of the page after a store.
+    /// The note of the page after a store.
     pub fn stored(self) -> Self
         ensures { result ≡ record self { dirty = true } }
     {
@@ -47,7 +47,7 @@ impl Note {
         }
     }
 
-    /// Of the page with a pin more.
+    /// The note of the page with one pin more. It has to have fewer than 255 pins before.
     pub fn with_pin(self) -> Self
         requires { self.pins < 255 }
         ensures { result ≡ record self { pins = self.pins + 1 } }
@@ -58,7 +58,7 @@ impl Note {
         }
     }
 
-    /// Of the page with a pin less.
+    /// The note of the page with one pin fewer. It has to have one before.
     pub fn without_pin(self) -> Self
         requires { 0 < self.pins }
         ensures { result ≡ record self { pins = self.pins - 1 } }
@@ -69,7 +69,7 @@ impl Note {
         }
     }
 
-    /// Of the page with an address more.
+    /// The note of the page with one address more.
     pub fn with_address(self) -> Self
         requires { self.maps < 255 }
         ensures { result ≡ record self { maps = self.maps + 1 } }
@@ -80,7 +80,7 @@ impl Note {
         }
     }
 
-    /// Of the page with an address less.
+    /// The note of the page with one address fewer.
     pub fn without_address(self) -> Self
         requires { 0 < self.maps }
         ensures { result ≡ record self { maps = self.maps - 1 } }
@@ -91,7 +91,7 @@ impl Note {
         }
     }
 
-    /// Of a fresh page at a frame.
+    /// The note of a fresh page in a frame.
     pub fn fresh(frame: FrameNo, unmovable: bool) -> Self
         ensures { result ≡ record { placement = Some (At frame); unmovable = unmovable; dirty = false; pins = 0; maps = 1 } }
     {

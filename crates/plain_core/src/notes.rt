@@ -17,9 +17,9 @@ use std::marker::Model;
 #[derive(Drop)]
 pub struct Notes {
     notes: Vec<Note>,
-    /// How many of them are of pages in use.
+    /// How many page numbers are in use.
     in_use: u32,
-    /// The numbers that aren't in use.
+    /// The page numbers that aren't in use.
     unused: NumberSet,
 }
 
@@ -37,7 +37,7 @@ impl Model for Notes {
 }
 
 impl Notes {
-    /// The notes of so many numbers, none in use. No other call takes memory.
+    /// The notes of this many numbers, none of which is in use, or an error where there is no memory for them. No other call takes memory.
     pub fn open(alloc: Global, count: u32) -> Result<Self, AllocError>
         requires { count ≤ 4096 }
         ensures { IfOk result (λ notes. notes ≡ replicate count unused_note) }
@@ -58,7 +58,7 @@ impl Notes {
         self.notes[page.get() as usize]
     }
 
-    /// Where a page is, if the zone has its number and it is in use.
+    /// Where a page is, if its number is one of the zone's and is in use.
     pub fn placement(&self, page: PageNo) -> Option<Placement>
         ensures { result ≡ placement_of self.now page }
     {
@@ -72,7 +72,7 @@ impl Notes {
         self.in_use
     }
 
-    /// Notes something else of a page number.
+    /// Replaces the note of a page number.
     pub fn put(&mut self, page: PageNo, note: Note)
         requires { page < length self.old }
         ensures { self.new ≡ slice_set self.old page note }
@@ -91,7 +91,7 @@ impl Notes {
         }
     }
 
-    /// Notes something else of a page that is in use and stays so.
+    /// Replaces the note of a page that is in use and stays so.
     pub fn revise(&mut self, page: PageNo, note: Note)
         requires used { is_in_use self.old page ≡ true }
         requires stays { IsSome note.placement }
@@ -100,7 +100,7 @@ impl Notes {
         self.notes[page.get() as usize] = note;
     }
 
-    /// Places a page in use elsewhere.
+    /// Gives a page in use another place.
     pub fn place(&mut self, page: PageNo, placement: Placement)
         requires { is_in_use self.old page ≡ true }
         ensures { (note : Noted) → slice_get self.old page ≡ Some note → self.new ≡ slice_set self.old page (record note { placement = Some placement }) }
@@ -108,7 +108,7 @@ impl Notes {
         self.notes[page.get() as usize].placement = Some(placement);
     }
 
-    /// The lowest page number that isn't in use.
+    /// The lowest page number that isn't in use, if there is one.
     pub fn lowest_unused(&self) -> Option<PageNo>
         ensures { result ≡ lowest (λ page. is_none (placement_of self.now page)) (length self.now) }
     {
@@ -116,7 +116,7 @@ impl Notes {
     }
 }
 
-/// The numbers below a count.
+/// The set of the numbers below a count.
 fn numbers_below(count: u32) -> NumberSet
     requires { count ≤ 4096 }
     ensures { (number : ℕ) → set.contains result number ≡ nat_lt number count }

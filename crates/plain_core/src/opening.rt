@@ -15,7 +15,7 @@ use table_core::Tables;
 use word_core::Words;
 
 impl PlainZone {
-    /// An empty zone. No other call takes memory.
+    /// An empty zone, or the error Memory where there isn't enough memory for it. No other call takes memory.
     pub fn open(
         alloc: Global,
         number: ZoneNo,

@@ -1,4 +1,4 @@
-//! Pins of pages, also of those on their way.
+//! Pinning pages, moving ones too.
 
 ghost use Rattle.std.specs.Prelude.{◌≡◌, ◌<◌, ℕ, true, nat_eq, not, ◌&&◌, Some, IsSome, IsTrue};
 ghost use Rattle.scan_core.specs.Frames.{holds_at};
@@ -50,7 +50,7 @@ impl PlainZone {
     }
 }
 
-/// Says at the frame of a page, where it stands in one, whether it may be taken from there.
+/// Notes in the frame of a page whether the page may be taken from it. A moving page has no such note.
 #[inline(always)]
 fn say_movable(frames: &mut Frames, note: &Note)
     requires { (frame : ℕ) → note.now.placement ≡ Some (At frame) → holds_at frames.old.states frame ≡ true }

@@ -12,7 +12,7 @@ use frame_core::{Address, ClientNo, FrameNo};
 use journal_core::Record;
 
 impl PlainZone {
-    /// Lets an alias name the page of an address too.
+    /// Makes an alias name the page of an address too.
     pub fn share(&mut self, client: ClientNo, address: Address, alias: Address, frame: FrameNo)
         requires room { IsTrue (has_room self.old) }
         requires frame { placement_at self.old address ≡ Some (At frame) }

@@ -1,4 +1,4 @@
-//! An address less for a page, and the end of a page with its last one.
+//! Taking an address from a page. With its last address the page goes out of use.
 
 ghost use Rattle.std.specs.Prelude.{◌≡◌, ◌≢◌, ℕ, Some, IsTrue};
 ghost use Rattle.std.specs.FinMap as map;
@@ -15,7 +15,7 @@ use frame_core::{Address, ClientNo, FrameNo, PageNo};
 use journal_core::Record;
 
 impl PlainZone {
-    /// Lets an address name no page any more. With its last address a page ends.
+    /// Makes an address name no page any more. A page that has no address left isn't in use.
     pub fn unmap(&mut self, client: ClientNo, address: Address, frame: FrameNo)
         requires room { IsTrue (has_room self.old) }
         requires frame { placement_at self.old address ≡ Some (At frame) }
@@ -31,7 +31,7 @@ impl PlainZone {
         }
     }
 
-    /// Takes one of its addresses from a page.
+    /// Takes one of its addresses from a page that has others.
     fn unmap_one(&mut self, client: ClientNo, address: Address, page: PageNo)
         requires room { IsTrue (has_room self.old) }
         requires named { page_at self.old.records address ≡ Some page }
@@ -47,7 +47,7 @@ impl PlainZone {
         self.history.note(Record::Unmap { client, address });
     }
 
-    /// Ends a page: its frame is free, and its number isn't in use.
+    /// Takes its last address from a page: its frame is free, and its number isn't in use.
     fn unmap_last(&mut self, client: ClientNo, address: Address, page: PageNo, frame: FrameNo)
         requires room { IsTrue (has_room self.old) }
         requires named { page_at self.old.records address ≡ Some page }

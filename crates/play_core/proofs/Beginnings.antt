@@ -1,4 +1,4 @@
--- The commands of a beginning of an input are the first of its commands.
+-- The commands of the beginning of an input are the first of its commands.
 use Rattle.std.proofs.Common.{◌≡◌, ℕ, ◌+◌, Bool, true, false, cond, List, [], ◌∷◌, ◌++◌, refl, sym, ap, subst, Option, Some, None, Result, Ok, Err}
 use Rattle.std.specs.Prelude.{nat_eq, ⊤}
 use Rattle.std.specs.List.{AllByRecursion, onto_first}
@@ -7,12 +7,12 @@ use Rattle.text_core.specs.declared.profile.Profile.TheVariants.{Untold}
 use Rattle.play_core.specs.Script.{Came, Numbered, Reading, by, commands_from, commands_of, line_comes, onto, onto_commands, parts_of, reading_behind}
 use Rattle.play_core.proofs.Lines.{commands_by, parts_are}
 
--- what all of a list are is what those before a place in it are
+-- what holds of all of a list holds of its first part
 pub all_before : {A : Type 0} (P : A → Type 0) (xs ys : List A) → AllByRecursion P (xs ++ ys) → AllByRecursion P xs
 all_before P [] ys all = tt
 all_before P (x ∷ xs) ys all = (all.0, all_before P xs ys all.1)
 
--- these parts, but for the last, are the first of those, and there are as many or more of those
+-- all of these parts but the last are the first ones of the others, and there are at least as many others
 abbrev Begin : List (List ℕ) → List (List ℕ) → Type 0
 Begin [] all = ⊤
 Begin (cut ∷ []) all = ⊤
@@ -27,7 +27,7 @@ begin_onto b (text ∷ next ∷ parts) [] begin = absurd begin
 begin_onto b (text ∷ next ∷ parts) (line ∷ []) begin = absurd begin
 begin_onto b (text ∷ next ∷ parts) (line ∷ other ∷ all) begin = (ap (λ (t : List ℕ). b ∷ t) begin.0, begin.1)
 
--- a newline more
+-- both lists of parts with one more line in front
 begin_newline : (parts all : List (List ℕ)) (first line : List ℕ) (others lines : List (List ℕ)) → parts ≡ first ∷ others → all ≡ line ∷ lines → Begin parts all → Begin ([] ∷ parts) ([] ∷ all)
 begin_newline parts all first line others lines are are_all begin =
     let B : List (List ℕ) → List (List ℕ) → Type 0 = λ p q. Begin p q in
@@ -43,7 +43,7 @@ begins (b ∷ past) rest = by_test (begins past rest) (nat_eq b 10) where
       begin_newline (parts_of past) (parts_of (past ++ rest)) p.first q.first p.others q.others p.are q.are begin
   by_test begin false = begin_onto b (parts_of past) (parts_of (past ++ rest)) begin
 
--- the one list, and then more
+-- the second list is the first one and then more
 abbrev pub IsMore : List Numbered → List Numbered → Type 0
 IsMore few many = (more : List Numbered) × (many ≡ few ++ more)
 
@@ -69,7 +69,7 @@ more_commands q n (text ∷ next ∷ parts) (line ∷ other ∷ all) begin =
 pub commands_begin : (past rest : List ℕ) → IsMore (commands_of past) (commands_of (past ++ rest))
 commands_begin past rest = more_commands (by Untold) 1 (parts_of past) (parts_of (past ++ rest)) (begins past rest)
 
--- what all commands of an input are is what those of its beginning are
+-- what holds of all commands of an input holds of those of its beginning
 pub all_of_beginning : (P : Numbered → Type 0) (past rest : List ℕ) → AllByRecursion P (commands_of (past ++ rest)) → AllByRecursion P (commands_of past)
 all_of_beginning P past rest all =
     let more = commands_begin past rest in

@@ -1,4 +1,4 @@
--- What a run says of what its machine stands for.
+-- What a run says of the machine that its own machine stands for.
 use Rattle.std.proofs.Common.{◌≡◌, ◌⊎◌, ℕ, List, [], ◌∷◌, ap, subst, inl, inr, Option}
 use Rattle.std.specs.Prelude.{IfErr, IfOk, IfSome, Result}
 use Rattle.std.proofs.lemmas.Result.{MatchResult-weaker}
@@ -52,7 +52,7 @@ module _ {S T : Type 0} (may : Rule S) (rule : Rule T) (seen : S → T)
       written = h.written;
     }
 
-    -- a run of a machine that stands for one at this state
+    -- a run of a machine that stands for one with this state
     module _ (start : S) (first : T) (is : seen start ≡ first) (left left_new old new : Option (List ℕ)) (r : Result Totals RunError) where
       pub totals_carried : IfOk r (λ totals. IfSome left (λ input. IsTotal may start input old new totals)) → IfOk r (λ totals. IfSome left (λ input. IsTotal rule first input old new totals))
       totals_carried h = MatchResult-weaker r h

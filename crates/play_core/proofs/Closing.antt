@@ -1,4 +1,4 @@
--- The end of a run: what waits is written.
+-- The end of a run: the replies that wait are written.
 use Rattle.std.proofs.Common.{◌≡◌, ◌≢◌, ℕ, ◌+◌, List, [], ◌∷◌, ◌++◌, refl, sym, ap, subst, ◌∙◌, append_assoc, append-nil, inl, inr, ◌⊎◌, arith, Option, Some}
 use Rattle.std.specs.Io.KnownBytes.{Appends, Consumes}
 use Rattle.std.proofs.KnownBytes.{Appends-nil}
@@ -35,11 +35,11 @@ begun_read {S} may start s first is =
       owes = owes_empty [] first first (Appends-nil first);
     })
 
--- what a flush that wrote all does
+-- what a flush does that wrote all
 abbrev pub Flushes : {S : Type 0} → Player S → Option (List ℕ) → Option (List ℕ) → Type 0
 Flushes s mid after = (answers : List Answer) (first : Option (List ℕ)) → Owes s.box answers first mid → Appends first after (texts answers)
 
--- what one that stopped does
+-- what a flush does that stopped
 abbrev pub FlushStops : {S : Type 0} → Player S → Option (List ℕ) → Option (List ℕ) → ℕ → Type 0
 FlushStops s mid after at = (answers : List Answer) (first : Option (List ℕ)) → Owes s.box answers first mid → StopsIn answers first after at
 
@@ -61,7 +61,7 @@ flushed may asks start Read s input e left left_new first mid after other h flus
 flushed may asks start Write s input e left left_new first mid after other h flushes = absurd (other refl)
 flushed may asks start Memory s input e left left_new first mid after other h flushes = record { before = h.before; begins = h.begins; asking = h.asking; written = flushes h.begins.answers first h.owes }
 
--- a flush behind what was read stopped
+-- a flush stopped after some bytes were read
 pub read_stops : {S : Type 0} (may : Rule S) (start : S) (s : Player S) (past : List ℕ) (first mid after : Option (List ℕ)) (at : ℕ) → HasRead may start s past first mid → FlushStops s mid after at → (rest : List ℕ) → IsStopped may start (past ++ rest) first after at
 read_stops may start s past first mid after at r stops rest = record {
   before = r.before;
@@ -80,7 +80,7 @@ fault_stopped may start s past e first mid after at h stops rest = record {
   stops = stops h.begins.answers first h.owes;
 }
 
--- a flush behind another fault stopped
+-- a flush stopped after another fault
 pub ended_stops : {S : Type 0} (may : Rule S) (asks : Asking S) (start : S) (f : Fault) (s : Player S) (past : List ℕ) (e : RunError) (first mid after : Option (List ℕ)) (at : ℕ) → f ≢ Write → EndsBy may asks start f s past e first mid → FlushStops s mid after at → (rest : List ℕ) → IsStopped may start (past ++ rest) first after at
 ended_stops may asks start Syntax s past e first mid after at other h stops rest = fault_stopped may start s past e first mid after at h stops rest
 ended_stops may asks start LongLine s past e first mid after at other h stops rest = fault_stopped may start s past e first mid after at h stops rest
@@ -96,7 +96,7 @@ ended_stops may asks start Memory s past e first mid after at other h stops rest
       let more = commands_begin b.past (b.text ++ 10 ∷ b.rest) in
       stopped more.0 (ap commands_of b.order ∙ more.1 ∙ ap (λ (list : List Numbered). list ++ more.0) b.commands)
 
--- nothing waits: all was written
+-- where nothing waits, all is written
 pub written_out : {S : Type 0} (s : Player S) (now : Option (List ℕ)) → s.box ≡ empty → Flushes s now now
 written_out s now none = λ answers first owes.
     let O : Outbox → Type 0 = λ box. Owes box answers first now in
@@ -121,7 +121,7 @@ read_flushed may start s past first mid after r flushes = record {
 }
 
 module _ {S : Type 0} (may : Rule S) (asks : Asking S) (start : S) (s : Player S) (past : List ℕ) (first mid after : Option (List ℕ)) where
-  -- no piece that was read ends in a fault of a read
+  -- reading a piece never ends with the fault of a read
   no_read : (f : Fault) (e : RunError) → EndsBy may asks start f s past e first mid → f ≢ Read
   no_read Read e h is = h
   no_read Syntax e h is = cc
@@ -134,7 +134,7 @@ module _ {S : Type 0} (may : Rule S) (asks : Asking S) (start : S) (s : Player S
   closed_by f e other h flushes rest left left_new =
       flushed may asks start f s (past ++ rest) e left left_new first mid after other (ends_stop may asks start f s past rest (past ++ rest) e left left_new first mid refl h) flushes
 
-  -- a fault, and all replies before it were written
+  -- a fault ended the run, and all replies before it were written
   pub closed : (e : RunError) → e.fault ≢ Write → HasEnded may asks start s past e first mid → Flushes s mid after → HasClosed may asks start past e first after
   closed e other h flushes = record { heard = no_read e.fault e h; ends = closed_by e.fault e other h flushes }
 
@@ -147,13 +147,13 @@ closed_in may asks start past e first now is stops = record {
   not_write : (f : Fault) → f ≡ Read → f ≡ Write → ⊥
   not_write f read write = cc
 
--- a read failed, or too many saw no end, where nothing waits
+-- a read failed, or too many didn't come to the end, and no reply waits
 pub breaks_off_written : {S : Type 0} (may : Rule S) (asks : Asking S) (start : S) (s : Player S) (past input : List ℕ) (e : RunError) (left left_new first now : Option (List ℕ)) → s.box ≡ empty → e ≡ record { fault = Read; line = s.line } → Consumes left left_new past → HasRead may start s past first now → IsEnded may asks start e.fault input e left left_new first now
 breaks_off_written may asks start s past input e left left_new first now none is took r =
     let E : RunError → Type 0 = λ e. IsEnded may asks start e.fault input e left left_new first now in
     subst E (sym is) (breaks_off may start s left left_new first now now s.line (record { past = past; read = took; has_read = r; at = refl }) (written_out s now none))
 
--- the end of the input cuts a line, where nothing waits
+-- the end of the input cuts a line off, and no reply waits
 pub cut_written : {S : Type 0} (may : Rule S) (asks : Asking S) (start : S) (s : Player S) (input : List ℕ) (e : RunError) (left left_new first now : Option (List ℕ)) → s.box ≡ empty → e.fault ≡ Syntax → Finishes may start s input (Some e) first now → IsEnded may asks start e.fault input e left left_new first now
 cut_written may asks start s input e left left_new first now none is h =
     let E : Fault → Type 0 = λ f. IsEnded may asks start f input e left left_new first now in

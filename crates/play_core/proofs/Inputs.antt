@@ -1,4 +1,4 @@
--- What was read, and the whole input.
+-- What was read so far, and the whole input.
 use Rattle.std.proofs.Common.{◌≡◌, ℕ, ◌-◌, ◌<◌, ◌≤◌, Bool, false, List, [], ◌∷◌, ◌++◌, length, take, refl, sym, ap, subst, inl, inr, ◌∙◌, ◌+◌, ◌⊎◌, append-nil, arith, Option, Some, None}
 use Rattle.std.specs.Prelude.{IfSome, nat_lt, if◌then◌else◌}
 use Rattle.std.proofs.lemmas.Bool.Decides.{nat_tests}
@@ -24,11 +24,11 @@ commands_end may start s input first now r =
 pub fault_end : {S : Type 0} (may : Rule S) (start : S) (s : Player S) (input : List ℕ) (first now : Option (List ℕ)) → (r : HasRead may start s input first now) → fault_of input ≡ option_or (cut_fault s.line s.held) (open_fault s.reading.block)
 fault_end may start s input first now r = ap fault_of r.split ∙ r.fault s.held ∙ ap (fault_from s.reading s.line) (parts-end s.held r.unbroken)
 
--- and how it is read on
+-- how the line after the input would be read
 pub reading_end : {S : Type 0} (may : Rule S) (start : S) (s : Player S) (input : List ℕ) (first now : Option (List ℕ)) → (r : HasRead may start s input first now) → reading_of input ≡ s.reading
 reading_end may start s input first now r = ap reading_of r.split ∙ r.reading s.held ∙ reading-end s.reading s.line s.held r.unbroken
 
--- the same replies, to the same commands
+-- replies to commands are replies to the same commands under another name
 abbrev begins_same : {S : Type 0} (may : Rule S) (start : S) (commands same : List Numbered) → commands ≡ same → Begins may start commands → Begins may start same
 begins_same may start commands same is b = record {
   answers = b.answers;
@@ -36,7 +36,7 @@ begins_same may start commands same is b = record {
   replied = (let R : List Numbered → Type 0 = λ cs. Replied may start cs b.answers b.after in subst R is b.replied);
 }
 
--- the input that ends here was answered
+-- the commands of the input were answered where all of it was read
 abbrev pub begins_end : {S : Type 0} (may : Rule S) (start : S) (s : Player S) (input : List ℕ) (first now : Option (List ℕ)) → HasRead may start s input first now → Begins may start (commands_of input)
 begins_end may start s input first now r =
     begins_same may start r.before (commands_of input) (sym (commands_end may start s input first now r)) (begins_of may start s input first now r)
@@ -74,7 +74,7 @@ read_unended may start s input block first now r none inside = record {
   owes = r.owes;
 }
 
--- what was read has no fault but those of an end there
+-- what was read has no fault except those that an end there would make
 pub read_clean : {S : Type 0} (may : Rule S) (start : S) (s : Player S) (past : List ℕ) (first now : Option (List ℕ)) → HasRead may start s past first now → IfSome (fault_of past) (IsOfEnd past)
 read_clean may start s past first now r = by_held s.held refl where
   open_is : open_fault (reading_of past).block ≡ open_fault s.reading.block

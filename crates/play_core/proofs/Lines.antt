@@ -30,15 +30,15 @@ unbroken_by_recursion (b ∷ bytes) e = let first = newline_first b bytes e in (
 unbroken : (bytes : List ℕ) → newlines bytes ≡ 0 → All (λ b. nat_eq b 10 ≡ false) bytes
 unbroken bytes e = All-from_recursion (λ b. nat_eq b 10 ≡ false) bytes (unbroken_by_recursion bytes e)
 
--- the first line
+-- the parts of an input with one more line in front
 pub parts-line : (text rest : List ℕ) → newlines text ≡ 0 → parts_of (text ++ 10 ∷ rest) ≡ text ∷ parts_of rest
 parts-line text rest e = slice_split_at (λ b. nat_eq b 10) text 10 rest (unbroken text e) refl
 
--- what stands behind the last newline
+-- the parts of bytes without a newline
 pub parts-end : (text : List ℕ) → newlines text ≡ 0 → parts_of text ≡ text ∷ []
 parts-end text e = slice_split_none (λ b. nat_eq b 10) text (unbroken text e)
 
--- there is a first part
+-- the first part of an input, and the others
 pub record Parts (input : List ℕ) : Type 0 where
   pub first : List ℕ
   pub others : List (List ℕ)
@@ -54,7 +54,7 @@ parts_are (b ∷ input) = by_test (parts_are input) (nat_eq b 10) refl where
   by_test p true e = record { first = []; others = parts_of input; are = ap (λ (t : Bool). cond t ([] ∷ parts_of input) (onto_first b (parts_of input))) e }
   by_test p false e = record { first = b ∷ p.first; others = p.others; are = ap (λ (t : Bool). cond t ([] ∷ parts_of input) (onto_first b (parts_of input))) e ∙ onto_first_is b (parts_of input) p.first p.others p.are }
 
--- bytes without a newline begin the first part
+-- bytes without a newline belong to the first part
 pub parts-more : (text rest : List ℕ) (p : Parts rest) → newlines text ≡ 0 → parts_of (text ++ rest) ≡ (text ++ p.first) ∷ p.others
 parts-more [] rest p e = p.are
 parts-more (b ∷ text) rest p e =
@@ -62,22 +62,22 @@ parts-more (b ∷ text) rest p e =
     ap (λ (t : Bool). cond t ([] ∷ parts_of (text ++ rest)) (onto_first b (parts_of (text ++ rest)))) first.0
     ∙ onto_first_is b (parts_of (text ++ rest)) (text ++ p.first) p.others (parts-more text rest p first.1)
 
--- a line outside of a block, and one in a block
+-- a line outside a block, and one in a block
 pub outside-line : (q : Reading) (n : ℕ) (text : List ℕ) → q.block ≡ None → line_comes q n text ≡ comes_outside q.profile n (line_of q.profile text)
 outside-line q n text outside = ap (λ o. comes_in o q.profile n text) outside
 
 pub within-line : (q : Reading) (block : Block) (n : ℕ) (text : List ℕ) → q.block ≡ Some block → line_comes q n text ≡ comes_within q.profile block n (line_within block.zone text)
 within-line q block n text inside = ap (λ o. comes_in o q.profile n text) inside
 
--- the commands from a line on, by what it comes to
+-- the commands from a line on, given what the line makes
 abbrev pub commands_by : Reading → ℕ → Result Came Fault → List (List ℕ) → List Numbered
 commands_by q n came parts = onto_commands came (commands_from (reading_behind q came) (n + 1) parts)
 
--- the first fault from a line on, by what it comes to
+-- the first fault from a line on, given what the line makes
 abbrev pub fault_by : Reading → ℕ → Result Came Fault → List (List ℕ) → Option RunError
 fault_by q n came parts = option_or (line_fault n came) (fault_from (reading_behind q came) (n + 1) parts)
 
--- how the lines behind a line are read, by what it comes to
+-- how the bytes after the last newline are read, given what a line makes
 abbrev pub reading_by : Reading → ℕ → Result Came Fault → List (List ℕ) → Reading
 reading_by q n came parts = reading_from (reading_behind q came) (n + 1) parts
 
@@ -102,11 +102,11 @@ reading_at q n text parts first others e =
 pub reading-line : (q : Reading) (n : ℕ) (text rest : List ℕ) → newlines text ≡ 0 → reading_from q n (parts_of (text ++ 10 ∷ rest)) ≡ reading_by q n (line_comes q n text) (parts_of rest)
 reading-line q n text rest e = let p = parts_are rest in ap (reading_from q n) (parts-line text rest e) ∙ reading_at q n text (parts_of rest) p.first p.others p.are
 
--- what stands behind the last newline changes nothing
+-- how a line is read isn't changed by bytes without a newline
 pub reading-end : (q : Reading) (n : ℕ) (cut : List ℕ) → newlines cut ≡ 0 → reading_from q n (parts_of cut) ≡ q
 reading-end q n cut e = ap (reading_from q n) (parts-end cut e)
 
--- more than 200 bytes are a fault however they go on
+-- a line of more than 200 bytes is a fault
 line_comes-long : (q : Reading) (n : ℕ) (text : List ℕ) → 200 < length text → line_comes q n text ≡ Err LongLine
 line_comes-long q n text h = in_block q.block where
   long : nat_lt 200 (length text) ≡ true
@@ -152,7 +152,7 @@ other_byte x h = by_test (nat_eq x 10) refl where
 drop-at : (xs : List ℕ) (i : ℕ) → i < length xs → drop i xs ≡ get_or xs i 0 ∷ drop (i + 1) xs
 drop-at xs i h = rw (add-one, drop-cons xs i 0) refl
 
--- what a first newline tells
+-- what is known of the first newline of a text
 pub record FirstNewline (xs : List ℕ) (end : ℕ) : Type 0 where
   pub within : end < length xs
   pub unbroken : newlines (take end xs) ≡ 0

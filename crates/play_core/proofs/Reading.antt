@@ -23,11 +23,11 @@ replied_more {S} may old mid new [] answers c here told says =
 replied_more may old mid new (d ∷ commands) answers c here told says =
     (told.0, told.1, told.2 ++ here, ap (λ (r : List Answer). r ++ here) told.3 ∙ append_assoc told.1 told.2 here, told.4, replied_more may told.0 mid new commands told.2 c here told.5 says)
 
--- what was read was answered
+-- the commands of what was read were answered
 abbrev pub begins_of : {S : Type 0} (may : Rule S) (start : S) (s : Player S) (past : List ℕ) (first now : Option (List ℕ)) → (r : HasRead may start s past first now) → Begins may start r.before
 begins_of may start s past first now r = record { answers = r.answers; after = s.machine; replied = r.replied }
 
--- where no line has begun, all that was read is whole lines
+-- where no line has begun, what was read is whole lines
 pub whole_is : {S : Type 0} (may : Rule S) (start : S) (s : Player S) (past : List ℕ) (first now : Option (List ℕ)) → (r : HasRead may start s past first now) → s.held ≡ [] → r.whole ≡ past
 whole_is may start s past first now r e = sym (append-nil r.whole) ∙ ap (λ (h : List ℕ). r.whole ++ h) (sym e) ∙ sym r.split
 
@@ -62,7 +62,7 @@ module _ {S : Type 0} (may : Rule S) (start : S) (s : Player S) (past text : Lis
   reading_line : (rest : List ℕ) → reading_of ((past ++ (text ++ 10 ∷ [])) ++ rest) ≡ reading_by s.reading s.line here (parts_of rest)
   reading_line rest = ap reading_of (joined past text rest) ∙ reading_next may start s past first now r begins (text ++ 10 ∷ rest) ∙ reading-line s.reading s.line text rest none
 
-  -- a line that ends no command: it is skipped, begins a block or is one of a client
+  -- a line that ends no command: it is skipped, or begins a block, or is a client line
   pub read_on : (reading : Reading) → here ≡ Ok (record { ended = None; reading = reading }) → HasRead may start (record s { reading = reading; line = s.line + 1 }) (past ++ (text ++ 10 ∷ [])) first now
   read_on reading is = record {
     whole = past ++ (text ++ 10 ∷ []);
@@ -104,7 +104,7 @@ module _ {S : Type 0} (may : Rule S) (start : S) (s : Player S) (past text : Lis
       owes = posts r.answers first r.owes;
     }
 
-    -- there is no memory for it
+    -- there is no memory for the command
     pub read_lacking : (asks : Asking S) (t : Player S) (line : ℕ) → line ≡ command.line → t.box ≡ s.box → asks s.machine command.command → HasNoMemory may asks start t (past ++ (text ++ 10 ∷ [])) line first now
     read_lacking asks t line at box asking = record {
       before = r.before;
@@ -119,7 +119,7 @@ module _ {S : Type 0} (may : Rule S) (start : S) (s : Player S) (past text : Lis
       owes = (let O : Outbox → Type 0 = λ b. Owes b r.answers first now in subst O (sym box) r.owes);
     }
 
-    -- a writer stopped in its answers, or in those before
+    -- a writer stopped in the command's answers, or in those before
     pub read_stopped : (answers : List Answer) (machine : S) (after : Option (List ℕ)) (at : ℕ) (rest : List ℕ) → may s.machine command answers machine → StopsIn (r.answers ++ answers) first after at → IsStopped may start ((past ++ (text ++ 10 ∷ [])) ++ rest) first after at
     read_stopped answers machine after at rest told stops = record {
       before = r.before ++ command ∷ [];
@@ -139,7 +139,7 @@ module _ {S : Type 0} (may : Rule S) (start : S) (s : Player S) (past text : Lis
     owes = (let O : Outbox → Type 0 = λ b. Owes b r.answers first now in subst O (sym box) r.owes);
   }
 
-  -- a line that begins a block, for which there is no memory
+  -- a line that begins a block for which there is no memory
   pub read_unbegun : (asks : Asking S) (t : Player S) (line : ℕ) → line ≡ s.line → t.box ≡ s.box → s.reading.block ≡ None → BeginsBlock (line_of s.reading.profile text) → HasNoMemory may asks start t (past ++ (text ++ 10 ∷ [])) line first now
   read_unbegun asks t line at box outside during =
       let at_end : past ++ [] ≡ past = append-nil past in
@@ -167,7 +167,7 @@ pub ended_wrong : {S : Type 0} (may : Rule S) (asks : Asking S) (start : S) (s :
 ended_wrong may asks start s past of_line.Syntax fault line first now is h = let E : Fault → Type 0 = λ f. HasEnded may asks start s past (record { fault = f; line = line }) first now in subst E (sym is) h
 ended_wrong may asks start s past of_line.LongLine fault line first now is h = let E : Fault → Type 0 = λ f. HasEnded may asks start s past (record { fault = f; line = line }) first now in subst E (sym is) h
 
--- the line that has begun is taken out
+-- the beginning of a line, which was held, is taken out
 pub read_taken_out : {S : Type 0} (may : Rule S) (start : S) (s : Player S) (past : List ℕ) (first now : Option (List ℕ)) → (r : HasRead may start s past first now) → HasRead may start (record s { held = [] }) r.whole first now
 read_taken_out may start s past first now r = record {
   whole = r.whole;
@@ -275,6 +275,6 @@ taken_line_ended may asks start s past text first now after s' e none_held line 
     let P : List ℕ → Type 0 = λ p. HasEnded may asks start s' p e first after in
     subst P (ap (λ (t : List ℕ). r.whole ++ (t ++ 10 ∷ [])) is ∙ past_line may start s past text first now r) (takes r.whole first unbroken (subst H (sym empty) (read_taken_out may start s past first now r)))
 
--- a line and what stands behind it, in a piece
+-- a line and what stands after it in a piece
 pub piece_joined : (past done text behind : List ℕ) → ((past ++ done) ++ (text ++ 10 ∷ [])) ++ behind ≡ past ++ (done ++ (text ++ 10 ∷ behind))
 piece_joined past done text behind = joined (past ++ done) text behind ∙ append_assoc past done (text ++ 10 ∷ behind)

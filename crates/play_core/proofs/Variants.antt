@@ -21,7 +21,7 @@ pub if_known : (o : Option (List ℕ)) (P : List ℕ → Type 0) → ((x : List 
 if_known None P f = tt
 if_known (Some x) P f = f x refl
 
--- what follows of known bytes
+-- what follows from known bytes
 pub known_weaker : (o : Option (List ℕ)) (P Q : List ℕ → Type 0) → ((x : List ℕ) → o ≡ Some x → P x → Q x) → IfSome o P → IfSome o Q
 known_weaker None P Q f p = tt
 known_weaker (Some x) P Q f p = f x refl p

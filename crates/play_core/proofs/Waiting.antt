@@ -29,7 +29,7 @@ pub record Cut (answers : List Answer) (n : ℕ) : Type 0 where
   pub here : take n (texts answers) ≡ texts before ++ taken
   pub count : newlines (take n (texts answers)) ≡ length before
 
--- a part of a line without its newline has none
+-- a part of a reply's text that lacks its newline has none
 newlines-part : (text : List ℕ) (n : ℕ) → IsOneLine text → n < length text → newlines (take n text) ≡ 0
 newlines-part text n one h =
     let len : length text ≡ length one.body + 1 = ap length one.ends ∙ length-append one.body (10 ∷ []) in
@@ -87,7 +87,7 @@ cut_at (a ∷ answers) n one h = cut_by_test a answers n one.0 h (λ m less. cut
 pub appends_on : (a b c : Option (List ℕ)) (xs ys all : List ℕ) → Appends a b xs → Appends b c ys → xs ++ ys ≡ all → Appends a c all
 appends_on a b c xs ys all p q e = let A : List ℕ → Type 0 = λ zs. Appends a c zs in subst A e (Appends-trans a b c xs ys p q)
 
--- all that waits was written
+-- where all that waits was written, nothing is owed
 pub owes_none : (box : Outbox) (answers : List Answer) (first now after : Option (List ℕ)) → Owes box answers first now → Appends now after box.bytes → Appends first after (texts answers)
 owes_none box answers first now after owes written =
     appends_on first now after (texts owes.gone) box.bytes (texts answers) owes.written written
@@ -103,7 +103,7 @@ owes_empty answers first now written = record {
   holds = record { bytes = refl; lines = refl; one_line = tt };
 }
 
--- a writer that took n of the bytes stopped in an answer
+-- a writer that took n of the bytes stopped within an answer
 pub owes_stops : (box : Outbox) (answers : List Answer) (first now after : Option (List ℕ)) (n : ℕ) → Owes box answers first now → n < length box.bytes → Appends now after (take n box.bytes) → StopsIn answers first after (get_or box.lines (newlines (take n box.bytes)) 0)
 owes_stops box answers first now after n owes less written =
     let cut = cut_at owes.waiting n owes.holds.one_line (omega (arith, ap length owes.holds.bytes)) in
@@ -147,7 +147,7 @@ owes_more box answers first now a owes one = record {
 pub marked_none : IsMarked [] []
 marked_none = record { counted = refl; within = λ n h. absurd (omega arith) }
 
--- one more reply is marked
+-- one more reply has its line
 pub marked_more : (bytes lines text : List ℕ) (line : ℕ) → IsMarked bytes lines → IsOneLine text → IsMarked (bytes ++ text) (lines ++ line ∷ [])
 marked_more bytes lines text line m one =
     record {
@@ -165,7 +165,7 @@ marked_more bytes lines text line m one =
           let part : take n (bytes ++ text) ≡ bytes ++ take k text = ap (λ (j : ℕ). take j (bytes ++ text)) (sym is) ∙ take-append-add bytes text k in
           omega (arith, ap newlines part, newlines-append bytes (take k text), newlines-part text k one (omega (arith, length-append bytes text)), m.counted, length-append lines (line ∷ []))
 
--- a writer that stopped in some answers stopped in them and more
+-- a writer that stopped within some answers stopped within more of them
 pub stops_more : (answers more : List Answer) (old new : Option (List ℕ)) (line : ℕ) → StopsIn answers old new line → StopsIn (answers ++ more) old new line
 stops_more answers more old new line stops = record {
   before = stops.before;

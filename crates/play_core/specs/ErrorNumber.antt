@@ -5,12 +5,12 @@ use Rattle.text_core.specs.declared.error.ScriptError.TheVariants as of_line
 use Rattle.play_core.specs.declared.error.Fault.{Fault}
 use Rattle.play_core.specs.declared.error.Fault.TheVariants.{Syntax, LongLine, Read, Write, Memory}
 
--- a line that is wrong ends a run
+-- the fault that ends a run where a line is wrong
 abbrev pub fault_of_line : ScriptError → Fault
 fault_of_line of_line.Syntax = Syntax
 fault_of_line of_line.LongLine = LongLine
 
--- the number of what ended a run
+-- the number of a fault that ends a run
 abbrev pub fault_number : Fault → ℕ
 fault_number Syntax = 41
 fault_number LongLine = 42

@@ -5,15 +5,16 @@ use Rattle.std.specs.Io.KnownBytes.{Appends}
 use Rattle.text_core.specs.Reply.{IsOneLine, newlines, text_of}
 use Rattle.play_core.specs.Script.{Answer, texts}
 
--- their text, and the line of each
+-- the text of the replies that wait, and the number of the line that each of them answers
 pub record Outbox : Type 0 where
   pub bytes : List ℕ
   pub lines : List ℕ
 
+-- no reply waits
 abbrev pub empty : Outbox
 empty = record { bytes = []; lines = [] }
 
--- there is a line for each reply, and each byte is of a reply
+-- there is a line for each reply, and each byte belongs to a reply
 pub record IsMarked (bytes lines : List ℕ) : Type 0 where
   pub counted : newlines bytes ≡ length lines
   pub within : (n : ℕ) → n < length bytes → newlines (take n bytes) < length lines
@@ -22,13 +23,13 @@ pub record IsMarked (bytes lines : List ℕ) : Type 0 where
 abbrev pub HasRoom : Outbox → Type 0
 HasRoom box = length box.bytes + 160 ≤ 4096
 
--- these answers wait
+-- these answers wait, and no others
 pub record Holds (box : Outbox) (answers : List Answer) : Type 0 where
   pub bytes : box.bytes ≡ texts answers
   pub lines : box.lines ≡ map (λ a. a.line) answers
   pub one_line : AllByRecursion (λ a. IsOneLine (text_of a.reply)) answers
 
--- of these answers some went out, and the others wait
+-- of these answers the first ones were written, and the others wait
 pub record Owes (box : Outbox) (answers : List Answer) (first now : Option (List ℕ)) : Type 0 where
   pub gone : List Answer
   pub waiting : List Answer

@@ -11,7 +11,8 @@ use Rattle.play_core.specs.Outbox.{Outbox, Owes, empty}
 use Rattle.play_core.specs.Runs.{Rule, Asking, Begins, IsAsking, IsEnded, IsStopped, Replied}
 use Rattle.play_core.specs.Script.{Answer, Block, IsBeginning, Numbered, Reading, by, commands_from, commands_of, fault_from, fault_of, parts_of, reading_from, reading_of, within}
 
--- how the next line is read, the machine, the line that has begun and its number, how many replies there were, and those that wait
+-- a script that is being read: how the next line is read, the machine, the line that has begun, its number, the number of replies
+-- so far, and the replies that wait
 pub record Player (S : Type 0) : Type 0 where
   pub reading : Reading
   pub machine : S
@@ -24,15 +25,15 @@ pub record Player (S : Type 0) : Type 0 where
 abbrev pub begun : {S : Type 0} → S → Player S
 begun machine = record { reading = by Untold; machine = machine; held = []; line = 1; replies = 0; box = empty }
 
--- the same script, read in a block
+-- the script, where its next line is read in this block
 abbrev pub in_block : {S : Type 0} → Block → Player S → Player S
 in_block block s = record s { reading = within s.reading.profile block }
 
--- a block for the zone with this number began at the line
+-- the script after its line began a block for the zone with this number
 abbrev pub block_begun : {S : Type 0} → ℕ → Player S → Player S
 block_begun zone s = record (in_block (record { line = s.line; zone = zone; clients = [] }) s) { line = s.line + 1 }
 
--- the line was one more of a client in a block
+-- the script after its line was one more client line of a block
 abbrev pub noted : {S : Type 0} → Block → Option ClientCall → Player S → Player S
 noted block call s =
     record (in_block (record block { clients = block.clients ++ record { line = s.line; call = call } ∷ [] }) s) { line = s.line + 1 }
@@ -68,7 +69,7 @@ pub record HasNoMemory {S : Type 0} (may : Rule S) (asks : Asking S) (start : S)
   pub asking : (rest : List ℕ) → IsAsking asks (past ++ rest) before begins.after line ⊎ IsBeginning (past ++ rest) before line
   pub owes : Owes s.box begins.answers first now
 
--- what each fault says of these bytes
+-- what an error with this fault says about these bytes
 abbrev pub EndsBy : {S : Type 0} → Rule S → Asking S → S → Fault → Player S → List ℕ → RunError → (first now : Option (List ℕ)) → Type 0
 EndsBy may asks start Syntax s past e first now = HasFault may start s past e first now
 EndsBy may asks start LongLine s past e first now = HasFault may start s past e first now
@@ -76,17 +77,17 @@ EndsBy may asks start Read s past e first now = ⊥
 EndsBy may asks start Write s past e first now = (rest : List ℕ) → IsStopped may start (past ++ rest) first now e.line
 EndsBy may asks start Memory s past e first now = HasNoMemory may asks start s past e.line first now
 
--- the reading of these bytes ended in this error
+-- the reading of these bytes ended with this error
 abbrev pub HasEnded : {S : Type 0} → Rule S → Asking S → S → Player S → List ℕ → RunError → (first now : Option (List ℕ)) → Type 0
 HasEnded may asks start s past e first now = EndsBy may asks start e.fault s past e first now
 
--- the first fault of the input is this, and its replies were written or wait
+-- the first fault of the input is this one, or there is none, and the replies were written or wait
 pub record Finishes {S : Type 0} (may : Rule S) (start : S) (s : Player S) (input : List ℕ) (found : Option RunError) (first now : Option (List ℕ)) : Type 0 where
   pub fault : fault_of input ≡ found
   pub begins : Begins may start (commands_of input)
   pub owes : Owes s.box begins.answers first now
 
--- a read failed
+-- a read failed after these bytes were read
 pub record BreaksOff {S : Type 0} (may : Rule S) (start : S) (s : Player S) (left left_new : Option (List ℕ)) (line : ℕ) (first now : Option (List ℕ)) : Type 0 where
   pub past : List ℕ
   pub read : Consumes left left_new past
@@ -100,7 +101,7 @@ pub record FindsNoMemory {S : Type 0} (may : Rule S) (asks : Asking S) (start : 
   pub asking : IsAsking asks input before begins.after line ⊎ IsBeginning input before line
   pub owes : Owes s.box begins.answers first now
 
--- what each fault says of a whole input
+-- what an error with this fault says about a whole input
 abbrev pub StopsBy : {S : Type 0} → Rule S → Asking S → S → Fault → Player S → List ℕ → RunError → (left left_new first now : Option (List ℕ)) → Type 0
 StopsBy may asks start Syntax s input e left left_new first now = Finishes may start s input (Some e) first now
 StopsBy may asks start LongLine s input e left left_new first now = Finishes may start s input (Some e) first now
@@ -108,7 +109,7 @@ StopsBy may asks start Read s input e left left_new first now = BreaksOff may st
 StopsBy may asks start Write s input e left left_new first now = IsStopped may start input first now e.line
 StopsBy may asks start Memory s input e left left_new first now = FindsNoMemory may asks start s input e.line first now
 
--- whatever follows these bytes, the run ended in this error, which is none of a read, and the replies were written
+-- whatever follows these bytes, the run ended with this error, which isn't that of a read, and the replies were written
 pub record HasClosed {S : Type 0} (may : Rule S) (asks : Asking S) (start : S) (past : List ℕ) (e : RunError) (first now : Option (List ℕ)) : Type 0 where
   pub heard : e.fault ≢ Read
   pub ends : (rest : List ℕ) (left left_new : Option (List ℕ)) → IsEnded may asks start e.fault (past ++ rest) e left left_new first now

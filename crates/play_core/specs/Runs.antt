@@ -9,38 +9,39 @@ use Rattle.play_core.specs.declared.error.RunError.{RunError}
 use Rattle.play_core.specs.declared.totals.Totals.{Totals}
 use Rattle.play_core.specs.Script.{StopsIn, Answer, IsBeginning, IsOfEnd, Numbered, commands_of, fault_of, texts}
 
--- which replies a machine may give to a command and to the client lines of its block, in their order, and what it is then
+-- a rule: which replies a machine may give to a command and to the client lines of its block, in their order, and what
+-- the machine is afterwards
 abbrev pub Rule : Type 0 → Type 1
 Rule S = S → Numbered → List Answer → S → Type 0
 
--- to which commands a machine may find no memory
+-- for which commands a machine may find no memory
 abbrev pub Asking : Type 0 → Type 1
 Asking S = S → Command → Type 0
 
--- These are the replies to these commands, those to one behind those to the other: those to each are such that the machine may give, and
--- lead from what those before left.
+-- These are the replies to these commands, those to one command after those to the one before. The machine may give the replies to each
+-- command as it was left by the commands before.
 abbrev pub Replied : {S : Type 0} → Rule S → S → List Numbered → List Answer → S → Type 0
 Replied may old [] answers new = (answers ≡ []) × (new ≡ old)
 Replied {S} may old (c ∷ commands) answers new =
     (next : S) × (here : List Answer) × (behind : List Answer) × (answers ≡ here ++ behind) × may old c here next × Replied may next commands behind new
 
--- the replies to the first commands of an input
+-- replies to the first commands of an input, and the machine after them
 pub record Begins {S : Type 0} (may : Rule S) (start : S) (before : List Numbered) : Type 0 where
   pub answers : List Answer
   pub after : S
   pub replied : Replied may start before answers after
 
--- the commands of an input are answered, and their replies were written
+-- the commands of an input were answered, and their replies were written
 pub record IsAnswered {S : Type 0} (may : Rule S) (start : S) (input : List ℕ) (old new : Option (List ℕ)) : Type 0 where
   pub begins : Begins may start (commands_of input)
   pub written : Appends old new (texts begins.answers)
 
--- the same, with the lines that were read and the replies
+-- the commands of an input were answered, their replies were written, and the totals are the numbers of its lines and replies
 pub record IsTotal {S : Type 0} (may : Rule S) (start : S) (input : List ℕ) (old new : Option (List ℕ)) (totals : Totals) : Type 0 where
   pub answered : IsAnswered may start input old new
   pub totals_are : totals ≡ record { lines = newlines input; replies = length answered.begins.answers }
 
--- a writer took the replies to the first commands of an input up to a place within the text of the one at this line
+-- a writer took the replies to the first commands of an input up to a place within the text of the reply to this line
 pub record IsStopped {S : Type 0} (may : Rule S) (start : S) (input : List ℕ) (old new : Option (List ℕ)) (line : ℕ) : Type 0 where
   pub before : List Numbered
   pub behind : List Numbered
@@ -48,7 +49,7 @@ pub record IsStopped {S : Type 0} (may : Rule S) (start : S) (input : List ℕ) 
   pub begins : Begins may start before
   pub stops : StopsIn begins.answers old new line
 
--- a read failed behind these bytes; they have no fault, or just the one that an end there would make, and their commands are answered
+-- a read failed after these bytes; they have no fault, or only the one that an end there would make, and their commands were answered
 pub record IsUnread {S : Type 0} (may : Rule S) (start : S) (left left_new old new : Option (List ℕ)) (line : ℕ) : Type 0 where
   pub past : List ℕ
   pub read : Consumes left left_new past
@@ -56,7 +57,7 @@ pub record IsUnread {S : Type 0} (may : Rule S) (start : S) (left left_new old n
   pub answered : IsAnswered may start past old new
   pub at : line ≡ newlines past + 1
 
--- behind these commands, which leave the machine so, comes one that asks for memory, at this line
+-- after these commands, which leave this machine, comes one that needs memory, at this line
 pub record IsAsking {S : Type 0} (asks : Asking S) (input : List ℕ) (before : List Numbered) (after : S) (line : ℕ) : Type 0 where
   pub command : Numbered
   pub behind : List Numbered
@@ -64,14 +65,14 @@ pub record IsAsking {S : Type 0} (asks : Asking S) (input : List ℕ) (before : 
   pub asking : asks after command.command
   pub at : line ≡ command.line
 
--- there was no memory for the command at this line, or for the block that the line begins, and the commands before it are answered
+-- there was no memory for the command at this line, or for the block that the line begins, and the commands before it were answered
 pub record IsLacking {S : Type 0} (may : Rule S) (asks : Asking S) (start : S) (input : List ℕ) (old new : Option (List ℕ)) (line : ℕ) : Type 0 where
   pub before : List Numbered
   pub begins : Begins may start before
   pub asking : IsAsking asks input before begins.after line ⊎ IsBeginning input before line
   pub written : Appends old new (texts begins.answers)
 
--- what each fault that ends a run says
+-- how a run ended that was ended by this fault
 abbrev pub IsEnded : {S : Type 0} → Rule S → Asking S → S → Fault → List ℕ → RunError → (left left_new old new : Option (List ℕ)) → Type 0
 IsEnded may asks start Syntax input e left left_new old new = (fault_of input ≡ Some e) × IsAnswered may start input old new
 IsEnded may asks start LongLine input e left left_new old new = (fault_of input ≡ Some e) × IsAnswered may start input old new

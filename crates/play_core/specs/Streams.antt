@@ -1,23 +1,23 @@
 -- What contracts see of a reader and a writer that note how each read and write went.
 use Rattle.std.specs.Prelude.{◌≡◌, ℕ, ◌+◌, ◌-◌, ◌^◌, ◌<◌, ◌≤◌, ◌⊎◌, min, Bool, IsTrue, List, length, Option, IfSome, Result, MatchResult, ⊤}
 
--- a reader: the bytes that are left, where they are known, the reads that gave bytes, and whether the last read failed
+-- a reader: the bytes that are left, where they are known, the number of reads that gave bytes, and whether the last read failed
 pub record Source : Type 0 where
   pub left : Option (List ℕ)
   pub reads : ℕ
   pub failed : Bool
 
--- a text that is read: the bytes that are left, and the reads that gave bytes
+-- a text that is read: the bytes that are left, and the number of reads that gave bytes
 pub record Text : Type 0 where
   pub left : List ℕ
   pub reads : ℕ
 
--- a writer: the bytes that it took, where they are known, and whether the last write failed or took none
+-- a writer: the bytes that it took, where they are known, and whether the last write failed or took no byte
 pub record Sink : Type 0 where
   pub taken : Option (List ℕ)
   pub stuck : Bool
 
--- a read counts where it gave bytes, up to the largest count
+-- the count of reads grows by one where a read gave bytes, up to the largest number
 abbrev pub Counts : {E : Type 0} → Result ℕ E → ℕ → ℕ → Type 0
 Counts result old new = MatchResult result (λ n. (n ≡ 0 → new ≡ old) × (0 < n → new ≡ min (old + 1) (2 ^ 64 - 1))) (λ _. new ≡ old)
 
@@ -25,11 +25,11 @@ Counts result old new = MatchResult result (λ n. (n ≡ 0 → new ≡ old) × (
 abbrev pub TookNone : {E : Type 0} → Result ℕ E → Type 0
 TookNone result = MatchResult result (λ n. n ≡ 0) (λ _. ⊤)
 
--- ten million reads gave bytes, as far as they can be counted
+-- ten million reads gave bytes, as far as these can be counted
 pub record IsTooLong (reads reads_new : ℕ) (left : Option (List ℕ)) : Type 0 where
   pub many : min (reads + 10000000) (2 ^ 64 - 1) ≤ reads_new
   pub long : IfSome left (λ input. 10000000 ≤ length input)
 
--- a read failed, or ten million saw no end
+-- a read failed, or ten million reads didn't come to the end
 abbrev pub CannotReadOn : Bool → (reads reads_new : ℕ) → Option (List ℕ) → Type 0
 CannotReadOn failed reads reads_new left = IsTrue failed ⊎ IsTooLong reads reads_new left

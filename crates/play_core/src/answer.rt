@@ -3,7 +3,7 @@ ghost use Rattle.std.specs.Prelude.{◌≡◌, ◌≤◌, ◌++◌, [], ◌∷�
 use std::marker::Model;
 use text_core::Reply;
 
-/// A reply, with the line that it answers.
+/// A reply, with the number of the line that it answers.
 #[derive(Drop, Debug)]
 pub struct Answer {
     line: u64,
@@ -21,14 +21,14 @@ impl Model for Answer {
 }
 
 impl Answer {
-    /// A reply to this line.
+    /// A reply to the line with this number.
     pub fn new(line: u64, reply: Reply) -> Self
         ensures { result ≡ record { line = line; reply = reply } }
     {
         Answer { line, reply }
     }
 
-    /// The line, and the reply.
+    /// The number of the line, and the reply.
     pub fn into_parts(self) -> (u64, Reply)
         ensures { self ≡ record { line = result.0; reply = result.1 } }
     {
@@ -36,7 +36,7 @@ impl Answer {
     }
 }
 
-/// The answers to a block: those to its client lines, of which there are at most 1,000, in order, and then its own.
+/// The answers to a block: those to its client lines, of which there are at most 1,000, in order, and after them its own.
 #[derive(Drop)]
 pub struct Answers {
     clients: Vec<Answer>,
@@ -55,7 +55,7 @@ impl Model for Answers {
 }
 
 impl Answers {
-    /// The answers to 1,000 client lines at most, and the block's own.
+    /// The answers to at most 1,000 client lines, and the block's own.
     pub fn new(clients: Vec<Answer>, own: Answer) -> Self
         requires { vec_len clients ≤ 1000 }
         ensures { result ≡ clients.items ++ own ∷ [] }

@@ -8,7 +8,7 @@ use text_core::{ClientCall, Reply};
 /// How many client lines a block may have.
 const MOST: usize = 1000;
 
-/// A line of a client: its number, and the call, or None where an argument is out of its range.
+/// A line of a client: its number, and its call, or None where an argument is out of its range.
 #[derive(Clone, Copy, Debug, PartialEq, Eq)]
 pub struct ClientLine {
     line: u64,
@@ -26,21 +26,21 @@ impl Model for ClientLine {
 }
 
 impl ClientLine {
-    /// A client line; None where an argument is out of its range.
+    /// A client line with this number. Its call is None where an argument is out of its range.
     pub fn new(line: u64, call: Option<ClientCall>) -> Self
         ensures { result ≡ record { line = line; call = call } }
     {
         ClientLine { line, call }
     }
 
-    /// Its number, from 1.
+    /// The number of the line, counted from 1.
     pub fn line(&self) -> u64
         ensures { result ≡ self.now.line }
     {
         self.line
     }
 
-    /// Its call; None where an argument is out of its range.
+    /// The call of the line, or None where an argument is out of its range.
     pub fn call(&self) -> Option<ClientCall>
         ensures { result ≡ self.now.call }
     {
@@ -48,14 +48,14 @@ impl ClientLine {
     }
 }
 
-/// A block that has begun. It is one pointer, so that whoever holds it moves no more than that.
+/// A block that has begun. It is one pointer, so that moving it is cheap.
 #[derive(Drop)]
 pub struct Block {
     parts: Box<Parts>,
 }
 
-/// The line of a block's `during`, the number of its zone and its client lines so far, with the place for as many client lines as it
-/// may have and for their answers.
+/// The line of a block's `during`, the number of its zone, and its client lines so far. There is room for all client lines that it
+/// may have, and for their answers.
 #[derive(Drop)]
 struct Parts {
     line: u64,
@@ -76,7 +76,7 @@ impl Model for Block {
 }
 
 impl Block {
-    /// A block that begins at this line. It takes all its memory here.
+    /// A block that begins at this line, or an error where there isn't enough memory. It takes all of its memory here.
     pub fn begin(alloc: Global, line: u64, zone: u64) -> Result<Self, AllocError>
         ensures { IfOk result (λ block. block ≡ record { line = line; zone = zone; clients = [] }) }
     {
@@ -91,14 +91,14 @@ impl Block {
         })
     }
 
-    /// The line of its `during`.
+    /// The number of the line of its `during`.
     pub fn line(&self) -> u64
         ensures { result ≡ self.now.line }
     {
         self.parts.line
     }
 
-    /// The number of the zone, which may be none of a zone.
+    /// The number of the zone in its `during`, which may be out of range.
     pub fn zone(&self) -> u64
         ensures { result ≡ self.now.zone }
     {
@@ -113,7 +113,7 @@ impl Block {
         MOST <= self.parts.clients.len()
     }
 
-    /// Takes one more client line.
+    /// Adds one more client line.
     pub fn push(&mut self, client: ClientLine)
         requires { length self.old.clients < 1000 }
         ensures { self.new ≡ record self.old { clients = self.old.clients ++ client ∷ [] } }
@@ -121,7 +121,7 @@ impl Block {
         self.parts.clients.push_reserved(client);
     }
 
-    /// One reply in place of all, to the block itself.
+    /// The answers with one reply to the block itself, and none to its client lines.
     pub fn answered(self, reply: Reply) -> Answers
         ensures { result ≡ record { line = self.line; reply = reply } ∷ [] }
     {
@@ -129,7 +129,7 @@ impl Block {
         Answers::new(answers, Answer::new(line, reply))
     }
 
-    /// Its client lines, and the place for as many answers.
+    /// Its client lines, and an empty list with room for as many answers.
     pub fn into_parts(self) -> (Vec<ClientLine>, Vec<Answer>)
         ensures clients { result.0.items ≡ self.clients }
         ensures answers { (result.1.items ≡ []) × (vec_len result.0 ≤ vec_capacity result.1) }

@@ -4,7 +4,7 @@ ghost use Rattle.play_core.specs.ErrorNumber.{fault_number, fault_of_line};
 use text_core::ScriptError;
 use thiserror::Error;
 
-/// What can end a run before its script does.
+/// What may end a run before the end of its script.
 #[derive(Clone, Copy, Debug, PartialEq, Eq)]
 pub enum Fault {
     /// A line is no command, or the last line has no newline, or a block has no end or more than 1,000 client lines.
@@ -31,7 +31,7 @@ impl From<ScriptError> for Fault {
 }
 
 impl Fault {
-    /// Its number, 41, 42 or 46 to 48.
+    /// The number of the fault: 41, 42, or 46 to 48.
     pub fn number(&self) -> u16
         ensures { result ≡ fault_number self.now }
     {
@@ -45,8 +45,8 @@ impl Fault {
     }
 }
 
-/// Why a run ended, and at which line. Lines count from 1. Of Read it is the line that was being read, of Write the one whose reply wasn't
-/// taken whole, of Memory that of the `zone` or `during`.
+/// Why a run ended, and at which line. Lines count from 1. For Read it is the line that was being read, for Write the one whose reply
+/// wasn't taken whole, for Memory that of the `zone` or `during`.
 #[derive(Clone, Copy, Debug, PartialEq, Eq, Error)]
 #[error("fault {} at line {line}", .fault.number())]
 pub struct RunError {
@@ -55,7 +55,7 @@ pub struct RunError {
 }
 
 impl RunError {
-    /// The number of its fault.
+    /// The number of the fault.
     pub fn number(&self) -> u16
         ensures { result ≡ fault_number self.now.fault }
     {

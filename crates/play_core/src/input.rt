@@ -6,9 +6,9 @@ ghost use Rattle.play_core.specs.Streams.{Counts};
 use std::io;
 use std::io::Read;
 
-/// A reader that notes of each read whether it failed.
+/// A reader that notes for each read whether it failed.
 pub trait Input: Read {
-    /// How many of the reads that were noted gave bytes, at most `u64::MAX`.
+    /// The number of reads noted so far that gave bytes, `u64::MAX` at most.
     ghost reads: { Self → ℕ };
 
     /// Whether the last read that was noted failed.

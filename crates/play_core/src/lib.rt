@@ -1,8 +1,8 @@
 //! Plays a script: reads its lines, has a machine answer its commands, and writes the replies.
 //!
-//! `text_core` says which command a line is and how a reply reads. `specs/Script.antt` says which commands a whole input has and which
-//! fault is its first one, and `specs/Runs.antt` how a run can end, whatever machine answers. `play` does just that, in whatever
-//! pieces the input comes: a machine is any type with the calls of `Respond`.
+//! `text_core` says which command a line is and what the line of a reply is. `specs/Script.antt` says which commands a whole input has
+//! and which fault is its first one, and `specs/Runs.antt` how a run may end, whatever machine answers. `play` does exactly that,
+//! whatever pieces the input comes in. A machine is any type with the calls of `Respond`.
 #![tactic(auto)]
 
 mod answer;

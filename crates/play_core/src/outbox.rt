@@ -10,7 +10,7 @@ use arrayvec::{ArrayString, ArrayVec};
 use std::marker::Model;
 use text_core::{Reply, push_reply};
 
-/// Replies that wait to be written together, with the line that each of them answers.
+/// Replies that wait to be written together, each with the number of the line that it answers.
 #[derive(Drop)]
 pub(crate) struct Outbox {
     text: ArrayString<4096>,
@@ -37,7 +37,7 @@ impl Outbox {
         }
     }
 
-    /// Puts an answer behind the others, which are written where there is no room.
+    /// Puts an answer after the others. Where there is no room, the others are written first.
     pub(crate) fn post<W: Output>(
         &mut self,
         writer: &mut W,
@@ -47,7 +47,7 @@ impl Outbox {
         ensures ok { OnOk result ((answers : List Answer) (first : Option (List ℕ)) →
             Owes self.old answers first (W.contents writer.old)
             → Owes self.new (answers ++ record { line = line; reply = reply.now } ∷ []) first (W.contents writer.new)) }
-        // The line whose reply wasn't taken whole.
+        // The error is the line whose reply wasn't taken whole.
         ensures err { IfErr result (λ at. (answers : List Answer) (first : Option (List ℕ)) →
             Owes self.old answers first (W.contents writer.old) → StopsIn answers first (W.contents writer.new) at) }
         ensures stuck { OnErr result (IsTrue (W.stuck writer.new)) }
@@ -59,7 +59,7 @@ impl Outbox {
         Ok(())
     }
 
-    /// Puts answers behind the others, one after the other.
+    /// Puts answers after the others, one after the other.
     pub(crate) fn post_all<W: Output>(
         &mut self,
         writer: &mut W,
@@ -68,7 +68,7 @@ impl Outbox {
         ensures ok { OnOk result ((answers : List Answer) (first : Option (List ℕ)) →
             Owes self.old answers first (W.contents writer.old)
             → Owes self.new (answers ++ more.items) first (W.contents writer.new)) }
-        // The line whose reply wasn't taken whole, of those that waited and of these.
+        // The error is the line whose reply wasn't taken whole, of the answers that waited and of these.
         ensures err { IfErr result (λ at. (answers : List Answer) (first : Option (List ℕ)) →
             Owes self.old answers first (W.contents writer.old) → StopsIn (answers ++ more.items) first (W.contents writer.new) at) }
         ensures stuck { OnErr result (IsTrue (W.stuck writer.new)) }
@@ -80,7 +80,7 @@ impl Outbox {
         Ok(())
     }
 
-    /// Whether the longest reply fits.
+    /// Whether there is room for the longest reply.
     fn has_room(&self) -> bool
         ensures { IsTrue result ↔ HasRoom self.now }
     {
@@ -101,7 +101,7 @@ impl Outbox {
         ensures empty { OnOk result (self.new ≡ empty) }
         ensures ok { OnOk result ((answers : List Answer) (first : Option (List ℕ)) →
             Owes self.old answers first (W.contents writer.old) → Appends first (W.contents writer.new) (texts answers)) }
-        // The line whose reply wasn't taken whole.
+        // The error is the line whose reply wasn't taken whole.
         ensures err { IfErr result (λ at. (answers : List Answer) (first : Option (List ℕ)) →
             Owes self.old answers first (W.contents writer.old) → StopsIn answers first (W.contents writer.new) at) }
         ensures stuck { OnErr result (IsTrue (W.stuck writer.new)) }

@@ -6,7 +6,7 @@ ghost use Rattle.play_core.specs.Streams.{TookNone};
 use std::io;
 use std::io::Write;
 
-/// A writer that notes of each write whether it failed or took no byte.
+/// A writer that notes for each write whether it failed or took no byte.
 pub trait Output: Write {
     /// Whether the last write that was noted failed or took no byte.
     ghost stuck: { Self → Bool };
@@ -19,7 +19,7 @@ pub trait Output: Write {
         ensures stuck { IsTrue (stuck self.new) ↔ TookNone result };
 }
 
-/// Writes bytes, in as many writes as it takes. Where one of them fails or takes none, the error is how many bytes were taken.
+/// Writes bytes, in as many writes as it takes. Where one of them fails or takes no byte, the error is the number of bytes that were taken.
 pub fn write_out<W: Output>(writer: &mut W, bytes: &[u8]) -> Result<(), usize>
     ensures ok { OnOk result (Appends (W.contents writer.old) (W.contents writer.new) bytes.now) }
     ensures less { IfErr result (λ taken. taken < length bytes.now) }

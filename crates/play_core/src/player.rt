@@ -24,7 +24,7 @@ use text_core::{
     BlockLine, ClientCall, Command, Profile, Reply, ScriptError, read_block_line, read_line,
 };
 
-/// Plays a script: the machine that answers it, the block and the line that have begun, and the replies that wait.
+/// A script that is being played: its machine, the block and the line that have begun, and the replies that wait.
 #[derive(Drop)]
 pub(crate) struct Player<A: Respond> {
     alloc: Global,
@@ -49,7 +49,7 @@ impl<A: Respond> Model for Player<A> {
 }
 
 impl<A: Respond> Player<A> {
-    /// At the first byte of a script.
+    /// A script at its first byte.
     fn new(alloc: Global, machine: A) -> Self
         requires { A.ready machine }
         ensures { result ≡ begun machine }
@@ -66,10 +66,10 @@ impl<A: Respond> Player<A> {
         }
     }
 
-    /// Answers a whole line.
+    /// Reads a whole line, and answers the command that it ends, if it ends one.
     fn take_line<W: Output>(&mut self, writer: &mut W, text: &[u8]) -> Result<(), RunError>
         requires begins { self.old.held ≡ [] }
-        // So few lines that the number of their replies, 1,001 a line at most, fits 64 bits.
+        // So few lines that the number of their replies, at most 1,001 for each line, fits 64 bits.
         requires room { self.old.line + 1 < 2 ^ 53 }
         ensures ok { OnOk result ((start : A) (past : List ℕ) (first : Option (List ℕ))
             → newlines text.now ≡ 0 → HasRead A.may start self.old past first (W.contents writer.old)
@@ -87,7 +87,7 @@ impl<A: Respond> Player<A> {
         }
     }
 
-    /// Takes a whole line where no block has begun.
+    /// Reads a whole line outside a block.
     fn take_outside<W: Output>(&mut self, writer: &mut W, text: &[u8]) -> Result<(), RunError>
         requires begins { self.old.held ≡ [] }
         requires outside { self.old.reading.block ≡ None }
@@ -122,7 +122,7 @@ impl<A: Respond> Player<A> {
         }
     }
 
-    /// Takes a line that begins a block. The place for its client lines and their answers is taken here.
+    /// Begins a block at this line. The memory for its client lines and their answers is taken here.
     #[inline(never)]
     fn begin(&mut self, zone: u64) -> Result<(), RunError>
         requires room { self.old.line + 1 < 2 ^ 53 }
@@ -143,7 +143,7 @@ impl<A: Respond> Player<A> {
         Ok(())
     }
 
-    /// Takes a whole line of a block that has begun.
+    /// Reads a whole line of a block that has begun.
     #[inline(never)]
     fn take_within<W: Output>(
         &mut self,
@@ -180,7 +180,7 @@ impl<A: Respond> Player<A> {
         }
     }
 
-    /// Takes a client line, where the block that has begun may have one more.
+    /// Adds a client line to the block that has begun, where the block may have one more.
     fn note(&mut self, mut block: Block, call: Option<ClientCall>) -> Result<(), RunError>
         requires room { self.old.line + 1 < 2 ^ 53 }
         ensures ok { OnOk result (self.new ≡ noted block call self.old) }
@@ -270,7 +270,7 @@ impl<A: Respond> Player<A> {
         Ok(())
     }
 
-    /// Puts an answer behind those that wait, and counts it. Its line has been counted.
+    /// Puts an answer after those that wait, and counts it. Its line was counted before.
     fn post<W: Output>(&mut self, writer: &mut W, line: u64, reply: &Reply) -> Result<(), u64>
         requires counted { self.old.replies + 1 < 1001 * self.old.line }
         requires room { self.old.line < 2 ^ 53 }
@@ -287,7 +287,7 @@ impl<A: Respond> Player<A> {
         self.outbox.post(writer, line, reply)
     }
 
-    /// Puts the answers to a block behind those that wait, and counts them. Its last line has been counted.
+    /// Puts the answers to a block after those that wait, and counts them. The last line of the block was counted before.
     fn post_all<W: Output>(&mut self, writer: &mut W, answers: Answers) -> Result<(), u64>
         requires counted { self.old.replies + 1001 < 1001 * self.old.line }
         requires room { self.old.line < 2 ^ 53 }
@@ -307,7 +307,7 @@ impl<A: Respond> Player<A> {
         self.post(writer, line, &reply)
     }
 
-    /// Takes the end of a line.
+    /// Reads the end of a line, whose beginning may be held.
     fn end_line<W: Output>(&mut self, writer: &mut W, text: &[u8]) -> Result<(), RunError>
         requires unbroken { newlines text.now ≡ 0 }
         requires room { self.old.line + 1 < 2 ^ 53 }
@@ -334,7 +334,7 @@ impl<A: Respond> Player<A> {
         self.take_line(writer, &line)
     }
 
-    /// Takes a part of a line without its end.
+    /// Holds a part of a line, whose end is yet to come.
     fn hold(&mut self, text: &[u8]) -> Result<(), RunError>
         requires { newlines text.now ≡ 0 }
         ensures ok { OnOk result ((start : A) (past : List ℕ) (first now : Option (List ℕ))
@@ -354,7 +354,7 @@ impl<A: Respond> Player<A> {
         Ok(())
     }
 
-    /// Takes bytes of a script.
+    /// Reads bytes of a script.
     fn take_piece<W: Output>(&mut self, writer: &mut W, piece: &[u8]) -> Result<(), RunError>
         requires { self.old.line + length piece.now < 2 ^ 53 }
         ensures ok { OnOk result ((start : A) (past : List ℕ) (first : Option (List ℕ))
@@ -374,7 +374,7 @@ impl<A: Respond> Player<A> {
         self.hold(rest)
     }
 
-    /// Takes bytes of a script, and writes the replies.
+    /// Reads bytes of a script, and writes the replies to them.
     fn play<W: Output>(&mut self, writer: &mut W, piece: &[u8]) -> Result<(), RunError>
         requires { self.old.line + length piece.now < 2 ^ 53 }
         ensures ok { OnOk result ((start : A) (past : List ℕ) (first : Option (List ℕ))
@@ -397,7 +397,7 @@ impl<A: Respond> Player<A> {
         }
     }
 
-    /// Takes a whole input. Before it reads on, the replies to what was read are written.
+    /// Plays a whole input. The replies to what was read are written before more is read.
     fn run<R: Input, W: Output>(
         &mut self,
         reader: &mut R,
@@ -426,7 +426,7 @@ impl<A: Respond> Player<A> {
         Err(self.read_error())
     }
 
-    /// What ends a script that can't be read on.
+    /// The error where a script can't be read on.
     fn read_error(&self) -> RunError
         ensures { result ≡ record { fault = Fault.Read; line = self.now.line } }
     {
@@ -436,7 +436,7 @@ impl<A: Respond> Player<A> {
         }
     }
 
-    /// What the end of the input is: the end of the script, or a cut line, or a block that isn't ended.
+    /// What the end of the input is: the end of the script, or a fault where a line is cut off or a block isn't ended.
     fn end(&self) -> Result<Totals, RunError>
         ensures ok { IfOk result (λ totals. (start : A) (input : List ℕ) (first now : Option (List ℕ))
             → HasRead A.may start self.now input first now
@@ -458,7 +458,7 @@ impl<A: Respond> Player<A> {
         })
     }
 
-    /// The line at which the end of the input is a fault, if it is one: a line that is cut, or that of a block that isn't ended.
+    /// The line at which the end of the input is a fault, if it is one: the line that is cut off, or that of a block that isn't ended.
     fn cut_line(&self) -> Option<u64>
         ensures held { 0 < length self.now.held → result ≡ Some self.now.line }
         ensures block { self.now.held ≡ [] → result ≡ option_map (λ b. b.line) self.now.reading.block }
@@ -489,9 +489,9 @@ impl<A: Respond> Player<A> {
 
 /// Plays the script that a reader gives on a machine, and writes its replies.
 ///
-/// Refused as Syntax or LongLine at the line of the first fault of the script; as Read where a read failed or 10,000,000 saw no end; as
-/// Write where a write failed or took no byte, in place of any other; as Memory where the machine, or the player for a block, found none.
-/// The replies before it are written.
+/// Refused as Syntax or LongLine at the line of the first fault of the script; as Read where a read failed, or where 10,000,000 reads
+/// didn't come to the end; as Write where a write failed or took no byte, instead of any other error; as Memory where the machine, or a
+/// block, found no memory. The replies to the commands before are written.
 pub fn play<A: Respond + Drop, R: Input, W: Output>(
     alloc: Global,
     machine: A,
@@ -514,7 +514,7 @@ pub fn play<A: Respond + Drop, R: Input, W: Output>(
     player.run(reader, writer)
 }
 
-/// What stands before the first newline, and what stands behind it.
+/// What stands before the first newline, and what stands after it.
 fn first_line(bytes: &[u8]) -> Option<(&[u8], &[u8])>
     ensures none { IfNone result (newlines bytes.now ≡ 0) }
     ensures line { IfSome result (λ parts. newlines parts.0.now ≡ 0) }

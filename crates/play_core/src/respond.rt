@@ -7,19 +7,19 @@ use crate::block::Block;
 use std::alloc::AllocError;
 use text_core::{Command, Reply};
 
-/// What answers the commands of a script.
+/// A machine that answers the commands of a script.
 pub trait Respond {
-    /// Whether these may be the answers to a command and its client lines, and what is there then.
+    /// Whether a machine may give these answers to a command and its client lines, and be this machine afterwards.
     ghost may: { Self → Numbered → List Answer → Self → Type 0 };
 
-    /// Whether a command asks for memory.
+    /// Whether a command needs memory.
     ghost asks: { Self → Command → Type 0 };
 
-    /// Whether it can be asked.
+    /// Whether the machine may be asked.
     ghost ready: { Self → Type 0 };
 
-    /// Answers a command of one line, whatever its number, and puts the reply in place of the one there. It fails only for want of
-    /// memory.
+    /// Answers a command of one line, whatever its number, and writes the reply over the one that is passed. It fails only for
+    /// want of memory.
     fn respond(&mut self, command: Command, reply: &mut Reply) -> Result<(), AllocError>
         requires ready { ready self.old }
         ensures ok { OnOk result ((line : ℕ) → may self.old (command_of_line line command) (record { line = line; reply = reply.new } ∷ []) self.new) }

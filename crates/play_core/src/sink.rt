@@ -31,7 +31,7 @@ impl<W: Write> Sink<W> {
         }
     }
 
-    /// The writer, where it stands.
+    /// The writer, as it is now.
     pub fn into_inner(self) -> W
         ensures { W.contents result ≡ self.taken }
     {

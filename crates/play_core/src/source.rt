@@ -5,7 +5,7 @@ use std::io;
 use std::io::Read;
 use std::marker::Model;
 
-/// Any reader, with a note of how many reads gave bytes and of whether the last one failed.
+/// Any reader, with a count of the reads that gave bytes, and a note of whether the last one failed.
 #[derive(Drop)]
 pub struct Source<R: Read> {
     reader: R,
@@ -33,7 +33,7 @@ impl<R: Read> Source<R> {
         }
     }
 
-    /// The reader, where it stands.
+    /// The reader, as it is now.
     pub fn into_inner(self) -> R
         ensures { R.remaining result ≡ self.left }
     {

@@ -21,7 +21,7 @@ impl<'a> Model for Text<'a> {
 }
 
 impl<'a> Text<'a> {
-    /// These bytes, none of which is read yet.
+    /// These bytes, of which none is read yet.
     pub fn new(bytes: &'a [u8]) -> Self
         ensures { result ≡ record { left = bytes.now; reads = 0 } }
     {

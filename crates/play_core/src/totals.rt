@@ -1,8 +1,8 @@
-/// What a whole script came to.
+/// What a whole script consisted of.
 #[derive(Clone, Copy, Debug, PartialEq, Eq)]
 pub struct Totals {
-    /// The lines that were read, skipped ones too.
+    /// The number of lines that were read, skipped ones too.
     pub lines: u64,
-    /// The reply lines that were written.
+    /// The number of reply lines that were written.
     pub replies: u64,
 }

@@ -12,11 +12,11 @@ no_marks : (senders : ℕ) → 0 < senders → list_all (has_mark []) (range_wit
 no_marks zero some = absurd (omega arith)
 no_marks (suc n) some = refl
 
--- a taker to which nothing came has not ended
+-- a taker that received nothing has not ended
 pub not_ended : (t : DoneTaker) → 0 < t.senders → t.came ≡ [] → has_ended t ≡ false
 not_ended t some none = ap (λ came. list_all (has_mark came) (range_with_len 0 t.senders)) none ∙ no_marks t.senders some
 
--- a refusal of a round that was begun
+-- a round that was begun keeps the clauses about rounds that aren't
 pub begun : (scan scan_new : ScanSeat) (ends ends_new : EndSeat) (result : Result Round RoundError) → scan_new.rounds ≡ scan.rounds + 1
     → ends.parts ≡ 64 → ends.moved + ends.back ≡ scan.count → IfErr result (λ error. IsWant error → ⊥) → IsRefusedEarly scan scan_new ends ends_new result
 begun scan scan_new ends ends_new result more whole settled late = record {

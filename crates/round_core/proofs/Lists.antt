@@ -1,11 +1,11 @@
--- Lists of serials, and the takers that they are of.
+-- Lists of serials, and the takers whose pages they tell.
 use Rattle.std.proofs.Common.{◌≡◌, ℕ, List, [], ◌∷◌, ◌++◌, map, Bool, true, false, ◌&&◌, refl, ap, sym, ◌∙◌}
 use Rattle.std.proofs.lemmas.List.{map-append}
 use Rattle.word_core.specs.Serials.{serials_of}
 use Rattle.hand_core.specs.PageEnds.{Taker}
 use Rattle.round_core.specs.Crews.{AreListed}
 
--- one copier more
+-- one more copier has its list
 pub listed_more : {V : Type 0} (items : V → List ℕ) (lists lists_new : List V) (takers takers_new : List Taker) (list : V) (taker : Taker)
     → lists_new ≡ lists ++ list ∷ [] → takers_new ≡ takers ++ taker ∷ [] → items list ≡ serials_of taker.taken
     → AreListed (map items lists) takers → AreListed (map items lists_new) takers_new

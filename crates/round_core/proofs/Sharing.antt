@@ -1,4 +1,4 @@
--- The serials of a round that was settled, as the lists of its copiers.
+-- The serials of a round that was settled, as its copiers' lists have them.
 use Rattle.std.proofs.Common.{◌≡◌, ℕ, List, [], ◌∷◌, ◌++◌, map, All, refl, ap, sym, subst, ◌∙◌}
 use Rattle.std.specs.List.{flat_map, range_with_len}
 use Rattle.std.specs.List.Sorted.{IsPermutation, IsStrictlyIncreasing}
@@ -13,7 +13,7 @@ use Rattle.round_core.specs.Rounds.{AreShared}
 abbrev serials_in : Taker → List ℕ
 serials_in t = serials_of t.taken
 
--- the serials of all lists, list by list
+-- the serials of all lists are those of the pages that all takers took
 in_lists : (takers : List Taker) → flat_map (λ list. list) (map serials_in takers) ≡ serials_of (taken_by takers)
 in_lists [] = refl
 in_lists (t ∷ takers) =

@@ -5,13 +5,13 @@ use Rattle.hand_core.specs.PageEnds.{Taker}
 use Rattle.hand_core.specs.CopyEnds.{DoneSender}
 use Rattle.round_core.specs.declared.copier.Carried.{Carried}
 
--- The taker and the sender are those of the same queues. Where the copier came to the end, its list is the serials of the pages
--- that it took, and it sent the copies of these pages, in their order.
+-- a copier hands back the taker and the sender that it was given. Where it came to the end, its list has the serials of the
+-- pages that it took, and it sent the copies of these pages, in their order
 pub record IsCarried (taker : Taker) (sender : DoneSender) (carried : Carried) : Type 0 where
   pub hand_over : carried.taker.hand_over ≡ taker.hand_over
   pub way : carried.sender.way ≡ sender.way
   pub number : carried.sender.number ≡ sender.number
   pub serials : carried.whole ≡ true → carried.serials.items ≡ serials_of carried.taker.taken
   pub copies : carried.whole ≡ true → carried.sender.sent ≡ carried.taker.taken
-  -- and both queues had their end marks
+  -- both queues had their end marks
   pub ended : carried.whole ≡ true → (carried.taker.ended ≡ true) × (carried.sender.marked ≡ true)

@@ -15,11 +15,11 @@ pub record IsUnsent (s : DoneSender) : Type 0 where
   pub open_still : s.closed ≡ false
   pub none : s.sent ≡ []
 
--- a giver of a hand-over whose next page has this serial
+-- an open giver whose next page has this serial
 pub record IsNext (serial : ℕ) (g : Giver) : Type 0 where
   pub open_still : g.closed ≡ false
   pub serial_is : serial ≡ g.base + length g.given
 
--- the lists are the serials of the pages that the takers took
+-- each list has the serials of the pages that its taker took
 abbrev pub AreListed : List (List ℕ) → List Taker → Type 0
 AreListed lists takers = lists ≡ map (λ (t : Taker). serials_of t.taken) takers

@@ -1,5 +1,6 @@
 -- What the threads of a round start with, and how they ran.
-use Rattle.std.specs.Prelude.{◌≡◌, ◌+◌, ◌≤◌, ℕ, true, false, [], All, map, Some, IfSome, length, vec_len, vec_capacity}
+use Rattle.std.specs.Prelude.{◌≡◌, ◌+◌, ◌<◌, ◌≤◌, ℕ, true, false, [], All, map, Some, IfSome, length, vec_len, vec_capacity}
+use Rattle.std.specs.VecDeque.{deque_capacity}
 use Rattle.hand_core.specs.PageEnds.{Giver}
 use Rattle.hand_core.specs.CopyEnds.{has_ended}
 use Rattle.zone_core.specs.Seats.{ScanSeat}
@@ -16,35 +17,36 @@ pub record IsFresh (serial : ℕ) (g : Giver) : Type 0 where
   pub none : g.given ≡ []
   pub open_still : g.closed ≡ false
 
--- each copier has a taker that took nothing, a sender that sent nothing, an empty list, and a place among those that are started
+-- each copier has a taker that took nothing, a sender that sent nothing and an empty list, and there is room for it among those
+-- that are started
 pub record IsUnstarted (o : Outfit) : Type 0 where
   pub takers : All (IsUnused o.giver.hand_over) o.takers.items
   pub senders : (vec_len o.senders ≡ vec_len o.takers) × All IsUnsent o.senders.items
   pub serials : (vec_len o.serials ≡ vec_len o.takers) × All (λ list. list.items ≡ []) o.serials.items
   pub copiers : (o.copiers.items ≡ []) × (vec_len o.takers ≤ vec_capacity o.copiers)
 
--- nothing was joined, and there is room for what so many copiers hand back
+-- nothing was joined, and there is room for what this many copiers hand back
 pub record IsEmpty (copiers : ℕ) (j : Joined) : Type 0 where
   pub takers : (j.takers.items ≡ []) × (copiers ≤ vec_capacity j.takers)
   pub lists : (j.lists.items ≡ []) × (copiers ≤ vec_capacity j.lists)
 
--- the memory of a round that is yet to begin, whose first page has this serial
+-- the memory of a round that isn't begun yet, whose first page has this serial
 pub record IsReady (serial : ℕ) (m : Memory) : Type 0 where
   pub giver : IsFresh serial m.outfit.giver
   pub outfit : IsUnstarted m.outfit
   pub copies : has_ended m.copies ≡ false
-  pub pages : m.bursts.pages.items ≡ []
+  pub pages : (m.bursts.pages.items ≡ []) × (0 < deque_capacity m.bursts.pages)
   pub joined : IsEmpty (vec_len m.outfit.takers) m.joined
 
--- the takers are those of the giver's pages, and if all copiers came to their ends the lists are the serials that they took
+-- the takers are of the giver's hand-over, and where all copiers came to their ends the lists have the serials of the pages that they took
 pub record AreJoined (g : Giver) (j : Joined) : Type 0 where
   pub takers : All (λ t. t.hand_over ≡ g.hand_over) j.takers.items
   pub listed : j.whole ≡ true → AreListed (map (λ v. v.items) j.lists.items) j.takers.items
 
--- how a round ran whose first page has this serial, by the scan seat behind it
+-- how a round ran whose first page has this serial, given the scan seat after it
 pub record HasRun (serial : ℕ) (scan : ScanSeat) (ran : Ran) : Type 0 where
   pub base : ran.giver.base ≡ serial
   pub joined : AreJoined ran.giver ran.joined
-  -- if its scanner came to an end, each page that was counted was given
+  -- where the scanner came to an end, each page that it counted was given
   pub count : IfSome ran.stop (λ _. scan.count ≡ ran.giver.base + length ran.giver.given)
   pub stopped : IfSome ran.stop (λ stop. scan.last ≡ Some (answer_at stop))

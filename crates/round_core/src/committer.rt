@@ -2,20 +2,22 @@ ghost use Rattle.std.specs.Prelude.{◌≡◌, false, IfOk, IfErr};
 ghost use Rattle.hand_core.specs.CopyEnds.{has_ended, IsTriedInTime};
 
 use crate::gate::{Gate, Point, tell_all};
+use crate::keeping::Keeping;
 use crate::memory::Outfit;
-use crate::shape::Shape;
-use crate::shared_zone::SharedZone;
+use crate::shared_zone::KeptZone;
 use crate::stack::stack;
 use frame_core::Serial;
 use hand_core::{Came, DoneTaker};
 use std::collections::VecDeque;
+use std::marker::PhantomData;
 use std::sync::Wait;
 use std::sync::ledger::Ledger;
 use std::thread::{Promise, PromisedHandle, Scope, Threads};
 use word_core::Copied;
 use zone_core::EndSeat;
 
-/// What the committer hands back.
+/// What the committer hands back: its part of the end seat, the least serial that was refused, and whether it came to
+/// the end of the copies.
 #[derive(Drop)]
 pub(crate) struct Committed<M: Ledger, B: Ledger> {
     pub(crate) seat: EndSeat<M, B>,
@@ -23,24 +25,25 @@ pub(crate) struct Committed<M: Ledger, B: Ledger> {
     pub(crate) whole: bool,
 }
 
-/// What comes behind the copies that were gathered.
+/// What comes after the copies that were gathered.
 enum Behind {
     More,
     End,
     Gone,
 }
 
-/// Commits all copies that come, by the one seat, as many at once as the list has room for.
-fn commit_all<K: Shape, I: Ledger, M: Ledger, B: Ledger, G: Gate, R: Wait>(
+/// Commits all copies that come, with one part of the end seat, as many at once as the list has room for.
+fn commit_all<K: Keeping, I: Ledger, M: Ledger, B: Ledger, G: Gate, R: Wait>(
     rt: &R,
-    shared: &SharedZone<K, I, M, B>,
+    shared: &KeptZone<K, I, M, B>,
     mut copies: DoneTaker,
     mut gathered: VecDeque<Copied>,
     mut seat: EndSeat<M, B>,
     gate: &G,
 ) -> Committed<M, B>
     requires { has_ended copies ≡ false }
-    ensures { result.seat.parts ≡ seat.parts }
+    ensures parts { result.seat.parts ≡ seat.parts }
+    ensures back { K.unpinned → result.seat.back ≡ seat.back }
 {
     let mut stranger = None;
     for _ in rt.forever() {
@@ -62,7 +65,7 @@ fn commit_all<K: Shape, I: Ledger, M: Ledger, B: Ledger, G: Gate, R: Wait>(
     unreachable!()
 }
 
-/// Gathers the copies that are there, until the list is full. For the first it waits.
+/// Gathers the copies that are there, until the list is full. It waits for the first one only.
 fn gather<R: Wait>(rt: &R, copies: &mut DoneTaker, gathered: &mut VecDeque<Copied>) -> Behind
     requires { has_ended copies.old ≡ false }
     ensures { result ≡ Behind.More → has_ended copies.new ≡ false }
@@ -78,7 +81,7 @@ fn gather<R: Wait>(rt: &R, copies: &mut DoneTaker, gathered: &mut VecDeque<Copie
     Behind::More
 }
 
-/// Takes the next copy. Unless it waits, there may be none.
+/// Takes the next copy. Where it isn't to wait, the answer is none if no copy is there.
 fn next_copy<R: Wait>(rt: &R, copies: &mut DoneTaker, waits: bool) -> Option<Came>
     requires { has_ended copies.old ≡ false }
     ensures { IsTriedInTime copies.new result }
@@ -90,24 +93,26 @@ fn next_copy<R: Wait>(rt: &R, copies: &mut DoneTaker, waits: bool) -> Option<Cam
     }
 }
 
-/// The committer hands its one part of the end seat back.
+/// The committer hands back the one part of the end seat that it was given.
 #[derive(Drop)]
-pub(crate) struct HandsPartBack;
-
-impl<M: Ledger, B: Ledger> Promise<Committed<M, B>> for HandsPartBack {
-    ghost use Rattle.std.specs.Prelude.{◌≡◌};
-
-    ghost kept_by = { λ _ r. r.seat.parts ≡ 1 };
+pub(crate) struct HandsPartBack<K: Keeping> {
+    of: PhantomData<K>,
 }
 
-pub(crate) type Committer<M, B> = PromisedHandle<Committed<M, B>, HandsPartBack>;
+impl<K: Keeping, M: Ledger, B: Ledger> Promise<Committed<M, B>> for HandsPartBack<K> {
+    ghost use Rattle.std.specs.Prelude.{◌≡◌};
 
-/// Starts the committer. Where no thread can be started the outfit goes, and the senders with it, so that its body, which
-/// then runs here, ends at once.
+    ghost kept_by = { λ _ r. (r.seat.parts ≡ 1) × (K.unpinned → r.seat.back ≡ 0) };
+}
+
+pub(crate) type Committer<K, M, B> = PromisedHandle<Committed<M, B>, HandsPartBack<K>>;
+
+/// Starts the committer. Where no thread can be started, the committer's body runs on this thread. The outfit is dropped
+/// then, and the senders with it, so that the body ends at once.
 pub(crate) fn start_committer<
     's,
     'e,
-    K: Shape + Send + Sync,
+    K: Keeping + Send + Sync,
     I: Ledger + Send + Sync,
     M: Ledger + Send + Sync,
     B: Ledger + Send + Sync,
@@ -116,25 +121,26 @@ pub(crate) fn start_committer<
 >(
     scope: &'s Scope<'s, &'e ()>,
     rt: &'e R,
-    shared: &'e SharedZone<K, I, M, B>,
+    shared: &'e KeptZone<K, I, M, B>,
     outfit: Outfit,
     copies: DoneTaker,
     gathered: VecDeque<Copied>,
     seat: EndSeat<M, B>,
     gate: &'e G,
-) -> Result<(Outfit, Committer<M, B>), EndSeat<M, B>>
+) -> Result<(Outfit, Committer<K, M, B>), EndSeat<M, B>>
     requires copies { has_ended copies ≡ false }
-    requires part { seat.parts ≡ 1 }
+    requires part { (seat.parts ≡ 1) × (seat.back ≡ 0) }
     ensures outfit { IfOk result (λ started. started.0 ≡ outfit) }
     ensures part { IfErr result (λ seat. seat.parts ≡ 1) }
 {
     let started = stack().spawn_scoped_with(
         scope,
-        HandsPartBack,
+        HandsPartBack::<K> { of: PhantomData },
         move || -> Committed<M, B>
             requires copies { has_ended copies ≡ false }
-            requires part { seat.parts ≡ 1 }
-            ensures { result.seat.parts ≡ 1 }
+            requires part { (seat.parts ≡ 1) × (seat.back ≡ 0) }
+            ensures part { result.seat.parts ≡ 1 }
+            ensures back { K.unpinned → result.seat.back ≡ 0 }
         { commit_all(rt, shared, copies, gathered, seat, gate) },
     );
     match started {

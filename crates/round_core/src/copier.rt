@@ -17,12 +17,12 @@ pub struct Carried {
     pub sender: DoneSender,
     /// The serials of the pages that it took.
     pub serials: Vec<Serial>,
-    /// Whether it came to the end of its pages and all their copies were sent.
+    /// Whether it came to the end of its pages, and all of their copies were sent.
     pub whole: bool,
 }
 
-/// The body of a copier: it takes pages, copies them and sends the copies, as many together as came together. It has no zone. It
-/// stops short where an end is gone, or where a page comes off while the list is full.
+/// The body of a copier: it takes pages, copies them, and sends the copies. Copies of pages that were received together are sent
+/// together. It has no zone. It stops early where an end of a queue is gone, or where it takes a page while its list is full.
 pub fn carry<G: Gate, R: Wait>(
     rt: &R,
     mut taker: Taker,
@@ -74,7 +74,7 @@ pub fn carry<G: Gate, R: Wait>(
     }
 }
 
-/// A copier hands back what became of the ends that it was given.
+/// A copier hands back the taker and the sender that it was given, and what it did with them.
 #[derive(Drop)]
 pub(crate) struct Carries {
     pub(crate) taker: Snapshot<Taker>,

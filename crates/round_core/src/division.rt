@@ -2,16 +2,16 @@
 
 ghost use Rattle.std.specs.Prelude.{◌<◌, ◌≤◌};
 
-/// How many pages there may be in a handful.
+/// How many pages a handful has at most.
 const MOST: usize = 8;
 
-/// How pages are divided among copiers, over queues with room for some.
+/// How pages are divided among copiers, over queues that have room for a number of pages.
 #[derive(Clone, Copy)]
 pub(crate) struct Division {
     copiers: usize,
     // How many pages a queue has room for.
     room: usize,
-    // How many pages go together at most.
+    // How many pages a handful of this round has at most.
     most: usize,
     ghost some: { (0 < copiers) × (copiers ≤ 4) },
     ghost in_range: { (0 < room) × (room ≤ 64) },
@@ -19,7 +19,7 @@ pub(crate) struct Division {
 }
 
 impl Division {
-    /// Among so many copiers, over queues with room for `cap` pages each.
+    /// The division among this many copiers, over queues with room for `cap` pages each.
     pub(crate) fn new(copiers: usize, cap: usize) -> Self
         requires copiers { (0 < copiers) × (copiers ≤ 4) }
         requires cap { (0 < cap) × (cap ≤ 64) }
@@ -31,22 +31,25 @@ impl Division {
         }
     }
 
-    /// How many of so many pages go together: each copier gets some, if there are as many.
+    /// How many of this many pages go into a handful, so that each copier gets some where there are enough.
     pub(crate) fn share(self, pages: usize) -> usize
         ensures { (0 < result) × (result ≤ 8) }
     {
         pages.div_ceil(self.copiers).clamp(1, self.most)
     }
 
-    /// For how many handfuls a queue has room.
+    /// The number of handfuls that a queue has room for.
     pub(crate) fn handfuls(self) -> usize
         ensures { (0 < result) × (result ≤ 64) }
     {
         self.room / self.most
     }
 
-    /// How many pages are isolated or committed under one lock at most: as many as a queue has room for, or a handful for each copier.
-    pub(crate) fn burst(self) -> usize {
+    /// How many pages are isolated or committed under one hold of the lock at most: as many as a queue has room for, or as there are
+    /// in a handful for each copier where that is more.
+    pub(crate) fn burst(self) -> usize
+        ensures { 0 < result }
+    {
         self.room.max(self.most * self.copiers)
     }
 }

@@ -4,7 +4,7 @@ ghost use Rattle.round_core.specs.Errors.{number_of};
 use frame_core::Serial;
 use thiserror::Error;
 
-/// Why a round wasn't made, or didn't end.
+/// Why a round wasn't begun, or didn't come to its end.
 #[derive(Clone, Copy, Debug, PartialEq, Eq, Error)]
 pub enum RoundError {
     #[error("out of memory")]
@@ -14,13 +14,13 @@ pub enum RoundError {
     /// An audit was refused, an end of a queue was gone, or a copier's list had no place for a page.
     #[error("an audit was refused, or a thread of the round ended early")]
     Broken,
-    /// The least serial whose commit was refused.
+    /// The least serial whose copy the zone refused.
     #[error("the copy with serial {0} was refused")]
     Stranger(Serial),
 }
 
 impl RoundError {
-    /// The error's number, 31 to 34.
+    /// The error's number, 31 to 34, that a script prints.
     pub fn number(&self) -> u16
         ensures { result ≡ number_of self.now }
     {

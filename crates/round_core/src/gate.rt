@@ -1,17 +1,18 @@
 /// A step of a page.
 #[derive(Clone, Copy, Debug, PartialEq, Eq)]
 pub enum Point {
-    /// The scanner took it on its way.
+    /// The scanner isolated it.
     Isolated,
-    /// A copier took it off the queue.
+    /// A copier took it from the queue.
     Taken,
-    /// The copier copied it.
+    /// The copier made its copy.
     Copied,
-    /// The zone was brought its copy.
+    /// Its copy was brought to the zone.
     Ended,
 }
 
-/// Is called after each step of a page and before its next one, by the thread that made the step, which holds no lock.
+/// A gate is told of each step of a page. The thread that made the step calls it, holding no lock, after the step and
+/// before the page's next one.
 pub trait Gate: Sync {
     /// `who` is 0 for the scanner, 1 to 4 for a copier, and 5 for the committer.
     fn at(&self, point: Point, who: usize);
@@ -25,7 +26,7 @@ impl Gate for NoGate {
     fn at(&self, _point: Point, _who: usize) {}
 }
 
-/// Tells the gate of a step of so many pages.
+/// Tells the gate that this many pages made a step.
 pub(crate) fn tell_all<G: Gate>(gate: &G, point: Point, who: usize, pages: usize) {
     for _page in 0..pages {
         gate.at(point, who);

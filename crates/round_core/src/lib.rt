@@ -1,6 +1,6 @@
-//! Rounds on threads: a scanner isolates pages of a zone in bursts, copiers carry them, and a committer ends their moves in bursts.
+//! Rounds on threads: a scanner isolates pages of a zone in bursts, copiers copy them, and a committer ends their moves in bursts.
 //!
-//! The zone stands under one lock, which keeps it lawful. Contracts see a round by what it changes in the two seats.
+//! The zone is under one lock, which keeps it lawful. Contracts see a round by what it changes in the two seats.
 #![tactic(auto)]
 
 mod alone;
@@ -12,6 +12,7 @@ mod crew;
 mod division;
 mod error;
 mod gate;
+mod keeping;
 mod memory;
 mod round;
 mod scanner;
@@ -24,6 +25,7 @@ pub use compacting::compact;
 pub use copier::{Carried, carry};
 pub use error::RoundError;
 pub use gate::{Gate, NoGate, Point};
+pub use keeping::{Keeping, Open};
 pub use round::{Round, Stop};
 pub use shape::Shape;
-pub use shared_zone::{Room, SharedZone};
+pub use shared_zone::{KeptZone, Room, SharedZone};

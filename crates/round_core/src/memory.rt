@@ -1,6 +1,7 @@
 //! The memory of a round, which is taken before it begins.
 
 ghost use Rattle.std.specs.Prelude.{◌≡◌, ◌<◌, ◌≤◌, [], false, true, All, IfOk, IfSome, vec_len, vec_capacity};
+ghost use Rattle.std.specs.VecDeque.{deque_capacity};
 ghost use Rattle.hand_core.specs.CopyEnds.{has_ended};
 ghost use Rattle.round_core.specs.Crews.{IsUnused, IsUnsent};
 ghost use Rattle.round_core.specs.Runs.{IsFresh, IsEmpty, IsReady};
@@ -22,7 +23,7 @@ pub(crate) struct Memory {
     pub(crate) joined: Joined,
 }
 
-/// What the copiers are started with. Once the giver and the senders are gone, all threads that run come to their ends.
+/// What the copiers are started with. After the giver and the senders are dropped, all threads that run come to their ends.
 #[derive(Drop)]
 pub(crate) struct Outfit {
     pub(crate) giver: Giver,
@@ -30,17 +31,17 @@ pub(crate) struct Outfit {
     pub(crate) senders: Vec<DoneSender>,
     /// An empty list of serials for each copier.
     pub(crate) serials: Vec<Vec<Serial>>,
-    /// Those that were started.
+    /// The copiers that were started.
     pub(crate) copiers: Vec<Copier>,
 }
 
-/// Lists of what is done under one lock, and how it is divided.
+/// Lists for what is done under one hold of the lock, and how pages are divided.
 #[derive(Drop)]
 pub(crate) struct Bursts {
     pub(crate) division: Division,
-    /// For pages that are isolated.
+    /// The pages that are isolated under one hold.
     pub(crate) pages: VecDeque<Isolated>,
-    /// For copies that are committed.
+    /// The copies that are committed under one hold.
     pub(crate) gathered: VecDeque<Copied>,
 }
 
@@ -61,7 +62,7 @@ struct Queues {
     copies: DoneTaker,
 }
 
-/// The lists for the copiers.
+/// The lists that the copiers fill.
 #[derive(Drop)]
 struct Lists {
     serials: Vec<Vec<Serial>>,
@@ -69,8 +70,8 @@ struct Lists {
     joined: Joined,
 }
 
-/// Takes the memory of a round whose first page has the serial `base`, with room for so many serials in the list of each copier,
-/// and for `cap` pages and copies in the queues. None where there is none.
+/// Takes the memory of a round whose first page has the serial `base`: `cap` pages and copies in the queues, and `serials`
+/// serials in the list of each copier. None where there isn't enough.
 pub(crate) fn reserve<R>(
     rt: &R,
     alloc: Global,
@@ -118,7 +119,7 @@ pub(crate) fn reserve<R>(
     })
 }
 
-/// Takes the memory of the lists of so many copiers, each with room for so many serials.
+/// Takes the memory of the copiers' lists, each with room for this many serials.
 fn reserve_lists(alloc: Global, copiers: usize, serials: usize) -> Result<Lists, AllocError>
     ensures serials { IfOk result (λ l. (vec_len l.serials ≡ copiers) × All (λ list. list.items ≡ []) l.serials.items) }
     ensures copiers { IfOk result (λ l. (l.copiers.items ≡ []) × (copiers ≤ vec_capacity l.copiers)) }
@@ -131,7 +132,7 @@ fn reserve_lists(alloc: Global, copiers: usize, serials: usize) -> Result<Lists,
     })
 }
 
-/// So many empty lists, each with room for so many serials.
+/// This many empty lists, each with room for this many serials.
 fn empty_lists(
     alloc: Global,
     copiers: usize,
@@ -146,7 +147,7 @@ fn empty_lists(
     Ok(lists)
 }
 
-/// Takes the memory of what so many copiers hand back.
+/// Takes the memory for what this many copiers hand back.
 fn reserve_joined(alloc: Global, copiers: usize) -> Result<Joined, AllocError>
     ensures { IfOk result (IsEmpty copiers) }
 {
@@ -157,9 +158,9 @@ fn reserve_joined(alloc: Global, copiers: usize) -> Result<Joined, AllocError>
     })
 }
 
-/// Takes the memory of bursts that are divided so.
+/// Takes the memory of the lists for bursts with this division.
 fn reserve_bursts(alloc: Global, division: Division) -> Result<Bursts, AllocError>
-    ensures { IfOk result (λ b. b.pages.items ≡ []) }
+    ensures { IfOk result (λ b. (b.pages.items ≡ []) × (0 < deque_capacity b.pages)) }
 {
     let burst = division.burst();
     Ok(Bursts {
@@ -169,7 +170,7 @@ fn reserve_bursts(alloc: Global, division: Division) -> Result<Bursts, AllocErro
     })
 }
 
-/// Opens both queues, each with room for so many handfuls.
+/// Opens both queues, each with room for this many handfuls.
 fn open_queues<R>(
     rt: &R,
     alloc: Global,

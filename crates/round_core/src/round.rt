@@ -3,7 +3,7 @@ use frame_core::Serial;
 /// Why the scanner of a round stopped.
 #[derive(Clone, Copy, Debug, PartialEq, Eq)]
 pub enum Stop {
-    /// There is no page left that has a frame to go to.
+    /// The scanners met: no page may be taken that has a frame to go to.
     Met,
     JournalFull,
 }
@@ -17,9 +17,9 @@ pub struct Round {
     pub count: u32,
     /// How many of them were moved.
     pub moved: u32,
-    /// How many were put back.
+    /// How many of them were put back.
     pub back: u32,
-    /// The serials that each copier carried.
+    /// The serials of the pages that each copier copied.
     pub by_copier: Vec<Vec<Serial>>,
     pub stopped: Stop,
 }

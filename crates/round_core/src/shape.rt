@@ -2,14 +2,14 @@ ghost use Rattle.std.specs.Prelude.{ℕ};
 
 use std::marker::Brand;
 
-/// The number and the pageblocks of a zone that is shared. Contracts alone know them, and whoever shares a zone picks them.
+/// The number and the pageblocks of a zone that is shared. Only contracts know them, and whoever shares a zone chooses them.
 pub trait Shape {
     ghost number: { ℕ };
 
     ghost blocks: { ℕ };
 }
 
-// Any two numbers: a call that passes `Brand` picks its own.
+// Any number and any pageblocks: a call that passes `Brand` chooses them.
 impl Shape for Brand {
     ghost number = { 0 };
 

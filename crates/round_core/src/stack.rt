@@ -2,8 +2,8 @@
 
 use core::thread::Stack;
 
-/// In bytes: as Rust's own threads have. With the C library's default, eight MiB on Linux, those of five threads don't fit in what
-/// it keeps for later threads, and each round would map and unmap some.
+/// In bytes: the stack of a thread of Rust's own. The C library's default is eight MiB on Linux. Five stacks of that size are more
+/// than it keeps for later threads, so each round would map and unmap some.
 const SIZE: usize = 2 * 1024 * 1024;
 
 /// The stack of a thread that is to start.

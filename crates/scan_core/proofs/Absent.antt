@@ -1,4 +1,4 @@
--- Numbers that aren't of a set, and the bits of its words that aren't set.
+-- Numbers that aren't in a set, and the bits of its words that aren't set.
 use Rattle.std.proofs.Common.{◌≡◌, ℕ, ◌+◌, ◌-◌, ◌*◌, ◌/◌, ◌%◌, ◌^◌, ◌<◌, ◌≤◌, Bool, true, false, not, List, length, inl, inr, refl, sym, ap, ◌∙◌, slice_index, arith, w64}
 use Rattle.std.specs.Prelude.{nat_eq}
 use Rattle.std.specs.Int.{trailing_zeros}
@@ -29,7 +29,7 @@ members words s view len n = ap (λ t. set.contains t n) (sym view) ∙ member w
 shifted : (n k i : ℕ) → has_bit (n / 2 ^ k) i ≡ has_bit n (k + i)
 shifted n k i = ap (λ m. nat_eq (m % 2) 1) (div-div-eq-div-mul n (2 ^ k) (2 ^ i) ∙ ap (λ m. n / m) (sym (pow-add 2 k i)))
 
--- a word, and those of its bits from the k-th on that aren't set
+-- one word, and which of its bits from the k-th on aren't set
 module _ (words : List ℕ) (word k bits absent : ℕ) (at : bits ≡ slice_index words word) (fits : bits < 2 ^ 64) (are : absent ≡ (2 ^ 64 - 1 - bits) / 2 ^ k) where
   number_at : (i : ℕ) → i < 64 → has_number words (64 * word + i) ≡ has_bit bits i
   number_at i low =
@@ -45,7 +45,7 @@ module _ (words : List ℕ) (word k bits absent : ℕ) (at : bits ≡ slice_inde
       let below : 2 ^ 64 - 1 - bits < 2 ^ 64 = omega arith in
       ap (λ n. has_bit n i) are ∙ shifted (2 ^ 64 - 1 - bits) k i ∙ ap (λ n. nat_eq n 1) (bit_at_above (2 ^ 64 - 1 - bits) 64 (k + i) below past)
 
-  -- each is set
+  -- where none of them is unset, each of these numbers is a member
   pub none_absent : (first : ℕ) → first ≡ 64 * word + k → absent ≡ 0 → (n : ℕ) → first ≤ n → n < 64 * word + 64 → has_number words n ≡ true
   none_absent first is none n low high =
       let i = n - first in
@@ -53,7 +53,7 @@ module _ (words : List ℕ) (word k bits absent : ℕ) (at : bits ≡ slice_inde
       not_false (has_number words n)
       (ap (λ m. not (has_number words m)) (sym same) ∙ sym (clear_at i (omega arith)) ∙ ap (λ m. has_bit m i) none ∙ has_bit_zero i)
 
-  -- the lowest that isn't set
+  -- where one of them is unset, the lowest such number isn't a member
   pub first_absent : (first : ℕ) → first ≡ 64 * word + k → 0 < absent → (first + trailing_zeros w64 absent < 64 * word + 64) × (has_number words (first + trailing_zeros w64 absent) ≡ false) × ((n : ℕ) → first ≤ n → n < first + trailing_zeros w64 absent → has_number words n ≡ true)
   first_absent first is some =
       let place = trailing_zeros w64 absent in

@@ -61,7 +61,7 @@ module _ (p : ℕ → Bool) where
         | inr under ↦ (let found = highest_some n k under.1 in (omega (arith, found.0), found.1))
       ]
 
-  -- above the highest that passes none does
+  -- no number above the highest one that passes passes
   pub highest_above : (n k q : ℕ) → highest p n ≡ Some k → k < q → q < n → p q ≡ false
   highest_above zero k q e h within = absurd (omega arith)
   highest_above (suc n) k q e h within =
@@ -85,7 +85,7 @@ module _ (p : ℕ → Bool) where
     | inr over ↦ let same : suc m ≡ n = omega (arith, over.1) in ap (lowest p) same
   ]
 
-  -- where one number doesn't pass, not all do
+  -- where one number doesn't pass, the count is smaller than the number of numbers
   pub count_from_short : (first n k : ℕ) → first ≤ k → k < first + n → p k ≡ false → count_from p first n < n
   count_from_short first n k low high fails =
       let more = count_from_more p (λ q. nat_eq q k || p q) first n k low high fails (ap (λ b. b || p k) (eq-eqb k k refl))

@@ -18,7 +18,7 @@ free_at_item states frame d within = ap is_free_state (slice_get-get_or states f
 pub not_free_past : (states : List FrameState) (frame : ℕ) → length states ≤ frame → free_at states frame ≡ false
 not_free_past states frame past = ap is_free_state (slice_get_past states frame past)
 
--- a number that a list has stands within it
+-- an index at which a list has a number is within the list
 within_list : (xs : List ℕ) (i x : ℕ) → slice_get xs i ≡ Some x → i < length xs
 within_list xs i x is = elim (leb_tells (length xs) i) [
   | inl past ↦ absurd (none_some (slice_get xs i) x (slice_get_past xs i past.1) is)
@@ -31,13 +31,13 @@ within_list xs i x is = elim (leb_tells (length xs) i) [
 pub full_as_whole : (counts : List ℕ) (states : List FrameState) → CountsFree counts states → (block : ℕ) → block < 8 → is_all_counted counts block ≡ is_whole states block
 full_as_whole counts states right block h = ap (λ n. nat_eq n 512) (get_or_from_slice_get counts block _ 0 (right.each block h))
 
--- a pageblock that the frames don't fill isn't free as a whole
+-- a pageblock that the frames don't fill doesn't count as whole
 pub not_whole_past : (states : List FrameState) (block : ℕ) → blocks_of states ≤ block → is_whole states block ≡ false
 not_whole_past states block past =
     let short = count_from_short (free_at states) (512 * block) 512 (512 * block + 511) (omega arith) (omega arith) (not_free_past states (512 * block + 511) (omega arith)) in
     ne_eqb (free_in_block states block) 512 (λ all. absurd (omega (arith, short, all)))
 
--- the pageblocks that are free as a whole, by their counts
+-- the number of whole pageblocks, read off their counts
 pub whole_counted : (counts : List ℕ) (states : List FrameState) → CountsFree counts states → length states ≤ 4096 → count_below (is_all_counted counts) 8 ≡ count_below (is_whole states) (blocks_of states)
 whole_counted counts states right few = upto 8 (omega arith) (λ block h. h) where
   upto : (n : ℕ) → blocks_of states ≤ n → ((block : ℕ) → block < n → block < 8) → count_below (is_all_counted counts) n ≡ count_below (is_whole states) (blocks_of states)

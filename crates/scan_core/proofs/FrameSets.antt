@@ -30,7 +30,7 @@ pub remove_if : (b x m : Bool) → m ≡ false → (not b && x) ≡ (if b then m
 remove_if true x m e = sym e
 remove_if false x m e = refl
 
--- what is as before, where the one frame was so already
+-- a test stays as it was where the one number that is written had that value already
 pub keep_if : (k frame : ℕ) (p : ℕ → Bool) (m : Bool) → p frame ≡ m → p k ≡ (if nat_eq k frame then m else p k)
 keep_if k frame p m is = elim (eqb_tells k frame) [
   | inl at ↦ (ap p at.1 ∙ is ∙ sym (ap (λ b. if b then m else p k) (eq-eqb k frame at.1)))
@@ -46,7 +46,7 @@ restore : (b x : Bool) → (b ≡ true → x ≡ true) → x ≡ (b || (not b &&
 restore true x e = e refl
 restore false x e = refl
 
--- p loses the numbers of a run
+-- r is p without the numbers of a run
 pub takes_run : (p r : ℕ → Bool) (first m : ℕ) → ((k : ℕ) → in_run first m k ≡ true → p k ≡ true) → ((k : ℕ) → r k ≡ (not (in_run first m k) && p k)) → Adds r p first m
 takes_run p r first m all each = record {
   none = λ k e. each k ∙ ap (λ b. not b && p k) e;
@@ -63,7 +63,7 @@ pub takes_one : (p r : ℕ → Bool) (frame : ℕ) → p frame ≡ true → ((k 
 takes_one p r frame passes each =
     takes_run p r frame 1 (λ k e. ap p (eqb-true k frame (sym (one_run frame k) ∙ e)) ∙ passes) (λ k. each k ∙ ap (λ b. not b && p k) (sym (one_run frame k)))
 
--- all numbers of a run pass where the test says so
+-- all numbers of a run pass where the test of the run says so
 pub all_pass : (p : ℕ → Bool) (first count : ℕ) → all_from p first count ≡ true → (k : ℕ) → in_run first count k ≡ true → p k ≡ true
 all_pass p first count all k inside =
     let is = in_run_is first count k inside in
@@ -90,7 +90,7 @@ from_some : (p : ℕ → Bool) (first n k : ℕ) → first ≤ k → k < first +
 unfolding count_from
 from_some p first n k low high passes = let at : first + (k - first) ≡ k = omega arith in count_some (λ i. p (first + i)) n (k - first) (omega arith) (ap p at ∙ passes)
 
--- whether an unmarked pageblock has members, by the counts
+-- whether an unmarked pageblock has members, read off the counts
 pub unmarked_by_counts : (p : ℕ → Bool) (marked : List Bool) (blocks : List ℕ) (count : ℕ) → Counts count blocks p → some_below (λ block. not (true_at marked block) && nat_lt 0 (slice_index blocks block)) 8 ≡ some_below (λ frame. not (is_marked marked frame) && p frame) capacity
 unmarked_by_counts p marked blocks count counts = by_bound 8 (λ b h. h) (λ f h. omega (arith, capacity_is, h)) (λ f h. omega (arith, capacity_is, h)) where
   by_bound : (n : ℕ) → ((b : ℕ) → b < n → b < 8) → ((f : ℕ) → f < capacity → f / 512 < n) → ((f : ℕ) → f / 512 < n → f < capacity) → some_below (λ block. not (true_at marked block) && nat_lt 0 (slice_index blocks block)) n ≡ some_below (λ frame. not (is_marked marked frame) && p frame) capacity
@@ -114,7 +114,7 @@ unmarked_by_counts p marked blocks count counts = by_bound 8 (λ b h. h) (λ f h
 pub full_by_counts : (p : ℕ → Bool) (blocks : List ℕ) (count : ℕ) → Counts count blocks p → (block : ℕ) → block < 8 → is_all_counted blocks block ≡ all_of_block p block
 full_by_counts p blocks count counts block h = ap (λ n. nat_eq n 512) (get_or_from_slice_get blocks block _ 0 (counts.each block h))
 
--- what a run adds to counts, and what it takes from them
+-- what a run adds to the counts, and what it takes from them
 module _ (count : ℕ) (blocks new_blocks : List ℕ) (s t : set.FinSet nat_cmp) (first block m : ℕ) (low : first < 4096) (at : block ≡ first / 512) (within : first % 512 + m ≤ 512) where
   pub set_more : Adds (set.contains s) (set.contains t) first m → Counts count blocks (set.contains s) → new_blocks ≡ slice_set blocks block (slice_index blocks block + m) → Counts (count + m) new_blocks (set.contains t)
   set_more adds counts now =
@@ -142,7 +142,7 @@ none_from : (p : ℕ → Bool) (first n : ℕ) → ((k : ℕ) → p k ≡ false)
 unfolding count_from
 none_from p first n fails = count_none (λ k. p (first + k)) n (λ k h. fails (first + k))
 
--- the counts of no frames
+-- the counts of a set with no frames
 pub no_counts : (s : set.FinSet nat_cmp) (blocks : List ℕ) → s ≡ set.empty → length blocks ≡ 8 → ((block : ℕ) → block < 8 → slice_get blocks block ≡ Some 0) → Counts 0 blocks (set.contains s)
 no_counts s blocks none len each = record {
   all = sym (count_none (set.contains s) capacity (λ k h. fails k));
@@ -159,7 +159,7 @@ no_run_here : (p : ℕ → Bool) (order at k : ℕ) (aligned : Bool) → is_alig
 no_run_here p order at k true e only fails = ap (λ b. b && all_from p k (2 ^ order)) e ∙ ap (λ f. all_from p f (2 ^ order)) (only e) ∙ fails
 no_run_here p order at k false e only fails = ap (λ b. b && all_from p k (2 ^ order)) e
 
--- what the count of its pageblock tells of a run
+-- what the count of a pageblock tells of a run in it
 module _ (p : ℕ → Bool) (first m total count : ℕ) (blocks : List ℕ) (low : first < 4096) (within : first % 512 + m ≤ 512) (counts : Counts total blocks p) (is : count ≡ slice_index blocks (first / 512)) where
   counted : count ≡ count_in_block p (first / 512)
   counted = is ∙ get_or_from_slice_get blocks (first / 512) _ 0 (counts.each (first / 512) (omega arith))
@@ -175,7 +175,7 @@ module _ (p : ℕ → Bool) (first m total count : ℕ) (blocks : List ℕ) (low
       absurd (omega (arith, more, counted, few)))
       (λ e. cc)
 
--- the search for a run, a multiple after another
+-- the search for a run, one multiple after another
 module _ (p : ℕ → Bool) (order frames : ℕ) (low : 3 ≤ order) (high : order ≤ 9) (is : frames ≡ 2 ^ order) where
   pub multiple_aligned : (run : ℕ) → is_aligned order (run * frames) ≡ true
   multiple_aligned run = ap (λ f. is_aligned order (run * f)) is ∙ run_aligned order low high run
@@ -205,7 +205,7 @@ module _ (p : ℕ → Bool) (order frames : ℕ) (low : 3 ≤ order) (high : ord
   pub run_lowest : (run : ℕ) → run * frames < 4096 → all_from p (run * frames) (2 ^ order) ≡ true → ((k : ℕ) → k < run * frames → is_run_of p order k ≡ false) → lowest (is_run_of p order) capacity ≡ Some (run * frames)
   run_lowest run within all before = lowest_is (is_run_of p order) capacity (run * frames) (omega (arith, within, capacity_is)) (multiple_is_run run all) before
 
--- the frames of a list that are free, one after another
+-- the free frames of a list, put into a set one after another
 pub one_more_free : (states : List FrameState) (s t : set.FinSet nat_cmp) (i number : ℕ) (free : Bool) → number ≡ i → free_at states i ≡ free → ((n : ℕ) → set.contains s n ≡ (nat_lt n i && free_at states n)) → ((n : ℕ) → set.contains t n ≡ (if nat_eq n number then free else set.contains s n)) → (n : ℕ) → set.contains t n ≡ (nat_lt n (i + 1) && free_at states n)
 one_more_free states s t i number free at is before put n = put n ∙ ap (λ k. if nat_eq n k then free else set.contains s n) at ∙ elim (eqb_tells n i) [
   | inl here ↦ (ap (λ b. if b then free else set.contains s n) (eq-eqb n i here.1) ∙ sym is ∙ ap (free_at states) (sym here.1)

@@ -56,11 +56,11 @@ and_not_swap true false = refl
 and_not_swap false true = refl
 and_not_swap false false = refl
 
--- a word that got the bits of a mask
+-- the bits of a word after those of a mask were added
 pub has_bit_added : (had mask i : ℕ) → has_bit (bit_or had mask) i ≡ (has_bit mask i || has_bit had i)
 has_bit_added had mask i = has_bit_or had mask i ∙ or_swap (has_bit had i) (has_bit mask i)
 
--- a word that lost them
+-- the bits of a word after those of a mask were removed
 pub has_bit_removed : (had mask i : ℕ) → mask < 2 ^ 64 → i < 64 → has_bit (bit_and had (2 ^ 64 - 1 - mask)) i ≡ (not (has_bit mask i) && has_bit had i)
 has_bit_removed had mask i fits low =
     has_bit_and had (2 ^ 64 - 1 - mask) i ∙ ap (λ b. has_bit had i && b) (has_bit_not mask i fits low) ∙ and_not_swap (has_bit had i) (has_bit mask i)
@@ -101,7 +101,7 @@ pub and_false : (a : Bool) → (a && false) ≡ false
 and_false true = refl
 and_false false = refl
 
--- the summary where the words of a mask lost their bits
+-- the summary after the words of a mask lost their bits
 pub unmarked : (summary words bits i : ℕ) → words < 2 ^ 64 → i < 64 → bits ≡ 0 → has_bit (bit_and summary (2 ^ 64 - 1 - words)) i ≡ (if has_bit words i then nat_lt 0 bits else has_bit summary i)
 unmarked summary words bits i fits low none =
     has_bit_and summary (2 ^ 64 - 1 - words) i ∙ ap (λ b. has_bit summary i && b) (has_bit_not words i fits low) ∙ lost (has_bit summary i) (has_bit words i)
@@ -110,7 +110,7 @@ unmarked summary words bits i fits low none =
     lost s true = and_false s ∙ ap (nat_lt 0) (sym none)
     lost s false = and_true s
 
--- the summary where they got bits
+-- the summary after the words of a mask got bits
 pub marked : (summary words bits i : ℕ) → 0 < bits → has_bit (bit_or summary words) i ≡ (if has_bit words i then nat_lt 0 bits else has_bit summary i)
 marked summary words bits i some =
     has_bit_or summary words i ∙ got (has_bit summary i) (has_bit words i)
@@ -119,23 +119,23 @@ marked summary words bits i some =
     got s true = or_true s ∙ sym (lt-ltb 0 bits some)
     got s false = or_false s
 
--- a summary follows its words, where those of a mask got new bits
+-- a summary still agrees with its words after those of a mask got new bits
 pub summed : (words new : List ℕ) (summary now bits i : ℕ) (m : Bool) → has_bit summary i ≡ nat_lt 0 (slice_index words i) → slice_index new i ≡ (if m then bits else slice_index words i) → has_bit now i ≡ (if m then nat_lt 0 bits else has_bit summary i) → has_bit now i ≡ nat_lt 0 (slice_index new i)
 summed words new summary now bits i true each word is = is ∙ ap (nat_lt 0) (sym word)
 summed words new summary now bits i false each word is = is ∙ each ∙ ap (nat_lt 0) (sym word)
 
--- one word got new bits
+-- the words after one of them got new bits
 pub one_word : (words : List ℕ) (word bits i : ℕ) → word < length words → slice_index (slice_set words word bits) i ≡ (if nat_eq i word then bits else slice_index words i)
 one_word words word bits i within = elim (eqb_tells i word) [
   | inl at ↦ (ap (slice_index (slice_set words word bits)) at.1 ∙ get_or-set_same words word bits 0 within ∙ sym (ap (λ b. if b then bits else slice_index words i) (eq-eqb i word at.1)))
   | inr away ↦ (get_or-set_other words word i bits 0 away.1 ∙ sym (ap (λ b. if b then bits else slice_index words i) (ne_eqb i word away.1)))
 ]
 
--- two words of which none is empty
+-- two words, neither of which is empty
 pub both_some : (a b : ℕ) → 0 < a → 0 < b → nat_lt 0 a ≡ nat_lt 0 b
 both_some a b some other = lt-ltb 0 a some ∙ sym (lt-ltb 0 b other)
 
--- the summary stays where a word that changes stays empty, or doesn't become so
+-- the summary may stay as it is where a word that changes is empty before and after, or is so neither before nor after
 pub still_summed : (words : List ℕ) (summary word bits : ℕ) → word < length words → nat_lt 0 bits ≡ nat_lt 0 (slice_index words word) → (i : ℕ) → has_bit summary i ≡ nat_lt 0 (slice_index words i) → has_bit summary i ≡ nat_lt 0 (slice_index (slice_set words word bits) i)
 still_summed words summary word bits within same i each = each ∙ elim (eqb_tells i word) [
   | inl at ↦ (ap (λ k. nat_lt 0 (slice_index words k)) at.1 ∙ sym same ∙ sym (ap (nat_lt 0) (ap (slice_index (slice_set words word bits)) at.1 ∙ get_or-set_same words word bits 0 within)))

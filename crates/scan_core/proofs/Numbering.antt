@@ -89,7 +89,7 @@ lowest_number words word bits len first had fits =
       | inr other ↦ (let before : j / 64 < word = omega (arith, other.1) in ap (λ w. has_bit w (j % 64)) (first.before (j / 64) before) ∙ has_bit_zero (j % 64))
     ])
 
--- the words where one of them changed
+-- the numbers of the words after one word changed
 module _ (words new : List ℕ) (s : set.FinSet nat_cmp) (word mask : ℕ) (view : numbers_of words ≡ s) (len : length words ≡ 64) (same : length new ≡ length words) (others : (other : ℕ) → other ≢ word → slice_index new other ≡ slice_index words other) where
   had : (n : ℕ) → has_number words n ≡ set.contains s n
   had n = sym (member words len n) ∙ ap (λ t. set.contains t n) view
@@ -97,7 +97,7 @@ module _ (words new : List ℕ) (s : set.FinSet nat_cmp) (word mask : ℕ) (view
   other_word : (n : ℕ) → n / 64 ≢ word → has_number new n ≡ has_number words n
   other_word n away = ap (λ w. has_bit w (n % 64)) (others (n / 64) away)
 
-  -- it got bits
+  -- the numbers after a word got the bits of a mask
   pub filled_members : ((i : ℕ) → i < 64 → has_bit (slice_index new word) i ≡ (has_bit mask i || has_bit (slice_index words word) i)) → (n : ℕ) → set.contains (numbers_of new) n ≡ ((nat_eq (n / 64) word && has_bit mask (n % 64)) || set.contains s n)
   filled_members bits n = member new (same ∙ len) n ∙ elim (eqb_tells (n / 64) word) [
     | inl at ↦ (ap (λ k. has_bit (slice_index new k) (n % 64)) at.1 ∙ bits (n % 64) (omega arith)
@@ -106,7 +106,7 @@ module _ (words new : List ℕ) (s : set.FinSet nat_cmp) (word mask : ℕ) (view
     | inr away ↦ (other_word n away.1 ∙ (λ i. (sym (ne_eqb (n / 64) word away.1) i && has_bit mask (n % 64)) || had n i))
   ]
 
-  -- it lost bits
+  -- the numbers after a word lost the bits of a mask
   pub cleared_members : ((i : ℕ) → i < 64 → has_bit (slice_index new word) i ≡ (not (has_bit mask i) && has_bit (slice_index words word) i)) → (n : ℕ) → set.contains (numbers_of new) n ≡ (not (nat_eq (n / 64) word && has_bit mask (n % 64)) && set.contains s n)
   cleared_members bits n = member new (same ∙ len) n ∙ elim (eqb_tells (n / 64) word) [
     | inl at ↦ (ap (λ k. has_bit (slice_index new k) (n % 64)) at.1 ∙ bits (n % 64) (omega arith)

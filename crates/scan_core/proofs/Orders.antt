@@ -3,7 +3,7 @@ use Rattle.std.proofs.Common.{◌≡◌, ℕ, zero, suc, ◌+◌, ◌*◌, ◌/�
 use Rattle.std.proofs.lemmas.Bool.{eqb-true, eq-eqb}
 use Rattle.frame_core.specs.Order.{is_aligned}
 
--- what holds at each order
+-- what holds at each of the seven orders holds at every order
 pub by_order : (P : ℕ → Type 0) → P 3 → P 4 → P 5 → P 6 → P 7 → P 8 → P 9 → (order : ℕ) → 3 ≤ order → order ≤ 9 → P order
 by_order P p3 p4 p5 p6 p7 p8 p9 zero h l = absurd (omega arith)
 by_order P p3 p4 p5 p6 p7 p8 p9 (suc zero) h l = absurd (omega arith)
@@ -24,7 +24,7 @@ module _ (order : ℕ) (low : 3 ≤ order) (high : order ≤ 9) where
   pub some_frames : 0 < 2 ^ order
   some_frames = by_order (λ o. 0 < 2 ^ o) (omega arith) (omega arith) (omega arith) (omega arith) (omega arith) (omega arith) (omega arith) order low high
 
-  -- a block stands in one pageblock
+  -- a block is in one pageblock
   pub one_block : (first : ℕ) → is_aligned order first ≡ true → first % 512 + 2 ^ order ≤ 512
   one_block first aligned =
       by_order (λ o. first / 2 ^ o * 2 ^ o ≡ first → first % 512 + 2 ^ o ≤ 512)
@@ -42,7 +42,7 @@ module _ (order : ℕ) (low : 3 ≤ order) (high : order ≤ 9) where
   pub run_aligned : (run : ℕ) → is_aligned order (run * 2 ^ order) ≡ true
   run_aligned run = eq-eqb (run * 2 ^ order / 2 ^ order * 2 ^ order) (run * 2 ^ order) (run_is run (run * 2 ^ order) (omega arith) (omega (arith, some_frames)))
 
-  -- the one block that begins between two multiples begins at the first
+  -- a block that begins between two multiples of its frames begins at the lower one
   pub first_of_run : (run k : ℕ) → run * 2 ^ order ≤ k → k < (run + 1) * 2 ^ order → is_aligned order k ≡ true → k ≡ run * 2 ^ order
   first_of_run run k from to aligned = omega (arith, run_is run k from to, eqb-true (k / 2 ^ order * 2 ^ order) k aligned)
 

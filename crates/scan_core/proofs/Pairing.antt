@@ -63,7 +63,7 @@ module _ (states : List FrameState) (movable marked : List Bool) (fingers : Fing
         high = high;
       }
 
-  -- no source was found
+  -- where no source was found there is no pair
   pub no_source : next_source states movable marked fingers ≡ None → (source target : ℕ) → IsPair states movable marked fingers source target → ⊥
   no_source none source target pair =
       untrue _ (source_stops source pair.from) (no_lowest _ fingers.free source none pair.from.high)
@@ -79,7 +79,7 @@ module _ (states : List FrameState) (movable marked : List Bool) (fingers : Fing
     | inr less ↦ absurd (untrue _ (source_stops frame is) (lowest_before _ fingers.free source frame from less.1))
   ]
 
-  -- the lowest source has no target
+  -- where the lowest source has no target there is no pair
   pub no_target : (found : ℕ) → next_source states movable marked fingers ≡ Some found → next_target states marked fingers found ≡ None → (source target : ℕ) → IsPair states movable marked fingers source target → ⊥
   no_target found from none source target pair =
       let low : found ≤ source = lowest_found found source from pair.from in
@@ -102,14 +102,14 @@ module _ (states : List FrameState) (movable marked : List Bool) (fingers : Fing
         ];
       }
 
--- the target that was found stands between
+-- the target that was found is above the source and below the free finger
 pub target_between : (free : ℕ → Bool) (marked : List Bool) (fingers : Fingers) (source target : ℕ) → highest (λ frame. nat_lt source frame && (not (is_marked marked frame) && free frame)) fingers.free ≡ Some target → (source < target) × (target < fingers.free)
 target_between free marked fingers source target found =
     let at = highest_some _ fingers.free target found in
     let parts = both (nat_lt source target) (not (is_marked marked target) && free target) at.1 in
     (ltb-true source target parts.0, at.0)
 
--- what a list and a set tell is found where the states have it
+-- a search in a list and a set that tell the states finds what a search in the states does
 module _ (states holders : List FrameState) (free : set.FinSet nat_cmp) (movable marked : List Bool) (fingers : Fingers) (told : IsTold states holders free) where
   pub source_told : next_source holders movable marked fingers ≡ next_source states movable marked fingers
   source_told = ap (λ (h : ℕ → Bool). lowest (λ frame. nat_le fingers.migrate frame && (not (is_marked marked frame) && (h frame && true_at movable frame))) fingers.free) (λ i n. told.holds n i)
@@ -126,7 +126,7 @@ free_holds_none (Some (Source serial)) free = cc
 free_holds_none (Some (Target serial)) free = cc
 free_holds_none (Some Huge) free = cc
 
--- so no page is told of one
+-- a frame that is told as free holds no page in the list that tells the pages
 pub told_empty : (states holders : List FrameState) (free : set.FinSet nat_cmp) → IsTold states holders free → (frame : ℕ) → set.contains free frame ≡ true → holds_at holders frame ≡ false
 told_empty states holders free told frame is = told.holds frame ∙ free_holds_none (slice_get states frame) (sym (told.free frame) ∙ is)
 

@@ -1,4 +1,4 @@
--- Counts where the numbers of a run begin to pass, or no longer do.
+-- Counts after the numbers of a run began to pass, or no longer do.
 use Rattle.std.proofs.Common.{◌≡◌, ◌≢◌, ℕ, zero, suc, ◌+◌, ◌-◌, ◌*◌, ◌/◌, ◌%◌, ◌<◌, ◌≤◌, Bool, true, false, List, inl, inr, refl, sym, ap, ◌∙◌, slice_index, length-set, arith}
 use Rattle.std.specs.Prelude.{Some, nat_eq, slice_set, ◌||◌}
 use Rattle.std.proofs.lemmas.Bool.{ne_eqb}
@@ -32,7 +32,7 @@ module _ (p : ℕ → Bool) (first : ℕ) where
       or_right true b e = refl
       or_right false b e = e
 
--- the numbers of a run pass in r and not in p, and nothing else differs
+-- r is p with the numbers of a run, none of which passes in p
 pub record Adds (p r : ℕ → Bool) (first m : ℕ) : Type 0 where
   pub none : (k : ℕ) → in_run first m k ≡ true → p k ≡ false
   pub each : (k : ℕ) → r k ≡ (in_run first m k || p k)
@@ -84,7 +84,7 @@ module _ (p r : ℕ → Bool) (first m : ℕ) (low : first < 4096) (within : fir
     ];
   }
 
-  -- the counts before leave room for the run
+  -- the counts before have room for the run
   pub room_more : (count : ℕ) (blocks : List ℕ) → Counts count blocks p → (count + m ≤ 4096) × (slice_index blocks (first / 512) + m ≤ 512)
   room_more count blocks counts = (
     omega (arith, counts.all, all_more, count_most r capacity, capacity_is),

@@ -1,4 +1,4 @@
--- The states of frames, as they are kept and as they are.
+-- The states of frames, as they are kept and as they are seen.
 use Rattle.std.proofs.Common.{◌≡◌, ℕ, zero, suc, ◌+◌, ◌<◌, ◌≤◌, Bool, true, false, not, List, [], ◌∷◌, length, inl, inr, refl, sym, ap, ◌∙◌, arith, eq-eqb, length-set}
 use Rattle.std.specs.Prelude.{Option, Some, None, nat_eq, slice_get, slice_set, if◌then◌else◌, ◌&&◌, ◌||◌}
 use Rattle.std.proofs.lemmas.Bool.{ne_eqb}
@@ -12,7 +12,7 @@ use Rattle.scan_core.specs.Runs.{with_run}
 use Rattle.scan_core.specs.Seen.{seen_from}
 use Rattle.scan_core.proofs.Spanning.{same_by, in_run_is, is_in_run}
 
--- two lists with the same items are one
+-- two lists with the same items are equal
 pub same_items : {X : Type 0} → (xs ys : List X) → ((i : ℕ) → slice_get xs i ≡ slice_get ys i) → xs ≡ ys
 same_items [] [] same = refl
 same_items [] (y ∷ ys) same = let e = same zero in cc
@@ -22,7 +22,7 @@ same_items (x ∷ xs) (y ∷ ys) same =
     let head : x ≡ y = cc in
     λ i. head i ∷ same_items xs ys (λ k. same (suc k)) i
 
--- a state, where the frame is held or not
+-- a frame's state as it is seen, given whether the frame is held
 abbrev pub seen_state : Bool → Option FrameState → Option FrameState
 seen_state true (Some state) = Some Huge
 seen_state true None = None
@@ -48,7 +48,7 @@ seen_get_from h first (x ∷ xs) (suc i) = let e : suc first + i ≡ first + suc
 pub seen_get : (h : ℕ → Bool) (xs : List FrameState) (i : ℕ) → slice_get (seen_from h 0 xs) i ≡ seen_state (h i) (slice_get xs i)
 seen_get h xs i = let e : 0 + i ≡ i = omega arith in seen_get_from h 0 xs i ∙ ap (λ k. seen_state (h k) (slice_get xs i)) e
 
--- where no frame is held, what is kept is what is
+-- where no frame is held, the states are seen as they are kept
 pub seen_none_held : (h : ℕ → Bool) (xs : List FrameState) → ((i : ℕ) → h i ≡ false) → seen_from h 0 xs ≡ xs
 seen_none_held h xs none = same_items (seen_from h 0 xs) xs (λ i. seen_get h xs i ∙ ap (λ b. seen_state b (slice_get xs i)) (none i))
 
@@ -69,7 +69,7 @@ seen_put h kept frame state within free =
           ∙ sym (seen_get h kept i) ∙ sym (slice_get_set_other (seen_from h 0 kept) frame i state away.1))
     ])
 
--- what stands in a run and elsewhere
+-- which frames are in a run
 pub run_none : (first n : ℕ) → in_run first zero n ≡ false
 run_none first n = same_by (in_run first zero n) false (λ e. let is = in_run_is first zero n e in absurd (omega (arith, is))) (λ e. cc)
 

@@ -1,4 +1,4 @@
--- The words in which a run of numbers stands.
+-- The words that a run of numbers is in.
 use Rattle.std.proofs.Common.{◌≡◌, ◌≢◌, ℕ, zero, suc, ◌+◌, ◌-◌, ◌*◌, ◌/◌, ◌%◌, ◌^◌, ◌<◌, ◌≤◌, ◌⊎◌, Bool, true, false, not, inl, inr, refl, sym, ap, ◌∙◌, subst, List, length, slice_index, eq-eqb, arith}
 use Rattle.std.specs.Prelude.{nat_eq, nat_le, nat_lt, ◌&&◌, ◌||◌, bit_and, if◌then◌else◌}
 use Rattle.std.specs.Int.{bit_at}
@@ -20,11 +20,11 @@ use Rattle.scan_core.proofs.Bounds.{count_from_short}
 use Rattle.scan_core.proofs.Masking.{has_bit_and, has_bit_zero, pow_fits}
 use Rattle.scan_core.proofs.Numbering.{member}
 
--- a run is a part of one word, which has so many bits of it, or whole words
+-- a run is some of the bits of one word, or all bits of some words
 abbrev pub SpanFits : ℕ → ℕ → ℕ → ℕ → Type 0
 SpanFits first count words bits = ((words ≡ 1) × (bits ≡ count) × (first % 64 + count ≤ 64)) ⊎ ((first % 64 ≡ 0) × (bits ≡ 64) × (64 * words ≡ count))
 
--- so many ones from a bit on
+-- count ones from a bit on, as a number
 pub ones_shifted : (k s i : ℕ) → s + k ≤ 64 → has_bit ((2 ^ k - 1) * 2 ^ s % 2 ^ 64) i ≡ in_run s k i
 ones_shifted k s i fits =
     let whole : (2 ^ k - 1) * 2 ^ s ≡ 2 ^ (s + k) - 2 ^ s = omega (arith, pow-add 2 s k, mul-sub (2 ^ s) (2 ^ k) 1) in
@@ -38,7 +38,7 @@ ones_shifted k s i fits =
       | inr before ↦ (ap (λ n. nat_eq n 1) (bit_at_mask_below s (s + k) i before.1) ∙ sym (ap (λ b. b && nat_lt i (s + k)) (lt-leb s i before.1)))
     ]
 
--- the same as the code writes it
+-- these ones, computed as the code does it
 pub ones_from : (count start i : ℕ) → count < 64 → start + count ≤ 64 → has_bit ((1 * 2 ^ count % 2 ^ 64 - 1) * 2 ^ start % 2 ^ 64) i ≡ in_run start count i
 ones_from count start i few fits = ap (λ n. has_bit ((n - 1) * 2 ^ start % 2 ^ 64) i) (pow_fits count few) ∙ ones_shifted count start i fits
 
@@ -89,15 +89,15 @@ and_more true false true x = refl
 and_more true false false x = refl
 and_more false w h x = refl
 
--- one more word got its bits
+-- the bits after one more word was filled
 pub filled_more : (start word n : ℕ) (h x : Bool) → start ≤ word → ((nat_eq (n / 64) word && h) || ((in_words start word n && h) || x)) ≡ ((in_words start (word + 1) n && h) || x)
 filled_more start word n h x low = sym (ap (λ b. (b && h) || x) (word_more start word n low) ∙ or_more (nat_eq (n / 64) word) (in_words start word n) h x)
 
--- one more word lost its bits
+-- the bits after one more word was cleared
 pub cleared_more : (start word n : ℕ) (h x : Bool) → start ≤ word → (not (nat_eq (n / 64) word && h) && (not (in_words start word n && h) && x)) ≡ (not (in_words start (word + 1) n && h) && x)
 cleared_more start word n h x low = sym (ap (λ b. not (b && h) && x) (word_more start word n low) ∙ and_more (nat_eq (n / 64) word) (in_words start word n) h x)
 
--- the numbers of a run, by their words and the bits there
+-- the numbers of a run are those of its words whose bit is one of its bits there
 run_by_words : (first count words bits n : ℕ) → SpanFits first count words bits → (in_words (first / 64) (first / 64 + words) n && in_run (first % 64) bits (n % 64)) ≡ in_run first count n
 run_by_words first count words bits n fits =
     same_by _ (in_run first count n)
@@ -134,14 +134,14 @@ span_of_words first order at words bits ones pair is parts low aligned fits ones
     spanned _ first (2 ^ at) words bits low facts.0 facts.1 refl (λ i. first / 64 + (parts i).0) (λ i. ((λ j. (parts j).1) ∙ ones_are) i * 2 ^ (first % 64) % 2 ^ 64) in
     subst (λ (o : ℕ). Spans (record { start = first / 64; end = first / 64 + pair.0; mask = pair.1 * 2 ^ (first % 64) % 2 ^ 64 }) first (2 ^ o)) (sym is) spans
 
--- the numbers of a pageblock, by their words
+-- the numbers of a pageblock are those of its eight words
 block_words : (first n : ℕ) → first / 512 * 512 ≡ first → in_run (first / 64) 8 (n / 64) ≡ in_run first 512 n
 block_words first n aligned =
     same_by (in_run (first / 64) 8 (n / 64)) (in_run first 512 n)
     (λ e. let is = in_run_is (first / 64) 8 (n / 64) e in is_in_run first 512 n (omega (arith, is.0)) (omega (arith, is.1)))
     (λ e. let is = in_run_is first 512 n e in is_in_run (first / 64) 8 (n / 64) (omega (arith, is.0)) (omega (arith, is.1)))
 
--- the eight words of a pageblock got new bits, all of them alike
+-- the numbers after the eight words of a pageblock were all filled or cleared
 block_members : (words new : List ℕ) (s : set.FinSet nat_cmp) (first bits : ℕ) (b : Bool) → numbers_of words ≡ s → length words ≡ 64 → length new ≡ length words → first / 512 * 512 ≡ first → ((word : ℕ) → slice_index new word ≡ (if in_run (first / 64) 8 word then bits else slice_index words word)) → ((i : ℕ) → i < 64 → has_bit bits i ≡ b) → (n : ℕ) → set.contains (numbers_of new) n ≡ (if in_run first 512 n then b else set.contains s n)
 block_members words new s first bits b view len same aligned each alike n =
     member new (same ∙ len) n ∙ ap (λ w. has_bit w (n % 64)) (each (n / 64)) ∙ by_word (in_run (first / 64) 8 (n / 64))
@@ -173,7 +173,7 @@ module _ (words new : List ℕ) (s : set.FinSet nat_cmp) (first order : ℕ) (vi
       take_out true = refl
       take_out false = refl
 
--- a bit of the mask that a word hasn't
+-- a bit of the mask that a word lacks
 module _ (word mask : ℕ) where
   missing_below : (n : ℕ) → ((i : ℕ) × (i < n) × (has_bit mask i ≡ true) × (has_bit word i ≡ false)) ⊎ ((i : ℕ) → i < n → bit_at mask i ≡ 1 → bit_at word i ≡ 1)
   missing_below zero = inr (λ i h e. absurd (omega arith))
@@ -198,7 +198,7 @@ module _ (word mask : ℕ) where
         ])))
   ]
 
-  -- a word that has the mask has each of its bits
+  -- where a word has the whole mask, it has each of the mask's bits
   pub has_mask : bit_and word mask ≡ mask → (i : ℕ) → has_bit mask i ≡ true → has_bit word i ≡ true
   has_mask same i set = (both (has_bit word i) (has_bit mask i) (sym (has_bit_and word mask i) ∙ ap (λ n. has_bit n i) same ∙ set)).0
 
@@ -211,14 +211,14 @@ not_all_members p first count n inside fails =
     let short = count_from_short p first count n is.0 is.1 fails in
     sym (ne_eqb _ _ (λ e. absurd (omega (arith, short, e))))
 
--- the words that were looked at have the bits of the mask, and so has one more
+-- where the words so far have all bits of the mask, and one more word has them, the words up to it have them
 pub mask_more : (words : List ℕ) (start word mask bits : ℕ) → ((n : ℕ) → in_words start word n ≡ true → has_bit mask (n % 64) ≡ true → has_number words n ≡ true) → start ≤ word → bits ≡ slice_index words word → bit_and bits mask ≡ mask → (n : ℕ) → in_words start (word + 1) n ≡ true → has_bit mask (n % 64) ≡ true → has_number words n ≡ true
 mask_more words start word mask bits before low had same n inside set = elim (eqb_tells (n / 64) word) [
   | inl at ↦ (ap (λ k. has_bit (slice_index words k) (n % 64)) at.1 ∙ ap (λ w. has_bit w (n % 64)) (sym had) ∙ has_mask bits mask same (n % 64) set)
   | inr away ↦ (let is = in_words_is start (word + 1) n inside in before n (is_in_words start word n is.0 (omega (arith, is.1, away.1))) set)
 ]
 
--- a run of members, where each word has the mask
+-- where each word has the whole mask, all numbers of the run are members
 pub run_found : (words : List ℕ) (s : set.FinSet nat_cmp) (span : Span) (first count word : ℕ) → numbers_of words ≡ s → length words ≡ 64 → Spans span first count → span.end ≤ word → ((n : ℕ) → in_words span.start word n ≡ true → has_bit span.mask (n % 64) ≡ true → has_number words n ≡ true) → true ≡ all_from (set.contains s) first count
 run_found words s span first count word view len spans end each =
     all_members (set.contains s) first count (λ n inside.
@@ -226,7 +226,7 @@ run_found words s span first count word view len spans end each =
     let is = in_words_is span.start span.end n parts.0 in
     ap (λ t. set.contains t n) (sym view) ∙ member words len n ∙ each n (is_in_words span.start word n is.0 (omega (arith, is.1, end))) parts.1)
 
--- no run of members, where a word lacks a bit of the mask
+-- where a word lacks a bit of the mask, some number of the run isn't a member
 pub run_missed : (words : List ℕ) (s : set.FinSet nat_cmp) (span : Span) (first count word bits : ℕ) → numbers_of words ≡ s → length words ≡ 64 → Spans span first count → span.mask < 2 ^ 64 → span.start ≤ word → word < span.end → bits ≡ slice_index words word → bit_and bits span.mask ≢ span.mask → false ≡ all_from (set.contains s) first count
 run_missed words s span first count word bits view len spans fits low high had differ =
     let missed = missing_bit bits span.mask fits differ in

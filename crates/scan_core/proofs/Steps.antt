@@ -1,4 +1,4 @@
--- The fields of the frames stay sound, step by step.
+-- The fields of the frames stay sound through each change.
 use Rattle.std.proofs.Common.{◌≡◌, ℕ, ◌+◌, ◌*◌, ◌<◌, ◌≤◌, Bool, true, false, not, List, length, length-set, inl, inr, refl, sym, ap, ◌∙◌, eq-eqb, Vec, vec_capacity, replicate, arith}
 use Rattle.std.specs.Prelude.{Option, Some, None, unwrap_or, nat_eq, slice_get, slice_set, if◌then◌else◌, ◌&&◌, ◌||◌}
 use Rattle.std.specs.FinSet as set
@@ -56,14 +56,14 @@ huge_not_free (Some (Source serial)) e = refl
 huge_not_free (Some (Target serial)) e = refl
 huge_not_free (Some Huge) e = refl
 
--- a fact of each state, where one was written
+-- a test of each state, after one state was written
 written : (f : ℕ → Option FrameState → Bool) (states : List FrameState) (frame : ℕ) (state : FrameState) (p q : ℕ → Bool) (b : Bool) → frame < length states → b ≡ f frame (Some state) → ((n : ℕ) → p n ≡ f n (slice_get states n)) → ((n : ℕ) → q n ≡ (if nat_eq n frame then b else p n)) → (n : ℕ) → q n ≡ f n (slice_get (slice_set states frame state) n)
 written f states frame state p q b within is before put n = put n ∙ elim (eqb_tells n frame) [
   | inl at ↦ (taken (nat_eq n frame) b (p n) (eq-eqb n frame at.1) ∙ is ∙ ap (λ k. f k (Some state)) (sym at.1) ∙ ap (f n) (sym (slice_get_set_same states frame n state at.1 within)))
   | inr away ↦ (skipped (nat_eq n frame) b (p n) (ne_eqb n frame away.1) ∙ before n ∙ ap (f n) (sym (slice_get_set_other states frame n state away.1)))
 ]
 
--- a fact of each state, where a run of them changed
+-- a test of each state, after a run of states was written
 run_written : (f : ℕ → Option FrameState → Bool) (states : List FrameState) (first count : ℕ) (state : FrameState) (p q : ℕ → Bool) (b : Bool) → first + count ≤ length states → ((n : ℕ) → f n (Some state) ≡ b) → ((n : ℕ) → p n ≡ f n (slice_get states n)) → ((n : ℕ) → q n ≡ (if in_run first count n then b else p n)) → (n : ℕ) → q n ≡ f n (slice_get (with_run states first count state) n)
 run_written f states first count state p q b within is before put n =
     put n ∙ cases (in_run first count n) ∙ ap (f n) (sym (with_run_get states first count state n within))
@@ -92,7 +92,7 @@ module _ (z : Inside) (sound : IsSound z) where
         absurd (clash (huge_at (seen z.held z.kept.items) frame) (ap is_huge_state huge) known)
     by_test false is = refl
 
-  -- a frame of which this is known stands in the list
+  -- a frame whose state passes a test that no frame outside passes is in the list
   pub known_within : (f : Option FrameState → Bool) (frame : ℕ) → f None ≡ false → f (slice_get (seen z.held z.kept.items) frame) ≡ true → frame < length z.kept.items
   known_within f frame none is = elim (leb_tells (length (seen z.held z.kept.items)) frame) [
     | inl past ↦ absurd (clash _ is (ap f (slice_get_past (seen z.held z.kept.items) frame past.1) ∙ none))
@@ -155,7 +155,7 @@ module _ (z : Inside) (sound : IsSound z) where
   pub is_held : (n : ℕ) → huge_at (seen z.held z.kept.items) n ≡ true → set.contains z.held n ≡ true
   is_held n e = huge_held (set.contains z.held n) (slice_get z.kept.items n) (sound.never_huge n) (ap is_huge_state (sym (seen_get (set.contains z.held) z.kept.items n)) ∙ e)
 
-  -- the frames of a block are free again
+  -- the frames of a block that was handed out are free again
   pub sound_released : (held free stuck : set.FinSet nat_cmp) (first count : ℕ) → first + count ≤ length z.kept.items → ((n : ℕ) → in_run first count n ≡ true → huge_at (seen z.held z.kept.items) n ≡ true) → ((n : ℕ) → set.contains held n ≡ (not (in_run first count n) && set.contains z.held n)) → ((n : ℕ) → set.contains free n ≡ (in_run first count n || set.contains z.free n)) → ((n : ℕ) → set.contains stuck n ≡ (not (in_run first count n) && set.contains z.stuck n)) → IsSound (record z { held = held; free = free; stuck = stuck }) × (seen held z.kept.items ≡ with_run (seen z.held z.kept.items) first count Free)
   sound_released held free stuck first count within all held_each free_each stuck_each =
       let view = seen_released (set.contains z.held) (set.contains held) z.kept.items first count within held_each (λ n inside. sound.held n (is_held n (all n inside))) in
@@ -175,7 +175,7 @@ module _ (z : Inside) (sound : IsSound z) where
         view,
       )
 
-  -- the page of a frame may be taken from it, or may not
+  -- it is noted whether the page of a frame may be taken from it
   pub sound_marked : (movable : Vec Bool Global) (stuck : set.FinSet nat_cmp) (frame index : ℕ) (state : FrameState) (is_stuck is_movable : Bool) → frame < length z.kept.items → index ≡ frame → movable.items ≡ slice_set z.movable.items index is_movable → vec_capacity movable ≡ vec_capacity z.movable → slice_get (seen z.held z.kept.items) frame ≡ Some state → is_stuck ≡ is_stuck_state (Some state) is_movable → ((n : ℕ) → set.contains stuck n ≡ (if nat_eq n frame then is_stuck else set.contains z.stuck n)) → IsSound (record z { movable = movable; stuck = stuck })
   sound_marked movable stuck frame index state is_stuck is_movable within at items room is is_stuck_is put =
       let list : movable.items ≡ slice_set z.movable.items frame is_movable = items ∙ ap (λ k. slice_set z.movable.items k is_movable) at in
@@ -199,7 +199,7 @@ module _ (z : Inside) (sound : IsSound z) where
         ];
       }
 
--- what a state that is known tells of the sets
+-- what one test of a state says about the others
 free_not_huge : (o : Option FrameState) → is_free_state o ≡ true → is_huge_state o ≡ false
 free_not_huge None e = refl
 free_not_huge (Some Free) e = refl
@@ -247,7 +247,7 @@ module _ (z : Inside) (sound : IsSound z) (frame : ℕ) where
   free_removed free now n = ap (λ s. set.contains s n) now ∙ member_remove z.free frame n ∙ remove_if (nat_eq n frame) (set.contains z.free n) false refl
 
   module _ (kept : Vec FrameState Global) (index : ℕ) (at : index ≡ frame) (room : vec_capacity kept ≡ vec_capacity z.kept) where
-    -- a page that may be taken begins its way
+    -- a frame with a movable page becomes a source
     pub sound_to_source : (serial : ℕ) → holds_at (seen z.held z.kept.items) frame ≡ true → true_at z.movable.items frame ≡ true → kept.items ≡ slice_set z.kept.items index (Source serial) → IsSound (record z { kept = kept }) × (seen z.held kept.items ≡ slice_set (seen z.held z.kept.items) frame (Source serial))
     sound_to_source serial page movable items =
         let only = page_only was page in
@@ -255,14 +255,14 @@ module _ (z : Inside) (sound : IsSound z) (frame : ℕ) where
         (λ n. keep_if n frame (set.contains z.free) false (sound.free frame ∙ only.1))
         (λ n. keep_if n frame (set.contains z.stuck) false (sound.stuck frame ∙ stuck_if_page was (true_at z.movable.items frame) page ∙ ap not movable))
 
-    -- a free frame is where a page goes
+    -- a free frame becomes a target
     pub sound_to_target : (free : set.FinSet nat_cmp) (serial : ℕ) → free_at (seen z.held z.kept.items) frame ≡ true → free ≡ set.remove z.free frame → kept.items ≡ slice_set z.kept.items index (Target serial) → IsSound (record z { kept = kept; free = free }) × (seen z.held kept.items ≡ slice_set (seen z.held z.kept.items) frame (Target serial))
     sound_to_target free serial is_free now items =
         sound_put z sound kept free z.stuck frame index (Target serial) false false (free_not_huge was is_free) refl (known_within z sound is_free_state frame refl is_free) at items room refl refl
         (free_removed free now)
         (λ n. keep_if n frame (set.contains z.stuck) false (sound.stuck frame ∙ free_not_stuck was (true_at z.movable.items frame) is_free))
 
-    -- a frame of a page that was on its way is free
+    -- the other frame of a page whose move ends is free
     pub sound_left : (free : set.FinSet nat_cmp) → way_at (seen z.held z.kept.items) frame ≡ true → free ≡ set.insert z.free frame → kept.items ≡ slice_set z.kept.items index Free → IsSound (record z { kept = kept; free = free }) × (seen z.held kept.items ≡ slice_set (seen z.held z.kept.items) frame Free)
     sound_left free way now items =
         let only = way_only was (true_at z.movable.items frame) way in
@@ -270,7 +270,7 @@ module _ (z : Inside) (sound : IsSound z) (frame : ℕ) where
         (free_inserted free now)
         (λ n. keep_if n frame (set.contains z.stuck) false (sound.stuck frame ∙ only.2))
 
-    -- a page ends, and its frame is free
+    -- the page of a frame goes out of use, and the frame is free
     pub sound_emptied : (free stuck : set.FinSet nat_cmp) → holds_at (seen z.held z.kept.items) frame ≡ true → free ≡ set.insert z.free frame → ((n : ℕ) → set.contains stuck n ≡ (if nat_eq n frame then false else set.contains z.stuck n)) → kept.items ≡ slice_set z.kept.items index Free → IsSound (record z { kept = kept; free = free; stuck = stuck }) × (seen z.held kept.items ≡ slice_set (seen z.held z.kept.items) frame Free)
     sound_emptied free stuck page now put items =
         sound_put z sound kept free stuck frame index Free true false (page_only was page).0 refl (known_within z sound is_holding_state frame refl page) at items room refl refl
@@ -287,7 +287,7 @@ module _ (z : Inside) (sound : IsSound z) (frame : ℕ) where
       is_noted within =
           ap not (sym (ap (λ (xs : List Bool). true_at xs frame) (list_items ∙ ap (λ k. slice_set z.movable.items k movable) at) ∙ ap (λ o. unwrap_or o false) (slice_get_set_same z.movable.items frame frame movable refl (omega (arith, sound.movable, within)))))
 
-      -- a page ends its way in a frame
+      -- a page's move ends in one of its two frames
       pub sound_settled : (page : ℕ) → way_at (seen z.held z.kept.items) frame ≡ true → kept.items ≡ slice_set z.kept.items index (Holds page) → IsSound (record z { kept = kept; movable = list; stuck = stuck }) × (seen z.held kept.items ≡ slice_set (seen z.held z.kept.items) frame (Holds page))
       sound_settled page way items =
           let within = known_within z sound is_way_state frame refl way in
@@ -295,20 +295,20 @@ module _ (z : Inside) (sound : IsSound z) (frame : ℕ) where
           sound_put (record z { movable = list }) (noted is_way_state refl way (way_only was movable way).2 (sound.stuck frame ∙ only.2)) kept z.free stuck frame index (Holds page) false (not movable) only.0 refl within at items room refl (is_noted within)
           (λ n. keep_if n frame (set.contains z.free) false (sound.free frame ∙ only.1)) put
 
-      -- a free frame gets a page
+      -- a page is put into a free frame
       pub sound_filled : (free : set.FinSet nat_cmp) (page : ℕ) → free_at (seen z.held z.kept.items) frame ≡ true → free ≡ set.remove z.free frame → kept.items ≡ slice_set z.kept.items index (Holds page) → IsSound (record z { kept = kept; movable = list; free = free; stuck = stuck }) × (seen z.held kept.items ≡ slice_set (seen z.held z.kept.items) frame (Holds page))
       sound_filled free page is_free now items =
           let within = known_within z sound is_free_state frame refl is_free in
           sound_put (record z { movable = list }) (noted is_free_state refl is_free (free_not_stuck was movable is_free) (sound.stuck frame ∙ free_not_stuck was (true_at z.movable.items frame) is_free)) kept free stuck frame index (Holds page) false (not movable) (free_not_huge was is_free) refl within at items room refl (is_noted within)
           (free_removed free now) put
 
-    -- a page that stays in its frame may be taken from it, or may not
+    -- it is noted of a page that stays in its frame whether it may be taken from it
     pub sound_said : (list : Vec Bool Global) (movable : Bool) (stuck : set.FinSet nat_cmp) → holds_at (seen z.held z.kept.items) frame ≡ true → list.items ≡ slice_set z.movable.items index movable → vec_capacity list ≡ vec_capacity z.movable → ((n : ℕ) → set.contains stuck n ≡ (if nat_eq n frame then not movable else set.contains z.stuck n)) → IsSound (record z { movable = list; stuck = stuck })
     sound_said list movable stuck page items list_room put =
         let some = some_state is_holding_state was refl page in
         sound_marked z sound list stuck frame index some.0 (not movable) movable (known_within z sound is_holding_state frame refl page) at items list_room some.1 (sym (stuck_if_page was movable page) ∙ ap (λ o. is_stuck_state o movable) some.1) put
 
--- frames that are all free
+-- the frames of a zone in which all are free
 pub sound_free : (z : Inside) (blocks : ℕ) → 0 < blocks → blocks ≤ 8 → z.kept.items ≡ replicate (512 * blocks) Free → z.movable.items ≡ replicate (512 * blocks) false → vec_capacity z.kept ≡ 512 * blocks → vec_capacity z.movable ≡ 512 * blocks → z.held ≡ set.empty → z.stuck ≡ set.empty → ((n : ℕ) → set.contains z.free n ≡ free_at z.kept.items n) → IsSound z × (seen z.held z.kept.items ≡ replicate (512 * blocks) Free)
 sound_free z blocks some few kept movable room movable_room held stuck free =
     let count : length z.kept.items ≡ 512 * blocks = ap length kept ∙ length-replicate (512 * blocks) Free in
@@ -338,7 +338,7 @@ sound_free z blocks some few kept movable room movable_room held stuck free =
       | inr under ↦ (ap f (slice_get_replicate (512 * blocks) n Free under.1) ∙ free)
     ]
 
--- what a free block has, and a block that is handed out
+-- a free frame isn't stuck, and a frame that is handed out is
 pub free_stuck : (z : Inside) → IsSound z → (n : ℕ) → free_at (seen z.held z.kept.items) n ≡ true → set.contains z.stuck n ≡ false
 free_stuck z sound n free = sound.stuck n ∙ free_not_stuck (slice_get (seen z.held z.kept.items) n) (true_at z.movable.items n) free
 
@@ -351,7 +351,7 @@ huge_isnt_free z sound n huge = sound.free n ∙ huge_not_free (slice_get (seen 
 pub page_isnt_free : (z : Inside) → IsSound z → (n : ℕ) → holds_at (seen z.held z.kept.items) n ≡ true → set.contains z.free n ≡ false
 page_isnt_free z sound n page = sound.free n ∙ (page_only (slice_get (seen z.held z.kept.items) n) page).1
 
--- what the two frames of a page on its way have
+-- the source or the target of a moving page isn't free, and isn't stuck
 pub way_isnt_free : (z : Inside) → IsSound z → (n : ℕ) → way_at (seen z.held z.kept.items) n ≡ true → set.contains z.free n ≡ false
 way_isnt_free z sound n way = sound.free n ∙ (way_only (slice_get (seen z.held z.kept.items) n) (true_at z.movable.items n) way).1
 

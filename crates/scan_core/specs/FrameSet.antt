@@ -16,7 +16,7 @@ all_of_block p block = all_from p (512 * block) 512
 abbrev pub is_run_of : (ℕ → Bool) → ℕ → ℕ → Bool
 is_run_of p order first = is_aligned order first && all_from p first (2 ^ order)
 
--- a count in all, and one for each pageblock
+-- the count of the frames that pass, in all, and in each of eight pageblocks
 pub record Counts (count : ℕ) (blocks : List ℕ) (p : ℕ → Bool) : Type 0 where
   pub all : count ≡ count_below p capacity
   pub len : length blocks ≡ 8

@@ -4,14 +4,14 @@ use Rattle.frame_core.specs.Below.{count_below, count_from}
 use Rattle.frame_core.specs.declared.state.FrameState.{FrameState}
 use Rattle.frame_core.specs.declared.state.FrameState.TheVariants.{Free, Holds, Huge, Source, Target}
 
--- two lists, with a place for each frame
+-- the frames of a zone, in two lists with a place for each frame
 pub record Frames : Type 0 where
   -- what each frame is used for
   pub states : List FrameState
   -- whether the page that a frame holds may be taken from it
   pub movable : List Bool
 
--- a zone of so many pageblocks in which each frame is free
+-- a zone of this many pageblocks in which each frame is free
 abbrev pub all_free : ℕ → Frames
 all_free blocks = record { states = replicate (512 * blocks) Free; movable = replicate (512 * blocks) false }
 
@@ -20,7 +20,7 @@ abbrev pub is_free_state : Option FrameState → Bool
 is_free_state (Some Free) = true
 is_free_state _ = false
 
--- whether there is a frame, and it holds a page that isn't on its way
+-- whether there is a frame, and it holds a page that isn't moving
 abbrev pub is_holding_state : Option FrameState → Bool
 is_holding_state (Some (Holds page)) = true
 is_holding_state _ = false
@@ -30,7 +30,7 @@ abbrev pub is_huge_state : Option FrameState → Bool
 is_huge_state (Some Huge) = true
 is_huge_state _ = false
 
--- whether there is a frame, and it is one of the two of a page that is on its way
+-- whether there is a frame, and it is the source or the target of a moving page
 abbrev pub is_way_state : Option FrameState → Bool
 is_way_state (Some (Source serial)) = true
 is_way_state (Some (Target serial)) = true
@@ -40,23 +40,23 @@ is_way_state _ = false
 abbrev pub is_stuck_state : Option FrameState → Bool → Bool
 is_stuck_state state movable = is_huge_state state || (is_holding_state state && not movable)
 
--- whether a frame of the list is free
+-- whether a frame in the list is free
 abbrev pub free_at : List FrameState → ℕ → Bool
 free_at states frame = is_free_state (slice_get states frame)
 
--- whether a frame of the list holds a page that isn't on its way
+-- whether a frame in the list holds a page that isn't moving
 abbrev pub holds_at : List FrameState → ℕ → Bool
 holds_at states frame = is_holding_state (slice_get states frame)
 
--- whether a frame of the list is of a block that is handed out
+-- whether a frame in the list is of a block that is handed out
 abbrev pub huge_at : List FrameState → ℕ → Bool
 huge_at states frame = is_huge_state (slice_get states frame)
 
--- whether a frame of the list is one of the two of a page that is on its way
+-- whether a frame in the list is the source or the target of a moving page
 abbrev pub way_at : List FrameState → ℕ → Bool
 way_at states frame = is_way_state (slice_get states frame)
 
--- whether a list has true at a place
+-- whether a list of booleans has true at a place
 abbrev pub true_at : List Bool → ℕ → Bool
 true_at flags place = unwrap_or (slice_get flags place) false
 
@@ -68,7 +68,7 @@ free_frames states = count_below (free_at states) (length states)
 abbrev pub free_in_block : List FrameState → ℕ → ℕ
 free_in_block states block = count_from (free_at states) (512 * block) 512
 
--- whether all of them are
+-- whether all 512 frames of a pageblock are free
 abbrev pub is_whole : List FrameState → ℕ → Bool
 is_whole states block = nat_eq (free_in_block states block) 512
 

@@ -5,7 +5,7 @@ use Rattle.std.specs.FinSet as set
 use Rattle.frame_core.specs.Below.{count_from}
 use Rattle.scan_core.specs.Bits.{has_number}
 
--- each number of such a set is below it
+-- the bound of these sets: each number is below it
 unfoldable pub capacity : ℕ
 capacity = 4096
 
@@ -14,14 +14,14 @@ abbrev pub gathered : (ℕ → Bool) → ℕ → set.FinSet nat_cmp
 gathered p zero = set.empty
 gathered p (suc n) = if p n then set.insert (gathered p n) n else gathered p n
 
--- the numbers whose bits are set
+-- the set of the numbers whose bits are set
 abbrev pub numbers_of : List ℕ → set.FinSet nat_cmp
 numbers_of words = gathered (has_number words) capacity
 
--- whether a number is one of so many from a first one on
+-- whether a number is in a run: one of `count` numbers, from `first` upwards
 abbrev pub in_run : ℕ → ℕ → ℕ → Bool
 in_run first count number = nat_le first number && nat_lt number (first + count)
 
--- whether all of so many numbers from a first one on pass
+-- whether each number of a run passes
 abbrev pub all_from : (ℕ → Bool) → ℕ → ℕ → Bool
 all_from p first count = nat_eq (count_from p first count) count

@@ -1,7 +1,7 @@
 -- The pair of frames that a round takes next, between its fingers:
 -- the lowest frame with a page that may be taken, and the highest free frame above it.
--- First as a relation, `IsPair`, and behind it as the scanners search for it, `next_step`. The clauses of `next_pair` say both, so
--- its proof makes the two one.
+-- It is defined as a relation, `IsPair`, and after that as the scanners search for it, `next_step`. `next_pair` has a clause for
+-- each, so its proof shows that they agree.
 use Rattle.std.specs.Prelude.{◌≡◌, ℕ, ◌+◌, ◌/◌, ◌<◌, ◌≤◌, Bool, true, false, not, ◌&&◌, ◌||◌, List, nat_lt, nat_le, Option, Some, None}
 use Rattle.frame_core.specs.Below.{lowest, highest}
 use Rattle.frame_core.specs.declared.state.FrameState.{FrameState}
@@ -29,19 +29,19 @@ pub record IsTarget (states : List FrameState) (marked : List Bool) (fingers : F
   pub low : source < frame
   pub high : frame < fingers.free
 
--- the lowest source, and its highest target
+-- the lowest source, with its highest target
 pub record IsPair (states : List FrameState) (movable marked : List Bool) (fingers : Fingers) (source target : ℕ) : Type 0 where
   pub from : IsSource states movable marked fingers source
   pub lowest : (frame : ℕ) → IsSource states movable marked fingers frame → source ≤ frame
   pub to : IsTarget states marked fingers source target
   pub highest : (frame : ℕ) → IsTarget states marked fingers source frame → frame ≤ target
 
--- the scanners come to the pair, and meet just where there is none
+-- the scanners find the pair, and meet exactly where there is none
 abbrev pub Finds : List FrameState → List Bool → List Bool → Fingers → Step → Type 0
 Finds states movable marked fingers (Pair source target) = IsPair states movable marked fingers source target
 Finds states movable marked fingers Met = (source target : ℕ) → IsPair states movable marked fingers source target → ⊥
 
--- the fingers stand behind the source and at the target, or where they stood
+-- after a pair the fingers stand one above the source and at the target; after Met they stand where they stood
 abbrev pub after_step : Fingers → Step → Fingers
 after_step fingers (Pair source target) = record { migrate = source + 1; free = target }
 after_step fingers Met = fingers
@@ -54,25 +54,25 @@ is_source states movable marked frame = not (is_marked marked frame) && (holds_a
 abbrev pub is_target : List FrameState → List Bool → ℕ → Bool
 is_target states marked frame = not (is_marked marked frame) && free_at states frame
 
--- the source, as a scanner finds it
+-- the lowest source, as the migrate scanner finds it
 abbrev pub next_source : List FrameState → List Bool → List Bool → Fingers → Option ℕ
 next_source states movable marked fingers = lowest (λ frame. nat_le fingers.migrate frame && is_source states movable marked frame) fingers.free
 
--- the target, as the other finds it
+-- the highest target of a source, as the free scanner finds it
 abbrev pub next_target : List FrameState → List Bool → Fingers → ℕ → Option ℕ
 next_target states marked fingers source = highest (λ frame. nat_lt source frame && is_target states marked frame) fingers.free
 
--- a source with the target that was found for it
+-- the answer for a source: the pair where it has a target, and Met where not
 abbrev pub step_to : ℕ → Option ℕ → Step
 step_to source None = Met
 step_to source (Some target) = Pair source target
 
--- a source that was found, with its target
+-- the answer where a source was found, and Met where none was
 abbrev pub step_from : List FrameState → List Bool → Fingers → Option ℕ → Step
 step_from states marked fingers None = Met
 step_from states marked fingers (Some source) = step_to source (next_target states marked fingers source)
 
--- the step, as the scanners find it
+-- the scanners' answer, as they find it
 abbrev pub next_step : List FrameState → List Bool → List Bool → Fingers → Step
 next_step states movable marked fingers = step_from states marked fingers (next_source states movable marked fingers)
 

@@ -7,16 +7,16 @@ use Rattle.frame_core.specs.declared.state.FrameState.{FrameState}
 use Rattle.frame_core.specs.declared.state.FrameState.TheVariants.{Huge}
 use Rattle.scan_core.specs.Frames.{free_at, holds_at}
 
--- the states from a number on, where the held frames are of blocks that are handed out
+-- the states as they are seen, of a list whose first frame has this number: Huge where the frame is held, and else as they are kept
 abbrev pub seen_from : (ℕ → Bool) → ℕ → List FrameState → List FrameState
 seen_from held number [] = []
 seen_from held number (state ∷ rest) = (if held number then Huge else state) ∷ seen_from held (suc number) rest
 
--- the states of all frames
+-- the states of all frames as they are seen, given the set of those that are held
 abbrev pub seen : set.FinSet nat_cmp → List FrameState → List FrameState
 seen held kept = seen_from (set.contains held) 0 kept
 
--- what a list tells of the pages that frames in these states hold, and a set of those that are free
+-- a list and a set tell the states: the list has the pages that frames hold, and the set has the free frames
 pub record IsTold (states holders : List FrameState) (spare : set.FinSet nat_cmp) : Type 0 where
   pub holds : (frame : ℕ) → holds_at holders frame ≡ holds_at states frame
   pub free : (frame : ℕ) → set.contains spare frame ≡ free_at states frame

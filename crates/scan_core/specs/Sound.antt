@@ -1,4 +1,4 @@
--- What contracts see of the fields of the frames, and what is true of them.
+-- What contracts see of the fields of `Frames`, and what is true of these fields.
 use Rattle.std.specs.Prelude.{◌≡◌, ℕ, ◌<◌, ◌≤◌, ◌*◌, length, true, false, slice_get, vec_capacity, Some}
 use Rattle.std.specs.FinSet as set
 use Rattle.frame_core.specs.declared.state.FrameState.TheVariants.{Free}
@@ -10,7 +10,7 @@ use Rattle.scan_core.specs.declared.frames.Frames.TheInside.{Inside}
 abbrev pub frames_of : Inside → Frames
 frames_of z = record { states = seen z.held z.kept.items; movable = z.movable.items }
 
--- one to eight whole pageblocks, in lists that never grow, and the right sets
+-- there are one to eight whole pageblocks, the lists never grow, and the sets have the frames that they should
 pub record IsSound (z : Inside) : Type 0 where
   pub whole : length z.kept.items ≡ 512 * blocks_of z.kept.items
   pub some : 0 < blocks_of z.kept.items

@@ -1,14 +1,14 @@
--- The words in which a run of numbers stands.
+-- The words that a run of numbers is in.
 use Rattle.std.specs.Prelude.{◌≡◌, ◌<◌, ◌≤◌, ◌^◌, ◌/◌, ◌%◌, ℕ, Bool, ◌&&◌, nat_le, nat_lt}
 use Rattle.scan_core.specs.Bits.{has_bit}
 use Rattle.scan_core.specs.NumberSet.{in_run}
 use Rattle.scan_core.specs.declared.numbers.Span.{Span}
 
--- whether the word of a number is one of those from a first one to before a last
+-- whether the word of a number is one of those from start to before end
 abbrev pub in_words : ℕ → ℕ → ℕ → Bool
 in_words start end number = nat_le start (number / 64) && nat_lt (number / 64) end
 
--- the numbers of the run are those whose bit the mask has, in each of these words
+-- a run has exactly the numbers that are in these words and whose bit is in the mask
 pub record Spans (span : Span) (first count : ℕ) : Type 0 where
   pub order : span.start ≤ span.end
   pub within : span.end ≤ 64

@@ -1,4 +1,4 @@
-//! 4,096 bits.
+//! A table of 4,096 bits.
 
 ghost use Rattle.std.specs.Prelude.{◌≡◌, ◌≢◌, ℕ, ◌+◌, ◌<◌, ◌≤◌, ◌&&◌, ◌||◌, not, length, nat_lt, slice_index, MatchOption, if◌then◌else◌};
 ghost use Rattle.scan_core.specs.Bits.{has_bit, IsFirstWord};
@@ -6,7 +6,7 @@ ghost use Rattle.scan_core.specs.NumberSet.{in_run};
 
 use std::marker::Model;
 
-/// 64 words of 64 bits. A summary tells which of them aren't empty.
+/// 64 words of 64 bits, with a summary that says which of them aren't empty.
 #[derive(Drop)]
 pub struct Bits {
     words: [u64; 64],
@@ -26,7 +26,7 @@ impl Model for Bits {
 }
 
 impl Bits {
-    /// No bit is set.
+    /// A table in which no bit is set.
     pub fn new() -> Self
         ensures len { length result ≡ 64 }
         ensures empty { (word : ℕ) → slice_index result word ≡ 0 }
@@ -76,7 +76,7 @@ impl Bits {
         }
     }
 
-    /// Writes the same bits to each of so many words from a first one on.
+    /// Writes the same bits to each of `count` words, from a first one upwards.
     #[inline(always)]
     pub fn fill(&mut self, start: u32, count: u32, bits: u64)
         requires some { 0 < count }
@@ -91,7 +91,7 @@ impl Bits {
         self.summary = summarized(self.summary, ((1 << count) - 1) << start, bits);
     }
 
-    /// The first word that isn't empty.
+    /// The first word that isn't empty, if there is one.
     pub fn first(&self) -> Option<u32>
         ensures { MatchOption result ((word : ℕ) → slice_index self.now word ≡ 0) (IsFirstWord self.now) }
     {
@@ -102,7 +102,7 @@ impl Bits {
     }
 }
 
-/// The summary where each of these words, the bits of a mask, has these bits.
+/// The summary after the words that are bits of `words` were all given these bits.
 fn summarized(summary: u64, words: u64, bits: u64) -> u64
     ensures { (i : ℕ) → i < 64 → has_bit result i ≡ (if has_bit words i then nat_lt 0 bits else has_bit summary i) }
 {

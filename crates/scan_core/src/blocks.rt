@@ -1,4 +1,4 @@
-//! How many frames of each pageblock are counted.
+//! Counts of frames, one for each pageblock.
 
 ghost use Rattle.std.specs.Prelude.{◌≡◌, ℕ, ◌+◌, ◌-◌, ◌<◌, ◌≤◌, ◌&&◌, not, length, nat_lt, slice_get, slice_index, slice_set, Some};
 ghost use Rattle.frame_core.specs.Below.{count_below, lowest, some_below};
@@ -9,7 +9,7 @@ use crate::lists::count_free;
 use frame_core::{BlockNo, FrameState};
 use std::marker::Model;
 
-/// How many frames of each pageblock are counted: the free ones, or the members of a set.
+/// How many frames of each of eight pageblocks are counted: the free ones, or the members of a set.
 #[derive(Drop)]
 pub struct BlockCounts {
     counts: [u32; 8],
@@ -26,7 +26,7 @@ impl Model for BlockCounts {
 }
 
 impl BlockCounts {
-    /// No frame is counted.
+    /// Counts of 0 for each pageblock.
     pub fn new() -> Self
         ensures len { length result ≡ 8 }
         ensures none { (block : ℕ) → block < 8 → slice_get result block ≡ Some 0 }
@@ -34,7 +34,7 @@ impl BlockCounts {
         BlockCounts { counts: [0; 8] }
     }
 
-    /// The free frames of a list of frame states are counted.
+    /// How many frames of each pageblock are free in a list of frame states.
     pub fn of(frames: &[FrameState]) -> Self
         ensures { CountsFree result frames.now }
     {
@@ -52,7 +52,7 @@ impl BlockCounts {
         self.counts[block.get() as usize]
     }
 
-    /// Counts so many frames more in a pageblock.
+    /// Counts this many more frames in a pageblock. There may be 512 in it at most.
     pub fn more(&mut self, block: BlockNo, frames: u32)
         requires { slice_index self.old block + frames ≤ 512 }
         ensures { self.new ≡ slice_set self.old block (slice_index self.old block + frames) }
@@ -60,7 +60,7 @@ impl BlockCounts {
         self.counts[block.get() as usize] += frames;
     }
 
-    /// Counts so many frames fewer in a pageblock.
+    /// Counts this many fewer frames in a pageblock. At least as many have to be counted.
     pub fn fewer(&mut self, block: BlockNo, frames: u32)
         requires { frames ≤ slice_index self.old block }
         ensures { self.new ≡ slice_set self.old block (slice_index self.old block - frames) }
@@ -68,7 +68,7 @@ impl BlockCounts {
         self.counts[block.get() as usize] -= frames;
     }
 
-    /// Whether it counts a frame in a pageblock that isn't marked.
+    /// Whether some frame is counted in a pageblock that isn't marked.
     pub fn has_some_unmarked(&self, marked: &[bool; 8]) -> bool
         ensures { result ≡ some_below (λ block. not (true_at marked.now block) && nat_lt 0 (slice_index self.now block)) 8 }
     {
@@ -80,7 +80,7 @@ impl BlockCounts {
         false
     }
 
-    /// How many pageblocks are counted as a whole.
+    /// How many pageblocks have all of their 512 frames counted.
     pub fn whole(&self) -> u32
         ensures count { result ≡ count_below (is_all_counted self.now) 8 }
     {
@@ -93,7 +93,7 @@ impl BlockCounts {
         whole
     }
 
-    /// The lowest pageblock that is counted as a whole.
+    /// The lowest pageblock that has all of its frames counted, if there is one.
     pub fn first(&self) -> Option<BlockNo>
         ensures lowest { result ≡ lowest (is_all_counted self.now) 8 }
     {
@@ -114,7 +114,7 @@ fn is_counted_unmarked(frames: &[u32; 8], marked: &[bool; 8], block: usize) -> b
     !marked[block] && frames[block] > 0
 }
 
-/// How many pageblocks of 4,096 frames at most are free as a whole: what the counts of the list say.
+/// How many pageblocks have only free frames, in a list of 4,096 frame states at most. The counts of the list give the answer.
 pub fn whole_blocks(frames: &[FrameState]) -> u32
     requires { length frames.now ≤ 4096 }
     ensures { result ≡ count_below (is_whole frames.now) (blocks_of frames.now) }
@@ -122,7 +122,8 @@ pub fn whole_blocks(frames: &[FrameState]) -> u32
     BlockCounts::of(frames).whole()
 }
 
-/// The lowest pageblock of 4,096 frames at most that is free as a whole: what the counts of the list say.
+/// The lowest pageblock that has only free frames, if there is one, in a list of 4,096 frame states at most. The counts
+/// of the list give the answer.
 pub fn first_whole(frames: &[FrameState]) -> Option<BlockNo>
     requires { length frames.now ≤ 4096 }
     ensures { result ≡ lowest (is_whole frames.now) (blocks_of frames.now) }

@@ -2,17 +2,17 @@ ghost use Rattle.std.specs.Prelude.{◌≡◌};
 
 use frame_core::FrameNo;
 
-/// Where the two scanners of a round stand.
+/// Where the two scanners of a round stand, as frame numbers. The kernel's compaction has the same two scanners.
 #[derive(Clone, Copy, Debug, PartialEq, Eq)]
 pub struct Fingers {
-    /// The frames below have been looked at for a page to take.
+    /// The migrate scanner has looked at all frames below this one, for a page to take.
     pub migrate: u32,
-    /// The frames from here on have been looked at for a place to take it to.
+    /// The free scanner has looked at all frames from this one on, for a frame to take a page to.
     pub free: u32,
 }
 
 impl Fingers {
-    /// Fingers of a zone in which no round has begun.
+    /// The fingers of a zone in which no round has begun.
     pub fn new() -> Self
         ensures { result ≡ record { migrate = 0; free = 0 } }
     {
@@ -22,7 +22,7 @@ impl Fingers {
         }
     }
 
-    /// Fingers at the two ends of a zone.
+    /// The fingers at the two ends of a zone of this many frames.
     pub fn at_ends(frames: u32) -> Self
         ensures { result ≡ record { migrate = 0; free = frames } }
     {
@@ -33,11 +33,11 @@ impl Fingers {
     }
 }
 
-/// What the scanners come to next.
+/// What the scanners find next.
 #[derive(Clone, Copy, Debug, PartialEq, Eq)]
 pub enum Step {
-    /// A page may go from the source to the target.
+    /// The page in the source may be taken to the target.
     Pair { source: FrameNo, target: FrameNo },
-    /// There is no pair between the fingers.
+    /// The scanners met: there is no pair between the fingers.
     Met,
 }

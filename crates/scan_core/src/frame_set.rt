@@ -1,4 +1,4 @@
-//! A set of frames, counted.
+//! A set of frames with counts of them.
 
 ghost use Rattle.std.specs.Prelude.{◌≡◌, ℕ, ◌+◌, ◌*◌, ◌%◌, ◌^◌, ◌<◌, ◌≤◌, ◌&&◌, ◌||◌, not, true, false, length, nat_eq, IfSome, if◌then◌else◌};
 ghost use Rattle.std.specs.FinSet as set;
@@ -16,7 +16,7 @@ use crate::numbers::NumberSet;
 use frame_core::{FrameNo, FrameState, Order, block_of};
 use std::marker::Model;
 
-/// A set of frames, with how many of them there are, in all and in each pageblock.
+/// A set of frames, and how many frames it has in all and in each pageblock.
 #[derive(Drop)]
 pub struct FrameSet {
     numbers: NumberSet,
@@ -80,7 +80,7 @@ impl FrameSet {
         self.numbers.contains(frame.get())
     }
 
-    /// Puts a frame in or takes it out.
+    /// Puts a frame in where `member` says so, and takes it out where not.
     #[inline(always)]
     pub fn put(&mut self, frame: FrameNo, member: bool)
         ensures { (other : ℕ) → set.contains self.new other ≡ (if nat_eq other frame then member else set.contains self.old other) }
@@ -94,7 +94,7 @@ impl FrameSet {
         }
     }
 
-    /// Puts a frame in that isn't a member, if it joins.
+    /// Puts in a frame that isn't a member, where `joins` says so.
     #[inline(always)]
     pub fn add(&mut self, frame: FrameNo, joins: bool)
         requires { set.contains self.old frame ≡ false }
@@ -105,7 +105,7 @@ impl FrameSet {
         }
     }
 
-    /// Puts a frame in that isn't a member.
+    /// Puts in a frame that isn't a member.
     pub fn insert(&mut self, frame: FrameNo)
         requires { set.contains self.old frame ≡ false }
         ensures { self.new ≡ set.insert self.old frame }
@@ -115,7 +115,7 @@ impl FrameSet {
         self.blocks.more(block_of(frame), 1);
     }
 
-    /// Takes a member out.
+    /// Takes out a frame that is a member.
     pub fn remove(&mut self, frame: FrameNo)
         requires { set.contains self.old frame ≡ true }
         ensures { self.new ≡ set.remove self.old frame }
@@ -125,7 +125,7 @@ impl FrameSet {
         self.blocks.fewer(block_of(frame), 1);
     }
 
-    /// Puts in a run of frames, none of which is a member.
+    /// Puts in the frames of a block of this order, none of which is a member.
     pub fn insert_run(&mut self, first: FrameNo, order: Order)
         requires aligned { is_aligned order first ≡ true }
         requires none { (frame : ℕ) → in_run first (2 ^ order) frame ≡ true → set.contains self.old frame ≡ false }
@@ -137,7 +137,7 @@ impl FrameSet {
         self.blocks.more(block_of(first), frames);
     }
 
-    /// Takes out a run of frames, all of which are members.
+    /// Takes out the frames of a block of this order, all of which are members.
     pub fn remove_run(&mut self, first: FrameNo, order: Order)
         requires aligned { is_aligned order first ≡ true }
         requires all { (frame : ℕ) → in_run first (2 ^ order) frame ≡ true → set.contains self.old frame ≡ true }
@@ -149,14 +149,14 @@ impl FrameSet {
         self.blocks.fewer(block_of(first), frames);
     }
 
-    /// How many frames it has.
+    /// How many frames the set has.
     pub fn count(&self) -> u32
         ensures { result ≡ count_below (set.contains self.now) capacity }
     {
         self.count
     }
 
-    /// The lowest frame of the set.
+    /// The lowest frame of the set, if it has one.
     pub fn lowest(&self) -> Option<FrameNo>
         ensures lowest { result ≡ lowest (set.contains self.now) capacity }
         ensures member { IfSome result (λ frame. set.contains self.now frame ≡ true) }
@@ -178,7 +178,7 @@ impl FrameSet {
         self.blocks.has_some_unmarked(marked)
     }
 
-    /// The first frame of the lowest run of this order that is in the set.
+    /// The first frame of the lowest block of this order whose frames are all members, if there is one.
     pub fn first_run(&self, order: Order) -> Option<FrameNo>
         ensures { result ≡ lowest (is_run_of (set.contains self.now) order) capacity }
     {
@@ -192,7 +192,7 @@ impl FrameSet {
         None
     }
 
-    /// Whether the frames of a run are all of the set. The count of its pageblock mostly tells.
+    /// Whether all frames of a block of this order are members. In most cases the count of its pageblock is enough to tell.
     fn has_run(&self, first: FrameNo, order: Order) -> bool
         requires { is_aligned order first ≡ true }
         ensures { result ≡ all_from (set.contains self.now) first (2 ^ order) }
@@ -202,7 +202,7 @@ impl FrameSet {
     }
 }
 
-/// The frames of a run of this order. They are of one pageblock.
+/// The number of frames in a block of this order. They are in one pageblock.
 fn run_frames(first: FrameNo, order: Order) -> u32
     requires { is_aligned order first ≡ true }
     ensures frames { result ≡ 2 ^ order }
@@ -211,7 +211,7 @@ fn run_frames(first: FrameNo, order: Order) -> u32
     1 << order.get()
 }
 
-/// The first frame of the lowest free block of an order, of 4,096 frames at most.
+/// The first frame of the lowest free block of an order, if there is one, in a list of 4,096 frame states at most.
 pub fn first_run(frames: &[FrameState], order: Order) -> Option<FrameNo>
     requires { length frames.now ≤ 4096 }
     ensures { result ≡ first_run frames.now order }

@@ -14,15 +14,15 @@ use frame_core::{FrameNo, FrameState, Order, PageNo, Serial, filled};
 use std::alloc::{AllocError, Global};
 use std::marker::Model;
 
-/// The states of a zone's frames, with what is counted of them.
+/// The states of a zone's frames, with sets and counts of them.
 #[derive(Drop)]
 pub struct Frames {
-    /// A frame of a block that is handed out is kept as free: it is one of `held`.
+    /// The state of each frame. A frame of a block that is handed out stands here as free, and is a member of `held`.
     kept: Vec<FrameState>,
     movable: Vec<bool>,
     held: NumberSet,
     free: FrameSet,
-    /// Frames that are handed out, and frames with a page that may not be taken from them.
+    /// The frames that are handed out, and those with a page that may not be taken from them.
     stuck: FrameSet,
 }
 
@@ -39,7 +39,8 @@ impl Model for Frames {
 }
 
 impl Frames {
-    /// The frames of so many pageblocks, 1 to 8, each free. No other call takes memory.
+    /// The frames of this many pageblocks, 1 to 8, each frame free, or an error where there is no memory for them. No
+    /// other call takes memory.
     pub fn open(alloc: Global, blocks: u32) -> Result<Frames, AllocError>
         requires some { 0 < blocks }
         requires few { blocks ≤ 8 }
@@ -59,7 +60,7 @@ impl Frames {
         })
     }
 
-    /// How many frames there are, 512 of each pageblock.
+    /// How many frames there are: 512 in each pageblock.
     pub fn len(&self) -> u32
         ensures len { result ≡ length self.now.states }
         ensures whole { result ≡ 512 * blocks_of self.now.states }
@@ -70,7 +71,7 @@ impl Frames {
         self.kept.len() as u32
     }
 
-    /// How many pageblocks they make.
+    /// How many pageblocks there are.
     pub fn blocks(&self) -> u32
         ensures blocks { result ≡ blocks_of self.now.states }
         ensures frames { length self.now.states ≡ 512 * result }
@@ -80,7 +81,7 @@ impl Frames {
         self.len() / 512
     }
 
-    /// What a frame is used for. The frame has to be one of these frames, here and in `is_free` and `movable`.
+    /// What a frame is used for. The frame has to be one of the zone's, here and in `is_free` and `movable`.
     pub fn state(&self, frame: FrameNo) -> FrameState
         requires { frame < length self.now.states }
         ensures { slice_get self.now.states frame ≡ Some result }
@@ -100,7 +101,7 @@ impl Frames {
         self.free.contains(frame)
     }
 
-    /// A free frame gets a page, which may be taken from it or not.
+    /// Puts a page into a free frame. `movable` says whether the page may be taken from it.
     #[inline(always)]
     pub fn fill(&mut self, frame: FrameNo, page: PageNo, movable: bool)
         requires { free_at self.old.states frame ≡ true }
@@ -114,7 +115,7 @@ impl Frames {
         self.kept[index] = FrameState::Holds(page);
     }
 
-    /// The page of a frame ends, and the frame is free.
+    /// Takes the page of a frame out of use: the frame is free.
     #[inline(always)]
     pub fn empty(&mut self, frame: FrameNo)
         requires { holds_at self.old.states frame ≡ true }
@@ -126,7 +127,7 @@ impl Frames {
         self.kept[frame.get() as usize] = FrameState::Free;
     }
 
-    /// The page of a frame begins its way, under a serial.
+    /// Makes a frame with a movable page the source of that page's move.
     #[inline(always)]
     pub fn to_source(&mut self, frame: FrameNo, serial: Serial)
         requires page { holds_at self.old.states frame ≡ true }
@@ -137,7 +138,7 @@ impl Frames {
         self.kept[frame.get() as usize] = FrameState::Source(serial);
     }
 
-    /// A free frame is where the page with a serial goes.
+    /// Makes a free frame the target of a page's move.
     #[inline(always)]
     pub fn to_target(&mut self, frame: FrameNo, serial: Serial)
         requires { free_at self.old.states frame ≡ true }
@@ -148,7 +149,7 @@ impl Frames {
         self.kept[frame.get() as usize] = FrameState::Target(serial);
     }
 
-    /// A page ends its way in one of its two frames, from which it may be taken or not.
+    /// Ends a page's move in one of its two frames. `can_move` says whether the page may be taken from it.
     #[inline(always)]
     pub fn settle(&mut self, frame: FrameNo, page: PageNo, can_move: bool)
         requires { way_at self.old.states frame ≡ true }
@@ -161,7 +162,7 @@ impl Frames {
         self.kept[index] = FrameState::Holds(page);
     }
 
-    /// The other frame of a page that ends its way is free.
+    /// Frees the other frame of a page whose move ends.
     #[inline(always)]
     pub fn leave(&mut self, other: FrameNo)
         requires { way_at self.old.states other ≡ true }
@@ -179,7 +180,7 @@ impl Frames {
         self.free.count()
     }
 
-    /// The lowest frame that is free, if there is one.
+    /// The lowest free frame, if there is one.
     pub fn lowest_free(&self) -> Option<FrameNo>
         ensures lowest { result ≡ lowest (free_at self.now.states) (length self.now.states) }
         ensures free { IfSome result (λ frame. free_at self.now.states frame ≡ true) }
@@ -188,7 +189,7 @@ impl Frames {
         self.free.lowest()
     }
 
-    /// How many pageblocks are free as a whole.
+    /// How many pageblocks have only free frames.
     pub fn whole_blocks(&self) -> u32
         ensures { result ≡ count_below (is_whole self.now.states) (blocks_of self.now.states) }
     {
@@ -203,7 +204,7 @@ impl Frames {
         self.movable[frame.get() as usize]
     }
 
-    /// Says whether the page that a frame holds may be taken from it.
+    /// Notes whether the page that a frame holds may be taken from it.
     #[inline(always)]
     pub fn set_movable(&mut self, frame: FrameNo, movable: bool)
         requires { holds_at self.old.states frame ≡ true }
@@ -222,7 +223,7 @@ impl Frames {
         self.free.first_run(order)
     }
 
-    /// Hands the frames of a block out, all of which are free.
+    /// Hands out the frames of a block, all of which are free.
     pub fn hold(&mut self, first: FrameNo, order: Order)
         requires { is_run self.old.states order first ≡ true }
         ensures { self.new ≡ record self.old { states = with_run self.old.states first (2 ^ order) Huge } }
@@ -232,7 +233,7 @@ impl Frames {
         self.held.insert_run(first.get(), order);
     }
 
-    /// Takes the frames of a block back, all of which are handed out.
+    /// Takes back the frames of a block, all of which are handed out.
     pub fn release(&mut self, first: FrameNo, order: Order)
         requires block { has_block self.old.states order first ≡ true }
         requires huge { all_from (huge_at self.old.states) first (2 ^ order) ≡ true }
@@ -243,8 +244,8 @@ impl Frames {
         self.free.insert_run(first, order);
     }
 
-    /// The next pair between the fingers, which then stand behind its source and at its target. Where there is none they
-    /// stay. They have to stand in order, in the zone.
+    /// The next pair between the fingers. After it the fingers stand one above its source and at its target; where there
+    /// is no pair they stay. They have to be in order, and in the zone.
     #[inline(always)]
     pub fn next_pair(&self, marked: &[bool; 8], fingers: &mut Fingers) -> Step
         requires low { fingers.old.migrate ≤ fingers.old.free }
@@ -261,7 +262,7 @@ impl Frames {
         pair::next_told(&self.kept, free, &self.movable, marked, fingers)
     }
 
-    /// Whether in an unmarked pageblock some frame is handed out, or holds a page that may not be taken from it.
+    /// Whether a frame of an unmarked pageblock is handed out, or holds a page that may not be taken from it.
     pub fn is_any_stuck(&self, marked: &[bool; 8]) -> bool
         ensures { result ≡ some_below (is_stuck self.now.states self.now.movable marked.now) (length self.now.states) }
     {

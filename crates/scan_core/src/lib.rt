@@ -1,7 +1,7 @@
-//! The frames of a zone, what is counted of them, and the pair of frames that a round takes next.
+//! The frames of a zone with sets and counts of them, and the pair of frames that a round takes next.
 //!
-//! Contracts see `Frames` as two lists, the state of each frame and whether the page that it holds may be taken from it.
-//! What is counted of them is the type's own business. The searches and counts stand over plain lists too.
+//! Contracts see `Frames` as two lists: the state of each frame, and whether the page that it holds may be taken from
+//! it. The sets and counts are private. The searches and counts are there for plain lists too.
 #![tactic(auto)]
 
 mod bits;

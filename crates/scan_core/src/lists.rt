@@ -1,4 +1,4 @@
-//! Questions about lists of frame states.
+//! Questions about a list of frame states.
 
 ghost use Rattle.std.specs.Prelude.{◌≡◌, ◌/◌, ◌<◌, length, Some};
 ghost use Rattle.scan_core.specs.Frames.{is_free_state, free_in_block};
@@ -33,7 +33,7 @@ pub fn count_free(frames: &[FrameState], block: usize) -> u32
     count
 }
 
-/// Whether a frame stands in a marked pageblock.
+/// Whether a frame is in a marked pageblock.
 pub fn is_marked(marked: &[bool], frame: usize) -> bool
     requires { frame / 512 < length marked.now }
     ensures { result ≡ is_marked marked.now frame }

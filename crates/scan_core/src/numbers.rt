@@ -13,8 +13,8 @@ use crate::bits::Bits;
 use frame_core::Order;
 use std::marker::Model;
 
-/// A set of numbers below 4,096. It takes no memory of its own, and each call looks at a few words:
-/// `lowest_absent` alone goes through all 64 at most.
+/// A set of numbers below 4,096. It takes no memory of its own, and each call looks at a few words; only
+/// `lowest_absent` may look at all 64.
 #[derive(Drop)]
 pub struct NumberSet {
     bits: Bits,
@@ -68,7 +68,7 @@ impl NumberSet {
         self.clear(number / 64, 1 << (number % 64));
     }
 
-    /// Puts a number below 4,096 in, or takes it out.
+    /// Puts in a number below 4,096 where `member` says so, and takes it out where not.
     #[inline(always)]
     pub fn put(&mut self, number: u32, member: bool)
         requires { number < 4096 }
@@ -95,7 +95,7 @@ impl NumberSet {
         Some(64 * word + self.bits.get(word).trailing_zeros())
     }
 
-    /// The lowest number from a first one on that isn't of the set: 4,096 if each of them is.
+    /// The lowest number, from `from` on, that isn't in the set: 4,096 where there is none.
     #[inline(always)]
     pub fn lowest_absent(&self, from: u32) -> u32
         requires { from < 4096 }
@@ -117,7 +117,7 @@ impl NumberSet {
         4096
     }
 
-    /// Puts in the 2^order numbers from a first one on.
+    /// Puts in 2^order numbers, from `first` upwards.
     pub fn insert_run(&mut self, first: u32, order: Order)
         requires within { first < 4096 }
         requires aligned { is_aligned order first ≡ true }
@@ -133,7 +133,7 @@ impl NumberSet {
         }
     }
 
-    /// Takes out the 2^order numbers from a first one on.
+    /// Takes out 2^order numbers, from `first` upwards.
     pub fn remove_run(&mut self, first: u32, order: Order)
         requires within { first < 4096 }
         requires aligned { is_aligned order first ≡ true }
@@ -149,7 +149,7 @@ impl NumberSet {
         }
     }
 
-    /// Whether the 2^order numbers from a first one on are all of the set.
+    /// Whether 2^order numbers, from `first` upwards, are all in the set.
     pub fn has_run(&self, first: u32, order: Order) -> bool
         requires within { first < 4096 }
         requires aligned { is_aligned order first ≡ true }
@@ -179,7 +179,7 @@ impl NumberSet {
     }
 }
 
-/// The words that a run stands in, and its bits in each of them.
+/// The words that a run of numbers is in, and its bits in each of them.
 #[derive(Clone, Copy)]
 struct Span {
     start: u32,

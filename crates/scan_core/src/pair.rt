@@ -14,10 +14,10 @@ use crate::lists::is_marked;
 use crate::numbers::NumberSet;
 use frame_core::{FrameNo, FrameState};
 
-/// The next pair between the fingers, which then stand behind its source and at its target. Where there is none they stay. There
-/// are 4,096 frames at most; `movable` has a place for each of them, and `marked` for each of their pageblocks.
+/// The next pair between the fingers. After it the fingers stand one above its source and at its target; where there is no pair
+/// they stay. There are at most 4,096 frames; `movable` has a place for each of them, and `marked` for each of their pageblocks.
 ///
-/// Each frame is looked at about once a round at most, and no free one as a source: the searches begin at the fingers.
+/// The searches begin at the fingers and pass over free frames, so in a round a frame is looked at about once at most.
 pub fn next_pair(
     frames: &[FrameState],
     movable: &[bool],
@@ -46,7 +46,7 @@ pub fn next_pair(
     )
 }
 
-/// The same of frames of which a list tells the pages that they hold, and a set which of them are free.
+/// The same for frames that are told in two parts: a list has the pages that they hold, and a set has the free ones.
 #[inline(always)]
 pub fn next_told(
     holders: &[FrameState],

@@ -4,7 +4,7 @@ use Rattle.client_core.specs.Receipts.{Client}
 use Rattle.script_core.specs.Clients.{AreClientAnswers, IsClientReply}
 use Rattle.play_core.specs.Script.{Answer, ClientLine}
 
--- one more line
+-- one more line is answered
 pub client_answers_more : (old mid new : Client) (clients : List ClientLine) (answers : List Answer) (c : ClientLine) (a : Answer)
     → AreClientAnswers old clients answers mid → a.line ≡ c.line → IsClientReply mid c.call a.reply new
     → AreClientAnswers old (clients ++ c ∷ []) (answers ++ a ∷ []) new
@@ -16,7 +16,7 @@ client_answers_more old mid new (d ∷ clients) [] c a told at here = absurd tol
 client_answers_more old mid new (d ∷ clients) (b ∷ answers) c a told at here =
     (told.0, told.1, told.2, client_answers_more told.0 mid new clients answers c a told.3 at here)
 
--- there is one to each
+-- there is one answer for each line
 pub length-client_answers : (old new : Client) (clients : List ClientLine) (answers : List Answer) → AreClientAnswers old clients answers new → length answers ≡ length clients
 length-client_answers old new [] [] told = refl
 length-client_answers old new [] (a ∷ answers) told = absurd told

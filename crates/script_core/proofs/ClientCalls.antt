@@ -17,9 +17,9 @@ use Rattle.text_core.specs.declared.reply.Reply.{Reply}
 use Rattle.text_core.specs.declared.reply.Reply.TheVariants as reply
 use Rattle.script_core.specs.Clients.{IsAcceptedCall, IsMade, Waits, client_record, client_refusal, client_reply}
 
--- a call whose answer is told as a reply
+-- a call whose answer becomes a reply
 module _ (old : Client) (call : ClientCall) (new : Client) (result : Result Reply ClientError) {X : Type 0} (told : X → Reply) where
-  -- one that waits for a page on its way
+  -- a call that waits while its page is moving
   pub made : (r : Result X ClientError) → MatchResult r (λ x. result ≡ Ok (told x)) (λ e. result ≡ Err e)
       → IfOk r (λ x. IsAcceptedCall old call (told x) new)
       → OnErr r (new ≡ old) → IfErr r (IsFailed (client_refusal call)) → IfErr r (λ e. e ≢ Zone Moving) → IsMade old call result new
@@ -27,7 +27,7 @@ module _ (old : Client) (call : ClientCall) (new : Client) (result : Result Repl
   made (Err e) is accepted same failed there =
       subst (λ (r : Result Reply ClientError). IsMade old call r new) (sym is) (record { failed = failed; there = λ waits. there; same = same })
 
-  -- one that never waits
+  -- a call that never waits
   pub made_at_once : (r : Result X ClientError) → MatchResult r (λ x. result ≡ Ok (told x)) (λ e. result ≡ Err e)
       → IfOk r (λ x. IsAcceptedCall old call (told x) new)
       → OnErr r (new ≡ old) → IfErr r (IsFailed (client_refusal call)) → (Waits call → ⊥) → IsMade old call result new
@@ -36,7 +36,7 @@ module _ (old : Client) (call : ClientCall) (new : Client) (result : Result Repl
       subst (λ (r : Result Reply ClientError). IsMade old call r new) (sym is) (record { failed = failed; there = λ waits. absurd (never waits); same = same })
 
 module _ (old : Client) (new : Client) where
-  -- a zone accepted a call whose reply and record don't tell how it stood
+  -- a zone accepted a call whose reply and record don't depend on the zone
   pub accepted_call : (call : ClientCall) (receipt : Record) → ((zone : ZoneState) → client_reply call zone ≡ reply.Done)
       → ((zone : ZoneState) → client_record old.number call zone ≡ receipt)
       → (leaves : ZoneState → Unit {0} → ZoneState → Type 0) → (r : Result (Unit {0}) ClientError) → OnOk r (new ≡ with_receipt old receipt)
@@ -62,7 +62,7 @@ module _ (old : Client) (new : Client) where
   }
   accepted_load a word (Err e) receipts accepted = tt
 
-  -- a call that maps a page tells it in its receipt
+  -- a call that maps a page has the page's number in its receipt
   abbrev page_mapped : (call : ClientCall) (a : Address) (unmovable : Bool) (frame page : ℕ) (zone zone_new : ZoneState) → mapping old.number a unmovable frame zone page zone_new
       → ((z : ZoneState) → client_record old.number call z ≡ record_of.Map old.number a (unwrap_or (lowest_unused_page z) 0))
       → new ≡ with_receipt old (record_of.Map old.number a page) → new ≡ with_receipt old (client_record old.number call zone)

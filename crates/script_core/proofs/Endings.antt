@@ -1,4 +1,4 @@
--- What clap's answer to refused words comes to.
+-- What clap's answer makes where it isn't options.
 use Rattle.std.proofs.Common.{◌≡◌, ◌⊎◌, ◌||◌, ◌&&◌, ℕ, Bool, true, false, IsTrue, List, [], ◌∷◌, take, refl, ap, subst, sym, ◌∙◌, inl, inr, Option, Result, Ok, Err}
 use Rattle.std.specs.Prelude.{IfErr, OnErr, OnOk}
 use Rattle.std.specs.Io.KnownBytes.{Appends}
@@ -25,12 +25,12 @@ among_no_help [] k among none = absurd among
 among_no_help (x ∷ xs) k (inl same) none = ap is_help same ∙ left_false (is_help x) _ none
 among_no_help (x ∷ xs) k (inr among) none = among_no_help xs k among (right_false (is_help x) _ none)
 
--- an answer that is no help isn't help
+-- an answer whose kinds have no help among them isn't help
 pub no_help : (kinds : Kinds) (e : Error) → HasKind kinds e → list_any is_help kinds ≡ false → is_help (kind_of e) ≡ false
 no_help kinds e (inl memory) none = ap is_help memory
 no_help kinds e (inr among) none = among_no_help kinds (kind_of e) among none
 
--- an answer that is no help is a refusal, or memory ran out
+-- an answer that isn't help is a refusal, or memory ran out
 refuses : (k : ErrorKind) → is_help k ≡ false → (status_of k ≡ 2) ⊎ (k ≡ OutOfMemory)
 refuses DisplayHelp none = cc
 refuses DisplayVersion none = cc
@@ -62,14 +62,14 @@ among_refused [] k among none = absurd among
 among_refused (x ∷ xs) k (inl same) none = ap (λ (b : Bool). b && list_all is_help xs) (ap is_help (sym same) ∙ none)
 among_refused (x ∷ xs) k (inr among) none = false_of_right (is_help x) (list_all is_help xs) (among_refused xs k among none)
 
--- 2 is no answer to words that ask for help alone
+-- the status 2 isn't given to words that ask only for help
 pub two_refuses : (kinds : Kinds) (e : Error) → HasKind kinds e → status_of (kind_of e) ≡ 2 → list_all is_help kinds ≡ false
 two_refuses kinds e (inl memory) two = absurd (one_not_two (sym (ap status_of memory) ∙ two)) where
   one_not_two : ◌≡◌ {A = ℕ} 1 2 → ⊥
   one_not_two same = cc
 two_refuses kinds e (inr among) two = among_refused kinds (kind_of e) among (two_is_no_help (kind_of e) two)
 
--- a help ends with 0
+-- help gives the status 0
 help_ends : (k : ErrorKind) → is_help k ≡ true → status_of k ≡ 0
 help_ends DisplayHelp is = refl
 help_ends DisplayVersion is = refl
@@ -81,12 +81,12 @@ help_or false k kinds is among all = absurd (true_not_false (sym all ∙ among_r
   true_not_false : true ≡ false → ⊥
   true_not_false same = cc
 
--- words that ask for help alone get it, or memory ran out
+-- words that ask only for help get it, or memory ran out
 pub helped : (kinds : Kinds) (e : Error) (status : ℕ) (M : Type 0) → status ≡ status_of (kind_of e) → HasKind kinds e → list_all is_help kinds ≡ true → (kind_of e ≡ OutOfMemory → M) → (status ≡ 0) ⊎ M
 helped kinds e status M is (inl lacks) all memory = inr (memory lacks)
 helped kinds e status M is (inr among) all memory = inl (is ∙ help_or (is_help (kind_of e)) (kind_of e) kinds refl among all)
 
--- a line that is written out is told, unless the writer failed
+-- a line that was written was told, unless the writer failed
 pub told : {T : Type 0} (r : Result T ℕ) (line bytes : List ℕ) (old new : Option (List ℕ)) (stuck : Bool) → bytes ≡ line → OnOk r (Appends old new bytes) → IfErr r (λ taken. Appends old new (take taken bytes)) → OnErr r (IsTrue stuck)
     → Appends old new line ⊎ FailsIn line old new stuck
 told (Ok x) line bytes old new stuck is all part failed = let A : List ℕ → Type 0 = λ l. Appends old new l in inl (subst A is all)

@@ -22,25 +22,25 @@ use Rattle.client_core.specs.Receipts.{Client}
 use Rattle.script_core.specs.Threaded.{IsPoolOn, SettlesAt, Threaded, left_by, pool_reply, told_of}
 use Rattle.script_core.proofs.Rounds.{settles}
 
--- the block at an index, and those behind it
+-- the number of the block at an index, and those of the blocks after it
 pub told_at : (blocks : PoolBlocks) (xs : List (Option Huge)) (i : ℕ) (x : Option Huge) → i < length xs → x ≡ get_or xs i x
     → told_of blocks (drop i xs) ≡ told_of blocks (x ∷ drop (i + 1) xs)
 told_at blocks xs i x within is =
     let ahead : drop i xs ≡ get_or xs i x ∷ drop (i + 1) xs = rw (add-one, drop-cons xs i x) refl in
     ap (told_of blocks) ahead ∙ ap (λ (y : Option Huge). told_of blocks (y ∷ drop (i + 1) xs)) (sym is)
 
--- the blocks so far, and one more that is there
+-- the numbers so far, and that of one more block
 pub told_more : (blocks : PoolBlocks) (told told_new : List ℕ) (block : Huge) (rest : List (Option Huge)) → told_new ≡ told ++ told_as blocks block.frame ∷ []
     → told_new ++ told_of blocks rest ≡ told ++ told_of blocks (Some block ∷ rest)
 told_more blocks told told_new block rest is =
     ap (λ (list : List ℕ). list ++ told_of blocks rest) is ∙ append_assoc told (told_as blocks block.frame ∷ []) (told_of blocks rest)
 
--- the end seat behind rounds is whole, where it was before them
+-- the end seat after rounds is whole where it was whole before them
 whole_behind : (rounds : List Round) (scan scan_new : ScanSeat) (ends ends_new : EndSeat) → ends.parts ≡ 64 → AreRounds rounds scan scan_new ends ends_new → ends_new.parts ≡ 64
 whole_behind [] scan scan_new ends ends_new whole ran = ap (λ (e : EndSeat). e.parts) ran.1 ∙ whole
 whole_behind (latest ∷ earlier) scan scan_new ends ends_new whole ran = ran.3.whole
 
--- and settled, where there was a round
+-- after at least one round the end seat is whole, and its counts add up to the scan seat's
 settled_behind : (rounds : List Round) (scan scan_new : ScanSeat) (ends ends_new : EndSeat) → 0 < length rounds → AreRounds rounds scan scan_new ends ends_new
     → (64 ≤ ends_new.parts) × (ends_new.moved + ends_new.back ≡ scan_new.count)
 settled_behind [] scan scan_new ends ends_new some ran = absurd (omega (arith, some))
@@ -48,7 +48,7 @@ settled_behind (latest ∷ earlier) scan scan_new ends ends_new some ran = let p
 
 module _ (scan_old scan : ScanSeat) (ends_old ends : EndSeat) (refusal : Option ZoneError) (whole : ends_old.parts ≡ 64)
     (passes : 64 ≤ ends.parts → ends.moved + ends.back ≡ scan.count → refusal ≡ None) where
-  -- where a collector stopped for no refused round
+  -- an audit passes where a collector ran a round and stopped for another reason than a refused round
   kept_on : (c : Collector) (report : Report) (run : HasRun c scan_old scan ends_old ends report) → (scan ≡ run.scan_behind) × (ends ≡ run.ends_behind)
       → 0 < report.rounds → refusal ≡ None
   kept_on c report run same some =

@@ -22,7 +22,7 @@ use Rattle.machine_core.specs.Single.{IsStep, Single}
 use Rattle.script_core.specs.Threaded.{IsBlockFor, IsNothingRun, IsReplyStep, IsRoundBeside, IsRoundOver, IsStepAt, IsStepBy, IsThreadedStep, IsTurnBeside, IsUnstarted, IsWorkOn, IsWorkStep, Settles, Threaded, broken_reply, is_threaded, left_by}
 use Rattle.machine_core.specs.Single.{is_at_rest, number_is_at_rest}
 
--- a command that works by threads
+-- a command that uses threads
 pub threaded_step : (old : Threaded) (command : Command) (answer : Reply) (new : Threaded) (w : WorldState) (places : ℕ) (client : Client)
     → old.single.world ≡ Some w → is_threaded command (Some w) ≡ true → places ≡ old.single.places → client ≡ old.client
     → IsWorkOn command w places client answer new → IsStepBy (is_threaded command old.single.world) old command answer new
@@ -42,7 +42,7 @@ other_step old command answer new machine same runs step none client =
     let S : Bool → Type 0 = λ b. IsStepBy b old command answer new in
     subst S (sym runs) (subst M same step, none, client)
 
--- where a zone is broken, and where none is
+-- a command where a zone is broken
 pub broken_step : (old : Threaded) (command : Command) (answer : Reply) (new : Threaded) (number : ℕ)
     → old.broken ≡ Some number → answer ≡ broken_reply number command → new ≡ old → IsReplyStep old command answer new
 broken_step old command answer new number is told same =
@@ -55,7 +55,7 @@ whole_step old command answer new is step =
     let S : Option ℕ → Type 0 = λ o. IsStepAt o old command answer new in
     subst S (sym is) step
 
--- the same of a command of one line, whatever its number
+-- a command of one line where a zone is broken
 pub broken_line : (old : Threaded) (command : Command) (answer : Reply) (new : Threaded) (number : ℕ)
     → old.broken ≡ Some number → answer ≡ broken_reply number command → new ≡ old
     → (line : ℕ) → IsThreadedStep old (command_of_line line command) (record { line = line; reply = answer } ∷ []) new
@@ -68,7 +68,7 @@ pub whole_line : (old : Threaded) (command : Command) (answer : Reply) (new : Th
 whole_line old command answer new is step line =
     inl (record { reply = answer; one = refl; step = whole_step old command answer new is step })
 
--- what a machine is whose zone passes its audit, and one whose zone doesn't
+-- the machine where its zone passes the audit, and where the zone doesn't
 pub left_whole : (places : ℕ) (client : Client) (zone zone_new : ZoneState) (scan scan_new : ScanSeat) (ends ends_new : EndSeat) (refusal : Option ZoneError) (new : Threaded)
     → refusal ≡ None → zone_new ≡ zone → scan_new ≡ scan → ends_new ≡ ends → new.single.places ≡ places
     → new.single.world ≡ Some (world_closed zone_new scan_new ends_new) → new.broken ≡ None → new.client ≡ client → new ≡ left_by places client zone scan ends refusal
@@ -84,7 +84,7 @@ left_broken places client zone scan ends error refusal new refused same_places n
     let here : new ≡ left_by places client zone scan ends (Some error) = λ i. record { single = record { places = same_places i; world = none i }; broken = number i; client = same_client i } in
     here ∙ ap (left_by places client zone scan ends) (sym refused)
 
--- numbers that don't differ
+-- numbers that can't differ are equal
 stable : (n m : ℕ) → ((n ≡ m → ⊥) → ⊥) → n ≡ m
 stable n m twice = by_test (nat_eq n m) refl where
   by_test : (t : Bool) → nat_eq n m ≡ t → n ≡ m
@@ -97,7 +97,7 @@ memory_isnt_broken e = cc
 no_worker_isnt_broken : ◌≡◌ {A = Result Round RoundError} (Err NoWorker) (Err Broken) → ⊥
 no_worker_isnt_broken e = cc
 
--- seats that weren't broken before a round that wasn't begun pass an audit behind it
+-- seats that weren't broken before a round that wasn't begun pass an audit after it
 module _ (scan_old scan : ScanSeat) (ends_old ends : EndSeat) (refusal : Option ZoneError) (whole : ends_old.parts ≡ 64)
     (passes : 64 ≤ ends.parts → ends.moved + ends.back ≡ scan.count → refusal ≡ None) where
   unbegun_passes : (IsBroken scan_old ends_old → ⊥) → (scan ≡ scan_old) × (ends ≡ ends_old) → refusal ≡ None
@@ -135,13 +135,13 @@ round_over w zone_old zone scan_old scan ends_old ends result same_zone same_sca
       settled = settles scan_old scan ends_old ends (audit_refusal zone ends) whole passes result round early;
     }
 
--- a block is for the zone that is open
+-- a block is for the open zone
 pub block_for : (number zone : ℕ) (world : Option WorldState) (w : WorldState)
     → zone_of number ≡ Some zone → world ≡ Some w → is_at_rest zone (Some w) ≡ true → IsBlockFor (During number) world
 block_for number zone world w is there closed =
     ap (λ (z : Option ℕ). number_is_at_rest z world) is ∙ ap (is_at_rest zone) there ∙ closed
 
--- a turn of the client of this machine, with the lines of this block
+-- a turn of this machine's client, with the lines of this block
 pub turn_of : (w : WorldState) (old : Threaded) (c : Numbered) (places : ℕ) (client : Client) (lines : List ClientLine) (told : List Answer) (own : Reply) (new : Threaded)
     → places ≡ old.single.places → client ≡ old.client → lines ≡ c.clients
     → IsTurnBeside w places client lines told own new → IsTurnBeside w old.single.places old.client c.clients told own new
@@ -151,7 +151,7 @@ turn_of w old c places client lines told own new same_places same_client same_li
     let L : List ClientLine → Type 0 = λ ls. IsTurnBeside w old.single.places old.client ls told own new in
     subst L same_lines (subst C same_client (subst P same_places turn))
 
--- what ran is the same of the machine that gave its world
+-- what ran over a world ran for the machine that gave the world away
 module _ (w : WorldState) (old given : Threaded) (c : Numbered) (answers : List Answer) (new : Threaded)
     (places : given.single.places ≡ old.single.places) (client : given.client ≡ old.client) where
   round_beside : IsRoundBeside w given c answers new → IsRoundBeside w old c answers new

@@ -22,11 +22,11 @@ use Rattle.play_core.proofs.Beginnings.{all_before, all_of_beginning}
 use Rattle.machine_core.proofs.SingleRuns.{single_ends, single_output, single_totals}
 use Rattle.play_core.proofs.Variants.{known_weaker}
 
--- no command among these is a round or a pool
+-- none of these commands is a round, a pool or a block
 abbrev AreUnthreaded : List Numbered → Type 0
 AreUnthreaded commands = AllByRecursion (λ c. IsUnthreaded c.command) commands
 
--- any other command is answered as on one thread
+-- a command is answered as on one thread
 abbrev IsAlone : Threaded → Numbered → List Answer → Threaded → Type 0
 IsAlone old c answers new = IsSingleStep old.single c answers new.single × (new.broken ≡ None)
 
@@ -42,7 +42,7 @@ alone_step old (During zone) answer new none step = absurd none
 alone_step old Profile2 answer new none step = (step.0, step.1)
 alone_step old OutOfRange answer new none step = (step.0, step.1)
 
--- no such command is a block
+-- a command that isn't a round, a pool or a block doesn't run a block
 no_block : (c : Command) (world : Option WorldState) → IsUnthreaded c → IsBlockFor c world → ⊥
 no_block (During zone) world none block = none
 no_block (Open zone blocks) world none block = block
@@ -67,7 +67,7 @@ alone_replied old new (c ∷ commands) answers unbroken none told =
     let rest = alone_replied told.0 new commands told.2 here.1 none.1 told.5 in
     ((told.0.single, told.1, told.2, told.3, here.0, rest.0), rest.1)
 
--- the command behind some is none
+-- where no command is a round, a pool or a block, the one after the first of them isn't
 none_behind : (before : List Numbered) (c : Numbered) (behind : List Numbered) → AreUnthreaded (before ++ c ∷ behind) → IsUnthreaded c.command
 none_behind [] c behind all = all.0
 none_behind (d ∷ before) c behind all = none_behind before c behind all.1
@@ -86,16 +86,16 @@ module _ (places : ℕ) where
   alone_total : (input : List ℕ) (old new : Option (List ℕ)) (totals : Totals) → IsUnthreadedScript input → IsTotal IsThreadedStep (threaded_at_first places) input old new totals → IsTotal IsSingleStep (single_at_first places) input old new totals
   alone_total input old new totals none h = record { answered = alone_answered input old new none h.answered; totals_are = h.totals_are }
 
-  -- those before a place are none either
+  -- where no command of an input is a round, a pool or a block, none before a place of it is
   none_before : (input : List ℕ) (before behind : List Numbered) → commands_of input ≡ before ++ behind → IsUnthreadedScript input → AreUnthreaded before
   none_before input before behind order none = all_before (λ (c : Numbered). IsUnthreaded c.command) before behind (subst AreUnthreaded order none)
 
-  -- nor those of what was read
+  -- where no command of an input is a round, a pool or a block, none of what was read is
   none_read : (left_new : Option (List ℕ)) (input past : List ℕ) → Consumes (Some input) left_new past → IsUnthreadedScript input → IsUnthreadedScript past
   none_read None input past read none = absurd read
   none_read (Some rest) input past read none = all_of_beginning (λ (c : Numbered). IsUnthreaded c.command) past rest (subst (λ bytes. AreUnthreaded (commands_of bytes)) read none)
 
-  -- nor those before a command or a block that asks for memory
+  -- where no command of an input is a round, a pool or a block, none before one that needs memory, or before a block, is
   none_asking : (input : List ℕ) (before : List Numbered) (after : Threaded) (line : ℕ) → IsUnthreadedScript input → IsAsking AsksMemory input before after line ⊎ IsBeginning input before line → AreUnthreaded before
   none_asking input before after line none (inl a) = none_before input before (a.command ∷ a.behind) a.order none
   none_asking input before after line none (inr b) =

@@ -1,4 +1,4 @@
--- What the lines of a client are answered beside a round, in whatever schedule.
+-- What the lines of a client are answered during a round, in whatever schedule.
 use Rattle.std.specs.Prelude.{◌≡◌, ◌≢◌, ℕ, ⊤, List, [], ◌∷◌, Option, Some, None, Result, Ok, Err, unwrap_or}
 use Rattle.journal_core.specs.declared.record.Record.{Record}
 use Rattle.journal_core.specs.declared.record.Record.TheVariants as record_of
@@ -22,7 +22,7 @@ use Rattle.text_core.specs.declared.reply.Reply.{Reply}
 use Rattle.text_core.specs.declared.reply.Reply.TheVariants as reply
 use Rattle.play_core.specs.Script.{Answer, ClientLine}
 
--- why a zone refuses a call
+-- why a zone refuses a client's call, if it does
 abbrev pub client_refusal : ClientCall → ZoneState → Option ZoneError
 client_refusal (Map a unmovable) zone = map_refusal zone a
 client_refusal (MapAt a frame unmovable) zone = map_at_refusal zone a frame
@@ -33,7 +33,7 @@ client_refusal (Unmap a) zone = unmap_refusal zone a
 client_refusal (Pin a) zone = pin_refusal zone a
 client_refusal (Unpin a) zone = unpin_refusal zone a
 
--- whether a call waits for a page on its way
+-- a call waits while its page is moving
 abbrev pub Waits : ClientCall → Type 0
 Waits (Map a unmovable) = ⊥
 Waits (MapAt a frame unmovable) = ⊥
@@ -46,7 +46,7 @@ abbrev pub client_reply : ClientCall → ZoneState → Reply
 client_reply (Load a word) zone = reply.Value (value_at zone a word)
 client_reply _ zone = reply.Done
 
--- the record of a call that a zone accepts of the client with this number
+-- the record of a call by the client with this number, in a zone that accepts it
 abbrev pub client_record : ℕ → ClientCall → ZoneState → Record
 client_record number (Map a unmovable) zone = record_of.Map number a (unwrap_or (lowest_unused_page zone) 0)
 client_record number (MapAt a frame unmovable) zone = record_of.Map number a (unwrap_or (lowest_unused_page zone) 0)
@@ -65,34 +65,34 @@ pub record IsAcceptedCall (old : Client) (call : ClientCall) (answer : Reply) (n
   pub answer_is : answer ≡ client_reply call zone
   pub receipt : new ≡ with_receipt old (client_record old.number call zone)
 
--- a call failed for want of memory, or since a zone refused it, and the client has no receipt of it
+-- a call failed for want of memory, or because a zone refused it, and the client has no receipt of it
 pub record IsRefusedCall (old : Client) (call : ClientCall) (error : ClientError) (new : Client) : Type 0 where
   pub failed : IsFailed (client_refusal call) error
   pub there : Waits call → error ≢ Zone Moving
   pub same : new ≡ old
 
--- how a call of a client went, and the client then
+-- how a client's call went, and the client afterwards
 abbrev pub IsMade : Client → ClientCall → Result Reply ClientError → Client → Type 0
 IsMade old call (Ok answer) new = IsAcceptedCall old call answer new
 IsMade old call (Err error) new = IsRefusedCall old call error new
 
--- the reply to a call that went so
+-- the reply to a call that went like this
 abbrev pub reply_of : Result Reply ClientError → Reply
 reply_of (Ok answer) = answer
 reply_of (Err error) = reply.Refused (number_of error)
 
--- a client's call was made, and this is the reply to it
+-- a client's call was made, and this is its reply
 pub record IsCallReply (old : Client) (call : ClientCall) (answer : Reply) (new : Client) : Type 0 where
   pub result : Result Reply ClientError
   pub made : IsMade old call result new
   pub answer_is : answer ≡ reply_of result
 
--- what a client's line is answered, and the client then; an argument that is out of its range is refused before any call
+-- the reply to a client's line, and the client afterwards; an argument that is out of its range is refused before any call
 abbrev pub IsClientReply : Client → Option ClientCall → Reply → Client → Type 0
 IsClientReply old None answer new = (answer ≡ reply.Refused 1) × (new ≡ old)
 IsClientReply old (Some call) answer new = IsCallReply old call answer new
 
--- the answers to a client's lines, one to each, each from what the one before left
+-- the answers to a client's lines, one for each, where each is answered as the lines before left the client
 abbrev pub AreClientAnswers : Client → List ClientLine → List Answer → Client → Type 0
 AreClientAnswers old [] [] new = new ≡ old
 AreClientAnswers old (c ∷ clients) (a ∷ answers) new =

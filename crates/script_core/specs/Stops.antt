@@ -1,4 +1,4 @@
--- How a run stops before its script is read to the end, and what the faults' writer is told of it.
+-- How a run stops before the end of its script, and what the writer for faults is told of it.
 use Rattle.std.specs.Prelude.{◌≡◌, ◌⊎◌, ℕ, Bool, IsTrue, List, ◌++◌, codes, decimal, take, Option, IfSome}
 use Rattle.std.specs.Io.KnownBytes.{Appends, Keeps}
 use Rattle.play_core.specs.declared.error.Fault.TheVariants.{Read, Write, Memory}
@@ -9,7 +9,7 @@ use Rattle.play_core.specs.ErrorNumber.{fault_number}
 use Rattle.play_core.specs.Streams.{CannotReadOn}
 use Rattle.script_core.specs.Threaded.{AsksMemory, IsThreadedStep, IsUnthreadedScript, threaded_at_first}
 
--- the line that tells of an error
+-- the line that says which fault ended the run, and at which line of the script
 abbrev pub fault_line : RunError → List ℕ
 fault_line e = codes "compactd: fault " ++ decimal (fault_number e.fault) ++ codes " at line " ++ decimal e.line ++ codes "\n"
 
@@ -19,22 +19,22 @@ pub record FailsIn (line : List ℕ) (old new : Option (List ℕ)) (stuck : Bool
   pub taken : ℕ
   pub written : Appends old new (take taken line)
 
--- just the line of the error was written, unless the writer failed
+-- exactly the line of the error was written, unless the writer failed
 abbrev pub Tells : RunError → (old new : Option (List ℕ)) → Bool → Type 0
 Tells e old new stuck = Appends old new (fault_line e) ⊎ FailsIn (fault_line e) old new stuck
 
--- there was no memory to read the words: fault 48 at line 0, and no reply
+-- there was no memory to read the words: the fault is 48 at line 0, and no reply was written
 pub record LacksMemory (status : ℕ) (old new told told_new : Option (List ℕ)) (stuck : Bool) : Type 0 where
   pub ends : status ≡ 1
   pub quiet : Keeps old new
   pub tells : Tells (record { fault = Memory; line = 0 }) told told_new stuck
 
--- the run stopped by an error, which has its cause, says what was read and written, and is told
+-- the run stopped with an error, which says what was read and written, has its cause, and was told
 pub record Stops (places : ℕ) (left left_new old new : Option (List ℕ)) (reads reads_new : ℕ) (failed stuck : Bool)
     (told told_new : Option (List ℕ)) (told_stuck : Bool) : Type 0 where
   pub error : RunError
   pub ends : IfSome left (λ input. IsEnded IsThreadedStep AsksMemory (threaded_at_first places) error.fault input error left left_new old new)
-  -- a script without rounds, pools and blocks, as on one thread
+  -- a script without rounds, pools and blocks was answered as on one thread
   pub alone : IfSome left (λ input. IsUnthreadedScript input → EndsIn error.fault places input error left left_new old new)
   pub unread : error.fault ≡ Read → CannotReadOn failed reads reads_new left
   pub unwritten : error.fault ≡ Write → IsTrue stuck

@@ -1,4 +1,5 @@
--- A machine with threads: it answers as one on one thread, but that it runs rounds, pools with rounds, and rounds with a client beside them.
+-- A machine with threads. It answers as one on one thread does, except that it runs rounds, pools with rounds, and rounds during which a
+-- client makes calls.
 use Rattle.std.specs.Prelude.{◌≡◌, ◌↔◌, ◌++◌, ◌⊎◌, ℕ, ◌<◌, ◌≤◌, Bool, true, false, nat_eq, if◌then◌else◌, List, [], ◌∷◌, All, length, ⊤, Option, Some, None, Result, Ok, Err, IfOk}
 use Rattle.std.specs.List.{AllByRecursion}
 use Rattle.state_core.specs.declared.error.ZoneError.{ZoneError}
@@ -35,7 +36,8 @@ use Rattle.script_core.specs.Clients.{AreClientAnswers}
 use Rattle.play_core.specs.Script.{Answer, ClientLine, Numbered, commands_of}
 use Rattle.machine_core.specs.Single.{IsStep, Opens, Single, is_at_rest, number_is_at_rest, single_at_first}
 
--- the machine as on one thread, the number of the zone that a round left broken, if one did, and the client of the blocks
+-- a machine with threads: the machine as on one thread, the number of the zone that a round left broken, if one did, and
+-- the client of the blocks
 pub record Threaded : Type 0 where
   pub single : Single
   pub broken : Option ℕ
@@ -45,17 +47,17 @@ pub record Threaded : Type 0 where
 abbrev pub client_at_first : Client
 client_at_first = record { number = 1; receipts = [] }
 
--- before the first command
+-- a machine with threads before the first command
 abbrev pub threaded_at_first : ℕ → Threaded
 threaded_at_first places = record { single = single_at_first places; broken = None; client = client_at_first }
 
--- whether a command of one line works on the zone by threads: a round and a pool do
+-- whether a command of one line uses threads for the open zone: a round and a pool do
 abbrev pub is_threaded : Command → Option WorldState → Bool
 is_threaded (Compact zone) world = is_at_rest zone world
 is_threaded (Pool zone count blocks) world = is_at_rest zone world
 is_threaded _ world = false
 
--- why a round stopped
+-- why a round stopped, for its reply
 abbrev pub stopped_as : Stop → Stopped
 stopped_as stop.Met = stopped.Met
 stopped_as stop.JournalFull = stopped.JournalFull
@@ -65,25 +67,26 @@ abbrev pub round_reply : Result Round RoundError → Reply
 round_reply (Ok r) = reply.Round r.count r.moved r.back (stopped_as r.stopped)
 round_reply (Err error) = reply.Refused (number_of error)
 
--- whether a round came to its end, or wasn't begun for want of memory or of a thread
+-- a round came to its end, or wasn't begun for want of memory or of a thread
 abbrev pub Settles : Result Round RoundError → Type 0
 Settles (Ok r) = ⊤
 Settles (Err error) = IsWant error
 
--- the machine behind a round: the zone makes a world with its seats again where its audit passes, and else it is broken
+-- the machine after a round, given the audit after it: the zone makes a world with its seats again where the audit
+-- passes, and else it is broken
 abbrev pub left_by : ℕ → Client → ZoneState → ScanSeat → EndSeat → Option ZoneError → Threaded
 left_by places client zone scan ends None =
     record { single = record { places = places; world = Some (world_closed zone scan ends) }; broken = None; client = client }
 left_by places client zone scan ends (Some error) =
     record { single = single_at_first places; broken = Some zone.number; client = client }
 
--- a round over the zone of a world, in whatever schedule: what came of it
+-- what came of a round over the zone of a world, in whatever schedule
 pub record IsRoundOver (w : WorldState) : Type 0 where
-  -- the zone as its lock kept it, with the number and the pageblocks that it had
+  -- the zone as its lock kept it, with the same number and pageblocks
   pub zone : ZoneState
   pub kept : IsKept zone
   pub shape : HasShape w.zone.number w.zone.blocks zone
-  -- its seats, and what the round came to
+  -- the seats after the round, and its result
   pub scan : ScanSeat
   pub ends : EndSeat
   pub result : Result Round RoundError
@@ -95,13 +98,13 @@ pub record IsRoundOver (w : WorldState) : Type 0 where
 abbrev pub left_behind : {w : WorldState} → ℕ → Client → IsRoundOver w → Threaded
 left_behind places client over = left_by places client over.zone over.scan over.ends (audit_refusal over.zone over.ends)
 
--- a round alone: what it may be answered, and the machine behind it
+-- a round without a client: its reply, and the machine after it
 pub record IsRoundOn (w : WorldState) (places : ℕ) (client : Client) (answer : Reply) (new : Threaded) : Type 0 where
   pub over : IsRoundOver w
   pub answer_is : answer ≡ round_reply over.result
   pub left : new ≡ left_behind places client over
 
--- why a pool stopped
+-- why a pool stopped, for its reply
 abbrev pub pool_stopped_as : PoolStop → PoolStopped
 pool_stopped_as pool_stop.Enough = pool_stopped.Enough
 pool_stopped_as pool_stop.NoBlock = pool_stopped.NoBlock
@@ -109,7 +112,7 @@ pool_stopped_as pool_stop.Rounds = pool_stopped.Rounds
 pool_stopped_as pool_stop.JournalFull = pool_stopped.JournalFull
 pool_stopped_as (pool_stop.Refused error) = pool_stopped.Refused (number_of error)
 
--- the numbers that tell blocks, in the order that they were got
+-- the numbers that name blocks, in the order in which they were got
 abbrev pub told_of : PoolBlocks → List (Option Huge) → List ℕ
 told_of blocks [] = []
 told_of blocks (Some block ∷ more) = told_as blocks block.frame ∷ told_of blocks more
@@ -119,26 +122,26 @@ told_of blocks (None ∷ more) = told_of blocks more
 abbrev pub pool_reply : PoolBlocks → Report → Reply
 pool_reply blocks r = reply.Pool blocks (record { items = told_of blocks r.got.items }) r.rounds (pool_stopped_as r.stop)
 
--- whether a pool ran a round and none was refused, or one wasn't begun for want of memory or of a thread
+-- a pool ran rounds and none was refused, or one wasn't begun for want of memory or of a thread
 abbrev pub SettlesAt : PoolStop → ℕ → Type 0
 SettlesAt (pool_stop.Refused error) rounds = IsWant error
 SettlesAt why rounds = 0 < rounds
 
--- a pool of so many blocks of the zone of a world, in whatever schedule: what it may be answered, and the machine behind it
+-- a pool of `count` blocks of the zone of a world, in whatever schedule: its reply, and the machine after it
 pub record IsPoolOn (count : ℕ) (blocks : PoolBlocks) (w : WorldState) (places : ℕ) (client : Client) (answer : Reply) (new : Threaded) : Type 0 where
-  -- the zone as its lock kept it, with the number and the pageblocks that it had
+  -- the zone as its lock kept it, with the same number and pageblocks
   pub zone : ZoneState
   pub kept : IsKept zone
   pub shape : HasShape w.zone.number w.zone.blocks zone
-  -- its seats, and what the collector reports
+  -- the seats after the pool, and what the collector reports
   pub scan : ScanSeat
   pub ends : EndSeat
   pub report : Report
-  -- it may run four rounds, and these it ran
+  -- the collector may run four rounds, and it ran those of the report
   pub collector : Collector
   pub rounds : collector.rounds ≡ 4
   pub ran : HasRun collector w.scan scan w.ends ends report
-  -- each block is of the order and was handed out, and enough are just as many as were asked for
+  -- each block that it got has the order and was handed out, and it stopped with Enough exactly where it got as many as were asked for
   pub order : collector.order ≡ pool_order blocks
   pub got : All (IsGot collector.order) report.got.items
   pub most : length report.got.items ≤ count
@@ -147,32 +150,32 @@ pub record IsPoolOn (count : ℕ) (blocks : PoolBlocks) (w : WorldState) (places
   pub answer_is : answer ≡ pool_reply blocks report
   pub left : new ≡ left_by places client zone scan ends (audit_refusal zone ends)
 
--- what a command does by threads over the zone of a world
+-- what a command does with threads over the zone of a world
 abbrev pub IsWorkOn : Command → WorldState → ℕ → Client → Reply → Threaded → Type 0
 IsWorkOn (Compact zone) w places client answer new = IsRoundOn w places client answer new
 IsWorkOn (Pool zone count blocks) w places client answer new = IsPoolOn count blocks w places client answer new
 IsWorkOn _ w places client answer new = ⊥
 
--- the same over the world of a machine, if it has one
+-- what a command does with threads over the world of a machine, if the machine has one
 abbrev pub IsWorkStep : Command → Option WorldState → ℕ → Client → Reply → Threaded → Type 0
 IsWorkStep command None places client answer new = ⊥
 IsWorkStep command (Some w) places client answer new = IsWorkOn command w places client answer new
 
--- a command where no zone is broken: by threads, or as on one thread
+-- what a command does where no zone is broken: with threads, or as on one thread
 abbrev pub IsStepBy : Bool → Threaded → Command → Reply → Threaded → Type 0
 IsStepBy true old command answer new = IsWorkStep command old.single.world old.single.places old.client answer new
 IsStepBy false old command answer new = IsStep old.single command answer new.single × (new.broken ≡ None) × (new.client ≡ old.client)
 
--- the number by which a command on a zone is refused where a zone with this number is broken
+-- the number of the refusal of a command on a zone, where the zone with the first number is broken
 abbrev pub broken_refusal : ℕ → ℕ → ℕ
 broken_refusal number zone = if nat_eq zone number then 33 else 43
 
--- the same of a number that may be none of a zone
+-- the number of the refusal of a command on a zone whose number may be out of range, where the zone with the first number is broken
 abbrev pub broken_refusal_at : ℕ → Option ℕ → ℕ
 broken_refusal_at number None = 1
 broken_refusal_at number (Some zone) = broken_refusal number zone
 
--- a broken zone isn't there for any call
+-- the reply to a command where the zone with this number is broken: no call can be made of it
 abbrev pub broken_reply : ℕ → Command → Reply
 broken_reply number OutOfRange = reply.Refused 1
 broken_reply number Profile2 = reply.Done
@@ -182,27 +185,27 @@ broken_reply number (Compact zone) = reply.Refused (broken_refusal number zone)
 broken_reply number (Pool zone count blocks) = reply.Refused (broken_refusal number zone)
 broken_reply number (During zone) = reply.Refused (broken_refusal_at number (zone_of zone))
 
--- a command where the zone with this number is broken, or none is
+-- what a command does where the zone with this number is broken, or where none is
 abbrev pub IsStepAt : Option ℕ → Threaded → Command → Reply → Threaded → Type 0
 IsStepAt None old command answer new = IsStepBy (is_threaded command old.single.world) old command answer new
 IsStepAt (Some number) old command answer new = (answer ≡ broken_reply number command) × (new ≡ old)
 
--- a command, where a zone is broken or none is: its reply, and the machine behind it
+-- the reply to a command of one line, and the machine after it
 abbrev pub IsReplyStep : Threaded → Command → Reply → Threaded → Type 0
 IsReplyStep old command answer new = IsStepAt old.broken old command answer new
 
--- one reply to a command, with the number of its line
+-- a command has one reply, with the number of its line
 pub record IsOneReply (old : Threaded) (c : Numbered) (answers : List Answer) (new : Threaded) : Type 0 where
   pub reply : Reply
   pub one : answers ≡ record { line = c.line; reply = reply } ∷ []
   pub step : IsReplyStep old c.command reply new
 
--- the reply to a round beside a client: 35 stands in its place where the client's receipts aren't its records in the zone's journal
+-- the reply to a round during which a client made calls: 35 where the client's receipts aren't its records in the zone's journal
 pub record IsSettledReply (zone : ZoneState) (client : Client) (result : Result Round RoundError) (answer : Reply) : Type 0 where
   pub agrees : Agrees zone.records client → answer ≡ round_reply result
   pub differs : (Agrees zone.records client → ⊥) → answer ≡ reply.Refused 35
 
--- a round with the calls of a client beside it: the answers to the client's lines, the reply to the round, and the machine behind it
+-- a round during which a client made calls: the answers to the client's lines, the reply to the round, and the machine after it
 pub record IsTurnBeside (w : WorldState) (places : ℕ) (client : Client) (lines : List ClientLine) (told : List Answer) (own : Reply) (new : Threaded) : Type 0 where
   pub over : IsRoundOver w
   pub client_behind : Client
@@ -210,7 +213,7 @@ pub record IsTurnBeside (w : WorldState) (places : ℕ) (client : Client) (lines
   pub settled : IsSettledReply over.zone client_behind over.result own
   pub left : new ≡ left_behind places client_behind over
 
--- a block's round: the answers to the client's lines, and behind them the one to the round
+-- a block was run: the answers are those to the client's lines, and after them the reply to the round
 pub record IsRoundBeside (w : WorldState) (old : Threaded) (c : Numbered) (answers : List Answer) (new : Threaded) : Type 0 where
   pub told : List Answer
   pub own : Reply
@@ -224,17 +227,17 @@ pub record IsNothingRun (w : WorldState) (old new : Threaded) : Type 0 where
   pub shape : HasShape w.zone.number w.zone.blocks zone
   pub left : new ≡ left_by old.single.places old.client zone w.scan w.ends (audit_refusal zone w.ends)
 
--- the client's thread can't be started: nothing ran, and that is the one reply
+-- the client's thread couldn't be started: nothing ran, and the one reply is refusal 32
 pub record IsUnstarted (w : WorldState) (old : Threaded) (c : Numbered) (answers : List Answer) (new : Threaded) : Type 0 where
   pub one : answers ≡ record { line = c.line; reply = reply.Refused 32 } ∷ []
   pub nothing : IsNothingRun w old new
 
--- whether a command is a block for the zone that is open, while no round is open by hand
+-- a command is a block for the open zone, while no hand round is open
 abbrev pub IsBlockFor : Command → Option WorldState → Type 0
 IsBlockFor (During number) world = number_is_at_rest (zone_of number) world ≡ true
 IsBlockFor _ world = ⊥
 
--- a block whose client lines may run
+-- a block whose client lines may run was run, or its client couldn't be started
 pub record IsBlockStep (old : Threaded) (c : Numbered) (answers : List Answer) (new : Threaded) : Type 0 where
   pub world : WorldState
   pub there : old.single.world ≡ Some world
@@ -242,22 +245,23 @@ pub record IsBlockStep (old : Threaded) (c : Numbered) (answers : List Answer) (
   pub block : IsBlockFor c.command old.single.world
   pub ran : IsRoundBeside world old c answers new ⊎ IsUnstarted world old c answers new
 
--- The replies to a command and its client lines, and the machine behind them. A block may always be answered by one reply, as on one thread:
--- the client's thread may be one that can't be started.
+-- The answers to a command and its client lines, and the machine after them. A block may always have one reply, as on one thread, since the
+-- client's thread may be one that can't be started.
 abbrev pub IsThreadedStep : Threaded → Numbered → List Answer → Threaded → Type 0
 IsThreadedStep old c answers new = IsOneReply old c answers new ⊎ IsBlockStep old c answers new
 
--- the commands that may end a run for want of memory: one that opens a zone, and a block, whose client's receipts are copied before its
--- thread is started; `compact` and `pool` tell of it by 31 in their reply
+-- a command may end a run for want of memory: one that opens a zone, and a block, since the client's receipts are copied before its
+-- thread is started; `compact` and `pool` tell this by 31 in their reply
 abbrev pub AsksMemory : Threaded → Command → Type 0
 AsksMemory old command = (old.broken ≡ None) × (Opens old.single command ⊎ IsBlockFor command old.single.world)
 
--- a command is no round, pool or block; no command of a script is one of these
+-- a command isn't a round, a pool or a block
 abbrev pub IsUnthreaded : Command → Type 0
 IsUnthreaded (Compact zone) = ⊥
 IsUnthreaded (Pool zone count blocks) = ⊥
 IsUnthreaded (During number) = ⊥
 IsUnthreaded _ = ⊤
 
+-- no command of an input is a round, a pool or a block
 abbrev pub IsUnthreadedScript : List ℕ → Type 0
 IsUnthreadedScript input = AllByRecursion (λ c. IsUnthreaded c.command) (commands_of input)

@@ -6,7 +6,7 @@ use frame_core::ZoneNo;
 use std::alloc::AllocError;
 use text_core::{Command, Reply};
 
-/// What a machine with threads does without them.
+/// What a machine with threads does as one on one thread does it.
 pub(crate) trait Alone {
     /// What contracts see of the machine.
     ghost seen: { Self → Threaded };
@@ -15,7 +15,7 @@ pub(crate) trait Alone {
     fn broken_zone(&self) -> Option<ZoneNo>
         ensures { result ≡ (seen self.now).broken };
 
-    /// Puts the reply to a command as on one thread in place of the one there. It fails only for want of memory.
+    /// Answers a command as on one thread, and writes the reply over the one that is passed. It fails only for want of memory.
     fn reply_alone(&mut self, command: Command, reply: &mut Reply) -> Result<(), AllocError>
         ensures ok { OnOk result (IsStep (seen self.old).single command reply.new (seen self.new).single) }
         ensures memory { OnErr result (Opens (seen self.old).single command) }

@@ -10,8 +10,8 @@ use play_core::{Answers, Block, Respond};
 use std::alloc::AllocError;
 use text_core::{BlockCount, Command, PoolBlocks, Reply};
 
-/// A machine with threads that answers a script. It answers by itself what one on one thread answers; for a round, for a pool and for
-/// a block it has a call each that starts the threads.
+/// A machine with threads that answers a script. It answers by itself what a machine on one thread answers. For a round, for a pool
+/// and for a block it has three calls, which start the threads.
 #[derive(Drop)]
 pub(crate) struct Answering<A, R, P, D> {
     pub(crate) machine: A,
@@ -30,7 +30,7 @@ impl<
 
     ghost asks = { λ old command. AsksMemory (A.seen old.machine) command };
 
-    // Where no zone is broken each call may be made, and answers as the machine's step says.
+    // Where no zone is broken, each of the three calls may be made, and it answers as the machine's step says.
     ghost ready = { λ now.
         ((old : _) (zone : _) → (A.seen old.now).broken ≡ None → R.pre now.round old zone)
         × ((old : _) (zone : _) (reply : _) (new : _) → (A.seen old.now).broken ≡ None → R.post now.round old zone reply new

@@ -1,4 +1,4 @@
-//! A round with the calls of a client beside it.
+//! A round during which a client makes calls.
 
 ghost use Rattle.std.specs.Prelude.{◌≡◌, ◌≤◌, [], IfOk, IfSome, IfNone, vec_len, vec_capacity};
 ghost use Rattle.round_core.specs.Kept.{IsKept};
@@ -20,7 +20,7 @@ use std::thread::{Promise, PromisedHandle, Scope, Threads};
 use text_core::{ClientCall, Reply};
 use zone_core::{Seats, Zone};
 
-/// A client with the lines that it plays, and the place for their answers.
+/// A client with the lines whose calls it makes, and an empty list with room for their answers.
 #[derive(Drop)]
 pub(crate) struct Turn {
     pub(crate) client: Client,
@@ -28,7 +28,7 @@ pub(crate) struct Turn {
     pub(crate) answers: Vec<Answer>,
 }
 
-/// What a client came to, and the round beside it.
+/// The client after its calls, the answers to its lines, and what the round came to.
 #[derive(Drop)]
 pub(crate) struct Both {
     pub(crate) client: Client,
@@ -36,8 +36,8 @@ pub(crate) struct Both {
     pub(crate) round: Result<Round, RoundError>,
 }
 
-/// Shares a zone for one round and one client beside it, and hands it back. None where the client's thread can't be started: then
-/// nothing ran.
+/// Runs one round over a zone while one client makes calls of it, and hands the zone back. None where the client's thread can't
+/// be started: then nothing ran.
 pub(crate) fn compact_beside<
     I: Ledger + Send + Sync,
     N: Ledger,
@@ -63,7 +63,7 @@ pub(crate) fn compact_beside<
     compact_shared::<Brand, I, N, M, B, R>(rt, alloc, zone, seats, options, turn)
 }
 
-/// The same, of the shape that the type names.
+/// Runs both over a zone with the number and the pageblocks that the type names.
 fn compact_shared<
     K: Shape + Send + Sync,
     I: Ledger + Send + Sync,
@@ -135,7 +135,7 @@ fn in_scope<
     both
 }
 
-/// Runs a round on this thread and those that it starts, and the client on one more.
+/// Runs a round on this thread and those that it starts, and the client on one more thread.
 fn run_both<
     's,
     'e,
@@ -182,7 +182,7 @@ fn run_both<
     })
 }
 
-/// A client hands back what became of its turn.
+/// A client hands back its answers and its receipts.
 #[derive(Drop)]
 struct Plays {
     turn: Snapshot<Turn>,
@@ -194,7 +194,7 @@ impl Promise<Turn> for Plays {
     ghost kept_by = { λ p r. AreClientAnswers p.turn.value.client p.turn.value.lines.items r.answers.items r.client };
 }
 
-/// Starts a client. Where no thread can be started its turn goes, and it made no call.
+/// Starts a client. Where no thread can be started, its turn is dropped, and it has made no call.
 fn start_client<
     's,
     'e,
@@ -225,7 +225,7 @@ fn start_client<
     started.ok()
 }
 
-/// Plays the lines of a client, one after the other.
+/// Makes the calls of a client's lines, one after the other.
 fn play_lines<K: Shape, I: Ledger, M: Ledger, B: Ledger, R: Wait>(
     rt: &R,
     shared: &SharedZone<K, I, M, B>,
@@ -250,7 +250,7 @@ fn play_lines<K: Shape, I: Ledger, M: Ledger, B: Ledger, R: Wait>(
     }
 }
 
-/// The reply to a client's line.
+/// Answers a line of a client.
 fn reply_to<K: Shape, I: Ledger, M: Ledger, B: Ledger, R: Wait>(
     rt: &R,
     shared: &SharedZone<K, I, M, B>,

@@ -1,9 +1,9 @@
 //! Scripts: a machine with at most one zone answers commands, and a run reads them and writes the replies.
 //!
-//! `play_core` reads a script and writes the replies, and `machine_core` answers on one thread: `run` and `run_text` are its. On threads a
-//! round, a pool or a block may be answered in more than one way, and `specs/Threaded.antt` says in which, and `specs/Clients.antt`
-//! what the calls beside a round are answered: `run_on_threads`. `program` is a run of `compactd`: the words that it is started with, its
-//! streams, and the status that it ends with.
+//! `play_core` reads a script and writes the replies. `machine_core` answers on one thread, by `run` and `run_text`. On threads, by
+//! `run_on_threads`, a round, a pool or a block may be answered in more than one way: `specs/Threaded.antt` says in which, and
+//! `specs/Clients.antt` what the calls during a round are answered. `run_watched` also shows the zone to a watcher. `program` is a run
+//! of `compactd`: the words that it is started with, its streams, and the status that it ends with.
 #![tactic(auto)]
 
 mod alone;
@@ -13,12 +13,14 @@ mod on_threads;
 mod process;
 mod report;
 mod threaded;
+mod watched;
 
 pub use machine_core::{Options, run, run_text};
-pub use on_threads::run_on_threads;
+pub use on_threads::{run_on_threads, run_watched};
 pub use play_core::{Fault, Input, Output, RunError, Sink, Source, Text, Totals, write_out};
 pub use process::program;
 pub use text_core::{
     BlockCount, Call, Calls, ClientCall, Command, PageCount, PoolBlocks, PoolStopped, Repeated,
     Reply, ScriptError, Series, Stopped, read_line, reply_text,
 };
+pub use watched::Watch;

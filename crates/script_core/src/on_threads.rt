@@ -12,6 +12,7 @@ ghost use Rattle.script_core.specs.Threaded.{AsksMemory, IsBlockFor, IsStepBy, I
 
 use crate::answering::Answering;
 use crate::threaded::Threaded;
+use crate::watched::{NoWatch, Watch, Watched};
 use frame_core::ZoneNo;
 use machine_core::Options;
 use play_core::{Block, Input, Output, RunError, Totals, play};
@@ -23,9 +24,9 @@ use std::thread::Threads;
 use text_core::{BlockCount, PoolBlocks};
 use zone_core::Blanks;
 
-/// Runs a script as `run` does, and its rounds and pools on threads, with the calls of a client beside the round of a block. These may
-/// be answered in more than one way, so that a script is answered by replies that its machine may give; one without them has just the
-/// replies that it has by `run`.
+/// Runs a script as `run` does, but its rounds and pools on threads, and the calls of a client during the round of a block. These may
+/// be answered in more than one way, so a script is answered by replies that its machine may give. A script without them has exactly
+/// the replies that it has by `run`.
 pub fn run_on_threads<R: Input, W: Output, H: Threads + Wait + Sync>(
     rt: &H,
     alloc: Global,
@@ -33,25 +34,25 @@ pub fn run_on_threads<R: Input, W: Output, H: Threads + Wait + Sync>(
     writer: &mut W,
     options: Options,
 ) -> Result<Totals, RunError>
-    // The script has no fault, and is answered.
+    // The script has no fault, and all of its commands are answered.
     ensures ok { OnOk result (IfSome (R.remaining reader.old) (λ input. fault_of input ≡ None)) }
     ensures answered { OnOk result (IfSome (R.remaining reader.old) (λ input.
         IsAnswered IsThreadedStep (threaded_at_first options.journal) input (W.contents writer.old) (W.contents writer.new))) }
     ensures total { IfOk result (λ totals. IfSome (R.remaining reader.old) (λ input.
         IsTotal IsThreadedStep (threaded_at_first options.journal) input (W.contents writer.old) (W.contents writer.new) totals)) }
 
-    // Whatever else ends the run, the replies before it are written, but where it is that they can't be.
+    // Whatever else ends the run, the replies to the commands before are written, unless it is that they can't be.
     ensures err { IfErr result (λ error. IfSome (R.remaining reader.old) (λ input.
         IsEnded IsThreadedStep AsksMemory (threaded_at_first options.journal) error.fault input error
         (R.remaining reader.old) (R.remaining reader.new) (W.contents writer.old) (W.contents writer.new))) }
 
-    // A read failed, or ten million saw no end; a write failed, or took no byte.
+    // Where a read ended the run, it failed, or ten million reads didn't come to the end; where a write did, it failed or took no byte.
     ensures heard { OnOk result (R.failed reader.new ≡ false) }
     ensures unread { IfErr result (λ error. error.fault ≡ Fault.Read → CannotReadOn (R.failed reader.new)
         (R.reads reader.old) (R.reads reader.new) (R.remaining reader.old)) }
     ensures stuck { IfErr result (λ error. error.fault ≡ Fault.Write → IsTrue (W.stuck writer.new)) }
 
-    // Of a script without rounds, pools and blocks all holds that does on one thread.
+    // For a script without rounds, pools and blocks all holds that holds on one thread.
     ensures totals { IfOk result (λ totals. IfSome (R.remaining reader.old) (λ input.
         IsUnthreadedScript input → totals ≡ totals_of options.journal input)) }
     ensures output { OnOk result (IfSome (R.remaining reader.old) (λ input.
@@ -60,17 +61,41 @@ pub fn run_on_threads<R: Input, W: Output, H: Threads + Wait + Sync>(
         IsUnthreadedScript input → EndsIn error.fault options.journal input error
         (R.remaining reader.old) (R.remaining reader.new) (W.contents writer.old) (W.contents writer.new))) }
 {
-    run_threaded::<Brand, Brand, Brand, Brand, R, W, H>(
+    run_watched(rt, alloc, reader, writer, options, &mut NoWatch)
+}
+
+/// Runs a script as `run_on_threads` does, and shows a watcher the zone before each command and after it.
+pub fn run_watched<R: Input, W: Output, H: Threads + Wait + Sync, V: Watch>(
+    rt: &H,
+    alloc: Global,
+    reader: &mut R,
+    writer: &mut W,
+    options: Options,
+    watcher: &mut V,
+) -> Result<Totals, RunError>
+    ensures ok { OnOk result (IfSome (R.remaining reader.old) (λ input. fault_of input ≡ None)) }
+    ensures total { IfOk result (λ totals. IfSome (R.remaining reader.old) (λ input.
+        IsTotal IsThreadedStep (threaded_at_first options.journal) input (W.contents writer.old) (W.contents writer.new) totals)) }
+    ensures err { IfErr result (λ error. IfSome (R.remaining reader.old) (λ input.
+        IsEnded IsThreadedStep AsksMemory (threaded_at_first options.journal) error.fault input error
+        (R.remaining reader.old) (R.remaining reader.new) (W.contents writer.old) (W.contents writer.new))) }
+    ensures heard { OnOk result (R.failed reader.new ≡ false) }
+    ensures unread { IfErr result (λ error. error.fault ≡ Fault.Read → CannotReadOn (R.failed reader.new)
+        (R.reads reader.old) (R.reads reader.new) (R.remaining reader.old)) }
+    ensures stuck { IfErr result (λ error. error.fault ≡ Fault.Write → IsTrue (W.stuck writer.new)) }
+{
+    run_threaded::<Brand, Brand, Brand, Brand, R, W, H, V>(
         rt,
         alloc,
         reader,
         writer,
         options,
         Blanks::new(),
+        watcher,
     )
 }
 
-/// Runs a script on threads. Its zone, if it opens one, is named by the ledgers.
+/// Runs a script on threads. The ledgers name the zone that it opens, if it opens one.
 fn run_threaded<
     I: Ledger + Send + Sync,
     N: Ledger,
@@ -79,6 +104,7 @@ fn run_threaded<
     R: Input,
     W: Output,
     H: Threads + Wait + Sync,
+    V: Watch,
 >(
     rt: &H,
     alloc: Global,
@@ -86,6 +112,7 @@ fn run_threaded<
     writer: &mut W,
     options: Options,
     blanks: Blanks,
+    watcher: &mut V,
 ) -> Result<Totals, RunError>
     requires blanks { AreFor blanks I.name I.parts N.name N.parts M.name M.parts B.name B.parts }
     ensures ok { OnOk result (IfSome (R.remaining reader.old) (λ input. fault_of input ≡ None)) }
@@ -124,5 +151,5 @@ fn run_threaded<
         pool,
         block,
     };
-    play(alloc, answering, reader, writer)
+    play(alloc, Watched { answering, watcher }, reader, writer)
 }

@@ -30,9 +30,9 @@ const FAULT: u8 = 1;
 
 const REFUSED: u8 = 2;
 
-/// Runs the script that the reader gives, as the words of the command line say, and its rounds on threads. The result is the exit
-/// status: 0 where the whole script was answered or help was asked for, 1 for a fault of the run or for want of memory, and 2 where the
-/// words were refused. What the clauses say of bytes holds for a reader and a writer that tell theirs.
+/// Runs the script that the reader gives, with the options of the command line, and its rounds on threads. The result is the exit
+/// status: 0 where the whole script was answered, or help or version was asked for; 1 for a fault of the run or for want of memory; 2
+/// where the command line was refused. What the clauses say of bytes holds for readers and writers that tell their bytes.
 pub fn program<R: Input, W: Output, F: Output, H: Threads + Wait + Sync>(
     rt: &H,
     alloc: Global,
@@ -42,10 +42,10 @@ pub fn program<R: Input, W: Output, F: Output, H: Threads + Wait + Sync>(
     faults: &mut F,
 ) -> u8
     ensures status { result ≤ 2 }
-    // Words that aren't all text.
+    // The words weren't all text.
     ensures unread { IfErr words (λ error. (result ≡ 2) ⊎ LacksMemory result (W.contents writer.old) (W.contents writer.new)
         (F.contents faults.old) (F.contents faults.new) (F.stuck faults.new)) }
-    // Words that clap refuses give 2, nothing else does, and its help gives 0.
+    // Words that clap refuses give 2, and nothing else does; where they ask only for help or version, the status is 0.
     ensures refused { IfOk words (λ args. refusal_of (texts_of args) ≢ [] → asks_help (texts_of args) ≡ false
         → (result ≡ 2) ⊎ LacksMemory result (W.contents writer.old) (W.contents writer.new)
         (F.contents faults.old) (F.contents faults.new) (F.stuck faults.new)) }
@@ -54,7 +54,7 @@ pub fn program<R: Input, W: Output, F: Output, H: Threads + Wait + Sync>(
         → (result ≡ 0) ⊎ LacksMemory result (W.contents writer.old) (W.contents writer.new)
         (F.contents faults.old) (F.contents faults.new) (F.stuck faults.new)) }
     ensures quiet { result ≡ 2 → Keeps (W.contents writer.old) (W.contents writer.new) }
-    // The script has no fault, and was answered, and one without rounds, pools and blocks as on one thread.
+    // The script has no fault, and was answered; one without rounds, pools and blocks was answered as on one thread.
     ensures whole { IfOk words (λ args. refusal_of (texts_of args) ≡ [] → result ≡ 0
         → IfSome (R.remaining reader.old) (λ input. fault_of input ≡ None)) }
     ensures answered { IfOk words (λ args. refusal_of (texts_of args) ≡ [] → result ≡ 0
@@ -105,7 +105,7 @@ fn play<R: Input, W: Output, F: Output, H: Threads + Wait + Sync>(
     }
 }
 
-/// Writes what clap answers in place of options, and gives the status that goes with it.
+/// Writes clap's answer where it isn't options, and gives the status that goes with it.
 fn answer<W: Output, F: Output>(error: &Error, writer: &mut W, faults: &mut F) -> u8
     ensures status { result ≡ status_of (kind_of error.now) }
     ensures quiet { is_help (kind_of error.now) ≡ false → Keeps (W.contents writer.old) (W.contents writer.new) }

@@ -1,4 +1,4 @@
-//! The line that tells of a fault.
+//! The line that says which fault ended a run.
 ghost use Rattle.std.specs.Prelude.{◌≡◌, ◌+◌, ◌≤◌, ◌++◌, decimal, length};
 ghost use Rattle.arrayvec.specs.ArrayVec.{array_vec_len};
 ghost use Rattle.script_core.specs.Stops.{Tells, fault_line};
@@ -7,7 +7,7 @@ use arrayvec::ArrayVec;
 use itoa::Buffer;
 use play_core::{Output, RunError, write_out};
 
-/// Writes the line of a fault. That a write fails changes nothing.
+/// Writes the line of a fault. Where the write fails, nothing more is done.
 pub(crate) fn report<F: Output>(faults: &mut F, error: RunError)
     ensures { Tells error (F.contents faults.old) (F.contents faults.new) (F.stuck faults.new) }
 {

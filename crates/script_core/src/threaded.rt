@@ -30,8 +30,8 @@ use zone_core::{Audit, Blanks, Seats, Zone, ZoneError};
 /// How many rounds a pool may run.
 const POOL_ROUNDS: u32 = 4;
 
-/// What a script works on where there are threads: the machine as on one thread, the number of the zone that a round left so that no
-/// audit passes, and the client whose calls are made beside rounds.
+/// What a script works on where there are threads: the machine as on one thread, the number of a zone that a round left broken, so
+/// that no audit passes, and the client that makes calls during rounds.
 #[derive(Drop)]
 pub(crate) struct Threaded<I: Ledger, N: Ledger, M: Ledger, B: Ledger> {
     alloc: Global,
@@ -54,8 +54,8 @@ impl<I: Ledger, N: Ledger, M: Ledger, B: Ledger> Model for Threaded<I, N, M, B> 
 }
 
 impl<I: Ledger, N: Ledger, M: Ledger, B: Ledger> Threaded<I, N, M, B> {
-    /// No zone yet. One that is opened has as many places in its journal as the options say, and its rounds as many copiers and as
-    /// much room in their queues.
+    /// A machine with no zone. A zone that it opens has as many places in its journal as the options say, and a round has as many
+    /// copiers, and as much room in its queues.
     pub(crate) fn new(alloc: Global, options: Options, blanks: Blanks) -> Self
         requires blanks { AreFor blanks I.name I.parts N.name N.parts M.name M.parts B.name B.parts }
         ensures { result ≡ threaded_at_first options.journal }
@@ -67,6 +67,16 @@ impl<I: Ledger, N: Ledger, M: Ledger, B: Ledger> Threaded<I, N, M, B> {
             broken: None,
             client: Client::new(alloc, block_client()),
         }
+    }
+
+    /// The zone that is open, if one is.
+    #[inline(always)]
+    pub(crate) fn zone(&self) -> Option<&Zone<I, M, B>>
+        ensures some { IfSome result (λ zone. IfSome self.now.single.world (λ world. zone.now ≡ world.zone)) }
+        ensures none { IfNone result (self.now.single.world ≡ None) }
+    {
+        let world = self.machine.world()?;
+        Some(world.zone())
     }
 }
 
@@ -88,8 +98,8 @@ impl<I: Ledger + Send + Sync, N: Ledger, M: Ledger + Send + Sync, B: Ledger + Se
     M,
     B,
 > {
-    /// Answers the command for a round over a zone, where none is broken. It is apart, since it has room for a whole world, which other
-    /// commands do without.
+    /// Answers the command for a round over a zone, where no zone is broken. This is a function of its own since it needs room for a
+    /// whole world, which no other command does.
     #[inline(never)]
     pub(crate) fn answer_compact<H: Threads + Wait + Sync>(&mut self, rt: &H, zone: ZoneNo) -> Reply
         requires whole { self.old.broken ≡ None }
@@ -101,7 +111,7 @@ impl<I: Ledger + Send + Sync, N: Ledger, M: Ledger + Send + Sync, B: Ledger + Se
         self.run_round(rt, world)
     }
 
-    /// Answers the command for a pool of blocks of a zone, apart as the one for a round.
+    /// Answers the command for a pool of blocks of a zone. This is a function of its own for the same reason.
     #[inline(never)]
     pub(crate) fn answer_pool<H: Threads + Wait + Sync>(
         &mut self,
@@ -119,7 +129,7 @@ impl<I: Ledger + Send + Sync, N: Ledger, M: Ledger + Send + Sync, B: Ledger + Se
         self.run_pool(rt, world, count, blocks)
     }
 
-    /// Answers a block, apart as the command for a round.
+    /// Answers a block. This is a function of its own for the same reason.
     #[inline(never)]
     pub(crate) fn answer_block<H: Threads + Wait + Sync>(
         &mut self,
@@ -140,7 +150,7 @@ impl<I: Ledger + Send + Sync, N: Ledger, M: Ledger + Send + Sync, B: Ledger + Se
         self.run_beside(rt, world, block)
     }
 
-    /// Runs a round over the zone of a world, which the machine gives for it.
+    /// Runs a round over the zone of a world, which the machine gave away for it.
     fn run_round<H: Threads + Wait + Sync>(&mut self, rt: &H, world: World<I, N, M, B>) -> Reply
         requires given { self.old.single.world ≡ None }
         requires whole { self.old.broken ≡ None }
@@ -153,8 +163,8 @@ impl<I: Ledger + Send + Sync, N: Ledger, M: Ledger + Send + Sync, B: Ledger + Se
         reply_to(round)
     }
 
-    /// Runs a round over the zone of a world, which the machine gives for it, with the calls of the client beside it. The calls are made
-    /// with a copy of the client, so that it has its receipts still where its thread can't be started.
+    /// Runs a round over the zone of a world, which the machine gave away for it, while the client makes calls. A copy of the client
+    /// makes the calls, so that the client still has its receipts where the copy's thread can't be started.
     fn run_beside<H: Threads + Wait + Sync>(
         &mut self,
         rt: &H,
@@ -181,8 +191,8 @@ impl<I: Ledger + Send + Sync, N: Ledger, M: Ledger + Send + Sync, B: Ledger + Se
         Ok(Answers::new(answers, Answer::new(line, own)))
     }
 
-    /// Runs a round over the zone of a world, which the machine gives for it, with a turn of the client beside it. The answers to the
-    /// turn's lines, and the reply to the round; None where the client's thread can't be started.
+    /// Runs a round over the zone of a world, which the machine gave away for it, while the client makes the calls of a turn. It
+    /// answers the answers to the turn's lines, and the reply to the round; None where the client's thread can't be started.
     fn run_turn<H: Threads + Wait + Sync>(
         &mut self,
         rt: &H,
@@ -207,7 +217,7 @@ impl<I: Ledger + Send + Sync, N: Ledger, M: Ledger + Send + Sync, B: Ledger + Se
         Some(told)
     }
 
-    /// Keeps the client behind its turn. The answers to its lines, and the reply to the round.
+    /// Keeps the client as its turn left it, and gives the answers to its lines and the reply to the round.
     fn settle(&mut self, zone: &Zone<I, M, B>, both: Both) -> (Vec<Answer>, Reply)
         ensures client { self.new ≡ record self.old { client = both.client } }
         ensures answers { result.0.items ≡ both.answers.items }
@@ -223,7 +233,7 @@ impl<I: Ledger + Send + Sync, N: Ledger, M: Ledger + Send + Sync, B: Ledger + Se
         (answers, own)
     }
 
-    /// Runs a round over a zone, with as many copiers and as much room in their queues as the options say.
+    /// Runs a round over a zone, with as many copiers and as much room in its queues as the options say.
     fn compact<H: Threads + Wait + Sync>(
         &self,
         rt: &H,
@@ -246,7 +256,7 @@ impl<I: Ledger + Send + Sync, N: Ledger, M: Ledger + Send + Sync, B: Ledger + Se
         )
     }
 
-    /// Reserves blocks of the zone of a world, which the machine gives for it.
+    /// Reserves blocks of the zone of a world, which the machine gave away for it.
     fn run_pool<H: Threads + Wait + Sync>(
         &mut self,
         rt: &H,
@@ -269,7 +279,7 @@ impl<I: Ledger + Send + Sync, N: Ledger, M: Ledger + Send + Sync, B: Ledger + Se
         pool_reply(blocks, &report)
     }
 
-    /// What reserves blocks of an order for a pool, with as many copiers and as much room in their queues as the options say.
+    /// The collector of a pool that reserves blocks of this order, with as many copiers and as much room in its queues as the options say.
     fn collector(&self, order: Order) -> Collector
         ensures rounds { result.rounds ≡ 4 }
         ensures order { result.order ≡ order }
@@ -282,7 +292,7 @@ impl<I: Ledger + Send + Sync, N: Ledger, M: Ledger + Send + Sync, B: Ledger + Se
         }
     }
 
-    /// Takes a zone back with its seats. Where its audit fails it is dropped, and its number is kept.
+    /// Takes a zone back with its seats. Where its audit fails the zone is dropped, and its number is kept.
     fn take_back(&mut self, mut zone: Zone<I, M, B>, mut seats: Seats<I, N, M, B>, rest: Rest)
         requires given { self.old.single.world ≡ None }
         requires whole { self.old.broken ≡ None }
@@ -298,7 +308,7 @@ impl<I: Ledger + Send + Sync, N: Ledger, M: Ledger + Send + Sync, B: Ledger + Se
     }
 }
 
-/// The zone of a world in which no round is open by hand, its seats and its rest.
+/// The zone, the seats and the rest of a world in which no hand round is open.
 fn parts_of<I: Ledger, N: Ledger, M: Ledger, B: Ledger>(
     world: World<I, N, M, B>,
 ) -> (Zone<I, M, B>, Seats<I, N, M, B>, Rest)
@@ -312,14 +322,14 @@ fn parts_of<I: Ledger, N: Ledger, M: Ledger, B: Ledger>(
     world.split().ok().unwrap()
 }
 
-/// The number of the client whose calls are made beside rounds.
+/// The number of the client that makes calls during rounds: 1.
 fn block_client() -> ClientNo
     ensures { result ≡ 1 }
 {
     ClientNo::new(1).unwrap()
 }
 
-/// The reply to a round beside a client: what the client has receipts of has to stand in the zone's journal.
+/// The reply to a round during which a client made calls: 35 where the client's receipts aren't its records in the zone's journal.
 fn settled_reply<I: Ledger, M: Ledger, B: Ledger>(
     zone: &Zone<I, M, B>,
     client: &Client,
@@ -383,7 +393,7 @@ fn pool_reply(blocks: PoolBlocks, report: &Report) -> Reply
     }
 }
 
-/// The numbers that tell at most eight blocks.
+/// The numbers that name at most eight blocks.
 fn told_of(blocks: &PoolBlocks, got: &[Option<Huge>]) -> ArrayVec<u16, 8>
     requires few { length got.now ≤ 8 }
     ensures { result.items ≡ told_of blocks.now got.now }
@@ -410,7 +420,7 @@ fn pool_stopped(stop: PoolStop) -> PoolStopped
     }
 }
 
-/// The reply to a command where the zone with this number is broken: it isn't there for any call.
+/// The reply to a command where the zone with this number is broken: no call can be made of it.
 pub(crate) fn broken_reply(number: ZoneNo, command: Command) -> Reply
     ensures { result ≡ broken_reply number command }
 {
@@ -425,7 +435,7 @@ pub(crate) fn broken_reply(number: ZoneNo, command: Command) -> Reply
     }
 }
 
-/// The reply to a block then, whose zone is told by any number.
+/// The reply to a block where the zone with this number is broken. The block's zone may be any number.
 pub(crate) fn broken_reply_to_block(number: ZoneNo, zone: u64) -> Reply
     ensures { result ≡ broken_reply number (Command.During zone) }
 {
@@ -435,7 +445,7 @@ pub(crate) fn broken_reply_to_block(number: ZoneNo, zone: u64) -> Reply
     }
 }
 
-/// The number by which a command on a zone is refused then.
+/// The number of the refusal of a command on a zone, where the zone with the first number is broken.
 fn broken_refusal(number: ZoneNo, zone: ZoneNo) -> u16
     ensures { result ≡ broken_refusal number zone }
 {

@@ -1,4 +1,4 @@
--- What an accepted call leaves of a lawful zone is lawful.
+-- A lawful zone is lawful after each accepted call.
 use Rattle.std.proofs.Common.{◌≡◌, ℕ, ◌<◌, ◌≤◌, Bool, true, false, refl, sym, ap, subst, arith}
 use Rattle.std.specs.Prelude.{Option, Some, None, is_some, is_none, nat_le, nat_lt, not, if◌then◌else◌, unwrap_or}
 use Rattle.std.specs.FinMap as map
@@ -32,12 +32,12 @@ use Rattle.state_core.proofs.Placed.{placed_lawful}
 use Rattle.state_core.proofs.Sharing.{lawful_shared}
 use Rattle.state_core.proofs.Unmapping.{lawful_unmapped}
 
--- a call that isn't refused found room in the journal, and passed the tests behind that
+-- a call that isn't refused found room in the journal, and passed the tests after this one
 pub room_then : (b : Bool) (o : Option ZoneError) → (if not b then Some JournalFull else o) ≡ None → (b ≡ true) × (o ≡ None)
 room_then true o e = (refl, e)
 room_then false o e = cc
 
--- where the page is that can be read and written
+-- a page that can be read and written is in a frame
 pub at_then : (o : Option Placement) → placement_refusal o ≡ None → (frame : ℕ) × (o ≡ Some (At frame))
 at_then None e = cc
 at_then (Some (At frame)) e = (frame, refl)
@@ -47,7 +47,7 @@ both_none : {A : Type 0} (o other : Option A) → option_or o other ≡ None →
 both_none None other e = (refl, e)
 both_none (Some x) other e = cc
 
--- two tests of which neither refuses
+-- two tests, neither of which refuses
 passes : (b : Bool) (first : ZoneError) (o : Option ZoneError) → (if b then Some first else o) ≡ None → (b ≡ false) × (o ≡ None)
 passes false first o e = (refl, e)
 passes true first o e = cc
@@ -60,7 +60,7 @@ some_if_not_none : {A : Type 0} (o : Option A) → is_none o ≡ false → (x : 
 some_if_not_none None e = cc
 some_if_not_none (Some x) e = (x, refl)
 
--- a fresh page in a free frame
+-- what has to hold so that a fresh page can be mapped in a frame
 pub record CanMap (z : ZoneState) (address : Address) (frame : ℕ) : Type 0 where
   pub room : has_room z ≡ true
   pub vacant : page_at z.records address ≡ None
@@ -82,7 +82,7 @@ can_map_at z address frame accepted =
     let free = holds (is_free z frame) NoFrame None vacant.1 in
     record { room = room.0; vacant = none_is _ vacant.0; free = free.0; within = ltb-true _ _ within.0 }
 
--- the number of a fresh page
+-- what is known of the number of a fresh page
 pub record Fresh (z : ZoneState) (page : ℕ) : Type 0 where
   pub is : lowest_unused_page z ≡ Some page
   pub numbered : page < frame_count z
@@ -111,7 +111,7 @@ lawful_mapped z address unmovable frame law range can =
       within = can.within;
     }))
 
--- a call at a page that stands in a frame
+-- what is known of a call for a page that is in a frame
 pub record IsAtRest (z : ZoneState) (address : Address) : Type 0 where
   pub room : has_room z ≡ true
   pub frame : ℕ
@@ -191,7 +191,7 @@ take_order_lawful z order first law low high accepted lowest =
     let room = room_then (has_room z) _ accepted in
     lawful_block_taken z first order (lowest_some (is_run z order) (frame_count z) first lowest).1 law (spare z room.0) low high
 
--- a block that isn't refused is there
+-- where a block isn't refused there is a free one
 pub some_run : (z : ZoneState) (order : ℕ) → take_order_refusal z order ≡ None → (first : ℕ) × (lowest_run z order ≡ Some first)
 some_run z order accepted =
     let none = passes (is_none (lowest_run z order)) NoBlock None (room_then (has_room z) _ accepted).1 in

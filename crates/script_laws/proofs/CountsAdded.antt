@@ -55,7 +55,7 @@ adds_step places w o (On zone calls) = by_number (nat_eq zone w.zone.number) whe
   by_number true = adds_calls w o calls
   by_number false = tt
 
--- of a zone that is open
+-- the counts of each reply add up where a zone is open
 open_adds : (places : ℕ) (frames : Option ℕ) (commands : List Numbered) → AreInRange commands → (w : WorldState) → IsOrderly w → frames ≡ Some (512 * w.zone.blocks) → AllByRecursion (λ a. AddsUpTo frames a.reply) (answers_from places (Some w) commands)
 open_adds places frames [] ranged w o is = tt
 open_adds places frames (c ∷ commands) ranged w o is =
@@ -65,7 +65,7 @@ open_adds places frames (c ∷ commands) ranged w o is =
           (open_adds places frames commands ranged.1 on.after on.keeps.orderly (is ∙ ap (λ n. Some (512 * n)) (sym on.keeps.blocks))),
     )
 
--- of a script from its first command on
+-- the counts of each reply add up from the first command of a script on
 adds_first : (places : ℕ) → (0 < places) × (places ≤ 65536) → (line : ℕ) (clients : List ClientLine) (command : Command) (commands : List Numbered) → IsInRange command → AreInRange commands → CountsAddUp commands (answers_from places None commands)
     → CountsAddUp (record { line = line; command = command; clients = clients } ∷ commands) (answers_from places None (record { line = line; command = command; clients = clients } ∷ commands))
 adds_first places range line clients OutOfRange commands r ranged rest = (tt, rest)

@@ -36,7 +36,7 @@ use Rattle.script_laws.proofs.Replies.{has_counts, plain_call, plain_series}
 abbrev further : Answer → Answer
 further a = record { line = a.line + 1; reply = with_held a.reply }
 
--- a client's line, further down
+-- a client line, one line further down
 abbrev lower : ClientLine → ClientLine
 lower c = record { line = c.line + 1; call = c.call }
 
@@ -49,7 +49,7 @@ plain_held (reply.Info i) h = cc
 plain_held (reply.InfoWithHeld i) h = refl
 plain_held _ h = refl
 
--- the step of a command in profile 2 has the same reply, but for the held frames, and the same world
+-- the step of a command in profile 2 has the same world, and the same reply except for the held frames
 abbrev told : Step → Step
 told s = record { reply = with_held s.reply; world = s.world }
 
@@ -108,7 +108,7 @@ told_first : (c : Command) → (c ≡ Profile2 → ⊥) → profile_told c Untol
 told_first Profile2 never = absurd (never refl)
 told_first _ never = refl
 
--- a block, the command that a line ends and how the next line is read, in profile 2 and a line further down
+-- a block in profile 2, a line further down
 abbrev lower_block : Block → Block
 lower_block b = record { line = b.line + 1; zone = b.zone; clients = map lower b.clients }
 
@@ -118,13 +118,13 @@ lower_reading q = record { profile = Two; block = option_map lower_block q.block
 abbrev lower_came : Came → Came
 lower_came came = record { ended = option_map moved came.ended; reading = lower_reading came.reading }
 
--- a line that has no fault in profile 1 comes to the same in profile 2, and leaves profile 1
+-- a line that has no fault in profile 1 makes the same in profile 2, and doesn't change the profile
 record ComesLower (one two : Result Came Fault) (came : Came) : Type 0 where
   one_is : one ≡ Ok came
   two_is : two ≡ Ok (lower_came came)
   profile : came.reading.profile ≡ Profile1
 
--- whether something came of a line
+-- a line has no fault
 abbrev IsOver : Result Came Fault → Type 0
 IsOver (Ok came) = ⊤
 IsOver (Err fault) = ⊥
@@ -154,7 +154,7 @@ outside_lower n (Ok (Some c)) untold two say over =
       },
     )
 
--- a client's line
+-- a client line, one line further down
 module _ (n : ℕ) (block : Block) (call : Option ClientCall) where
   abbrev more : Block
   more = record block { clients = block.clients ++ record { line = n; call = call } ∷ [] }
@@ -195,7 +195,7 @@ comes_lower : (n : ℕ) (text : List ℕ) (o : Option Block) → IsOver (comes_i
 comes_lower n text None over = outside_lower n (line_of Profile1 text) (line_of Untold text) (line_of Two text) (lines_alike text) over
 comes_lower n text (Some block) over = within_lower n block (line_within block.zone text) over
 
--- lines without a fault in profile 1 say the same in profile 2, a line further down
+-- lines without a fault in profile 1 have the same commands in profile 2, a line further down
 record ReadsLower (n : ℕ) (o : Option Block) (parts : List (List ℕ)) : Type 0 where
   fault : fault_from (lower_reading (record { profile = Profile1; block = o })) (n + 1) parts ≡ None
   commands : commands_from (lower_reading (record { profile = Profile1; block = o })) (n + 1) parts ≡ map moved (commands_from (record { profile = Profile1; block = o }) n parts)
@@ -237,7 +237,7 @@ reads_lower n o (text ∷ next ∷ parts) e =
           ∙ ap (λ l. map moved (C q n l)) (sym c.one_is);
     }
 
--- and the same by themselves
+-- lines without a fault in profile 1 have the same commands where no profile is decided yet
 record ReadsFirst (n : ℕ) (parts : List (List ℕ)) : Type 0 where
   fault : fault_from (by Untold) n parts ≡ None
   commands : commands_from (by Untold) n parts ≡ commands_from (by Profile1) n parts

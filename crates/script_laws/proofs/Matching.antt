@@ -1,4 +1,4 @@
--- A journal and a history that number pages in their own ways tell the same of addresses and words.
+-- A journal and a history that give pages different numbers say the same of addresses and words.
 use Rattle.std.proofs.Common.{◌≡◌, ℕ, ◌<◌, Bool, true, false, List, [], ◌∷◌, length, inl, inr, refl, sym, ap, ◌∙◌, arith, Option, Some, None, nat_eq}
 use Rattle.std.specs.Prelude.{◌&&◌, if◌then◌else◌}
 use Rattle.std.proofs.lemmas.Bool.{cases_Bool, cond-true, cond-false, eq-eqb, ne_eqb}
@@ -9,13 +9,13 @@ use Rattle.journal_core.specs.declared.record.Record.TheVariants.{Map, Share, Un
 use Rattle.journal_core.specs.History.{is_page, last, names, page_at, same_address}
 
 pub record Match (journal history : List Record) : Type 0 where
-  -- an address that names no page in the one names none in the other
+  -- an address that names no page in the journal names none in the history
   pub none : (a : Address) → page_at journal a ≡ None → page_at history a ≡ None
   pub some : (a : Address) (p : ℕ) → page_at journal a ≡ Some p → (m : ℕ) × (page_at history a ≡ Some m)
-  -- the same addresses name the page, and its words are the same
+  -- a page of the journal and the one of the history that has the same address have the same addresses and the same words
   pub same : (a b : Address) (p m : ℕ) → page_at journal a ≡ Some p → page_at history a ≡ Some m → names journal b p ≡ names history b m
   pub words : (a : Address) (p m w : ℕ) → page_at journal a ≡ Some p → page_at history a ≡ Some m → last journal p w ≡ last history m w
-  -- a page has a number below those of later ones
+  -- the number of a page of the history is below the number of its records, which is what a later page gets
   pub older : (a : Address) (m : ℕ) → page_at history a ≡ Some m → m < length history
 
 pub match_empty : Match [] []
@@ -27,7 +27,7 @@ match_empty = record {
   older = λ a m e. cc;
 }
 
--- a journal that tells the same
+-- a journal that says the same as one that matches matches too
 pub match_same : (journal next history : List Record) → ((a : Address) → page_at next a ≡ page_at journal a) → ((p w : ℕ) → last next p w ≡ last journal p w) → Match journal history → Match next history
 match_same journal next history names_are words_are was = record {
   none = λ a e. was.none a (sym (names_are a) ∙ e);
@@ -37,7 +37,7 @@ match_same journal next history names_are words_are was = record {
   older = was.older;
 }
 
--- a store
+-- both match after a store
 pub match_stored : (journal history : List Record) (a : Address) (word value : ℕ) → Match journal history → Match (Store 0 a word value ∷ journal) (Store 0 a word value ∷ history)
 match_stored journal history a word value was = record {
   none = was.none;
@@ -49,7 +49,7 @@ match_stored journal history a word value was = record {
   older = λ b m e. (let under : m < length history = was.older b m e in omega arith);
 }
 
--- the page of an address, where one is bound anew
+-- the page that an address names after one address was made to name another page
 module _ (bound : Option ℕ) (records : List Record) (a at : Address) where
   abbrev rebound : Option ℕ
   rebound = if same_address at a then bound else page_at records at
@@ -60,7 +60,7 @@ module _ (bound : Option ℕ) (records : List Record) (a at : Address) where
   there : same_address at a ≡ false → rebound ≡ page_at records at
   there e = cond-false (same_address at a) bound (page_at records at) e
 
--- a fresh page, which no address names
+-- both match after a fresh page was mapped, which no address names before
 module _ (journal history : List Record) (a : Address) (page : ℕ) (fresh : (b : Address) → page_at journal b ≡ Some page → ⊥) (was : Match journal history) where
   abbrev mapped_journal : List Record
   mapped_journal = Map 0 a page ∷ journal
@@ -78,7 +78,7 @@ module _ (journal history : List Record) (a : Address) (page : ℕ) (fresh : (b 
   numbered : (b : Address) → page_at history b ≡ Some number → ⊥
   numbered b e = let under : number < length history = was.older b number e in omega arith
 
-  -- who names the page of an address then
+  -- which addresses name the page of an address after the mapping
   named_then : (b c : Address) (p m : ℕ) (at_b at_c : Bool) → same_address b a ≡ at_b → same_address c a ≡ at_c → page_at mapped_journal b ≡ Some p → page_at mapped_history b ≡ Some m → names mapped_journal c p ≡ names mapped_history c m
   named_then b c p m true true eb ec e f =
       let p_is : page ≡ p = same_Some page p (sym (here (Some page) journal a b eb) ∙ e) in
@@ -130,9 +130,9 @@ module _ (journal history : List Record) (a : Address) (page : ℕ) (fresh : (b 
     ];
   }
 
--- a second address
+-- both match after a share
 module _ (journal history : List Record) (a alias : Address) (was : Match journal history) where
-  -- the address whose page an address names then
+  -- the address that had the page before the share which an address names after it
   abbrev source : Bool → Address → Address
   source at b = if at then a else b
 
@@ -157,7 +157,7 @@ module _ (journal history : List Record) (a alias : Address) (was : Match journa
     older = λ b m e. (let under : m < length history = was.older (from b) m (sym (shared_at history b) ∙ e) in omega arith);
   }
 
--- an address that names no page any more
+-- both match after an unmap
 module _ (journal history : List Record) (a : Address) (was : Match journal history) where
   still : (b : Address) (p : ℕ) (records : List Record) → page_at (Unmap 0 a ∷ records) b ≡ Some p → (same_address b a ≡ false) × (page_at records b ≡ Some p)
   still b p records e = elim (cases_Bool (same_address b a)) [

@@ -1,4 +1,4 @@
--- Scans, hands and the end of moves keep a world orderly, and change no address and no word.
+-- Scans, hands and ends of moves keep a world orderly, and change no address and no word.
 use Rattle.std.proofs.Common.{◌≡◌, ℕ, Bool, true, false, List, [], ◌∷◌, length, refl, ap, subst, ◌∙◌}
 use Rattle.std.specs.Prelude.{Option, Some, None, nat_eq, unwrap_or, if◌then◌else◌}
 use Rattle.std.specs.List.{list_all}
@@ -18,7 +18,7 @@ use Rattle.world_core.specs.declared.hand.Hand.{Hand}
 use Rattle.world_core.specs.declared.hand.Hand.TheVariants.{Empty, Page, Copy}
 use Rattle.world_core.specs.World.{WorldState, all_put_back, copy_in, copy_step, finish_step, finished_as, finished_by, is_empty, isolated_by, page_in, round_opened, scanned, shut, shut_step, take_step, taken_by, with_hand}
 
--- a zone after a call that binds no address and stores nothing
+-- a call makes no address name another page, and stores nothing
 pub record LeavesCells (z after : ZoneState) : Type 0 where
   pub blocks : after.blocks ≡ z.blocks
   pub names : (address : Address) → page_at after.records address ≡ page_at z.records address
@@ -34,7 +34,7 @@ leaves_then a b c first second = record {
   words = λ page word. second.words page word ∙ first.words page word;
 }
 
--- a round opens, and a page goes on its way
+-- a round begins, and a page is isolated
 begun_leaves : (z : ZoneState) (is_open : Bool) → LeavesCells z (if is_open then z else round_begun z)
 begun_leaves z true = leaves_all z
 begun_leaves z false = record { blocks = refl; names = λ address. refl; words = λ page word. refl }
@@ -78,7 +78,7 @@ finished_leaves w k finished after e = by_copy (copy_in _) e where
       subst (λ (v : WorldState). LeavesCells w.zone v.zone) (some_pair_parts _ finished (finished_by w k serial) after e).1
       (by_pins serial (unwrap_or (page_of w.zone.records serial) 0) (nat_eq (pins w.zone.records (unwrap_or (page_of w.zone.records serial) 0)) 0))
 
--- all that wait are put back
+-- all pages that wait are put back
 put_back_leaves : (serials : List ℕ) (z : ZoneState) → LeavesCells z (all_put_back z serials)
 put_back_leaves [] z = leaves_all z
 put_back_leaves (serial ∷ more) z =

@@ -1,4 +1,4 @@
--- A pool on one thread keeps a world orderly, changes no address and no word, and tells no counts and no value.
+-- A pool on one thread keeps a world orderly, and changes no address and no word. Its reply has no counts and no value.
 use Rattle.std.proofs.Common.{◌≡◌, ℕ, zero, suc, Bool, true, false, List, [], ◌∷◌, ◌++◌, refl, sym, ap, subst, Option, Some, None}
 use Rattle.std.specs.Prelude.{if◌then◌else◌, unwrap_or}
 use Rattle.state_core.specs.declared.error.ZoneError.{ZoneError}
@@ -20,14 +20,14 @@ module _ (blocks : PoolBlocks) where
   abbrev order : ℕ
   order = pool_order blocks
 
-  -- the world behind one block more
+  -- the world after one more block was taken
   abbrev taken : WorldState → WorldState
   taken w = with_zone w (block_taken w.zone (next_first w order) order)
 
   abbrev more : List ℕ → WorldState → List ℕ
   more got w = got ++ told_as blocks (next_first w order) ∷ []
 
-  -- what holds of an answer that a refusal ends, and of one that goes on
+  -- what holds of an answer that a refusal ends, and of one that goes on, holds of either
   either : (P : Answered → Type 0) (o : Option ZoneError) (got : List ℕ) (w : WorldState) (rest : Answered)
       → ((error : ZoneError) → P (unless_stopped (Some error) blocks got w rest)) → (o ≡ None → P rest) → P (unless_stopped o blocks got w rest)
   either P None got w rest ends goes = goes refl

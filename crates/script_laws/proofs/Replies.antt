@@ -1,4 +1,4 @@
--- Only a call for the counts of a zone is answered by counts.
+-- Only the reply to a call for the counts of a zone has counts.
 use Rattle.std.proofs.Common.{◌≡◌, ℕ, zero, suc, ◌+◌, ◌*◌, Bool, true, false, refl, Option, Some, None}
 use Rattle.frame_core.specs.declared.place.Address.{Address}
 use Rattle.state_core.specs.declared.error.ZoneError.{ZoneError}
@@ -32,7 +32,7 @@ has_counts (reply.Info i) = true
 has_counts (reply.InfoWithHeld i) = true
 has_counts _ = false
 
--- whether a call asks for them
+-- whether a call asks for the counts of a zone
 abbrev pub asks_counts : Call → Bool
 asks_counts Info = true
 asks_counts InfoWithHeld = true

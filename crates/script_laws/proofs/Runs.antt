@@ -16,7 +16,7 @@ use Rattle.script_laws.proofs.Pools.{keeps_pool}
 use Rattle.text_core.specs.Grammar.{zone_of}
 use Rattle.script_laws.proofs.Steps.{Keeps, keeps_all, keeps_call, keeps_series}
 
--- the world behind a command
+-- the world after a command is orderly and has the same number of pageblocks
 pub record Goes (places : ℕ) (w : WorldState) (c : Command) : Type 0 where
   pub after : WorldState
   pub world : (step places (Some w) c).world ≡ Some after
@@ -26,7 +26,7 @@ keeps_calls : (w : WorldState) → IsOrderly w → (zone : ℕ) (c : Calls) → 
 keeps_calls w o zone (One c) r = keeps_call w o c r
 keeps_calls w o zone (SeriesOf s) r = keeps_series s.call s.space s.first s.step 0 s.count w o
 
--- `during` on one thread leaves the world
+-- `during` on one thread changes nothing in the world
 pub during_keeps : (zone : Option ℕ) (w : WorldState) → (during_on zone (Some w)).world ≡ Some w
 during_keeps None w = refl
 during_keeps (Some zone) w = refl

@@ -1,4 +1,4 @@
--- Each call keeps a world orderly, with as many pageblocks.
+-- Each call keeps a world orderly, with the same number of pageblocks.
 use Rattle.std.proofs.Common.{◌≡◌, ℕ, zero, suc, ◌+◌, ◌*◌, Bool, true, false, refl, ap, ◌∙◌, arith, Option, Some, None}
 use Rattle.std.specs.Prelude.{if◌then◌else◌, unwrap_or, nat_eq, IfSome}
 use Rattle.std.specs.List.{list_any}
@@ -36,7 +36,7 @@ use Rattle.machine_core.specs.Machine.{Answered, by_hand, call_at, call_step, co
 use Rattle.script_laws.proofs.CallsAccepted.{can_map, can_map_at, give_order_lawful, lawful_mapped, load_lawful, mark_lawful, pin_lawful, share_lawful, store_lawful, take_order_lawful, unmap_lawful, unmark_lawful, unpin_lawful}
 use Rattle.script_laws.proofs.PagesMoved.{copied_leaves, finished_leaves, opened_leaves, scanned_leaves, shut_leaves, taken_leaves}
 
--- a world after some calls
+-- a world after some calls is orderly and has the same number of pageblocks
 pub record Keeps (w after : WorldState) : Type 0 where
   pub orderly : IsOrderly after
   pub blocks : after.zone.blocks ≡ w.zone.blocks
@@ -63,7 +63,7 @@ keeps_looked : (w : WorldState) (p : Option Look) → IsOrderly w → Keeps w (l
 keeps_looked w None o = keeps_all w o
 keeps_looked w (Some known) o = keeps_all w o
 
--- what a call of the zone leaves of the pages on their way
+-- a call of the zone leaves the moving pages as they are
 record LeavesMoves (z after : ZoneState) : Type 0 where
   same_out : out after.records ≡ out z.records
   migrate : after.migrate ≡ z.migrate
@@ -82,7 +82,7 @@ unmapped_leaves z address = by_last (is_last z address) where
   by_last true = record { same_out = refl; migrate = refl; free = refl; blocks = refl }
   by_last false = record { same_out = refl; migrate = refl; free = refl; blocks = refl }
 
--- a fresh page, a block that is handed out
+-- a fresh page, and a block that is handed out
 keeps_page : (w : WorldState) (a : Address) (unmovable : Bool) (p : Option ℕ) → IsOrderly w → ((frame : ℕ) → p ≡ Some frame → IsLawful (mapped w.zone 0 a unmovable frame)) → Keeps w (fresh_page w a unmovable p).world
 keeps_page w a unmovable None o law = keeps_all w o
 keeps_page w a unmovable (Some frame) o law = keeps_zone w _ o (law frame refl) (record { same_out = refl; migrate = refl; free = refl; blocks = refl })
@@ -144,7 +144,7 @@ keeps_call w o (Mark block) r = keeps_unless w w (mark_refusal w.zone block) _ (
 keeps_call w o (Unmark block) r = keeps_unless w w (unmark_refusal w.zone block) _ (keeps_all w o)
     (λ accepted. keeps_zone w (block_unmarked w.zone block) o (unmark_lawful w.zone block o.lawful accepted) (record { same_out = refl; migrate = refl; free = refl; blocks = refl }))
 
--- the call of a series at an address is in its range
+-- the call of a series at an address is in range
 at_ranged : (c : Repeated) (p : Option Address) → IfSome p (λ a. IsCallInRange (Map a false)) → IfSome p (λ a. IsCallInRange (call_at c a))
 at_ranged repeated.Map p r = r
 at_ranged repeated.Unmap None r = tt

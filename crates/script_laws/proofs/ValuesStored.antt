@@ -1,4 +1,4 @@
--- The values that a machine tells are those of its history.
+-- The values that a machine answers are those of its history.
 use Rattle.std.proofs.Common.{◌≡◌, ℕ, zero, suc, ◌+◌, ◌*◌, ◌<◌, ◌≤◌, Bool, true, false, List, [], ◌∷◌, length, refl, sym, ap, subst, ◌∙◌, arith, Option, Some, None, IsSomeAnd}
 use Rattle.std.specs.Prelude.{◌&&◌, nat_eq, nat_lt, if◌then◌else◌, unwrap_or}
 use Rattle.std.proofs.lemmas.Option.{same_Some}
@@ -50,12 +50,12 @@ use Rattle.script_laws.proofs.Pools.{pool_leaves, pool_tells}
 use Rattle.script_laws.proofs.Runs.{Goes, goes, opened_orderly}
 use Rattle.script_laws.proofs.Steps.{keeps_page_step}
 
--- an answer to a call that was made behind a history
+-- an answer to a call made after this history has the value of the history, and the world after it matches the history after it
 record Tells (older : List Record) (c : Call) (a : Answered) : Type 0 where
   match : Match a.world.zone.records (called older c a.reply)
   value : (zone : ℕ) → IsLastStored older (On zone (One c)) a.reply
 
--- a refusal, which binds nothing and stores nothing
+-- a refusal, which changes no address and no value
 refuses : (older : List Record) (c : Call) (number : ℕ) (w : WorldState) → Match w.zone.records older → Tells older c (says (reply.Refused number) w)
 refuses older c number w m = record { match = m; value = λ zone. tt }
 
@@ -66,7 +66,7 @@ tells_unless older c (Some e) stopped a m go = refuses older c (number_of e) sto
 leaves : (older : List Record) (z after : ZoneState) → LeavesCells z after → Match z.records older → Match after.records older
 leaves older z after l m = match_same z.records after.records older l.names l.words m
 
--- a call that binds no address and stores nothing
+-- a call that makes no address name another page, and stores nothing
 abbrev binds_nothing : Call → Bool
 binds_nothing (Map a unmovable) = false
 binds_nothing (MapAt a frame unmovable) = false
@@ -89,7 +89,7 @@ nothing_called : (older : List Record) (c : Call) (r : Reply) → binds_nothing 
 nothing_called older c (reply.Refused number) h = refl
 nothing_called older c _ h = nothing_added older c h
 
--- whether a reply tells a value
+-- whether a reply has a value
 abbrev has_value : Reply → Bool
 has_value (reply.Value x) = true
 has_value _ = false
@@ -98,7 +98,7 @@ no_value : (older : List Record) (c : Command) (r : Reply) → has_value r ≡ f
 no_value older c (reply.Value x) h = cc
 no_value older c _ h = tt
 
--- such a call tells no value
+-- a call that changes no address and no value, whose reply has no value
 quiet : (older : List Record) (c : Call) (z : ZoneState) (a : Answered) → binds_nothing c ≡ true → has_value a.reply ≡ false → Match z.records older → LeavesCells z a.world.zone → Tells older c a
 quiet older c z a h none m l = record {
   match = subst (Match a.world.zone.records) (sym (nothing_called older c a.reply h)) (leaves older z a.world.zone l m);
@@ -133,7 +133,7 @@ no_value_ending : (serial : ℕ) (e : Ended) → has_value (ending serial e) ≡
 no_value_ending serial ended.Moved = refl
 no_value_ending serial ended.Back = refl
 
--- a fresh page, which no address names
+-- a fresh page, which no address names before
 maps_fresh : (older : List Record) (z : ZoneState) (a : Address) (unmovable : Bool) (frame : ℕ) → IsLawful z → CanMap z a frame → Match z.records older → Match (mapped z 0 a unmovable frame).records (record_of.Map 0 a (length older) ∷ older)
 maps_fresh older z a unmovable frame law can m =
     let fresh = fresh_number z a frame law can in
@@ -150,7 +150,7 @@ unmapped_records z a = by_last (is_last z a) where
   by_last true = refl
   by_last false = refl
 
--- a load tells the last value of its page
+-- the value of a load is the last one of the page that its address names
 loaded_value : (older : List Record) (z : ZoneState) (a : Address) (word page : ℕ) → page_at z.records a ≡ Some page → Match z.records older → IsSomeAnd (page_at older a) (λ p. value_at z a word ≡ last older p word)
 loaded_value older z a word page named m =
     let at = m.some a page named in
@@ -201,7 +201,7 @@ tells_at older w o m c s v (Some a) e =
     subst (λ (b : Address). Match (call_step w (call_at c a)).world.zone.records (called older (call_at c b) (call_step w (call_at c a)).reply)) (sym (address_is s v a e))
     (tells_call older w o m (call_at c a)).match
 
--- what a part of a series tells, behind so many calls
+-- what a part of a series does, after `done` of its calls
 record SeriesTold (c : Repeated) (s v further done : ℕ) (older : List Record) (a : Answered) : Type 0 where
   more : ℕ
   count : accepted_count a.reply ≡ done + more
@@ -222,7 +222,7 @@ tells_series c s v further done (suc n) older w o m =
     (tells_at older w o m c s v (address_of s v) refl)
     (λ matched. tells_series c s (v + further) further (done + 1) n (accepted older (call_at c (record { space = s; vpage = v }))) a.world (keeps_page_step w o c s v).orderly matched)
 
--- a command on a zone that is open
+-- what a command does on the open zone
 record StepTold (places : ℕ) (w : WorldState) (older : List Record) (c : Command) : Type 0 where
   match : (after : WorldState) → (step places (Some w) c).world ≡ Some after → Match after.zone.records (told older c (step places (Some w) c).reply)
   value : IsLastStored older c (step places (Some w) c).reply
@@ -278,7 +278,7 @@ tells_step places older w o m (On zone calls) = record { match = (by_number (nat
     no_value older (On zone calls) (reply.Refused 43) refl,
   )
 
--- a script whose zone is open
+-- the values of a script whose zone is open
 open_values : (places : ℕ) (commands : List Numbered) → AreInRange commands → (older : List Record) (w : WorldState) → IsOrderly w → Match w.zone.records older → ValuesAreStored older commands (answers_from places (Some w) commands)
 open_values places [] ranged older w o m = tt
 open_values places (c ∷ commands) ranged older w o m =
@@ -290,7 +290,7 @@ open_values places (c ∷ commands) ranged older w o m =
           (open_values places commands ranged.1 next on.after on.keeps.orderly (t.match on.after on.world)),
     )
 
--- a script from its first command on
+-- the values of a script, from its first command on
 first_values : (places : ℕ) → (0 < places) × (places ≤ 65536) → (line : ℕ) (clients : List ClientLine) (command : Command) (commands : List Numbered) → IsInRange command → AreInRange commands → ValuesAreStored [] commands (answers_from places None commands)
     → ValuesAreStored [] (record { line = line; command = command; clients = clients } ∷ commands) (answers_from places None (record { line = line; command = command; clients = clients } ∷ commands))
 first_values places range line clients OutOfRange commands r ranged rest = (tt, rest)

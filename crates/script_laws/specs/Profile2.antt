@@ -1,4 +1,4 @@
--- A script of profile 1 behind the line `profile 2`.
+-- A script of profile 1 after the line `profile 2`.
 use Rattle.std.specs.Prelude.{◌≡◌, ℕ, ◌+◌, List, ◌∷◌, ◌++◌, codes, map, Option, None}
 use Rattle.text_core.specs.declared.profile.Profile.TheVariants.{One}
 use Rattle.text_core.specs.declared.reply.Reply.{Reply}
@@ -7,23 +7,24 @@ use Rattle.play_core.specs.declared.error.RunError.{RunError}
 use Rattle.play_core.specs.Script.{Answer, by, fault_from, fault_of, parts_of}
 use Rattle.machine_core.specs.Replies.{answers_of}
 
--- the first fault where each line is read by profile 1, so that `profile 2` is one too
+-- the first fault of an input where each line is read by profile 1, so that `profile 2` is a fault too
 abbrev pub fault_in_profile_1 : List ℕ → Option RunError
 fault_in_profile_1 input = fault_from (by One) 1 (parts_of input)
 
+-- an input with the line `profile 2` before it
 abbrev pub behind_profile_2 : List ℕ → List ℕ
 behind_profile_2 input = codes "profile 2\n" ++ input
 
--- the same reply in profile 2: an info reply ends with the frames that are handed out
+-- what a reply of profile 1 is in profile 2: the reply to `info` ends with the number of frames that are handed out
 abbrev pub with_held : Reply → Reply
 with_held (reply.Info i) = reply.InfoWithHeld i
 with_held r = r
 
--- the replies in profile 2: first `ok`, and then the same, each to the line behind its own
+-- what the replies of a script in profile 1 are in profile 2: `ok` comes first, and then the same replies, each to the line after its own
 abbrev pub in_profile_2 : List Answer → List Answer
 in_profile_2 answers = record { line = 1; reply = reply.Done } ∷ map (λ a. record { line = a.line + 1; reply = with_held a.reply }) answers
 
--- a script without a fault in profile 1 has none by itself, and none in profile 2, and the same replies there
+-- a script without a fault in profile 1 has no fault by itself, none after `profile 2`, and the same replies there
 pub record IsSameInProfile2 (places : ℕ) (input : List ℕ) : Type 0 where
   pub fault : fault_of input ≡ None
   pub fault_in_profile_2 : fault_of (behind_profile_2 input) ≡ None

@@ -1,4 +1,4 @@
--- What the replies to loads tell is what was stored.
+-- The values in the replies to loads are those that were stored.
 use Rattle.std.specs.Prelude.{◌≡◌, ℕ, zero, suc, ◌+◌, List, [], ◌∷◌, length, ⊤, IsSomeAnd}
 use Rattle.journal_core.specs.declared.record.Record.{Record}
 use Rattle.journal_core.specs.declared.record.Record.TheVariants as record_of
@@ -14,8 +14,8 @@ use Rattle.text_core.specs.declared.reply.Reply.TheVariants as reply
 use Rattle.machine_core.specs.Machine.{call_at}
 use Rattle.play_core.specs.Script.{Answer, Numbered}
 
--- what an accepted call adds to a history, the newest record first: it binds an address, or stores; a mapping makes a page of
--- its own, which is told from the others by the number of records before it
+-- a history with what an accepted call adds to it, the newest record first: a page for an address, or a stored value. A fresh
+-- page is named by the number of records before it.
 abbrev pub accepted : List Record → Call → List Record
 accepted older (Map a unmovable) = record_of.Map 0 a (length older) ∷ older
 accepted older (MapAt a frame unmovable) = record_of.Map 0 a (length older) ∷ older
@@ -24,12 +24,12 @@ accepted older (Unmap a) = record_of.Unmap 0 a ∷ older
 accepted older (Store a word value) = record_of.Store 0 a word value ∷ older
 accepted older _ = older
 
--- a call that was answered: a refused one adds nothing
+-- a history with what an answered call adds to it: a refused call adds nothing
 abbrev pub called : List Record → Call → Reply → List Record
 called older c (reply.Refused number) = older
 called older c _ = accepted older c
 
--- so many accepted calls of a series, from page v of space s on
+-- a history with what n accepted calls of a series add to it, from page v of space s on
 abbrev pub repeated : Repeated → (s v further n : ℕ) → List Record → List Record
 repeated c s v further zero older = older
 repeated c s v further (suc n) older = repeated c s (v + further) further n (accepted older (call_at c (record { space = s; vpage = v })))
@@ -40,24 +40,24 @@ accepted_count (reply.AllDone n) = n
 accepted_count (reply.DoneUntil n refusal) = n
 accepted_count _ = 0
 
--- what a command and its reply add
+-- a history with what an answered command adds to it
 abbrev pub told : List Record → Command → Reply → List Record
 told older (On zone (One c)) r = called older c r
 told older (On zone (SeriesOf s)) r = repeated s.call s.space s.first s.step (accepted_count r) older
 told older _ r = older
 
--- a load tells the last value stored in that word of the page that its address names since the page was mapped, through
--- whatever address, and 0 before the first; no other command tells a value
+-- a load gives the value that was stored last in that word of the page that its address names, since the page was
+-- mapped, through whatever address, or 0 before the first store; no other command gives a value
 abbrev pub IsLast : List Record → Command → ℕ → Type 0
 IsLast older (On zone (One (Load a word))) x = IsSomeAnd (page_at older a) (λ page. x ≡ last older page word)
 IsLast older c x = ⊥
 
--- the value that a reply tells, if it tells one
+-- the value in a reply, if it has one, is the one stored last
 abbrev pub IsLastStored : List Record → Command → Reply → Type 0
 IsLastStored older c (reply.Value x) = IsLast older c x
 IsLastStored older c _ = ⊤
 
--- each reply in turn, behind a history
+-- each reply to these commands has the value stored last, where this history comes before the first of them
 abbrev pub ValuesAreStored : List Record → List Numbered → List Answer → Type 0
 ValuesAreStored older [] answers = ⊤
 ValuesAreStored older (c ∷ commands) [] = ⊤

@@ -1,7 +1,7 @@
-//! Laws over every run of a script, above its definition in `machine_core`: in the words of those who read the replies, and
-//! not in those of the machine that gives them.
+//! Laws over every run of a script, as it is defined in `machine_core`. They speak of what is read in the replies, and not
+//! of the machine that gives these.
 //!
-//! Each function has one law for its contract, and does nothing.
+//! Each function has one law as its contract, and does nothing.
 #![tactic(auto)]
 
 mod law;

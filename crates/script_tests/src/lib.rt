@@ -1,4 +1,4 @@
-//! Tests of scripts, by the public calls of `script_core` alone.
+//! Tests of scripts and of the program that reads them, by the public calls of `script_core` alone.
 #![tactic(auto)]
 
 #[cfg(test)]

@@ -1,4 +1,4 @@
--- A load and a store leave a zone sound.
+-- A load and a store leave a zone lawful.
 use Rattle.std.proofs.Common.{◌≡◌, ℕ, ◌<◌, length, refl, sym, subst, Option, Some, IsSomeAnd}
 use Rattle.std.specs.Prelude.{unwrap_or}
 use Rattle.frame_core.specs.declared.place.Address.{Address}

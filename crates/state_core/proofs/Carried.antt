@@ -1,4 +1,4 @@
--- What a call of the zone does not change of the pages on their way.
+-- What a call of the zone leaves unchanged of the moving pages.
 use Rattle.std.proofs.Common.{◌≡◌, ◌≢◌, ℕ, Bool, true, false, [], ◌∷◌, refl, sym, ap, ◌∙◌, Option, Some, None, map as each, nat_eq, ◌&&◌, if◌then◌else◌}
 use Rattle.std.specs.Prelude.{unwrap_or}
 use Rattle.std.specs.FinMap as map
@@ -30,21 +30,21 @@ use Rattle.state_core.specs.ZoneState.{ZoneState, placement_at, noted}
 use Rattle.state_core.proofs.Facts.{skipped, page_named}
 use Rattle.state_core.proofs.Entries.{get_insert_same, get_insert_other, get_remove_other}
 
--- a page is on its way under one serial
+-- a page is moving under one serial at most
 one_serial : (o : Option Placement) (s t : ℕ) → is_under o s ≡ true → is_under o t ≡ true → s ≡ t
 one_serial None s t e f = cc
 one_serial (Some (At frame)) s t e f = cc
 one_serial (Some (Moving serial source target)) s t e f = sym (eqb-true serial s e) ∙ eqb-true serial t f
 
--- a page of a zone is on its way there under its serial
+-- a page of a zone, isolated under a serial, is moving there under this serial
 pub own_under : (z : ZoneState) (p : OnItsWay) → is_own z p ≡ true → is_under (map.get z.placement p.page.number) p.serial ≡ true
 own_under z p own = (and_parts (nat_eq p.page.zone z.number) (is_under (map.get z.placement p.page.number) p.serial) own).1
 
--- the journal knows which page it is
+-- the journal tells which page has the serial
 pub own_page : (z : ZoneState) → IsLawful z → (p : OnItsWay) → is_own z p ≡ true → page_of z.records p.serial ≡ Some p.page.number
 own_page z law p own = ((law.under_way p.page.number p.serial).0 (own_under z p own)).1
 
--- the placement and the words of a page are as they were
+-- a copy stays one of the zone where the placement and the words of its page stay
 own_kept : (z next : ZoneState) (p : OnItsWay) → next.number ≡ z.number → map.get next.placement p.page.number ≡ map.get z.placement p.page.number → ((w : ℕ) → last next.records p.page.number w ≡ last z.records p.page.number w) → IsOwnCopy z p → IsOwnCopy next p
 own_kept z next p number placement words own = record {
   own = (λ i. nat_eq p.page.zone (number i) && is_under (placement i) p.serial) ∙ own.own;
@@ -57,7 +57,7 @@ own_begun z p own = record { own = own.own; same = own.same }
 pub own_loaded : (z : ZoneState) (client : ℕ) (address : Address) (word : ℕ) (p : OnItsWay) → IsOwnCopy z p → IsOwnCopy (loaded z client address word) p
 own_loaded z client address word p own = record { own = own.own; same = own.same }
 
--- a block that is handed out or taken back, and a mark, leave each page where it is
+-- a block that is handed out or taken back, and a mark, leave each copy one of the zone
 pub own_block_taken : (z : ZoneState) (first order : ℕ) (p : OnItsWay) → IsOwnCopy z p → IsOwnCopy (block_taken z first order) p
 own_block_taken z first order p own = record { own = own.own; same = own.same }
 
@@ -70,7 +70,7 @@ own_marked z block p own = record { own = own.own; same = own.same }
 pub own_unmarked : (z : ZoneState) (block : ℕ) (p : OnItsWay) → IsOwnCopy z p → IsOwnCopy (block_unmarked z block) p
 own_unmarked z block p own = record { own = own.own; same = own.same }
 
--- a page that is nowhere or stands in a frame is none that is on its way
+-- a page that is nowhere or in a frame isn't a moving one
 apart_from : (z : ZoneState) (page : ℕ) (o : Option Placement) (p : OnItsWay) → map.get z.placement page ≡ o → is_under o p.serial ≡ false → is_own z p ≡ true → p.page.number ≢ page
 apart_from z page o p at off own same = both_ways _ (ap (λ x. is_under x p.serial) (ap (map.get z.placement) same ∙ at) ∙ off) (own_under z p own)
 
@@ -114,14 +114,14 @@ own_placed z client address unmovable page frame unused p own =
     (λ w. skipped (nat_eq page p.page.number) 0 (last z.records p.page.number w) (ne_eqb page p.page.number (λ same. ne (sym same))))
     own
 
--- another page goes on its way
+-- a copy stays one of the zone when another page is isolated
 pub own_isolated : (z : ZoneState) (pair : Pair) (frame : ℕ) → map.get z.placement pair.page ≡ Some (At frame) → (p : OnItsWay) → IsOwnCopy z p → IsOwnCopy (isolated_next z pair) p
 own_isolated z pair frame at p own =
     own_kept z (isolated_next z pair) p refl
     (get_insert_other z.placement pair.page p.page.number _ (apart_from z pair.page _ p at refl own.own))
     (λ w. refl) own
 
--- the page that goes on its way
+-- the page that is isolated is one of the zone, with its words
 pub own_fresh : (z : ZoneState) (pair : Pair) → IsOwnCopy (isolated_next z pair) (record { serial = isolated z.records; page = page_now z pair.page })
 own_fresh z pair = record {
   own = and_from (nat_eq z.number z.number) _ (eq-eqb z.number z.number refl)
@@ -129,7 +129,7 @@ own_fresh z pair = record {
   same = refl;
 }
 
--- another page's move ends
+-- a copy stays one of the zone when another page's move ends
 own_ended : (z : ZoneState) (entry : Record) (q : OnItsWay) (frame : ℕ) (p : OnItsWay) → is_own z q ≡ true → q.serial ≢ p.serial → ((w : ℕ) → last (entry ∷ z.records) p.page.number w ≡ last z.records p.page.number w) → IsOwnCopy z p → IsOwnCopy (relocated z entry q.page.number (At frame)) p
 own_ended z entry q frame p own_q ne words own =
     own_kept z (relocated z entry q.page.number (At frame)) p refl

@@ -1,4 +1,4 @@
--- The move of a page ends: it stands in its target or in its source, and the other frame is free.
+-- The move of a page ends: the page is in its target or in its source, and the other frame is free.
 use Rattle.std.proofs.Common.{◌≡◌, ◌≢◌, ℕ, ◌+◌, ◌<◌, true, false, ◌∷◌, length, inl, refl, sym, ap, subst, ◌∙◌, arith, Option, Some, IsSomeAnd, IsTrue, nat_eq, ◌||◌, ◌↔◌}
 use Rattle.std.specs.Prelude.{⊤}
 use Rattle.std.specs.List.{list_any}
@@ -56,14 +56,14 @@ module _ (v : ZoneState) (page serial source target : ℕ) (law : IsLawful v) (a
   pub can_go_back : CanSettle v page way (At source)
   can_go_back = can_end source takes_source
 
-  -- moved: the only frame that changes is the source
+  -- after a page was moved, only its source differs in being free
   pub moved_others : (entry : Record) (g : ℕ) → g ≢ source → is_free (relocated v entry page (At target)) g ≡ is_free v g
   moved_others entry g ne = free_same can_move_on g (ap (λ b. b || nat_eq g target) (ne_eqb g source ne))
 
   pub moved_source : (entry : Record) → is_free (relocated v entry page (At target)) source ≡ true
   moved_source entry = free_left can_move_on source takes_source (ne_eqb source target frames_apart)
 
-  -- put back: the only frame that changes is the target
+  -- after a page was put back, only its target differs in being free
   pub back_others : (entry : Record) (g : ℕ) → g ≢ target → is_free (relocated v entry page (At source)) g ≡ is_free v g
   back_others entry g ne = free_same can_go_back g (ap (λ b. nat_eq g source || b) (ne_eqb g target ne) ∙ or-false (nat_eq g source))
 
@@ -91,7 +91,7 @@ module _ (v : ZoneState) (page serial source target : ℕ) (law : IsLawful v) (a
   pub out_fewer : length (without serial (out v.records)) + 1 ≡ length (out v.records)
   out_fewer = length_without v.records law.well_ended serial known_out.0
 
-  -- the serials that go on being out are the others
+  -- a serial that is out after an end is another one, and was out before
   was_out : (s : ℕ) → list_any (nat_eq s) (without serial (out v.records)) ≡ true → (s ≢ serial) × (is_out v.records s ≡ true)
   was_out s e =
       let apart : s ≢ serial = λ same. both_ways _ (ended_out serial (out v.records)) (ap (λ (n : ℕ). list_any (nat_eq n) (without serial (out v.records))) (sym same) ∙ e) in

@@ -1,4 +1,4 @@
--- One more entry in a map, one fewer, and one more number in a set, one fewer.
+-- Maps after one more entry or one fewer, and sets after one more number or one fewer.
 use Rattle.std.proofs.Common.{◌≡◌, ◌≢◌, ℕ, true, false, arith, Some, None}
 use Rattle.std.specs.Ordering.{nat_cmp}
 use Rattle.std.specs.Cmp.{nat_cmp_total, unsigned_tied}

@@ -28,7 +28,7 @@ pub none_is : {A : Type 0} (o : Option A) → is_some o ≡ false → o ≡ None
 none_is None e = refl
 none_is (Some x) e = cc
 
--- the journal has a place for a call
+-- where there is room for a call, the journal has more places than pages are out
 pub spare : (v : ZoneState) → has_room v ≡ true → length (out v.records) < v.room
 spare v room = ltb-true _ _ room
 
@@ -36,7 +36,7 @@ spare v room = ltb-true _ _ room
 pub page_named : (v : ZoneState) (address : Address) (placement : Placement) → placement_at v address ≡ Some placement → (page : ℕ) × (page_at v.records address ≡ Some page) × (map.get v.placement page ≡ Some placement)
 page_named v address placement e = option_and_then_some (map.get v.placement) (page_at v.records address) placement e (λ page is at. (page, is, at))
 
--- the page of an address stands where the address leads
+-- the page of an address has the placement that the address leads to
 pub page_stands : (v : ZoneState) (address : Address) (placement : Placement) (page : ℕ) → page_at v.records address ≡ Some page → placement_at v address ≡ Some placement → map.get v.placement page ≡ Some placement
 page_stands v address placement page named at = sym (ap (option_and_then (map.get v.placement)) named) ∙ at
 
@@ -48,14 +48,14 @@ takes_own (Moving serial source target) = ap (λ b. b || nat_eq source target) (
 pub frame_within : (v : ZoneState) → IsLawful v → (page : ℕ) (placement : Placement) → map.get v.placement page ≡ Some placement → words_frame placement < frame_count v
 frame_within v law page placement e = law.within page (words_frame placement) (ap (λ (o : Option Placement). takes_up o (words_frame placement)) e ∙ takes_own placement)
 
--- the words of two pages are in two frames
+-- the frames with the words of two pages differ
 pub frames_differ : (v : ZoneState) → IsLawful v → (p q : ℕ) (a b : Placement) → map.get v.placement p ≡ Some a → map.get v.placement q ≡ Some b → q ≢ p → words_frame b ≢ words_frame a
 frames_differ v law p q a b at_p at_q ne same =
     ne (law.apart q p (words_frame b)
     (ap (λ (o : Option Placement). takes_up o (words_frame b)) at_q ∙ takes_own b)
     (ap (λ (o : Option Placement). takes_up o (words_frame b)) at_p ∙ ap (takes_up (Some a)) same ∙ takes_own a))
 
--- fewer pages were isolated than there are records
+-- no more pages were isolated than there are records
 pub isolated_most : (records : List Record) → isolated records ≤ length records
 isolated_most [] = omega arith
 isolated_most (Isolate serial page ∷ older) = omega (arith, isolated_most older)

@@ -26,7 +26,7 @@ module _ (size rest : ℕ) (whole : size * rest ≡ 512) where
     positive zero e = absurd (omega arith)
     positive (suc r) e = omega arith
 
-  -- a frame of a run is in the pageblock of the first
+  -- a frame of a run is in the pageblock of the run's first frame
   block_of_run : (i k : ℕ) → k < size → (size * i + k) / 512 ≡ i / rest
   block_of_run i k h =
       let split : i / rest * rest + i % rest ≡ i = div-add-mod' i rest in
@@ -48,7 +48,7 @@ module _ (size rest : ℕ) (whole : size * rest ≡ 512) where
       let all : size * rest * blocks ≡ 512 * blocks = ap (λ (m : ℕ). m * blocks) whole in
       ap (λ (n : ℕ). size * n) (frames_in_runs blocks) ∙ omega arith
 
-  -- whatever passes, there are at most so many whole runs
+  -- there are at most as many whole runs as their size fits into the count of the numbers that pass
   pub runs_bounded : (p : ℕ → Bool) (blocks : ℕ) → whole_runs p size ((512 * blocks) / size) ≤ count_below p (512 * blocks) / size
   runs_bounded p blocks =
       let most = runs_most p size ((512 * blocks) / size) in
@@ -85,7 +85,7 @@ and_same : (m b c : Bool) → (m ≡ true → c ≡ false) → (m ≡ false → 
 and_same true b c shut free = sym (shut refl)
 and_same false b c shut free = sym (free refl)
 
--- numbers that pass are counted with those of a kind and without them
+-- the numbers that pass are those that also pass a second test and those that don't
 split : (m w : Bool) → one_if w ≡ one_if (not m && w) + one_if (m && w)
 split true true = refl
 split true false = refl
@@ -100,7 +100,7 @@ module _ (v : ZoneState) where
   pub marked_at : (block k : ℕ) → k < 512 → is_marked v (512 * block + k) ≡ set.contains v.marked block
   marked_at block k h = let at : (512 * block + k) / 512 ≡ block = omega arith in ap (set.contains v.marked) at
 
-  -- a pageblock is unmarked, and whole by a test of frames, just where its frames pass as a run of unmarked frames
+  -- a pageblock is unmarked and has only frames that pass, exactly where its frames are a run of unmarked frames that pass
   block_is_run : (free : ℕ → Bool) (block : ℕ) → (not (set.contains v.marked block) && nat_eq (count_from free (512 * block) 512) 512) ≡ nat_eq (count_from (λ frame. is_unmarked v frame && free frame) (512 * block) 512) 512
   block_is_run free block = and_same (set.contains v.marked block) (nat_eq (count_from free (512 * block) 512) 512) _
       (λ marked.
@@ -113,7 +113,7 @@ module _ (v : ZoneState) where
       let here : is_marked v k ≡ false = sym (ap (is_marked v) at) ∙ marked_at block (k - 512 * block) (omega arith) ∙ unmarked in
       ap (λ (m : Bool). not m && free k) here)))
 
-  -- all blocks that are whole by a test of frames: the unmarked ones are runs of unmarked frames
+  -- the pageblocks whose frames all pass: the unmarked ones are runs of unmarked frames, and the marked ones are counted besides
   pub whole_by_marks : (free : ℕ → Bool) → whole_runs free 512 v.blocks ≡ whole_runs (λ frame. is_unmarked v frame && free frame) 512 v.blocks + count_below (λ block. set.contains v.marked block && nat_eq (count_from free (512 * block) 512) 512) v.blocks
   whole_by_marks free = omega (
     arith,
@@ -129,6 +129,6 @@ module _ (v : ZoneState) where
   pub packed_whole : IsPacked v → unmarked_whole v ≡ unmarked_free v / 512
   packed_whole packed = whole_is_runs ∙ packed_runs 512 1 (omega arith) v packed
 
--- all whole pageblocks, marked or not
+-- the number of whole pageblocks of a packed zone, marked or not
 pub all_whole : (v : ZoneState) → IsPacked v → count_below (is_whole v) v.blocks ≡ unmarked_free v / 512 + marked_whole v
 all_whole v packed = omega (arith, count_split_by (set.contains v.marked) (is_whole v) v.blocks, packed_whole v packed)

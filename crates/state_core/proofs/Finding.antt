@@ -1,4 +1,4 @@
--- What the tables of a zone answer.
+-- What a zone's searches for a free frame and for an unused page number find.
 use Rattle.std.proofs.Common.{◌≡◌, ℕ, ◌+◌, ◌-◌, ◌<◌, ◌≤◌, Bool, true, ap, ◌∙◌, arith, Some, None, IsSome, is_some, is_none}
 use Rattle.std.specs.FinMap.{get}
 use Rattle.std.proofs.lemmas.Bool.{both_ways, not-true, not-false, true_from_ne_false}
@@ -8,7 +8,7 @@ use Rattle.state_core.specs.Lawful.{IsLawful}
 use Rattle.state_core.specs.ZoneState.{ZoneState, frame_count, is_free, lowest_free_frame, lowest_unused_page}
 use Rattle.state_core.proofs.Facts.{none_is, some_is}
 
--- where a frame is free, a page number is left
+-- where a frame is free, a page number is unused
 pub unused_left : (v : ZoneState) → IsLawful v → IsSome (lowest_free_frame v) → lowest_unused_page v ≡ None → ⊥
 unused_left v law some none =
     let found = some_is (lowest_free_frame v) some in
@@ -18,7 +18,7 @@ unused_left v law some none =
     let one = count_some (is_free v) (frame_count v) found.0 free.0 free.1 in
     omega (arith, law.sum, all, one)
 
--- a free frame makes the search find one
+-- where a frame is free, the search for the lowest one finds one
 pub some_lowest : (v : ZoneState) (frame : ℕ) → is_free v frame ≡ true → frame < frame_count v → IsSome (lowest_free_frame v)
 some_lowest v frame free within = true_from_ne_false _ (λ e. both_ways _ (no_lowest (is_free v) (frame_count v) frame (none_is _ e) within) free)
 

@@ -1,4 +1,4 @@
--- A block of free frames is handed out, or is the zone's again: the zone stays lawful, and the blocks are clear.
+-- A block of free frames is handed out or taken back: the zone stays lawful, and the blocks are clear.
 use Rattle.std.proofs.Common.{◌≡◌, ◌≢◌, ℕ, ◌+◌, ◌*◌, ◌/◌, ◌^◌, ◌<◌, ◌≤◌, Bool, true, false, not, ◌∷◌, length, inl, inr, refl, sym, ap, ◌∙◌, arith, Option, Some, None, nat_eq, nat_le, nat_lt, ◌⊎◌, subst, ◌&&◌, ◌||◌}
 use Rattle.std.specs.FinMap as map
 use Rattle.std.proofs.Math.Bool.{or-false}
@@ -24,7 +24,7 @@ use Rattle.state_core.proofs.Holding.{at_takes}
 use Rattle.state_core.proofs.Places.{counts_add_up, unheld_frame, untaken}
 use Rattle.state_core.proofs.Quiet.{begun_more, swept_ended}
 
--- whether a frame is of the block of an order at a first frame
+-- whether a frame is in the block of this order from this first frame on
 abbrev pub in_block : ℕ → ℕ → ℕ → Bool
 in_block first order frame = covers (Some order) first frame
 
@@ -36,13 +36,13 @@ in_block_parts first order frame e =
     let parts = and_parts (nat_le first frame) (nat_lt frame (first + 2 ^ order)) e in
     (leb-true first frame parts.0, ltb-true frame (first + 2 ^ order) parts.1)
 
--- one block more is handed out, and the others stay
+-- one more block is handed out, and the others stay
 pub record IsOneMore (fewer more : ℕ → Option ℕ) (first order : ℕ) : Type 0 where
   pub without : fewer first ≡ None
   pub here : more first ≡ Some order
   pub others : (q : ℕ) → q ≢ first → more q ≡ fewer q
 
--- whether a frame is of a block with a first frame below a bound
+-- whether a frame is in a block whose first frame is below a bound
 abbrev held_in : (ℕ → Option ℕ) → ℕ → ℕ → Bool
 held_in orders n frame = some_below (λ first. covers (orders first) first frame) n
 
@@ -53,7 +53,7 @@ held_more {fewer} {more} {first} {order} one n h frame =
     (λ q ne. ap (λ (o : Option ℕ). covers o q frame) (one.others q ne))
     ∙ ap (λ (o : Option ℕ). held_in fewer n frame || covers o first frame) one.here
 
--- a block that is handed out holds its frames
+-- a frame of a block that is handed out is held
 pub held_of : (v : ZoneState) → IsLawful v → (first order frame : ℕ) → map.get v.handed_out first ≡ Some order → in_block first order frame ≡ true → is_held v frame ≡ true
 held_of v law first order frame at here =
     let within = (law.blocks first order at).within in
@@ -64,7 +64,7 @@ held_of v law first order frame at here =
 aligned_by : (k first order : ℕ) → first ≡ k * 2 ^ order → first / 2 ^ order * 2 ^ order ≡ first
 aligned_by k first order e = ap (λ (n : ℕ). n / 2 ^ order * 2 ^ order) e ∙ ap (λ (n : ℕ). n * 2 ^ order) (mul-div_cancel k (pow_pos order)) ∙ sym e
 
--- a free block
+-- what is known of a free block before and after it is handed out
 module _ (v : ZoneState) (first order : ℕ) (run : is_run v order first ≡ true) where
   pub run_within : first + 2 ^ order ≤ frame_count v
   run_within = leb-true _ _ (and_parts (is_aligned order first) _ (and_parts (has_block v order first) _ run).0).1
@@ -81,7 +81,7 @@ module _ (v : ZoneState) (first order : ℕ) (run : is_run v order first ≡ tru
   pub block_free : (frame : ℕ) → in_block first order frame ≡ true → is_free v frame ≡ true
   block_free frame e = let parts = in_block_parts first order frame e in run_free frame parts.0 parts.1
 
-  -- no block begins at its first frame
+  -- no block that is handed out begins at the first frame of a free block
   pub not_handed_out : map.get v.handed_out first ≡ None
   not_handed_out = by_entry (map.get v.handed_out first) refl where
     by_entry : (o : Option ℕ) → map.get v.handed_out first ≡ o → map.get v.handed_out first ≡ None
@@ -132,14 +132,14 @@ module _ (v : ZoneState) (first order : ℕ) (run : is_run v order first ≡ tru
       | inr other ↦ law.blocks f o (sym (get_insert_other v.handed_out first f order other.1) ∙ e)
     ]
 
-    -- what covers a frame then is the block, or covered it before
+    -- a block that covers a frame after one is handed out is that block, or covered the frame before
     covers_taken : (a frame : ℕ) → covers (map.get taken.handed_out a) a frame ≡ true → ((a ≡ first) × (in_block first order frame ≡ true)) ⊎ ((a ≢ first) × (covers (map.get v.handed_out a) a frame ≡ true))
     covers_taken a frame e = elim (eqb_tells a first) [
       | inl same ↦ inl (same.1, sym (λ i. covers (get_insert_same v.handed_out first a order same.1 i) (same.1 i) frame) ∙ e)
       | inr other ↦ inr (other.1, sym (ap (λ (o : Option ℕ). covers o a frame) (get_insert_other v.handed_out first a order other.1)) ∙ e)
     ]
 
-    -- a frame of the free block was of no block
+    -- no block that is handed out covers a frame of the free block
     uncovered : (a frame : ℕ) → in_block first order frame ≡ true → covers (map.get v.handed_out a) a frame ≡ true → ⊥
     uncovered a frame here e = by_entry (map.get v.handed_out a) refl where
       by_entry : (o : Option ℕ) → map.get v.handed_out a ≡ o → ⊥
@@ -184,7 +184,7 @@ module _ (v : ZoneState) (first order : ℕ) (run : is_run v order first ≡ tru
       sum = omega (arith, law.sum, counts_add_up (is_free taken) (is_held taken) (is_free v) (is_held v) (frame_count v) (λ frame h. balanced_taken frame));
     }
 
--- a block that is handed out
+-- what is known of a block that is handed out before and after it is taken back
 module _ (v : ZoneState) (law : IsLawful v) (first order : ℕ) (at : map.get v.handed_out first ≡ Some order) where
   abbrev given : ZoneState
   given = block_given v first order
@@ -198,7 +198,7 @@ module _ (v : ZoneState) (law : IsLawful v) (first order : ℕ) (at : map.get v.
   pub held_given : (frame : ℕ) → is_held v frame ≡ (is_held given frame || in_block first order frame)
   held_given = held_more one_given (frame_count v) block_first
 
-  -- what covers a frame then covered it before, and is another block
+  -- a block that covers a frame after one is taken back is another one, and covered the frame before
   covers_given : (a frame : ℕ) → covers (map.get given.handed_out a) a frame ≡ true → (a ≢ first) × (covers (map.get v.handed_out a) a frame ≡ true)
   covers_given a frame e = elim (eqb_tells a first) [
     | inl same ↦ absurd (both_ways _ (ap (λ (o : Option ℕ). covers o a frame) (get_remove_same v.handed_out first a same.1)) e)
@@ -211,7 +211,7 @@ module _ (v : ZoneState) (law : IsLawful v) (first order : ℕ) (at : map.get v.
       let other = covers_given one.0 frame one.2 in
       other.0 (law.disjoint one.0 first frame other.1 (ap (λ (o : Option ℕ). covers o first frame) at ∙ here))))
 
-  -- no page takes up a frame of the block
+  -- no page takes up a frame of a block that is handed out
   pub unused_in_block : (page frame : ℕ) → in_block first order frame ≡ true → takes_up (map.get v.placement page) frame ≡ false
   unused_in_block page frame here = false_from_ne_true _ (λ e. both_ways _ (law.clear page frame e) (held_of v law first order frame at here))
 
@@ -235,7 +235,7 @@ module _ (v : ZoneState) (law : IsLawful v) (first order : ℕ) (at : map.get v.
         sym (λ i. one_if (sym (free_given_out frame there) i) + one_if ((held_given frame ∙ ap (λ b. is_held given frame || b) there ∙ or-false (is_held given frame)) i))
   ]
 
-  -- the block is one of the zone, and free again as a whole
+  -- a block that was handed out is in the zone, and all of its frames are free after it is taken back
   pub block_of_zone : has_block v order first ≡ true
   block_of_zone =
       let block = law.blocks first order at in
@@ -293,7 +293,7 @@ blocks_are_clear v law first order at = record {
   unused = λ page frame low high. unused_in_block v law first order at page frame (in_block_from first order frame low high);
 }
 
--- a pageblock that is free as a whole is a free block of order 9, and the other way round
+-- a pageblock with only free frames is a free block of order 9, and the other way round
 whole_run : (v : ZoneState) (block : ℕ) → block < v.blocks → is_whole v block ≡ true → is_run v 9 (512 * block) ≡ true
 whole_run v block h whole = and_from _ _ (and_from _ _ (eq-eqb _ _ (aligned_by block (512 * block) 9 (omega arith))) (le-leb _ _ (omega arith))) whole
 
@@ -302,7 +302,7 @@ run_whole v first run =
     let at : first ≡ 512 * (first / 512) = omega (arith, run_aligned v first 9 run) in
     (at, omega (arith, run_within v first 9 run), sym (ap (λ (f : ℕ). nat_eq (count_from (is_free v) f 512) 512) at) ∙ (and_parts (has_block v 9 first) _ run).1)
 
--- the lowest free block of order 9 is the lowest pageblock that is free as a whole
+-- the lowest free block of order 9 is the lowest pageblock with only free frames
 pub lowest_whole : (v : ZoneState) (first : ℕ) → lowest_run v 9 ≡ Some first → (first ≡ 512 * (first / 512)) × (lowest (is_whole v) v.blocks ≡ Some (first / 512))
 lowest_whole v first e =
     let found = lowest_some (is_run v 9) (frame_count v) first e in

@@ -47,7 +47,7 @@ module _ (p : ℕ → Bool) where
         | inr under ↦ (let found = highest_some n k under.1 in (omega (arith, found.0), found.1))
       ]
 
-  -- above the highest that passes none does
+  -- no number above the highest one that passes passes
   pub highest_above : (n k q : ℕ) → highest p n ≡ Some k → k < q → q < n → p q ≡ false
   highest_above zero k q e h within = absurd (omega arith)
   highest_above (suc n) k q e h within =

@@ -1,4 +1,4 @@
--- What the tables of a sound zone say of its state.
+-- What the tables of a lawful zone say of its state.
 use Rattle.std.proofs.Common.{◌≡◌, ℕ, true, length, refl, sym, ap, ◌∙◌, arith, Option, Some, None, eq-eqb, eqb-true}
 use Rattle.std.specs.FinMap as map
 use Rattle.std.proofs.lemmas.Bool.{both_ways}
@@ -13,7 +13,7 @@ use Rattle.state_core.specs.Pairs.{stands_in, holder}
 use Rattle.state_core.specs.ZoneState.{ZoneState, frame_count, takes_up}
 use Rattle.state_core.proofs.Facts.{not_none}
 
--- the page in a frame
+-- where a page with this placement is in a frame, its placement is that frame
 pub stands_at : (o : Option Placement) (frame : ℕ) → stands_in o frame ≡ true → o ≡ Some (At frame)
 stands_at None frame e = cc
 stands_at (Some (At f)) frame e = ap (λ (g : ℕ). Some (At g)) (sym (eqb-true frame f e))
@@ -40,7 +40,7 @@ pub holder_none : (v : ZoneState) (frame : ℕ) → ((page : ℕ) → map.get v.
 holder_none v frame none = lowest_none (λ q. stands_in (map.get v.placement q) frame) (frame_count v)
     (λ q h. when_not _ (λ stands. none q (stands_at _ frame stands)))
 
--- where no page is out, none is on its way
+-- where no page is out, no page is moving
 pub at_rest : (v : ZoneState) → IsLawful v → length (out v.records) ≡ 0 → (page serial source target : ℕ) → map.get v.placement page ≡ Some (Moving serial source target) → ⊥
 at_rest v law none page serial source target at =
     let known = (law.under_way page serial).0 (ap (λ (o : Option Placement). is_under o serial) at ∙ eq-eqb serial serial refl) in

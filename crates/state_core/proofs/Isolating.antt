@@ -1,4 +1,4 @@
--- The page of a pair goes on its way: it takes up the target besides its source.
+-- The page of a pair is isolated: it takes up its target besides its source.
 use Rattle.std.proofs.Common.{◌≡◌, ◌≢◌, ℕ, ◌+◌, ◌<◌, true, false, ◌∷◌, length, inl, inr, refl, sym, ap, ◌∙◌, arith, Option, Some, nat_eq, ◌||◌}
 use Rattle.std.proofs.Math.Bool.{or-false}
 use Rattle.std.proofs.lemmas.Bool.{and_parts, both_ways, cond-true, cond-false, eq-eqb, eqb-true, ne_eqb, or_cases, or_left, or_right}
@@ -42,7 +42,7 @@ module _ (v : ZoneState) (pair : Pair) (law : IsLawful v) (is : IsPair v pair.pa
     upward = λ serial source target e. (let low = is.to.low in let s : pair.source ≡ source = cc in let t : pair.target ≡ target = cc in omega arith);
   }
 
-  -- the only frame that changes is the target
+  -- after a page was isolated, only its target differs in being free
   pub isolated_others : (g : ℕ) → g ≢ pair.target → is_free (relocated v (Isolate serial_next pair.page) pair.page way_next) g ≡ is_free v g
   isolated_others g ne = free_same can_isolate g (sym (ap (λ b. nat_eq g pair.source || b) (ne_eqb g pair.target ne) ∙ or-false (nat_eq g pair.source)))
 
@@ -52,11 +52,11 @@ module _ (v : ZoneState) (pair : Pair) (law : IsLawful v) (is : IsPair v pair.pa
   pub isolated_fewer : count_below (is_free v) (frame_count v) ≡ count_below (is_free (relocated v (Isolate serial_next pair.page) pair.page way_next)) (frame_count v) + 1
   isolated_fewer = omega (arith, free_count can_isolate)
 
-  -- no serial that is out is of the page
+  -- no serial that is out is of the page that is to be isolated
   at_rest : (serial : ℕ) → is_out v.records serial ≡ true → page_of v.records serial ≡ Some pair.page → ⊥
   at_rest serial e under = both_ways _ (ap (λ (o : Option Placement). is_under o serial) is.from.here) ((law.under_way pair.page serial).1 (e, under))
 
-  -- what is out under another serial than the next was out before
+  -- a page that is out under another serial than the new one was out before
   was_out : (q serial : ℕ) → serial_next ≢ serial → IsOutWith (Isolate serial_next pair.page ∷ v.records) q serial → IsOutWith v.records q serial
   was_out q serial ne way = (
     elim (or_cases (nat_eq serial serial_next) _ way.0) [ inl fresh ↦ absurd (ne (sym (eqb-true serial serial_next fresh))) | inr old ↦ old ],

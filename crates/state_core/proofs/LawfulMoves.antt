@@ -1,4 +1,4 @@
--- A page goes on its way, and its move ends: the zone stays lawful, and swept while its latest round is quiet.
+-- A page is isolated, and its move ends: the zone stays lawful, and swept while its latest round is quiet.
 use Rattle.std.proofs.Common.{◌≡◌, ℕ, ◌+◌, ◌<◌, subst, length, sym, ap, refl, arith, Some}
 use Rattle.std.specs.FinMap as map
 use Rattle.journal_core.specs.declared.record.Cause.{Cause}

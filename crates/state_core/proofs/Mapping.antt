@@ -20,7 +20,7 @@ use Rattle.state_core.proofs.Quiet.{swept_ended}
 use Rattle.state_core.proofs.Places as places
 use Rattle.state_core.proofs.Places.{CanChangePlace, IsTold, put, page_count, lawful_told}
 
--- what it takes to place a fresh page
+-- what has to hold so that a fresh page can be placed
 pub record CanPlace (v : ZoneState) (address : Address) (page frame : ℕ) : Type 0 where
   pub lawful : IsLawful v
   pub spare : length (out v.records) < v.room
@@ -47,7 +47,7 @@ module _ (v : ZoneState) (client : ℕ) (address : Address) (unmovable : Bool) (
     upward = λ serial source target e. cc;
   }
 
-  -- placements
+  -- placements after a fresh page was placed
   pub at_page : map.get next.placement page ≡ Some (At frame)
   at_page = places.at_page can_map
 
@@ -60,7 +60,7 @@ module _ (v : ZoneState) (client : ℕ) (address : Address) (unmovable : Bool) (
   pub untaken : (q : ℕ) → takes_up (map.get v.placement q) frame ≡ false
   untaken = places.untaken v can.lawful frame can.free
 
-  -- frames and counts
+  -- free frames and counts after a fresh page was placed
   pub free_at_frame : is_free next frame ≡ false
   free_at_frame = places.free_new can_map frame (eq-eqb frame frame refl)
 
@@ -73,7 +73,7 @@ module _ (v : ZoneState) (client : ℕ) (address : Address) (unmovable : Bool) (
   pub more_pages : count_below (λ p. is_some (map.get next.placement p)) (frame_count v) ≡ count_below (λ p. is_some (map.get v.placement p)) (frame_count v) + 1
   more_pages = omega (arith, page_count can_map)
 
-  -- names
+  -- names after a fresh page was placed
   pub named_here : (b : Address) → same_address b address ≡ true → page_at next.records b ≡ Some page
   named_here b e = cond-true (same_address b address) (Some page) (page_at v.records b) e
 
@@ -91,7 +91,7 @@ module _ (v : ZoneState) (client : ℕ) (address : Address) (unmovable : Bool) (
     by_name None e = ap (λ (p : Option ℕ). is_page p page) e
     by_name (Some q) e = ap (λ (p : Option ℕ). is_page p page) e ∙ ne_eqb q page (used_apart q (can.lawful.named b q e).1)
 
-  -- the address names the fresh page, and none before
+  -- one more address names the fresh page, and each other page has as many as before
   maps_changed_by : (q : ℕ) → maps next.records q ≡ maps v.records q + one_if (nat_eq page q)
   maps_changed_by q = omega (
     arith,
@@ -112,7 +112,7 @@ module _ (v : ZoneState) (client : ℕ) (address : Address) (unmovable : Bool) (
   pub pins_others : (q : ℕ) → q ≢ page → pins next.records q ≡ pins v.records q
   pins_others q ne = cond-false (nat_eq page q) 0 (pins v.records q) (ne_eqb page q (λ e. ne (sym e)))
 
-  -- which pages are in use
+  -- the pages in use are the fresh one and those that were in use
   page_used : (q : ℕ) → q ≡ page → IsSome (map.get next.placement q)
   page_used q same = ap (λ (p : ℕ). is_some (map.get next.placement p)) same ∙ ap is_some at_page
 

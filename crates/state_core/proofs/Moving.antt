@@ -17,7 +17,7 @@ use Rattle.state_core.specs.Swept.{SweptIfQuiet}
 use Rattle.state_core.specs.ZoneState.{ZoneState, frame_count}
 use Rattle.state_core.proofs.Places.{CanChangePlace, IsOutWith, ways_of, where_is, page_count, lawful_told}
 
--- what it takes to settle a page in use elsewhere
+-- what has to hold so that a page in use can get another placement
 abbrev pub CanSettle : ZoneState → ℕ → Placement → Placement → Type 0
 CanSettle v page old new = CanChangePlace v page (Some old) (Some new)
 
@@ -40,7 +40,7 @@ moved_still records serial = record { names = λ a. refl; last = λ p w. refl; d
 pub back_still : (records : List Record) (serial : ℕ) (cause : Cause) → IsStill records (Back serial cause)
 back_still records serial cause = record { names = λ a. refl; last = λ p w. refl; dirty = λ p. refl; pins = λ p. refl; maps = λ p. refl; handed = λ f. refl; marks = λ b. refl }
 
--- what the record of a move has to bring
+-- what the record of a move has to fulfil so that the zone stays lawful
 pub record IsRecorded (v : ZoneState) (entry : Record) (page : ℕ) (new : Placement) : Type 0 where
   pub still : IsStill v.records entry
   pub truthful : IsTruthful (entry ∷ v.records)

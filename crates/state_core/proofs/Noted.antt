@@ -1,4 +1,4 @@
--- One more record leaves a zone sound where each page stays in its place.
+-- One more record leaves a zone lawful where each page stays in its place.
 use Rattle.std.proofs.Common.{◌≡◌, ℕ, ◌<◌, ◌≤◌, ◌∷◌, length, arith, Some, IsSome, sym, ◌∙◌}
 use Rattle.std.specs.Prelude.{◌↔◌}
 use Rattle.std.specs.FinMap as map
@@ -15,7 +15,7 @@ use Rattle.state_core.specs.ZoneState.{ZoneState, noted}
 use Rattle.state_core.proofs.Places.{IsOutWith}
 use Rattle.state_core.proofs.Quiet.{begun_more}
 
--- what the record of a call that leaves each page in its place has to bring
+-- what a record has to fulfil so that the zone stays lawful, where each page stays in its place
 pub record IsNoted (v : ZoneState) (entry : Record) : Type 0 where
   pub truthful : IsTruthful (entry ∷ v.records)
   pub well_ended : IsWellEnded (entry ∷ v.records)

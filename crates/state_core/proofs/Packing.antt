@@ -1,4 +1,4 @@
--- A swept zone with no page on its way and no pair is packed.
+-- A swept zone with no moving page and no pair is packed.
 use Rattle.std.proofs.Common.{◌≡◌, ℕ, zero, suc, ◌+◌, ◌-◌, ◌<◌, ◌≤◌, Bool, true, false, not, inl, inr, refl, sym, ap, ◌∙◌, arith}
 use Rattle.std.specs.Prelude.{Option, Some, None, length, ◌&&◌, ◌↔◌}
 use Rattle.std.specs.FinMap as map
@@ -19,7 +19,7 @@ use Rattle.state_core.proofs.Pairing.{is_from, is_to, source_passes, passes_sour
 use Rattle.state_core.proofs.Holding.{at_rest, at_takes}
 use Rattle.state_core.proofs.Places.{untaken}
 
--- Counts of two tests, of which one passes just below a bound
+-- Counts of two tests, where the second passes exactly below a bound.
 
 module _ (p : ℕ → Bool) where
   pub count_rises : (m k : ℕ) → count_below p m ≤ count_below p (m + k)
@@ -35,7 +35,7 @@ module _ (p : ℕ → Bool) where
       let e = ap (count_below p) rest in
       omega (arith, count_rises m (n - m))
 
-  -- a number that passes has its place before a bound just where it is below the bound
+  -- a number that passes is below a bound exactly where its place among those that pass is below the bound's
   pub before_bound : (k bound : ℕ) → p k ≡ true → (k < bound) ↔ (count_below p k < count_below p bound)
   before_bound k bound passes = (
     λ h. omega (arith, count_up p k passes, count_mono (k + 1) bound (omega arith)),
@@ -53,7 +53,8 @@ if_shut : (a b : Bool) → (a ≡ true → b ≡ false) → (a && b) ≡ false
 if_shut true b h = h refl
 if_shut false b h = refl
 
--- where the counted numbers below a size are free up to a bound and not from there on, as many of them are free as lie below it
+-- where the counted numbers below a size are free up to a bound and not from there on, the number of free ones is that of the
+-- counted ones below the bound
 module _ (counted free : ℕ → Bool) (size bound : ℕ) (low : (k : ℕ) → k < bound → counted k ≡ true → free k ≡ true) (high : (k : ℕ) → bound ≤ k → k < size → counted k ≡ true → free k ≡ false) where
   count_to : (rest : ℕ) → bound + rest ≤ size → count_below (λ k. counted k && free k) (bound + rest) ≡ count_below counted bound
   count_to zero within =
@@ -97,7 +98,7 @@ used_of true b e f = refl
 used_of false true e f = cc
 used_of false false e f = cc
 
--- a page that takes a frame up, and isn't on its way, stands in it
+-- a page that takes up a frame and isn't moving is in this frame
 takes_at : (o : Option Placement) (frame : ℕ) → ((serial source target : ℕ) → o ≡ Some (Moving serial source target) → ⊥) → takes_up o frame ≡ true → o ≡ Some (At frame)
 takes_at None frame rest e = cc
 takes_at (Some (At f)) frame rest e = ap (λ (g : ℕ). Some (At g)) (sym (eqb-true frame f e))
@@ -118,7 +119,7 @@ module _ (v : ZoneState) (law : IsLawful v) (swept : IsSwept v) (none : length (
       let one = holds frame (omega (arith, law.fingers.1)) unmarked used in
       (one.0, record { here = one.1; movable = swept.movable one.0 frame one.1 unmarked; unmarked = unmarked; low = swept.below one.0 frame one.1 unmarked; high = high })
 
-  -- below a bound where no search for a source stops, all is free
+  -- where no search for a source stops below a bound, all frames below it are free
   free_below : (bound : ℕ) → bound ≤ v.free → ((frame : ℕ) → frame < bound → is_from v frame ≡ false) → (frame : ℕ) → frame < bound → is_marked v frame ≡ false → is_free v frame ≡ true
   free_below bound within stops frame h unmarked = true_from_ne_false (is_free v frame) (λ used.
       (let one = source_at frame (omega arith) unmarked used in
@@ -163,6 +164,6 @@ module _ (v : ZoneState) (law : IsLawful v) (swept : IsSwept v) (none : length (
     pub packed : IsPacked v
     packed = let parted = by_source (next_source v) refl in packed_parted v parted.0 parted.1
 
--- a quiet zone is swept
+-- a quiet zone with no page out and no pair is packed
 pub packed_quiet : (v : ZoneState) → IsLawful v → is_quiet v ≡ true → length (out v.records) ≡ 0 → HaveMet v → IsPacked v
 packed_quiet v law quiet = packed v law (law.swept quiet)

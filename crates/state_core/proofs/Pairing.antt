@@ -1,4 +1,4 @@
--- The pair that a search finds is the next, and where it finds none there is none.
+-- The pair that a search finds is the next one, and where it finds none there is none.
 use Rattle.std.proofs.Common.{◌≡◌, ℕ, ◌<◌, ◌≤◌, Bool, true, not, inl, inr, refl, sym, ap, subst, ◌∙◌, arith, Option, Some, None, IfNone, nat_le, nat_lt, ◌&&◌}
 use Rattle.std.proofs.lemmas.Bool.{and_parts, both_ways, false_from_ne_true, not-true, ltb-true, leb-true, lt-ltb, le-leb}
 use Rattle.std.proofs.lemmas.Bool.Decides.{leb_tells}
@@ -11,13 +11,13 @@ use Rattle.state_core.specs.ZoneState.{ZoneState, frame_count, is_free}
 use Rattle.state_core.proofs.Highest.{highest_is, highest_some, highest_above}
 use Rattle.state_core.proofs.Holding.{holder_at, holder_found}
 
--- a page that passes is there
+-- where a page that may be none may be taken, there is one
 page_of_some : (v : ZoneState) (o : Option ℕ) → can_move_if_some v o ≡ true →
     (page : ℕ) × (o ≡ Some page) × (can_move v page ≡ true)
 page_of_some v None e = cc
 page_of_some v (Some page) e = (page, refl, e)
 
--- whether a search stops at a frame
+-- whether the search for a source stops at a frame
 abbrev pub is_from : ZoneState → ℕ → Bool
 is_from v frame = nat_le v.migrate frame && holds_movable v frame
 
@@ -65,7 +65,7 @@ module _ (v : ZoneState) (law : IsLawful v) where
             high;
       }
 
-  -- a pair is found
+  -- where there is a pair, the search finds it
   pair_is : (page source target : ℕ) → IsPair v page source target →
       next_pair v ≡ Some (record { page = page; source = source; target = target })
   pair_is page source target pair =
@@ -82,7 +82,7 @@ module _ (v : ZoneState) (law : IsLawful v) where
       (holder_at v law page source pair.from.here)
       ∙ ap (pair_from source (Some page)) to
 
-  -- what is found is a pair
+  -- what the search finds is the pair
   pub found_pair : (page source target : ℕ) → next_source v ≡ Some source → holder v source ≡ Some page →
       next_target v source ≡ Some target → IsPair v page source target
   found_pair page source target from holds to =
@@ -116,11 +116,11 @@ pair_found v law pair e = by_source (next_source v) refl e where
   by_source None from e = cc
   by_source (Some source) from e = by_parts source (holder v source) (next_target v source) from refl refl e
 
--- where the search finds none there is none
+-- where the search finds no pair there is none
 pub no_pair : (v : ZoneState) → IsLawful v → next_pair v ≡ None → HaveMet v
 no_pair v law none page source target pair = none-some _ (sym none ∙ pair_is v law page source target pair)
 
--- a search that finds none
+-- the same, for a search whose result has a name
 pub none_found : (v : ZoneState) → IsLawful v → (o : Option Pair) → o ≡ None → next_pair v ≡ None →
     IfNone o (HaveMet v)
 none_found v law None e none = no_pair v law none
@@ -138,13 +138,13 @@ no_target_pair v source from none = ap (pair_at v) from ∙ ap (pair_from source
 pub no_page_pair : (v : ZoneState) (source : ℕ) → next_source v ≡ Some source → holder v source ≡ None → next_pair v ≡ None
 no_page_pair v source from none = ap (pair_at v) from ∙ ap (λ (o : Option ℕ). pair_from source o (next_target v source)) none
 
--- a source is in the zone
+-- a source that is found is in the zone
 pub source_within : (v : ZoneState) → IsLawful v → (source : ℕ) → next_source v ≡ Some source → source < frame_count v
 source_within v law source from =
     let found = lowest_some (is_from v) v.free source from in
     omega (arith, found.0, law.fingers.1)
 
--- the pair of a source, its page and a target
+-- the pair that the search finds has the source, its page and the target that were found
 pub pair_of : (v : ZoneState) (source page target : ℕ) → next_source v ≡ Some source →
     next_target v source ≡ Some target → holder v source ≡ Some page →
     next_pair v ≡ Some (record { page = page; source = source; target = target })

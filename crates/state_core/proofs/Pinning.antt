@@ -1,4 +1,4 @@
--- A pin more and a pin less: nothing changes but how many pins the page has.
+-- One pin more or less: nothing changes but how many pins the page has.
 use Rattle.std.proofs.Common.{◌≡◌, ◌≢◌, ℕ, ◌+◌, ◌-◌, ◌<◌, length, inl, inr, refl, sym, ap, ◌∙◌, arith, Option, Some}
 use Rattle.std.proofs.lemmas.Bool.{eq-eqb, ne_eqb}
 use Rattle.std.proofs.lemmas.Bool.Decides.{eqb_tells}

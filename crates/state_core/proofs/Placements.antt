@@ -1,4 +1,4 @@
--- However the pages of a zone are placed, as many frames of its unmarked pageblocks are free.
+-- Each placement of a zone's pages leaves the same number of frames of unmarked pageblocks free.
 use Rattle.std.proofs.Common.{◌≡◌, ◌≢◌, ℕ, zero, suc, ◌+◌, ◌-◌, ◌*◌, ◌/◌, ◌^◌, ◌<◌, ◌≤◌, Bool, true, false, not, inl, inr, refl, sym, ap, ◌∙◌, arith}
 use Rattle.std.specs.Prelude.{Option, Some, None, is_some, length, nat_eq, ◌&&◌, ◌||◌}
 use Rattle.std.specs.FinMap as map
@@ -17,7 +17,7 @@ use Rattle.state_core.specs.ZoneState.{ZoneState, frame_count, takes_up, is_used
 use Rattle.state_core.proofs.Filled.{packed_order, order_bounded, runs_bounded, marked_at, whole_by_marks, all_whole}
 use Rattle.state_core.proofs.Holding.{at_rest}
 
--- Of frames that are counted, some are used and some are held, none both, and the rest is free
+-- Of the counted frames, some are used and some are held, none is both, and the rest is free.
 
 three : (c u h : Bool) → (u ≡ true → h ≡ false) → one_if (c && (not u && not h)) + one_if (c && u) + one_if (c && h) ≡ one_if c
 three false u h apart = refl
@@ -31,7 +31,7 @@ count_three : (c u h : ℕ → Bool) (n : ℕ) → ((k : ℕ) → k < n → u k 
 count_three c u h zero apart = refl
 count_three c u h (suc n) apart = omega (arith, three (c n) (u n) (h n) (apart n (omega arith)), count_three c u h n (λ k l. apart k (omega arith)))
 
--- Counted frames with a page are as many as pages with a counted frame
+-- There are as many counted frames with a page as pages with a counted frame.
 
 abbrev stands_counted : (ℕ → Bool) → Option ℕ → Bool
 stands_counted counted None = false
@@ -173,7 +173,7 @@ module _ (v : ZoneState) (law : IsLawful v) (none : length (out v.records) ≡ 0
       let same = taken_same in
       omega arith
 
-  -- a frame of a marked pageblock is free just where it was
+  -- a frame of a marked pageblock is free in both placements or in neither
   same_test : (page frame : ℕ) → is_marked v frame ≡ true → is_place (place page) frame ≡ is_place (now page) frame
   same_test page frame marked = both_or_neither _ _
       (λ e. place_set _ frame (ap frame_of ((placed.marked page frame marked).0 (place_is (place page) frame e))))

@@ -1,4 +1,4 @@
--- A page gets another place, its first, or none: where each page is then, which frames are free, and that the zone stays lawful.
+-- A page gets another place, its first, or none: where each page is afterwards, which frames are free, and that the zone stays lawful.
 use Rattle.std.proofs.Common.{◌≡◌, ◌≢◌, ℕ, zero, suc, ◌+◌, ◌-◌, ◌<◌, ◌≤◌, Bool, true, false, not, List, ◌∷◌, length, ◌⊎◌, inl, inr, refl, sym, ap, ◌∙◌, arith, Option, Some, None, IsSome, IsTrue, is_some, nat_eq, ◌&&◌, ◌||◌, ◌↔◌}
 use Rattle.std.specs.FinMap as map
 use Rattle.std.specs.FinSet as set
@@ -24,22 +24,22 @@ use Rattle.state_core.proofs.Entries.{get_insert_same, get_insert_other, get_rem
 use Rattle.state_core.proofs.Facts.{not_none}
 use Rattle.state_core.proofs.Quiet.{begun_more}
 
--- the placements, with this one of a page
+-- the placements after a page got this one, or none
 abbrev pub put : map.FinMap nat_cmp Placement → ℕ → Option Placement → map.FinMap nat_cmp Placement
 put placement page None = map.remove placement page
 put placement page (Some place) = map.insert placement page place
 
--- the page has this place now
+-- the zone after a page got this placement, or none
 abbrev pub with_place : ZoneState → ℕ → Option Placement → ZoneState
 with_place v page place = record v { placement = put v.placement page place }
 
--- how many pages are on their way by it
+-- how many pages are moving by a placement: one where it is Moving, and else none
 abbrev pub ways_of : Option Placement → ℕ
 ways_of None = 0
 ways_of (Some (At frame)) = 0
 ways_of (Some (Moving serial source target)) = 1
 
--- how many frames a page takes up that is placed so: one if it is in use, and another if it is on its way
+-- how many frames a page with this placement takes up: one where it is in use, and another where it is moving
 abbrev pub frames_of : Option Placement → ℕ
 frames_of o = one_if (is_some o) + ways_of o
 
@@ -47,7 +47,7 @@ frames_of o = one_if (is_some o) + ways_of o
 abbrev pub IsOutWith : List Record → ℕ → ℕ → Type 0
 IsOutWith records page serial = IsTrue (is_out records serial) × (page_of records serial ≡ Some page)
 
--- what it takes to change the place of a page: each frame that it takes up then is one that it took up, or one that is free
+-- what has to hold so that the place of a page may change: each frame that it takes up then is one that it took up, or one that is free
 pub record CanChangePlace (v : ZoneState) (page : ℕ) (old new : Option Placement) : Type 0 where
   pub lawful : IsLawful v
   pub at : map.get v.placement page ≡ old
@@ -55,7 +55,7 @@ pub record CanChangePlace (v : ZoneState) (page : ℕ) (old new : Option Placeme
   pub takes : (frame : ℕ) → takes_up new frame ≡ true → (takes_up old frame ≡ true) ⊎ ((is_free v frame ≡ true) × (frame < frame_count v))
   pub upward : (serial source target : ℕ) → new ≡ Some (Moving serial source target) → source < target
 
--- what is lawful of the places alone
+-- the part of being lawful that speaks of places alone
 pub record HasLawfulPlaces (z : ZoneState) : Type 0 where
   pub numbered : (page : ℕ) → IsSome (map.get z.placement page) → page < frame_count z
   pub upward : (page serial source target : ℕ) → map.get z.placement page ≡ Some (Moving serial source target) → source < target
@@ -81,12 +81,12 @@ untaken v law frame free page = by_use (map.get v.placement page) refl where
   by_use None e = ap (λ (o : Option Placement). takes_up o frame) e
   by_use (Some place) e = some_none (λ p. takes_up (map.get v.placement p) frame) (frame_count v) (not-true _ (and_parts _ (not (is_held v frame)) free).0) page (law.numbered page (not_none _ place e))
 
--- counts of tests that add up to the same at each number
+-- counts add up to the same where their tests do at each number
 pub counts_add_up : (a b c d : ℕ → Bool) (n : ℕ) → ((k : ℕ) → k < n → one_if (a k) + one_if (b k) ≡ one_if (c k) + one_if (d k)) → count_below a n + count_below b n ≡ count_below c n + count_below d n
 counts_add_up a b c d zero each = refl
 counts_add_up a b c d (suc n) each = omega (arith, each n (omega arith), counts_add_up a b c d n (λ k h. each k (omega arith)))
 
--- counts of tests that agree but at one number
+-- counts of two tests that agree at all numbers but one
 counts_but_one : (p r : ℕ → Bool) (n k : ℕ) → k < n → ((q : ℕ) → q ≢ k → p q ≡ r q) → count_below p n + one_if (r k) ≡ count_below r n + one_if (p k)
 counts_but_one p r zero k h same = absurd (omega arith)
 counts_but_one p r (suc n) k h same = elim (leb_tells n k) [
@@ -121,21 +121,21 @@ module _ {v : ZoneState} {page : ℕ} {old new : Option Placement} (can : CanCha
   abbrev next : ZoneState
   next = with_place v page new
 
-  -- where each page is
+  -- the placement of each page after the change
   pub at_page : map.get next.placement page ≡ new
   at_page = get_put_same v.placement page page new refl
 
   pub at_other : (q : ℕ) → q ≢ page → map.get next.placement q ≡ map.get v.placement q
   at_other q ne = get_put_other v.placement page q new ne
 
-  -- this page has its new place, and another the one that it had
+  -- a page has its new placement, or is another page and has the one that it had
   pub where_is : (q : ℕ) → ((q ≡ page) × (map.get v.placement q ≡ old) × (map.get next.placement q ≡ new)) ⊎ ((q ≢ page) × (map.get next.placement q ≡ map.get v.placement q))
   where_is q = elim (eqb_tells q page) [
     | inl same ↦ inl (same.1, ap (map.get v.placement) same.1 ∙ can.at, get_put_same v.placement page q new same.1)
     | inr other ↦ inr (other.1, at_other q other.1)
   ]
 
-  -- who takes up a frame
+  -- a page that takes up a frame after the change is this page or took it up before
   took : (q g : ℕ) → takes_up (map.get next.placement q) g ≡ true → ((q ≡ page) × (takes_up new g ≡ true)) ⊎ ((q ≢ page) × (takes_up (map.get v.placement q) g ≡ true))
   took q g e = elim (where_is q) [
     | inl here ↦ inl (here.0, sym (ap (λ o. takes_up o g) here.2) ∙ e)
@@ -145,7 +145,7 @@ module _ {v : ZoneState} {page : ℕ} {old new : Option Placement} (can : CanCha
   takes_before : (g : ℕ) → takes_up (map.get v.placement page) g ≡ takes_up old g
   takes_before g = ap (λ o. takes_up o g) can.at
 
-  -- no other page takes up a frame of this one, before and afterwards
+  -- no other page takes up a frame of this one, before or after the change
   pub not_old : (q g : ℕ) → q ≢ page → takes_up (map.get v.placement q) g ≡ true → takes_up old g ≡ true → ⊥
   not_old q g ne e mine = ne (can.lawful.apart q page g e (takes_before g ∙ mine))
 
@@ -173,7 +173,7 @@ module _ {v : ZoneState} {page : ℕ} {old new : Option Placement} (can : CanCha
     clear = λ q g a. elim (took q g a) [ inl mine ↦ new_clear g mine.1 | inr theirs ↦ can.lawful.clear q g theirs.1 ];
   }
 
-  -- which frames are free: none of the new place, those that the page left, and else those that were
+  -- which frames are free after the change: none that the page takes up, each that it left, and else those that were
   pub free_new : (g : ℕ) → takes_up new g ≡ true → is_free next g ≡ false
   free_new g e = ap (λ b. not b && not (is_held v g)) (some_at (λ p. takes_up (map.get next.placement p) g) (frame_count v) page can.numbered (ap (λ o. takes_up o g) at_page ∙ e))
 
@@ -196,7 +196,7 @@ module _ {v : ZoneState} {page : ℕ} {old new : Option Placement} (can : CanCha
   pub free_same : (g : ℕ) → takes_up old g ≡ takes_up new g → is_free next g ≡ is_free v g
   free_same g e = elim (cases_Bool (takes_up new g)) [ inl has ↦ free_new g has ∙ sym (free_old g (e ∙ has)) | inr hasnt ↦ free_kept g (e ∙ hasnt) hasnt ]
 
-  -- how many frames are free and how many pages in use
+  -- how many frames are free and how many pages are in use, before and after
   balanced : (g : ℕ) → (takes_up old g ≡ true) ⊎ (takes_up old g ≡ false) → (takes_up new g ≡ true) ⊎ (takes_up new g ≡ false) → one_if (is_free next g) + one_if (takes_up new g) ≡ one_if (is_free v g) + one_if (takes_up old g)
   balanced g (inl had) (inl has) = λ i. one_if ((free_new g has ∙ sym (free_old g had)) i) + one_if ((has ∙ sym had) i)
   balanced g (inl had) (inr gone) = (λ i. one_if (free_left g had gone i) + one_if (gone i)) ∙ sym (λ i. one_if (free_old g had i) + one_if (had i))
@@ -222,7 +222,7 @@ module _ {v : ZoneState} {page : ℕ} {old new : Option Placement} (can : CanCha
     ap (λ (o : Option Placement). one_if (is_some o)) can.at,
   )
 
--- what the record of a call that changes the place of a page has to bring, with the pages that are noted as unmovable then
+-- what the record of a call that changes the place of a page has to fulfil, with the pages that are noted as unmovable then
 pub record IsTold (v : ZoneState) (page : ℕ) (new : Option Placement) (entry : Record) (unmovable : set.FinSet nat_cmp) : Type 0 where
   pub truthful : IsTruthful (entry ∷ v.records)
   pub well_ended : IsWellEnded (entry ∷ v.records)
@@ -230,7 +230,7 @@ pub record IsTold (v : ZoneState) (page : ℕ) (new : Option Placement) (entry :
   pub room_left : length (out (entry ∷ v.records)) ≤ v.room - 1
   pub named : (address : Address) (q : ℕ) → page_at (entry ∷ v.records) address ≡ Some q → InRange address × IsSome (map.get (put v.placement page new) q)
   pub in_use : (q : ℕ) → IsSome (map.get (put v.placement page new) q) → (0 < maps (entry ∷ v.records) q) × (maps (entry ∷ v.records) q ≤ 4) × (pins (entry ∷ v.records) q ≤ 255)
-  -- this page is on its way under just the serial that it is out with, and the others go on so
+  -- this page is moving under exactly the serial that it is out with, and the other pages stay out as they were
   pub own_way : (serial : ℕ) → IsTrue (is_under new serial) ↔ IsOutWith (entry ∷ v.records) page serial
   pub other_ways : (q serial : ℕ) → q ≢ page → IsOutWith v.records q serial ↔ IsOutWith (entry ∷ v.records) q serial
   pub ways : length (out (entry ∷ v.records)) + ways_of (map.get v.placement page) ≡ length (out v.records) + ways_of new

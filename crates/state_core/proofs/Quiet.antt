@@ -1,4 +1,4 @@
--- One more record, and whether the latest round is quiet so far.
+-- How one more record changes whether the latest round is quiet.
 use Rattle.std.proofs.Common.{◌≡◌, ℕ, suc, ◌-◌, ◌≤◌, true, false, List, ◌∷◌, length, take, inl, inr, refl, sym, ap, ◌∙◌, arith, Option, Some, None, ◌&&◌}
 use Rattle.std.specs.List.{list_all}
 use Rattle.std.proofs.Math.Bool.{and-true}
@@ -35,25 +35,25 @@ module _ (records : List Record) (entry : Record) where
     | inr ends ↦ quiet_ended o ends begun ∙ sym (and_right (is_quiet_since records o) _ ends)
   ]
 
--- a round that began with records that are still there
+-- a round that began with no more records than there are began so after one more record too
 pub begun_more : (records : List Record) (entry : Record) (o : Option RoundStart) → ((start : RoundStart) → o ≡ Some start → start.records ≤ length records) → (start : RoundStart) → o ≡ Some start → start.records ≤ length (entry ∷ records)
 begun_more records entry o begun start e = omega (arith, begun start e)
 
--- no call was made since
+-- a round since which no call was made is quiet exactly where it began calm
 pub quiet_begun : (records : List Record) (start : RoundStart) → start.records ≡ length records → start.calm ≡ is_quiet_since records (Some start)
 quiet_begun records start here =
     let none : length records - start.records ≡ 0 = omega arith in
     sym (ap (λ (n : ℕ). start.calm && list_all keeps_quiet (take n records)) none ∙ and-true start.calm)
 
--- a round is quiet just where it begins calm
+-- a round that just began is quiet exactly where it is calm
 pub quiet_is_calm : (v : ZoneState) → is_quiet (round_begun v) ≡ is_calm v
 quiet_is_calm v = sym (quiet_begun v.records (record { records = length v.records; calm = is_calm v }) refl)
 
--- four records leave a round quiet and each other ends that
+-- the records of a load, a store, an isolation and a move leave a quiet round quiet, and each other record ends that
 pub quiet_noted : (v : ZoneState) → IsLawful v → (entry : Record) → is_quiet (noted v entry) ≡ (is_quiet v && keeps_quiet entry)
 quiet_noted v law entry = quiet_next v.records entry v.round law.begun
 
--- whatever else their calls change
+-- a call whose record ends the quiet does so whatever else it changes
 module _ (v next : ZoneState) (entry : Record) (law : IsLawful v) where
   pub quiet_stops : keeps_quiet entry ≡ false → next.records ≡ entry ∷ v.records → next.round ≡ v.round → is_quiet next ≡ false
   quiet_stops ends records round = (λ i. is_quiet_since (records i) (round i)) ∙ quiet_ended v.records entry v.round ends law.begun
@@ -61,6 +61,6 @@ module _ (v next : ZoneState) (entry : Record) (law : IsLawful v) where
   pub swept_ended : keeps_quiet entry ≡ false → next.records ≡ entry ∷ v.records → next.round ≡ v.round → SweptIfQuiet next
   swept_ended ends records round quiet = absurd (both_ways _ (quiet_stops ends records round) quiet)
 
--- so a round that is quiet afterwards was quiet
+-- a round that is quiet after such a record was quiet before
 pub quiet_before : (v : ZoneState) (entry : Record) → IsLawful v → keeps_quiet entry ≡ true → is_quiet_since (entry ∷ v.records) v.round ≡ true → is_quiet v ≡ true
 quiet_before v entry law keeps quiet = sym (quiet_kept v.records entry v.round keeps law.begun) ∙ quiet

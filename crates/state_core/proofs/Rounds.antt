@@ -1,4 +1,4 @@
--- Whether a round begins calm, and what a zone is when it has begun.
+-- Whether a round begins calm, and what holds of a zone after a round began.
 use Rattle.std.proofs.Common.{◌≡◌, ℕ, ◌<◌, true, false, not, length, refl, sym, ap, ◌∙◌, arith, nat_eq, ◌&&◌}
 use Rattle.state_core.specs.Rounds.{round_begun}
 use Rattle.std.proofs.lemmas.Bool.{and_right, eq-eqb}
@@ -13,7 +13,7 @@ use Rattle.state_core.proofs.Quiet.{quiet_begun}
 pub use Rattle.state_core.proofs.Sweeping.{begun}
 use Rattle.state_core.proofs.Sweeping.{swept_begun}
 
--- one stuck frame is enough
+-- one stuck frame is enough that a round isn't calm
 pub not_calm : (v : ZoneState) (frame : ℕ) → frame < frame_count v → is_stuck v frame ≡ true → false ≡ is_calm v
 not_calm v frame within stuck = sym (and_right (nat_eq (length (out v.records)) 0) _ (ap not (some_at (is_stuck v) (frame_count v) frame within stuck)))
 

@@ -1,4 +1,4 @@
--- How many aligned runs pass as a whole.
+-- How many aligned runs have only numbers that pass.
 use Rattle.std.proofs.Common.{◌≡◌, ◌≢◌, ℕ, zero, suc, ◌+◌, ◌-◌, ◌*◌, ◌/◌, ◌<◌, ◌≤◌, Bool, true, false, ◌⊎◌, inl, inr, refl, sym, ap, subst, ◌∙◌, arith}
 use Rattle.std.specs.Prelude.{nat_eq, ◌&&◌, ◌↔◌}
 use Rattle.std.proofs.lemmas.Bool.{both_ways}
@@ -42,7 +42,7 @@ module _ (p : ℕ → Bool) (size : ℕ) where
     | inr other ↦ (let none : one_if (is_run i) ≡ 0 = ap one_if other.0 in omega arith)
   ]
 
-  -- so many whole runs have so many numbers that pass
+  -- at least as many numbers pass as the whole runs have
   pub runs_most : (n : ℕ) → size * whole_runs p size n ≤ count_below p (size * n)
   runs_most zero = omega arith
   runs_most (suc i) = elim (eqb_tells (count_from p (size * i) size) size) [
@@ -57,14 +57,14 @@ quotient n size q low high =
     let split : n ≡ q * size + (n - size * q) = omega arith in
     ap (λ (m : ℕ). m / size) split ∙ div-mul-add q size (n - size * q) (omega arith)
 
--- counted numbers are free just where their place is below a limit
+-- the counted numbers are free exactly where their place is below a limit
 module _ (counted free : ℕ → Bool) (size n limit : ℕ) (some : 0 < size)
     (each : (k : ℕ) → k < size * n → counted k ≡ true → (free k ≡ true) ↔ (count_below counted k < limit))
     (even : (i k : ℕ) → k < size → counted (size * i + k) ≡ counted (size * i)) where
   abbrev both : ℕ → Bool
   both k = counted k && free k
 
-  -- so many numbers are free as are counted, up to the limit
+  -- up to a number, as many are free as are counted, but no more than the limit
   record IsFilled (k : ℕ) : Type 0 where
     under : count_below counted k ≤ limit → count_below both k ≡ count_below counted k
     over : limit ≤ count_below counted k → count_below both k ≡ limit
@@ -92,7 +92,7 @@ module _ (counted free : ℕ → Bool) (size n limit : ℕ) (some : 0 < size)
   filled zero within = record { under = λ h. refl; over = λ h. omega arith }
   filled (suc k) within = filled_next k (omega arith) (filled k (omega arith)) (counted k) (free k) refl refl
 
-  -- the first i runs: those that are counted are free up to the limit, and whole but for one at most
+  -- of the first i runs, the counted ones are free up to the limit, and whole but for one at most
   record IsUpto (i : ℕ) : Type 0 where
     runs : ℕ
     places : count_below counted (size * i) ≡ size * runs

@@ -1,4 +1,4 @@
--- The names under which other crates cite what is so when a page in use takes up other frames.
+-- The names under which other crates cite the facts about a page in use that takes up other frames.
 use Rattle.std.proofs.Common.{◌≡◌, ◌≢◌, ℕ, ◌≤◌, true, false, Some, is_some}
 use Rattle.std.specs.FinMap as map
 use Rattle.frame_core.specs.Below.{count_below}

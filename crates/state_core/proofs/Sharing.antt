@@ -1,4 +1,4 @@
--- A second address for a page: each page has as many addresses as before, and this one has one more.
+-- A second address for a page: each other page has as many addresses as before, and this one has one more.
 use Rattle.std.proofs.Common.{◌≡◌, ◌≢◌, ℕ, ◌+◌, ◌<◌, true, false, length, inl, inr, refl, sym, ap, subst, ◌∙◌, arith, nat_eq, Option, Some, None}
 use Rattle.std.specs.FinMap as map
 use Rattle.std.proofs.lemmas.Bool.{and_from, cases_Bool, cond-true, cond-false, eq-eqb, ne_eqb}
@@ -17,7 +17,7 @@ use Rattle.state_core.specs.ZoneState.{ZoneState}
 use Rattle.state_core.proofs.Noted.{lawful_noted}
 use Rattle.state_core.proofs.Quiet.{swept_ended}
 
--- what it takes to share the page of an address
+-- what has to hold so that an alias can name the page of an address
 pub record CanShare (v : ZoneState) (address alias : Address) (page frame : ℕ) : Type 0 where
   pub lawful : IsLawful v
   pub spare : length (out v.records) < v.room
@@ -31,7 +31,7 @@ module _ (v : ZoneState) (client : ℕ) (address alias : Address) (page frame : 
   abbrev next : ZoneState
   next = shared v client address alias
 
-  -- names
+  -- names after the share
   pub named_here : (a : Address) → same_address a alias ≡ true → page_at next.records a ≡ Some page
   named_here a e = cond-true (same_address a alias) (page_at v.records address) (page_at v.records a) e ∙ can.named
 

@@ -1,4 +1,4 @@
--- Where the scanners of a quiet round met, no call that leaves the round quiet brings a pair back.
+-- Where the scanners of a quiet round have met, no call that leaves the round quiet makes a pair.
 use Rattle.std.proofs.Common.{◌≡◌, ◌≢◌, ℕ, ◌≤◌, true, not, inl, inr, sym, ap, subst, ◌∙◌, arith, Option, Some, nat_eq}
 use Rattle.std.specs.FinMap as map
 use Rattle.std.proofs.lemmas.Bool.{both_ways, eq-eqb}
@@ -34,7 +34,7 @@ met_stored v client address word value met page from to is = met page from to (r
   highest = λ frame t. is.highest frame (record { free = t.free; unmarked = t.unmarked; low = t.low; high = t.high });
 })
 
--- a page that arrives leaves sources and targets as they were: both its frames are outside of the fingers
+-- a page whose move ends leaves sources and targets as they were: both its frames are outside the fingers
 module _ (v : ZoneState) (page serial source target : ℕ) (law : IsLawful v) (swept : IsSwept v) (at : map.get v.placement page ≡ Some (Moving serial source target)) where
   abbrev there : ZoneState
   there = relocated v (Moved serial) page (At target)
@@ -76,7 +76,7 @@ module _ (v : ZoneState) (page serial source target : ℕ) (law : IsLawful v) (s
   pub met_moved : HaveMet v → HaveMet (moved_to_target v serial page)
   met_moved met = subst (λ (o : Option Placement). HaveMet (relocated v (Moved serial) page (At (target_of o)))) (sym at) (met_arrived met)
 
--- in a quiet round a page on its way has no pin
+-- in a quiet round a moving page has no pin
 pub never_pinned : (v : ZoneState) (page serial source target : ℕ) → IsLawful v → map.get v.placement page ≡ Some (Moving serial source target) → is_quiet v ≡ true → not (nat_eq (pins v.records page) 0) ≡ true → ⊥
 never_pinned v page serial source target law at quiet pinned =
     both_ways _ (ap not (eq-eqb (pins v.records page) 0 (no_pin v page serial source target law (law.swept quiet) at))) pinned

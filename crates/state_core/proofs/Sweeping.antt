@@ -27,12 +27,12 @@ use Rattle.state_core.proofs.Holding.{at_rest, at_takes, holder_at}
 use Rattle.state_core.proofs.Isolating.{can_isolate, isolated_others, isolated_target}
 use Rattle.state_core.proofs.Places.{at_page, at_other}
 
--- a calm beginning
+-- a round begins calm
 
 abbrev pub begun : ZoneState → RoundStart → ZoneState
 begun v start = record v { migrate = 0; free = frame_count v; round = Some start }
 
--- an unmarked frame that isn't stuck is not handed out, and its page may be taken
+-- a frame of an unmarked pageblock that isn't stuck isn't handed out, and its page may be taken
 unstuck : (marked held stays : Bool) → marked ≡ false → (not marked && (held || stays)) ≡ false → (held ≡ false) × (stays ≡ false)
 unstuck true held stays e f = cc
 unstuck false true stays e f = cc
@@ -59,7 +59,7 @@ module _ (v : ZoneState) (law : IsLawful v) (calm : is_calm v ≡ true) where
     ways = λ page serial source target at. absurd (at_rest v law none_out page serial source target at);
   }
 
--- one more record that leaves pins as they are
+-- a swept zone stays swept after one more record that leaves pins as they are
 swept_noted : (v : ZoneState) (entry : Record) → ((page : ℕ) → pins (entry ∷ v.records) page ≡ pins v.records page) → IsSwept v → IsSwept (noted v entry)
 swept_noted v entry same swept = record {
   below = swept.below;
@@ -79,7 +79,7 @@ swept_loaded v client address word swept = swept_noted v _ (λ page. refl) swept
 pub swept_stored : (v : ZoneState) (client : ℕ) (address : Address) (word value : ℕ) → IsSwept v → IsSwept (stored v client address word value)
 swept_stored v client address word value swept = swept_noted v _ (λ page. refl) swept
 
--- the next pair
+-- the next pair is isolated
 
 pub on_its_way_not_at : (serial s t : ℕ) (frame : ℕ) → Some (Moving serial s t) ≡ Some (At frame) → ⊥
 on_its_way_not_at serial s t frame e = cc
@@ -100,7 +100,7 @@ module _ (v : ZoneState) (pair : Pair) (law : IsLawful v) (swept : IsSwept v) (i
   others : (page : ℕ) → page ≢ pair.page → map.get next.placement page ≡ map.get v.placement page
   others = at_other (can_isolate v pair law is)
 
-  -- a page that stands somewhere afterwards is another, which stood there
+  -- a page that is in a frame afterwards is another page, which was there
   stood : (page frame : ℕ) → map.get next.placement page ≡ Some (At frame) → (page ≢ pair.page) × (map.get v.placement page ≡ Some (At frame))
   stood page frame at = elim (eqb_tells page pair.page) [
     | inl same ↦ absurd (on_its_way_not_at _ _ _ frame (sym on_its_way ∙ ap (map.get next.placement) (sym same.1) ∙ at))
@@ -152,7 +152,7 @@ module _ (v : ZoneState) (pair : Pair) (law : IsLawful v) (swept : IsSwept v) (i
     ];
   }
 
--- the end of a move
+-- a move ends
 
 pub one_frame : (f g : ℕ) → Some (At f) ≡ Some (At g) → f ≡ g
 one_frame f g e = cc
@@ -197,6 +197,6 @@ module _ (v : ZoneState) (page serial source target : ℕ) (law : IsLawful v) (s
         ];
       }
 
-  -- in a swept zone a page on its way has no pin, so each commit moves
+  -- in a swept zone a moving page has no pin, so each commit moves it
   pub no_pin : pins v.records page ≡ 0
   no_pin = eqb-true (pins v.records page) 0 (and_parts _ _ (swept.ways page serial source target at).movable).0

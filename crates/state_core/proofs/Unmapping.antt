@@ -1,4 +1,4 @@
--- An address names no page any more. A page that loses its last one is nowhere: its frame is free again, and it isn't in use.
+-- An address names no page any more. A page that loses its last address is nowhere: its frame is free again, and it isn't in use.
 use Rattle.std.proofs.Common.{◌≡◌, ◌≢◌, ℕ, ◌+◌, ◌<◌, true, false, length, inl, inr, refl, sym, ap, subst, ◌∙◌, arith, nat_eq, Option, Some, None, IsSome, is_some}
 use Rattle.std.specs.Prelude.{unwrap_or}
 use Rattle.std.specs.FinMap as map
@@ -21,7 +21,7 @@ use Rattle.state_core.proofs.Noted.{lawful_noted}
 use Rattle.state_core.proofs.Quiet.{swept_ended}
 use Rattle.state_core.proofs.Places.{CanChangePlace, HasLawfulPlaces, IsTold, with_place, where_is, ways_of, lawful_places, free_left, free_kept, free_count, page_count, lawful_told}
 
--- what it takes to unmap an address
+-- what has to hold so that an address can be unmapped
 pub record CanUnmap (v : ZoneState) (address : Address) (page frame : ℕ) : Type 0 where
   pub lawful : IsLawful v
   pub spare : length (out v.records) < v.room
@@ -29,7 +29,7 @@ pub record CanUnmap (v : ZoneState) (address : Address) (page frame : ℕ) : Typ
   pub at : map.get v.placement page ≡ Some (At frame)
 
 module _ (v : ZoneState) (client : ℕ) (address : Address) (page frame : ℕ) (can : CanUnmap v address page frame) where
-  -- the addresses afterwards
+  -- the zone after the record of the unmap, with each page where it was
   abbrev after : ZoneState
   after = noted v (Unmap client address)
 
@@ -53,14 +53,14 @@ module _ (v : ZoneState) (client : ℕ) (address : Address) (page frame : ℕ) (
   pub maps_others : (q : ℕ) → q ≢ page → maps after.records q ≡ maps v.records q
   maps_others q ne = omega (arith, maps_then q, ap one_if (ne_eqb page q (λ e. ne (sym e))))
 
-  -- who still names a page named it before
+  -- an address that names a page afterwards named it before
   named_before : (a : Address) (q : ℕ) → page_at after.records a ≡ Some q → page_at v.records a ≡ Some q
   named_before a q is = elim (cases_Bool (same_address a address)) [
     | inl here ↦ (let gone : None ≡ Some q = sym (named_here a here) ∙ is in cc)
     | inr there ↦ sym (named_there a there) ∙ is
   ]
 
-  -- another address names the page
+  -- the zone stays lawful where another address names the page
   pub lawful_still : maps v.records page ≢ 1 → IsLawful after
   lawful_still more =
       let law = can.lawful in
@@ -84,7 +84,7 @@ module _ (v : ZoneState) (client : ℕ) (address : Address) (page frame : ℕ) (
         swept = swept_ended v after (Unmap client address) law refl refl refl;
       })
 
-  -- where the pages are when this one is nowhere
+  -- the zone where the page is nowhere
   abbrev next : ZoneState
   next = with_place v page None
 
@@ -94,7 +94,7 @@ module _ (v : ZoneState) (client : ℕ) (address : Address) (page frame : ℕ) (
   pub unmapped_places : HasLawfulPlaces next
   unmapped_places = lawful_places can_unmap
 
-  -- the only frame that changes is the page's
+  -- after the page's last unmap, only its frame differs in being free
   pub unmapped_others : (g : ℕ) → g ≢ frame → is_free next g ≡ is_free v g
   unmapped_others g ne = free_kept can_unmap g (ne_eqb g frame ne) refl
 
@@ -152,7 +152,7 @@ module _ (v : ZoneState) (client : ℕ) (address : Address) (page frame : ℕ) (
   pub lawful_gone : maps v.records page ≡ 1 → IsLawful (without_page after page)
   lawful_gone one = lawful_told can_unmap (Unmap client address) _ (unmap_told one) v.migrate v.free can.lawful.fingers (swept_ended v (without_page after page) (Unmap client address) can.lawful refl refl refl)
 
-  -- the page of the address is this one
+  -- the page of the address has one address exactly where the address is its last one
   pub is_last_by : is_last v address ≡ nat_eq (maps v.records page) 1
   is_last_by = ap (λ (o : Option ℕ). nat_eq (maps v.records (unwrap_or o 0)) 1) can.named
 

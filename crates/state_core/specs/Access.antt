@@ -9,13 +9,13 @@ use Rattle.state_core.specs.declared.error.ZoneError.TheVariants.{JournalFull, U
 use Rattle.state_core.specs.ZoneState.{ZoneState, has_room, placement_at, noted}
 use Rattle.journal_core.specs.declared.record.Record.TheVariants.{Store, Load}
 
--- a page that is nowhere or on its way can't be read or written
+-- why a page with this placement can't be read or written: it is nowhere, or moving
 abbrev pub placement_refusal : Option Placement → Option ZoneError
 placement_refusal None = Some Unmapped
 placement_refusal (Some (At frame)) = None
 placement_refusal (Some (OnItsWay serial source target)) = Some Moving
 
--- of a load and of a store
+-- why a load or a store at an address is refused, if it is
 abbrev pub access_refusal : ZoneState → Address → Option ZoneError
 access_refusal z address = if not (has_room z) then Some JournalFull else placement_refusal (placement_at z address)
 
@@ -23,10 +23,10 @@ access_refusal z address = if not (has_room z) then Some JournalFull else placem
 abbrev pub value_at : ZoneState → Address → ℕ → ℕ
 value_at z address word = last z.records (unwrap_or (page_at z.records address) 0) word
 
--- a load notes its value, and changes nothing else
+-- the zone after an accepted load, which is recorded with its value
 abbrev pub loaded : ZoneState → ℕ → Address → ℕ → ZoneState
 loaded z client address word = noted z (Load client address word (value_at z address word))
 
--- so does a store
+-- the zone after an accepted store, which is recorded with its value
 abbrev pub stored : ZoneState → ℕ → Address → ℕ → ℕ → ZoneState
 stored z client address word value = noted z (Store client address word value)

@@ -1,4 +1,4 @@
--- A page as it is carried, and the step that puts a page in use somewhere else.
+-- A page with its flags and words, and the step that changes where a page in use is.
 use Rattle.std.specs.Prelude.{ℕ, List, ◌∷◌, [], map as each}
 use Rattle.std.specs.FinMap as map
 use Rattle.std.specs.FinSet as set
@@ -10,7 +10,7 @@ use Rattle.word_core.specs.Page.{Page}
 use Rattle.state_core.specs.declared.placement.Placement.{Placement}
 use Rattle.state_core.specs.ZoneState.{ZoneState, noted}
 
--- the flags that are noted of a page
+-- the flags of a page: whether it was mapped as unmovable, and whether it was stored to
 abbrev pub flags_of : ZoneState → ℕ → PageFlags
 flags_of z page = page_flags (set.contains z.unmovable page) (dirty z.records page)
 
@@ -18,10 +18,10 @@ flags_of z page = page_flags (set.contains z.unmovable page) (dirty z.records pa
 abbrev pub words_now : ZoneState → ℕ → List ℕ
 words_now z page = each (last z.records page) (0 ∷ 1 ∷ 2 ∷ 3 ∷ 4 ∷ 5 ∷ 6 ∷ 7 ∷ [])
 
--- a page as it is carried
+-- a page with its flags and words, as it is carried between frames
 abbrev pub page_now : ZoneState → ℕ → Page
 page_now z page = record { zone = z.number; number = page; flags = flags_of z page; words = words_now z page }
 
--- one more record, and a page in use is placed so now: it begins its way, or stands in a frame
+-- the zone with one more record, and with another placement of a page in use: in a frame, or moving
 abbrev pub relocated : ZoneState → Record → ℕ → Placement → ZoneState
 relocated z entry page placement = record (noted z entry) { placement = map.insert z.placement page placement }

@@ -3,7 +3,7 @@ use Rattle.std.specs.Prelude.{ℕ}
 use Rattle.state_core.specs.declared.error.ZoneError.{ZoneError}
 use Rattle.state_core.specs.declared.error.ZoneError.TheVariants.{Range, JournalFull, Unmapped, Moving, Occupied, NoFrame, ShareFull, PinFull, NotPinned, Pinned, NoBlock, NotHuge, Stranger, Memory, Missing, Out, Marked, NotMarked}
 
--- the number by which a script knows a refusal
+-- the number that a script prints for a refusal
 abbrev pub number_of : ZoneError → ℕ
 number_of Range = 1
 number_of JournalFull = 2

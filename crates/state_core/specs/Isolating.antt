@@ -1,4 +1,4 @@
--- The call that takes the next page of a round on its way: when it is refused, its answer, and what it leaves.
+-- The call that isolates the next page of a round: when it is refused, its answer, and what it leaves.
 use Rattle.std.specs.Prelude.{◌≡◌, ◌≢◌, ℕ, ◌+◌, length, nat_lt, if◌then◌else◌, Option, Some, None}
 use Rattle.std.specs.FinMap as map
 use Rattle.frame_core.specs.declared.place.Address.{Address}
@@ -15,27 +15,29 @@ use Rattle.state_core.specs.Pairs.{IsPair, HaveMet}
 use Rattle.state_core.specs.ZoneState.{ZoneState}
 use Rattle.state_core.specs.Carrying.{page_now, relocated}
 
--- the journal has a place for the isolation and one to end it, besides those that end the pages that are out
+-- why an isolation is refused, if it is: the journal needs a place for it and one for its end, besides those for the
+-- ends of the pages that are out
 abbrev pub isolate_refusal : ZoneState → Option ZoneError
 isolate_refusal z = if nat_lt (length (out z.records) + 1) z.room then None else Some JournalFull
 
--- the page of a pair is on its way under the next serial, and the fingers stand behind its frames
+-- the zone after the page of a pair was isolated: the page is moving under the next serial, and the fingers are one
+-- above its source and at its target
 abbrev pub isolated_next : ZoneState → Pair → ZoneState
 isolated_next z pair =
     let serial = isolated z.records in
     record (relocated z (Isolate serial pair.page) pair.page (Moving serial pair.source pair.target)) { migrate = pair.source + 1; free = pair.target }
 
--- the answer: the page of the pair, and where there is none that the scanners met
+-- the answer of a scan: the page of the pair, or Met where there is no pair
 abbrev pub next_answer : ZoneState → Option Pair → Next
 next_answer z None = next.Met
 next_answer z (Some pair) = next.Page (record { serial = isolated z.records; page = page_now z pair.page })
 
--- and the zone then
+-- the zone after a scan, which changes nothing where there is no pair
 abbrev pub next_state : ZoneState → Option Pair → ZoneState
 next_state z None = z
 next_state z (Some pair) = isolated_next z pair
 
--- the page of the pair is on its way under a serial, at each address that names it, and nothing else moved
+-- the page of the pair is moving under a serial, at each address that names it, and nothing else moved
 pub record IsIsolated (old new : ZoneState) (page serial : ℕ) : Type 0 where
   pub source : ℕ
   pub target : ℕ
@@ -44,7 +46,7 @@ pub record IsIsolated (old new : ZoneState) (page serial : ℕ) : Type 0 where
   pub others : (other : ℕ) → other ≢ page → map.get new.placement other ≡ map.get old.placement other
   pub names : (address : Address) → page_at new.records address ≡ page_at old.records address
 
--- the answer in the words of pairs: the page of the pair is on its way now, or there is no pair
+-- the answer in terms of pairs: the page of the pair is isolated, or there is no pair
 abbrev pub Scans : ZoneState → ZoneState → Next → Type 0
 Scans old new next.Met = HaveMet old
 Scans old new (next.Page p) = IsIsolated old new p.page.number p.serial

@@ -15,13 +15,13 @@ use Rattle.state_core.specs.declared.round.RoundStart.{RoundStart}
 use Rattle.state_core.specs.Swept.{SweptIfQuiet}
 use Rattle.state_core.specs.ZoneState.{ZoneState, frame_count, takes_up, covers, is_free, is_held}
 
--- whether a page that is placed so is on its way under a serial
+-- whether a placement is that of a page which is moving under this serial
 abbrev pub is_under : Option Placement → ℕ → Bool
 is_under None serial = false
 is_under (Some (At frame)) serial = false
 is_under (Some (Moving s source target)) serial = nat_eq s serial
 
--- a block of this order, 3 to 9, whose first frame is a multiple of its frames, in a zone of so many frames
+-- a block of this order, 3 to 9, whose first frame is a multiple of its frames, in a zone of this many frames
 pub record IsBlock (frames first order : ℕ) : Type 0 where
   pub low : 3 ≤ order
   pub high : order ≤ 9
@@ -30,37 +30,37 @@ pub record IsBlock (frames first order : ℕ) : Type 0 where
 
 -- what is true of every zone
 pub record IsLawful (z : ZoneState) : Type 0 where
-  -- a zone has 1 to 8 pageblocks, and its journal at most 65536 places
+  -- a zone has 1 to 8 pageblocks, and its journal at most 65,536 places
   pub size : (0 < z.blocks) × (z.blocks ≤ 8)
   pub places : length z.records + z.room ≤ 65536
-  -- each load gave the last value stored, and each page that was isolated is ended once at most
+  -- each load gave the last value stored, and each page that was isolated ended at most once
   pub truthful : IsTruthful z.records
   pub well_ended : IsWellEnded z.records
-  -- the journal has a place to end each page that is out
+  -- the journal has a place for the end of each page that is out
   pub room_left : length (out z.records) ≤ z.room
-  -- only an address that there is names a page, and only one in use; each of them has 1 to 4 addresses and at most 255 pins
+  -- only an address in range names a page, and only a page in use; each page in use has 1 to 4 addresses and at most 255 pins
   pub named : (address : Address) (page : ℕ) → page_at z.records address ≡ Some page → InRange address × IsSome (map.get z.placement page)
   pub in_use : (page : ℕ) → IsSome (map.get z.placement page) → (0 < maps z.records page) × (maps z.records page ≤ 4) × (pins z.records page ≤ 255)
   pub numbered : (page : ℕ) → IsSome (map.get z.placement page) → page < frame_count z
-  -- a page is on its way under just the serial that it is out with
+  -- a page is moving under exactly the serial that it is out with
   pub under_way : (page serial : ℕ) → IsTrue (is_under (map.get z.placement page) serial) ↔ (IsTrue (is_out z.records serial) × (page_of z.records serial ≡ Some page))
-  -- and goes up
+  -- a moving page goes to a higher frame
   pub upward : (page serial source target : ℕ) → map.get z.placement page ≡ Some (Moving serial source target) → source < target
-  -- a frame is of one page at most, in the zone, and of no block that is handed out
+  -- a frame is of one page at most; it is in the zone, and in no block that is handed out
   pub apart : (p q frame : ℕ) → takes_up (map.get z.placement p) frame ≡ true → takes_up (map.get z.placement q) frame ≡ true → p ≡ q
   pub within : (page frame : ℕ) → takes_up (map.get z.placement page) frame ≡ true → frame < frame_count z
   pub clear : (page frame : ℕ) → takes_up (map.get z.placement page) frame ≡ true → is_held z frame ≡ false
-  -- the blocks that are handed out are blocks of the zone, and no two overlap
+  -- the blocks that are handed out are blocks of the zone, and no two of them overlap
   pub blocks : (first order : ℕ) → map.get z.handed_out first ≡ Some order → IsBlock (frame_count z) first order
   pub disjoint : (a b frame : ℕ) → covers (map.get z.handed_out a) a frame ≡ true → covers (map.get z.handed_out b) b frame ≡ true → a ≡ b
   -- the blocks handed out and the marks are those that the journal tells of, and a page that is noted as unmovable is in use
   pub handed : (first : ℕ) → map.get z.handed_out first ≡ handed_out_by z.records first
   pub marks : (block : ℕ) → set.contains z.marked block ≡ is_marked_by z.records block
   pub unmovable : (page : ℕ) → set.contains z.unmovable page ≡ true → IsSome (map.get z.placement page)
-  -- the fingers stand in the zone, in order, and the latest round began with records that are still there
+  -- the fingers are in the zone, in order, and the latest round began when the journal had no more records than now
   pub fingers : (z.migrate ≤ z.free) × (z.free ≤ frame_count z)
   pub begun : (start : RoundStart) → z.round ≡ Some start → start.records ≤ length z.records
-  -- while the latest round is quiet, its scanners left nothing behind
+  -- while the latest round is quiet, no page is left below the migrate finger, and no frame is free from the free finger on
   pub swept : SweptIfQuiet z
-  -- each frame is free, of a page, or of a block that is handed out; a page on its way has two
+  -- each frame is free, or of a page, or of a block that is handed out; a moving page has two frames
   pub sum : count_below (is_free z) (frame_count z) + count_below (λ page. is_some (map.get z.placement page)) (frame_count z) + length (out z.records) + count_below (is_held z) (frame_count z) ≡ frame_count z

@@ -1,4 +1,4 @@
--- What a zone tells of itself: of the page that an address names, and its counts.
+-- What a zone tells: what is known of the page that an address names, and its counts.
 use Rattle.std.specs.Prelude.{ℕ, length, None, is_some, Option, Some}
 use Rattle.std.specs.FinMap as map
 use Rattle.frame_core.specs.Below.{count_below}
@@ -14,7 +14,7 @@ use Rattle.state_core.specs.declared.information.Look.TheVariants as look
 use Rattle.state_core.specs.declared.placement.Placement.{Placement}
 use Rattle.state_core.specs.Carrying.{flags_of}
 
--- what is known of a page that is placed so
+-- what is known of a page with this placement, if it is in use
 abbrev pub look_by : ZoneState → ℕ → Option Placement → Option Look
 look_by z page None = None
 look_by z page (Some (At frame)) = Some (look.At frame (flags_of z page) (pins z.records page) (maps z.records page))

@@ -1,4 +1,4 @@
--- The calls that bind an address to a fresh page: when they are refused, and what they leave.
+-- The calls that make an address name a fresh page: when they are refused, and what they leave.
 use Rattle.std.specs.Prelude.{ℕ, not, nat_lt, if◌then◌else◌, Option, Some, None, is_none, is_some, Bool, unwrap_or}
 use Rattle.frame_core.specs.declared.place.Address.{Address}
 use Rattle.journal_core.specs.History.{page_at}
@@ -10,7 +10,7 @@ use Rattle.std.specs.FinMap as map
 use Rattle.std.specs.FinSet as set
 use Rattle.journal_core.specs.declared.record.Record.TheVariants.{Map}
 
--- of a map, at the lowest free frame
+-- why a map at the lowest free frame is refused, if it is
 abbrev pub map_refusal : ZoneState → Address → Option ZoneError
 map_refusal z address =
     if not (has_room z) then Some JournalFull
@@ -18,7 +18,7 @@ map_refusal z address =
     else if is_none (lowest_free_frame z) then Some NoFrame
     else None
 
--- of a map at a frame that is given
+-- why a map at a given frame is refused, if it is
 abbrev pub map_at_refusal : ZoneState → Address → ℕ → Option ZoneError
 map_at_refusal z address frame =
     if not (nat_lt frame (frame_count z)) then Some Range
@@ -27,12 +27,12 @@ map_at_refusal z address frame =
     else if not (is_free z frame) then Some NoFrame
     else None
 
--- the address names a fresh page with this number, which is at this frame
+-- the zone after the address was made to name a fresh page with this number, in this frame
 abbrev pub placed : ZoneState → ℕ → Address → Bool → ℕ → ℕ → ZoneState
 placed z client address unmovable page frame =
     let next = noted z (Map client address page) in
     record next { placement = map.insert z.placement page (At frame); unmovable = if unmovable then set.insert z.unmovable page else z.unmovable }
 
--- a map and a map_at: the fresh page has the lowest number that isn't in use
+-- the zone after an accepted map or map_at: the fresh page has the lowest number that isn't in use
 abbrev pub mapped : ZoneState → ℕ → Address → Bool → ℕ → ZoneState
 mapped z client address unmovable frame = placed z client address unmovable (unwrap_or (lowest_unused_page z) 0) frame

@@ -4,11 +4,11 @@ use Rattle.state_core.specs.ZoneState.{ZoneState}
 use Rattle.std.specs.FinMap as map
 use Rattle.std.specs.FinSet as set
 
--- 1 to 8 pageblocks, and 1 to 65536 places in the journal
+-- a zone may be opened with this many pageblocks and places in its journal: 1 to 8, and 1 to 65,536
 abbrev pub IsOpenable : ℕ → ℕ → Type 0
 IsOpenable blocks places = (0 < blocks) × (blocks ≤ 8) × (0 < places) × (places ≤ 65536)
 
--- an empty zone
+-- a zone that was just opened: it has no page, no record and no block handed out
 abbrev pub opened : ℕ → ℕ → ℕ → ZoneState
 opened number blocks places = record {
   number = number;

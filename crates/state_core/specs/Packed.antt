@@ -8,7 +8,7 @@ use Rattle.state_core.specs.declared.placement.Placement.TheVariants.{At, Moving
 use Rattle.state_core.specs.Pairs.{is_marked, is_free_unmarked}
 use Rattle.state_core.specs.ZoneState.{ZoneState, frame_count, is_free, is_held, is_whole}
 
--- whether a frame stands in no marked pageblock
+-- whether a frame is in an unmarked pageblock
 abbrev pub is_unmarked : ZoneState → ℕ → Bool
 is_unmarked z frame = not (is_marked z frame)
 
@@ -20,15 +20,15 @@ place_of z frame = count_below (is_unmarked z) frame
 abbrev pub unmarked_free : ZoneState → ℕ
 unmarked_free z = count_below (is_free_unmarked z) (frame_count z)
 
--- the frame in place i is free just where i is below the number of free ones
+-- a frame of an unmarked pageblock is free exactly where its place is below the number of free ones
 pub record IsPacked (z : ZoneState) : Type 0 where
   pub each : (frame : ℕ) → frame < frame_count z → is_marked z frame ≡ false → IsTrue (is_free z frame) ↔ (place_of z frame < unmarked_free z)
 
--- of the first n runs of so many numbers, the first of them from 0 on, how many pass as a whole
+-- the numbers are cut into runs of `size`, from 0 on: how many of the first n runs have only numbers that pass
 abbrev pub whole_runs : (ℕ → Bool) → ℕ → ℕ → ℕ
 whole_runs p size n = count_below (λ i. nat_eq (count_from p (size * i) size) size) n
 
--- how many aligned runs of so many frames of unmarked pageblocks are free
+-- how many aligned runs of `size` frames have only free frames of unmarked pageblocks
 abbrev pub free_runs : ZoneState → ℕ → ℕ
 free_runs z size = whole_runs (is_free_unmarked z) size (frame_count z / size)
 
@@ -36,11 +36,12 @@ free_runs z size = whole_runs (is_free_unmarked z) size (frame_count z / size)
 abbrev pub unmarked_whole : ZoneState → ℕ
 unmarked_whole z = count_below (λ block. not (set.contains z.marked block) && is_whole z block) z.blocks
 
--- and how many marked ones
+-- how many marked pageblocks are whole
 abbrev pub marked_whole : ZoneState → ℕ
 marked_whole z = count_below (λ block. set.contains z.marked block && is_whole z block) z.blocks
 
--- a frame for each page of a zone, its own and not handed out; pages of marked pageblocks keep theirs, and none comes in
+-- a placement gives each page of a zone a frame of its own that isn't handed out; the pages of marked pageblocks keep
+-- theirs, and no other page comes into these
 pub record IsPlacement (z : ZoneState) (place : ℕ → Option ℕ) : Type 0 where
   pub same_pages : (page : ℕ) → is_some (place page) ≡ is_some (map.get z.placement page)
   pub within : (page frame : ℕ) → place page ≡ Some frame → frame < frame_count z
@@ -48,29 +49,29 @@ pub record IsPlacement (z : ZoneState) (place : ℕ → Option ℕ) : Type 0 whe
   pub clear : (page frame : ℕ) → place page ≡ Some frame → is_held z frame ≡ false
   pub marked : (page frame : ℕ) → is_marked z frame ≡ true → (place page ≡ Some frame) ↔ (map.get z.placement page ≡ Some (At frame))
 
--- the frame that a page which is placed so stands in
+-- the frame of a page with this placement, if it is in use and not moving
 abbrev pub frame_of : Option Placement → Option ℕ
 frame_of None = None
 frame_of (Some (At frame)) = Some frame
 frame_of (Some (Moving serial source target)) = None
 
--- the frames in which the pages of a zone stand
+-- the placement that the pages of a zone have now
 abbrev pub places_now : ZoneState → ℕ → Option ℕ
 places_now z page = frame_of (map.get z.placement page)
 
--- whether this is that frame
+-- whether a frame that may be none is this frame
 abbrev pub is_place : Option ℕ → ℕ → Bool
 is_place None frame = false
 is_place (Some f) frame = nat_eq frame f
 
--- whether a frame is free where the pages are placed so
+-- whether a frame would be free if the pages had this placement
 abbrev pub is_left_free : ZoneState → (ℕ → Option ℕ) → ℕ → Bool
 is_left_free z place frame = not (some_below (λ page. is_place (place page) frame) (frame_count z)) && not (is_held z frame)
 
--- how many pageblocks are whole then
+-- how many pageblocks would be whole if the pages had this placement
 abbrev pub left_whole : ZoneState → (ℕ → Option ℕ) → ℕ
 left_whole z place = whole_runs (is_left_free z place) 512 z.blocks
 
--- and how many aligned runs of so many frames of unmarked pageblocks are free
+-- how many aligned runs of `size` frames of unmarked pageblocks would be free if the pages had this placement
 abbrev pub left_runs : ZoneState → (ℕ → Option ℕ) → ℕ → ℕ
 left_runs z place size = whole_runs (λ frame. is_unmarked z frame && is_left_free z place frame) size (frame_count z / size)

@@ -3,7 +3,7 @@ use Rattle.std.specs.Prelude.{length, Some}
 use Rattle.state_core.specs.Pairs.{is_calm}
 use Rattle.state_core.specs.ZoneState.{ZoneState, frame_count}
 
--- a round begins: the fingers stand at the ends of the zone, and it is noted how many records there are and whether the round is calm
+-- the zone after a round was begun: the fingers are at its ends, and it notes the number of records and whether the round is calm
 abbrev pub round_begun : ZoneState → ZoneState
 round_begun z = record z {
   migrate = 0;

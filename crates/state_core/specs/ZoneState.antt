@@ -1,4 +1,5 @@
--- The state of a zone, one record, and what is read off it: which frames are free, what has room, and what is quiet.
+-- The state of a zone, one record, and what is read off it: which frames are free, whether the journal has room, and
+-- whether the latest round is quiet.
 use Rattle.std.specs.Prelude.{ℕ, ◌+◌, true, false, List, length, nat_eq, Option, Some, None, ◌-◌, ◌*◌, ◌^◌, Bool, not, ◌&&◌, ◌||◌, ◌∷◌, take, nat_lt, nat_le, is_none}
 use Rattle.std.specs.FinMap as map
 use Rattle.frame_core.specs.declared.place.Address.{Address}
@@ -15,14 +16,14 @@ use Rattle.journal_core.specs.declared.record.Record.TheVariants.{Load, Store, I
 use Rattle.journal_core.specs.History.{page_at}
 use Rattle.state_core.specs.declared.round.RoundStart.{RoundStart}
 
--- what contracts see of a zone
+-- the state of a zone, as contracts see it
 pub record ZoneState : Type 0 where
   pub number : ℕ
   -- how many pageblocks it has
   pub blocks : ℕ
   -- the journal, the newest record first
   pub records : List Record
-  -- the places that it has left
+  -- the number of places that are left in the journal
   pub room : ℕ
   -- the pages in use that were mapped as unmovable
   pub unmovable : set.FinSet nat_cmp
@@ -38,35 +39,35 @@ pub record ZoneState : Type 0 where
   -- how the latest round began, if there was one
   pub round : Option RoundStart
 
--- a pageblock has 512 frames
+-- the number of frames in a zone: 512 for each pageblock
 abbrev pub frame_count : ZoneState → ℕ
 frame_count z = 512 * z.blocks
 
--- whether a page that is placed so takes up a frame
+-- whether a page with this placement takes up a frame: the one that it is in, or the source or the target of its move
 abbrev pub takes_up : Option Placement → ℕ → Bool
 takes_up None frame = false
 takes_up (Some (At f)) frame = nat_eq frame f
 takes_up (Some (Moving serial source target)) frame = nat_eq frame source || nat_eq frame target
 
--- the frame with the words of a page
+-- the frame that has the words of a page with this placement
 abbrev pub words_frame : Placement → ℕ
 words_frame (At frame) = frame
 words_frame (Moving serial source target) = source
 
--- whether a frame is of the block of this order, if there is one, at this first frame
+-- whether a frame is in a block of this order from this first frame on; false where the order is none
 abbrev pub covers : Option ℕ → ℕ → ℕ → Bool
 covers None first frame = false
 covers (Some order) first frame = nat_le first frame && nat_lt frame (first + 2 ^ order)
 
--- whether a page takes a frame up; the numbers of pages are below the number of frames
+-- whether some page takes a frame up; the numbers of pages are below the number of frames
 abbrev pub is_used : ZoneState → ℕ → Bool
 is_used z frame = some_below (λ page. takes_up (map.get z.placement page) frame) (frame_count z)
 
--- whether a frame is of a block that is handed out
+-- whether a frame is in a block that is handed out
 abbrev pub is_held : ZoneState → ℕ → Bool
 is_held z frame = some_below (λ first. covers (map.get z.handed_out first) first frame) (frame_count z)
 
--- whether a frame is of no page and of no block that is handed out
+-- whether a frame is of no page and in no block that is handed out
 abbrev pub is_free : ZoneState → ℕ → Bool
 is_free z frame = not (is_used z frame) && not (is_held z frame)
 
@@ -74,31 +75,31 @@ is_free z frame = not (is_used z frame) && not (is_held z frame)
 abbrev pub free_in_block : ZoneState → ℕ → ℕ
 free_in_block z block = count_from (is_free z) (512 * block) 512
 
--- whether all of them are
+-- whether all 512 frames of a pageblock are free
 abbrev pub is_whole : ZoneState → ℕ → Bool
 is_whole z block = nat_eq (free_in_block z block) 512
 
--- the lowest frame that is free
+-- the lowest free frame, if there is one
 abbrev pub lowest_free_frame : ZoneState → Option ℕ
 lowest_free_frame z = lowest (is_free z) (frame_count z)
 
--- the lowest page number that isn't in use
+-- the lowest page number that isn't in use, if there is one
 abbrev pub lowest_unused_page : ZoneState → Option ℕ
 lowest_unused_page z = lowest (λ page. is_none (map.get z.placement page)) (frame_count z)
 
--- the journal has a place for a call, besides those that end the pages that are out
+-- whether the journal has a place for a call, besides those for the ends of the pages that are out
 abbrev pub has_room : ZoneState → Bool
 has_room z = nat_lt (length (out z.records)) z.room
 
--- where the page is that an address names
+-- the placement of the page that an address names, if it names one
 abbrev pub placement_at : ZoneState → Address → Option Placement
 placement_at z address = option_and_then (map.get z.placement) (page_at z.records address)
 
--- one more record
+-- the zone with one more record
 abbrev pub noted : ZoneState → Record → ZoneState
 noted z entry = record z { records = entry ∷ z.records; room = z.room - 1 }
 
--- whether a call leaves a round quiet
+-- whether the call of this record leaves a quiet round quiet
 abbrev pub keeps_quiet : Record → Bool
 keeps_quiet (Load client address word value) = true
 keeps_quiet (Store client address word value) = true
@@ -110,11 +111,11 @@ keeps_quiet _ = false
 abbrev pub since : ℕ → List Record → List Record
 since n records = take (length records - n) records
 
--- of these records: a round that began so was calm, and only such calls were made since then
+-- whether, by these records, a round that began so is quiet: it began calm, and since then only calls were made that leave it quiet
 abbrev pub is_quiet_since : List Record → Option RoundStart → Bool
 is_quiet_since records None = false
 is_quiet_since records (Some start) = start.calm && list_all keeps_quiet (since start.records records)
 
--- the latest round began calm, and only such calls were made since then
+-- whether the latest round is quiet: it began calm, and since then only calls were made that leave it quiet
 abbrev pub is_quiet : ZoneState → Bool
 is_quiet z = is_quiet_since z.records z.round

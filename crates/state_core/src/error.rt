@@ -5,16 +5,17 @@ use std::error::Error;
 use std::fmt;
 use std::fmt::{Display, Formatter};
 
-/// Why a call of a zone was refused. A call is tested against them in the order of their numbers.
+/// Why a call of a zone was refused. Where several reasons hold, the one with the lowest number is the error. The
+/// numbers and the reasons are this project's own.
 #[derive(Clone, Copy, Debug, PartialEq, Eq)]
 pub enum ZoneError {
     /// An argument is out of its range.
     Range,
-    /// The journal has no place left.
+    /// The journal has no place left, besides those that the moving pages need for their ends.
     JournalFull,
     /// The address names no page.
     Unmapped,
-    /// The page is on its way.
+    /// The page is moving.
     Moving,
     /// The address names a page already.
     Occupied,
@@ -28,17 +29,17 @@ pub enum ZoneError {
     NotPinned,
     /// The page has a pin and this is its last address.
     Pinned,
-    /// No block of free frames is left.
+    /// No block of this order has only free frames.
     NoBlock,
-    /// The block was not handed out.
+    /// No block of this order is handed out from this frame on.
     NotHuge,
-    /// The page is not on its way in this zone.
+    /// The page isn't moving in this zone.
     Stranger,
     /// There is not enough memory.
     Memory,
     /// A part of the end seat is missing.
     Missing,
-    /// A page is on its way.
+    /// A page is moving.
     Out,
     /// The pageblock is marked already.
     Marked,
@@ -47,7 +48,7 @@ pub enum ZoneError {
 }
 
 impl ZoneError {
-    /// Its number, 1 to 18, by which a script knows it.
+    /// The number, 1 to 18, that a script prints for it.
     pub fn number(&self) -> u16
         ensures { result ≡ number_of self.now }
     {
@@ -73,13 +74,13 @@ impl ZoneError {
         }
     }
 
-    // What it says to a reader.
+    // The text that a reader is told.
     fn text(&self) -> &'static str {
         match self {
             ZoneError::Range => "an argument is out of its range",
             ZoneError::JournalFull => "the journal has no place left",
             ZoneError::Unmapped => "the address names no page",
-            ZoneError::Moving => "the page is on its way",
+            ZoneError::Moving => "the page is moving",
             ZoneError::Occupied => "the address names a page already",
             ZoneError::NoFrame => "no frame is free",
             ZoneError::ShareFull => "the page has 4 addresses already",
@@ -88,10 +89,10 @@ impl ZoneError {
             ZoneError::Pinned => "the page has a pin and this is its last address",
             ZoneError::NoBlock => "no block of free frames is left",
             ZoneError::NotHuge => "the block was not handed out",
-            ZoneError::Stranger => "the page is not on its way in this zone",
+            ZoneError::Stranger => "the page is not moving in this zone",
             ZoneError::Memory => "there is not enough memory",
             ZoneError::Missing => "a part of the end seat is missing",
-            ZoneError::Out => "a page is on its way",
+            ZoneError::Out => "a page is moving",
             ZoneError::Marked => "the pageblock is marked already",
             ZoneError::NotMarked => "the pageblock is not marked",
         }

@@ -1,13 +1,13 @@
 use frame_core::{FrameNo, PageFlags, Serial};
 
-/// The counts of a zone. Free frames, pages, moving pages and held frames together are the frames of the zone.
+/// The counts of a zone. Free frames, pages, moving pages and held frames add up to the frames of the zone, since a moving page has two.
 #[derive(Clone, Copy, Debug, PartialEq, Eq)]
 pub struct Info {
     /// Free frames.
     pub free: u32,
-    /// Pages in use, those on their way too.
+    /// Pages in use, moving ones too.
     pub pages: u32,
-    /// Pages on their way.
+    /// Moving pages.
     pub moving: u32,
     /// Blocks that are handed out.
     pub huge: u32,
@@ -20,16 +20,16 @@ pub struct Info {
 /// What is known of the page that an address names.
 #[derive(Clone, Copy, Debug, PartialEq, Eq)]
 pub enum Look {
-    /// It stands in this frame.
+    /// It is in this frame.
     At {
         frame: FrameNo,
         flags: PageFlags,
-        /// 0 to 255.
+        /// How many pins it has, 0 to 255.
         pins: u8,
         /// How many addresses name it, 1 to 4.
         maps: u8,
     },
-    /// It is on its way under this serial.
+    /// It is moving under this serial.
     Moving {
         serial: Serial,
         pins: u8,
@@ -37,7 +37,7 @@ pub enum Look {
     },
 }
 
-/// What a zone and its seats agree on when no page is on its way: each page that was isolated was moved or put back.
+/// What a zone and its seats agree on when no page is moving: each page that was isolated was moved or put back.
 #[derive(Clone, Copy, Debug, PartialEq, Eq)]
 pub struct Audit {
     pub isolated: u32,

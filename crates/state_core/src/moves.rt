@@ -4,7 +4,7 @@ use word_core::Isolated;
 /// What the scanner found.
 #[derive(Drop, Debug)]
 pub enum Next {
-    /// A page, which is on its way from here on.
+    /// A page, which is isolated now and has to be brought back.
     Page(Isolated),
     /// The scanners met: no pair is left between the fingers.
     Met,
@@ -13,14 +13,13 @@ pub enum Next {
 /// How the move of a page ended.
 #[derive(Clone, Copy, Debug, PartialEq, Eq)]
 pub enum Ended {
-    /// The page stands in its new frame.
+    /// The page is in its new frame.
     Moved,
-    /// The page had a pin, and stands in its old frame.
+    /// The page had a pin, and is in its old frame.
     Back,
 }
 
-/// A page that isn't on its way in the zone that it was brought to, or a copy without the words of its page. It is handed
-/// back as it came.
+/// A page that isn't moving in the zone that it was brought to, or a copy without the words of its page. It is handed back unchanged.
 #[derive(Drop, Debug, Error)]
-#[error("the page is not on its way in this zone")]
+#[error("the page is not moving in this zone")]
 pub struct Stranger<P>(pub P);

@@ -5,7 +5,7 @@ use frame_core::{FrameNo, Serial};
 pub enum Placement {
     /// In this frame.
     At(FrameNo),
-    /// On its way under a serial. The source keeps its words until the move is committed.
+    /// Moving under a serial, from a source to a target. The source keeps its words until the move is committed.
     Moving {
         serial: Serial,
         source: FrameNo,

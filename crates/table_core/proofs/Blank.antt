@@ -1,4 +1,4 @@
--- Where no address is listed under a frame, none names anything.
+-- Where no address is listed under a frame, no address names anything.
 use Rattle.std.proofs.Common.{◌≡◌, ℕ, zero, suc, List, length, replicate, refl, ap, sym, ◌∙◌}
 use Rattle.std.specs.Prelude.{Option, Some, None, slice_get, unwrap_or}
 use Rattle.std.proofs.lemmas.List.{length-replicate}

@@ -1,4 +1,4 @@
--- The lists of a zone's tables go on standing for its entries.
+-- The lists of a zone's tables still agree with its entries after each change.
 use Rattle.std.proofs.Common.{◌≡◌, ◌≢◌, ℕ, zero, suc, ◌+◌, ◌*◌, ◌/◌, ◌%◌, ◌<◌, Bool, true, false, List, [], ◌∷◌, ◌++◌, length, take, drop, get_or, replicate, ◌⊎◌, inl, inr, refl, sym, ap, subst, ◌∙◌, arith}
 use Rattle.std.specs.Prelude.{Option, Some, nat_eq, slice_get, slice_set, unwrap_or}
 use Rattle.std.specs.List.{SwappedAt}
@@ -17,7 +17,7 @@ use Rattle.table_core.specs.Names.{IsIn, IsRising, AreJust, inserted, without}
 use Rattle.table_core.specs.Tables.{place_of, entry_at, is_listed, IsBlank, ChangesOnly, Replaces}
 use Rattle.table_core.proofs.Rising.{from_inserted, to_inserted, rising_inserted, length_inserted, from_without, to_without, rising_without, length_without}
 
--- two addresses that there are, with one place
+-- addresses in range that have the same place are equal
 pub same_address : (a b : Address) → InRange a → InRange b → place_of a ≡ place_of b → a ≡ b
 same_address a b in_a in_b at =
     let space : a.space ≡ b.space = omega (arith, in_a.vpage, in_b.vpage) in
@@ -34,7 +34,7 @@ place_at place = div-add-mod place 4096
 pub range_at : (place : ℕ) → place < 32768 → InRange (address_at place)
 range_at place h = let whole = div-add-mod place 4096 in record { space = omega arith; vpage = omega arith }
 
--- an entry that is got by its place, and a list that is read by its index
+-- an entry that is read by its place, and a list that is read by its index
 pub entry_got : (entries : List Entry) (a : Address) (place : ℕ) (entry : Entry) → place ≡ place_of a → slice_get entries place ≡ Some entry → entry_at entries a ≡ entry
 entry_got entries a place entry at got =
     ap (λ (p : ℕ). unwrap_or (slice_get entries p) Absent) (sym at)
@@ -44,11 +44,11 @@ pub list_read : (lists : List (List Address)) (frame index : ℕ) (names : List 
     slice_get lists frame ≡ Some names
 list_read lists frame index names at within read = ap (slice_get lists) (sym at) ∙ slice_get-get_or lists index names within ∙ ap Some (sym read)
 
--- a slice that was written as a whole
+-- a slice that was overwritten as a whole
 pub rewritten : {X : Type 0} (old new : List X) (n : ℕ) → length new ≡ n → length old ≡ n → take n (new ++ drop (length new) old) ≡ new
 rewritten old new n a b = take-append-le n new (drop (length new) old) (omega arith) ∙ take_all n new (omega arith)
 
--- one entry is another, or not
+-- two entries are equal or not
 pub same_entry : (a b : Entry) → (a ≡ b) ⊎ (a ≢ b)
 same_entry Absent Absent = inl refl
 same_entry Absent (Present f) = inr (λ e. cc)
@@ -85,7 +85,7 @@ pub decide : (b : Bool) → (b ≡ true) ⊎ (b ≡ false)
 decide true = inl refl
 decide false = inr refl
 
--- one entry changed
+-- one entry changed, and no other
 pub record Changes (old new : List Entry) (address : Address) (entry : Entry) : Type 0 where
   pub here : (b : Address) → place_of b ≡ place_of address → entry_at new b ≡ entry
   pub elsewhere : (b : Address) → place_of b ≢ place_of address → entry_at new b ≡ entry_at old b
@@ -104,7 +104,7 @@ changes_only old new address entry range change = record {
   other_pages = λ a small ne. change.elsewhere a (λ e. ne (omega (arith, range.vpage)));
 }
 
--- what that does to the list of a frame
+-- what a change of one entry does to the list of a frame
 module _ (old new : List Entry) (address : Address) (entry : Entry) (range : InRange address) (change : Changes old new address entry) (frame : ℕ) (names : List Address) (list : IsListOf old frame names) where
   pub list_kept : is_listed (entry_at old address) frame ≡ false → is_listed entry frame ≡ false → IsListOf new frame names
   list_kept before after = record {
@@ -169,7 +169,7 @@ module _ (old new : List Entry) (address : Address) (entry : Entry) (range : InR
     };
   }
 
--- a list that is set among others
+-- one list of many is replaced
 module _ {X : Type 0} where
   pub set_cases : (xs : List X) (i j : ℕ) (x y : X) → slice_get (slice_set xs i x) j ≡ Some y → ((j ≡ i) × (x ≡ y)) ⊎ ((j ≢ i) × (slice_get xs j ≡ Some y))
   set_cases [] i j x y e = cc
@@ -233,14 +233,14 @@ listed_clear old new lists address frame names listed range count change present
     | inr other ↦ sym (change.elsewhere a other.1) ∙ x
   ]
 
--- an entry that is there has an address that there is
+-- an address that names something has the place of an address in range
 pub real : (entries : List Entry) (a : Address) → length entries ≡ 32768 → entry_at entries a ≢ Absent → (b : Address) × InRange b × (place_of b ≡ place_of a)
 real entries a count some = elim (leb_tells (length entries) (place_of a)) [
   | inl past ↦ absurd (some (ap (λ (o : Option Entry). unwrap_or o Absent) (slice_get_past entries (place_of a) past.1)))
   | inr here ↦ (address_at (place_of a), range_at (place_of a) (omega (arith, here.1)), place_at (place_of a))
 ]
 
--- what holds of the absent entry and at each address that there is holds at every address
+-- what holds of the absent entry, and at each address in range, holds at every address
 pub everywhere : (entries : List Entry) → length entries ≡ 32768 → (Holds : Entry → Type 0) → Holds Absent →
     ((a : Address) → InRange a → Holds (entry_at entries a)) → (a : Address) → Holds (entry_at entries a)
 everywhere entries count Holds none here a = elim (leb_tells (length entries) (place_of a)) [
@@ -249,7 +249,7 @@ everywhere entries count Holds none here a = elim (leb_tells (length entries) (p
       (here (address_at (place_of a)) (range_at (place_of a) (omega (arith, low.1))))
 ]
 
--- a page goes on its way: its addresses stay listed under the frame that it left
+-- a page is isolated: its addresses stay listed under the frame that it left
 pub listed_moved : (old new : List Entry) (lists : List (List Address)) (frame serial : ℕ) → AreListed old lists → length new ≡ 32768 →
     Replaces old new (Present frame) (Migration serial frame) →
     ((a : Address) (source : ℕ) → InRange a → entry_at old a ≢ Migration serial source) → AreListed new lists
@@ -410,7 +410,7 @@ listed_none entries n count blank = record {
   none_at (suc n) zero names e = cc
   none_at (suc n) (suc frame) names e = none_at n frame names e
 
--- those of a frame's list that have one entry are all that have it
+-- the addresses of a frame's list that have an entry are all that have it
 pub just_those : (entries : List Entry) (frame : ℕ) (names found : List Address) (entry : Entry) → IsListOf entries frame names → is_listed entry frame ≡ true → IsRising found →
     ((a : Address) → (IsIn found a → IsIn names a × (entry_at entries a ≡ entry)) × (IsIn names a × (entry_at entries a ≡ entry) → IsIn found a)) →
     AreJust found (λ a. entry_at entries a ≡ entry)

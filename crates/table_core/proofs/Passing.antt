@@ -1,4 +1,4 @@
--- One address more of a walk over a list of addresses.
+-- One more step of a walk over a list of addresses.
 use Rattle.std.proofs.Common.{◌≡◌, ◌≢◌, ℕ, zero, suc, ◌+◌, ◌<◌, ◌≤◌, List, [], ◌∷◌, ◌++◌, length, drop, ◌⊎◌, inl, inr, refl, sym, ap, subst, ◌∙◌, arith}
 use Rattle.std.specs.Prelude.{Option, Some, slice_get, slice_set}
 use Rattle.std.proofs.lemmas.Bool.Decides.{eqb_tells, leb_tells}
@@ -19,7 +19,7 @@ some_index [] a h = absurd h
 some_index (x ∷ xs) a (inl e) = (0, omega arith, ap Some e)
 some_index (x ∷ xs) a (inr h) = let w = some_index xs a h in (suc w.0, omega (arith, w.1), w.2)
 
--- the addresses below n are listed under a frame, and where none of the list stands, nothing changed
+-- the first n addresses of the list are listed under the frame, and each other address is listed as before
 pub record Under (old new : List (Option ℕ)) (names : List Address) (frame n : ℕ) : Type 0 where
   pub named : (k : ℕ) (a : Address) → k < n → slice_get names k ≡ Some a → slice_get new (place_of a) ≡ Some (Some frame)
   pub other : (place : ℕ) → ((a : Address) → IsIn names a → place_of a ≢ place) → slice_get new place ≡ slice_get old place
@@ -52,7 +52,7 @@ pub under_all : (old new : List (Option ℕ)) (names : List Address) (frame n : 
     (a : Address) → IsIn names a → slice_get new (place_of a) ≡ Some (Some frame)
 under_all old new names frame n under all a h = let w = some_index names a h in under.named w.0 a (omega (arith, w.1)) w.2
 
--- those with an entry were found, but for the rest, which comes behind them
+-- the addresses that have the entry were found, up to the rest, which comes after them
 pub record Found (entries : List Entry) (names : List Address) (entry : Entry) (found rest : List Address) : Type 0 where
   pub rising : IsRising found
   pub behind : IsRising rest

@@ -6,7 +6,7 @@ use Rattle.frame_core.specs.declared.place.Address.{Address}
 use Rattle.table_core.specs.Names.{IsIn, IsRising, rank, inserted, without}
 use Rattle.table_core.specs.Tables.{place_of}
 
--- an address that is inserted
+-- where an address is inserted
 at_rank : (x : Address) (xs : List Address) (a : Address) (t : Bool) → insert xs (rank xs a) a ≡ inserted xs a →
     insert (x ∷ xs) (if t then 0 else suc (rank xs a)) a ≡ (if t then a ∷ x ∷ xs else x ∷ inserted xs a)
 at_rank x xs a false same = ap (λ (ys : List Address). x ∷ ys) same
@@ -61,7 +61,7 @@ rising_inserted (x ∷ xs) a r new =
           (λ b h. (elim h [ inl e ↦ (let at : place_of x ≡ place_of b = ap place_of e in omega (arith, high.1)) | inr k ↦ (let up : place_of x < place_of b = r.0 b k in omega (arith, high.1)) ]), r))
     ]
 
--- an address that is removed
+-- where an address is removed
 pub rank_within : (xs : List Address) (a : Address) → IsRising xs → IsIn xs a → rank xs a < length xs
 rank_within [] a r h = absurd h
 rank_within (x ∷ xs) a r h =
@@ -133,7 +133,7 @@ rising_without (x ∷ xs) a r = elim (eqb_tells (place_of x) (place_of a)) [
       (λ b h. r.0 b (from_without xs a b r.1 h).0, rising_without xs a r.1)
 ]
 
--- an address that comes behind all others
+-- an address that comes after all others
 pub from_pushed : (xs : List Address) (a b : Address) → IsIn (xs ++ a ∷ []) b → IsIn xs b ⊎ (a ≡ b)
 from_pushed [] a b (inl e) = inr e
 from_pushed [] a b (inr h) = absurd h

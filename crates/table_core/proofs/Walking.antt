@@ -1,4 +1,4 @@
--- A walk over all entries finds just the addresses that have one.
+-- A walk over all entries finds exactly the addresses that have an entry.
 use Rattle.std.proofs.Common.{◌≡◌, ◌≢◌, ℕ, ◌+◌, ◌<◌, ◌≤◌, true, List, [], ◌∷◌, ◌++◌, length, inl, inr, refl, sym, ap, subst, ◌∙◌, arith}
 use Rattle.std.specs.Prelude.{Option, Some, slice_get, unwrap_or}
 use Rattle.std.proofs.lemmas.Bool.{eq-eqb}
@@ -14,7 +14,7 @@ use Rattle.table_core.specs.Tables.{place_of, entry_at, is_listed}
 use Rattle.table_core.proofs.Listing.{same_address}
 use Rattle.table_core.proofs.Rising.{from_pushed, to_pushed, rising_pushed, no_longer}
 
--- just the addresses below a place that have an entry were found
+-- exactly the addresses before a place that have the entry were found
 pub record Walked (entries : List Entry) (entry : Entry) (found : List Address) (place : ℕ) : Type 0 where
   pub rising : IsRising found
   pub passed : (a : Address) → IsIn found a → InRange a × (entry_at entries a ≡ entry)
@@ -61,7 +61,7 @@ walk_all entries entry found place walked end = record {
   each = λ a. (walked.passed a, λ h. (let s = h.0.space in let v = h.0.vpage in walked.all a h.0 (omega arith) h.1));
 }
 
--- four addresses at most have one entry
+-- at most four addresses have the same entry
 frame_of : (entry : Entry) → entry ≢ Absent → (frame : ℕ) × (is_listed entry frame ≡ true)
 frame_of Absent some = absurd (some refl)
 frame_of (Present f) some = (f, eq-eqb f f refl)
@@ -78,7 +78,7 @@ few_have entries lists listed entry some (x ∷ xs) rising have =
     let few = list.few in
     omega arith
 
--- the addresses of a page on its way, by its serial alone
+-- the addresses of a moving page, found by its serial alone
 pub by_serial : (entries : List Entry) (lists : List (List Address)) → AreListed entries lists → (found : List Address) (serial source : ℕ) →
     (a : Address) × InRange a × (entry_at entries a ≡ Migration serial source) →
     AreJust found (λ a. entry_at entries a ≡ Migration serial source) → AreJust found (λ a. (s : ℕ) × (entry_at entries a ≡ Migration serial s))

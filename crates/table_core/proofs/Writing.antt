@@ -29,14 +29,14 @@ seen serials frames a =
     ap (λ (o : Option Entry). unwrap_or o Absent) (slice_get-map (entry_by serials) frames (place_of a))
     ∙ by_default serials (slice_get frames (place_of a))
 
--- a serial that was written, and the others
+-- the serial at a frame that was written, and at each other
 pub written : (serials : List (Option ℕ)) (frame : ℕ) (serial : Option ℕ) → frame < length serials → serial_at (slice_set serials frame serial) frame ≡ serial
 written serials frame serial h = ap (λ (o : Option (Option ℕ)). unwrap_or o None) (slice_get_set_same serials frame frame serial refl h)
 
 pub not_written : (serials : List (Option ℕ)) (frame g : ℕ) (serial : Option ℕ) → g ≢ frame → serial_at (slice_set serials frame serial) g ≡ serial_at serials g
 not_written serials frame g serial ne = ap (λ (o : Option (Option ℕ)). unwrap_or o None) (slice_get_set_other serials frame g serial ne)
 
--- entries are the same where the serials of the frames that addresses are listed under are
+-- the entries stay the same where the serials of those frames do that addresses are listed under
 pub same_entries : (serials more frames : List (Option ℕ)) → ((place frame : ℕ) → slice_get frames place ≡ Some (Some frame) → serial_at more frame ≡ serial_at serials frame) →
     entries_of more frames ≡ entries_of serials frames
 same_entries serials more [] same = refl
@@ -44,7 +44,7 @@ same_entries serials more (None ∷ rest) same = ap (λ es. Absent ∷ es) (same
 same_entries serials more (Some frame ∷ rest) same =
     λ i. entry_under frame (same 0 frame refl i) ∷ same_entries serials more rest (λ place. same (suc place)) i
 
--- an address that names the page in a frame is listed under it, and the page isn't on its way
+-- an address that names the page in a frame is listed under it, and no page left this frame
 resting : (g frame : ℕ) (o : Option ℕ) → entry_under g o ≡ Present frame → (g ≡ frame) × (o ≡ None)
 resting g frame None e = (let at : g ≡ frame = cc in at, refl)
 resting g frame (Some serial) e = cc
@@ -57,14 +57,14 @@ pub under : (frame : ℕ) (o : Option ℕ) → is_listed (entry_under frame o) f
 under frame None = eq-eqb frame frame refl
 under frame (Some serial) = eq-eqb frame frame refl
 
--- no page left a frame, by what addresses say that are listed under it
+-- no page left a frame, as the addresses say that are listed under it
 pub is_still : (serials : List (Option ℕ)) (frame : ℕ) → ((serial : ℕ) → entry_by serials (Some frame) ≢ Migration serial frame) → serial_at serials frame ≡ None
 is_still serials frame still = none (serial_at serials frame) still where
   none : (o : Option ℕ) → ((serial : ℕ) → entry_under frame o ≢ Migration serial frame) → o ≡ None
   none None still = refl
   none (Some serial) still = absurd (still serial refl)
 
--- the address of a place names a frame, which no page left that addresses name
+-- the address at a place names a frame that no page left
 module _ (serials frames : List (Option ℕ)) (frame : ℕ) (within : frame < length serials)
     (still : (a : Address) (serial : ℕ) → entry_at (entries_of serials frames) a ≢ Migration serial frame) where
   still_at : (place : ℕ) → slice_get frames place ≡ Some (Some frame) → serial_at serials frame ≡ None
@@ -85,7 +85,7 @@ module _ (serials frames : List (Option ℕ)) (frame : ℕ) (within : frame < le
       map-set (entry_by (slice_set serials frame None)) frames place (Some frame)
       ∙ (λ i. slice_set (same_entries serials (slice_set serials frame None) frames cleared i) place (entry_under frame (written serials frame None within i)))
 
-  -- the page in the frame goes on its way
+  -- the page in the frame is isolated
   module _ (serial : ℕ) where
     abbrev more : List (Option ℕ)
     more = slice_set serials frame (Some serial)
@@ -160,7 +160,7 @@ module _ (serials frames new : List (Option ℕ)) (names : List Address) (serial
         ∙ stays_by a (frame_at frames a) ne refl ∙ sym (seen serials frames a));
   }
 
--- an address of a list has a place, or none has
+-- one of a list's addresses has this place, or none of them has
 named_at : (names : List Address) (place : ℕ) → ((a : Address) × IsIn names a × (place_of a ≡ place)) ⊎ ((a : Address) → IsIn names a → place_of a ≢ place)
 named_at [] place = inr (λ a h. absurd h)
 named_at (x ∷ xs) place = elim (eqb_tells (place_of x) place) [
@@ -171,7 +171,7 @@ named_at (x ∷ xs) place = elim (eqb_tells (place_of x) place) [
   ]
 ]
 
--- each address stays listed under a frame that there is
+-- each address stays listed under a frame of the zone
 pub kept_set : (serials frames : List (Option ℕ)) (place frame : ℕ) (serial : Option ℕ) → AreKept serials frames → frame < length serials →
     AreKept (slice_set serials frame serial) (slice_set frames place (Some frame))
 kept_set serials frames place frame serial kept within = record {

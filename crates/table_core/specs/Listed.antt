@@ -1,4 +1,4 @@
--- How the lists of a zone's tables stand for its entries.
+-- How the lists of addresses that each frame has agree with the entries of a zone's tables.
 use Rattle.std.specs.Prelude.{◌≡◌, ℕ, ◌<◌, ◌≤◌, true, List, length, slice_get, Some}
 use Rattle.frame_core.specs.Address.{InRange}
 use Rattle.frame_core.specs.declared.place.Address.{Address}
@@ -7,12 +7,12 @@ use Rattle.table_core.specs.declared.entry.Entry.TheVariants.{Migration}
 use Rattle.table_core.specs.Names.{AreJust}
 use Rattle.table_core.specs.Tables.{entry_at, is_listed}
 
--- a list has just the addresses that are listed under its frame, four at most
+-- a list has exactly the addresses that are listed under its frame, four at most
 pub record IsListOf (entries : List Entry) (frame : ℕ) (names : List Address) : Type 0 where
   pub few : length names ≤ 4
   pub just : AreJust names (λ a. is_listed (entry_at entries a) frame ≡ true)
 
--- each frame has its list, each address is listed under a frame that there is, and a serial stands for one source
+-- each frame has its list, each address that names something is listed under a frame of the zone, and a serial stands for one source
 pub record AreListed (entries : List Entry) (lists : List (List Address)) : Type 0 where
   pub count : length entries ≡ 32768
   pub each : (frame : ℕ) (names : List Address) → slice_get lists frame ≡ Some names → IsListOf entries frame names

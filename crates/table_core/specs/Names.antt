@@ -4,27 +4,27 @@ use Rattle.frame_core.specs.Address.{InRange}
 use Rattle.frame_core.specs.declared.place.Address.{Address}
 use Rattle.table_core.specs.Tables.{place_of}
 
--- an address is one of a list
+-- an address stands in a list
 abbrev pub IsIn : List Address → Address → Type 0
 IsIn [] address = ⊥
 IsIn (a ∷ rest) address = (a ≡ address) ⊎ IsIn rest address
 
--- each address of a list comes before those behind it
+-- each address of a list comes before those after it
 abbrev pub IsRising : List Address → Type 0
 IsRising [] = ⊤
 IsRising (a ∷ rest) = ((b : Address) → IsIn rest b → place_of a < place_of b) × IsRising rest
 
--- the addresses of a list rise, and are just those that pass
+-- the addresses of a list rise, and are exactly those that pass
 pub record AreJust (names : List Address) (Passes : Address → Type 0) : Type 0 where
   pub rising : IsRising names
   pub each : (address : Address) → IsIn names address ↔ (InRange address × Passes address)
 
--- how many addresses stand at the front of a list that come before this one
+-- how many addresses at the front of a list come before this one
 abbrev pub rank : List Address → Address → ℕ
 rank [] address = 0
 rank (a ∷ rest) address = if nat_le (place_of address) (place_of a) then 0 else suc (rank rest address)
 
--- a rising list with one more address
+-- a rising list with one more address at its place
 abbrev pub inserted : List Address → Address → List Address
 inserted [] address = address ∷ []
 inserted (a ∷ rest) address = if nat_le (place_of address) (place_of a) then address ∷ a ∷ rest else a ∷ inserted rest address

@@ -1,4 +1,4 @@
-//! What each address names, kept so that a page goes on its way, with all of its addresses, by one write.
+//! What each address names. The entries are kept so that one write turns all addresses of a page into migration entries.
 
 ghost use Rattle.std.specs.Prelude.{◌≡◌, ◌≢◌, ◌↔◌, ℕ, ◌<◌, true, false, length, slice_get, slice_set, IfOk, Some};
 ghost use Rattle.frame_core.specs.Address.{InRange};
@@ -12,10 +12,11 @@ use frame_core::{Address, FrameNo, Serial, filled};
 use std::alloc::{AllocError, Global};
 use std::marker::Model;
 
-/// 8 spaces with 4096 virtual pages each.
+/// The number of addresses: 8 spaces with 4096 virtual pages each.
 pub const ADDRESSES: usize = 32768;
 
-/// The entry of each address: the frame under which the address is listed, and of each frame the serial of the page that left it.
+/// The entry of each address, kept in two lists: for each address the frame under which it is listed, and for each frame the
+/// serial of the page that left it.
 #[derive(Drop)]
 pub struct Entries {
     frames: Vec<Option<FrameNo>>,
@@ -37,7 +38,8 @@ impl Model for Entries {
 }
 
 impl Entries {
-    /// Each address is absent, in a zone of so many frames. No other call takes memory.
+    /// Entries in which each address is absent, for a zone with this many frames, or an error where there is no memory
+    /// for them. No other call takes memory.
     pub fn open(alloc: Global, frames: usize) -> Result<Entries, AllocError>
         ensures blank { IfOk result (λ entries. IsBlank entries.entries) }
         ensures frames { IfOk result (λ entries. entries.frames ≡ frames) }
@@ -49,7 +51,7 @@ impl Entries {
         })
     }
 
-    /// What the address of a place names.
+    /// What the address at a place of the list names.
     pub fn get(&self, place: usize) -> Entry
         requires { place < 32768 }
         ensures { slice_get self.now.entries place ≡ Some result }
@@ -66,7 +68,7 @@ impl Entries {
         }
     }
 
-    /// Lets the address of a place name the page in a frame. No address may name a page that left this frame.
+    /// Makes the address at a place name the page in a frame. No address may name a page that left this frame.
     pub fn set(&mut self, place: usize, frame: FrameNo)
         requires place { place < 32768 }
         requires within { frame < self.old.frames }
@@ -77,7 +79,7 @@ impl Entries {
         self.serials[frame.get() as usize] = None;
     }
 
-    /// Lets the address of a place name nothing.
+    /// Makes the address at a place name nothing.
     pub fn clear(&mut self, place: usize)
         requires { place < 32768 }
         ensures { self.new ≡ record self.old { entries = slice_set self.old.entries place Entry.Absent } }
@@ -85,8 +87,8 @@ impl Entries {
         self.frames[place] = None;
     }
 
-    /// Sends the page in a frame on its way: each address that named the frame names the migration. No address may name
-    /// another page that left this frame.
+    /// Turns each address that names a frame into a migration entry with this serial. No address may name another page
+    /// that left this frame.
     pub fn to_migration(&mut self, frame: FrameNo, serial: Serial)
         requires within { frame < self.old.frames }
         requires still { (a : Named) (other : ℕ) → entry_at self.old.entries a ≢ Entry.Migration other frame }
@@ -97,8 +99,8 @@ impl Entries {
         self.serials[frame.get() as usize] = Some(serial);
     }
 
-    /// Ends a migration: the addresses that named it, just those of the list, name the frame now. No other address may be listed
-    /// under the frame that the page left, or the one to which it goes.
+    /// Ends a migration: the addresses that named it, which are exactly those of the list, name the frame now. No other address
+    /// may be listed under the frame that the page left, or under the one to which it goes.
     pub fn to_present(&mut self, names: &[Address], serial: Serial, source: FrameNo, frame: FrameNo)
         requires source_within { source < self.old.frames }
         requires within { frame < self.old.frames }
@@ -115,7 +117,7 @@ impl Entries {
     }
 }
 
-/// Lists addresses under a frame.
+/// Lists the addresses under a frame.
 fn list_under(frames: &mut [Option<FrameNo>], names: &[Address], frame: FrameNo)
     requires { length frames.old ≡ 32768 }
     ensures named { (a : Named) → IsIn names.now a → slice_get frames.new (place_of a) ≡ Some (Some frame) }

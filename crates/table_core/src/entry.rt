@@ -6,6 +6,6 @@ pub enum Entry {
     Absent,
     /// The page in this frame.
     Present(FrameNo),
-    /// A page on its way, and the frame that it left: who comes to a migration entry waits until it is removed.
+    /// A migration entry: the page is moving under this serial, and left this frame. Who comes to it waits until it is removed.
     Migration { serial: Serial, source: FrameNo },
 }

@@ -1,4 +1,4 @@
-//! What each address of a zone names: nothing, a frame, or a page that is on its way; and which addresses name a frame.
+//! What each address of a zone names: nothing, a frame, or a page that is moving; and which addresses name a frame.
 //!
 //! Contracts see the tables as the list of their entries, and read it by `entry_at`.
 #![tactic(auto)]

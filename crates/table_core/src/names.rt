@@ -41,7 +41,7 @@ impl Names {
         self.addresses.as_slice()
     }
 
-    /// Puts an address at its place. There have to be fewer than 4.
+    /// Puts an address at its place in the list. The list has to have fewer than 4.
     pub fn insert(&mut self, address: Address)
         requires { length self.old < 4 }
         ensures { self.new ≡ inserted self.old address }
@@ -50,7 +50,7 @@ impl Names {
         self.addresses.insert(place, address);
     }
 
-    /// Takes an address of the list out.
+    /// Takes an address out of the list. It has to be there.
     pub fn remove(&mut self, address: &Address)
         requires rising { IsRising self.old }
         requires named { IsIn self.old address.now }
@@ -61,7 +61,7 @@ impl Names {
     }
 }
 
-/// So many lists with no address, in memory for just so many.
+/// This many lists with no address, with a capacity of exactly as many, or an error where there is no memory for them.
 pub fn none_named(alloc: Global, count: usize) -> Result<Vec<Names>, AllocError>
     ensures items { IfOk result (λ lists. lists.items ≡ replicate count []) }
     ensures capacity { IfOk result (λ lists. vec_capacity lists ≡ count) }
@@ -86,7 +86,7 @@ fn rank(addresses: &[Address], address: &Address) -> usize
     addresses.len()
 }
 
-/// The place of an address: the spaces one after the other.
+/// The place of an address among all addresses: the spaces stand one after the other.
 pub fn index_of(address: &Address) -> usize
     ensures place { result ≡ place_of address.now }
     ensures range { result < 32768 }

@@ -34,7 +34,8 @@ impl Model for Tables {
 }
 
 impl Tables {
-    /// Tables of so many pageblocks, 8 at most, in which each address is absent. No other call takes memory.
+    /// Tables for this many pageblocks, 8 at most, in which each address is absent, or an error where there is no
+    /// memory for them. No other call takes memory.
     pub fn open(alloc: Global, blocks: u32) -> Result<Tables, AllocError>
         requires { blocks ≤ 8 }
         ensures blank { IfOk result (λ tables. IsBlank tables.entries) }
@@ -63,8 +64,8 @@ impl Tables {
         self.lists[frame.get() as usize].as_slice().len() < 4
     }
 
-    /// Lets an absent address name the page in a frame. `has_room` has to be true of the frame, and no address may name a page
-    /// that left it.
+    /// Makes an absent address name the page in a frame. `has_room` has to be true of the frame, and no address may name a
+    /// page that left it.
     pub fn set(&mut self, address: Address, frame: FrameNo)
         requires absent { entry_at self.old.entries address ≡ Entry.Absent }
         requires within { frame < self.old.frames }
@@ -78,7 +79,7 @@ impl Tables {
         self.lists[frame.get() as usize].insert(address);
     }
 
-    /// Lets an address that names a frame name nothing.
+    /// Makes an address that names a frame name nothing.
     pub fn clear(&mut self, address: Address)
         requires { (frame : ℕ) × (entry_at self.old.entries address ≡ Entry.Present frame) }
         ensures cleared { ChangesOnly self.old.entries self.new.entries address Entry.Absent }
@@ -92,8 +93,8 @@ impl Tables {
         }
     }
 
-    /// Sends the page in a frame on its way: each address that named the frame names the migration now. No address may name a
-    /// migration with this serial, or from this frame, before.
+    /// Turns each address that names the frame into a migration entry with this serial. Before it no address may name a
+    /// migration with this serial, or from this frame.
     pub fn to_migration(&mut self, frame: FrameNo, serial: Serial)
         requires within { frame < self.old.frames }
         requires fresh { (a : Named) (source : ℕ) → InRange a → entry_at self.old.entries a ≢ Entry.Migration serial source }
@@ -129,7 +130,7 @@ impl Tables {
         those_with(&self.entries, names, &Entry::Present(frame))
     }
 
-    /// The addresses that name a page on its way, by its serial and the frame that it left, in rising order.
+    /// The addresses that name a moving page, by its serial and the frame that it left, in rising order.
     pub fn mappings_moving(&self, serial: Serial, source: FrameNo) -> ArrayVec<Address, 4>
         requires { source < self.now.frames }
         ensures { AreJust result.items (λ a. entry_at self.now.entries a ≡ Entry.Migration serial source) }
@@ -139,7 +140,7 @@ impl Tables {
     }
 }
 
-/// Those of four addresses at most that have this entry.
+/// The addresses of the list, four at most, that have this entry.
 fn those_with(entries: &Entries, names: &[Address], entry: &Entry) -> ArrayVec<Address, 4>
     requires few { length names.now ≤ 4 }
     requires rising { IsRising names.now }

@@ -1,4 +1,4 @@
-//! Which addresses have an entry, by walks over all entries: for tests that compare them with the lists.
+//! Searches over all entries, for tests that compare what they find with the lists.
 
 ghost use Rattle.std.specs.Prelude.{◌≡◌, ◌≢◌, ℕ, ◌<◌, ◌≤◌, List, length, IfSome, IfNone};
 ghost use Rattle.frame_core.specs.Address.{InRange};
@@ -13,14 +13,14 @@ use arrayvec::ArrayVec;
 use frame_core::{Address, FrameNo, Serial, SpaceNo, VPage};
 
 impl Tables {
-    /// The addresses that name the page in a frame.
+    /// The addresses that name the page in a frame, found by a walk over all entries.
     pub fn walk_mappings(&self, frame: FrameNo) -> ArrayVec<Address, 4>
         ensures { AreJust result.items (λ a. entry_at self.now.entries a ≡ Entry.Present frame) }
     {
         walk(&self.entries, &Entry::Present(frame))
     }
 
-    /// The addresses that name a page on its way, by its serial alone.
+    /// The addresses that name a moving page, found by its serial alone.
     pub fn walk_moving(&self, serial: Serial) -> ArrayVec<Address, 4>
         ensures { AreJust result.items (λ a. (source : ℕ) × (entry_at self.now.entries a ≡ Entry.Migration serial source)) }
     {
@@ -31,7 +31,7 @@ impl Tables {
     }
 }
 
-/// The addresses that have an entry: four at most do.
+/// The addresses that have this entry, four at most.
 fn walk(entries: &Entries, entry: &Entry) -> ArrayVec<Address, 4>
     requires { (names : List Named) → IsRising names
         → ((a : Named) → IsIn names a → InRange a × (entry_at entries.now.entries a ≡ entry.now)) → length names ≤ 4 }
@@ -46,7 +46,7 @@ fn walk(entries: &Entries, entry: &Entry) -> ArrayVec<Address, 4>
     found
 }
 
-/// The frame that the page left which is on its way under a serial.
+/// The frame that the page with this serial left, if such a page is moving.
 fn source_of(entries: &Entries, serial: Serial) -> Option<FrameNo>
     ensures some { IfSome result (λ source. (a : Named) × InRange a × (entry_at entries.now.entries a ≡ Entry.Migration serial source)) }
     ensures none { IfNone result ((a : Named) (source : ℕ) → InRange a → entry_at entries.now.entries a ≢ Entry.Migration serial source) }

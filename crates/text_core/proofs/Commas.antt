@@ -1,4 +1,4 @@
--- Numbers, each behind a comma.
+-- Numbers with a comma before each.
 use Rattle.std.proofs.Common.{◌≡◌, ◌∙◌, ℕ, suc, ◌+◌, ◌-◌, ◌<◌, ◌≤◌, List, [], ◌∷◌, ◌++◌, length, take, drop, get_or, ap, append-nil, arith}
 use Rattle.std.specs.Prelude.{codes, decimal}
 use Rattle.std.proofs.lemmas.List.{take_all, take_more}
@@ -8,7 +8,7 @@ use Rattle.text_core.specs.Reply.{behind_commas, numbers_text}
 abbrev behind_comma : ℕ → List ℕ
 behind_comma n = codes "," ++ decimal n
 
--- the text of so many of them, and of one more
+-- the text of the first numbers, and of one more
 pub behind_commas-next : (numbers : List ℕ) (i : ℕ) → i < length numbers
     → behind_commas (take (i + 1) numbers) ≡ behind_commas (take i numbers) ++ (codes "," ++ decimal (get_or numbers i 0))
 behind_commas-next numbers i within =
@@ -16,7 +16,7 @@ behind_commas-next numbers i within =
     ∙ flat_map-append behind_comma (take i numbers) (get_or numbers i 0 ∷ [])
     ∙ ap (λ (r : List ℕ). behind_commas (take i numbers) ++ r) (append-nil (behind_comma (get_or numbers i 0)))
 
--- where there is a first one
+-- the text of numbers where there is a first one
 pub numbers_text-front : (numbers : List ℕ) → 1 ≤ length numbers
     → decimal (get_or numbers 0 0) ++ behind_commas (take (length numbers - 1) (drop 1 numbers)) ≡ numbers_text numbers
 numbers_text-front [] some = absurd (omega (arith, some))

@@ -66,7 +66,7 @@ bare_keyword_comes (b ∷ word) behind bare known ends stays =
     ∙ ap (λ (r : List ℕ). token_of (b ∷ word) ∷ tokens r) back
     ∙ ap (λ (t : Token). t ∷ tokens behind) (token_of_keyword (b ∷ word) known)
 
--- where a text is a keyword, and a space or nothing behind it
+-- a text that is a keyword followed by a space or by nothing has the keyword as its first token
 pub keyword_comes : (word behind : List ℕ) → (keyword_of word ≡ Other → ⊥) → first_word behind ≡ [] → behind_word behind ≡ behind
     → tokens (word ++ behind) ≡ keyword_of word ∷ tokens behind
 keyword_comes word behind known ends stays = elim (keyword_bare word) [

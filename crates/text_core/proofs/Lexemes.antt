@@ -1,4 +1,4 @@
--- The lexemes of a text.
+-- The words of a text.
 use Rattle.std.proofs.Common.{◌≡◌, ℕ, suc, ◌+◌, ◌<◌, ◌≤◌, Bool, true, false, not, ◌&&◌, List, [], ◌∷◌, ◌++◌, length, take, drop, get_or, refl, sym, ap, ◌∙◌, arith, Some, None, add-one, drop-cons, cond}
 use Rattle.std.specs.Prelude.{nat_eq, nat_lt, filter, codes, position, unwrap_or}
 use Rattle.std.specs.List.{slice_split, onto_first, starts_with, position_or_len, after_first}
@@ -25,7 +25,7 @@ lexeme_len_is xs = at_test (nat_lt (lexeme_len xs) (length xs)) refl where
   at_test true e = refl
   at_test false e = (let most = prefix_len-le-length (λ b. not (is_space b)) xs in grind (arith, nat_tests, most))
 
--- a space begins no lexeme
+-- a text that begins with a space has the words of the rest
 pub lexemes_space : (b : ℕ) (xs : List ℕ) → is_space b ≡ true → lexemes (b ∷ xs) ≡ lexemes xs
 lexemes_space b xs e = ap (λ (t : Bool). filter is_lexeme (cond t ([] ∷ slice_split is_space xs) (onto_first b (slice_split is_space xs)))) e
 
@@ -58,7 +58,7 @@ lexeme_to_end xs some h =
 apart : (a : ℕ) (ys : List ℕ) → starts_with nat_eq (a ∷ ys) (codes " ") ≡ false → is_space a ≡ false
 apart a ys e = grind (arith, nat_tests)
 
--- where a text begins with a lexeme, that is the first
+-- where a text doesn't begin with a space, its first word is what stands before the first space
 pub lexemes_first : (xs : List ℕ) → 0 < length xs → starts_with nat_eq xs (codes " ") ≡ false → lexemes xs ≡ first_word xs ∷ lexemes (behind_word xs)
 lexemes_first [] h e = absurd (omega arith)
 lexemes_first (x ∷ xs) h e = at_test (nat_lt (lexeme_len (x ∷ xs)) (length (x ∷ xs))) refl where
@@ -69,7 +69,7 @@ lexemes_first (x ∷ xs) h e = at_test (nat_lt (lexeme_len (x ∷ xs)) (length (
 one_more : (n : ℕ) → 1 + n ≡ suc n
 one_more n = omega arith
 
--- a byte before the first space
+-- the first word of a text that begins with another byte than a space
 pub first_word_step : (b : ℕ) (xs : List ℕ) → is_space b ≡ false → first_word (b ∷ xs) ≡ b ∷ first_word xs
 first_word_step b xs e =
     ap (λ (t : Bool). take (cond (not t) (1 + lexeme_len xs) 0) (b ∷ xs)) e ∙ ap (λ (n : ℕ). take n (b ∷ xs)) (one_more (lexeme_len xs))
@@ -81,7 +81,7 @@ behind_word_step b xs e =
 space_first : (b : ℕ) (xs : List ℕ) → starts_with nat_eq (b ∷ xs) (codes " ") ≡ true → is_space b ≡ true
 space_first b xs e = grind (arith, nat_tests)
 
--- where a space or the end comes first
+-- the first word of a text that is empty or begins with a space is empty
 pub first_word_none : (xs : List ℕ) → starts_with nat_eq xs (codes " ") ≡ true → first_word xs ≡ []
 first_word_none [] e = refl
 first_word_none (b ∷ xs) e = ap (λ (t : Bool). take (cond (not t) (1 + lexeme_len xs) 0) (b ∷ xs)) (space_first b xs e)
@@ -90,7 +90,7 @@ pub behind_word_none : (xs : List ℕ) → starts_with nat_eq xs (codes " ") ≡
 behind_word_none [] e = refl
 behind_word_none (b ∷ xs) e = ap (λ (t : Bool). drop (cond (not t) (1 + lexeme_len xs) 0) (b ∷ xs)) (space_first b xs e)
 
--- a digit is no space
+-- a digit isn't a space
 pub is_apart : (d : ℕ) → nat_eq (48 + d) 32 ≡ false
 is_apart d = grind (arith, nat_tests)
 
@@ -108,7 +108,7 @@ bare_parts b bs e = let both = and_parts (not (is_space b)) (is_bare bs) e in (n
 pub bare_apart : (b : ℕ) (bs xs : List ℕ) → is_bare (b ∷ bs) ≡ true → starts_with nat_eq (b ∷ xs) (codes " ") ≡ false
 bare_apart b bs xs e = starts_apart b xs (bare_parts b bs e).0
 
--- such bytes, and what stands behind them
+-- the first word of bytes without a space, followed by more
 pub first_word-append : (word xs : List ℕ) → is_bare word ≡ true → first_word (word ++ xs) ≡ word ++ first_word xs
 first_word-append [] xs e = refl
 first_word-append (b ∷ word) xs e =

@@ -21,13 +21,13 @@ newlines-append xs ys =
 newlines_digit : (n : ℕ) → newlines ((48 + n) ∷ []) ≡ 0
 newlines_digit n = grind (arith, nat_tests)
 
--- a number has no newline
+-- the digits of a number have no newline
 pub newlines-decimal : (n : ℕ) → n < 2 ^ 64 → newlines (decimal n) ≡ 0
 newlines-decimal n h =
     decimal_by_steps (λ n ds. newlines ds ≡ 0) (λ n below. newlines_digit n)
     (λ n ds above none. omega (arith, newlines-append ds ((48 + n % 10) ∷ []), newlines_digit (n % 10), none)) n h
 
--- a text is one line where what it is appended to gets a newline at its end, and no other
+-- an appended text is one line where it ends with a newline and what stands before that has none
 pub one_line_behind : (old mid text : List ℕ) → old ++ text ≡ mid ++ 10 ∷ [] → newlines mid ≡ newlines old → length old ≤ length mid → IsOneLine text
 one_line_behind old mid text all same longer =
     let n = length old in

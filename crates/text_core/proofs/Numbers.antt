@@ -19,7 +19,7 @@ digits_value_after-le n (d ∷ ds) = omega (arith, digits_value_after-le (n * 10
 pub digit_value_is : (d : ℕ) → is_ascii_digit d ≡ true → digit_value d ≡ d - 48
 digit_value_is d h = grind (arith, nat_tests)
 
--- what is left after a digit
+-- what is left after a digit was read
 pub digits_after : (d : ℕ) (ds : List ℕ) (all : Bool) → is_ascii_digit d ≡ true → all_ascii_digits (d ∷ ds) ≡ all → all_ascii_digits ds ≡ all
 digits_after d ds all h e = ap (λ (b : Bool). b && all_ascii_digits ds) (sym h) ∙ e
 
@@ -72,7 +72,7 @@ number_of_over v d ds bytes h e large =
 pub is_digit : (d : ℕ) → d < 10 → is_ascii_digit (48 + d) ≡ true
 is_digit d small = grind (arith, nat_tests)
 
--- one digit
+-- one digit is a number
 pub number_of_digit : (d : ℕ) → d < 10 → number_of ((48 + d) ∷ []) ≡ Some d
 number_of_digit d small =
     let digit = is_digit d small in
@@ -80,13 +80,13 @@ number_of_digit d small =
     let value : digits_value 10 ((48 + d) ∷ []) ≡ d = omega (arith, same) in
     number_of_fits ((48 + d) ∷ []) (omega arith) (omega arith) (ap (λ (b : Bool). b && true) digit) (omega (arith, value, small)) ∙ ap Some value
 
--- a word that begins with a digit is no keyword
+-- a word that begins with a digit isn't a keyword
 digit_no_keyword : (d : ℕ) (ds : List ℕ) → is_ascii_digit d ≡ true → keyword_of (d ∷ ds) ≡ Other
 digit_no_keyword d ds digit =
     let low : d < 97 = grind (arith, nat_tests) in
     rw (ne_eqb d 122 (omega arith), ne_eqb d 109 (omega arith), ne_eqb d 115 (omega arith), ne_eqb d 108 (omega arith), ne_eqb d 105 (omega arith), ne_eqb d 117 (omega arith), ne_eqb d 116 (omega arith), ne_eqb d 99 (omega arith), ne_eqb d 100 (omega arith), ne_eqb d 101 (omega arith), ne_eqb d 102 (omega arith), ne_eqb d 112 (omega arith), ne_eqb d 104 (omega arith), ne_eqb d 103 (omega arith)) refl
 
--- no word is a number and a keyword
+-- no word is both a number and a keyword
 pub one_of_both : (bytes : List ℕ) → (number_of bytes ≡ None) ⊎ (keyword_of bytes ≡ Other)
 one_of_both [] = inl (number_of_short [] refl)
 one_of_both (d ∷ ds) = by_digit (is_ascii_digit d) refl where

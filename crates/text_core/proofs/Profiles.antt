@@ -1,4 +1,5 @@
--- A line of profile 1 says the same where no line told the profile yet, and in profile 2 but for the held frames of an info.
+-- A line of profile 1 says the same where no line has decided the profile yet, and says it in profile 2 too, where an info
+-- counts the held frames besides.
 use Rattle.std.proofs.Common.{◌≡◌, ℕ, Bool, true, false, List, [], ◌∷◌, length, refl, sym, ap, Option, Some, None, Result, Ok, Err}
 use Rattle.std.specs.Prelude.{bytes_eq, codes, map, nat_lt, if◌then◌else◌, IfSome, ⊤, option_map}
 use Rattle.std.specs.Option.{option_or}
@@ -24,7 +25,7 @@ use Rattle.text_core.specs.Line.{command_in, said_or_fault, is_comment, lexemes_
 use Rattle.text_core.specs.Profile.{is_profile_2}
 use Rattle.text_core.specs.Token.{lexemes, token_of}
 
--- a call of profile 1 in profile 2, where an info tells the held frames too
+-- what a call of profile 1 is in profile 2, where an info counts the held frames too
 abbrev pub call_in_profile_2 : Call → Call
 call_in_profile_2 call.Info = call.InfoWithHeld
 call_in_profile_2 c = c
@@ -33,7 +34,7 @@ abbrev pub in_profile_2 : Command → Command
 in_profile_2 (On zone (One c)) = On zone (One (call_in_profile_2 c))
 in_profile_2 c = c
 
--- a command that is the same there
+-- a command is the same in profile 2
 abbrev IsKept : Command → Type 0
 IsKept c = (in_profile_2 c ≡ c) × (c ≡ Profile2 → ⊥)
 
@@ -95,7 +96,7 @@ kept_with : {A : Type 0} (f : A → Call) → ((x : A) → IsKeptCall (f x)) →
 kept_with f g (Some x) = g x
 kept_with f g None = tt
 
--- where profile 1 has a command, a line that tells no profile yet has it, and profile 2 has its own form of it
+-- where profile 1 has a command, a line has it too where no profile is decided yet, and profile 2 has its own form of it
 abbrev AreAlike : (one untold two : Option Command) → Type 0
 AreAlike None untold two = ⊤
 AreAlike (Some c) untold two = (untold ≡ Some c) × (two ≡ Some (in_profile_2 c)) × (c ≡ Profile2 → ⊥)
@@ -134,7 +135,7 @@ alike_row Compact z [] = alike _ (kept_compacting z)
 alike_row Pool z (Number n ∷ []) = alike _ (kept_pooling z (blocks_of n) (Some Pageblocks))
 alike_row _ z _ = tt
 
--- only the row that begins a block has its keyword
+-- a keyword that doesn't begin a block has no command by the row of `during`
 or_none : (one untold two during : Option Command) → during ≡ None → AreAlike one untold two → AreAlike (option_or one during) (option_or untold during) (option_or two during)
 or_none (Some c) untold two during e a = (ap (λ o. option_or o during) a.0, ap (λ o. option_or o during) a.1, a.2)
 or_none None untold two None e a = tt
@@ -151,7 +152,7 @@ alike_tokens _ = tt
 bytes_same : (xs ys : List ℕ) → bytes_eq xs ys ≡ true → xs ≡ ys
 bytes_same xs ys e = (bytes_eq-Decides xs ys).0 e
 
--- `profile 2` is no command of profile 1
+-- `profile 2` isn't a command of profile 1
 no_command : (words : List (List ℕ)) → is_profile_2 words ≡ true → command_of Profile1 (map token_of words) ≡ None
 no_command [] e = refl
 no_command (keyword ∷ []) e = cc
@@ -170,7 +171,7 @@ alike_words words = by_test (is_profile_2 words) refl where
   by_test true e = none_alike _ _ _ (no_command words e)
   by_test false e = alike_tokens (map token_of words)
 
--- the same of what lines say
+-- where profile 1 says a command, the same holds of what the lines say
 abbrev pub SayAlike : (one untold two : Result (Option Command) ScriptError) → Type 0
 SayAlike (Err e) untold two = ⊤
 SayAlike (Ok o) untold two = (untold ≡ Ok o) × (two ≡ Ok (option_map in_profile_2 o)) × (o ≡ Some Profile2 → ⊥)

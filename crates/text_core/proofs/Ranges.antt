@@ -36,18 +36,18 @@ IsCallInRange (call.Finish hand) = (0 < hand) × (hand ≤ 4)
 IsCallInRange (call.TakeOrder order) = (3 ≤ order) × (order ≤ 9)
 IsCallInRange _ = ⊤
 
--- the order of the blocks of a pool is
+-- where a pool reserves blocks of an order, the order is in its range
 abbrev pub HasOrder : PoolBlocks → Type 0
 HasOrder blocks = (3 ≤ pool_order blocks) × (pool_order blocks ≤ 9)
 
--- and so are those of a command
+-- the arguments of a command are in their ranges
 abbrev pub IsInRange : Command → Type 0
 IsInRange (Open zone blocks) = (0 < blocks) × (blocks ≤ 8)
 IsInRange (On zone (One c)) = IsCallInRange c
 IsInRange (PoolOn zone count blocks) = HasOrder blocks
 IsInRange _ = ⊤
 
--- a number below a bound, a number between bounds
+-- a number that is answered is between its bounds
 between : (low high n : ℕ) (b : Bool) → (nat_le low n && nat_le n high) ≡ b → IfSome (if b then Some n else None) (λ k. (low ≤ k) × (k ≤ high))
 between low high n true e = let both = and_parts (nat_le low n) _ e in (leb-true low n both.0, leb-true n high both.1)
 between low high n false e = tt
@@ -58,7 +58,7 @@ in_space s v = by_test (nat_lt s 8 && nat_lt v 4096) refl where
   by_test true e = let both = and_parts (nat_lt s 8) _ e in record { space = ltb-true s 8 both.0; vpage = ltb-true v 4096 both.1 }
   by_test false e = tt
 
--- an opening, a round, a pool, and a call
+-- what an opening, a round, a pool and a call are made of is in range
 opening_ranged : (z b : Option ℕ) → IfSome b (λ n. (1 ≤ n) × (n ≤ 8)) → IsInRange (opening z b)
 opening_ranged (Some z) (Some b) r = r
 opening_ranged (Some z) None r = tt
@@ -137,7 +137,7 @@ hand_ranged f g k = mapped_ranged (λ n. (1 ≤ n) × (n ≤ 4)) f g (hand_of k)
 at_ranged : (f : Address → Call) → ((a : Address) → IsCallInRange (f a)) → (s v : ℕ) → IfSome (option_map f (address_of s v)) IsCallInRange
 at_ranged f g s v = mapped_ranged (λ a. ⊤) f (λ a r. g a) (address_of s v) (any (address_of s v))
 
--- the rows
+-- the commands of the rows that both profiles have are in range
 row_ranged : (keyword : Token) (z : Option ℕ) (arguments : List Token) → IfSome (row_of keyword z arguments) IsInRange
 row_ranged Zone z (Number b ∷ []) = opening_ranged z (blocks_of b) (between 1 8 b (nat_le 1 b && nat_le b 8) refl)
 row_ranged Map z (Number s ∷ Number v ∷ []) = call_ranged z _ (map_ranged (address_of s v) false (in_space s v))
@@ -165,7 +165,7 @@ row_ranged Compact z [] = compacting_ranged z
 row_ranged Pool z (Number n ∷ []) = pooling_ranged z (blocks_of n) (Some Pageblocks) pageblocks_ranged
 row_ranged _ z _ = tt
 
--- a profile's own rows
+-- the commands of the rows that only one profile has are in range
 row_of_profile_2_ranged : (keyword : Token) (z : Option ℕ) (arguments : List Token) → IfSome (row_of_profile_2 keyword z arguments) IsInRange
 row_of_profile_2_ranged Info z [] = call_ranged z (Some call.InfoWithHeld) tt
 row_of_profile_2_ranged Huge z (Number k ∷ []) = call_ranged z _ (mapped_ranged (λ n. (3 ≤ n) × (n ≤ 9)) call.TakeOrder (λ n r. r) (order_of k) (between 3 9 k (nat_le 3 k && nat_le k 9) refl))
@@ -201,7 +201,7 @@ command_ranged profile (keyword ∷ Number z ∷ arguments) =
     either_row_ranged (row_in profile keyword (zone_of z) arguments) (during_row keyword z arguments) (row_in_ranged profile keyword (zone_of z) arguments) (during_row_ranged keyword z arguments)
 command_ranged profile _ = tt
 
--- the commands of lines
+-- the commands of lines are in range
 command_in_ranged : (profile : Profile) (words : List (List ℕ)) → IfSome (command_in profile words) IsInRange
 command_in_ranged Untold words = by_test (is_profile_2 words) where
   by_test : (b : Bool) → IfSome (if b then Some Profile2 else command_of Untold (map token_of words)) IsInRange

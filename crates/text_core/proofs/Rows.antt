@@ -1,4 +1,4 @@
--- The row that begins a block, and all others.
+-- The row of `during`, which begins a block, and all others.
 use Rattle.std.proofs.Common.{◌≡◌, ◌∙◌, ℕ, List, ◌∷◌, ap, refl, Option, Some, None}
 use Rattle.std.specs.Option.{option_or}
 use Rattle.text_core.specs.declared.command.Command.{Command}

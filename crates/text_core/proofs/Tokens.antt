@@ -12,7 +12,7 @@ use Rattle.text_core.proofs.Numbers.{number_of_short}
 pub tokens_first : (xs : List ℕ) → 0 < length xs → starts_with nat_eq xs (codes " ") ≡ false → tokens xs ≡ token_of (first_word xs) ∷ tokens (behind_word xs)
 tokens_first xs some e = ap (map token_of) (lexemes_first xs some e)
 
--- a keyword is no number
+-- a word that is a keyword is not a number
 either_word : (b : Bool) (t u : Token) (more : List Token)
     → number_first (t ∷ more) ≡ None → number_first (u ∷ more) ≡ None → number_first ((if b then t else u) ∷ more) ≡ None
 either_word true t u more e f = e
@@ -21,14 +21,14 @@ either_word false t u more e f = f
 keyword_is_no_number : (word : List ℕ) (more : List Token) → number_first (keyword_of word ∷ more) ≡ None
 keyword_is_no_number word more = search (either_word, rules)
 
--- where the first word of a text is a number
+-- the first token of a text whose first word is a number
 pub number_comes : (xs : List ℕ) (n : ℕ) → starts_with nat_eq xs (codes " ") ≡ false → number_of (first_word xs) ≡ Some n
     → tokens xs ≡ Number n ∷ tokens (behind_word xs)
 number_comes [] n e f = absurd cc
 number_comes (x ∷ xs) n e f =
     tokens_first (x ∷ xs) (omega arith) e ∙ ap (λ (o : Option ℕ). number_or_keyword o (first_word (x ∷ xs)) ∷ tokens (behind_word (x ∷ xs))) f
 
--- and where it is none
+-- no number comes first where the first word of a text isn't one
 pub no_number_comes : (xs : List ℕ) → starts_with nat_eq xs (codes " ") ≡ false → number_of (first_word xs) ≡ None → number_first (tokens xs) ≡ None
 no_number_comes [] e f = refl
 no_number_comes (x ∷ xs) e f =
@@ -36,7 +36,7 @@ no_number_comes (x ∷ xs) e f =
     ∙ ap (λ (o : Option ℕ). number_first (number_or_keyword o (first_word (x ∷ xs)) ∷ tokens (behind_word (x ∷ xs)))) f
     ∙ keyword_is_no_number (first_word (x ∷ xs)) (tokens (behind_word (x ∷ xs)))
 
--- a word that is a number begins with no space
+-- a text whose first word is a number doesn't begin with a space
 number_apart : (xs : List ℕ) (n : ℕ) → number_of (first_word xs) ≡ Some n → starts_with nat_eq xs (codes " ") ≡ false
 number_apart xs n e = by_test (starts_with nat_eq xs (codes " ")) refl where
   by_test : (b : Bool) → starts_with nat_eq xs (codes " ") ≡ b → starts_with nat_eq xs (codes " ") ≡ false
@@ -45,6 +45,6 @@ number_apart xs n e = by_test (starts_with nat_eq xs (codes " ")) refl where
       cc
   by_test false f = f
 
--- where a number comes behind a space
+-- the tokens of a text that begins with a space and a number
 pub spaced_number_comes : (xs : List ℕ) (n : ℕ) → number_of (first_word xs) ≡ Some n → tokens (32 ∷ xs) ≡ Number n ∷ tokens (behind_word xs)
 spaced_number_comes xs n e = ap (map token_of) (lexemes_space 32 xs refl) ∙ number_comes xs n (number_apart xs n e) e

@@ -1,4 +1,4 @@
--- The commands of the language: the row of each says what stands in its line, and what that makes.
+-- The commands of the language: the row of each says what stands in its line, and what command that makes.
 use Rattle.std.specs.Prelude.{ℕ, Bool, true, false, ◌&&◌, List, [], ◌∷◌, nat_lt, nat_le, Option, Some, None, option_map, if◌then◌else◌, nat_eq}
 use Rattle.std.specs.Option.{option_or}
 use Rattle.frame_core.specs.declared.place.Address.{Address}
@@ -22,31 +22,31 @@ use Rattle.text_core.specs.declared.pool.PoolBlocks.TheVariants.{Pageblocks, OfO
 use Rattle.text_core.specs.declared.profile.Profile.{Profile}
 use Rattle.text_core.specs.declared.profile.Profile.TheVariants.{Two}
 
--- a number below a bound
+-- a number, where it is below a bound
 abbrev pub below : ℕ → ℕ → Option ℕ
 below bound n = if nat_lt n bound then Some n else None
 
--- a number from 1 to a bound
+-- a number, where it is from 1 to a bound
 abbrev pub up_to : ℕ → ℕ → Option ℕ
 up_to most n = if nat_le 1 n && nat_le n most then Some n else None
 
--- the number of a zone
+-- the number of a zone, 0 to 3
 abbrev pub zone_of : ℕ → Option ℕ
 zone_of n = below 4 n
 
--- the number of a frame
+-- the number of a frame, 0 to 4095
 abbrev pub frame_of : ℕ → Option ℕ
 frame_of n = below 4096 n
 
--- the number of a word of a page
+-- the number of a word of a page, 0 to 7
 abbrev pub word_of : ℕ → Option ℕ
 word_of n = below 8 n
 
--- how many pageblocks a zone has, and how many blocks a pool is asked for
+-- a number of blocks, 1 to 8: of a zone's pageblocks, or of the blocks that a pool is asked for
 abbrev pub blocks_of : ℕ → Option ℕ
 blocks_of n = up_to 8 n
 
--- the number of a pageblock
+-- the number of a pageblock, 0 to 7
 abbrev pub pageblock_of : ℕ → Option ℕ
 pageblock_of n = below 8 n
 
@@ -54,86 +54,86 @@ pageblock_of n = below 8 n
 abbrev pub order_of : ℕ → Option ℕ
 order_of n = if nat_le 3 n && nat_le n 9 then Some n else None
 
--- the number of a hand
+-- the number of a hand, 1 to 4
 abbrev pub hand_of : ℕ → Option ℕ
 hand_of n = up_to 4 n
 
--- the number of a space
+-- the number of a space, 0 to 7
 abbrev pub space_of : ℕ → Option ℕ
 space_of n = below 8 n
 
--- how many pages a series of calls is for, 0 to 4096
+-- the number of pages that a series of calls is for, 0 to 4096
 abbrev pub page_count_of : ℕ → Option ℕ
 page_count_of n = below 4097 n
 
--- virtual page v of space s
+-- virtual page v of space s, where both are in their ranges
 abbrev pub address_of : ℕ → ℕ → Option Address
 address_of s v = if nat_lt s 8 && nat_lt v 4096 then Some (record { space = s; vpage = v }) else None
 
--- a map, if its address is one
+-- a map, where its address is in range
 abbrev pub map_call : Option Address → Bool → Option Call
 map_call (Some a) unmovable = Some (call.Map a unmovable)
 map_call None unmovable = None
 
--- a map into a frame, if both are there
+-- a map into a frame, where its address and its frame are in range
 abbrev pub map_at_call : Option Address → Option ℕ → Bool → Option Call
 map_at_call (Some a) (Some f) unmovable = Some (call.MapAt a f unmovable)
 map_at_call _ _ unmovable = None
 
--- a store, if its address and its word are there
+-- a store, where its address and its word are in range
 abbrev pub store_call : Option Address → Option ℕ → ℕ → Option Call
 store_call (Some a) (Some w) value = Some (call.Store a w value)
 store_call _ _ value = None
 
--- a load, if its address and its word are there
+-- a load, where its address and its word are in range
 abbrev pub load_call : Option Address → Option ℕ → Option Call
 load_call (Some a) (Some w) = Some (call.Load a w)
 load_call _ _ = None
 
--- a share, if both addresses are there
+-- a share, where both of its addresses are in range
 abbrev pub share_call : Option Address → Option Address → Option Call
 share_call (Some a) (Some alias) = Some (call.Share a alias)
 share_call _ _ = None
 
--- the giving back of a block of an order, if its first frame and its order are there
+-- the giving back of a block, where its first frame and its order are in range
 abbrev pub give_order_call : Option ℕ → Option ℕ → Option Call
 give_order_call (Some first) (Some order) = Some (call.GiveOrder first order)
 give_order_call _ _ = None
 
--- a series of calls, if its space and its number of pages are there; its first page and its step are any numbers
+-- a series of calls, where its space and its number of pages are in range; its first page and its step may be any numbers
 abbrev pub series_of : Repeated → Option ℕ → ℕ → Option ℕ → ℕ → Option Series
 series_of c (Some s) first (Some n) step = Some (record { call = c; space = s; first = first; count = n; step = step })
 series_of c _ first _ step = None
 
--- the opening of a zone, or else an argument is out of its range
+-- the opening of a zone, or OutOfRange where an argument is out of its range
 abbrev pub opening : Option ℕ → Option ℕ → Command
 opening (Some z) (Some b) = Open z b
 opening _ _ = OutOfRange
 
--- a round over a zone, or else its number is out of its range
+-- a round over a zone, or OutOfRange where the number of the zone is out of its range
 abbrev pub compacting : Option ℕ → Command
 compacting (Some z) = RoundOn z
 compacting None = OutOfRange
 
--- a pool of blocks of a zone, or else an argument is out of its range
+-- a pool of blocks of a zone, or OutOfRange where an argument is out of its range
 abbrev pub pooling : Option ℕ → Option ℕ → Option PoolBlocks → Command
 pooling (Some z) (Some n) (Some blocks) = PoolOn z n blocks
 pooling _ _ _ = OutOfRange
 
--- calls on a zone, or else an argument is out of its range
+-- calls on a zone, or OutOfRange where an argument is out of its range
 abbrev pub calls_on : Option ℕ → Option Calls → Command
 calls_on (Some z) (Some c) = On z c
 calls_on _ _ = OutOfRange
 
--- one call on a zone
+-- one call on a zone, or OutOfRange where an argument is out of its range
 abbrev pub call_on : Option ℕ → Option Call → Command
 call_on z c = calls_on z (option_map One c)
 
--- a series of calls on a zone
+-- a series of calls on a zone, or OutOfRange where an argument is out of its range
 abbrev pub series_on : Option ℕ → Option Series → Command
 series_on z s = calls_on z (option_map SeriesOf s)
 
--- the calls that a client may make by itself: None where there is no such row, Some None where an argument is out of its range
+-- the calls that a client may make: None where there is no such row, Some None where an argument is out of its range
 abbrev pub client_row : Token → List Token → Option (Option Call)
 client_row Map (Number s ∷ Number v ∷ []) = Some (map_call (address_of s v) false)
 client_row Map (Number s ∷ Number v ∷ Unmovable ∷ []) = Some (map_call (address_of s v) true)
@@ -147,7 +147,7 @@ client_row Pin (Number s ∷ Number v ∷ []) = Some (option_map call.Pin (addre
 client_row Unpin (Number s ∷ Number v ∷ []) = Some (option_map call.Unpin (address_of s v))
 client_row _ _ = None
 
--- what a keyword, a zone and the arguments behind it make, if there is such a row
+-- the command that a keyword, a zone and the arguments after it make by the rows that both profiles have, if there is such a row
 abbrev pub row_of : Token → Option ℕ → List Token → Option Command
 row_of Zone z (Number b ∷ []) = Some (opening z (blocks_of b))
 row_of Info z [] = Some (call_on z (Some call.Info))
@@ -167,7 +167,7 @@ row_of Compact z [] = Some (compacting z)
 row_of Pool z (Number n ∷ []) = Some (pooling z (blocks_of n) (Some Pageblocks))
 row_of keyword z arguments = option_map (λ c. call_on z c) (client_row keyword arguments)
 
--- the same by the rows that profile 2 has besides
+-- the command that they make by the rows that only profile 2 has, if there is such a row
 abbrev pub row_of_profile_2 : Token → Option ℕ → List Token → Option Command
 row_of_profile_2 Info z [] = Some (call_on z (Some call.InfoWithHeld))
 row_of_profile_2 Huge z (Number k ∷ []) = Some (call_on z (option_map call.TakeOrder (order_of k)))
@@ -177,26 +177,26 @@ row_of_profile_2 Unmark z (Number b ∷ []) = Some (call_on z (option_map call.U
 row_of_profile_2 Pool z (Number n ∷ Number k ∷ []) = Some (pooling z (blocks_of n) (option_map OfOrder (order_of k)))
 row_of_profile_2 _ z _ = None
 
--- the same of any profile
+-- the command that they make by the rows that only this profile has, if there is such a row
 abbrev pub own_row : Profile → Token → Option ℕ → List Token → Option Command
 own_row Two keyword z arguments = row_of_profile_2 keyword z arguments
 own_row _ keyword z arguments = None
 
--- a profile's own rows come first
+-- the command that they make by the rows of a profile: its own come first, and then those that both have
 abbrev pub row_in : Profile → Token → Option ℕ → List Token → Option Command
 row_in profile keyword z arguments = option_or (own_row profile keyword z arguments) (row_of keyword z arguments)
 
--- a round with a client beside it: its zone is told by any number
+-- a round during which a client makes calls: its zone may be any number
 abbrev pub during_row : Token → ℕ → List Token → Option Command
 during_row During z [] = Some (RoundBeside z)
 during_row _ z _ = None
 
--- the command that tokens are, or begin, if they do
+-- the command that tokens are, or begin, if they are one
 abbrev pub command_of : Profile → List Token → Option Command
 command_of profile (keyword ∷ Number z ∷ arguments) = option_or (row_in profile keyword (zone_of z) arguments) (during_row keyword z arguments)
 command_of profile _ = None
 
--- a call as that of a client, if it is one of a client
+-- the same call of a client, if a client may make it
 abbrev pub as_client : Call → Option ClientCall
 as_client (call.Map a unmovable) = Some (client.Map a unmovable)
 as_client (call.MapAt a frame unmovable) = Some (client.MapAt a frame unmovable)
@@ -208,7 +208,7 @@ as_client (call.Pin a) = Some (client.Pin a)
 as_client (call.Unpin a) = Some (client.Unpin a)
 as_client _ = None
 
--- the same of a call whose arguments may be out of their ranges
+-- the same call of a client, if there is a call and a client may make it
 abbrev pub client_of : Option Call → Option ClientCall
 client_of (Some c) = as_client c
 client_of None = None

@@ -1,4 +1,4 @@
--- The profile by which a script is read: the first line that isn't skipped tells.
+-- The profile by which a script is read: its first line that isn't skipped decides.
 use Rattle.std.specs.Prelude.{ℕ, Bool, false, ◌&&◌, List, [], ◌∷◌, bytes_eq, codes}
 use Rattle.text_core.specs.declared.command.Command.{Command}
 use Rattle.text_core.specs.declared.command.Command.TheVariants.{Profile2}
@@ -10,7 +10,7 @@ abbrev pub is_profile_2 : List (List ℕ) → Bool
 is_profile_2 (keyword ∷ number ∷ []) = bytes_eq keyword (codes "profile") && bytes_eq number (codes "2")
 is_profile_2 _ = false
 
--- the profile behind a command: where none told yet, any other than `profile 2` tells that it is profile 1
+-- the profile after a command: where no line has decided yet, `profile 2` decides for profile 2, and any other command for profile 1
 abbrev pub profile_told : Command → Profile → Profile
 profile_told Profile2 Untold = Two
 profile_told _ Untold = One

@@ -6,19 +6,19 @@ use Rattle.std.specs.Str.Parse.{digits_value}
 use Rattle.text_core.specs.declared.token.Token.{Token}
 use Rattle.text_core.specs.declared.token.Token.TheVariants.{Number, Zone, Map, MapAt, Store, Load, Info, Unmovable, Scan, Take, Copy, Finish, Shut, Look, Share, Unmap, Pin, Unpin, Huge, Give, Fill, Thin, Mark, Unmark, Compact, Pool, Other, During, End}
 
--- a lexeme is what stands between spaces, and not empty
+-- the lexemes of a text: its words, which are what stands between spaces and isn't empty
 abbrev pub lexemes : List ℕ → List (List ℕ)
 lexemes text = filter (λ part. nat_lt 0 (length part)) (slice_split (λ byte. nat_eq byte 32) text)
 
--- what stands before the first space of a text
+-- what stands before the first space of a text, or the whole text
 abbrev pub first_word : List ℕ → List ℕ
 first_word text = take (position_or_len (λ byte. nat_eq byte 32) text) text
 
--- the first space of a text, and what stands behind it
+-- the first space of a text, and what stands after it
 abbrev pub behind_word : List ℕ → List ℕ
 behind_word text = drop (position_or_len (λ byte. nat_eq byte 32) text) text
 
--- a number has 1 to 20 digits and fits 64 bits
+-- whether bytes are a number: 1 to 20 digits that fit 64 bits
 abbrev pub is_number : List ℕ → Bool
 is_number bytes =
     nat_le 1 (length bytes) && nat_le (length bytes) 20 && all_ascii_digits bytes && nat_lt (digits_value 10 bytes) (2 ^ 64)
@@ -27,7 +27,7 @@ is_number bytes =
 abbrev pub number_of : List ℕ → Option ℕ
 number_of bytes = if is_number bytes then Some (digits_value 10 bytes) else None
 
--- a keyword, or else nothing of the language
+-- the keyword that bytes are, or Other
 abbrev pub keyword_of : List ℕ → Token
 keyword_of lexeme =
     if bytes_eq lexeme (codes "zone") then Zone
@@ -59,15 +59,15 @@ keyword_of lexeme =
     else if bytes_eq lexeme (codes "end") then End
     else Other
 
--- a number, or else a keyword or nothing of the language
+-- a number where there is one, and else the keyword that bytes are, or Other
 abbrev pub number_or_keyword : Option ℕ → List ℕ → Token
 number_or_keyword None lexeme = keyword_of lexeme
 number_or_keyword (Some n) lexeme = Number n
 
--- what a lexeme means
+-- what a word means: a number, a keyword, or nothing of the language
 abbrev pub token_of : List ℕ → Token
 token_of lexeme = number_or_keyword (number_of lexeme) lexeme
 
--- the tokens of a text
+-- the tokens of a text, one for each word
 abbrev pub tokens : List ℕ → List Token
 tokens text = map token_of (lexemes text)

@@ -6,7 +6,7 @@ ghost use Rattle.text_core.specs.Token.{tokens};
 
 use crate::token::{Token, first_number, first_token, is_end};
 
-/// The number that is all of a text.
+/// The number that a text consists of, or none where it is anything else.
 pub(crate) fn one(text: &[u8]) -> Option<u64>
     ensures { result ≡ one_of (tokens text.now) }
 {
@@ -14,7 +14,7 @@ pub(crate) fn one(text: &[u8]) -> Option<u64>
     if is_end(behind) { Some(a) } else { None }
 }
 
-/// The two numbers that are all of a text.
+/// The two numbers that a text consists of, or none where it is anything else.
 #[inline(always)]
 pub(crate) fn two(text: &[u8]) -> Option<(u64, u64)>
     ensures { result ≡ two_of (tokens text.now) }
@@ -23,7 +23,7 @@ pub(crate) fn two(text: &[u8]) -> Option<(u64, u64)>
     Some((a, one(behind)?))
 }
 
-/// The three numbers that are all of a text.
+/// The three numbers that a text consists of, or none where it is anything else.
 pub(crate) fn three(text: &[u8]) -> Option<(u64, u64, u64)>
     ensures { result ≡ three_of (tokens text.now) }
 {
@@ -32,7 +32,7 @@ pub(crate) fn three(text: &[u8]) -> Option<(u64, u64, u64)>
     Some((a, b, c))
 }
 
-/// The four numbers that are all of a text.
+/// The four numbers that a text consists of, or none where it is anything else.
 pub(crate) fn four(text: &[u8]) -> Option<(u64, u64, u64, u64)>
     ensures { result ≡ four_of (tokens text.now) }
 {
@@ -41,7 +41,7 @@ pub(crate) fn four(text: &[u8]) -> Option<(u64, u64, u64, u64)>
     Some((a, b, c, d))
 }
 
-/// Whether a text is the word `unmovable`; None where it is anything else but empty.
+/// Whether a text is the word `unmovable`: true for it, false for an empty text, and none for anything else.
 fn flag(text: &[u8]) -> Option<bool>
     ensures { result ≡ flag_of (tokens text.now) }
 {
@@ -52,7 +52,7 @@ fn flag(text: &[u8]) -> Option<bool>
     }
 }
 
-/// The two numbers and the flag that are all of a text.
+/// The two numbers and the flag that a text consists of, or none where it is anything else.
 pub(crate) fn two_and_flag(text: &[u8]) -> Option<(u64, u64, bool)>
     ensures { result ≡ two_and_flag_of (tokens text.now) }
 {
@@ -61,7 +61,7 @@ pub(crate) fn two_and_flag(text: &[u8]) -> Option<(u64, u64, bool)>
     Some((a, b, flag(behind)?))
 }
 
-/// The three numbers and the flag that are all of a text.
+/// The three numbers and the flag that a text consists of, or none where it is anything else.
 pub(crate) fn three_and_flag(text: &[u8]) -> Option<(u64, u64, u64, bool)>
     ensures { result ≡ three_and_flag_of (tokens text.now) }
 {

@@ -6,10 +6,10 @@ use crate::pages::PageCount;
 use crate::pool::PoolBlocks;
 use frame_core::{Address, BlockNo, FrameNo, HandNo, Order, SpaceNo, WordNo, ZoneNo};
 
-/// A command.
+/// A command of a script.
 #[derive(Clone, Copy, Debug, PartialEq, Eq)]
 pub enum Command {
-    /// Opens a zone with so many pageblocks.
+    /// Opens a zone with this many pageblocks.
     Open {
         zone: ZoneNo,
         blocks: BlockCount,
@@ -23,19 +23,19 @@ pub enum Command {
     Compact {
         zone: ZoneNo,
     },
-    /// Reserves so many blocks of the zone with this number, with rounds as they are needed.
+    /// Reserves this many blocks of the zone with this number, and runs rounds as they are needed.
     Pool {
         zone: ZoneNo,
         count: BlockCount,
         blocks: PoolBlocks,
     },
-    /// A round with the calls of a client beside it. The zone may be told by any number.
+    /// Runs a round while a client makes calls. The number of the zone may be any number.
     During {
         zone: u64,
     },
-    /// The script is read by profile 2.
+    /// The script is read by profile 2 from here on.
     Profile2,
-    /// An argument is out of its range.
+    /// The command has an argument that is out of its range.
     OutOfRange,
 }
 
@@ -46,8 +46,8 @@ pub enum Calls {
     Series(Series),
 }
 
-/// The same call at so many pages of a space: the first, and each `step` behind the one before. The first number and the
-/// step are any, so that a page may lie outside of the space.
+/// The same call for `count` pages of a space, the first one at `first`, and each `step` pages after the one before.
+/// `first` and `step` may be any numbers, so a page may lie outside the space.
 #[derive(Clone, Copy, Debug, PartialEq, Eq)]
 pub struct Series {
     pub call: Repeated,
@@ -57,10 +57,10 @@ pub struct Series {
     pub step: u64,
 }
 
-/// A call that a series repeats.
+/// A call that a series makes.
 #[derive(Clone, Copy, Debug, PartialEq, Eq)]
 pub enum Repeated {
-    /// Maps a page that can be moved.
+    /// Maps a page that isn't unmovable.
     Map,
     Unmap,
 }
@@ -102,7 +102,7 @@ pub enum Call {
     Unpin(Address),
     Huge,
     Give(BlockNo),
-    /// As `Info`, with the frames that are handed out.
+    /// As `Info`, with the number of frames that are handed out.
     InfoWithHeld,
     TakeOrder(Order),
     GiveOrder {
@@ -114,7 +114,7 @@ pub enum Call {
 }
 
 impl Call {
-    /// The call as that of a client, if it is one of a client.
+    /// The same call of a client, if a client may make it.
     pub(crate) fn as_client(self) -> Option<ClientCall>
         ensures { result ≡ as_client self }
     {
@@ -148,7 +148,7 @@ impl Call {
     }
 }
 
-/// A call that a client makes beside a round.
+/// A call that a client makes while a round runs.
 #[derive(Clone, Copy, Debug, PartialEq, Eq)]
 pub enum ClientCall {
     Map {
@@ -181,8 +181,8 @@ pub enum ClientCall {
 /// What a line of a block says.
 #[derive(Clone, Copy, Debug, PartialEq, Eq)]
 pub enum BlockLine {
-    /// A call of the client; None where an argument is out of its range.
+    /// A call of the client, or none where an argument is out of its range.
     Client(Option<ClientCall>),
-    /// The block's end.
+    /// The end of the block.
     End,
 }

@@ -3,7 +3,7 @@ ghost use Rattle.text_core.specs.ErrorNumber.{script_error_number};
 
 use thiserror::Error;
 
-/// Why a line is no line of a script.
+/// Why a line can't be read.
 #[derive(Clone, Copy, Debug, PartialEq, Eq, Error)]
 pub enum ScriptError {
     #[error("the line is no command")]
@@ -13,7 +13,7 @@ pub enum ScriptError {
 }
 
 impl ScriptError {
-    /// Its number, 41 or 42.
+    /// The number of the fault, 41 or 42.
     pub fn number(&self) -> u16
         ensures { result ≡ script_error_number self.now }
     {

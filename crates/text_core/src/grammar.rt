@@ -1,4 +1,5 @@
-//! The rows of the language, as `specs/Grammar.antt` has them. That an argument is in its range is tested here, by its type.
+//! The rows of the language, as `specs/Grammar.antt` has them. Whether an argument is in its range is tested here, by the
+//! type of the argument.
 
 ghost use Rattle.std.specs.Prelude.{◌≡◌, option_map};
 ghost use Rattle.text_core.specs.Token.{tokens};
@@ -13,7 +14,7 @@ use crate::profile::Profile;
 use crate::token::{Token, first_number, is_end, leading_token};
 use frame_core::{Address, BlockNo, FrameNo, HandNo, Order, SpaceNo, VPage, WordNo, ZoneNo};
 
-/// The command that a text is, or begins, if it does.
+/// The command that a text is, or begins, if it is one.
 pub(crate) fn command(profile: Profile, text: &[u8]) -> Option<Command>
     ensures { result ≡ command_of profile (tokens text.now) }
 {
@@ -25,7 +26,7 @@ pub(crate) fn command(profile: Profile, text: &[u8]) -> Option<Command>
     }
 }
 
-/// `during Z`, where Z is any number.
+/// `during Z`, where Z may be any number.
 fn during(zone: u64, arguments: &[u8]) -> Option<Command>
     ensures { result ≡ during_row Token.During zone (tokens arguments.now) }
 {
@@ -54,14 +55,14 @@ pub(crate) fn block_line(zone: u64, text: &[u8]) -> Option<BlockLine>
     }
 }
 
-/// A call as that of a client, where it is one of a client.
+/// The same call of a client, if there is a call and a client may make it.
 fn client_of(call: Option<Call>) -> Option<ClientCall>
     ensures { result ≡ client_of call }
 {
     call?.as_client()
 }
 
-/// What a keyword, the number of a zone and the arguments behind it make, if there is such a row in a profile.
+/// The command that a keyword, the number of a zone and the arguments after it make, if the profile has such a row.
 fn row_in(profile: Profile, keyword: Token, number: u64, arguments: &[u8]) -> Option<Command>
     ensures { result ≡ row_in profile keyword (zone_of number) (tokens arguments.now) }
 {
@@ -71,7 +72,7 @@ fn row_in(profile: Profile, keyword: Token, number: u64, arguments: &[u8]) -> Op
     }
 }
 
-/// The command by a row that a profile has besides, if there is one.
+/// The command by a row that only this profile has, if there is such a row.
 fn own_row(profile: Profile, keyword: Token, number: u64, arguments: &[u8]) -> Option<Command>
     ensures { result ≡ own_row profile keyword (zone_of number) (tokens arguments.now) }
 {
@@ -81,7 +82,7 @@ fn own_row(profile: Profile, keyword: Token, number: u64, arguments: &[u8]) -> O
     }
 }
 
-/// The command by the rows that profile 2 has besides.
+/// The command by the rows that only profile 2 has.
 fn row_of_profile_2(keyword: Token, zone: Option<ZoneNo>, arguments: &[u8]) -> Option<Command>
     ensures { result ≡ row_of_profile_2 keyword zone (tokens arguments.now) }
 {
@@ -103,7 +104,7 @@ fn row_of_profile_2(keyword: Token, zone: Option<ZoneNo>, arguments: &[u8]) -> O
     }
 }
 
-/// The command by the rows of both profiles. A row with two arguments or more is a function of its own.
+/// The command by the rows that both profiles have. Each row with two arguments or more has a function of its own.
 fn row(keyword: Token, zone: Option<ZoneNo>, arguments: &[u8]) -> Option<Command>
     ensures { result ≡ row_of keyword zone (tokens arguments.now) }
 {
@@ -138,7 +139,7 @@ fn row(keyword: Token, zone: Option<ZoneNo>, arguments: &[u8]) -> Option<Command
     }
 }
 
-/// A call on a zone, by a row that there is.
+/// A call on a zone, made from a row, if there is a row.
 #[inline(always)]
 fn on_row(zone: Option<ZoneNo>, row: Option<Option<Call>>) -> Option<Command>
     ensures { result ≡ option_map (λ c. call_on zone c) row }
@@ -146,7 +147,8 @@ fn on_row(zone: Option<ZoneNo>, row: Option<Option<Call>>) -> Option<Command>
     Some(on(zone, row?))
 }
 
-/// The call that a keyword of a client and the arguments behind its zone make, if there is such a row.
+/// The call that a client's keyword and the arguments after its zone make, if there is such a row; it has no call where
+/// an argument is out of its range.
 #[inline(always)]
 fn client_row(keyword: Token, arguments: &[u8]) -> Option<Option<Call>>
     ensures { result ≡ client_row keyword (tokens arguments.now) }
@@ -272,7 +274,7 @@ fn thin_row(zone: Option<ZoneNo>, arguments: &[u8]) -> Option<Command>
     ))
 }
 
-/// The opening of a zone, where each argument is in its range.
+/// The opening of a zone, or `OutOfRange` where an argument is out of its range.
 #[inline(always)]
 fn open(zone: Option<ZoneNo>, blocks: Option<BlockCount>) -> Command
     ensures { result ≡ opening zone blocks }
@@ -283,7 +285,7 @@ fn open(zone: Option<ZoneNo>, blocks: Option<BlockCount>) -> Command
     }
 }
 
-/// A round over a zone, where the zone is in its range.
+/// A round over a zone, or `OutOfRange` where the number of the zone is out of its range.
 fn compact(zone: Option<ZoneNo>) -> Command
     ensures { result ≡ compacting zone }
 {
@@ -293,7 +295,7 @@ fn compact(zone: Option<ZoneNo>) -> Command
     }
 }
 
-/// A pool of so many blocks of a zone, where the zone and each argument is in its range.
+/// A pool of this many blocks of a zone, or `OutOfRange` where an argument is out of its range.
 fn pool(zone: Option<ZoneNo>, count: Option<BlockCount>, blocks: Option<PoolBlocks>) -> Command
     ensures { result ≡ pooling zone count blocks }
 {
@@ -307,7 +309,7 @@ fn pool(zone: Option<ZoneNo>, count: Option<BlockCount>, blocks: Option<PoolBloc
     }
 }
 
-/// A call on a zone, where the zone and each argument is in its range.
+/// A call on a zone, or `OutOfRange` where an argument is out of its range.
 #[inline(always)]
 fn on(zone: Option<ZoneNo>, call: Option<Call>) -> Command
     ensures { result ≡ call_on zone call }
@@ -315,7 +317,7 @@ fn on(zone: Option<ZoneNo>, call: Option<Call>) -> Command
     all_on(zone, call.map(Calls::One))
 }
 
-/// A series of calls on a zone, where the zone and each argument that is tested beforehand is in its range.
+/// A series of calls on a zone, or `OutOfRange` where an argument that is tested before the first call is out of its range.
 #[inline(always)]
 fn series_on(zone: Option<ZoneNo>, series: Option<Series>) -> Command
     ensures { result ≡ series_on zone series }
@@ -407,7 +409,7 @@ fn series(
     })
 }
 
-/// The zone with this number, if it is one.
+/// The zone with this number, or none where the number is out of range.
 pub fn zone(number: u64) -> Option<ZoneNo>
     ensures { result ≡ zone_of number }
 {

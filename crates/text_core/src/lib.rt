@@ -1,7 +1,7 @@
 //! The text of scripts: lines become commands, and replies become lines.
 //!
-//! `specs/Grammar.antt` has a row for each command, `specs/Line.antt` says what a line means, by itself and in a block, and
-//! `specs/Reply.antt` how a reply reads.
+//! `specs/Grammar.antt` has a row for each command, `specs/Line.antt` says what a line means, alone and in a block, and
+//! `specs/Reply.antt` what the line of a reply is. The language is this project's own.
 #![tactic(auto)]
 
 mod arguments;

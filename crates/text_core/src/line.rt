@@ -36,14 +36,15 @@ fn command(profile: Profile, text: &[u8]) -> Option<Command>
     grammar::command(profile, text)
 }
 
-/// Whether a line has more bytes than a line may have.
+/// Whether a line has more than 200 bytes.
 fn is_long(line: &[u8]) -> bool
     ensures { result ≡ nat_lt 200 (length line.now) }
 {
     line.len() > 200
 }
 
-/// The command that a line is, or begins, where it is read by this profile; None where the line is empty or a comment.
+/// The command that a line is, or begins, where it is read by this profile; none where the line is empty or a comment.
+/// The newline isn't a part of the line.
 ///
 /// Refused as LongLine where it has more than 200 bytes, else as Syntax where it is no command.
 pub fn read_line(profile: Profile, line: &[u8]) -> Result<Option<Command>, ScriptError>
@@ -58,9 +59,9 @@ pub fn read_line(profile: Profile, line: &[u8]) -> Result<Option<Command>, Scrip
     }
 }
 
-/// What a line says in a block for the zone with this number; None where the line is empty or a comment.
+/// What a line says in a block for the zone with this number; none where the line is empty or a comment.
 ///
-/// Refused as LongLine where it has more than 200 bytes, else as Syntax where it says nothing that stands in a block.
+/// Refused as LongLine where it has more than 200 bytes, else as Syntax where it says nothing that may stand in a block.
 pub fn read_block_line(zone: u64, line: &[u8]) -> Result<Option<BlockLine>, ScriptError>
     ensures { result ≡ line_within zone line.now }
 {

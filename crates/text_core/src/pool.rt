@@ -3,17 +3,17 @@ ghost use Rattle.text_core.specs.Pool.{pool_order, told_as};
 
 use frame_core::{FrameNo, Order, block_of};
 
-/// Which blocks a pool reserves, and how its reply tells them.
+/// Which blocks a pool reserves, and how its reply names them.
 #[derive(Clone, Copy, Debug, PartialEq, Eq)]
 pub enum PoolBlocks {
-    /// Pageblocks, told by their numbers.
+    /// Pageblocks, named by their numbers.
     Pageblocks,
-    /// Blocks of this order, told by their first frames.
+    /// Blocks of this order, named by their first frames.
     OfOrder(Order),
 }
 
 impl PoolBlocks {
-    /// Their order.
+    /// The order of the blocks.
     pub fn order(&self) -> Order
         ensures { result ≡ pool_order self.now }
     {
@@ -23,7 +23,7 @@ impl PoolBlocks {
         }
     }
 
-    /// The number that tells the block with this first frame.
+    /// The number that names the block with this first frame.
     pub fn told_as(&self, first: FrameNo) -> u16
         ensures { result ≡ told_as self.now first }
     {
@@ -41,10 +41,10 @@ pub enum PoolStopped {
     Enough,
     /// No block is free, and its latest round moved no page.
     NoBlock,
-    /// No block is free, and it ran as many rounds as it may.
+    /// No block is free, and it ran as many rounds as it may run.
     Rounds,
-    /// The journal has no place for a block, or for the pages of its latest round, which moved none.
+    /// The journal has no place for a block, or it had none for the pages of the latest round, which moved none.
     JournalFull,
-    /// A round was refused with this number.
+    /// A round was refused with this number of an error.
     Refused(u16),
 }

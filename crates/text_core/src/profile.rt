@@ -3,17 +3,17 @@ ghost use Rattle.text_core.specs.Profile.{profile_told};
 
 use crate::command::Command;
 
-/// By which profile a script is read. The first line that isn't skipped tells.
+/// By which profile a script is read. Its first line that isn't skipped decides.
 #[derive(Clone, Copy, Debug, PartialEq, Eq)]
 pub enum Profile {
-    /// No line told yet.
+    /// No line has decided yet.
     Untold,
     One,
     Two,
 }
 
 impl Profile {
-    /// The profile by which the lines behind a command are read.
+    /// The profile by which the lines after a command are read.
     pub fn behind(self, command: &Command) -> Profile
         ensures { result ≡ profile_told command.now self }
     {

@@ -9,36 +9,36 @@ use frame_core::{BlockNo, FrameNo, Order, PageFlags, Serial};
 use itoa::Buffer;
 use state_core::{Info, Look};
 
-/// The answer to a command.
+/// The reply to a command.
 #[derive(Debug, Drop, PartialEq, Eq)]
 pub enum Reply {
     Done,
     /// The value of a word.
     Value(u64),
     Info(Info),
-    /// The same, with the frames that are handed out.
+    /// The counts of a zone, with the number of frames that are handed out.
     InfoWithHeld(Info),
-    /// A page is on its way under this serial, or was taken by a hand.
+    /// A page was isolated under this serial, or was taken by a hand.
     Serial(Serial),
-    /// There is no page left that has a frame to go to.
+    /// The scanners met: no page may be taken that has a frame to go to.
     Met,
-    /// The page stands in its new frame.
+    /// The page with this serial is in its new frame.
     Moved(Serial),
-    /// The page had a pin, and stands in its old frame.
+    /// The page with this serial had a pin, and is in its old frame.
     PutBack(Serial),
-    /// How many pages were put back since no hand copied them.
+    /// How many pages were put back, since no hand had taken them.
     Shut(u32),
     Looked(Look),
-    /// The pageblock that was handed out.
+    /// The number of the pageblock that was handed out.
     Block(BlockNo),
     /// The first frame of the block that was handed out, and its order.
     HandedOut {
         first: FrameNo,
         order: Order,
     },
-    /// So many calls of a series, none of which was refused.
+    /// The number of calls of a series, none of which was refused.
     AllDone(u32),
-    /// So many calls of a series, behind which one was refused with this number.
+    /// The number of calls of a series that were accepted before one was refused with this number.
     DoneUntil {
         done: u32,
         refusal: u16,
@@ -50,26 +50,26 @@ pub enum Reply {
         back: u32,
         stopped: Stopped,
     },
-    /// A pool: the numbers that tell its blocks, in the order that it got them, its rounds, and why it stopped.
+    /// A pool: the numbers that name its blocks, in the order in which it got them, its rounds, and why it stopped.
     Pool {
         blocks: PoolBlocks,
         got: ArrayVec<u16, 8>,
         rounds: u32,
         stopped: PoolStopped,
     },
-    /// The number of a refusal.
+    /// A refusal with this number.
     Refused(u16),
 }
 
 /// Why a round stopped.
 #[derive(Clone, Copy, Debug, PartialEq, Eq)]
 pub enum Stopped {
-    /// There is no page left that has a frame to go to.
+    /// The scanners met: no page may be taken that has a frame to go to.
     Met,
     JournalFull,
 }
 
-/// The line of a reply. It ends with a newline and has no other.
+/// The line of a reply: it ends with a newline, and has no other.
 pub fn reply_text(reply: Reply) -> ArrayString<160>
     ensures text { result.bytes ≡ text_of reply }
     ensures line { IsOneLine result.bytes }
@@ -79,7 +79,7 @@ pub fn reply_text(reply: Reply) -> ArrayString<160>
     text
 }
 
-/// Appends the line of a reply to a text with room for 160 bytes more.
+/// Appends the line of a reply to a text, which needs room for 160 bytes more.
 #[inline(always)]
 pub fn push_reply<const N: usize>(text: &mut ArrayString<N>, reply: &Reply)
     requires { array_string_len text.old + 160 ≤ N }
@@ -245,7 +245,7 @@ fn push_pool_stopped<const N: usize>(text: &mut ArrayString<N>, stopped: PoolSto
     }
 }
 
-/// Appends what the numbers of a pool's blocks are.
+/// Appends what the numbers of a pool's blocks are: those of pageblocks, or first frames.
 fn push_pool_name<const N: usize>(text: &mut ArrayString<N>, blocks: PoolBlocks)
     requires { array_string_len text.old + 8 ≤ N }
     ensures text { text.new.bytes ≡ text.old.bytes ++ pool_name blocks }
@@ -258,7 +258,7 @@ fn push_pool_name<const N: usize>(text: &mut ArrayString<N>, blocks: PoolBlocks)
     }
 }
 
-/// Appends numbers with commas between them, or a dash where there is none.
+/// Appends numbers with commas between them, or a dash where there are none.
 fn push_numbers<const N: usize>(text: &mut ArrayString<N>, numbers: &[u16])
     requires few { length numbers.now ≤ 8 }
     requires room { array_string_len text.old + 48 ≤ N }
@@ -274,7 +274,7 @@ fn push_numbers<const N: usize>(text: &mut ArrayString<N>, numbers: &[u16])
     push_behind_commas(text, more);
 }
 
-/// Appends numbers, each behind a comma.
+/// Appends numbers with a comma before each.
 fn push_behind_commas<const N: usize>(text: &mut ArrayString<N>, numbers: &[u16])
     requires { array_string_len text.old + 6 * length numbers.now ≤ N }
     ensures text { text.new.bytes ≡ text.old.bytes ++ behind_commas numbers.now }
@@ -309,7 +309,7 @@ fn push_field<const N: usize>(text: &mut ArrayString<N>, name: &str, number: u64
     push_number(text, number);
 }
 
-/// Appends a number. Most have one digit.
+/// Appends a number. Most numbers have one digit.
 #[inline(always)]
 fn push_number<const N: usize>(text: &mut ArrayString<N>, number: u64)
     requires { array_string_len text.old + 20 ≤ N }
@@ -323,7 +323,7 @@ fn push_number<const N: usize>(text: &mut ArrayString<N>, number: u64)
     }
 }
 
-/// The digit that a number below ten is.
+/// The digit that stands for a number below ten.
 #[inline(always)]
 #[tactic(auto, using(std::proofs::lemmas::Fmt::decimal_digit))]
 fn digit(number: u64) -> Option<&'static str>

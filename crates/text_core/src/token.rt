@@ -5,7 +5,7 @@ ghost use Rattle.text_core.specs.declared.token.Token.TheVariants.{Number};
 ghost use Rattle.std.specs.List.{starts_with};
 ghost use Rattle.text_core.specs.Token.{behind_word, first_word, keyword_of, lexemes, number_of, token_of, tokens};
 
-/// What a lexeme means: a number, a keyword, or nothing of the language.
+/// What a word of a line means: a number, a keyword, or nothing of the language.
 #[derive(Clone, Copy, Debug, Default, PartialEq, Eq)]
 pub(crate) enum Token {
     Number(u64),
@@ -42,7 +42,7 @@ pub(crate) enum Token {
 }
 
 impl Token {
-    /// What bytes without a space are.
+    /// The token that bytes without a space are.
     pub(crate) fn from_bytes(bytes: &[u8]) -> Token
         ensures { result ≡ token_of bytes.now }
     {
@@ -90,14 +90,14 @@ fn keyword(bytes: &[u8]) -> Token
     }
 }
 
-/// Whether bytes are a word.
+/// Whether bytes are this word.
 pub(crate) fn is_word(bytes: &[u8], word: &[u8]) -> bool
     ensures { result ≡ bytes_eq bytes.now word.now }
 {
     bytes == word
 }
 
-/// The number of 1 to 20 digits that fits 64 bits.
+/// The number that 1 to 20 digits are, if these bytes are such and it fits 64 bits.
 fn number(digits: &[u8]) -> Option<u64>
     ensures { result ≡ number_of digits.now }
 {
@@ -116,7 +116,7 @@ fn number(digits: &[u8]) -> Option<u64>
     Some(value)
 }
 
-/// The token that a line begins with, and what stands behind its lexeme. Most lines begin with a short keyword.
+/// The token that a line begins with, and what stands after its word. Most lines begin with a short keyword.
 #[inline(always)]
 pub(crate) fn leading_token(text: &[u8]) -> Option<(Token, &[u8])>
     ensures token { MatchOption result (tokens text.now ≡ []) (λ found. tokens text.now ≡ found.0 ∷ tokens found.1.now) }
@@ -127,7 +127,7 @@ pub(crate) fn leading_token(text: &[u8]) -> Option<(Token, &[u8])>
     }
 }
 
-/// The keyword of 3 to 6 letters that a text begins with, and what stands behind it.
+/// The keyword of 3 to 6 letters that a text begins with, and what stands after it.
 #[inline(always)]
 fn short_keyword(text: &[u8]) -> Option<(Token, &[u8])>
     ensures { IfSome result (λ found. tokens text.now ≡ found.0 ∷ tokens found.1.now) }
@@ -139,7 +139,7 @@ fn short_keyword(text: &[u8]) -> Option<(Token, &[u8])>
     }
 }
 
-/// A text cut before a space or at its end, behind 3 to 6 bytes: 4 is tried first, as half of the keywords have so many.
+/// A text cut after 3 to 6 bytes, before a space or at its end. 4 is tried first, since half of the keywords have 4 letters.
 #[inline(always)]
 fn short_cut(text: &[u8]) -> Option<(&[u8], &[u8])>
     ensures whole { IfSome result (λ cut. cut.0.now ++ cut.1.now ≡ text.now) }
@@ -154,7 +154,7 @@ fn short_cut(text: &[u8]) -> Option<(&[u8], &[u8])>
     None
 }
 
-/// A text cut behind so many bytes, where a space or its end stands there.
+/// A text cut after this many bytes, if a space or the text's end is there.
 #[inline(always)]
 fn cut_behind(text: &[u8], count: usize) -> Option<(&[u8], &[u8])>
     ensures whole { IfSome result (λ cut. cut.0.now ++ cut.1.now ≡ text.now) }
@@ -169,7 +169,7 @@ fn cut_behind(text: &[u8], count: usize) -> Option<(&[u8], &[u8])>
     }
 }
 
-/// The first token of a text, and what stands behind its lexeme.
+/// The first token of a text, and what stands after its word.
 #[inline(always)]
 pub(crate) fn first_token(text: &[u8]) -> Option<(Token, &[u8])>
     ensures token { MatchOption result (tokens text.now ≡ []) (λ found. tokens text.now ≡ found.0 ∷ tokens found.1.now) }
@@ -178,7 +178,7 @@ pub(crate) fn first_token(text: &[u8]) -> Option<(Token, &[u8])>
     Some((Token::from_bytes(lexeme), behind))
 }
 
-/// The number that a text begins with, and what stands behind it. Most have one digit, behind one space.
+/// The number that a text begins with, and what stands after it. Most numbers are one digit after one space.
 pub(crate) fn first_number(text: &[u8]) -> Option<(u64, &[u8])>
     ensures { MatchOption result (number_first (tokens text.now) ≡ None) (λ found. tokens text.now ≡ Number found.0 ∷ tokens found.1.now) }
 {
@@ -188,7 +188,7 @@ pub(crate) fn first_number(text: &[u8]) -> Option<(u64, &[u8])>
     }
 }
 
-/// The digit that is all of the word behind the space that a text begins with, and what stands behind it.
+/// The digit that is a whole word after the space that a text begins with, and what stands after it.
 fn spaced_digit(text: &[u8]) -> Option<(u8, &[u8])>
     ensures { IfSome result (λ found. tokens text.now ≡ Number found.0 ∷ tokens found.1.now) }
 {
@@ -196,7 +196,7 @@ fn spaced_digit(text: &[u8]) -> Option<(u8, &[u8])>
     lone_digit(word)
 }
 
-/// What stands behind the space that a text begins with.
+/// What stands after the space that a text begins with.
 fn behind_space(text: &[u8]) -> Option<&[u8]>
     ensures { IfSome result (λ behind. text.now ≡ 32 ∷ behind.now) }
 {
@@ -206,7 +206,7 @@ fn behind_space(text: &[u8]) -> Option<&[u8]>
     }
 }
 
-/// The digit that is all of the word that a text begins with, and what stands behind it.
+/// The digit that is the whole word that a text begins with, and what stands after it.
 fn lone_digit(text: &[u8]) -> Option<(u8, &[u8])>
     ensures number { IfSome result (λ found. number_of (first_word text.now) ≡ Some found.0) }
     ensures behind { IfSome result (λ found. found.1.now ≡ behind_word text.now) }
@@ -219,7 +219,7 @@ fn lone_digit(text: &[u8]) -> Option<(u8, &[u8])>
     }
 }
 
-/// The number that a text begins with, however many digits it has, and what stands behind it.
+/// The number that a text begins with, however many digits it has, and what stands after it.
 fn leading_digits(text: &[u8]) -> Option<(u64, &[u8])>
     ensures number { MatchOption result (number_of (first_word text.now) ≡ None) (λ found. number_of (first_word text.now) ≡ Some found.0) }
     ensures behind { IfSome result (λ found. found.1.now ≡ behind_word text.now) }
@@ -250,7 +250,7 @@ fn ends_word(text: &[u8]) -> bool
     }
 }
 
-/// The digit that a text begins with, and what stands behind it.
+/// The digit that a text begins with, and what stands after it.
 fn leading_digit(text: &[u8]) -> Option<(u8, &[u8])>
     ensures digit { IfSome result (λ found. text.now ≡ (48 + found.0) ∷ found.1.now) }
     ensures small { IfSome result (λ found. found.0 < 10) }
@@ -269,7 +269,7 @@ pub(crate) fn is_end(text: &[u8]) -> bool
     without_spaces(text).is_empty()
 }
 
-/// The first lexeme of a text, and what stands behind it.
+/// The first word of a text, and what stands after it.
 pub(crate) fn first_lexeme(text: &[u8]) -> Option<(&[u8], &[u8])>
     ensures lexeme { MatchOption result (lexemes text.now ≡ []) (λ found. lexemes text.now ≡ found.0.now ∷ lexemes found.1.now) }
     ensures less { IfSome result (λ found. length found.1.now < length text.now) }
@@ -282,7 +282,7 @@ pub(crate) fn first_lexeme(text: &[u8]) -> Option<(&[u8], &[u8])>
     Some(text.split_at(end))
 }
 
-/// A text without the spaces before its first lexeme.
+/// A text without the spaces before its first word.
 pub(crate) fn without_spaces(text: &[u8]) -> &[u8]
     ensures lexemes { lexemes result.now ≡ lexemes text.now }
     ensures first { starts_with nat_eq result.now (codes " ") ≡ false }
@@ -295,7 +295,7 @@ pub(crate) fn without_spaces(text: &[u8]) -> &[u8]
     rest
 }
 
-/// The place of the first space.
+/// The index of the first space, if there is one.
 fn space_in(text: &[u8]) -> Option<usize>
     ensures { result ≡ position (λ byte. nat_eq byte 32) text.now }
 {

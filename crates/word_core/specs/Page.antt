@@ -1,4 +1,4 @@
--- What a contract sees of a page, and of a page on its way.
+-- What a contract sees of a page, and of an isolated page.
 use Rattle.std.specs.Prelude.{ℕ, List, replicate}
 use Rattle.frame_core.specs.declared.flags.PageFlags.{PageFlags}
 
@@ -9,15 +9,15 @@ pub record Page : Type 0 where
   pub flags : PageFlags
   pub words : List ℕ
 
--- eight words that are 0
+-- the words of a page that nothing was stored to: eight zeros
 abbrev pub blank_words : List ℕ
 blank_words = replicate 8 0
 
--- a page that nothing was noted of and nothing was stored to
+-- a page with no flags, and all its words 0
 abbrev pub blank_page : ℕ → ℕ → Page
 blank_page zone number = record { zone = zone; number = number; flags = record { 0 = 0 }; words = blank_words }
 
--- a page on its way to another frame, under the serial that its zone gave it
+-- an isolated page, under the serial that its zone gave it
 pub record OnItsWay : Type 0 where
   pub serial : ℕ
   pub page : Page

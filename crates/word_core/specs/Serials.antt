@@ -1,10 +1,10 @@
--- The serials of pages on their way.
+-- The serials of isolated pages.
 use Rattle.std.specs.Prelude.{◌≡◌, ℕ, List, length, map}
 use Rattle.std.specs.List.{range_with_len}
 use Rattle.std.specs.List.Sorted.{IsStrictlyIncreasing}
 use Rattle.word_core.specs.Page.{OnItsWay}
 
--- the serials of the pages, in their order
+-- the serials of isolated pages, in the order of the pages
 abbrev pub serials_of : List OnItsWay → List ℕ
 serials_of pages = map (λ (p : OnItsWay). p.serial) pages
 

@@ -5,7 +5,7 @@ use crate::page::Page;
 use frame_core::{PageNo, Serial};
 use std::marker::Model;
 
-/// An isolated page that was copied: ready for its new frame.
+/// An isolated page that was copied and is ready for its new frame.
 #[derive(Drop, Debug)]
 pub struct Copied {
     pub(crate) page: Page,
@@ -20,7 +20,7 @@ impl Model for Copied {
     ghost view = { λ p. record { serial = p.serial; page = p.page } };
 }
 
-/// A blank copy, as it stands in the empty places of a list with fixed room.
+/// A blank copy. It fills the empty places of a list whose capacity is fixed.
 impl Default for Copied {
     fn default() -> Self {
         Isolated::default().copy_into_new()

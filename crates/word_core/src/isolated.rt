@@ -20,7 +20,7 @@ impl Model for Isolated {
     ghost view = { λ p. record { serial = p.serial; page = p.page } };
 }
 
-/// A blank page, as it stands in the empty places of a list with fixed room.
+/// A blank page. It fills the empty places of a list whose capacity is fixed.
 impl Default for Isolated {
     fn default() -> Self {
         Isolated::new(0, Page::default())
@@ -28,8 +28,8 @@ impl Default for Isolated {
 }
 
 impl Isolated {
-    /// A page under a serial. A zone takes it only where a page with its number is on its way there under this serial, and
-    /// else hands it back as a `Stranger`.
+    /// A page under a serial. A zone takes it only where it has isolated the page with this number under this serial. Else
+    /// it hands the page back as a `Stranger`.
     pub fn new(serial: Serial, page: Page) -> Self
         ensures serial { result.serial ≡ serial }
         ensures page { result.page ≡ page }

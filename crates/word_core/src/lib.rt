@@ -1,7 +1,7 @@
-//! The words of frames, and pages on their way.
+//! The words of frames, and isolated pages.
 //!
-//! Contracts see a page as a record of its zone, its number, its flags and its eight words, a page on its way as such a page
-//! under its serial, and the words of all frames as a list with a row of eight words for each frame.
+//! Contracts see a page as a record of its zone, its number, its flags and its eight words, an isolated page as such a
+//! page under its serial, and the words of all frames as a list with a row of eight words for each frame.
 #![tactic(auto)]
 
 mod copied;

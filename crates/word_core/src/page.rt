@@ -22,7 +22,7 @@ impl Model for Page {
     ghost invariant = { λ p. length p.words ≡ 8 };
 }
 
-/// A blank page, as it stands in the empty places of a list with fixed room.
+/// A blank page. It fills the empty places of a list whose capacity is fixed.
 impl Default for Page {
     fn default() -> Self {
         let Some(zone) = ZoneNo::new(0) else {
@@ -65,14 +65,14 @@ impl Page {
         self.number
     }
 
-    /// What is noted of it.
+    /// Its flags.
     pub fn flags(&self) -> PageFlags
         ensures { result ≡ self.now.flags }
     {
         self.flags
     }
 
-    /// Notes these flags in place of those that it has.
+    /// Gives it these flags in place of those that it has.
     pub fn set_flags(&mut self, flags: PageFlags)
         ensures { self.new ≡ record self.old { flags = flags } }
     {

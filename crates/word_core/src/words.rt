@@ -25,7 +25,7 @@ impl Model for Words {
 }
 
 impl Words {
-    /// Takes the memory for so many frames. No other call takes any.
+    /// Takes the memory for the words of this many frames, or answers an error where there isn't enough. No other call takes any.
     pub fn open(alloc: Global, frames: u32) -> Result<Self, AllocError>
         ensures blank { IfOk result (λ rows. rows ≡ replicate frames blank_words) }
         ensures frames { IfOk result (λ rows. length rows ≡ frames) }
@@ -34,7 +34,7 @@ impl Words {
         Ok(Words { rows })
     }
 
-    /// The value of a word of a frame. The frame has to be one of those that there are, here and in each call below.
+    /// The value of a word of a frame. The frame has to be one of those that the memory was taken for, here and in each call below.
     pub fn load(&self, frame: FrameNo, word: WordNo) -> u64
         requires { frame < length self.now }
         ensures value { result ≡ word_of self.now frame word }
@@ -53,7 +53,7 @@ impl Words {
         self.rows[frame.get() as usize][word.get() as usize] = value;
     }
 
-    /// All words of the frame become 0.
+    /// Sets all words of the frame to 0.
     pub fn blank(&mut self, frame: FrameNo)
         requires { frame < length self.old }
         ensures blank { self.new ≡ with_words self.old frame blank_words }
@@ -62,7 +62,7 @@ impl Words {
         self.rows[frame.get() as usize] = [0; 8];
     }
 
-    /// The page in a frame, as it is carried.
+    /// The page in a frame: its words with this zone, number and flags.
     #[inline(always)]
     pub fn read_out(&self, frame: FrameNo, zone: ZoneNo, number: PageNo, flags: PageFlags) -> Page
         requires { frame < length self.now }
@@ -79,7 +79,7 @@ impl Words {
         let row = self.row(frame);
         let words = page.words();
         let mut same = true;
-        // Without an early end all eight are compared at once.
+        // With no early return, all eight words are compared at once.
         for word in 0..8 {
             same &= row[word] == words[word];
         }

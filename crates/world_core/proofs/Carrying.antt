@@ -1,4 +1,4 @@
--- What a world carries stays its own where its zone changes.
+-- What a world carries stays its own when its zone changes.
 use Rattle.std.proofs.Common.{◌≡◌, ◌≢◌, ℕ, zero, suc, ◌*◌, ◌<◌, Bool, true, false, not, List, [], ◌∷◌, ◌++◌, length, ◌⊎◌, inl, inr, refl, sym, ap, subst, ◌∙◌, arith}
 use Rattle.std.specs.Prelude.{Option, Some, None, IsSome, Result, Ok, Err, IfOk, OnOk, OnErr, map as each, replicate, slice_get, slice_set, unwrap_or, nat_eq, nat_lt, is_some, if◌then◌else◌}
 use Rattle.std.specs.FinMap as map
@@ -59,7 +59,7 @@ set_twice [] i x y = refl
 set_twice (h ∷ held) zero x y = refl
 set_twice (h ∷ held) (suc i) x y = ap (λ (t : List Held). h ∷ t) (set_twice held i x y)
 
--- what a hand shows is what it holds
+-- what contracts see of a hand is what the hand holds
 pub seen_at : (held : List Held) (i : ℕ) → unwrap_or (slice_get (each hand_as held) i) hand.Empty ≡ hand_as (unwrap_or (slice_get held i) Nothing)
 seen_at [] i = refl
 seen_at (h ∷ held) zero = refl
@@ -68,7 +68,7 @@ seen_at (h ∷ held) (suc i) = seen_at held i
 pub seen_some : (held : List Held) (i : ℕ) (h : Held) → slice_get held i ≡ Some h → unwrap_or (slice_get (each hand_as held) i) hand.Empty ≡ hand_as h
 seen_some held i h e = seen_at held i ∙ ap (λ (o : Option Held). hand_as (unwrap_or o Nothing)) e
 
--- after a hand holds x, each hand holds x or is another, with what it held
+-- after place i got x, each place has x or what it had
 pub held_after : (held : List Held) (i j : ℕ) (x y : Held) → slice_get (slice_set held i x) j ≡ Some y → ((j ≡ i) × (x ≡ y)) ⊎ ((j ≢ i) × (slice_get held j ≡ Some y))
 held_after held i j x y e = elim (eqb_tells j i) [
   | inl same ↦ (
@@ -131,7 +131,7 @@ waits_at [] i p e = cc
 waits_at (q ∷ list) zero p e = let same : q ≡ p = cc in or_left (nat_eq p.serial q.serial) _ (eq-eqb p.serial q.serial (ap (λ x. x.serial) (sym same)))
 waits_at (q ∷ list) (suc i) p e = or_right (nat_eq p.serial q.serial) _ (waits_at list i p e)
 
--- Another zone
+-- What a world carries when its zone changes.
 module _ (zone next : ZoneState) (scan : ScanSeat) (ends : EndSeat) (is_open : Bool) (list : List OnItsWay) (held : List Held) (capacity : ℕ) (was : IsCarried zone scan ends is_open list held capacity) where
   pub carried_with : (seat : ScanSeat) (opened : Bool) → IsOrderly (world_of next seat ends opened list held) → ((p : OnItsWay) → IsOwnCopy zone p → IsOwnCopy next p) → next.blocks ≡ zone.blocks → IsCarried next seat ends opened list held capacity
   carried_with seat opened orderly own blocks = record {
@@ -147,7 +147,7 @@ pub carried_noted : (zone : ZoneState) (scan : ScanSeat) (ends : EndSeat) (is_op
 carried_noted zone scan ends is_open list held capacity was seat =
     carried_with zone zone scan ends is_open list held capacity was seat is_open (orderly_noted (world_of zone scan ends is_open list held) seat was.orderly) (λ p own. own) refl
 
--- A round opens, and a page goes on its way
+-- A round opens, and a page is isolated.
 pub carried_opened : (zone : ZoneState) (scan : ScanSeat) (ends : EndSeat) (is_open : Bool) (list : List OnItsWay) (held : List Held) (capacity : ℕ) → IsCarried zone scan ends is_open list held capacity → is_open ≡ false → IsCarried (round_begun zone) (seat_begun scan) ends true list held capacity
 carried_opened zone scan ends is_open list held capacity was closed =
     carried_with zone (round_begun zone) scan ends is_open list held capacity was (seat_begun scan) true orderly (own_begun zone) refl where
@@ -165,7 +165,7 @@ one_more [] p (suc i) q e = cc
 one_more (x ∷ list) p zero q e = inl e
 one_more (x ∷ list) p (suc i) q e = one_more list p i q e
 
--- what a call of `isolate_next` says of the page that it gives
+-- what `isolate_next` says of the page that it answers
 pub record IsTaken (zone next : ZoneState) (p : OnItsWay) : Type 0 where
   pub pair : Pair
   pub is : next_pair zone ≡ Some pair
@@ -223,12 +223,12 @@ module _ (zone next : ZoneState) (scan : ScanSeat) (ends : EndSeat) (is_open : B
     room = was.room ∙ ap (λ n. 256 * n) (sym blocks_then);
   }
 
-  -- the list has a place for it
+  -- the list has a place for one more page
   pub place_left : length list < capacity
   place_left =
       omega (arith, was.room, was.orderly.few.0, was.orderly.few.1, length-map list (λ (q : OnItsWay). q.serial), scans.pair.from.low, scans.pair.to.low, scans.pair.to.high)
 
--- Calls of the zone that touch no page on its way
+-- Calls of the zone that leave moving pages as they are.
 room_then : (b : Bool) (o : Option ZoneError) → (if not b then Some JournalFull else o) ≡ None → (b ≡ true) × (o ≡ None)
 room_then true o e = (refl, e)
 room_then false o e = cc
@@ -249,7 +249,7 @@ place_then true true true d e = cc
 place_then true true false false e = cc
 place_then true true false true e = (refl, refl)
 
--- what a call leaves of the pages on their way and of the fingers
+-- a call leaves the moving pages and the fingers as they are
 pub record LeavesMoves (zone after : ZoneState) : Type 0 where
   pub same_out : out after.records ≡ out zone.records
   pub migrate : after.migrate ≡ zone.migrate
@@ -351,7 +351,7 @@ module _ (zone next : ZoneState) (scan : ScanSeat) (ends : EndSeat) (is_open : B
   leaves : (after : ZoneState) → next ≡ after → IsLawful next → LeavesMoves zone after → IsCarried next scan ends is_open list held capacity
   leaves after is law l = changed after is (subst IsLawful is law) l.same_out l.migrate l.free l.blocks l.own
 
-  -- a call without an answer, and one with an answer
+  -- a call whose answer says nothing more, and a call with an answer
   pub carried_done : {T : Type 0} (result : Result T ZoneError) (after : ZoneState) → IsLawful next → OnErr result (next ≡ zone) → OnOk result (next ≡ after) → LeavesMoves zone after → IsCarried next scan ends is_open list held capacity
   carried_done (Err error) after law err ok l = unchanged err
   carried_done (Ok done) after law err ok l = leaves after ok law l

@@ -58,7 +58,7 @@ module _ (zone : ZoneState) (scan : ScanSeat) (ends : EndSeat) (law : IsLawful z
     room = room;
   }
 
--- in a closed round nothing waits
+-- no page waits where no round is open
 no_list : (list : List OnItsWay) → ((serial : ℕ) → list_any (nat_eq serial) (serials_of list) ≡ false) → list ≡ []
 no_list [] none = refl
 no_list (p ∷ list) none =
@@ -120,7 +120,7 @@ pub not_shut : (zone : ZoneState) (scan : ScanSeat) (ends : EndSeat) (is_open : 
 not_shut zone scan ends is_open list held full =
     skipped (list_all is_empty (each hand_as held)) (Some (length (serials_of list), shut (world_of zone scan ends is_open list held))) None (empty_seen held ∙ full)
 
--- the list of a world is short
+-- the list of a world has at most 4,096 pages
 pub short_list : (zone : ZoneState) (scan : ScanSeat) (ends : EndSeat) (is_open : Bool) (list : List OnItsWay) (held : List Held) (capacity : ℕ) → IsCarried zone scan ends is_open list held capacity → length list ≤ 4096
 short_list zone scan ends is_open list held capacity was =
     omega (arith, was.orderly.few.1, was.orderly.lawful.size.1, length-map list (λ (p : OnItsWay). p.serial))
@@ -170,7 +170,7 @@ audit_left zone scan ends is_open list held capacity was closed =
     ap (λ (n : ℕ). if not (nat_eq n 64) then Some Missing else if nat_lt 0 (length (out zone.records)) then Some Out else None) was.orderly.whole
     ∙ ap (λ (serials : List ℕ). if nat_lt 0 (length serials) then Some Out else None) (none_out zone.records (was.orderly.closed closed))
 
--- where no round is open nothing waits
+-- where no round is open no page waits
 pub rest_left : (zone : ZoneState) (scan : ScanSeat) (ends : EndSeat) (is_open : Bool) (list : List OnItsWay) (held : List Held) (capacity : ℕ) → IsCarried zone scan ends is_open list held capacity → is_open ≡ false → IsRest list capacity
 rest_left zone scan ends is_open list held capacity was closed = record {
   none = closed_waits zone scan ends is_open list held was.orderly closed;

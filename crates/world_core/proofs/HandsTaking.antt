@@ -28,7 +28,7 @@ module _ (w : WorldState) (k first : ℕ) (more : List ℕ) (low : 0 < k) (high 
   more_waits : (s : ℕ) → list_any (nat_eq s) more ≡ true → waits w s ≡ true
   more_waits s e = waits_is s ∙ or_right (nat_eq s first) _ e
 
-  -- a hand that has a page now had it, or it is hand k
+  -- a hand that has a page afterwards had it, or is hand k
   has_now : (j s : ℕ) → 0 < j → serial_in (held hands_then j) ≡ Some s → ((j ≡ k) × (s ≡ first)) ⊎ ((j ≢ k) × (serial_in (hand_of w j) ≡ Some s))
   has_now j s some e = elim (set_cases w.hands j k (Page first) o.four some low high) [
     | inl here ↦ inl (here.0, (let both : Some s ≡ Some first = sym e ∙ ap serial_in here.1 in cc))
@@ -44,7 +44,7 @@ module _ (w : WorldState) (k first : ℕ) (more : List ℕ) (low : 0 < k) (high 
   has_first : serial_in (held hands_then k) ≡ Some first
   has_first = elim (set_cases w.hands k k (Page first) o.four low low high) [ inl here ↦ ap serial_in here.1 | inr there ↦ absurd (there.0 refl) ]
 
-  -- what waits as the first is in no hand
+  -- the page that waits first is in no hand
   first_in_none : (j : ℕ) → 0 < j → serial_in (hand_of w j) ≡ Some first → ⊥
   first_in_none j some e = both_ways _ (o.one_place j first some e) first_waits
 

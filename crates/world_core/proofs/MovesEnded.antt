@@ -1,4 +1,4 @@
--- Moves that end keep a world orderly.
+-- Ends of moves keep a world orderly.
 use Rattle.std.proofs.Common.{◌≡◌, ◌≢◌, ℕ, ◌-◌, ◌<◌, ◌≤◌, Bool, true, false, not, List, [], ◌∷◌, length, inl, inr, refl, sym, ap, subst, ◌∙◌, arith}
 use Rattle.std.specs.Prelude.{Option, Some, None, slice_set, unwrap_or, nat_eq, ◌||◌, ◌&&◌, if◌then◌else◌}
 use Rattle.std.specs.FinMap as map
@@ -29,7 +29,7 @@ use Rattle.state_core.specs.ZoneState.{ZoneState, frame_count}
 use Rattle.state_core.proofs.Settled.{lawful_moved, lawful_put_back}
 use Rattle.world_core.proofs.Standing.{held, holds, holds_at, Stands, stands, stands_so, set_cases, stands_out, waits_out, in_hand_out}
 
--- a serial that is out has the page that it was isolated with
+-- a serial that is out has the page that was isolated under it
 out_page : (records : List Record) (s : ℕ) → is_out records s ≡ true → (page : ℕ) × (page_of records s ≡ Some page)
 out_page [] s e = cc
 out_page (Isolate serial page ∷ older) s e = elim (eqb_tells serial s) [
@@ -43,7 +43,7 @@ out_page (Moved serial ∷ older) s e = out_page older s (and_parts (is_out olde
 out_page (Back serial cause ∷ older) s e = out_page older s (and_parts (is_out older s) _ (sym (any_without serial s (out older)) ∙ e)).0
 out_page (_ ∷ older) s e = out_page older s e
 
--- a page that is placed under a serial is on its way
+-- a page whose placement has a serial is moving
 moving_under : (o : Option Placement) (serial : ℕ) → is_under o serial ≡ true → (source target : ℕ) × (o ≡ Some (Moving serial source target))
 moving_under None serial e = cc
 moving_under (Some (At frame)) serial e = cc
@@ -52,7 +52,7 @@ moving_under (Some (Moving s source target)) serial e = (source, target, ap (λ 
 abbrev pub page_under : ZoneState → ℕ → ℕ
 page_under z serial = unwrap_or (page_of z.records serial) 0
 
--- the page of a serial that is out is on its way under it
+-- the page of a serial that is out is moving under it
 pub on_its_way : (z : ZoneState) → IsLawful z → (serial : ℕ) → is_out z.records serial ≡ true → (source target : ℕ) × (map.get z.placement (page_under z serial) ≡ Some (Moving serial source target))
 on_its_way z law serial e =
     let page = out_page z.records serial e in
@@ -60,7 +60,7 @@ on_its_way z law serial e =
     let way = moving_under (map.get z.placement page.0) serial ((law.under_way page.0 serial).1 (e, page.1)) in
     (way.0, way.1, ap (map.get z.placement) named ∙ way.2)
 
--- a zone in which the move of a serial ended
+-- a zone in which the move of one serial ended
 record IsEnded (old new : ZoneState) (serial : ℕ) : Type 0 where
   lawful : IsLawful new
   gone : (s : ℕ) → is_out new.records s ≡ (is_out old.records s && not (nat_eq s serial))
@@ -104,7 +104,7 @@ module _ (w : WorldState) (k serial : ℕ) (low : 0 < k) (high : k ≤ 4) (o : I
   has_copy : serial_in (hand_of w k) ≡ Some serial
   has_copy = copy_serial serial (hand_of w k) copy
 
-  -- another hand has what it had
+  -- each other hand has what it had
   has_left : (j s : ℕ) → 0 < j → serial_in (held hands_left j) ≡ Some s → (j ≢ k) × (serial_in (hand_of w j) ≡ Some s)
   has_left j s some e = elim (set_cases w.hands j k Empty o.four some low high) [
     | inl here ↦ (let bad : None ≡ Some s = sym (ap serial_in here.1) ∙ e in cc)
@@ -170,7 +170,7 @@ orderly_finished w k finished after low high o e = by_copy (copy_in (hand_of w k
       (orderly_with_end w k serial low high o is (finished_in w.zone serial) (finished_ended w.zone o.lawful serial out_now)
       (seat_ended w.ends (finished_as w.zone serial).ended) (parts_ended w.ends (finished_as w.zone serial).ended ∙ o.whole))
 
--- a zone in which the moves of serials ended
+-- a zone in which the moves of some serials ended
 record AreEnded (old new : ZoneState) (serials : List ℕ) : Type 0 where
   lawful : IsLawful new
   gone : (s : ℕ) → is_out new.records s ≡ true → (is_out old.records s ≡ true) × (list_any (nat_eq s) serials ≡ false)

@@ -87,7 +87,7 @@ orderly_round_opened w o = by_open w.is_open refl where
       subst (λ (b : Bool). IsOrderly (record w { zone = if b then w.zone else round_begun w.zone; scan = if b then w.scan else seat_begun w.scan; is_open = true })) (sym e)
       (begun e (seat_begun w.scan))
 
--- one more that waits
+-- a serial that waits after one more was appended waited before, or is that one
 waited : (waiting : List ℕ) (n s : ℕ) → list_any (nat_eq s) (waiting ++ n ∷ []) ≡ true → (list_any (nat_eq s) waiting ≡ true) ⊎ (s ≡ n)
 waited [] n s e = elim (or_cases (nat_eq s n) false e) [ inl here ↦ inr (eqb-true s n here) | inr bad ↦ cc ]
 waited (x ∷ waiting) n s e = elim (or_cases (nat_eq s x) _ e) [

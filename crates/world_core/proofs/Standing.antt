@@ -1,4 +1,4 @@
--- Where a page on its way stands in a world: it waits, or a hand has it.
+-- Where a moving page is in a world: it waits, or a hand has it.
 use Rattle.std.proofs.Common.{◌≡◌, ◌≢◌, ℕ, zero, suc, ◌+◌, ◌-◌, ◌<◌, ◌≤◌, Bool, true, List, [], ◌∷◌, length, ◌⊎◌, inl, inr, refl, sym, ap, ◌∙◌, arith}
 use Rattle.std.specs.Prelude.{Option, Some, None, slice_get, slice_set, unwrap_or, nat_eq, ◌||◌}
 use Rattle.std.specs.List.{list_any}
@@ -54,7 +54,7 @@ pub stands_so : (waiting : List ℕ) (hands : List Hand) (s : ℕ) → Stands wa
 stands_so waiting hands s (inl waits) = or_left (list_any (nat_eq s) waiting) _ waits
 stands_so waiting hands s (inr there) = or_right (list_any (nat_eq s) waiting) _ (holds_at hands (there.0 - 1) s there.2)
 
--- what the hands hold when one is set
+-- what each hand holds after one was given something
 pub set_cases : (hands : List Hand) (j k : ℕ) (hand : Hand) → length hands ≡ 4 → 0 < j → 0 < k → k ≤ 4 → ((j ≡ k) × (held (slice_set hands (k - 1) hand) j ≡ hand)) ⊎ ((j ≢ k) × (held (slice_set hands (k - 1) hand) j ≡ held hands j))
 set_cases hands j k hand four some low high = elim (eqb_tells j k) [
   | inl same ↦ inl (
@@ -73,7 +73,7 @@ set_cases hands j k hand four some low high = elim (eqb_tells j k) [
       ))
 ]
 
--- what stands in an orderly world is out, and what is out stands there
+-- a serial waits or is in a hand, in an orderly world, exactly where it is out
 pub stands_out : (w : WorldState) → IsOrderly w → (s : ℕ) → is_out w.zone.records s ≡ true → Stands w.waiting w.hands s
 stands_out w o s e = stands w.waiting w.hands s ((o.out s).0 e)
 

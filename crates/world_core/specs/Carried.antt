@@ -11,18 +11,18 @@ use Rattle.zone_core.specs.Seats.{ScanSeat, EndSeat}
 use Rattle.world_core.specs.World.{WorldState, IsOrderly}
 use Rattle.state_core.specs.ZoneState.{ZoneState}
 
--- what is told of a hand
+-- what contracts see of what a hand holds: the serial in place of the page
 abbrev pub hand_as : Held → Hand
 hand_as Nothing = hand.Empty
 hand_as (Page p) = hand.Page p.serial
 hand_as (Copy p) = hand.Copy p.serial
 
--- the page that a hand holds
+-- the page that a hand holds, if it holds one
 abbrev pub page_held : Held → Option OnItsWay
 page_held (Page p) = Some p
 page_held _ = None
 
--- the copy that it holds
+-- the copy that a hand holds, if it holds one
 abbrev pub copy_held : Held → Option OnItsWay
 copy_held (Copy p) = Some p
 copy_held _ = None
@@ -36,17 +36,17 @@ is_nothing _ = false
 abbrev pub held_at : List Held → ℕ → Held
 held_at hands k = unwrap_or (slice_get hands (k - 1)) Nothing
 
--- each of these pages, or copies of pages, is one of the zone on its way
+-- each of these pages, or copies of pages, is moving in the zone and has the page's words
 abbrev pub AreOwn : ZoneState → List OnItsWay → Type 0
 AreOwn zone list = (i : ℕ) (p : OnItsWay) → slice_get list i ≡ Some p → IsOwnCopy zone p
 
--- the state that contracts see
+-- the state of a world that contracts see, read off its parts
 abbrev pub world_of : ZoneState → ScanSeat → EndSeat → Bool → List OnItsWay → List Held → WorldState
 world_of zone scan ends is_open list held =
     record { zone = zone; scan = scan; ends = ends; is_open = is_open; waiting = serials_of list; hands = each hand_as held }
 
--- what a world carries is of its zone, and its list has just the room for the pages that a round can isolate: half of the 512 frames of
--- each pageblock, since each page on its way takes two
+-- what a world carries is of its zone, and its list has exactly the room for the pages that a round can isolate: half of the 512 frames
+-- of each pageblock, since each moving page takes two
 pub record IsCarried (zone : ZoneState) (scan : ScanSeat) (ends : EndSeat) (is_open : Bool) (list : List OnItsWay) (held : List Held) (capacity : ℕ) : Type 0 where
   pub orderly : IsOrderly (world_of zone scan ends is_open list held)
   pub waiting : AreOwn zone list
@@ -54,7 +54,7 @@ pub record IsCarried (zone : ZoneState) (scan : ScanSeat) (ends : EndSeat) (is_o
   pub copies : (i : ℕ) (p : OnItsWay) → slice_get held i ≡ Some (Copy p) → IsOwnCopy zone p
   pub room : capacity ≡ 256 * zone.blocks
 
--- an empty list with just the room for the pages that a round of a zone of up to 8 pageblocks can isolate
+-- an empty list with exactly the room for the pages that a round can isolate in a zone of up to 8 pageblocks
 pub record IsRest (list : List OnItsWay) (capacity : ℕ) : Type 0 where
   pub none : list ≡ []
   pub room : capacity ≡ 256 * (capacity / 256)

@@ -1,4 +1,4 @@
-//! The ends of moves, with the end seat of a world.
+//! Ends of moves that a world's end seat counts.
 
 ghost use Rattle.std.specs.Prelude.{◌≡◌, ◌+◌, ◌≤◌, [], ◌∷◌, length, Some};
 ghost use Rattle.std.specs.VecDeque.{deque_capacity};
@@ -16,7 +16,7 @@ use std::sync::ledger::Ledger;
 use word_core::{Copied, Isolated};
 use zone_core::{EndSeat, Zone};
 
-/// Ends the move of a page of the zone with its copy.
+/// Ends the move of a page of the zone with the page's copy.
 pub(crate) fn finish_in<I: Ledger, M: Ledger, B: Ledger>(
     zone: &mut Zone<I, M, B>,
     ends: &mut EndSeat<M, B>,
@@ -35,7 +35,7 @@ pub(crate) fn finish_in<I: Ledger, M: Ledger, B: Ledger>(
     Finished { serial, ended }
 }
 
-/// Ends the move of a page of the zone that no copier reached.
+/// Ends the move of a page of the zone that wasn't copied.
 fn put_back_in<I: Ledger, M: Ledger, B: Ledger>(
     zone: &mut Zone<I, M, B>,
     ends: &mut EndSeat<M, B>,
@@ -53,7 +53,7 @@ fn put_back_in<I: Ledger, M: Ledger, B: Ledger>(
     };
 }
 
-/// Ends the moves of pages of the zone that no copier reached, in order, and tells how many there are.
+/// Ends the moves of pages of the zone that weren't copied, in order, and answers how many there are.
 pub(crate) fn put_all_back_in<I: Ledger, M: Ledger, B: Ledger>(
     zone: &mut Zone<I, M, B>,
     ends: &mut EndSeat<M, B>,

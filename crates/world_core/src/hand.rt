@@ -7,20 +7,20 @@ pub enum Hand {
     Empty,
     /// The page that was isolated under this serial.
     Page(Serial),
-    /// The copy of that page.
+    /// The copy of the page that was isolated under this serial.
     Copy(Serial),
 }
 
 /// What a scan found.
 #[derive(Clone, Copy, Debug, PartialEq, Eq)]
 pub enum Scanned {
-    /// A page, which is on its way under this serial.
+    /// A page, which is isolated under this serial.
     Serial(Serial),
-    /// There is no page left that has a frame to go to.
+    /// The scanners met: no page may be taken that has a frame to go to.
     Met,
 }
 
-/// The end of a move.
+/// How the move of a page ended.
 #[derive(Clone, Copy, Debug, PartialEq, Eq)]
 pub struct Finished {
     pub serial: Serial,

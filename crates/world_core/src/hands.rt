@@ -17,7 +17,7 @@ pub enum Held {
     Copy(Copied),
 }
 
-/// The hands, numbered from 1 to 4.
+/// The four hands, numbered from 1 to 4.
 #[derive(Drop)]
 pub struct Hands {
     pub(crate) held: [Held; 4],

@@ -1,4 +1,4 @@
-//! A world: a zone with its seats, the pages of it that are on their way, and four hands that carry them.
+//! A world: a zone with its seats, its isolated pages, and four hands that carry these.
 //!
 //! Contracts see a world as the record of `specs/World.antt`. What each call does to the zone is said by the definitions of
 //! `state_core`, as for the zone itself.

@@ -1,4 +1,4 @@
-//! What is left of a world whose zone and seats are taken out.
+//! What is left of a world after its zone and its seats were taken out.
 
 ghost use Rattle.std.specs.Prelude.{◌≡◌};
 
@@ -6,8 +6,8 @@ use std::collections::VecDeque;
 use std::marker::Model;
 use word_core::Isolated;
 
-/// What a world has besides its zone and its seats, while nothing of the zone is on its way: the memory of its list. It fits
-/// zones with as many pageblocks.
+/// What a world has besides its zone and its seats while no page is moving: the memory of its list. It fits zones with a
+/// certain number of pageblocks.
 #[derive(Drop)]
 pub struct Rest {
     pub(crate) waiting: VecDeque<Isolated>,
@@ -27,7 +27,7 @@ impl Model for Rest {
 }
 
 impl Rest {
-    /// How many pageblocks the zones have that it fits.
+    /// The number of pageblocks of the zones that it fits.
     pub fn blocks(&self) -> u32
         ensures { result ≡ self.now }
     {

@@ -1,4 +1,4 @@
-//! A zone with its seats, the pages of it that are on their way, and four hands.
+//! A zone with its seats, its isolated pages, and four hands.
 
 ghost use Rattle.std.specs.Prelude.{◌≡◌, ◌<◌, ◌≤◌, ◌↔◌, ℕ, IsTrue, true, Some, None, Err, IfOk, IfErr, OnOk, OnErr, IsErr};
 ghost use Rattle.std.specs.Int.RustNames.{bit_and};
@@ -41,7 +41,7 @@ pub enum WorldError {
 }
 
 impl WorldError {
-    /// The number by which a script knows it: that of the zone's refusal, or 45.
+    /// The number that a script prints for it: that of the zone's refusal, or 45 for a hand.
     pub fn number(&self) -> u16
         ensures { result ≡ world_number_of self.now }
     {
@@ -52,8 +52,8 @@ impl WorldError {
     }
 }
 
-/// A zone with its seats, the pages of it that are on their way, and four hands. Each hand is empty, or has a page or its
-/// copy. After `open` no call takes memory.
+/// A zone with its seats, its isolated pages, and four hands. Each hand is empty, or has a page or its copy. After `open`
+/// no call takes memory.
 #[derive(Drop)]
 pub struct World<I: Ledger, N: Ledger, M: Ledger, B: Ledger> {
     zone: Zone<I, M, B>,
@@ -82,9 +82,9 @@ impl<I: Ledger, N: Ledger, M: Ledger, B: Ledger> Model for World<I, N, M, B> {
 }
 
 impl<I: Ledger, N: Ledger, M: Ledger, B: Ledger> World<I, N, M, B> {
-    /// A world with an empty zone. The blanks are those of the ledgers that the types name; a refusal drops them.
+    /// A world with an empty zone. The blanks are those of the ledgers that the types name. They are dropped where the call is refused.
     ///
-    /// Refused as Range where it isn't 1 to 8 pageblocks and 1 to 65,536 places, else as Memory where there is none.
+    /// Refused as Range unless there are 1 to 8 pageblocks and 1 to 65,536 places, else as Memory where there isn't enough.
     pub fn open(
         alloc: Global,
         number: ZoneNo,
@@ -112,11 +112,11 @@ impl<I: Ledger, N: Ledger, M: Ledger, B: Ledger> World<I, N, M, B> {
         })
     }
 
-    /// Its zone.
+    /// The zone of the world.
     pub fn zone(&self) -> &Zone<I, M, B>
         ensures zone { result.now ≡ self.now.zone }
-        // Whatever calls were made, in any order: the pages that wait and those in hands are just those on their way, each
-        // once, and those that wait do so in the order of their serials.
+        // Whatever calls were made, in any order: the pages that wait and those in hands are exactly the moving ones, each
+        // once, and those that wait are in the order of their serials.
         ensures orderly { IsOrderly self.now }
         ensures least { (hand serial : ℕ) (after : WorldState) → 0 < hand → hand ≤ 4 → take_step self.now hand ≡ Some (serial, after)
             → (waiting : ℕ) → IsTrue (waits self.now waiting) → serial ≤ waiting }
@@ -124,14 +124,14 @@ impl<I: Ledger, N: Ledger, M: Ledger, B: Ledger> World<I, N, M, B> {
         &self.zone
     }
 
-    /// Whether a round is open by hand.
+    /// Whether a hand round is open: from the first scan to the shut.
     pub fn is_open(&self) -> bool
         ensures { result ≡ self.now.is_open }
     {
         self.is_open
     }
 
-    /// Binds an address to a fresh page in the lowest free frame. Its condition and its refusals are those of `Zone::map`.
+    /// Makes an address name a fresh page in the lowest free frame. Its condition and its refusals are those of `Zone::map`.
     pub fn map(
         &mut self,
         client: ClientNo,
@@ -148,8 +148,7 @@ impl<I: Ledger, N: Ledger, M: Ledger, B: Ledger> World<I, N, M, B> {
         self.zone.map(client, address, flags)
     }
 
-    /// Binds an address to a fresh page in the frame that is given. Its condition and its refusals are those of
-    /// `Zone::map_at`.
+    /// Makes an address name a fresh page in a given frame. Its condition and its refusals are those of `Zone::map_at`.
     pub fn map_at(
         &mut self,
         client: ClientNo,
@@ -198,10 +197,9 @@ impl<I: Ledger, N: Ledger, M: Ledger, B: Ledger> World<I, N, M, B> {
         self.zone.store(client, address, word, value)
     }
 
-    /// Takes the next page on its way, which waits behind the others. It opens a round where none is open, and the seat notes
-    /// its answer.
+    /// Isolates the next page, which then waits after the others. It opens a round where none is open, and the seat notes its answer.
     ///
-    /// Refused as JournalFull, as `Zone::isolate_next` is: the round is open then all the same, and the seat notes it.
+    /// Refused as JournalFull, as `Zone::isolate_next` is. The round is opened even then, and the seat notes the refusal.
     pub fn scan(&mut self) -> Result<Scanned, WorldError>
         ensures refused { OnErr result (scan_refusal self.old ≡ Some ZoneError.JournalFull) }
         ensures error { IfErr result (λ error. error ≡ WorldError.Zone ZoneError.JournalFull) }
@@ -227,7 +225,7 @@ impl<I: Ledger, N: Ledger, M: Ledger, B: Ledger> World<I, N, M, B> {
         self.is_open = true;
     }
 
-    /// Takes the next page of the open round on its way.
+    /// Isolates the next page of the open round.
     fn scan_next(&mut self) -> Result<Scanned, WorldError>
         requires open { self.old.is_open ≡ true }
         ensures refused { OnErr result (isolate_refusal self.old.zone ≡ Some ZoneError.JournalFull) }
@@ -249,7 +247,8 @@ impl<I: Ledger, N: Ledger, M: Ledger, B: Ledger> World<I, N, M, B> {
         }
     }
 
-    /// An empty hand takes the page that has waited longest. Refused as Hand where the hand isn't empty or no page waits.
+    /// An empty hand takes the page that has waited longest, and its serial is the answer. Refused as Hand where the hand
+    /// isn't empty or no page waits.
     pub fn take(&mut self, hand: HandNo) -> Result<Serial, WorldError>
         ensures refused { OnErr result (take_step self.old hand ≡ None) }
         ensures hand { IfErr result (λ error. error ≡ WorldError.Hand) }
@@ -269,7 +268,7 @@ impl<I: Ledger, N: Ledger, M: Ledger, B: Ledger> World<I, N, M, B> {
         Ok(serial)
     }
 
-    /// A hand with a page copies it, and has the copy in its place. Refused as Hand where it has no page.
+    /// A hand with a page copies it, and has the copy instead of the page. Refused as Hand where it has no page.
     pub fn copy(&mut self, hand: HandNo) -> Result<(), WorldError>
         ensures refused { OnErr result (copy_step self.old hand ≡ None) }
         ensures hand { IfErr result (λ error. error ≡ WorldError.Hand) }
@@ -284,8 +283,8 @@ impl<I: Ledger, N: Ledger, M: Ledger, B: Ledger> World<I, N, M, B> {
         Ok(())
     }
 
-    /// A hand with a copy brings it to the zone, which ends the move of its page. The hand is empty then. Refused as Hand
-    /// where it has no copy.
+    /// A hand with a copy brings it to the zone, which ends the move of the page. The hand is empty afterwards. Refused
+    /// as Hand where it has no copy.
     pub fn finish(&mut self, hand: HandNo) -> Result<Finished, WorldError>
         ensures refused { OnErr result (finish_step self.old hand ≡ None) }
         ensures hand { IfErr result (λ error. error ≡ WorldError.Hand) }
@@ -299,8 +298,8 @@ impl<I: Ledger, N: Ledger, M: Ledger, B: Ledger> World<I, N, M, B> {
         Ok(finish_in(&mut self.zone, &mut self.ends, copy))
     }
 
-    /// Closes the round: puts the pages that wait back, in order, and tells how many. Refused as Hand where a hand isn't
-    /// empty.
+    /// Closes the round: puts back the pages that wait, in order, and answers how many there are. Refused as Hand where
+    /// some hand isn't empty.
     pub fn shut(&mut self) -> Result<u32, WorldError>
         ensures refused { OnErr result (shut_step self.old ≡ None) }
         ensures hand { IfErr result (λ error. error ≡ WorldError.Hand) }
@@ -316,8 +315,8 @@ impl<I: Ledger, N: Ledger, M: Ledger, B: Ledger> World<I, N, M, B> {
         Ok(count)
     }
 
-    /// Takes the world apart: its zone, its seats and its rest. While a round is open by hand it is refused, and the world
-    /// comes back as it was.
+    /// Takes the world apart into its zone, its seats and its rest. While a hand round is open this is refused, and the
+    /// world is handed back unchanged.
     pub fn split(self) -> Result<(Zone<I, M, B>, Seats<I, N, M, B>, Rest), World<I, N, M, B>>
         ensures refused { IsErr result ↔ (self.is_open ≡ true) }
         ensures err { IfErr result (λ world. world ≡ self) }
@@ -341,8 +340,8 @@ impl<I: Ledger, N: Ledger, M: Ledger, B: Ledger> World<I, N, M, B> {
         Ok((zone, Seats { scan, ends }, Rest { waiting }))
     }
 
-    /// A world again, of a zone with its seats. An audit of them has to be Ok, so no page is on its way, and the rest has to
-    /// fit as many pageblocks as the zone has.
+    /// Makes a world of a zone with its seats. An audit of these has to be Ok, so no page is moving, and the rest has to fit
+    /// the number of pageblocks that the zone has.
     pub fn join(zone: Zone<I, M, B>, seats: Seats<I, N, M, B>, rest: Rest) -> World<I, N, M, B>
         requires whole { audit_refusal zone seats.ends ≡ None }
         requires rest { rest ≡ zone.blocks }

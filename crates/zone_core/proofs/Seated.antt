@@ -1,4 +1,4 @@
--- What public calls say of pages, books and seats.
+-- What the clauses of public calls say of pages, books and seats.
 use Rattle.std.proofs.Common.{◌≡◌, ℕ, ◌+◌, Bool, true, false, ◌≤◌, [], length, refl, sym, ap, subst, ◌∙◌, arith}
 use Rattle.std.specs.Prelude.{Option, Some, None, IsSome, IfSome, Result, Ok, Err, IsOk, IfOk, OnOk, ◌↔◌, ◌&&◌, nat_eq}
 use Rattle.std.specs.FinMap as map
@@ -28,11 +28,11 @@ neither : (a b : Bool) → b ≡ false → (a && b) ≡ false
 neither true b e = e
 neither false b e = refl
 
--- a page whose move has ended is on its way no more
+-- a page whose move has ended isn't moving any more
 pub ended_once : (v : ZoneState) (entry : Record) (page frame : ℕ) (p : OnItsWay) → p.page.number ≡ page → is_own (relocated v entry page (At frame)) p ≡ false
 ended_once v entry page frame p e = neither (nat_eq p.page.zone v.number) _ (ap (λ (o : Option Placement). is_under o p.serial) (get_insert_same v.placement page p.page.number (At frame) e))
 
--- the end of a move, in the words of the public call
+-- the end of a move, as the public call says it
 pub ended_in : (z v new : ZoneState) (p : OnItsWay) (page serial source target : ℕ) (kept left : ℕ → ℕ → ℕ) → z ≡ v → p.page.number ≡ page → p.serial ≡ serial → map.get z.placement page ≡ Some (Moving serial source target) → IsSettled z new page (kept source target) (left source target) → IsEnded v new p.page.number p.serial kept left
 ended_in z v new p page serial source target kept left view number under way settled =
     subst (λ (u : ZoneState). IsEnded u new p.page.number p.serial kept left) view
@@ -40,7 +40,7 @@ ended_in z v new p page serial source target kept left view number under way set
     (subst (λ (s : ℕ). IsEnded z new page s kept left) (sym under)
     (record { source = source; target = target; way = way; settled = settled })))
 
--- the counts of a zone and its seats, where they agree
+-- the counts of a zone and of its seats, where these agree
 pub audited : (z v : ZoneState) (scan : ScanSeat) (ends : EndSeat) (i m b : ℕ) (o : Option Audit) → z ≡ v → IsLawful z → AreBooks i m b z → scan.count ≡ i → ends.moved ≡ m → ends.back ≡ b → IsSome o ↔ (length (out z.records) ≡ 0) → IfSome o (λ a. a.isolated ≡ isolated z.records) → IfSome o (λ a. a.moved ≡ moved z.records) → IfSome o (λ a. a.back ≡ put_back z.records) → IfSome o (λ a. a.moved + a.back ≡ a.isolated) → IfSome o (λ a. IsAudited v scan ends a)
 audited z v scan ends i m b None view law books s t u none isolated_is moved_is back_is sum = tt
 audited z v scan ends i m b (Some a) view law books s t u none isolated_is moved_is back_is sum =
@@ -61,12 +61,12 @@ pub ok_if_some : (P : Audit → Type 0) (o : Option Audit) (error : ZoneError) �
 ok_if_some P None error h = tt
 ok_if_some P (Some a) error h = h
 
--- an audit finds a quiet zone packed where the scanners met
+-- an audit finds a quiet zone packed where the scanners have met
 pub ok_packed : (z : ZoneState) (scan : ScanSeat) (ends : EndSeat) (r : Result Audit ZoneError) → IsLawful z → IfOk r (λ audit. IsAudited z scan ends audit) → OnOk r (is_quiet z ≡ true → HaveMet z → IsPacked z)
 ok_packed z scan ends (Ok audit) law audited = λ quiet. packed_quiet z law quiet (ap length audited.none_out)
 ok_packed z scan ends (Err error) law audited = tt
 
--- a whole seat passes an audit just where its counts make up that of the scan seat
+-- a whole end seat passes an audit exactly where its counts add up to that of the scan seat
 pub passes_exactly : (z : ZoneState) (scan : ScanSeat) (ends : EndSeat) (i m b : ℕ) (o : Option Audit) (r : Result Audit ZoneError) (error : ZoneError) → IsLawful z → AreBooks i m b z → scan.count ≡ i → ends.moved ≡ m → ends.back ≡ b → IsSome o ↔ (length (out z.records) ≡ 0) → r ≡ ok_or o error → IsOk r ↔ (ends.moved + ends.back ≡ scan.count)
 passes_exactly z scan ends i m b o r error law books s t u none is =
     subst (λ (x : Result Audit ZoneError). IsOk x ↔ (ends.moved + ends.back ≡ scan.count)) (sym is) (by_audit o none) where
@@ -77,11 +77,11 @@ passes_exactly z scan ends i m b o r error law books s t u none is =
       by_audit None some = (λ bad. cc, λ sum. (let bad = some.1 (omega (arith, balanced, sum)) in cc))
       by_audit (Some a) some = (λ ok. (let gone = some.0 refl in omega (arith, balanced)), λ sum. refl)
 
--- a whole seat counts no more than was isolated
+-- a whole end seat counts no more pages than were isolated
 pub counts_most : (z : ZoneState) (scan : ScanSeat) (ends : EndSeat) (i m b : ℕ) → IsLawful z → AreBooks i m b z → scan.count ≡ i → ends.moved ≡ m → ends.back ≡ b → ends.moved + ends.back ≤ scan.count
 counts_most z scan ends i m b law books s t u = omega (arith, is_balanced z.records law.well_ended, s, t, u, books.isolated, books.moved, books.back)
 
--- a seat that isn't whole has less than its 64 parts
+-- an end seat that isn't whole has fewer than 64 parts
 pub part_missing : (ends told : EndSeat) → told ≡ ends → nat_eq told.parts 64 ≡ false → told.parts ≤ 64 → 64 ≤ ends.parts → ⊥
 part_missing ends told same less most least =
     let all : told.parts ≡ 64 = omega (arith, ap (λ (s : EndSeat). s.parts) same) in

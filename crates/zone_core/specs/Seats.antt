@@ -13,57 +13,58 @@ use Rattle.state_core.specs.ZoneState.{ZoneState}
 use Rattle.zone_core.specs.declared.seats.Answered.{Answered}
 use Rattle.zone_core.specs.declared.seats.Answered.TheVariants as answered
 
--- the pages that were isolated with it, the rounds that were begun with it, and the last answer of `isolate_next` since the
--- latest of them
+-- a scan seat: how many pages were isolated with it, how many rounds were begun with it, and the last answer of
+-- `isolate_next` since the latest round began
 pub record ScanSeat : Type 0 where
   pub count : ℕ
   pub rounds : ℕ
   pub last : Option Answered
 
--- how many of the 64 parts it has, and the pages that were moved and put back with it
+-- an end seat: how many of the 64 parts it has, and how many pages were moved and put back with it
 pub record EndSeat : Type 0 where
   pub parts : ℕ
   pub moved : ℕ
   pub back : ℕ
 
--- the seats with which a zone opens
+-- the scan seat that a zone is opened with
 abbrev pub fresh_scan_seat : ScanSeat
 fresh_scan_seat = record { count = 0; rounds = 0; last = None }
 
+-- the end seat that a zone is opened with, which has all 64 parts
 abbrev pub fresh_end_seat : EndSeat
 fresh_end_seat = record { parts = 64; moved = 0; back = 0 }
 
--- the seat counts a round that begins, which has no answer yet
+-- the scan seat after it counted a round that begins, in which there was no answer yet
 abbrev pub seat_begun : ScanSeat → ScanSeat
 seat_begun seat = record seat { rounds = seat.rounds + 1; last = None }
 
--- the seat notes that the journal was full
+-- the scan seat after it noted that the journal was full
 abbrev pub seat_full : ScanSeat → ScanSeat
 seat_full seat = record seat { last = Some answered.JournalFull }
 
--- the seat notes each answer, and counts the pages
+-- the scan seat after it noted an answer, and counted the page where the answer is one
 abbrev pub seat_noted : ScanSeat → Next → ScanSeat
 seat_noted seat next.Met = record seat { last = Some answered.Met }
 seat_noted seat (next.Page p) = record seat { count = seat.count + 1; last = Some answered.Page }
 
--- the serial of a page isn't the last number
+-- where the answer is a page, its serial isn't the highest number
 abbrev pub IsFollowed : Next → Type 0
 IsFollowed next.Met = ⊤
 IsFollowed (next.Page p) = p.serial + 1 < 2 ^ 32
 
--- the seat counts what was ended with it
+-- the end seat after it counted the end of a move
 abbrev pub seat_ended : EndSeat → Ended → EndSeat
 seat_ended seat ended.Moved = record seat { moved = seat.moved + 1 }
 seat_ended seat ended.Back = record seat { back = seat.back + 1 }
 
--- an audit wants the whole end seat, of 64 parts, and no page on its way
+-- why an audit is refused, if it is: it needs the whole end seat, of 64 parts, and no page may be moving
 abbrev pub audit_refusal : ZoneState → EndSeat → Option ZoneError
 audit_refusal z seat =
     if not (nat_eq seat.parts 64) then Some Missing
     else if nat_lt 0 (length (out z.records)) then Some Out
     else None
 
--- what the journal and both seats agree on
+-- the journal, both seats and the answer of an audit agree
 pub record IsAudited (z : ZoneState) (scan_seat : ScanSeat) (end_seat : EndSeat) (audit : Audit) : Type 0 where
   pub isolated : audit.isolated ≡ isolated z.records
   pub moved : audit.moved ≡ moved z.records
@@ -72,6 +73,6 @@ pub record IsAudited (z : ZoneState) (scan_seat : ScanSeat) (end_seat : EndSeat)
   pub scan : audit.isolated ≡ scan_seat.count
   pub ends_moved : audit.moved ≡ end_seat.moved
   pub ends_back : audit.back ≡ end_seat.back
-  -- no page is out, and each that was isolated was ended just once
+  -- no page is out, and each that was isolated has ended exactly once
   pub none_out : out z.records ≡ []
   pub once : AreEndedOnce z.records

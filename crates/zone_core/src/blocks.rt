@@ -14,16 +14,16 @@ use state_core::ZoneError;
 use std::sync::ledger::Ledger;
 
 impl<I: Ledger, M: Ledger, B: Ledger> Zone<I, M, B> {
-    /// Hands out the lowest free block of an order, and answers its first frame: frames that are of no page, from a multiple
-    /// of their number on. Marks don't count.
+    /// Hands out the lowest free block of an order, 3 to 9, and answers its first frame. The block has 2^order frames, of
+    /// which no page has one, and its first frame is a multiple of 2^order. Marks don't count here.
     ///
-    /// Refused as JournalFull or NoBlock.
+    /// Refused as JournalFull, or as NoBlock where no such block is free.
     pub fn take_order(&mut self, order: Order) -> Result<FrameNo, ZoneError>
         ensures refused { result_err result ≡ take_order_refusal self.old order }
         ensures err { OnErr result (self.new ≡ self.old) }
         ensures first { IfOk result (λ first. lowest_run self.old order ≡ Some first) }
         ensures ok { IfOk result (λ first. self.new ≡ block_taken self.old first order) }
-        // Each of its frames was free, and no address or page has one of them.
+        // Each of the block's frames was free, and no address or page has one of them.
         ensures run { IfOk result (λ first. IsTrue (is_run self.old order first)) }
         ensures clear { IfOk result (λ first. IsClear self.new first (2 ^ order)) }
         ensures shape { HasShape self.old.number self.old.blocks self.new }
@@ -39,9 +39,9 @@ impl<I: Ledger, M: Ledger, B: Ledger> Zone<I, M, B> {
         Ok(first)
     }
 
-    /// Takes a block back that was handed out, by its first frame and its order: all of its frames are free again.
+    /// Takes back a block that was handed out, by its first frame and its order. All of its frames are free again.
     ///
-    /// Refused as Range where the zone has no such block, JournalFull, or NotHuge where it isn't handed out.
+    /// Refused as Range where the zone has no such block, as JournalFull, or as NotHuge where the block isn't handed out.
     pub fn give_order(&mut self, first: FrameNo, order: Order) -> Result<(), ZoneError>
         ensures refused { result_err result ≡ give_order_refusal self.old first order }
         ensures err { OnErr result (self.new ≡ self.old) }
@@ -63,9 +63,9 @@ impl<I: Ledger, M: Ledger, B: Ledger> Zone<I, M, B> {
         Ok(())
     }
 
-    /// Hands out the lowest pageblock whose 512 frames are all free.
+    /// Hands out the lowest pageblock whose 512 frames are all free, and answers its number.
     ///
-    /// Refused as JournalFull or NoBlock.
+    /// Refused as JournalFull, or as NoBlock where no pageblock is whole.
     pub fn take_huge(&mut self) -> Result<BlockNo, ZoneError>
         ensures refused { result_err result ≡ take_order_refusal self.old 9 }
         ensures err { OnErr result (self.new ≡ self.old) }
@@ -80,9 +80,9 @@ impl<I: Ledger, M: Ledger, B: Ledger> Zone<I, M, B> {
         Ok(block_of(first))
     }
 
-    /// Takes a pageblock back that was handed out as one block.
+    /// Takes back a pageblock that was handed out as one block.
     ///
-    /// Refused as Range where the zone has no such pageblock, JournalFull or NotHuge.
+    /// Refused as Range where the zone has no such pageblock, as JournalFull, or as NotHuge where the pageblock isn't handed out.
     pub fn give_huge(&mut self, block: BlockNo) -> Result<(), ZoneError>
         ensures refused { result_err result ≡ give_order_refusal self.old (512 * block) 9 }
         ensures err { OnErr result (self.new ≡ self.old) }
@@ -96,7 +96,7 @@ impl<I: Ledger, M: Ledger, B: Ledger> Zone<I, M, B> {
 
     /// Marks a pageblock: the scanners take no frame of it, neither as a source nor as a target.
     ///
-    /// Refused as Range where the zone has no such pageblock, JournalFull or Marked.
+    /// Refused as Range where the zone has no such pageblock, as JournalFull, or as Marked.
     pub fn mark(&mut self, block: BlockNo) -> Result<(), ZoneError>
         ensures refused { result_err result ≡ mark_refusal self.old block }
         ensures err { OnErr result (self.new ≡ self.old) }
@@ -119,7 +119,7 @@ impl<I: Ledger, M: Ledger, B: Ledger> Zone<I, M, B> {
 
     /// Takes the mark of a pageblock off.
     ///
-    /// Refused as Range where the zone has no such pageblock, JournalFull or NotMarked.
+    /// Refused as Range where the zone has no such pageblock, as JournalFull, or as NotMarked.
     pub fn unmark(&mut self, block: BlockNo) -> Result<(), ZoneError>
         ensures refused { result_err result ≡ unmark_refusal self.old block }
         ensures err { OnErr result (self.new ≡ self.old) }
@@ -140,7 +140,7 @@ impl<I: Ledger, M: Ledger, B: Ledger> Zone<I, M, B> {
         Ok(())
     }
 
-    /// Whether a pageblock is marked, and none where the zone has no such pageblock.
+    /// Whether a pageblock is marked, or none where the zone has no such pageblock.
     pub fn marked(&self, block: BlockNo) -> Option<bool>
         ensures { result ≡ marked_of self.now block }
     {

@@ -1,8 +1,11 @@
-//! A zone: its frames, the pages in them, the addresses that name these, and its journal.
+//! A zone: its frames, the pages in them, the addresses that name these pages, and its journal.
 //!
 //! Contracts see a zone as one record, the `ZoneState` of `state_core`: the state of a machine without frame tables, words or
-//! counters. Each call's clauses say when it is refused and which step the machine makes, by the definitions of that crate.
-//! Its seats are seen as the records of `specs/Seats.antt`.
+//! counters. The clauses of each call say when it is refused and which step that machine makes, by the definitions of that
+//! crate. Seats are seen as the records of `specs/Seats.antt`.
+//!
+//! The words (zone, pageblock, order, isolate, put back, pin) are those of the Linux kernel's memory management. What they
+//! mean here is this project's own profile.
 #![tactic(auto)]
 
 mod blocks;

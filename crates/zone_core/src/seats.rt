@@ -4,14 +4,14 @@ ghost use Rattle.zone_core.specs.Seats.{fresh_scan_seat, fresh_end_seat, seat_be
 use std::marker::Model;
 use std::sync::ledger::{Blank, Book, Ledger, Share};
 
-/// The ledgers of a zone that is to be opened: its name, which no other zone has.
+/// Four ledgers that aren't opened yet: a zone is opened with them. Their names are its name, which no other zone has.
 #[derive(Drop)]
 pub struct Blanks {
     pub isolated: Blank,
     pub rounds: Blank,
     pub moved: Blank,
     pub back: Blank,
-    // The share of isolated pages is whole, and those of ended pages are cut into 64 parts.
+    // The share of isolated pages has one part, and the shares of moved pages and of pages put back have 64.
     ghost isolated_parts: { isolated.parts ≡ 1 },
     ghost rounds_parts: { rounds.parts ≡ 1 },
     ghost moved_parts: { moved.parts ≡ 64 },
@@ -19,7 +19,7 @@ pub struct Blanks {
 }
 
 impl Blanks {
-    /// Blanks for one zone, in the parts that its ledgers are cut into. Takes no memory.
+    /// Blanks for one zone, with the number of parts that each of its ledgers is cut into. Takes no memory.
     pub fn new() -> Blanks {
         Blanks {
             isolated: Blank::new(1),
@@ -39,7 +39,7 @@ pub enum Answered {
 }
 
 /// The seat of a zone's scanner. It counts the pages that were isolated with it and the rounds that were begun with it,
-/// and notes the last answer of `isolate_next` since the latest round began. There is one for each opened zone.
+/// and notes the last answer of `isolate_next` since the latest round began. Each opened zone has exactly one.
 #[derive(Drop)]
 pub struct ScanSeat<I: Ledger, N: Ledger> {
     isolated: Share<I>,
@@ -59,8 +59,8 @@ impl<I: Ledger, N: Ledger> Model for ScanSeat<I, N> {
     ghost invariant = { λ s. (s.isolated.parts ≡ 1) × (s.begun.parts ≡ 1) };
 }
 
-/// A seat of those who end moves. It counts the pages that were moved and put back with it. A zone opens with one that has all
-/// 64 parts.
+/// A seat of those who end moves. It counts the pages that were moved and put back with it. A zone is opened with one that has
+/// all 64 parts.
 #[derive(Drop)]
 pub struct EndSeat<M: Ledger, B: Ledger> {
     parts: u64,
@@ -81,7 +81,7 @@ impl<M: Ledger, B: Ledger> Model for EndSeat<M, B> {
         × (M.parts ≡ 64) × (B.parts ≡ 64) };
 }
 
-/// The two seats of a zone.
+/// The scan seat and the end seat of a zone.
 #[derive(Drop)]
 pub struct Seats<I: Ledger, N: Ledger, M: Ledger, B: Ledger> {
     pub scan: ScanSeat<I, N>,
@@ -89,7 +89,7 @@ pub struct Seats<I: Ledger, N: Ledger, M: Ledger, B: Ledger> {
 }
 
 impl<I: Ledger, N: Ledger> ScanSeat<I, N> {
-    /// The seat of a zone that was just opened.
+    /// The scan seat of a zone that was just opened.
     pub(crate) fn opened(isolated: Share<I>, rounds: Blank) -> Self
         requires whole { isolated.parts ≡ 1 }
         requires unused { isolated.amount ≡ 0 }
@@ -108,7 +108,7 @@ impl<I: Ledger, N: Ledger> ScanSeat<I, N> {
 }
 
 impl<I: Ledger, N: Ledger> ScanSeat<I, N> {
-    /// Tells the book's count, which is the seat's.
+    /// Tells that the book's count is the seat's.
     pub(crate) fn tell(&mut self, book: &mut Book<I>)
         requires { I.parts ≡ 1 }
         ensures count { self.old.count ≡ book.old.total }
@@ -118,7 +118,7 @@ impl<I: Ledger, N: Ledger> ScanSeat<I, N> {
         book.audit(&mut self.isolated);
     }
 
-    /// Counts one page more, which is the last answer.
+    /// Counts one page more, and notes that the last answer was a page.
     pub(crate) fn count(&mut self, book: &mut Book<I>)
         ensures seat { self.new ≡ record self.old { count = self.old.count + 1; last = Some Answered.Page } }
         ensures book { book.new.total ≡ book.old.total + 1 }
@@ -134,7 +134,7 @@ impl<I: Ledger, N: Ledger> ScanSeat<I, N> {
         self.last = Some(answer);
     }
 
-    /// Counts one round more, which has no answer yet.
+    /// Counts one round more, in which there was no answer yet.
     pub(crate) fn begin(&mut self)
         ensures { self.new ≡ seat_begun self.old }
     {
@@ -144,7 +144,7 @@ impl<I: Ledger, N: Ledger> ScanSeat<I, N> {
 }
 
 impl<M: Ledger, B: Ledger> EndSeat<M, B> {
-    /// Counts one moved page more.
+    /// Counts one more page that was moved.
     pub(crate) fn count_moved(&mut self, book: &mut Book<M>)
         ensures seat { self.new ≡ record self.old { moved = self.old.moved + 1 } }
         ensures book { book.new.total ≡ book.old.total + 1 }
@@ -152,7 +152,7 @@ impl<M: Ledger, B: Ledger> EndSeat<M, B> {
         book.add(&mut self.moved, 1);
     }
 
-    /// Counts one page put back more.
+    /// Counts one more page that was put back.
     pub(crate) fn count_back(&mut self, book: &mut Book<B>)
         ensures seat { self.new ≡ record self.old { back = self.old.back + 1 } }
         ensures book { book.new.total ≡ book.old.total + 1 }
@@ -160,7 +160,7 @@ impl<M: Ledger, B: Ledger> EndSeat<M, B> {
         book.add(&mut self.back, 1);
     }
 
-    /// Tells the books' counts, which are the seat's where no part of it is missing.
+    /// Tells that the books' counts are the seat's where no part of the seat is missing.
     pub(crate) fn tell(&mut self, moved: &mut Book<M>, back: &mut Book<B>)
         ensures moved { self.old.parts ≡ 64 → self.old.moved ≡ moved.old.total }
         ensures back { self.old.parts ≡ 64 → self.old.back ≡ back.old.total }
@@ -171,7 +171,7 @@ impl<M: Ledger, B: Ledger> EndSeat<M, B> {
         back.audit(&mut self.back);
     }
 
-    /// Whether no part of it is missing.
+    /// Whether no part of the seat is missing.
     pub(crate) fn is_whole(&self) -> bool
         ensures whole { result ≡ nat_eq self.now.parts 64 }
         ensures most { self.now.parts ≤ 64 }
@@ -179,7 +179,7 @@ impl<M: Ledger, B: Ledger> EndSeat<M, B> {
         self.parts == 64
     }
 
-    /// Gives one part off, as a seat with which nothing was counted. None where this seat has one part.
+    /// Gives off one part, as a seat with which nothing was counted. None where this seat has only one part.
     pub fn split(&mut self) -> Option<EndSeat<M, B>>
         ensures some { IsSome result ↔ (1 < self.old.parts) }
         ensures part { IfSome result (λ part. part ≡ record { parts = 1; moved = 0; back = 0 }) }
@@ -199,7 +199,7 @@ impl<M: Ledger, B: Ledger> EndSeat<M, B> {
         })
     }
 
-    /// Adds the parts of a seat of the same zone, and what was counted with it.
+    /// Adds the parts of another seat of the same zone, and what was counted with it.
     pub fn join(&mut self, other: EndSeat<M, B>)
         ensures sum { self.new ≡ record {
           parts = self.old.parts + other.parts;
@@ -214,7 +214,7 @@ impl<M: Ledger, B: Ledger> EndSeat<M, B> {
         self.parts += parts;
     }
 
-    /// The seat of a zone that was just opened.
+    /// The end seat of a zone that was just opened.
     pub(crate) fn opened(moved: Share<M>, back: Share<B>) -> Self
         requires ledgers { (M.parts ≡ 64) × (B.parts ≡ 64) }
         requires whole { (moved.parts ≡ 64) × (back.parts ≡ 64) }

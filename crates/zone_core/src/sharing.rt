@@ -14,9 +14,9 @@ use state_core::ZoneError;
 use std::sync::ledger::Ledger;
 
 impl<I: Ledger, M: Ledger, B: Ledger> Zone<I, M, B> {
-    /// Lets an alias name the page of an address too. A page has 4 addresses at most.
+    /// Makes an alias name the page of an address too. A page has at most 4 addresses.
     ///
-    /// Refused as JournalFull, Unmapped or Moving (the address), Occupied (the alias), or ShareFull.
+    /// Refused as JournalFull, as Unmapped or Moving for the address, as Occupied for the alias, or as ShareFull.
     pub fn share(
         &mut self,
         client: ClientNo,
@@ -43,8 +43,8 @@ impl<I: Ledger, M: Ledger, B: Ledger> Zone<I, M, B> {
         Ok(())
     }
 
-    /// Lets an address name no page any more. With its last address a page ends: its number and its frame may be used again.
-    /// A page with a pin keeps its last address.
+    /// Makes an address name no page any more. A page that has no address left isn't in use: its number and its frame may be
+    /// used again. The last address of a page with a pin can't be unmapped.
     ///
     /// Refused as JournalFull, Unmapped, Moving or Pinned.
     pub fn unmap(&mut self, client: ClientNo, address: Address) -> Result<(), ZoneError>
@@ -66,8 +66,8 @@ impl<I: Ledger, M: Ledger, B: Ledger> Zone<I, M, B> {
         Ok(())
     }
 
-    /// Pins the page that an address names, also while it is on its way: it may not be moved until each pin is taken off. A
-    /// page has 255 pins at most.
+    /// Pins the page that an address names, also while the page is moving. It isn't isolated or moved until each of its
+    /// pins is taken off. A page has at most 255 pins.
     ///
     /// Refused as JournalFull, Unmapped or PinFull.
     pub fn pin(&mut self, client: ClientNo, address: Address) -> Result<(), ZoneError>
@@ -90,7 +90,7 @@ impl<I: Ledger, M: Ledger, B: Ledger> Zone<I, M, B> {
         Ok(())
     }
 
-    /// Takes a pin off the page that an address names, also while it is on its way.
+    /// Takes a pin off the page that an address names, also while the page is moving.
     ///
     /// Refused as JournalFull, Unmapped or NotPinned.
     pub fn unpin(&mut self, client: ClientNo, address: Address) -> Result<(), ZoneError>

@@ -1,4 +1,4 @@
-//! What a zone keeps of its addresses and frames.
+//! The entries of a zone's addresses and the states of its frames, to be read.
 
 ghost use Rattle.std.specs.Prelude.{◌≡◌};
 ghost use Rattle.plain_core.specs.Fits.{EntriesFit, FramesFit, MovableFit};

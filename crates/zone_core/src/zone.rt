@@ -35,9 +35,8 @@ use word_core::{Copied, Isolated};
 /// A zone of 1 to 8 pageblocks. Its type parameters name its opening: the ledgers of the pages that are isolated, moved and
 /// put back. After `open` no call takes memory.
 ///
-/// What a call can be refused as stands with it, in the order of the tests. A call that is refused leaves the zone as it was.
-/// JournalFull means that the journal has no more places left than there are pages on their way, since each of these needs one
-/// for its end.
+/// Each call says what it may be refused as, in the order of the tests. A refused call leaves the zone as it was. JournalFull
+/// means that the journal has no more places left than pages are moving, since the end of each move needs a place.
 #[derive(Drop)]
 pub struct Zone<I: Ledger, M: Ledger, B: Ledger> {
     pub(crate) plain: PlainZone,
@@ -62,10 +61,10 @@ impl<I: Ledger, M: Ledger, B: Ledger> Model for Zone<I, M, B> {
 }
 
 impl<I: Ledger, M: Ledger, B: Ledger> Zone<I, M, B> {
-    /// An empty zone with so many pageblocks and so many places in its journal, with its seats. The blanks are those of the
-    /// ledgers that the types name; a refusal drops them.
+    /// An empty zone with this many pageblocks and this many places in its journal, and its two seats. The blanks are those
+    /// of the ledgers that the types name. They are dropped where the call is refused.
     ///
-    /// Refused as Range where it isn't 1 to 8 pageblocks and 1 to 65,536 places, else as Memory where there is none.
+    /// Refused as Range unless there are 1 to 8 pageblocks and 1 to 65,536 places, else as Memory where there isn't enough.
     pub fn open<N: Ledger>(
         alloc: Global,
         number: ZoneNo,
@@ -121,8 +120,8 @@ impl<I: Ledger, M: Ledger, B: Ledger> Zone<I, M, B> {
         (zone, scan, ends)
     }
 
-    /// Binds an address to a fresh page in the lowest free frame, which it answers. The page holds zeros, has no pin and
-    /// isn't dirty. It is unmovable where the flags say so; they must not have DIRTY.
+    /// Makes an address name a fresh page in the lowest free frame, and answers this frame. The page holds zeros, has no
+    /// pin and isn't dirty. It is unmovable where the flags say so. The flags must not have DIRTY.
     ///
     /// Refused as JournalFull, Occupied or NoFrame.
     pub fn map(
@@ -153,9 +152,9 @@ impl<I: Ledger, M: Ledger, B: Ledger> Zone<I, M, B> {
         Ok(frame)
     }
 
-    /// Binds an address to a fresh page in the frame that is given, as `map` does. The flags must not have DIRTY.
+    /// Makes an address name a fresh page in a given frame, as `map` does in the lowest. The flags must not have DIRTY.
     ///
-    /// Refused as Range where the zone has no such frame, JournalFull, Occupied, or NoFrame where the frame isn't free.
+    /// Refused as Range where the zone has no such frame, as JournalFull, as Occupied, or as NoFrame where the frame isn't free.
     pub fn map_at(
         &mut self,
         client: ClientNo,
@@ -187,7 +186,7 @@ impl<I: Ledger, M: Ledger, B: Ledger> Zone<I, M, B> {
         Ok(())
     }
 
-    /// Reads a word of the page that an address names: the value that was stored last, or 0.
+    /// Reads a word of the page that an address names: the value that was stored there last, or 0.
     ///
     /// Refused as JournalFull, Unmapped or Moving.
     pub fn load(
@@ -200,7 +199,7 @@ impl<I: Ledger, M: Ledger, B: Ledger> Zone<I, M, B> {
         ensures err { OnErr result (self.new ≡ self.old) }
         ensures value { IfOk result (λ value. value ≡ value_at self.old address word) }
         ensures ok { OnOk result (self.new ≡ loaded self.old client address word) }
-        // It brings no pair back.
+        // A load doesn't make a pair.
         ensures met { OnOk result (HaveMet self.old → HaveMet self.new) }
         ensures shape { HasShape self.old.number self.old.blocks self.new }
         ensures lawful { IsLawful self.new }
@@ -237,36 +236,46 @@ impl<I: Ledger, M: Ledger, B: Ledger> Zone<I, M, B> {
         Ok(())
     }
 
-    /// Begins a round: the migrate finger stands at the bottom of the zone and the free finger above its top. The seat counts
-    /// the round. It may begin while pages are on their way; such a round isn't quiet.
+    /// Begins a round: the migrate finger is set to the bottom of the zone, and the free finger above its top. The seat
+    /// counts the round. A round may begin while pages are moving, but then it isn't quiet.
     pub fn begin_round<N: Ledger>(&mut self, seat: &mut ScanSeat<I, N>)
         ensures zone { self.new ≡ round_begun self.old }
         ensures seat { seat.new ≡ seat_begun seat.old }
         ensures quiet { is_quiet self.new ≡ is_calm self.old }
+        ensures serial { seat.old.count ≡ isolated self.old.records }
         ensures shape { HasShape self.old.number self.old.blocks self.new }
         ensures lawful { IsLawful self.new }
     {
+        seat.tell(&mut self.isolated);
         self.plain.begin_round();
         seat.begin();
     }
 
-    /// Takes the lowest page that may be moved, and the highest free frame above it, in unmarked pageblocks between the fingers: the page
-    /// is on its way from here on. The seat counts it, and notes each answer.
+    /// Shows that the seat has counted the pages that were isolated, and changes nothing.
+    pub fn show_count<N: Ledger>(&mut self, seat: &mut ScanSeat<I, N>)
+        ensures serial { seat.old.count ≡ isolated self.old.records }
+        ensures same { (self.new ≡ self.old) × (seat.new ≡ seat.old) }
+        ensures lawful { IsLawful self.new }
+    {
+        seat.tell(&mut self.isolated);
+    }
+
+    /// Isolates the page of the lowest source and notes the highest free frame above it as its target, both in unmarked pageblocks
+    /// between the fingers. The page is moving from here on. The seat counts it, and notes each answer.
     ///
-    /// Refused as JournalFull, which the seat notes too, where the journal hasn't two places more than there are pages on
-    /// their way.
+    /// Refused as JournalFull unless the journal has at least two places more than pages are moving. The seat notes this too.
     #[inline(always)]
     pub fn isolate_next<N: Ledger>(&mut self, seat: &mut ScanSeat<I, N>) -> Result<Next, ZoneError>
         ensures refused { result_err result ≡ isolate_refusal self.old }
         ensures err { OnErr result (self.new ≡ self.old) }
         ensures answer { IfOk result (λ next. next ≡ next_answer self.old (next_pair self.old)) }
         ensures ok { OnOk result (self.new ≡ next_state self.old (next_pair self.old)) }
-        // The page is the one of the pair, and where there is none the answer is `Met`.
+        // The page is the one of the pair, and where there is no pair the answer is `Met`.
         ensures pair { IfOk result (λ next. Scans self.old self.new next) }
         // Where the scanners of a quiet round meet and no page is out, the zone is packed.
         ensures packed { result ≡ Ok Next.Met → is_quiet self.new ≡ true → length (out self.new.records) ≡ 0 → IsPacked self.new }
         ensures serial { seat.old.count ≡ isolated self.old.records }
-        // A journal has places for fewer serials than there are numbers.
+        // A page is never given the highest serial, since a journal has fewer places than there are serials.
         ensures followed { IfOk result IsFollowed }
         ensures seat { IfOk result (λ next. seat.new ≡ seat_noted seat.old next) }
         ensures full { OnErr result (seat.new ≡ seat_full seat.old) }
@@ -287,8 +296,9 @@ impl<I: Ledger, M: Ledger, B: Ledger> Zone<I, M, B> {
         Ok(Next::Page(page))
     }
 
-    /// Ends the move of a page with its copy: the page stands in its new frame, or in its old one where it has a pin. The seat
-    /// counts it. A copy that is no page of this zone on its way under its serial, or hasn't its words, is handed back.
+    /// Ends the move of a page with its copy: the page is in its new frame afterwards, or in its old one where it has a pin.
+    /// The seat counts it. A copy is handed back unless its page is moving in this zone under its serial and has the same
+    /// words.
     #[inline(always)]
     pub fn commit(
         &mut self,
@@ -300,9 +310,9 @@ impl<I: Ledger, M: Ledger, B: Ledger> Zone<I, M, B> {
         ensures err { OnErr result ((self.new ≡ self.old) × (seat.new ≡ seat.old)) }
         ensures ended { IfOk result (λ ended. ended ≡ ended_as self.old copied.page.number) }
         ensures ok { OnOk result (self.new ≡ committed self.old copied.serial copied.page.number) }
-        // Moved, the page stands in its target and its source is free; put back, it is the other way round.
+        // Of a moved page the target holds it and the source is free; of one put back it is the other way round.
         ensures settled { IfOk result (λ ended. Ends self.old self.new copied ended) }
-        // In a quiet round each commit moves its page, and none brings a pair back.
+        // In a quiet round each commit moves its page, and no commit makes a pair.
         ensures moves { IfOk result (λ ended. is_quiet self.old ≡ true → ended ≡ Ended.Moved) }
         ensures met { OnOk result (is_quiet self.old ≡ true → HaveMet self.old → HaveMet self.new) }
         ensures once { OnOk result (is_own self.new copied ≡ false) }
@@ -326,8 +336,8 @@ impl<I: Ledger, M: Ledger, B: Ledger> Zone<I, M, B> {
         Ok(Ended::Moved)
     }
 
-    /// Ends the move of a page that reached no copier: it stands in its old frame. The seat counts it. A page that isn't one of
-    /// this zone on its way under its serial is handed back.
+    /// Ends the move of a page that wasn't copied: the page is in its old frame afterwards. The seat counts it. A page is
+    /// handed back unless it is moving in this zone under its serial.
     pub fn put_back(
         &mut self,
         seat: &mut EndSeat<M, B>,
@@ -351,8 +361,8 @@ impl<I: Ledger, M: Ledger, B: Ledger> Zone<I, M, B> {
         Ok(())
     }
 
-    /// What is known of the page that an address names: its frame and flags, or its serial where it is on its way, and its pins and how
-    /// many addresses name it.
+    /// What is known of the page that an address names: its frame and flags, or its serial while it is moving, and how many pins and
+    /// addresses it has.
     ///
     /// Refused as Unmapped.
     pub fn look(&self, address: Address) -> Result<Look, ZoneError>
@@ -362,22 +372,23 @@ impl<I: Ledger, M: Ledger, B: Ledger> Zone<I, M, B> {
         self.plain.look(&address).ok_or(ZoneError::Unmapped)
     }
 
-    /// Whether the latest round is quiet so far: when it began no page was out and no unmarked pageblock had a page that was
-    /// pinned or unmovable or a frame that was handed out, and since then pages were loaded, stored, isolated and moved alone.
+    /// Whether the latest round is still quiet. It is where no page was out when it began, no unmarked pageblock had a page
+    /// that was pinned or unmovable or a frame that was handed out, and since then the only calls that left records were
+    /// loads, stores, isolations and moves.
     pub fn quiet(&self) -> bool
         ensures value { result ≡ is_quiet self.now }
-        // Four records leave it quiet, and each other ends that.
+        // The records of a load, a store, an isolation and a move leave it quiet, and each other record ends that.
         ensures next { (entry : Record) → is_quiet (noted self.now entry) ≡ (result && keeps_quiet entry) }
-        // While it is quiet no frame of an unmarked pageblock holds a page below the migrate finger, and none is free from the
-        // free finger on.
+        // While it is quiet, no frame of an unmarked pageblock holds a page below the migrate finger, and none is free from
+        // the free finger on.
         ensures swept { result ≡ true → IsSwept self.now }
     {
         self.plain.quiet()
     }
 
-    /// The counts of the zone, which are those of its seats.
+    /// The counts of pages isolated, moved and put back, which are those of the two seats.
     ///
-    /// Refused as Missing where a part of the end seat is missing, else as Out where a page is on its way.
+    /// Refused as Missing where a part of the end seat is missing, else as Out where a page is moving.
     pub fn audit<N: Ledger>(
         &mut self,
         scan: &mut ScanSeat<I, N>,
@@ -386,12 +397,13 @@ impl<I: Ledger, M: Ledger, B: Ledger> Zone<I, M, B> {
         ensures refused { result_err result ≡ audit_refusal self.old ends.old }
         ensures ok { IfOk result (λ audit. IsAudited self.old scan.old ends.old audit) }
         ensures whole { OnOk result (ends.new.parts ≡ 64) }
-        // No zone is needed to tell whether a whole seat passes: its counts make up that of the scan seat.
+        // The seats alone tell whether an audit with a whole end seat passes: its counts have to add up to that of the scan seat.
         ensures exact { 64 ≤ ends.old.parts → (IsOk result ↔ (ends.old.moved + ends.old.back ≡ scan.old.count)) }
         ensures most { 64 ≤ ends.old.parts → ends.old.moved + ends.old.back ≤ scan.old.count }
         ensures same { self.new ≡ self.old }
         ensures seats { (scan.new ≡ scan.old) × (ends.new ≡ ends.old) }
         ensures packed { OnOk result (is_quiet self.new ≡ true → HaveMet self.new → IsPacked self.new) }
+        ensures serial { scan.old.count ≡ isolated self.old.records }
         ensures lawful { IsLawful self.new }
     {
         scan.tell(&mut self.isolated);
@@ -402,14 +414,14 @@ impl<I: Ledger, M: Ledger, B: Ledger> Zone<I, M, B> {
         self.plain.counted().ok_or(ZoneError::Out)
     }
 
-    /// Its number, which it was opened with.
+    /// The number that the zone was opened with.
     pub fn number(&self) -> ZoneNo
         ensures { result ≡ self.now.number }
     {
         self.plain.number()
     }
 
-    /// How many pageblocks it has, 1 to 8.
+    /// How many pageblocks the zone has, 1 to 8.
     pub fn blocks(&self) -> u32
         ensures blocks { result ≡ self.now.blocks }
         ensures lawful { IsLawful self.now }
@@ -420,12 +432,12 @@ impl<I: Ledger, M: Ledger, B: Ledger> Zone<I, M, B> {
     /// The counts of the zone.
     pub fn info(&self) -> Info
         ensures counts { result ≡ info_of self.now }
-        // Each frame is free, of a page, or of a block that is handed out, and a page on its way has two.
+        // Each frame is free, or of a page, or of a block that is handed out; a moving page has two frames.
         ensures sum { result.free + result.pages + result.moving + result.held ≡ frame_count self.now }
-        // A packed zone has as many whole pageblocks, and free aligned runs of an order, as its free frames make.
+        // A packed zone has as many whole pageblocks, and as many free aligned runs of an order, as its free frames can make.
         ensures whole { IsPacked self.now → result.whole ≡ unmarked_free self.now / 512 + marked_whole self.now }
         ensures runs { IsPacked self.now → (order : ℕ) → order ≤ 9 → free_runs self.now (2 ^ order) ≡ unmarked_free self.now / 2 ^ order }
-        // However its pages are placed, none of them on its way, it has no more of either.
+        // No other placement of its pages, where none is moving, has more of either.
         ensures most_whole { IsPacked self.now → result.moving ≡ 0 → (place : ℕ → Option ℕ) → IsPlacement self.now place
             → left_whole self.now place ≤ result.whole }
         ensures most_runs { IsPacked self.now → result.moving ≡ 0 → (place : ℕ → Option ℕ) → IsPlacement self.now place
@@ -435,12 +447,12 @@ impl<I: Ledger, M: Ledger, B: Ledger> Zone<I, M, B> {
         self.plain.info()
     }
 
-    /// The journal of the zone. Whoever has the zone finds it lawful: each load in the journal gave the last value stored.
+    /// The journal of the zone. Whoever holds the zone finds it lawful: each load in the journal gave the value that was stored last.
     pub fn journal(&self) -> &Journal
         ensures records { result.now.records ≡ self.now.records }
         ensures room { result.now.room ≡ self.now.room }
         ensures lawful { IsLawful self.now }
-        // No page or address has a frame of a block that is handed out, and no two blocks have one together.
+        // No page or address has a frame of a block that is handed out, and no two such blocks share a frame.
         ensures clear { BlocksAreClear self.now }
         ensures apart { BlocksAreApart self.now }
     {

@@ -2,7 +2,7 @@ ghost use Rattle.std.specs.Prelude.{◌≡◌, ◌+◌, ◌<◌, ◌^◌, [], fa
 ghost use Rattle.word_core.specs.Serials.{HasSerialsFrom};
 
 use super::{is_page, isolated};
-use hand_core::{Giver, HandError, Handful, Taker, Took, open, settle};
+use hand_core::{Giver, Handful, Taker, Takers, Took, open, settle};
 use std::alloc::Global;
 use std::process::Abort;
 use std::sync::Wait;
@@ -13,7 +13,7 @@ const BASE: u32 = 5;
 
 const PAGES: u32 = 600;
 
-// A taker with the pages that it took, and whether an end mark came behind them.
+// A taker with the pages that it took, and whether an end mark came after them.
 #[derive(Drop)]
 struct Done {
     taker: Taker,
@@ -81,7 +81,7 @@ fn take_all<R: Wait>(rt: &R, alloc: Global, mut taker: Taker) -> Done
     unreachable!()
 }
 
-// The same by two takers on threads of their own.
+// Two takers on threads of their own take pages up to their end marks.
 fn take_by_two<R: Threads + Wait + Sync>(
     rt: &R,
     alloc: Global,
@@ -112,7 +112,7 @@ fn note_list<R: Abort>(rt: &R, list: Vec<Isolated>, seen: &mut Vec<bool>) {
     }
 }
 
-// Notes the page, whose serial is at least `next`, and returns the serial behind it.
+// Notes the page, whose serial is at least `next`, and returns the serial after it.
 fn note_page<R: Abort>(rt: &R, page: Isolated, next: u32, seen: &mut Vec<bool>) -> u32 {
     let serial = page.serial();
     assert!(rt;
@@ -235,7 +235,8 @@ fn to_one_taker<R: Threads + Wait + Abort + Sync>(rt: &R, alloc: Global, cap: us
     let mut seen = nothing_seen(rt, alloc);
     let one = note_done(rt, one, &mut seen);
     assert_all_seen(rt, &seen);
-    assert_settles_with_one(rt, alloc, giver, one, BASE, PAGES);
+    let takers = vec![in alloc; one].expect(rt, "memory");
+    assert_settles_with_all(rt, giver, takers);
 }
 
 fn to_two_takers<R: Threads + Wait + Abort + Sync>(rt: &R, alloc: Global, cap: usize) {
@@ -257,18 +258,19 @@ fn to_two_takers<R: Threads + Wait + Abort + Sync>(rt: &R, alloc: Global, cap: u
     let one = note_done(rt, one, &mut seen);
     let two = note_done(rt, two, &mut seen);
     assert_all_seen(rt, &seen);
-    settle_with_the_last(rt, alloc, giver, one, two);
+    let takers = vec![in alloc; one, two].expect(rt, "memory");
+    assert_settles_with_all(rt, giver, takers);
 }
 
-// Without the second taker the hand-over doesn't settle, and everything comes back; with it, it does.
-fn settle_with_the_last<R: Abort>(rt: &R, alloc: Global, giver: Giver, one: Taker, two: Taker)
-    requires { (one.hand_over ≡ giver.hand_over) × (two.hand_over ≡ giver.hand_over) }
+// Without its last taker a hand-over of all pages isn't settled, and everything comes back; with it, it is.
+fn assert_settles_with_all<R: Abort>(rt: &R, giver: Giver, mut takers: Takers)
+    requires { All (λ t. t.hand_over ≡ giver.hand_over) takers.items }
 {
-    let takers = vec![in alloc; one].expect(rt, "memory");
+    let last = takers.pop().expect(rt, "a taker");
     let Err((giver, mut takers)) = settle(giver, takers) else {
-        panic!(rt; "settled without the second taker");
+        panic!(rt; "settled without the last taker");
     };
-    takers.push(two).expect(rt, "memory");
+    takers.push(last).expect(rt, "memory");
     assert_settles(rt, giver, takers, BASE, PAGES);
 }
 
@@ -293,7 +295,7 @@ fn to_four_takers<R: Threads + Wait + Abort + Sync>(rt: &R, alloc: Global, cap: 
     let (three, four) = note_both(rt, back, &mut seen);
     assert_all_seen(rt, &seen);
     let takers = vec![in alloc; one, two, three, four].expect(rt, "memory");
-    assert_settles(rt, giver, takers, BASE, PAGES);
+    assert_settles_with_all(rt, giver, takers);
 }
 
 fn note_both<R: Abort>(rt: &R, done: (Done, Done), seen: &mut Vec<bool>) -> (Taker, Taker)
@@ -330,22 +332,10 @@ fn take_by_four<R: Threads + Wait + Sync>(
 }
 
 #[test]
-fn hands_600_pages_to_one_taker(rt: HostRuntime) {
+fn hands_600_pages_to_one_two_and_four_takers(rt: HostRuntime) {
     for cap in [1, 3, 64] {
         to_one_taker(&rt, rt.alloc(), cap);
-    }
-}
-
-#[test]
-fn hands_600_pages_to_two_takers(rt: HostRuntime) {
-    for cap in [1, 3, 64] {
         to_two_takers(&rt, rt.alloc(), cap);
-    }
-}
-
-#[test]
-fn hands_600_pages_to_four_takers(rt: HostRuntime) {
-    for cap in [1, 3, 64] {
         to_four_takers(&rt, rt.alloc(), cap);
     }
 }
@@ -366,28 +356,6 @@ fn taken_page<R: Wait + Abort>(rt: &R, taker: &mut Taker) -> Isolated
         panic!(rt; "the page is lost");
     };
     page
-}
-
-#[test]
-fn hands_over_the_page_with_the_last_serial(rt: HostRuntime) {
-    let (mut giver, mut one) = opened_for_one(&rt, rt.alloc(), u32::MAX, 2);
-    assert!(rt; giver.give(&rt, page_of(&rt, u32::MAX, 0)).is_ok());
-    assert!(rt; giver.close(&rt).is_ok());
-    assert!(rt; taken_page(&rt, &mut one).serial() == u32::MAX);
-    assert!(rt; matches!(one.take(&rt), Took::End));
-    assert_settles_with_one(&rt, rt.alloc(), giver, one, u32::MAX, 1);
-}
-
-#[test]
-fn opens_in_range_only(rt: HostRuntime) {
-    for (takers, cap) in [(0, 1), (5, 1), (1, 0), (1, 65)] {
-        assert!(rt;
-            open(&rt, rt.alloc(), 0, takers, cap).err() == Some(HandError::Range),
-            "opened for {takers} takers and room for {cap}"
-        );
-    }
-    assert!(rt; HandError::Range.number() == 22);
-    assert!(rt; HandError::Memory.number() == 21);
 }
 
 fn page_back<R: Wait + Abort>(rt: &R, giver: &mut Giver, page: Isolated) -> Isolated
@@ -412,7 +380,7 @@ fn hands_the_page_back_where_no_taker_is_left(rt: HostRuntime) {
 }
 
 #[test]
-fn answers_gone_behind_the_pages_where_the_giver_is_gone(rt: HostRuntime) {
+fn answers_gone_after_the_pages_where_the_giver_is_gone(rt: HostRuntime) {
     let (mut giver, mut one) = opened_for_one(&rt, rt.alloc(), BASE, 2);
     assert!(rt; giver.give(&rt, page_of(&rt, BASE, 0)).is_ok());
     drop(giver);

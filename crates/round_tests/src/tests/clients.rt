@@ -1,148 +1,295 @@
-ghost use Rattle.std.specs.Prelude.{◌≡◌};
-ghost use Rattle.zone_core.specs.Books.{AreFor};
-
-use super::gates::comes_above;
-use super::{
-    Opening, address, client, counts_of, fill, last_word, load, must_open, round_of, store,
-};
-use round_core::{Gate, Point, Round, RoundError, Shape, SharedZone};
-use std::alloc::Global;
-use std::marker::Brand;
+use super::calls::{Answer, Call, play};
+use super::gates::{Holds, comes_above};
+use super::opening::{Opening, counts_of, mismatch, round_of, settled};
+use super::{Trial, client_number, tries};
+use client_core::Client;
+use round_core::{NoGate, Point, Round, RoundError, Shape, SharedZone};
 use std::process::Abort;
 use std::sync::Wait;
-use std::sync::atomic::{AtomicU64, Ordering};
+use std::sync::atomic::Ordering;
 use std::sync::ledger::Ledger;
 use std::thread::{Threads, join};
-use zone_core::{Blanks, Look, ZoneError};
+use zone_core::Seats;
 
-/// Holds the copier that copied a page until a client has come.
-#[derive(Drop)]
-struct HoldsTheCopy {
-    copied: AtomicU64,
-    came: AtomicU64,
+fn client<R: Abort + AllocGlobal>(rt: &R, number: u32) -> Client {
+    Client::new(rt.alloc(), client_number(rt, number))
 }
 
-impl HoldsTheCopy {
-    fn new() -> HoldsTheCopy {
-        HoldsTheCopy {
-            copied: AtomicU64::new(0),
-            came: AtomicU64::new(0),
-        }
-    }
-}
-
-impl Gate for HoldsTheCopy {
-    fn at(&self, point: Point, _who: usize) {
-        if point == Point::Copied {
-            self.copied.fetch_add(1, Ordering::SeqCst);
-            let _ = comes_above(&self.came, 0);
-        }
-    }
-}
-
-/// Whether the page is in a frame, with one pin.
-fn is_pinned<K: Shape, I: Ledger, M: Ledger, B: Ledger, R: Wait + Abort>(
+/// Makes a call while a copy is held, and speaks before it or after it.
+fn calls_beside<K: Shape, I: Ledger, M: Ledger, B: Ledger, R: Wait + Abort>(
     rt: &R,
     shared: &SharedZone<K, I, M, B>,
-) -> bool {
-    let look = shared.lock(rt).zone().look(address(rt, 0));
-    matches!(look, Ok(Look::At { pins: 1, .. }))
+    gate: &Holds,
+    mut client: Client,
+    calling: (Call, Answer),
+    speaks_first: bool,
+) -> Client {
+    let _ = comes_above(&gate.reached, 0);
+    if speaks_first {
+        gate.answered.store(1, Ordering::SeqCst);
+    }
+    play(rt, shared, &mut client, &[calling]);
+    gate.answered.store(1, Ordering::SeqCst);
+    client
 }
 
-/// Pins the page while its copy is held.
-fn pin_held<K: Shape, I: Ledger, M: Ledger, B: Ledger, R: Wait + Abort>(
+/// Stores to a word of a page and loads it, 200 times.
+fn uses<K: Shape, I: Ledger, M: Ledger, B: Ledger, R: Wait + Abort>(
     rt: &R,
     shared: &SharedZone<K, I, M, B>,
-    gate: &HoldsTheCopy,
-) -> Result<(), ZoneError> {
-    let _ = comes_above(&gate.copied, 0);
-    let pinned = shared.lock(rt).zone.pin(client(rt), address(rt, 0));
-    gate.came.store(1, Ordering::SeqCst);
-    pinned
+    mut client: Client,
+    at: u32,
+    word: u32,
+) -> Client {
+    for value in 0..200 {
+        let table = [
+            (Call::Store(at, word, value), Answer::Done),
+            (Call::Load(at, word), Answer::Value(value)),
+        ];
+        play(rt, shared, &mut client, &table);
+    }
+    client
 }
 
-fn a_client_pins<
+/// Three rounds, one after the other. How many pages they isolated and moved.
+fn three_rounds<
+    K: Shape + Send + Sync,
+    I: Ledger + Send + Sync,
+    N: Ledger,
+    M: Ledger + Send + Sync,
+    B: Ledger + Send + Sync,
+    R: Threads + Wait + Abort + AllocGlobal + Sync,
+>(
+    rt: &R,
+    shared: &SharedZone<K, I, M, B>,
+    seats: &mut Seats<I, N, M, B>,
+) -> [(u32, u32, u32, u32); 3] {
+    let first = counts_of(rt, round_of(rt, shared, seats, 2, 8, &NoGate));
+    let second = counts_of(rt, round_of(rt, shared, seats, 2, 8, &NoGate));
+    let third = counts_of(rt, round_of(rt, shared, seats, 2, 8, &NoGate));
+    [first, second, third]
+}
+
+/// Makes 5,000 calls, drawn from a seed: each stores or loads one of the two words that the client has in each of 64 pages. A load
+/// answers what the client stored there last.
+fn uses_its_words<K: Shape, I: Ledger, M: Ledger, B: Ledger, R: Wait + Abort>(
+    rt: &R,
+    shared: &SharedZone<K, I, M, B>,
+    mut client: Client,
+    words: (u32, u32),
+) -> Client {
+    let mut last = [0; 128];
+    let mut seed = words.1;
+    for _ in 0..5000 {
+        seed = seed.wrapping_mul(1664525).wrapping_add(1013904223);
+        let choice = seed / 1024 % 256;
+        let place = choice / 2;
+        let at = place / 2;
+        let word = if place % 2 == 0 { words.0 } else { words.1 };
+        let calling = if choice % 2 == 0 {
+            last[place as usize] = u64::from(seed);
+            (Call::Store(at, word, u64::from(seed)), Answer::Done)
+        } else {
+            (Call::Load(at, word), Answer::Value(last[place as usize]))
+        };
+        play(rt, shared, &mut client, &[calling]);
+    }
+    client
+}
+
+/// Two clients at once.
+fn two_use_their_words<
+    K: Shape + Send + Sync,
+    I: Ledger + Send + Sync,
+    M: Ledger + Send + Sync,
+    B: Ledger + Send + Sync,
+    R: Threads + Wait + Abort + Sync,
+>(
+    rt: &R,
+    shared: &SharedZone<K, I, M, B>,
+    first: (Client, (u32, u32)),
+    second: (Client, (u32, u32)),
+) -> (Client, Client) {
+    join(
+        rt,
+        move || -> Client { uses_its_words(rt, shared, first.0, first.1) },
+        move || -> Client { uses_its_words(rt, shared, second.0, second.1) },
+    )
+}
+
+impl<
     K: Shape + Send + Sync,
     I: Ledger + Send + Sync,
     N: Ledger + Send,
     M: Ledger + Send + Sync,
     B: Ledger + Send + Sync,
-    R: Threads + Wait + Abort + Sync,
->(rt: &R, alloc: Global, blanks: Blanks)
-    requires shape { (K.number ≡ 1) × (K.blocks ≡ 1) }
-    requires blanks { AreFor blanks I.name I.parts N.name N.parts M.name M.parts B.name B.parts }
-{
-    let Opening { shared, mut seats } = must_open::<K, I, N, M, B, R>(rt, alloc, 1, blanks);
-    fill(rt, &shared, 1);
-    let gate = HoldsTheCopy::new();
-    let lock = &shared;
-    let held = &gate;
-    let (pinned, round) = join(
-        rt,
-        move || -> Result<(), ZoneError> { pin_held(rt, lock, held) },
-        move || -> Result<Round, RoundError> { round_of(rt, alloc, lock, &mut seats, 1, 1, held) },
-    );
-    assert!(rt; pinned == Ok(()));
-    assert!(rt; counts_of(rt, round) == (0, 1, 0, 1));
-    assert!(rt; is_pinned(rt, &shared));
+> Opening<K, I, N, M, B> {
+    /// Makes a call of client 1 while a round of so many copiers holds its first copy. What the round counts, without its base.
+    fn calls_beside_a_round<R: Threads + Wait + Abort + AllocGlobal + Sync>(
+        self,
+        rt: &R,
+        copiers: usize,
+        gate: &Holds,
+        calling: (Call, Answer),
+        speaks_first: bool,
+    ) -> (u32, u32, u32) {
+        let Opening {
+            shared,
+            mut seats,
+            keeper,
+        } = self;
+        let user = client(rt, 1);
+        let lock = &shared;
+        let (user, round) = join(
+            rt,
+            move || -> Client { calls_beside(rt, lock, gate, user, calling, speaks_first) },
+            move || -> Result<Round, RoundError> {
+                round_of(rt, lock, &mut seats, copiers, 8, gate)
+            },
+        );
+        assert!(rt; user.receipts().len() == 1);
+        assert!(rt; settled(rt, &shared, &[keeper, user]) == Ok(()));
+        gate.assert_let_go(rt);
+        let (_base, count, moved, back) = counts_of(rt, round);
+        (count, moved, back)
+    }
+
+    /// Two pages can move, and a client uses a third one while a copy of the first is held until the second has ended.
+    pub fn uses_a_page_beside_a_held_one<R: Threads + Wait + Abort + AllocGlobal + Sync>(
+        mut self,
+        rt: &R,
+    ) {
+        self.fill(rt, 2);
+        self.keeps(rt, Call::MapUnmovable(2), Answer::Frame(2));
+        let gate = Holds::at(Point::Copied, 0, 0);
+        let calling = (Call::Load(2, 7), Answer::Value(0));
+        let counts = self.calls_beside_a_round(rt, 2, &gate, calling, false);
+        assert!(rt; counts == (2, 2, 0));
+    }
+
+    /// A page that a client pins while its copy is held is put back.
+    pub fn pins_a_held_page<R: Threads + Wait + Abort + AllocGlobal + Sync>(mut self, rt: &R) {
+        self.fill(rt, 1);
+        let gate = Holds::at(Point::Copied, 1, 0);
+        let calling = (Call::Pin(0), Answer::Done);
+        let counts = self.calls_beside_a_round(rt, 1, &gate, calling, false);
+        assert!(rt; counts == (1, 0, 1));
+    }
+
+    /// A call of a client that a zone refuses while the page moves is answered once the page has come.
+    pub fn waits_for_a_held_page<R: Threads + Wait + Abort + AllocGlobal + Sync>(
+        mut self,
+        rt: &R,
+        call: Call,
+        answer: Answer,
+    ) {
+        self.fill(rt, 1);
+        self.keeps(rt, Call::Store(0, 7, 5), Answer::Done);
+        let gate = Holds::at(Point::Copied, 1, 0);
+        let counts = self.calls_beside_a_round(rt, 1, &gate, (call, answer), true);
+        assert!(rt; counts == (1, 1, 0));
+    }
+
+    /// Two clients use one page, each by an address of its own, while rounds move it with 63 others.
+    pub fn shares_a_page<R: Threads + Wait + Abort + AllocGlobal + Sync>(mut self, rt: &R) {
+        self.fill(rt, 64);
+        self.keeps(rt, Call::Share(0, 99), Answer::Done);
+        let Opening {
+            shared,
+            mut seats,
+            keeper,
+        } = self;
+        let (first, second) = (client(rt, 1), client(rt, 2));
+        let lock = &shared;
+        let ((first, second), counts) = join(
+            rt,
+            move || -> (Client, Client) {
+                join(
+                    rt,
+                    move || -> Client { uses(rt, lock, first, 0, 1) },
+                    move || -> Client { uses(rt, lock, second, 99, 2) },
+                )
+            },
+            move || -> [(u32, u32, u32, u32); 3] { three_rounds(rt, lock, &mut seats) },
+        );
+        assert!(rt; counts == [(0, 64, 64, 0), (64, 0, 0, 0), (64, 0, 0, 0)]);
+        assert!(rt; (first.receipts().len(), second.receipts().len()) == (400, 400));
+        let mut all = Vec::with_capacity(rt.alloc(), 8).expect(rt, "memory");
+        for own in [keeper, first, second] {
+            all.push(own).expect(rt, "memory");
+        }
+        for idle in 3..8 {
+            all.push(client(rt, idle)).expect(rt, "memory");
+        }
+        assert!(rt; settled(rt, &shared, &all) == Ok(()));
+        let fresh = [client(rt, 1)];
+        assert!(rt; settled(rt, &shared, &fresh) == mismatch(rt, 1, 0));
+    }
+
+    /// Four clients share 64 pages, with two words each in a page, while a round of four copiers moves the pages.
+    pub fn uses_own_words<R: Threads + Wait + Abort + AllocGlobal + Sync>(mut self, rt: &R) {
+        self.fill(rt, 64);
+        let Opening {
+            shared,
+            mut seats,
+            keeper,
+        } = self;
+        let low = (client(rt, 1), (0, 1));
+        let next = (client(rt, 2), (2, 3));
+        let third = (client(rt, 3), (4, 5));
+        let high = (client(rt, 4), (6, 7));
+        let lock = &shared;
+        let ((two, others), (round, mut seats)) = join(
+            rt,
+            move || -> ((Client, Client), (Client, Client)) {
+                join(
+                    rt,
+                    move || -> (Client, Client) { two_use_their_words(rt, lock, low, next) },
+                    move || -> (Client, Client) { two_use_their_words(rt, lock, third, high) },
+                )
+            },
+            move || -> (Result<Round, RoundError>, Seats<I, N, M, B>) {
+                let round = round_of(rt, lock, &mut seats, 4, 8, &NoGate);
+                (round, seats)
+            },
+        );
+        assert!(rt; counts_of(rt, round) == (0, 64, 64, 0));
+        assert!(rt; two.0.receipts().len() == 5000);
+        let clients = [keeper, two.0, two.1, others.0, others.1];
+        assert!(rt; settled(rt, &shared, &clients) == Ok(()));
+        let mut zone = shared.into_zone();
+        assert!(rt; zone.audit(&mut seats.scan, &mut seats.ends).is_ok());
+    }
+}
+
+#[test]
+fn gate_two_in_hand(rt: HostRuntime) {
+    tries(&rt, 1, 99, Trial::UsesAPageBesideAHeldOne);
 }
 
 #[test]
 fn a_page_that_a_client_pins_is_put_back(rt: HostRuntime) {
-    a_client_pins::<Brand, Brand, Brand, Brand, Brand, HostRuntime>(&rt, rt.alloc(), Blanks::new());
-}
-
-/// Stores to the page while it is held, and then waits until its move has ended.
-fn visit<K: Shape, I: Ledger, M: Ledger, B: Ledger, R: Wait + Abort>(
-    rt: &R,
-    shared: &SharedZone<K, I, M, B>,
-    gate: &HoldsTheCopy,
-) -> (Result<(), ZoneError>, Result<u64, ZoneError>) {
-    let _ = comes_above(&gate.copied, 0);
-    let stored = store(rt, shared, 0, 9);
-    let mut room = shared.lock(rt);
-    gate.came.store(1, Ordering::SeqCst);
-    for _ in rt.forever() {
-        let loaded = room.zone.load(client(rt), address(rt, 0), last_word(rt));
-        if loaded != Err(ZoneError::Moving) {
-            return (stored, loaded);
-        }
-        room = shared.wait_for_end(rt, room);
-    }
-    unreachable!()
-}
-
-fn a_client_waits<
-    K: Shape + Send + Sync,
-    I: Ledger + Send + Sync,
-    N: Ledger + Send,
-    M: Ledger + Send + Sync,
-    B: Ledger + Send + Sync,
-    R: Threads + Wait + Abort + Sync,
->(rt: &R, alloc: Global, blanks: Blanks)
-    requires shape { (K.number ≡ 1) × (K.blocks ≡ 1) }
-    requires blanks { AreFor blanks I.name I.parts N.name N.parts M.name M.parts B.name B.parts }
-{
-    let Opening { shared, mut seats } = must_open::<K, I, N, M, B, R>(rt, alloc, 1, blanks);
-    fill(rt, &shared, 1);
-    let gate = HoldsTheCopy::new();
-    let lock = &shared;
-    let held = &gate;
-    let ((stored, loaded), round) = join(
-        rt,
-        move || -> (Result<(), ZoneError>, Result<u64, ZoneError>) { visit(rt, lock, held) },
-        move || -> Result<Round, RoundError> { round_of(rt, alloc, lock, &mut seats, 1, 1, held) },
-    );
-    assert!(rt; (stored, loaded) == (Err(ZoneError::Moving), Ok(1)));
-    assert!(rt; counts_of(rt, round) == (0, 1, 1, 0));
-    assert!(rt; load(rt, &shared, 0) == Ok(1));
+    tries(&rt, 1, 99, Trial::PinsAHeldPage);
 }
 
 #[test]
 fn a_client_waits_for_a_page_on_its_way(rt: HostRuntime) {
-    a_client_waits::<Brand, Brand, Brand, Brand, Brand, HostRuntime>(
-        &rt,
-        rt.alloc(),
-        Blanks::new(),
-    );
+    for (call, answer) in [
+        (Call::Load(0, 7), Answer::Value(5)),
+        (Call::Store(0, 7, 6), Answer::Done),
+        (Call::Share(0, 1), Answer::Done),
+        (Call::Unmap(0), Answer::Done),
+    ] {
+        tries(&rt, 1, 99, Trial::WaitsForAHeldPage(call, answer));
+    }
+}
+
+#[test]
+fn two_clients_share_a_page_that_moves(rt: HostRuntime) {
+    tries(&rt, 1, 65536, Trial::SharesAPage);
+}
+
+#[test]
+fn four_clients_find_what_they_stored(rt: HostRuntime) {
+    tries(&rt, 1, 65536, Trial::UsesOwnWords);
 }

@@ -1,21 +1,16 @@
-ghost use Rattle.std.specs.Prelude.{◌≡◌};
-ghost use Rattle.zone_core.specs.Books.{AreFor};
-
-use super::{Opening, counts_of, fill, must_open, round_of};
+use super::opening::{Opening, counts_of, round_of};
+use super::{Trial, tries};
 use round_core::{Gate, Point, Shape};
-use std::alloc::Global;
-use std::marker::Brand;
 use std::process::Abort;
 use std::sync::Wait;
 use std::sync::atomic::{AtomicU64, Ordering};
 use std::sync::ledger::Ledger;
 use std::thread::{Threads, yield_now};
-use zone_core::Blanks;
 
 const TURNS: u32 = 1_000_000;
 
 /// Whether a number comes to be above another.
-pub(super) fn comes_above(number: &AtomicU64, low: u64) -> bool {
+pub fn comes_above(number: &AtomicU64, low: u64) -> bool {
     for _turn in 0..TURNS {
         if number.load(Ordering::SeqCst) > low {
             return true;
@@ -25,60 +20,57 @@ pub(super) fn comes_above(number: &AtomicU64, low: u64) -> bool {
     false
 }
 
-/// Holds the first copier that took a page until the committer has ended another page.
+/// Holds the first copier that reaches a point until a page has ended and a client has spoken, and some turns more.
 #[derive(Drop)]
-struct HoldsTheFirst {
-    taken: AtomicU64,
+pub struct Holds {
+    point: Point,
+    pub reached: AtomicU64,
     ended: AtomicU64,
+    pub answered: AtomicU64,
     held_in_vain: AtomicU64,
 }
 
-impl Gate for HoldsTheFirst {
+impl Holds {
+    /// So many pages count as ended and so many clients as heard before the round begins.
+    pub fn at(point: Point, ended: u64, answered: u64) -> Holds {
+        Holds {
+            point,
+            reached: AtomicU64::new(0),
+            ended: AtomicU64::new(ended),
+            answered: AtomicU64::new(answered),
+            held_in_vain: AtomicU64::new(0),
+        }
+    }
+
+    fn hold(&self) {
+        if !comes_above(&self.ended, 0) || !comes_above(&self.answered, 0) {
+            self.held_in_vain.store(1, Ordering::SeqCst);
+        }
+        for _turn in 0..1000 {
+            yield_now();
+        }
+    }
+
+    /// What it waited for came.
+    pub fn assert_let_go(&self, rt: &impl Abort) {
+        assert!(rt; self.reached.load(Ordering::SeqCst) > 0);
+        assert!(rt; self.held_in_vain.load(Ordering::SeqCst) == 0);
+    }
+}
+
+impl Gate for Holds {
     fn at(&self, point: Point, who: usize) {
-        match point {
-            Point::Taken => {
-                let first = self.taken.fetch_add(1, Ordering::SeqCst) == 0;
-                if first && !comes_above(&self.ended, 0) {
-                    self.held_in_vain.store(1, Ordering::SeqCst);
-                }
-            }
-            Point::Ended if who == 5 => {
-                self.ended.fetch_add(1, Ordering::SeqCst);
-            }
-            _ => {}
+        if point == self.point && self.reached.fetch_add(1, Ordering::SeqCst) == 0 {
+            self.hold();
+        }
+        if point == Point::Ended && who == 5 {
+            self.ended.fetch_add(1, Ordering::SeqCst);
         }
     }
 }
 
-fn two_copiers<
-    K: Shape + Send + Sync,
-    I: Ledger + Send + Sync,
-    N: Ledger,
-    M: Ledger + Send + Sync,
-    B: Ledger + Send + Sync,
-    R: Threads + Wait + Abort + Sync,
->(rt: &R, alloc: Global, blanks: Blanks)
-    requires shape { (K.number ≡ 1) × (K.blocks ≡ 1) }
-    requires blanks { AreFor blanks I.name I.parts N.name N.parts M.name M.parts B.name B.parts }
-{
-    let Opening { shared, mut seats } = must_open::<K, I, N, M, B, R>(rt, alloc, 1, blanks);
-    fill(rt, &shared, 2);
-    let gate = HoldsTheFirst {
-        taken: AtomicU64::new(0),
-        ended: AtomicU64::new(0),
-        held_in_vain: AtomicU64::new(0),
-    };
-    let round = round_of(rt, alloc, &shared, &mut seats, 2, 2, &gate);
-    assert!(rt; counts_of(rt, round) == (0, 2, 2, 0));
-    assert!(rt; gate.held_in_vain.load(Ordering::SeqCst) == 0);
-}
-
-#[test]
-fn gate_two_copiers(rt: HostRuntime) {
-    two_copiers::<Brand, Brand, Brand, Brand, Brand, HostRuntime>(&rt, rt.alloc(), Blanks::new());
-}
-
-/// Notes how many pages the scanner isolated, each copier took, and the committer ended.
+/// Notes how many pages the scanner isolated, each copier took, and the committer ended. The first copier waits with each page until
+/// 100 pages have ended, so that the copiers don't get equal shares.
 #[derive(Drop)]
 struct Notes {
     isolated: AtomicU64,
@@ -114,41 +106,55 @@ impl Gate for Notes {
             _ => return,
         };
         note.fetch_add(1, Ordering::SeqCst);
+        if point == Point::Taken && who == 1 {
+            let _ = comes_above(&self.ended, 99);
+        }
     }
 }
 
-fn notes_each_page<
+impl<
     K: Shape + Send + Sync,
     I: Ledger + Send + Sync,
     N: Ledger,
     M: Ledger + Send + Sync,
     B: Ledger + Send + Sync,
-    R: Threads + Wait + Abort + Sync,
->(rt: &R, alloc: Global, blanks: Blanks)
-    requires shape { (K.number ≡ 1) × (K.blocks ≡ 2) }
-    requires blanks { AreFor blanks I.name I.parts N.name N.parts M.name M.parts B.name B.parts }
-{
-    let Opening { shared, mut seats } = must_open::<K, I, N, M, B, R>(rt, alloc, 2, blanks);
-    fill(rt, &shared, 512);
-    let gate = Notes::none();
-    let Ok(round) = round_of(rt, alloc, &shared, &mut seats, 4, 8, &gate) else {
-        panic!(rt; "the round is refused");
-    };
-    assert!(rt; round.count == 512);
-    let notes = [&gate.first, &gate.second, &gate.third, &gate.fourth];
-    assert!(rt; round.by_copier.len() == notes.len());
-    for (list, note) in round.by_copier.iter().zip(notes) {
-        assert!(rt; list.len() as u64 == note.load(Ordering::SeqCst));
+> Opening<K, I, N, M, B> {
+    /// The first copier that took a page is held until the other one's page has ended.
+    pub fn holds_one_of_two_copiers<R: Threads + Wait + Abort + AllocGlobal + Sync>(
+        mut self,
+        rt: &R,
+    ) {
+        self.fill(rt, 2);
+        let gate = Holds::at(Point::Taken, 0, 1);
+        let round = round_of(rt, &self.shared, &mut self.seats, 2, 2, &gate);
+        assert!(rt; counts_of(rt, round) == (0, 2, 2, 0));
+        gate.assert_let_go(rt);
     }
-    assert!(rt; gate.isolated.load(Ordering::SeqCst) == 512);
-    assert!(rt; gate.ended.load(Ordering::SeqCst) == 512);
+
+    /// The list of each copier has as many serials as it took pages.
+    pub fn notes_each_page<R: Threads + Wait + Abort + AllocGlobal + Sync>(mut self, rt: &R) {
+        self.fill(rt, 512);
+        let gate = Notes::none();
+        let Ok(round) = round_of(rt, &self.shared, &mut self.seats, 4, 8, &gate) else {
+            panic!(rt; "the round is refused");
+        };
+        assert!(rt; round.count == 512);
+        let notes = [&gate.first, &gate.second, &gate.third, &gate.fourth];
+        assert!(rt; round.by_copier.len() == notes.len());
+        for (list, note) in round.by_copier.iter().zip(notes) {
+            assert!(rt; list.len() as u64 == note.load(Ordering::SeqCst));
+        }
+        assert!(rt; gate.isolated.load(Ordering::SeqCst) == 512);
+        assert!(rt; gate.ended.load(Ordering::SeqCst) == 512);
+    }
+}
+
+#[test]
+fn gate_two_copiers(rt: HostRuntime) {
+    tries(&rt, 1, 65536, Trial::HoldsOneOfTwoCopiers);
 }
 
 #[test]
 fn each_list_has_what_its_copier_took(rt: HostRuntime) {
-    notes_each_page::<Brand, Brand, Brand, Brand, Brand, HostRuntime>(
-        &rt,
-        rt.alloc(),
-        Blanks::new(),
-    );
+    tries(&rt, 2, 65536, Trial::NotesEachPage);
 }

@@ -1,4 +1,4 @@
-//! The other calls of a zone that append a record, on the zone of a world. Each is refused as the zone's own is.
+//! The other calls of a zone that append a record, made on the zone of a world. Each is refused as the zone's own call is.
 
 ghost use Rattle.std.specs.Prelude.{◌≡◌, ◌*◌, Some, IfOk, OnOk, OnErr};
 ghost use Rattle.std.specs.Result.{result_err};
@@ -15,7 +15,7 @@ use state_core::ZoneError;
 use std::sync::ledger::Ledger;
 
 impl<I: Ledger, N: Ledger, M: Ledger, B: Ledger> World<I, N, M, B> {
-    /// Lets one more address, the alias, name the page that an address names.
+    /// Makes an alias name the page of an address too.
     pub fn share(
         &mut self,
         client: ClientNo,
@@ -30,7 +30,7 @@ impl<I: Ledger, N: Ledger, M: Ledger, B: Ledger> World<I, N, M, B> {
         self.zone.share(client, address, alias)
     }
 
-    /// Lets an address name no page any more. A page ends with its last address.
+    /// Makes an address name no page any more. A page that has no address left isn't in use.
     pub fn unmap(&mut self, client: ClientNo, address: Address) -> Result<(), ZoneError>
         ensures refused { result_err result ≡ unmap_refusal self.old.zone address }
         ensures err { OnErr result (self.new ≡ self.old) }
@@ -40,7 +40,7 @@ impl<I: Ledger, N: Ledger, M: Ledger, B: Ledger> World<I, N, M, B> {
         self.zone.unmap(client, address)
     }
 
-    /// Pins the page that an address names, also one that is on its way.
+    /// Pins the page that an address names, also while the page is moving.
     pub fn pin(&mut self, client: ClientNo, address: Address) -> Result<(), ZoneError>
         ensures refused { result_err result ≡ pin_refusal self.old.zone address }
         ensures err { OnErr result (self.new ≡ self.old) }
@@ -50,7 +50,7 @@ impl<I: Ledger, N: Ledger, M: Ledger, B: Ledger> World<I, N, M, B> {
         self.zone.pin(client, address)
     }
 
-    /// Takes a pin off the page that an address names.
+    /// Takes a pin off the page that an address names, also while the page is moving.
     pub fn unpin(&mut self, client: ClientNo, address: Address) -> Result<(), ZoneError>
         ensures refused { result_err result ≡ unpin_refusal self.old.zone address }
         ensures err { OnErr result (self.new ≡ self.old) }
@@ -60,7 +60,7 @@ impl<I: Ledger, N: Ledger, M: Ledger, B: Ledger> World<I, N, M, B> {
         self.zone.unpin(client, address)
     }
 
-    /// Hands out the lowest block of this order whose frames are all free, and tells its first frame.
+    /// Hands out the lowest free block of an order, 3 to 9, and answers its first frame.
     pub fn take_order(&mut self, order: Order) -> Result<FrameNo, ZoneError>
         ensures refused { result_err result ≡ take_order_refusal self.old.zone order }
         ensures err { OnErr result (self.new ≡ self.old) }
@@ -71,7 +71,7 @@ impl<I: Ledger, N: Ledger, M: Ledger, B: Ledger> World<I, N, M, B> {
         self.zone.take_order(order)
     }
 
-    /// Takes back the block of this order that was handed out at a first frame.
+    /// Takes back a block that was handed out, by its first frame and its order.
     pub fn give_order(&mut self, first: FrameNo, order: Order) -> Result<(), ZoneError>
         ensures refused { result_err result ≡ give_order_refusal self.old.zone first order }
         ensures err { OnErr result (self.new ≡ self.old) }
@@ -81,7 +81,7 @@ impl<I: Ledger, N: Ledger, M: Ledger, B: Ledger> World<I, N, M, B> {
         self.zone.give_order(first, order)
     }
 
-    /// Hands out the lowest pageblock whose frames are all free.
+    /// Hands out the lowest pageblock whose 512 frames are all free, and answers its number.
     pub fn take_huge(&mut self) -> Result<BlockNo, ZoneError>
         ensures refused { result_err result ≡ take_order_refusal self.old.zone 9 }
         ensures err { OnErr result (self.new ≡ self.old) }
@@ -102,7 +102,7 @@ impl<I: Ledger, N: Ledger, M: Ledger, B: Ledger> World<I, N, M, B> {
         self.zone.give_huge(block)
     }
 
-    /// Marks a pageblock, so that the scanners leave it alone.
+    /// Marks a pageblock, so that the scanners pass over it.
     pub fn mark(&mut self, block: BlockNo) -> Result<(), ZoneError>
         ensures refused { result_err result ≡ mark_refusal self.old.zone block }
         ensures err { OnErr result (self.new ≡ self.old) }
@@ -112,7 +112,7 @@ impl<I: Ledger, N: Ledger, M: Ledger, B: Ledger> World<I, N, M, B> {
         self.zone.mark(block)
     }
 
-    /// Takes the mark off a pageblock.
+    /// Takes the mark of a pageblock off.
     pub fn unmark(&mut self, block: BlockNo) -> Result<(), ZoneError>
         ensures refused { result_err result ≡ unmark_refusal self.old.zone block }
         ensures err { OnErr result (self.new ≡ self.old) }

@@ -2,8 +2,8 @@
 
 ghost use Rattle.std.specs.Prelude.{◌≡◌, ◌<◌, ◌≤◌, length};
 
-use super::calls::{Answer, looked};
 use super::lists::Listed;
+use super::steps::{Answer, looked};
 use super::{frame, order};
 use frame_core::{FrameNo, FrameState, PageNo, Serial};
 use journal_core::{Journal, Record};
@@ -14,8 +14,8 @@ use table_core::Entry;
 use zone_core::{Info, Zone};
 
 /// The counts that a zone tells, the sets of its frames, and the newest page's number are what walks find.
-pub fn assert_counts<I: Ledger, M: Ledger, B: Ledger, R: Abort + AllocGlobal>(
-    rt: &R,
+pub fn assert_counts<I: Ledger, M: Ledger, B: Ledger>(
+    rt: &(impl Abort + AllocGlobal),
     zone: &Zone<I, M, B>,
 ) {
     let frames = zone.frames();
@@ -32,7 +32,7 @@ pub fn assert_counts<I: Ledger, M: Ledger, B: Ledger, R: Abort + AllocGlobal>(
 }
 
 /// What each frame is used for.
-fn states<R: Abort + AllocGlobal>(rt: &R, frames: &Frames) -> Vec<FrameState> {
+fn states(rt: &(impl Abort + AllocGlobal), frames: &Frames) -> Vec<FrameState> {
     let mut states = Vec::new(rt.alloc());
     for number in 0..frames.len() {
         let state = frames.state(frame(rt, number));
@@ -41,7 +41,7 @@ fn states<R: Abort + AllocGlobal>(rt: &R, frames: &Frames) -> Vec<FrameState> {
     states
 }
 
-fn assert_told<R: Abort>(rt: &R, told: Info, states: &[FrameState]) {
+fn assert_told(rt: &impl Abort, told: Info, states: &[FrameState]) {
     assert_used(rt, told, states);
     assert_moving(rt, told, states);
     let free = states.iter().filter(|state| is_free(state)).count();
@@ -53,7 +53,7 @@ fn assert_told<R: Abort>(rt: &R, told: Info, states: &[FrameState]) {
 }
 
 /// The counts of pages, and of frames in blocks that are handed out.
-fn assert_used<R: Abort>(rt: &R, told: Info, states: &[FrameState]) {
+fn assert_used(rt: &impl Abort, told: Info, states: &[FrameState]) {
     let pages = states
         .iter()
         .filter(|state| matches!(state, FrameState::Holds(_) | FrameState::Source(_)))
@@ -65,8 +65,8 @@ fn assert_used<R: Abort>(rt: &R, told: Info, states: &[FrameState]) {
     assert!(rt; (told.pages as usize, told.held as usize) == (pages, held));
 }
 
-/// A page on its way has two frames.
-fn assert_moving<R: Abort>(rt: &R, told: Info, states: &[FrameState]) {
+/// A page that is moving has two frames.
+fn assert_moving(rt: &impl Abort, told: Info, states: &[FrameState]) {
     let sources = states
         .iter()
         .filter(|state| matches!(state, FrameState::Source(_)))
@@ -96,7 +96,7 @@ fn blocks_out(journal: &Journal) -> usize {
 }
 
 /// The set of frames that are free has just those, and knows the lowest.
-fn assert_free<R: Abort>(rt: &R, frames: &Frames, states: &[FrameState]) {
+fn assert_free(rt: &impl Abort, frames: &Frames, states: &[FrameState]) {
     for number in 0..frames.len() {
         let state = states.get(number as usize).expect(rt, "a frame");
         assert!(rt; frames.is_free(frame(rt, number)) == is_free(state));
@@ -106,7 +106,7 @@ fn assert_free<R: Abort>(rt: &R, frames: &Frames, states: &[FrameState]) {
 }
 
 /// The first run of an order is the lowest aligned one whose frames are all free.
-fn assert_run<R: Abort>(rt: &R, frames: &Frames, states: &[FrameState], number: u32) {
+fn assert_run(rt: &impl Abort, frames: &Frames, states: &[FrameState], number: u32) {
     let order = order(rt, number);
     let size = order.frames() as usize;
     let mut runs = states.chunks(size);
@@ -116,7 +116,7 @@ fn assert_run<R: Abort>(rt: &R, frames: &Frames, states: &[FrameState], number: 
 }
 
 /// The number of a page that was just mapped is the lowest that no other page has.
-fn assert_newest<R: Abort>(rt: &R, journal: &Journal, states: &[FrameState]) {
+fn assert_newest(rt: &impl Abort, journal: &Journal, states: &[FrameState]) {
     let Some(Record::Map { page, .. }) = journal.last() else {
         return;
     };
@@ -149,8 +149,8 @@ fn isolated_page(journal: &Journal, under: Serial) -> Option<PageNo> {
 }
 
 /// What is told of the page that a frame holds, or that left it, is what its entries and its frame say.
-pub fn assert_pages<I: Ledger, M: Ledger, B: Ledger, R: Abort>(
-    rt: &R,
+pub fn assert_pages<I: Ledger, M: Ledger, B: Ledger>(
+    rt: &impl Abort,
     zone: &Zone<I, M, B>,
     lists: &[Listed],
 ) {
@@ -166,7 +166,7 @@ pub fn assert_pages<I: Ledger, M: Ledger, B: Ledger, R: Abort>(
     }
 }
 
-fn assert_page<R: Abort>(rt: &R, frames: &Frames, frame: FrameNo, list: &Listed, told: Answer)
+fn assert_page(rt: &impl Abort, frames: &Frames, frame: FrameNo, list: &Listed, told: Answer)
     requires { frame < length frames.now.states }
 {
     let state = frames.state(frame);
@@ -184,7 +184,7 @@ fn assert_page<R: Abort>(rt: &R, frames: &Frames, frame: FrameNo, list: &Listed,
             assert!(rt; list.entry == Entry::Present(frame));
             assert!(rt; frames.movable(frame) == (pins == 0 && !unmovable));
         }
-        Answer::OnItsWay { serial, maps, .. } => {
+        Answer::Moving { serial, maps, .. } => {
             assert!(rt; (state, maps as usize) == (FrameState::Source(serial), addresses));
             let source = frame;
             assert!(rt; list.entry == Entry::Migration { serial, source });
@@ -193,7 +193,7 @@ fn assert_page<R: Abort>(rt: &R, frames: &Frames, frame: FrameNo, list: &Listed,
     }
 }
 
-fn assert_no_page<R: Abort>(rt: &R, frames: &Frames, frame: FrameNo)
+fn assert_no_page(rt: &impl Abort, frames: &Frames, frame: FrameNo)
     requires { frame < length frames.now.states }
 {
     let state = frames.state(frame);

@@ -26,7 +26,7 @@ impl Listed {
     }
 
     /// Each address that is listed under one frame has the same entry.
-    fn add<R: Abort>(&mut self, rt: &R, entry: Entry, address: Address) {
+    fn add(&mut self, rt: &impl Abort, entry: Entry, address: Address) {
         assert!(rt; self.addresses.is_empty() || self.entry == entry);
         self.entry = entry;
         assert!(rt;
@@ -37,7 +37,7 @@ impl Listed {
 }
 
 /// What one walk over all entries lists under each of so many frames.
-pub fn walked<R: Abort + AllocGlobal>(rt: &R, tables: &Tables, frames: u32) -> Vec<Listed> {
+pub fn walked(rt: &(impl Abort + AllocGlobal), tables: &Tables, frames: u32) -> Vec<Listed> {
     let mut lists = Vec::new(rt.alloc());
     for _ in 0..frames {
         lists.push(Listed::none()).expect(rt, "memory");
@@ -48,7 +48,7 @@ pub fn walked<R: Abort + AllocGlobal>(rt: &R, tables: &Tables, frames: u32) -> V
     lists
 }
 
-fn list_space<R: Abort>(rt: &R, tables: &Tables, space: u32, lists: &mut Vec<Listed>) {
+fn list_space(rt: &impl Abort, tables: &Tables, space: u32, lists: &mut Vec<Listed>) {
     for vpage in 0..4096 {
         let entry = tables.entry(address(rt, (space, vpage)));
         if let Some(frame) = frame_of(&entry) {
@@ -70,8 +70,8 @@ fn frame_of(entry: &Entry) -> Option<FrameNo> {
 }
 
 /// The list that is kept for each frame is the one that the walk found.
-pub fn assert_lists<I: Ledger, M: Ledger, B: Ledger, R: Abort>(
-    rt: &R,
+pub fn assert_lists<I: Ledger, M: Ledger, B: Ledger>(
+    rt: &impl Abort,
     zone: &Zone<I, M, B>,
     lists: &[Listed],
 ) {
@@ -81,7 +81,7 @@ pub fn assert_lists<I: Ledger, M: Ledger, B: Ledger, R: Abort>(
     }
 }
 
-fn assert_list<R: Abort>(rt: &R, tables: &Tables, frame: FrameNo, list: &Listed)
+fn assert_list(rt: &impl Abort, tables: &Tables, frame: FrameNo, list: &Listed)
     requires { frame < tables.now.frames }
 {
     let addresses = list.addresses.as_slice();
@@ -94,14 +94,14 @@ fn assert_list<R: Abort>(rt: &R, tables: &Tables, frame: FrameNo, list: &Listed)
 }
 
 /// The list of each frame in use is what a walk for this frame or serial finds.
-pub fn assert_walks<I: Ledger, M: Ledger, B: Ledger, R: Abort>(rt: &R, zone: &Zone<I, M, B>) {
+pub fn assert_walks<I: Ledger, M: Ledger, B: Ledger>(rt: &impl Abort, zone: &Zone<I, M, B>) {
     for number in 0..zone.frames().len() {
         let frame = frame(rt, number);
         assert_walk(rt, zone.tables(), frame, zone.frames().state(frame));
     }
 }
 
-fn assert_walk<R: Abort>(rt: &R, tables: &Tables, frame: FrameNo, state: FrameState)
+fn assert_walk(rt: &impl Abort, tables: &Tables, frame: FrameNo, state: FrameState)
     requires { frame < tables.now.frames }
 {
     match state {

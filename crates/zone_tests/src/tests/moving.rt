@@ -1,346 +1,233 @@
+//! Pages that are moved by hand, by the calls of a zone and of its two seats.
+
 ghost use Rattle.zone_core.specs.Books.{AreFor};
 
-use super::calls::{Answer, Call, Name};
-use super::opening::Opening;
-use super::word;
-use frame_core::{PageNo, ZoneNo};
+use super::{address, client, word};
+use bitflags::Flags;
+use frame_core::{Address, PageFlags, PageNo, ZoneNo};
 use std::marker::Brand;
 use std::process::Abort;
 use std::sync::ledger::Ledger;
 use word_core::{Isolated, Page};
-use zone_core::{Audit, Blanks, Ended, Info, Next, Stranger, ZoneError};
-
-const NINE: Name = (7, 9);
-
-const TEN: Name = (7, 10);
+use zone_core::{
+    Audit, Blanks, EndSeat, Ended, Info, Look, Next, ScanSeat, Stranger, Zone, ZoneError,
+};
 
 const WORDS: [u64; 8] = [0, u64::MAX, 1, 2, 3, 5, 8, 13];
 
-/// A page with eight different words.
-fn maps_words<I: Ledger, N: Ledger, M: Ledger, B: Ledger, R: Abort>(
-    rt: &R,
-    opening: &mut Opening<I, N, M, B>,
-) {
-    opening.plays(rt, &[(Call::Map(NINE), Answer::Frame(0))]);
-    for number in 0..8 {
-        let call = Call::Store(NINE, number, WORDS[number as usize]);
-        opening.plays(rt, &[(call, Answer::Done)]);
-    }
-}
-
-fn assert_words<I: Ledger, N: Ledger, M: Ledger, B: Ledger, R: Abort>(
-    rt: &R,
-    opening: &mut Opening<I, N, M, B>,
-) {
-    for number in 0..8 {
-        let want = Answer::Value(WORDS[number as usize]);
-        opening.plays(rt, &[(Call::Load(NINE, number), want)]);
-    }
-}
-
-/// A page with the same words.
-fn twin_of<R: Abort>(rt: &R, page: &Page) -> Page {
-    let mut twin = Page::new(page.zone(), page.number());
-    for number in 0..8 {
-        let word = word(rt, number);
-        twin.set_word(word, page.word(word));
-    }
-    twin
-}
-
-/// One page was isolated, and so many were moved and put back.
-fn assert_audit<I: Ledger, N: Ledger, M: Ledger, B: Ledger, R: Abort>(
-    rt: &R,
-    opening: &mut Opening<I, N, M, B>,
-    moved: u32,
-    back: u32,
-) {
-    let counted = Audit {
-        isolated: 1,
-        moved,
-        back,
-    };
-    assert!(rt; opening.audit() == Ok(counted));
-}
-
-fn moves_a_page<I: Ledger, N: Ledger, M: Ledger, B: Ledger, R: Abort>(
-    rt: &R,
-    opening: &mut Opening<I, N, M, B>,
-) {
-    maps_words(rt, opening);
-    let page = opening.isolated(rt);
-    assert!(rt; page.page_no().get() == 0);
-    let ended = opening.commit(page.copy_into_new());
-    assert!(rt; matches!(ended, Ok(Ended::Moved)));
-    assert_words(rt, opening);
-    let moved = Answer::At {
-        frame: 511,
-        dirty: true,
-        unmovable: false,
-        pins: 0,
-        maps: 1,
-    };
-    opening.plays(
-        rt,
-        &[
-            (Call::Look(NINE), moved),
-            (Call::Look((7, 8)), Answer::Refused(ZoneError::Unmapped)),
-        ],
-    );
+/// Zone 3, of one pageblock, which was just opened, with its seats and a page in frame 0.
+#[derive(Drop)]
+struct Moving<I: Ledger, N: Ledger, M: Ledger, B: Ledger> {
+    zone: Zone<I, M, B>,
+    scan: ScanSeat<I, N>,
+    ends: EndSeat<M, B>,
 }
 
 /// What is told of a zone: its counts, the length of its journal, and what is known of its page.
-fn told<I: Ledger, N: Ledger, M: Ledger, B: Ledger, R: Abort>(
-    rt: &R,
-    opening: &Opening<I, N, M, B>,
-) -> (Info, usize, Answer) {
-    (opening.info(), opening.records(), opening.look(rt, NINE))
+type Told = (Info, usize, Result<Look, ZoneError>);
+
+fn page(rt: &impl Abort) -> Address {
+    address(rt, (7, 9))
 }
 
-fn commits_a_changed_copy<I: Ledger, N: Ledger, M: Ledger, B: Ledger, R: Abort>(
-    rt: &R,
-    opening: &mut Opening<I, N, M, B>,
-) {
-    maps_words(rt, opening);
-    let isolated = opening.isolated(rt);
-    let last = word(rt, 7);
-    let before = told(rt, opening);
-    let serial = isolated.serial();
-    let mut page = isolated.into_page();
-    page.set_word(last, 14);
-    let Err(Stranger(copy)) = opening.commit(Isolated::new(serial, page).copy_into_new()) else {
-        panic!(rt; "a changed copy is committed");
-    };
-    assert!(rt; copy.serial() == serial);
-    assert!(rt; copy.page().word(last) == 14);
-    assert!(rt; told(rt, opening) == before);
-    let mut page = copy.into_page();
-    page.set_word(last, 13);
-    let ended = opening.commit(Isolated::new(serial, page).copy_into_new());
-    assert!(rt; matches!(ended, Ok(Ended::Moved)));
-    assert_words(rt, opening);
-    // The seat counted the right copy alone.
-    assert_audit(rt, opening, 1, 0);
-}
-
-fn splits_a_seat<I: Ledger, N: Ledger, M: Ledger, B: Ledger, R: Abort + AllocGlobal>(
-    rt: &R,
-    opening: &mut Opening<I, N, M, B>,
-) {
-    opening.plays(rt, &[(Call::Map(NINE), Answer::Frame(0))]);
-    let mut parts = Vec::new(rt.alloc());
-    for _ in 0..63 {
-        let part = opening.split().expect(rt, "a part");
-        parts.push(part).expect(rt, "memory");
+impl<I: Ledger, N: Ledger, M: Ledger, B: Ledger> Moving<I, N, M, B> {
+    /// With so many places in its journal.
+    fn of(rt: &(impl Abort + AllocGlobal), places: u32, blanks: Blanks) -> Self
+        requires blanks { AreFor blanks I.name I.parts N.name N.parts M.name M.parts B.name B.parts }
+    {
+        let number = ZoneNo::new(3).expect(rt, "a zone");
+        let opened = Zone::<I, M, B>::open::<N>(rt.alloc(), number, 1, places, blanks);
+        let (mut zone, scan, ends) = opened.expect(rt, "a zone");
+        assert!(rt; !zone.quiet());
+        assert!(rt; zone.map(client(rt), page(rt), PageFlags::empty()).is_ok());
+        Moving { zone, scan, ends }
     }
-    assert!(rt; opening.split().is_none());
-    // One part counts a page.
-    let mut last = parts.pop().expect(rt, "a part");
-    let page = opening.isolated(rt);
-    assert!(rt; opening.put_back_by(&mut last, page).is_ok());
-    for part in parts {
-        opening.join(part);
+
+    /// The first page that a new round isolates.
+    fn isolated(&mut self, rt: &impl Abort) -> Isolated {
+        self.zone.begin_round(&mut self.scan);
+        let Ok(Next::Page(page)) = self.zone.isolate_next(&mut self.scan) else {
+            panic!(rt; "no page is isolated");
+        };
+        page
     }
-    assert!(rt; opening.audit() == Err(ZoneError::Missing));
-    opening.join(last);
-    assert_audit(rt, opening, 0, 1);
-}
 
-fn ends_a_serial_twice<I: Ledger, N: Ledger, M: Ledger, B: Ledger, R: Abort>(
-    rt: &R,
-    opening: &mut Opening<I, N, M, B>,
-) {
-    maps_words(rt, opening);
-    let page = opening.isolated(rt);
-    assert!(rt; opening.audit() == Err(ZoneError::Out));
-    let second = Isolated::new(page.serial(), twin_of(rt, page.page()));
-    let third = Isolated::new(page.serial(), twin_of(rt, page.page()));
-    let ended = opening.commit(page.copy_into_new());
-    assert!(rt; matches!(ended, Ok(Ended::Moved)));
-    assert!(rt; opening.commit(second.copy_into_new()).is_err());
-    assert!(rt; opening.put_back(third).is_err());
-    assert_audit(rt, opening, 1, 0);
-}
-
-/// Page 0 of zone 3 is on its way under serial 0, and pages 0 and 1 hold zeros.
-fn ends_strangers<I: Ledger, N: Ledger, M: Ledger, B: Ledger, R: Abort>(
-    rt: &R,
-    opening: &mut Opening<I, N, M, B>,
-) {
-    opening.plays(
-        rt,
-        &[
-            (Call::Map(NINE), Answer::Frame(0)),
-            (Call::Map(TEN), Answer::Frame(1)),
-        ],
-    );
-    let page = opening.isolated(rt);
-    for (number, page_number, serial) in [
-        (2, 0, 0),
-        (3, 0, 1),
-        (3, 1, 0),
-        (3, 2, 0),
-        (3, 4095, 0),
-    ] {
-        let number = ZoneNo::new(number).expect(rt, "a zone");
-        let page_number = PageNo::new(page_number).expect(rt, "a page");
-        let stranger = Isolated::new(serial, Page::new(number, page_number));
-        assert!(rt; opening.commit(stranger.copy_into_new()).is_err());
-        let stranger = Isolated::new(serial, Page::new(number, page_number));
-        assert!(rt; opening.put_back(stranger).is_err());
+    fn store(&mut self, rt: &impl Abort, number: u32, value: u64) -> Result<(), ZoneError> {
+        let word = word(rt, number);
+        self.zone.store(client(rt), page(rt), word, value)
     }
-    assert!(rt; opening.put_back(page).is_ok());
-}
 
-fn fills_a_journal<I: Ledger, N: Ledger, M: Ledger, B: Ledger, R: Abort>(
-    rt: &R,
-    opening: &mut Opening<I, N, M, B>,
-) {
-    opening.plays(rt, &[(Call::Map(NINE), Answer::Frame(0))]);
-    for serial in 0..32767 {
-        let page = opening.isolated(rt);
+    fn load(&mut self, rt: &impl Abort, number: u32) -> Result<u64, ZoneError> {
+        let word = word(rt, number);
+        self.zone.load(client(rt), page(rt), word)
+    }
+
+    fn told(&self, rt: &impl Abort) -> Told {
+        let look = self.zone.look(page(rt));
+        (self.zone.info(), self.zone.journal().len(), look)
+    }
+
+    /// So many pages were isolated, moved and put back.
+    fn assert_audit(&mut self, rt: &impl Abort, isolated: u32, moved: u32, back: u32) {
+        let counted = Audit {
+            isolated,
+            moved,
+            back,
+        };
+        assert!(rt; self.zone.audit(&mut self.scan, &mut self.ends) == Ok(counted));
+    }
+
+    /// A zone refuses to end the move of a copy that isn't its own: the copy comes back, and the zone is as before.
+    fn refuses_copy(&mut self, rt: &impl Abort, page: Isolated) -> Page {
+        let before = self.told(rt);
+        let serial = page.serial();
+        let Err(Stranger(copy)) = self.zone.commit(&mut self.ends, page.copy_into_new()) else {
+            panic!(rt; "a stranger is committed");
+        };
+        assert!(rt; copy.serial() == serial);
+        assert!(rt; self.told(rt) == before);
+        copy.into_page()
+    }
+
+    /// A zone refuses to put a page back that isn't its own: the page comes back, and the zone is as before.
+    fn refuses_page(&mut self, rt: &impl Abort, page: Isolated) -> Page {
+        let before = self.told(rt);
+        let serial = page.serial();
+        let Err(Stranger(page)) = self.zone.put_back(&mut self.ends, page) else {
+            panic!(rt; "a stranger is put back");
+        };
         assert!(rt; page.serial() == serial);
-        assert!(rt; opening.put_back(page).is_ok());
+        assert!(rt; self.told(rt) == before);
+        page.into_page()
     }
-    opening.begin_round();
-    let next = opening.isolate_next();
-    assert!(rt; matches!(next, Err(ZoneError::JournalFull)));
-    opening.plays(
-        rt,
-        &[
-            (Call::Load(NINE, 0), Answer::Value(0)),
-            (Call::Load(NINE, 0), Answer::Refused(ZoneError::JournalFull)),
-        ],
-    );
-    assert!(rt; opening.records() == 65536);
+
+    /// A page moves with eight different words. A copy with another word is handed back, and the seat doesn't count it.
+    fn moves_its_words(&mut self, rt: &impl Abort) {
+        for number in 0..8 {
+            assert!(rt; self.store(rt, number, WORDS[number as usize]) == Ok(()));
+        }
+        let last = word(rt, 7);
+        let isolated = self.isolated(rt);
+        let serial = isolated.serial();
+        let mut page = isolated.into_page();
+        page.set_word(last, 14);
+        let mut page = self.refuses_copy(rt, Isolated::new(serial, page));
+        assert!(rt; page.word(last) == 14);
+        page.set_word(last, WORDS[7]);
+        let copy = Isolated::new(serial, page).copy_into_new();
+        let ended = self.zone.commit(&mut self.ends, copy);
+        assert!(rt; matches!(ended, Ok(Ended::Moved)));
+        for number in 0..8 {
+            assert!(rt; self.load(rt, number) == Ok(WORDS[number as usize]));
+        }
+        self.assert_audit(rt, 1, 1, 0);
+    }
+
+    /// Pages of another zone, under another serial or with another number are strangers, and so is the page once it has ended.
+    fn refuses_strangers(&mut self, rt: &impl Abort) {
+        let isolated = self.isolated(rt);
+        assert!(rt; self.zone.audit(&mut self.scan, &mut self.ends) == Err(ZoneError::Out));
+        for (zone, number, serial) in [(2, 0, 0), (3, 0, 1), (3, 1, 0), (3, 4095, 0)] {
+            let zone = ZoneNo::new(zone).expect(rt, "a zone");
+            let number = PageNo::new(number).expect(rt, "a page");
+            let page = self.refuses_copy(rt, Isolated::new(serial, Page::new(zone, number)));
+            let page = self.refuses_page(rt, Isolated::new(serial, page));
+            assert!(rt; (page.zone(), page.number()) == (zone, number));
+        }
+        let twin = Page::new(isolated.page().zone(), isolated.page_no());
+        assert!(rt; self.zone.put_back(&mut self.ends, isolated).is_ok());
+        let twin = self.refuses_copy(rt, Isolated::new(0, twin));
+        let _ = self.refuses_page(rt, Isolated::new(0, twin));
+        self.assert_audit(rt, 1, 0, 1);
+    }
+
+    /// An end seat is split into 64 parts, each of which counts. The audit is refused while one is missing.
+    fn splits_its_seat(&mut self, rt: &(impl Abort + AllocGlobal)) {
+        let mut parts = Vec::new(rt.alloc());
+        for _ in 0..63 {
+            let part = self.ends.split().expect(rt, "a part");
+            parts.push(part).expect(rt, "memory");
+        }
+        assert!(rt; self.ends.split().is_none());
+        let mut last = parts.pop().expect(rt, "a part");
+        let page = self.isolated(rt);
+        assert!(rt; self.zone.put_back(&mut last, page).is_ok());
+        for part in parts {
+            self.ends.join(part);
+        }
+        assert!(rt; self.zone.audit(&mut self.scan, &mut self.ends) == Err(ZoneError::Missing));
+        self.ends.join(last);
+        self.assert_audit(rt, 1, 0, 1);
+    }
+
+    /// The largest journal has room for 32,767 moves after the page's map, and then for a load.
+    fn fills_its_journal(&mut self, rt: &impl Abort) {
+        for serial in 0..32767 {
+            let page = self.isolated(rt);
+            assert!(rt; page.serial() == serial);
+            assert!(rt; self.zone.put_back(&mut self.ends, page).is_ok());
+        }
+        self.zone.begin_round(&mut self.scan);
+        let next = self.zone.isolate_next(&mut self.scan);
+        assert!(rt; matches!(next, Err(ZoneError::JournalFull)));
+        assert!(rt; self.load(rt, 0) == Ok(0));
+        assert!(rt; self.load(rt, 0) == Err(ZoneError::JournalFull));
+        assert!(rt; self.zone.journal().len() == 65536);
+    }
+
+    /// A round that began with a page that may be moved is quiet, after a load too, up to a pin. A page has 255 pins at most.
+    fn takes_pins(&mut self, rt: &impl Abort) {
+        assert!(rt; !self.zone.quiet());
+        self.zone.begin_round(&mut self.scan);
+        assert!(rt; self.zone.quiet());
+        assert!(rt; self.load(rt, 0) == Ok(0));
+        assert!(rt; self.zone.quiet());
+        for _ in 0..255 {
+            assert!(rt; self.zone.pin(client(rt), page(rt)) == Ok(()));
+            assert!(rt; !self.zone.quiet());
+        }
+        assert!(rt; self.zone.pin(client(rt), page(rt)) == Err(ZoneError::PinFull));
+    }
 }
 
-/// A round that began with a page that may be moved is quiet, also behind a load, up to this call.
-fn is_quiet_up_to<I: Ledger, N: Ledger, M: Ledger, B: Ledger, R: Abort>(
-    rt: &R,
-    opening: &mut Opening<I, N, M, B>,
-    call: Call,
-    answer: Answer,
-) {
-    assert!(rt; !opening.quiet());
-    opening.plays(rt, &[(Call::Map(NINE), Answer::Frame(0))]);
-    assert!(rt; !opening.quiet());
-    opening.begin_round();
-    assert!(rt; opening.quiet());
-    opening.plays(rt, &[(Call::Load(NINE, 0), Answer::Value(0))]);
-    assert!(rt; opening.quiet());
-    opening.plays(rt, &[(call, answer)]);
-    assert!(rt; !opening.quiet());
-}
-
-fn refuses_a_page_on_its_way<I: Ledger, N: Ledger, M: Ledger, B: Ledger, R: Abort>(
-    rt: &R,
-    opening: &mut Opening<I, N, M, B>,
-) {
-    opening.plays(rt, &[(Call::Map(NINE), Answer::Frame(0))]);
-    let page = opening.isolated(rt);
-    let on_its_way = Answer::OnItsWay {
-        serial: 0,
-        pins: 0,
-        maps: 1,
-    };
-    opening.plays(
-        rt,
-        &[
-            (Call::Load(NINE, 0), Answer::Refused(ZoneError::Moving)),
-            (Call::Store(NINE, 0, 1), Answer::Refused(ZoneError::Moving)),
-            (Call::Look(NINE), on_its_way),
-        ],
-    );
-    assert!(rt; opening.put_back(page).is_ok());
-    opening.plays(rt, &[(Call::Load(NINE, 0), Answer::Value(0))]);
-}
-
-fn leaves_an_unmovable_page<I: Ledger, N: Ledger, M: Ledger, B: Ledger, R: Abort>(
-    rt: &R,
-    opening: &mut Opening<I, N, M, B>,
-) {
-    opening.plays(rt, &[(Call::MapUnmovable(NINE), Answer::Frame(0))]);
-    opening.begin_round();
-    assert!(rt; !opening.quiet());
-    assert!(rt; matches!(opening.isolate_next(), Ok(Next::Met)));
-}
-
-/// What is tried with a zone of one pageblock that was just opened.
+/// What is tried with a zone that was just opened.
 #[derive(Clone, Copy)]
 enum Trial {
-    APageIsMovedWithItsWords,
-    AChangedCopyIsHandedBack,
-    ASeatIsSplitIntoPartsAndJoined,
-    ASerialIsEndedOnce,
-    APageThatIsNotOnItsWayHereIsAStranger,
-    TheLargestJournalTakesAsManySerials,
-    ARoundIsQuietUpToAMap,
-    ARoundIsQuietUpToAPin,
-    APageOnItsWayIsNotLoadedOrStored,
-    AnUnmovablePageStays,
+    MovesItsWords,
+    RefusesStrangers,
+    SplitsItsSeat,
+    FillsItsJournal,
+    TakesPins,
 }
 
-impl Trial {
-    /// How many places the journal has.
-    fn places(self) -> u32 {
-        match self {
-            Trial::ASeatIsSplitIntoPartsAndJoined => 4,
-            Trial::TheLargestJournalTakesAsManySerials => 65536,
-            _ => 64,
-        }
-    }
-}
-
-fn tries_in<I: Ledger, N: Ledger, M: Ledger, B: Ledger, R: Abort + AllocGlobal>(
-    rt: &R,
+/// Opens a zone with so many places in its journal, and tries something with it.
+fn tries<I: Ledger, N: Ledger, M: Ledger, B: Ledger>(
+    rt: &(impl Abort + AllocGlobal),
     trial: Trial,
-    opening: &mut Opening<I, N, M, B>,
-) {
-    match trial {
-        Trial::APageIsMovedWithItsWords => moves_a_page(rt, opening),
-        Trial::AChangedCopyIsHandedBack => commits_a_changed_copy(rt, opening),
-        Trial::ASeatIsSplitIntoPartsAndJoined => splits_a_seat(rt, opening),
-        Trial::ASerialIsEndedOnce => ends_a_serial_twice(rt, opening),
-        Trial::APageThatIsNotOnItsWayHereIsAStranger => ends_strangers(rt, opening),
-        Trial::TheLargestJournalTakesAsManySerials => fills_a_journal(rt, opening),
-        Trial::ARoundIsQuietUpToAMap => {
-            is_quiet_up_to(rt, opening, Call::Map(TEN), Answer::Frame(1))
-        }
-        Trial::ARoundIsQuietUpToAPin => {
-            is_quiet_up_to(rt, opening, Call::Pin(NINE), Answer::Done)
-        }
-        Trial::APageOnItsWayIsNotLoadedOrStored => refuses_a_page_on_its_way(rt, opening),
-        Trial::AnUnmovablePageStays => leaves_an_unmovable_page(rt, opening),
-    }
-}
-
-/// The same, with a zone of its own.
-fn tries<I: Ledger, N: Ledger, M: Ledger, B: Ledger, R: Abort + AllocGlobal>(
-    rt: &R,
-    trial: Trial,
+    places: u32,
     blanks: Blanks,
 )
     requires blanks { AreFor blanks I.name I.parts N.name N.parts M.name M.parts B.name B.parts }
 {
-    let mut opening = Opening::<I, N, M, B>::of(rt, 1, trial.places(), blanks);
-    tries_in(rt, trial, &mut opening);
+    let mut moving = Moving::<I, N, M, B>::of(rt, places, blanks);
+    match trial {
+        Trial::MovesItsWords => moving.moves_its_words(rt),
+        Trial::RefusesStrangers => moving.refuses_strangers(rt),
+        Trial::SplitsItsSeat => moving.splits_its_seat(rt),
+        Trial::FillsItsJournal => moving.fills_its_journal(rt),
+        Trial::TakesPins => moving.takes_pins(rt),
+    }
 }
 
 #[test]
 fn moves_are_made_and_ended(rt: HostRuntime) {
-    for trial in [
-        Trial::APageIsMovedWithItsWords,
-        Trial::AChangedCopyIsHandedBack,
-        Trial::ASeatIsSplitIntoPartsAndJoined,
-        Trial::ASerialIsEndedOnce,
-        Trial::APageThatIsNotOnItsWayHereIsAStranger,
-        Trial::TheLargestJournalTakesAsManySerials,
-        Trial::ARoundIsQuietUpToAMap,
-        Trial::ARoundIsQuietUpToAPin,
-        Trial::APageOnItsWayIsNotLoadedOrStored,
-        Trial::AnUnmovablePageStays,
+    for (trial, places) in [
+        (Trial::MovesItsWords, 64),
+        (Trial::RefusesStrangers, 64),
+        (Trial::SplitsItsSeat, 4),
+        (Trial::FillsItsJournal, 65536),
+        (Trial::TakesPins, 512),
     ] {
-        tries::<Brand, Brand, Brand, Brand, HostRuntime>(&rt, trial, Blanks::new());
+        tries::<Brand, Brand, Brand, Brand>(&rt, trial, places, Blanks::new());
     }
 }

@@ -1,4 +1,4 @@
--- The journal's record at an index is of another client, or the next of the receipts, or there they differ.
+-- The journal's record at an index is of another client, or is the next of the receipts, or is where they differ.
 use Rattle.std.proofs.Common.{◌≡◌, ◌≢◌, ◌<◌, ◌≤◌, true, length, take, reverse, sym, true≢false, ap, subst, ◌∙◌, arith}
 use Rattle.std.specs.Prelude.{Some, slice_get, option_copied}
 use Rattle.std.specs.List.{filter}

@@ -4,7 +4,7 @@ use Rattle.std.specs.List.{filter}
 use Rattle.client_core.specs.Receipts.{is_of}
 use Rattle.client_core.proofs.settling.first_difference.Given as goal
 
--- the records of the client among the first so many are the first of the receipts
+-- the client's records among those passed so far are the first of its receipts
 abbrev pub invariant-loop-i : goal.invariant-loop-i
 invariant-loop-i l = record {
   same : filter (is_of l.client.number) (take l.i (reverse l.journal.records)) ≡ take l.next l.receipts;

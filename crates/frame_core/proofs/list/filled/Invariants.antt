@@ -2,7 +2,7 @@ use Rattle.std.proofs.Common.{◌≡◌, replicate}
 use Rattle.std.specs.Prelude.{vec_capacity}
 use Rattle.frame_core.proofs.list.filled.Given as goal
 
--- the copies so far, in the room for all
+-- the list so far has only copies of the value, and still the capacity for all of them
 abbrev pub invariant-loop : goal.invariant-loop
 invariant-loop g l = record {
   copies : l.list.items ≡ replicate l.counter l.value;

@@ -12,7 +12,7 @@ another-theirs-requires-clause-rule c =
     let knows = c.loop-number.invariant.knows in
     makes _ _ (ap (λ (v : Account). v.takes) knows) (ap (λ (v : Account). v.sends) knows)
 
--- one element more is as it has to be
+-- one more element, which is the one that its index asks for
 one_more : {X : Type 0} (xs : List X) (x : X) (n : ℕ) (value : ℕ → X) → length xs ≡ n → ((k : ℕ) → k < n → slice_get xs k ≡ Some (value k)) → x ≡ value n
     → (k : ℕ) → k < n + 1 → slice_get (xs ++ x ∷ []) k ≡ Some (value k)
 one_more [] x zero value len old is zero low = ap Some is

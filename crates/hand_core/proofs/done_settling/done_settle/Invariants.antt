@@ -3,7 +3,7 @@ use Rattle.crossbeam_channel.specs.Claims.{view}
 use Rattle.hand_core.specs.CopyEnds.{DoneSender, copies_of, queue_between}
 use Rattle.hand_core.proofs.done_settling.done_settle.Given as goal
 
--- the senders that came off, whose copies were compared
+-- the senders that the loop has passed, whose copies were compared
 abbrev pub invariant-loop-sender : goal.invariant-loop-sender
 invariant-loop-sender l = record {
   seat : (l.pass.table_id ≡ l.fn.taker.way.0) × (l.pass.me.0.of ≡ l.fn.taker.way.1) × (l.pass.me.1 ≡ []);

@@ -7,7 +7,7 @@ use Rattle.hand_core.specs.Queue.{name_of}
 use Rattle.word_core.specs.Serials.{IsRising}
 use Rattle.hand_core.proofs.settling.take_back.Given as goal
 
--- the takers that came off, whose lists the giver knows now
+-- the takers that the loop has passed, whose lists the giver knows now
 abbrev pub invariant-loop-taker : goal.invariant-loop-taker
 invariant-loop-taker l = record {
   seat : IsSeatAt (sends_on l.to) l.pass;

@@ -2,7 +2,7 @@ use Rattle.std.proofs.Common.{◌≡◌, ◌+◌, ◌-◌, ◌*◌, ◌^◌, ◌
 use Rattle.machine_core.specs.Machine.{series_from}
 use Rattle.machine_core.proofs.machine.answer_series.Given as goal
 
--- the calls that are left, behind those that were accepted, come to the same
+-- the calls that are left, made after those that were accepted, give the same answer
 abbrev pub invariant-loop-done : goal.invariant-loop-done
 invariant-loop-done g l = record {
   page : l.page ≤ (l.done + 1) * 2 ^ 64;

@@ -8,7 +8,7 @@ use Rattle.machine_core.specs.Machine.{pool_from, pooled, says, stopped_by}
 use Rattle.machine_core.proofs.Pooling.{pool_from-ends, pool_from-on}
 use Rattle.machine_core.proofs.machine.reserve.Goals as goal
 
--- a block was handed out: there is one more, and the others that are left come to the same
+-- a block was handed out, and those that are left give the same answer
 pub loop-world-preserved : goal.loop-world-preserved
 loop-world-preserved g c =
     let l = c.loop-world in

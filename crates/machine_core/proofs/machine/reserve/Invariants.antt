@@ -3,7 +3,7 @@ use Rattle.arrayvec.specs.ArrayVec.{array_vec_len}
 use Rattle.machine_core.specs.Machine.{pool_from}
 use Rattle.machine_core.proofs.machine.reserve.Given as goal
 
--- the blocks that are left, behind those that it got, come to the same
+-- the blocks that are left, taken after those that the pool got, give the same answer
 abbrev pub invariant-loop-world : goal.invariant-loop-world
 invariant-loop-world g l = record {
   most : array_vec_len l.got ≤ l.wanted;

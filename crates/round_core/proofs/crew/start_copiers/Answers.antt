@@ -4,7 +4,7 @@ use Rattle.hand_core.specs.PageEnds.{Taker}
 use Rattle.round_core.specs.Crews.{IsUnused, IsUnsent}
 use Rattle.round_core.proofs.crew.start_copiers.Goals as goal
 
--- where there was a taker there was one of the others
+-- where there was a taker, there was also one of the others, since there are as many
 none_left : (takers others left : ℕ) → others ≡ takers → left + 1 ≡ takers → others ≡ 0 → ⊥
 none_left takers others left as_many some none = omega arith
 

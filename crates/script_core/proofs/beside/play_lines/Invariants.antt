@@ -3,7 +3,7 @@ use Rattle.std.specs.Prelude.{vec_capacity, vec_len}
 use Rattle.script_core.specs.Clients.{AreClientAnswers}
 use Rattle.script_core.proofs.beside.play_lines.Given as goal
 
--- the lines before an index are played
+-- the lines before an index were answered
 abbrev pub invariant-loop-line : goal.invariant-loop-line
 invariant-loop-line g l = record {
   played : AreClientAnswers l.fn.turn.client (take l.line-index l.line-items) l.answers.items l.client;

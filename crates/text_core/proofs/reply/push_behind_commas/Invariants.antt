@@ -2,7 +2,7 @@ use Rattle.std.proofs.Common.{◌≡◌, ◌+◌, ◌*◌, ◌≤◌, ◌++◌, 
 use Rattle.text_core.specs.Reply.{behind_commas, newlines}
 use Rattle.text_core.proofs.reply.push_behind_commas.Given as goal
 
--- so many numbers are told
+-- the text so far ends with the numbers so far, a comma before each
 abbrev pub invariant-loop-number : goal.invariant-loop-number
 invariant-loop-number g l = record {
   text : l.text.bytes ≡ l.fn.text.bytes ++ behind_commas (take l.number-index l.numbers);

@@ -7,18 +7,18 @@ use Rattle.text_core.proofs.Newlines.{newlines-append, one_line_behind, text_of-
 use Rattle.text_core.proofs.reply.push_reply.Goals as goal
 use Rattle.text_core.proofs.reply.push_reply.Goals.{in-Value, in-Info, in-InfoWithHeld, in-Serial, in-Met, in-Moved, in-PutBack, in-Shut, in-Looked, in-Block, in-HandedOut, in-AllDone, in-DoneUntil, in-Round, in-Pool, in-Refused}
 
--- a field more of what is appended
+-- the text with one more field
 field_more : (old text before after name : List ℕ) (n m : ℕ) → before ≡ old ++ text → after ≡ before ++ name ++ decimal n → n ≡ m → after ≡ old ++ (text ++ name ++ decimal m)
 field_more old text before after name n m so_far more same =
     more ∙ ap (λ (k : ℕ). before ++ name ++ decimal k) same
     ∙ ap (λ (r : List ℕ). r ++ name ++ decimal m) so_far ∙ ap (λ (r : List ℕ). r ++ decimal m) (append_assoc old text name) ∙ append_assoc old (text ++ name) (decimal m)
 
--- one field, and what is behind it
+-- one field and what comes after it
 one_field : (old after name rest : List ℕ) (n m : ℕ) → after ≡ old ++ name ++ decimal n → n ≡ m → after ++ rest ≡ old ++ (name ++ decimal m ++ rest)
 one_field old after name rest n m more same =
     ap (λ (r : List ℕ). r ++ rest) (field_more old [] old after name n m (sym (append-nil old)) more same) ∙ append_assoc old (name ++ decimal m) rest
 
--- ok is one line
+-- `ok` is one line
 pub returns-in-Done-clause-line : goal.returns-in-Done-clause-line
 returns-in-Done-clause-line g c = subst (λ (r : Reply). IsOneLine (text_of r)) (sym c.in-Done.is) (record { body = codes "ok"; ends = refl; one = refl })
 

@@ -4,7 +4,7 @@ use Rattle.text_core.specs.Reply.{newlines}
 use Rattle.text_core.proofs.Newlines.{newlines-append, newlines-decimal}
 use Rattle.text_core.proofs.reply.push_short.Goals as goal
 
--- what is told by 16 bits has five digits at most
+-- a number that fits 16 bits has five digits at most
 short : (n : ℕ) → n < 2 ^ 16 → length (decimal n) ≤ 5
 short n fits = length-decimal-le 5 n (omega arith) (omega (arith, fits)) (omega (arith, fits))
 

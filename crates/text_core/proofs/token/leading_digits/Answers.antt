@@ -28,7 +28,7 @@ loop-digit-preserved c =
       shorter = omega (arith, more, c.loop-digit.invariant.shorter);
     }
 
--- the digits that are left, from the one that is read
+-- the value of the digits that are left, from the one that is read
 value_at : (v d : ℕ) (rest behind : List ℕ) (whole : ℕ) → rest ≡ (48 + d) ∷ behind → digits_value_after 10 v (first_word rest) ≡ whole
     → digits_value_after 10 v ((48 + d) ∷ first_word behind) ≡ whole
 value_at v d rest behind whole e f = ap (digits_value_after 10 v) (sym (ap first_word e ∙ first_word_step (48 + d) behind (is_apart d))) ∙ f

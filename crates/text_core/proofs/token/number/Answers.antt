@@ -6,7 +6,7 @@ use Rattle.std.proofs.lemmas.Bool.Decides.{nat_tests}
 use Rattle.text_core.proofs.Numbers.{drop-ahead, digits_after, digits_stop, value_after, number_of_none, number_of_over, number_of_fits}
 use Rattle.text_core.proofs.token.number.Goals as goal
 
--- a loop's state at a digit: what is left begins with it
+-- the state of the loop at a digit, with which the digits that are left begin
 value_at : (xs : List ℕ) (i v : ℕ) → i < length xs → digits_value_after 10 v (drop i xs) ≡ digits_value 10 xs → digits_value_after 10 v (get_or xs i 0 ∷ drop (i + 1) xs) ≡ digits_value 10 xs
 value_at xs i v h e = ap (digits_value_after 10 v) (sym (drop-ahead xs i h)) ∙ e
 

@@ -25,7 +25,7 @@ invariant_of-self c =
       marked = k.marked;
     }
 
--- what is seen of the taker
+-- what contracts see of the taker afterwards
 seen : (hand_over : HandOver) (ended : Bool) (now : Taker) (came in_hand rest : List OnItsWay) (next : Option OnItsWay)
     → record { hand_over = hand_over; taken = before_hand came in_hand; in_hand = in_hand; ended = ended } ≡ now
     → IfSome next (λ p. before_hand came rest ≡ before_hand came in_hand ++ p ∷ [])

@@ -21,7 +21,7 @@ take-requires-clause-clear c =
     let sound : IsSound c.self.inside c.args.self.now = subst (IsSound c.self.inside) c.self.view_is c.self.invariant in
     blocks.take_clear c.self.inside c.args.self.now sound c.self.view_is c.args.first c.args.order c.requires.run
 
--- the fields after the call, by how they come
+-- the fields after the call, given its frames and its list of blocks
 abbrev after : After-note → Frames → List (Option ℕ) → Inside
 after c frames orders = record c.self.inside { frames = frames; handed_out = orders; history = c.note.new.self }
 

@@ -58,7 +58,7 @@ place-requires c =
     let sound : IsSound c.self.inside c.args.self.now = subst (IsSound c.self.inside) c.self.view_is c.self.invariant in
     ap is_some (placement_seen c.self.inside c.args.self.now c.self.view_is c.args.pair.page ∙ (can_isolate c.args.self.now c.args.pair sound.lawful c.requires.pair).at)
 
--- the note of the page
+-- the note of the page after it was isolated
 abbrev noted : After-read_out-carried → Note
 noted c = get_or c.self.inside.notes c.args.pair.page unused_note
 

@@ -56,7 +56,7 @@ placing c =
       history_is = c.note.ensures;
     }
 
--- the fields after the call, by how they come
+-- the fields after the call, given its frames, words and notes
 abbrev after : After-note → Frames → List (List ℕ) → List Note → Inside
 after c frames rows notes = record c.self.inside {
   frames = frames;

@@ -55,7 +55,7 @@ storing c =
       history_is = c.note.ensures;
     }
 
--- the fields after the call, with these words and notes
+-- the fields after the call, given its words and notes
 abbrev after : After-note → List (List ℕ) → List Note → Inside
 after c rows notes = record c.self.inside { words = rows; notes = notes; history = c.note.new.self }
 

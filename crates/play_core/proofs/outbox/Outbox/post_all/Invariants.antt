@@ -4,7 +4,7 @@ use Rattle.play_core.specs.Outbox.{Owes}
 use Rattle.play_core.specs.Script.{Answer}
 use Rattle.play_core.proofs.outbox.Outbox.post_all.Given as goal
 
--- the answers that were taken from the list were put behind those that waited
+-- the answers taken from the list so far stand after those that waited
 abbrev pub invariant-loop-answer : goal.invariant-loop-answer
 invariant-loop-answer g l = (l.yielded ++ into_iter_items l.answer-iterator ≡ into_iter_items l.initial.answer-iterator)
     × (into_iter_len l.answer-iterator ≡ length (into_iter_items l.answer-iterator))

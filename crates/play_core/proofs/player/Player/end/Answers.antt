@@ -7,7 +7,7 @@ use Rattle.play_core.specs.Script.{Block}
 use Rattle.play_core.proofs.Inputs.{lines_end, read_cut, read_end, read_unended, totals_are}
 use Rattle.play_core.proofs.player.Player.end.Goals as goal
 
--- what the end of an input is, by the line at which it is a fault
+-- what the end of an input is, given the line at which it is a fault
 module _ {S : Type 0} (may : Rule S) (start : S) (s : Player S) (input : List ℕ) (first now : Option (List ℕ)) (r : HasRead may start s input first now)
     (cut : Option ℕ) (held : 0 < length s.held → cut ≡ Some s.line) (block : s.held ≡ [] → cut ≡ option_map (λ b. b.line) s.reading.block) where
   cut_finishes : (line : ℕ) → cut ≡ Some line → Finishes may start s input (Some (record { fault = Syntax; line = line })) first now

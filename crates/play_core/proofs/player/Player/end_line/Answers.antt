@@ -17,7 +17,7 @@ returns-then-remaining_capacity-text-clause-err g c = λ start past first read.
     let F : ℕ → Type 0 = λ n. HasFault g.A.Respond.may start s (past ++ (text ++ 10 ∷ [])) (record { fault = LongLine; line = n }) first now in
     subst F (ap (λ (t : Player _). t.line) (sym c.self.view_is)) (read_long_line g.A.Respond.may start s past text first now read c.requires.unbroken long)
 
--- what was held, and then the text
+-- the line is what was held, and then the text
 line_is : (g : _) (c : goal.After-take_line-2 g) → c.deref.result.now ≡ c.self.inside.held.items ++ c.args.text.now
 line_is g c =
     let held = ap (λ h. h.items) c.replace-line.ensures.value in

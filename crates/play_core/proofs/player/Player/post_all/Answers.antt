@@ -6,7 +6,7 @@ use Rattle.play_core.specs.Player.{Player}
 use Rattle.play_core.proofs.Waiting.{stops_more}
 use Rattle.play_core.proofs.player.Player.post_all.Goals as goal
 
--- what stands behind the answers to the clients, where the block's own is the last of all
+-- the block's own answer comes after those to its client lines
 all_behind : (before clients answers : List Answer) (own : Answer) → answers ≡ clients ++ own ∷ [] → (before ++ clients) ++ own ∷ [] ≡ before ++ answers
 all_behind before clients answers own is = append_assoc before clients (own ∷ []) ∙ ap (λ (list : List Answer). before ++ list) (sym is)
 

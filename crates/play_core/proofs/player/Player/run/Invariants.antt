@@ -4,7 +4,7 @@ use Rattle.play_core.specs.Outbox.{empty}
 use Rattle.play_core.specs.Player.{HasRead}
 use Rattle.play_core.proofs.player.Player.run.Given as goal
 
--- what the reader gave was read, each time a byte at least, and no reply to it waits
+-- what the reader gave was read, at least a byte each time, and no reply to it waits
 abbrev pub invariant-loop : goal.invariant-loop
 invariant-loop g l = record {
   room : length l.buffer ≡ 4096;

@@ -15,7 +15,7 @@ use Rattle.play_core.proofs.Reading.{read_on, read_unbegun, read_wrong, ended_wr
 use Rattle.play_core.proofs.Variants.{both_err}
 use Rattle.play_core.proofs.player.Player.take_outside.Goals as goal
 
--- a command that begins no block is whole
+-- a command that doesn't begin a block is whole
 command_whole : (profile : Profile) (n : ℕ) (command : Command) → ((zone : ℕ) → command ≡ During zone → ⊥) → command_comes profile n command ≡ record { ended = Some (record { line = n; command = command; clients = [] }); reading = by profile }
 command_whole profile n (During zone) other = absurd (other zone refl)
 command_whole profile n _ other = refl
@@ -84,7 +84,7 @@ returns-in-During-clause-err g c = MatchResult-weaker c.begin.result (both_err c
     let box = ap (λ (t : Player _). t.box) both.0 ∙ ap (λ (t : Player _). t.box) c.self.view_is in
     subst E (sym both.1) (read_unbegun g.A.Respond.may start s past text first now read c.requires.begins none g.A.Respond.asks c.begin.new.self c.self.inside.line line box c.requires.outside (subst D (sym says) tt)))
 
--- a line with any other command, as it is read
+-- what a line with any other command makes
 other_comes : (g : _) (c : goal.After-answer g) → line_comes (record { profile = c.self.inside.profile; block = c.self.inside.block }) c.self.inside.line c.args.text.now
     ≡ Ok (record { ended = Some (record { line = c.self.inside.line; command = c.in-Ok-Some.command; clients = [] }); reading = record { profile = c.behind-self-inside.result; block = c.self.inside.block } })
 other_comes g c =

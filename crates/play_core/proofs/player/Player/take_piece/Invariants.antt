@@ -2,7 +2,7 @@ use Rattle.std.proofs.Common.{◌≡◌, ◌+◌, ◌≤◌, ◌++◌, List, ℕ
 use Rattle.play_core.specs.Player.{HasRead}
 use Rattle.play_core.proofs.player.Player.take_piece.Given as goal
 
--- the lines up to the rest were read
+-- the lines before the rest were read
 abbrev pub invariant-loop-text : goal.invariant-loop-text
 invariant-loop-text g l = record {
   line : l.self.line + length l.rest ≤ l.fn.self.line + length l.piece;

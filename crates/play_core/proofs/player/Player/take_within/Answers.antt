@@ -16,7 +16,7 @@ use Rattle.play_core.proofs.Reading.{ended_wrong, read_on, read_wrong}
 use Rattle.play_core.proofs.Variants.{both_err, both_ok}
 use Rattle.play_core.proofs.player.Player.take_within.Goals as goal
 
--- a client line where there may be one more, and where there may not
+-- a client line where the block may have one more, and where it may not
 client_taken : (profile : Profile) (block : Block) (client : ClientLine) → length block.clients < 1000
     → client_comes profile block client ≡ Ok (record { ended = None; reading = within profile (record block { clients = block.clients ++ client ∷ [] }) })
 client_taken profile block client few =
@@ -57,7 +57,7 @@ returns-in-Ok-Some-End-clause-err g c = MatchResult-weaker c.answer_block.result
     gives start (within s.reading.profile block) text past first
     (ends_block s.reading.profile block s.line text c.in-Ok-Some-End.field-0-0 s.reading.block c.requires.outside says c.in-Ok-Some-End.field-0-0-is) none read)
 
--- a line of a client, as it is read
+-- what a client line makes
 client_line : (g : _) (c : goal.After-note g) → line_comes (within c.args.self.now.reading.profile c.args.block) c.args.self.now.line c.args.text.now
     ≡ client_comes c.args.self.now.reading.profile c.args.block (record { line = c.args.self.now.line; call = c.in-Ok-Some-Client.call })
 client_line g c =

@@ -12,7 +12,7 @@ use Rattle.table_core.proofs.Writing.{entries_come, kept_come}
 use Rattle.table_core.proofs.entries.Entries.to_present.Goals as goal
 use Rattle.table_core.proofs.entries.Entries.to_present.Goals.{After-list_under}
 
--- the frames are those that were written
+-- the frames of all addresses are those that were written
 written : (c : After-list_under) → take c.self.inside.frames.len (c.list_under.new.frames ++ drop (length c.list_under.new.frames) c.self.inside.frames.items) ≡ c.list_under.new.frames
 written c =
     let ok = c.self.inside.frames.ok.0 in

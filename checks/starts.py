@@ -1,0 +1,247 @@
+"""`./compactd` and `./prove` use a build again exactly where it is fresh, and never one that is half made.
+
+This is seen over a kit that proves nothing (`checks/kit/rt`), in a temporary folder. A build is used again where the
+kit, the sources and the build itself are as they were, whatever the times of files are. Arguments, input, output and
+status are passed on. Nothing is left where a build fails or is interrupted, and of two starts at once one builds."""
+
+import contextlib
+import os
+import pathlib
+import shutil
+import signal
+import subprocess
+import sys
+import tempfile
+import time
+
+ROOT = pathlib.Path(__file__).resolve().parent.parent
+PROGRAM = '#!/bin/sh\nwhile read -r line; do echo "$line"; done\necho "ran $*"\nexit ${2:-0}\n'
+FILES = {
+    "crates.txt": "# the crates\nlow: std_thing\ncompactd: low\nother: low\n",
+    "HANDLES": "Handles allowed: none.\n",
+    "crates/low/src/lib.rt": "low",
+    "crates/low/specs/Lib.antt": "specs",
+    "crates/low/proofs/Lib.antt": "proofs",
+    "crates/low/must-fail/one.edit": "edit",
+    "crates/other/src/lib.rt": "other",
+    "crates/compactd/src/main.rt": "main",
+    "crates/compactd/stdin": "",
+}
+# What a proof reads: the program's crates without their edits, and nothing of the others.
+READ = sorted(path for path in FILES if "must-fail" not in path and "other" not in path)
+OUT = "crates/compactd/out"
+# What a command may take, which runs for a second, on a machine that does much beside it.
+SECONDS = 60
+COMPILES, UNPROVED, AGAIN = "compiling a build", "this build isn't proved", "compiles once more"
+PROVED = (0, f"compactd is proved: {OUT}/compactd\n")
+
+
+class Repository:
+    """A small repository with the scripts of this one, and the state of its kit."""
+
+    def __init__(self, folder):
+        self.top, self.state = folder / "repository", folder / "kit"
+        self.temporary, self.python = folder / "temporary", folder / "python"
+        for path in FILES:
+            self.write(path, FILES[path])
+        for name in ("compactd", "prove"):
+            shutil.copy(ROOT / name, self.top)
+        shutil.copytree(ROOT / "launch", self.top / "launch")
+        for it in (self.state, self.temporary, self.python):
+            it.mkdir()
+        (self.python / "python3").symlink_to(sys.executable)
+        (self.state / "version").write_text("kit one")
+        (self.state / "program").write_text(PROGRAM)
+        (self.state / "program").chmod(0o755)
+
+    def write(self, path, text):
+        """Writes a file, with a time long ago."""
+        file = self.top / path
+        file.parent.mkdir(parents=True, exist_ok=True)
+        file.write_text(text)
+        os.utime(file, (1, 1))
+
+    def begin(self, words, has_kit=True):
+        """Begins a command of the repository. Without a kit, PATH has Python alone."""
+        path = f"{ROOT / 'checks/kit'}:{self.python}" if has_kit else str(self.python)
+        environment = {"PATH": path, "KIT_STATE": str(self.state), "TMPDIR": str(self.temporary)}
+        streams = dict.fromkeys(("stdin", "stdout", "stderr"), subprocess.PIPE)
+        return subprocess.Popen([self.top / words[0], *words[1:]], env=environment, text=True, **streams)
+
+    def run(self, *words, has_kit=True):
+        return ended(self.begin(words, has_kit))
+
+    def calls(self):
+        """The calls of the kit since they were last asked for."""
+        file = self.state / "calls"
+        found = file.read_text().splitlines() if file.exists() else []
+        file.unlink(missing_ok=True)
+        return found
+
+    @contextlib.contextmanager
+    def kit_that(self, word):
+        (self.state / word).touch()
+        yield
+        (self.state / word).unlink()
+
+
+def ended(begun):
+    """The status of a command with one line of input, and what it writes to standard output and to standard error."""
+    try:
+        written, said = begun.communicate("a line\n", timeout=SECONDS)
+    except subprocess.TimeoutExpired:
+        begun.kill()
+        sys.exit(f"starts: {begun.args} had not ended after {SECONDS} seconds")
+    return begun.returncode, written, said
+
+
+def wait_until(holds):
+    for _ in range(100 * SECONDS):
+        if holds():
+            return
+        time.sleep(0.01)
+    sys.exit(f"starts: no call of the kit within {SECONDS} seconds")
+
+
+def same(what, found, wanted):
+    if found != wanted:
+        sys.exit(f"starts: {what}: {found!r}, and not {wanted!r}")
+
+
+def answers(repository, what, calls=(), tells=()):
+    """A start answers as the program does, after these calls of the kit, and has a line on standard error for each of
+    these words."""
+    status, written, said = repository.run("compactd", "--word", "3")
+    same(f"status and output of {what}, beside {said!r}", (status, written), (3, "a line\nran --word 3\n"))
+    same(f"calls of the kit by {what}", repository.calls(), list(calls))
+    same(f"lines of standard error of {what}", len(said.splitlines()), len(tells))
+    same(f"what standard error of {what} lacks, which is {said!r}", [it for it in tells if it not in said], [])
+
+
+def compiles(repository, what):
+    answers(repository, what, ["try"], [COMPILES, UNPROVED])
+
+
+def proves(repository, what):
+    same(f"status and output of {what}", repository.run("prove")[:2], PROVED)
+    same(f"calls of the kit by {what}", repository.calls(), ["ci"])
+
+
+def lacks_a_kit(repository):
+    """With no kit a start and a proof end with status 70."""
+    for name in ("compactd", "prove"):
+        status, written, said = repository.run(name, has_kit=False)
+        same(f"{name} with no kit", (status, written, said.count("\n")), (70, "", 1))
+        same(f"{name} with no kit names what it lacks", "rt has to be on PATH" in said, True)
+
+
+def unproved_starts(repository):
+    """An unproved build is compiled once, and again after a change, whatever its time."""
+    compiles(repository, "the first start")
+    answers(repository, "the second start", tells=[UNPROVED])
+    repository.write("crates/low/src/lib.rt", "changed")
+    compiles(repository, "a start after a change")
+    (repository.state / "version").write_text("kit two")
+    compiles(repository, "a start with another kit")
+    repository.write("crates/other/src/lib.rt", "changed")
+    answers(repository, "a start after a change of another crate", tells=[UNPROVED])
+    with open(repository.top / OUT / "unproved/compactd", "a") as build:
+        build.write("# another build\n")
+    compiles(repository, "a start after a change of the build")
+
+
+def two_starts(repository):
+    """Of two starts at once one compiles, and the other waits for it."""
+    both = [repository.begin(["compactd"]) for _ in range(2)]
+    same("two starts at once", [ended(begun)[:2] for begun in both], [(0, "a line\nran \n")] * 2)
+    same("calls of the kit by two starts at once", repository.calls(), ["try"])
+
+
+def failing_builds(repository):
+    """What isn't compiled ends with status 70, and what isn't proved with 1. What the kit said is told."""
+    with repository.kit_that("fails"):
+        for name, wanted in (("compactd", 70), ("prove", 1)):
+            status, written, said = repository.run(name)
+            same(f"{name} of what is broken", (status, written), (wanted, ""))
+            same(f"{name} tells what is broken", "this crate is broken" in said, True)
+    repository.calls()
+    compiles(repository, "a start after one that failed")
+
+
+def interrupted(repository):
+    """What is interrupted leaves no file, and the next start is as the first."""
+    for name in ("compactd", "prove"):
+        repository.calls()
+        with repository.kit_that("hangs"):
+            begun = repository.begin([name])
+            wait_until((repository.state / "calls").exists)
+            begun.terminate()
+            same(f"status of an interrupted {name}", ended(begun)[0], 128 + signal.SIGTERM)
+        same(f"temporary files of an interrupted {name}", list(repository.temporary.iterdir()), [])
+    same("builds after interruptions", list((repository.top / OUT).iterdir()), [])
+    repository.calls()
+    compiles(repository, "a start after one that was interrupted")
+    proves(repository, "a proof after one that was interrupted")
+
+
+def hidden_build(repository):
+    """Where `rt try` leaves no build, it answers itself."""
+    with repository.kit_that("hides"):
+        answers(repository, "a start with no build", ["try", "try -- --word 3"], [COMPILES, UNPROVED, AGAIN])
+
+
+def proved_starts(repository):
+    """The proved program runs exactly where it is that of the sources and the kit."""
+    proves(repository, "a proof")
+    same("what a proof reads", (repository.state / "seen").read_text().split(), READ)
+    answers(repository, "a start of what is proved")
+    same("a start with no kit", repository.run("compactd", has_kit=False), (0, "a line\nran \n", ""))
+    same("a proof of what is proved", (repository.run("prove"), repository.calls()), ((*PROVED, ""), []))
+    repository.write("crates/low/proofs/Lib.antt", "changed")
+    compiles(repository, "a start after a change of a proof")
+    repository.write("crates/low/proofs/Lib.antt", FILES["crates/low/proofs/Lib.antt"])
+    answers(repository, "a start with the sources as they were")
+    repository.write("HANDLES", "Handles allowed: Wait.\n")
+    compiles(repository, "a start after a change of what is allowed")
+    proves(repository, "a proof after a change")
+    (repository.state / "version").write_text("kit two")
+    compiles(repository, "a start of what another kit proved")
+
+
+def gate_leaves(repository):
+    """What the gate built is proved of the sources that it began with, and of no others."""
+    path = f"{ROOT / 'checks/kit'}:{os.environ['PATH']}"
+    environment = {**os.environ, "PATH": path, "KIT_STATE": str(repository.state)}
+    note = [sys.executable, "-B", repository.top / "launch/program.py"]
+    sources = subprocess.check_output(note, text=True, env=environment).strip()
+    (repository.top / OUT).mkdir()
+    shutil.copy(repository.state / "program", repository.top / OUT)
+    (repository.top / OUT / "program").rename(repository.top / OUT / "compactd")
+    compiles(repository, "a start of what nobody says is proved")
+    subprocess.check_call([*note, "proved", sources], env=environment)
+    answers(repository, "a start of what the gate proved")
+    repository.write("crates/low/src/lib.rt", "changed")
+    compiles(repository, "a start after a change of what the gate proved")
+
+
+CASES = (
+    lacks_a_kit,
+    unproved_starts,
+    two_starts,
+    failing_builds,
+    interrupted,
+    hidden_build,
+    proved_starts,
+    gate_leaves,
+)
+
+
+def main():
+    for case in CASES:
+        with tempfile.TemporaryDirectory(prefix="compactd-starts-") as folder:
+            case(Repository(pathlib.Path(folder)))
+    return f"{len(CASES)} cases of starts and proofs: a build is used exactly where it is fresh, and is never half made"
+
+
+if __name__ == "__main__":
+    print(main())

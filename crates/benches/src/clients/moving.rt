@@ -1,0 +1,60 @@
+//! Rounds that go on as long as clients do.
+
+use super::filled::PAGES;
+use crate::opening::{FRAMES, page};
+use client_core::Client;
+use round_core::{NoGate, Shape, SharedZone, compact};
+use std::alloc::Global;
+use std::sync::Wait;
+use std::sync::atomic::{AtomicBool, Ordering};
+use std::sync::ledger::Ledger;
+use std::thread::Threads;
+use zone_core::Seats;
+
+const COPIERS: usize = 2;
+
+/// Frees the frames after the pages of the clients, and moves the pages there by a round, again and again, until the clients have
+/// ended or the pages stand at the top. How many pages were moved.
+pub fn run_rounds<
+    K: Shape + Send + Sync,
+    I: Ledger + Send + Sync,
+    N: Ledger,
+    M: Ledger + Send + Sync,
+    B: Ledger + Send + Sync,
+    R: Threads + Wait + Sync,
+>(
+    rt: &R,
+    alloc: Global,
+    shared: &SharedZone<K, I, M, B>,
+    seats: &mut Seats<I, N, M, B>,
+    keeper: &mut Client,
+    cap: usize,
+    ended: &AtomicBool,
+) -> Option<u32> {
+    if cap == 0 || cap > 64 {
+        return None;
+    }
+    let mut moved = 0u32;
+    for round in 1..FRAMES / PAGES {
+        if ended.load(Ordering::SeqCst) {
+            break;
+        }
+        free(rt, shared, keeper, round * PAGES)?;
+        let round = compact(rt, alloc, shared, seats, COPIERS, cap, &NoGate).ok()?;
+        moved = moved.saturating_add(round.moved);
+    }
+    Some(moved)
+}
+
+/// Frees as many frames as the clients have pages, from this one on.
+fn free<K: Shape, I: Ledger, M: Ledger, B: Ledger, R: Wait>(
+    rt: &R,
+    shared: &SharedZone<K, I, M, B>,
+    keeper: &mut Client,
+    first: u32,
+) -> Option<()> {
+    for number in first..first.saturating_add(PAGES) {
+        keeper.unmap(rt, shared, page(number)?).ok()?;
+    }
+    Some(())
+}

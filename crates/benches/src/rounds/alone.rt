@@ -1,0 +1,100 @@
+//! The work of the zone alone, on one thread and without queues.
+
+ghost use Rattle.zone_core.specs.Books.{AreFor};
+
+use crate::opening::{Opening, open, page};
+use crate::times::{Times, nanos_since};
+use bitflags::Flags;
+use frame_core::{ClientNo, PageFlags};
+use std::alloc::Global;
+use std::io;
+use std::sync::ledger::Ledger;
+use std::time::{Clock, Instant};
+use zone_core::{Blanks, Ended, Next, Seats, Zone};
+
+/// As many pages as half of the zone has frames.
+const PAGES: u32 = 2048;
+
+/// A zone whose lower half is full.
+pub fn half_full<I: Ledger, N: Ledger, M: Ledger, B: Ledger>(
+    alloc: Global,
+    blanks: Blanks,
+) -> Option<Opening<I, N, M, B>>
+    requires blanks { AreFor blanks I.name I.parts N.name N.parts M.name M.parts B.name B.parts }
+{
+    let Opening { mut zone, seats } = open::<I, N, M, B>(alloc, blanks)?;
+    for number in 0..PAGES {
+        map_page(&mut zone, number)?;
+    }
+    Some(Opening { zone, seats })
+}
+
+/// The virtual page of this number names a fresh page at the lowest free frame.
+fn map_page<I: Ledger, M: Ledger, B: Ledger>(zone: &mut Zone<I, M, B>, number: u32) -> Option<()> {
+    let client = ClientNo::new(0)?;
+    let _frame = zone.map(client, page(number)?, PageFlags::empty()).ok()?;
+    Some(())
+}
+
+/// How long it takes to move the pages of the lower half up.
+pub fn move_alone<I: Ledger, N: Ledger, M: Ledger, B: Ledger, R: Clock>(
+    rt: &R,
+    alloc: Global,
+    blanks: Blanks,
+) -> io::Result<Times>
+    requires blanks { AreFor blanks I.name I.parts N.name N.parts M.name M.parts B.name B.parts }
+{
+    let Some(opening) = half_full::<I, N, M, B>(alloc, blanks) else {
+        return Ok(Times::NONE);
+    };
+    let Opening {
+        mut zone,
+        mut seats,
+    } = opening;
+    let start = Instant::now(rt)?;
+    let moved = move_all(&mut zone, &mut seats);
+    let whole = nanos_since(rt, &start)?;
+    Ok(Times {
+        moved,
+        whole,
+        ..Times::NONE
+    })
+}
+
+/// How many pages the zone has that is filled for it.
+pub fn fill_alone<I: Ledger, N: Ledger, M: Ledger, B: Ledger>(alloc: Global, blanks: Blanks) -> u32
+    requires blanks { AreFor blanks I.name I.parts N.name N.parts M.name M.parts B.name B.parts }
+{
+    match half_full::<I, N, M, B>(alloc, blanks) {
+        Some(opening) => opening.zone.info().pages,
+        None => 0,
+    }
+}
+
+/// Moves what can be moved. How many pages that were.
+fn move_all<I: Ledger, N: Ledger, M: Ledger, B: Ledger>(
+    zone: &mut Zone<I, M, B>,
+    seats: &mut Seats<I, N, M, B>,
+) -> u32 {
+    let mut moved = 0u32;
+    zone.begin_round(&mut seats.scan);
+    for _frame in 0..4096 {
+        if !move_next(zone, seats) {
+            break;
+        }
+        moved = moved.saturating_add(1);
+    }
+    moved
+}
+
+/// Moves the next page, if there is one.
+fn move_next<I: Ledger, N: Ledger, M: Ledger, B: Ledger>(
+    zone: &mut Zone<I, M, B>,
+    seats: &mut Seats<I, N, M, B>,
+) -> bool {
+    let Ok(Next::Page(page)) = zone.isolate_next(&mut seats.scan) else {
+        return false;
+    };
+    let copy = page.copy_into_new();
+    matches!(zone.commit(&mut seats.ends, copy), Ok(Ended::Moved))
+}

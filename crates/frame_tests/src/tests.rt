@@ -1,4 +1,0 @@
-mod frames;
-mod journals;
-mod tables;
-mod words;

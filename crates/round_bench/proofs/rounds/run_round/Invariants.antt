@@ -1,5 +1,0 @@
-use Rattle.round_bench.proofs.rounds.run_round.Given as goal
-
--- the zone that is shared
-abbrev pub ghosts-time_rounds : goal.ghosts-time_rounds
-ghosts-time_rounds g a = record { number = a.zone.number; blocks = a.zone.blocks }

@@ -1,0 +1,31 @@
+use Rattle.round_tests.proofs.tests.settling.receipts_of_another_zone_are_refused.Given as goal
+
+abbrev pub ghosts-settles-K-Shape : goal.ghosts-settles-K-Shape
+ghosts-settles-K-Shape g a = record { number = 1; blocks = 1 }
+
+abbrev pub ghosts-settles-I-Ledger : goal.ghosts-settles-I-Ledger
+ghosts-settles-I-Ledger g a = record { name = a.blanks.isolated.name; parts = a.blanks.isolated.parts }
+
+abbrev pub ghosts-settles-N-Ledger : goal.ghosts-settles-N-Ledger
+ghosts-settles-N-Ledger g a = record { name = a.blanks.rounds.name; parts = a.blanks.rounds.parts }
+
+abbrev pub ghosts-settles-M-Ledger : goal.ghosts-settles-M-Ledger
+ghosts-settles-M-Ledger g a = record { name = a.blanks.moved.name; parts = a.blanks.moved.parts }
+
+abbrev pub ghosts-settles-B-Ledger : goal.ghosts-settles-B-Ledger
+ghosts-settles-B-Ledger g a = record { name = a.blanks.back.name; parts = a.blanks.back.parts }
+
+abbrev pub ghosts-differs_from_another-K-Shape : goal.ghosts-differs_from_another-K-Shape
+ghosts-differs_from_another-K-Shape g a = record { number = 1; blocks = 1 }
+
+abbrev pub ghosts-differs_from_another-I-Ledger : goal.ghosts-differs_from_another-I-Ledger
+ghosts-differs_from_another-I-Ledger g a = record { name = a.blanks.isolated.name; parts = a.blanks.isolated.parts }
+
+abbrev pub ghosts-differs_from_another-N-Ledger : goal.ghosts-differs_from_another-N-Ledger
+ghosts-differs_from_another-N-Ledger g a = record { name = a.blanks.rounds.name; parts = a.blanks.rounds.parts }
+
+abbrev pub ghosts-differs_from_another-M-Ledger : goal.ghosts-differs_from_another-M-Ledger
+ghosts-differs_from_another-M-Ledger g a = record { name = a.blanks.moved.name; parts = a.blanks.moved.parts }
+
+abbrev pub ghosts-differs_from_another-B-Ledger : goal.ghosts-differs_from_another-B-Ledger
+ghosts-differs_from_another-B-Ledger g a = record { name = a.blanks.back.name; parts = a.blanks.back.parts }

@@ -1,0 +1,104 @@
+//! A run of a script that is watched.
+
+use crate::answering::Answering;
+use crate::threaded::Threaded;
+use play_core::{Answer, Answers, Block, Respond};
+use std::alloc::AllocError;
+use std::sync::ledger::Ledger;
+use text_core::{Command, Reply};
+use zone_core::Zone;
+
+/// What watches the run of a script. The zone that is open, if one is, is lent to it before each command and after it. A block is one
+/// command.
+pub trait Watch {
+    /// The zone before a command.
+    fn before<I: Ledger, M: Ledger, B: Ledger>(
+        &mut self,
+        command: Command,
+        zone: Option<&Zone<I, M, B>>,
+    );
+
+    /// The zone after a command, and the reply; after a block its last reply.
+    fn after<I: Ledger, M: Ledger, B: Ledger>(
+        &mut self,
+        command: Command,
+        reply: &Reply,
+        zone: Option<&Zone<I, M, B>>,
+    );
+}
+
+/// Nothing watches.
+#[derive(Drop)]
+pub(crate) struct NoWatch;
+
+impl Watch for NoWatch {
+    #[inline(always)]
+    fn before<I: Ledger, M: Ledger, B: Ledger>(
+        &mut self,
+        _command: Command,
+        _zone: Option<&Zone<I, M, B>>,
+    ) {}
+
+    #[inline(always)]
+    fn after<I: Ledger, M: Ledger, B: Ledger>(
+        &mut self,
+        _command: Command,
+        _reply: &Reply,
+        _zone: Option<&Zone<I, M, B>>,
+    ) {}
+}
+
+/// What has a zone to show.
+pub(crate) trait Shows {
+    /// Shows a watcher the zone before a command.
+    fn show_before<V: Watch>(&self, watcher: &mut V, command: Command);
+
+    /// Shows a watcher the zone after a command, with the reply.
+    fn show_after<V: Watch>(&self, watcher: &mut V, command: Command, reply: &Reply);
+}
+
+impl<I: Ledger, N: Ledger, M: Ledger, B: Ledger, R, P, D> Shows
+    for Answering<Threaded<I, N, M, B>, R, P, D> {
+    #[inline(always)]
+    fn show_before<V: Watch>(&self, watcher: &mut V, command: Command) {
+        watcher.before(command, self.machine.zone());
+    }
+
+    #[inline(always)]
+    fn show_after<V: Watch>(&self, watcher: &mut V, command: Command, reply: &Reply) {
+        watcher.after(command, reply, self.machine.zone());
+    }
+}
+
+/// A machine that answers a script, and what watches it. What it answers is what it would answer alone.
+#[derive(Drop)]
+pub(crate) struct Watched<'w, A, V> {
+    pub(crate) answering: A,
+    pub(crate) watcher: &'w mut V,
+}
+
+impl<A: Respond + Shows, V: Watch> Respond for Watched<'_, A, V> {
+    ghost may = { λ old c answers new. A.may old.answering c answers new.answering };
+
+    ghost asks = { λ old command. A.asks old.answering command };
+
+    ghost ready = { λ now. A.ready now.answering };
+
+    #[inline(always)]
+    fn respond(&mut self, command: Command, reply: &mut Reply) -> Result<(), AllocError> {
+        self.answering.show_before(self.watcher, command);
+        self.answering.respond(command, reply)?;
+        self.answering.show_after(self.watcher, command, reply);
+        Ok(())
+    }
+
+    fn respond_to_block(&mut self, block: Block) -> Result<Answers, AllocError> {
+        let command = Command::During { zone: block.zone() };
+        self.answering.show_before(self.watcher, command);
+        let answers = self.answering.respond_to_block(block)?;
+        let (clients, own) = answers.into_parts();
+        let (line, reply) = own.into_parts();
+        self.answering.show_after(self.watcher, command, &reply);
+        Ok(Answers::new(clients, Answer::new(line, reply)))
+    }
+}

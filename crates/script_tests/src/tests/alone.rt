@@ -1,0 +1,112 @@
+//! The machine on one thread, which runs no rounds, beside the program.
+
+use super::fakes::Pieces;
+use super::played;
+use script_core::{Options, Sink, Source, Totals, run, run_text};
+use std::test::Fail;
+
+const OPTIONS: Options = Options {
+    copiers: 2,
+    capacity: 8,
+    journal: 65536,
+};
+
+/// A script, its replies on one thread, and those of the program.
+struct Row {
+    name: &'static str,
+    script: &'static str,
+    alone: &'static str,
+    on_threads: &'static str,
+}
+
+const ROWS: [Row; 6] = [
+    Row {
+        name: "a pool of pageblocks",
+        script: "zone 0 3\npool 0 2\npool 0 2\npool 0 9\n",
+        alone: "ok\ngot=2 rounds=0 stopped=enough blocks=0,1\ngot=1 rounds=0 stopped=32 blocks=2\nrefused 1\n",
+        on_threads: "ok\ngot=2 rounds=0 stopped=enough blocks=0,1\ngot=1 rounds=1 stopped=noblock blocks=2\nrefused 1\n",
+    },
+    Row {
+        name: "a pool of half pageblocks",
+        script: "profile 2\nzone 0 2\nmapat 0 0 0 0\nmapat 0 0 1 512\npool 0 2 8\npool 0 1\ngive 0 768 8\n",
+        alone: "ok\nok\nok\nok\ngot=2 rounds=0 stopped=enough frames=256,768\ngot=0 rounds=0 stopped=32 blocks=-\nok\n",
+        on_threads: "ok\nok\nok\nok\ngot=2 rounds=0 stopped=enough frames=256,768\ngot=0 rounds=2 stopped=noblock blocks=-\nok\n",
+    },
+    Row {
+        name: "a pool of one block more than there is",
+        script: "profile 2\nzone 0 1\npool 0 2 9\npool 0 1 2\n",
+        alone: "ok\nok\ngot=1 rounds=0 stopped=32 frames=0\nrefused 1\n",
+        on_threads: "ok\nok\ngot=1 rounds=1 stopped=noblock frames=0\nrefused 1\n",
+    },
+    Row {
+        name: "no pool beside a round that is open by hand",
+        script: "pool 0 1\nzone 0 2\npool 1 1\nscan 0\npool 0 1\nshut 0\nmapat 0 0 0 0\npool 0 2\n",
+        alone: "refused 43\nok\nrefused 43\nmet\nrefused 45\nback=0\nok\ngot=1 rounds=0 stopped=32 blocks=1\n",
+        on_threads: "refused 43\nok\nrefused 43\nmet\nrefused 45\nback=0\nok\ngot=1 rounds=2 stopped=noblock blocks=1\n",
+    },
+    Row {
+        name: "a round",
+        script: "zone 0 2\nmap 0 0 0\ncompact 0\nscan 0\ncompact 0\nlook 0 0 0\n",
+        alone: "ok\nok\nrefused 32\nserial=0\nrefused 45\nmoving serial=0 pins=0 maps=1\n",
+        on_threads: "ok\nok\nisolated=1 moved=1 back=0 stopped=met\nmet\nrefused 45\nframe=1023 dirty=0 unmovable=0 pins=0 maps=1\n",
+    },
+    Row {
+        name: "a block",
+        script: "zone 0 1\nmap 0 0 0 unmovable\nduring 0\npin 0 0 0\nend\nlook 0 0 0\n",
+        alone: "ok\nok\nrefused 32\nframe=0 dirty=0 unmovable=1 pins=0 maps=1\n",
+        on_threads: "ok\nok\nok\nisolated=0 moved=0 back=0 stopped=met\nframe=0 dirty=0 unmovable=1 pins=1 maps=1\n",
+    },
+];
+
+/// How many lines a text has.
+fn lines_of(text: &str) -> u64 {
+    text.bytes().filter(|byte| *byte == b'\n').count() as u64
+}
+
+#[test]
+fn pools_without_a_round(rt: HostRuntime) -> Result<(), Fail> {
+    for row in ROWS.iter() {
+        let mut sink = Sink::new(Vec::new(rt.alloc()));
+        let ended = run_text(rt.alloc(), row.script.as_bytes(), &mut sink, OPTIONS);
+        let replies = sink.into_inner();
+        assert_eq!(rt; replies.as_slice(), row.alone.as_bytes(), "{}", row.name);
+        let totals = Totals {
+            lines: lines_of(row.script),
+            replies: lines_of(row.alone),
+        };
+        assert_eq!(rt; ended, Ok(totals), "{}", row.name);
+    }
+    Ok(())
+}
+
+#[test]
+fn pools_where_there_are_threads(rt: HostRuntime) -> Result<(), Fail> {
+    for row in ROWS.iter() {
+        let found = played(&rt, rt.alloc(), &[], row.script.as_bytes())?;
+        assert_eq!(rt;
+            found.replies.as_slice(),
+            row.on_threads.as_bytes(),
+            "{}",
+            row.name
+        );
+        assert_eq!(rt; found.status, 0, "{}", row.name);
+    }
+    Ok(())
+}
+
+#[test]
+fn reads_a_script_on_one_thread(rt: HostRuntime) -> Result<(), Fail> {
+    for row in ROWS.iter() {
+        let mut source = Source::new(Pieces {
+            rest: row.script.as_bytes(),
+            size: 7,
+            calls: usize::MAX,
+        });
+        let mut sink = Sink::new(Vec::new(rt.alloc()));
+        let ended = run(rt.alloc(), &mut source, &mut sink, OPTIONS);
+        assert!(rt; ended.is_ok(), "{}", row.name);
+        let replies = sink.into_inner();
+        assert_eq!(rt; replies.as_slice(), row.alone.as_bytes(), "{}", row.name);
+    }
+    Ok(())
+}

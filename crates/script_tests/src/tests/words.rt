@@ -1,0 +1,61 @@
+//! What the program makes of the words that it is started with.
+
+use super::cases::FIRST_PAGE;
+use super::played;
+use std::test::Fail;
+
+#[test]
+fn refuses_arguments(rt: HostRuntime) -> Result<(), Fail> {
+    for arguments in [
+        &["--copiers", "5"][..],
+        &["--copiers", "0"][..],
+        &["--capacity", "65"][..],
+        &["--journal", "65537"][..],
+        &["--journal"][..],
+        &["--copiers", "1", "--copiers", "2"][..],
+        &["script"][..],
+        &["--other"][..],
+    ] {
+        let found = played(&rt, rt.alloc(), arguments, FIRST_PAGE.script.as_bytes())?;
+        assert!(rt; found.replies.is_empty(), "{arguments:?}");
+        assert!(rt; found.faults.starts_with(b"error: "), "{arguments:?}");
+        assert_eq!(rt; found.status, 2, "{arguments:?}");
+    }
+    Ok(())
+}
+
+/// Parts of the help.
+const HELP: [&str; 6] = [
+    "Usage: compactd [OPTIONS]",
+    "--copiers <N>   Copiers that a round has, 1 to 4 [default: 2]",
+    "--capacity <N>  Pages that a queue of a round holds, 1 to 64 [default: 8]",
+    "--journal <N>   Records that the journal holds, 1 to 65536 [default: 65536]",
+    "  zone Z B, info Z\n",
+    "  during Z, then lines of a client as above, then end\n",
+];
+
+#[test]
+fn shows_help(rt: HostRuntime) -> Result<(), Fail> {
+    let found = played(&rt, rt.alloc(), &["--help"], FIRST_PAGE.script.as_bytes())?;
+    let text = std::str::from_utf8(found.replies.as_slice())?;
+    for part in HELP.iter() {
+        assert!(rt; text.contains(part), "{part}");
+    }
+    assert!(rt; found.faults.is_empty());
+    assert!(rt; found.status == 0);
+    Ok(())
+}
+
+#[test]
+fn shows_its_version(rt: HostRuntime) -> Result<(), Fail> {
+    let found = played(
+        &rt,
+        rt.alloc(),
+        &["--version"],
+        FIRST_PAGE.script.as_bytes(),
+    )?;
+    assert!(rt; found.replies.as_slice() == b"compactd 0.1.0\n".as_slice());
+    assert!(rt; found.faults.is_empty());
+    assert!(rt; found.status == 0);
+    Ok(())
+}

@@ -1,0 +1,70 @@
+ghost use Rattle.std.specs.Prelude.{◌≡◌};
+ghost use Rattle.zone_picture.specs.Cells.{cell_of};
+
+use frame_core::FrameState;
+
+/// What a frame is used for, as it is drawn.
+#[derive(Clone, Copy, Debug, PartialEq, Eq)]
+pub enum Cell {
+    Free,
+    /// A page that may be moved.
+    Page,
+    /// A page that may not: it is unmovable, or it is pinned.
+    Fixed,
+    /// The frame that a page leaves while it is moved.
+    Source,
+    /// The frame that it is moved to.
+    Target,
+    /// A part of a block that is handed out.
+    HandedOut,
+}
+
+/// Whatever a frame may be used for, in the order of the legend.
+pub const CELLS: [Cell; 6] = [
+    Cell::Free,
+    Cell::Page,
+    Cell::Fixed,
+    Cell::Source,
+    Cell::Target,
+    Cell::HandedOut,
+];
+
+impl Cell {
+    /// What a frame in this state is drawn as, where the page that it holds may be moved or not.
+    pub fn of(state: FrameState, movable: bool) -> Self
+        ensures { result ≡ cell_of state movable }
+    {
+        match state {
+            FrameState::Free => Cell::Free,
+            FrameState::Holds(_) if movable => Cell::Page,
+            FrameState::Holds(_) => Cell::Fixed,
+            FrameState::Source(_) => Cell::Source,
+            FrameState::Target(_) => Cell::Target,
+            FrameState::Huge => Cell::HandedOut,
+        }
+    }
+
+    /// Its class in the style sheet.
+    pub fn class(self) -> &'static str {
+        match self {
+            Cell::Free => "free",
+            Cell::Page => "page",
+            Cell::Fixed => "fixed",
+            Cell::Source => "source",
+            Cell::Target => "target",
+            Cell::HandedOut => "held",
+        }
+    }
+
+    /// What the legend says of it.
+    pub fn meaning(self) -> &'static str {
+        match self {
+            Cell::Free => "free frame",
+            Cell::Page => "page",
+            Cell::Fixed => "unmovable or pinned",
+            Cell::Source => "page being moved",
+            Cell::Target => "where it goes",
+            Cell::HandedOut => "handed out",
+        }
+    }
+}

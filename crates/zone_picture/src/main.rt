@@ -1,0 +1,27 @@
+//! Draws the zone of a script: the script is read from standard input, and one SVG is written to standard output.
+#![tactic(auto)]
+
+mod album;
+mod cell;
+mod drawing;
+mod pageblock;
+mod process;
+mod sheet;
+mod sign;
+mod view;
+
+use process::program;
+use script_core::Source;
+use std::process::ExitCode;
+use std::{env, io};
+
+fn main(rt: HostRuntime) -> ExitCode {
+    ExitCode::from(program(
+        &rt,
+        rt.alloc(),
+        env::args(&rt),
+        &mut Source::new(rt.reader()),
+        &mut io::writer(&rt),
+        &mut rt.stderr(),
+    ))
+}

@@ -1,0 +1,94 @@
+ghost use Rattle.std.specs.Prelude.{◌≡◌, ◌<◌, IfOk};
+ghost use Rattle.zone_picture.specs.Cells.{cell_at, cells_of};
+
+use crate::cell::Cell;
+use frame_core::{BlockNo, FrameNo};
+use scan_core::Frames;
+use std::alloc::{AllocError, Global};
+use std::sync::ledger::Ledger;
+use zone_core::{Info, Zone};
+
+/// A pageblock as it is drawn: what each of its 512 frames is used for, and whether it is marked.
+#[derive(Drop, PartialEq, Eq)]
+pub struct Pageblock {
+    pub cells: Vec<Cell>,
+    pub marked: bool,
+}
+
+/// A zone as it is drawn: its pageblocks and its counts.
+#[derive(Drop, PartialEq, Eq)]
+pub struct View {
+    pub blocks: Vec<Pageblock>,
+    pub info: Info,
+}
+
+impl View {
+    /// A zone as it is now.
+    pub fn of<I: Ledger, M: Ledger, B: Ledger>(
+        alloc: Global,
+        zone: &Zone<I, M, B>,
+    ) -> Result<Self, AllocError> {
+        let frames = zone.frames();
+        let mut blocks = Vec::new(alloc);
+        for number in 0..frames.blocks() {
+            blocks.push(Pageblock {
+                cells: cells_of(alloc, frames, number)?,
+                marked: is_marked(zone, number),
+            })?;
+        }
+        Ok(View {
+            blocks,
+            info: zone.info(),
+        })
+    }
+}
+
+impl Pageblock {
+    /// Whether all of its frames are free.
+    pub fn is_whole(&self) -> bool {
+        self.cells.iter().all(|cell| *cell == Cell::Free)
+    }
+
+    /// Whether all of its frames are handed out.
+    pub fn is_handed_out(&self) -> bool {
+        self.cells.iter().all(|cell| *cell == Cell::HandedOut)
+    }
+
+    /// How many pages stand in it.
+    pub fn pages(&self) -> usize {
+        self.cells
+            .iter()
+            .filter(|cell| matches!(**cell, Cell::Page | Cell::Fixed | Cell::Source))
+            .count()
+    }
+}
+
+/// What each frame of a pageblock is used for.
+fn cells_of(alloc: Global, frames: &Frames, block: u32) -> Result<Vec<Cell>, AllocError>
+    requires { block < 8 }
+    ensures { IfOk result (λ cells. cells.items ≡ cells_of frames.now block) }
+{
+    let first = 512 * block;
+    (first..first + 512)
+        .map(|number| cell_at(frames, number))
+        .collect(alloc)
+}
+
+/// What a frame is used for.
+fn cell_at(frames: &Frames, number: u32) -> Cell
+    ensures { result ≡ cell_at frames.now number }
+{
+    match FrameNo::new(number) {
+        Some(frame) if number < frames.len() => {
+            Cell::of(frames.state(frame), frames.movable(frame))
+        }
+        _ => Cell::Free,
+    }
+}
+
+/// Whether a pageblock is marked.
+fn is_marked<I: Ledger, M: Ledger, B: Ledger>(zone: &Zone<I, M, B>, block: u32) -> bool {
+    BlockNo::new(block)
+        .and_then(|block| zone.marked(block))
+        .unwrap_or(false)
+}

@@ -1,0 +1,109 @@
+"""Where the program lies, the crates that it stands on, and what a build was made from: what `compactd`, `prove` and
+`.ci/run` share.
+
+A build is fresh while the kit, the sources and the build itself are as its note says. Times of files don't matter.
+As a command this prints the digest of the sources. With the word `proved` and such a digest it notes that the program
+which the gate built was made from those sources.
+"""
+
+import hashlib
+import os
+import pathlib
+import shutil
+import signal
+import subprocess
+import sys
+
+ROOT = pathlib.Path(__file__).resolve().parent.parent
+OUT = ROOT / "crates/compactd/out"
+PROVED = OUT / "compactd"
+UNPROVED = OUT / "unproved/compactd"
+# The status of what can't build the program.
+CANNOT_BUILD = 70
+
+
+def say(text):
+    print(text, file=sys.stderr, flush=True)
+
+
+def stop(why):
+    say(why)
+    sys.exit(CANNOT_BUILD)
+
+
+def end_on_signals():
+    """Has signals end this process by sys.exit, so that what it began is ended too. What it was started to ignore it
+    still ignores."""
+    for number in (signal.SIGINT, signal.SIGTERM, signal.SIGHUP):
+        if signal.getsignal(number) != signal.SIG_IGN:
+            signal.signal(number, lambda number, _: sys.exit(128 + number))
+
+
+def lines_of_crates(root):
+    """The lines of crates.txt, each under the name of its crate."""
+    lines = [line.partition("#")[0].strip() for line in (root / "crates.txt").read_text().splitlines()]
+    return {line.partition(":")[0].split()[0]: line for line in lines if line}
+
+
+def crates_below(root):
+    """The lines of crates.txt for the program's crate and those of the repository that it stands on."""
+    lines = lines_of_crates(root)
+    found = ["compactd"]
+    for crate in found:
+        found += [it for it in lines[crate].partition(":")[2].split() if it in lines and it not in found]
+    return {crate: lines[crate] for crate in sorted(found)}
+
+
+def digest_of(root):
+    """A digest of all but the kit that a proof of the program reads: what is allowed, the crates, and their files."""
+    crates = crates_below(root)
+    folders = [root / "crates" / crate / part for crate in crates for part in ("src", "specs", "proofs")]
+    files = [root / "HANDLES", *(file for folder in folders for file in sorted(folder.rglob("*")))]
+    digest = hashlib.sha256(repr(crates).encode())
+    for file in filter(pathlib.Path.is_file, files):
+        digest.update(repr((str(file.relative_to(root)), file.read_bytes())).encode())
+    return digest.hexdigest()
+
+
+def kit_version():
+    """The version of the Rattle kit whose `rt` is on PATH, or None where there is none."""
+    if not shutil.which("rt"):
+        return None
+    said = subprocess.run(["rt", "version"], stdin=subprocess.DEVNULL, stdout=subprocess.PIPE, text=True)
+    return said.stdout.strip() or None
+
+
+def note_of(build):
+    """The file beside a build that says what it was made from."""
+    return build.with_name(f"{build.name}.made_from")
+
+
+def keep(build, kit, sources):
+    """Notes what a build was made from, and a digest of the build, so that another file in its place is noticed."""
+    note_of(build).write_text(f"{kit}\n{sources}\n{hashlib.sha256(build.read_bytes()).hexdigest()}\n")
+
+
+def install(file, build, kit, sources):
+    """Puts a file in the place of a build, in one step, and notes what it was made from."""
+    build.parent.mkdir(parents=True, exist_ok=True)
+    beside = build.with_name(f"{build.name}.{os.getpid()}")
+    shutil.copy(file, beside)
+    beside.chmod(0o755)
+    os.replace(beside, build)
+    keep(build, kit, sources)
+
+
+def is_fresh(build, kit, sources):
+    """Whether a build is there that this kit made, or any where there is none, from these sources."""
+    try:
+        noted = note_of(build).read_text().splitlines()
+        return noted == [kit or noted[0], sources, hashlib.sha256(build.read_bytes()).hexdigest()]
+    except (OSError, IndexError):
+        return False
+
+
+if __name__ == "__main__":
+    if sys.argv[1:2] == ["proved"]:
+        keep(PROVED, kit_version(), sys.argv[2])
+    else:
+        print(digest_of(ROOT))
