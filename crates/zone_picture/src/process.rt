@@ -88,10 +88,13 @@ fn read_words(words: io::Result<Args>) -> Asked {
         return Asked::Unknown;
     };
     let mut words = words.skip(1);
-    match (words.next(), words.next()) {
-        (None, _) => Asked::Picture,
-        (Some(word), None) if word.as_str() == "--help" => Asked::Help,
-        _ => Asked::Unknown,
+    let Some(word) = words.next() else {
+        return Asked::Picture;
+    };
+    if word.as_str() == "--help" && words.next().is_none() {
+        Asked::Help
+    } else {
+        Asked::Unknown
     }
 }
 
