@@ -13,6 +13,7 @@ import time
 
 FOLDER = pathlib.Path(__file__).resolve().parent
 SHARED = ("all", "runs", "machine")  # what isn't a check
+SECONDS = 1800  # that a check may take
 
 
 def shows(check):
@@ -25,10 +26,19 @@ def is_passed(check, options):
     """Runs a check, with what it says, and tells how long it took."""
     print(f"check {check.stem}: {shows(check)}.", flush=True)
     begin = time.monotonic()
-    ran = subprocess.run([sys.executable, "-B", check, *options], stderr=subprocess.STDOUT)
-    ended = "passed" if ran.returncode == 0 else f"FAILED with status {ran.returncode}"
+    wrong = wrong_end([sys.executable, "-B", check, *options])
+    ended = f"FAILED, {wrong}," if wrong else "passed"
     print(f"check {check.stem}: {ended} in {time.monotonic() - begin:.1f} s", flush=True)
-    return ran.returncode == 0
+    return not wrong
+
+
+def wrong_end(command):
+    """How a command ends that doesn't end as it should."""
+    try:
+        status = subprocess.run(command, stderr=subprocess.STDOUT, timeout=SECONDS).returncode
+    except subprocess.TimeoutExpired:
+        return "cut off"
+    return f"with status {status}" if status else None
 
 
 def main():

@@ -1,13 +1,17 @@
 """README.md and docs/*.md name what is there, and the README shows what is so.
 
 Each path in backticks is a file or a folder of the repository, or a guide of the kit; a path in a folder `out` is one
-that a build makes. Each word of an identifier in backticks stands in some file of `src` or `specs`, of checks/ or
-bench/, or in crates.txt, and the parts of `Type::function` stand in one file. Left out are patterns such as `x_refusal`
-and `IsX`. Links lead to files and headings that are there. In the README lines that begin with `$ ` are commands, and
-the lines below each are what it writes, where `..` stands for lines left out. A block ```script is a script, with its
-replies below. A block ```rust has lines of the file that the paragraph above it names, in their order."""
+that a build makes. Each word of an identifier in backticks stands in some file of `src` or `specs`, of checks/, bench/
+or launch/, or in crates.txt, and so does each name with an underscore in a block of lines. The parts of
+`Type::function` stand in one file. Left out are patterns such as `x_refusal` and `IsX`. Links lead to files and
+headings that are there.
+
+In the README lines that begin with `$ ` are commands, and the lines below each are what it writes, where `..` stands
+for lines left out. A block ```script is a script, with its replies below. A block ```rust has lines of the file that
+the paragraph above it names, in their order."""
 
 import fnmatch
+import itertools
 import os
 import pathlib
 import re
@@ -19,8 +23,10 @@ import runs
 
 SECONDS = 120  # that a command of the README may take
 LEFT_OUT = (".git", "out", "__pycache__")
-SOURCES = ["crates/*/src/*", "crates/*/specs/*", "crates.txt", "checks/*", "bench/*", "examples/*"]
+SOURCES = ["crates/*/src/*", "crates/*/specs/*", "crates.txt", "checks/*", "bench/*", "launch/*", "examples/*"]
+TRIED = ("script", "replies", "fault", "rust")
 WORD = re.compile(r"[A-Za-z_]\w+")
+LONG_NAME = re.compile(r"[A-Za-z]\w*_\w+")
 NAME = re.compile(r"[A-Za-z_]\w*(?:::[A-Za-z_]\w*)+")
 PATH = re.compile(r"[\w.*-]*/[\w./*-]*|[\w*-]+\.[a-z]+")
 PATTERN = re.compile(r"(^|_)x(_|$)|[a-z]X$")
@@ -33,15 +39,16 @@ class Tree:
 
     def __init__(self):
         self.files = sorted(files_below(runs.ROOT))
-        self.paths = [*self.files, *map(as_named_edit, self.files), *guides_of_the_kit()]
+        paths = {*self.files, *map(as_named_edit, self.files), *guides_of_the_kit()}
+        self.paths = {part for path in paths for part in parts_of(path)}
         self.suffixes = {pathlib.Path(file).suffix for file in self.files}
         self.words_of = {file: words_of(file) for file in self.files}
         self.words = set().union(*self.words_of.values(), words_in(version_of_the_kit()))
 
     def has_path(self, path):
-        """Whether a path, or its part above `out`, is that of a file or folder, or the end of one's path."""
+        """Whether a path, or its part above `out`, is that of a file or folder, or a part of one's path."""
         inside = re.sub(r"(^|/)out(/.*)?$", "", path.removeprefix("./").strip("/"))
-        return not inside or any(fnmatch.fnmatch(f"/{file}/", f"*/{inside}/*") for file in self.paths)
+        return not inside or inside in self.paths or "*" in inside and bool(fnmatch.filter(self.paths, inside))
 
     def has_name(self, name):
         """Whether the parts of a name, such as `Type::function`, stand in one file."""
@@ -62,6 +69,13 @@ def files_below(root):
     for folder, folders, names in os.walk(root):
         folders[:] = [name for name in folders if name not in LEFT_OUT]
         yield from (str(pathlib.Path(folder, name).relative_to(root)) for name in names)
+
+
+def parts_of(path):
+    """What a path is called from each folder in it, up to each folder or the file."""
+    names = path.split("/")
+    spans = itertools.combinations(range(len(names) + 1), 2)
+    return ("/".join(names[first:last]) for first, last in spans)
 
 
 def as_named_edit(file):
@@ -93,6 +107,14 @@ def words_of(file):
 def missing_names(page, tree):
     for code in re.findall(r"`([^`\n]+)`", FENCED.sub("", page.read_text())):
         yield from (f"`{code}`: there is no {name}" for name in tree.missing(code))
+    named = {name for block in plain_blocks(page.read_text()) for name in LONG_NAME.findall(block)}
+    yield from (f"a block that is shown names {name}, which isn't there" for name in sorted(named - tree.words))
+
+
+def plain_blocks(text):
+    """The blocks of a document that are neither scripts nor Rattle, without their margins."""
+    yield from (content for kind, content in FENCED.findall(text) if kind not in TRIED)
+    yield from map(textwrap.dedent, INDENTED.findall(FENCED.sub("", text)))
 
 
 def missing_links(page):
@@ -113,9 +135,7 @@ def has_heading(page, wanted):
 
 def shown_commands(text):
     """The commands that are shown, each with the lines below it."""
-    blocks = [content for _, content in FENCED.findall(text)]
-    blocks += [textwrap.dedent(block) for block in INDENTED.findall(FENCED.sub("", text))]
-    for block in blocks:
+    for block in plain_blocks(text):
         for shown in re.split(r"^\$ ", block, flags=re.M)[1:]:
             command, *lines = shown.splitlines()
             yield command, lines
@@ -157,10 +177,10 @@ def stand_in_order(lines, file):
     return any(is_found(" " * columns) for columns in (0, 4, 8, 12))
 
 
-def wrong_commands(commands):
-    for command, lines in commands:
-        if wrong := wrong_command(command, lines):
-            yield f"`{command}`: {wrong}"
+def first_wrong_command(commands):
+    """What is wrong with the first command that isn't right, if there is one. Those after it aren't tried."""
+    tried = (f"`{command}`: {wrong}" for command, lines in commands if (wrong := wrong_command(command, lines)))
+    return [*itertools.islice(tried, 1)]
 
 
 def main():
@@ -169,7 +189,7 @@ def main():
     pages, text = [readme, *sorted((runs.ROOT / "docs").glob("*.md"))], readme.read_text()
     faults = [f"{page.name}: {name}" for page in pages for name in (*missing_names(page, tree), *missing_links(page))]
     commands, examples = [*shown_commands(text)], manual.examples(text)
-    faults += [f"README.md: {wrong}" for wrong in (*wrong_commands(commands), *missing_lines(text))]
+    faults += [f"README.md: {wrong}" for wrong in (*first_wrong_command(commands), *missing_lines(text))]
     if not commands:
         faults.append("README.md shows no command")
     if faults:

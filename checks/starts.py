@@ -1,8 +1,8 @@
-"""Shows of `./compactd` and `./prove`, over a kit that proves nothing (`checks/kit/rt`), in a temporary folder: what is
-proved or compiled is used again exactly where the kit, the sources and the build are as they were, whatever the times
-of files are; arguments, input, output and status are passed on; and nothing half made is used or left where a build
-fails, is interrupted, or is asked for twice at once.
-"""
+"""`./compactd` and `./prove` use a build again exactly where it is fresh, and never one that is half made.
+
+This is seen over a kit that proves nothing (`checks/kit/rt`), in a temporary folder. A build is used again where the
+kit, the sources and the build itself are as they were, whatever the times of files are. Arguments, input, output and
+status are passed on. Nothing is left where a build fails or is interrupted, and of two starts at once one builds."""
 
 import contextlib
 import os
@@ -30,6 +30,8 @@ FILES = {
 # What a proof reads: the program's crates without their edits, and nothing of the others.
 READ = sorted(path for path in FILES if "must-fail" not in path and "other" not in path)
 OUT = "crates/compactd/out"
+# What a command may take, which runs for a second, on a machine that does much beside it.
+SECONDS = 60
 COMPILES, UNPROVED, AGAIN = "compiling a build", "this build isn't proved", "compiles once more"
 PROVED = (0, f"compactd is proved: {OUT}/compactd\n")
 
@@ -85,16 +87,20 @@ class Repository:
 
 def ended(begun):
     """The status of a command with one line of input, and what it writes to standard output and to standard error."""
-    written, said = begun.communicate("a line\n")
+    try:
+        written, said = begun.communicate("a line\n", timeout=SECONDS)
+    except subprocess.TimeoutExpired:
+        begun.kill()
+        sys.exit(f"starts: {begun.args} had not ended after {SECONDS} seconds")
     return begun.returncode, written, said
 
 
 def wait_until(holds):
-    for _ in range(3000):
+    for _ in range(100 * SECONDS):
         if holds():
             return
         time.sleep(0.01)
-    sys.exit("starts: no call of the kit within half a minute")
+    sys.exit(f"starts: no call of the kit within {SECONDS} seconds")
 
 
 def same(what, found, wanted):
@@ -230,12 +236,12 @@ CASES = (
 )
 
 
-def check():
+def main():
     for case in CASES:
         with tempfile.TemporaryDirectory(prefix="compactd-starts-") as folder:
             case(Repository(pathlib.Path(folder)))
-    return f"{len(CASES)} cases of starts and proofs: what is fresh runs again, and nothing that is half made"
+    return f"{len(CASES)} cases of starts and proofs: a build is used exactly where it is fresh, and is never half made"
 
 
 if __name__ == "__main__":
-    print(check())
+    print(main())

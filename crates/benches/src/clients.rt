@@ -108,14 +108,14 @@ fn best_rates<R: Threads + Wait + Clock + Sync>(
     best
 }
 
-/// Of a zone at rest.
+/// How many thousands of calls clients make in a second, of a zone at rest.
 fn at_rest<R: Threads + Wait + Clock + Sync>(rt: &R, alloc: Global, count: u32) -> u64 {
     rate_at_rest::<Brand, Brand, Brand, Brand, Brand, R>(rt, alloc, count, Blanks::new()).unwrap_or(
         0,
     )
 }
 
-/// Beside rounds.
+/// What clients do beside rounds.
 fn beside<R: Threads + Wait + Clock + Sync>(rt: &R, alloc: Global, count: u32) -> Outcome {
     beside_rounds::<Brand, Brand, Brand, Brand, Brand, R>(
         rt,
@@ -125,7 +125,7 @@ fn beside<R: Threads + Wait + Clock + Sync>(rt: &R, alloc: Global, count: u32) -
     ).unwrap_or_default()
 }
 
-/// Of loads beside rounds whose queues have so much room.
+/// How long loads take beside rounds whose queues have so much room.
 fn waits_of<R: Threads + Wait + Clock + Sync>(rt: &R, alloc: Global, cap: usize) -> Waits {
     wait_beside_rounds::<Brand, Brand, Brand, Brand, Brand, R>(
         rt,

@@ -10,19 +10,20 @@ mod opening;
 mod rounds;
 mod times;
 
+use anyhow::{Context, Result, bail};
 use std::alloc::Global;
 use std::env::Args;
-use std::io::ErrorKind;
 use std::sync::Wait;
 use std::thread::Threads;
 use std::time::Clock;
 use std::{env, io};
 
-fn main(rt: HostRuntime) -> io::Result<()> {
+fn main(rt: HostRuntime) -> Result<()> {
     let mut words = env::args(&rt)?;
     let _program = words.next();
     let Some(subject) = words.next() else {
-        return show_all(&rt, rt.alloc());
+        show_all(&rt, rt.alloc())?;
+        return Ok(());
     };
     show(&rt, rt.alloc(), subject.as_str(), words)
 }
@@ -42,26 +43,25 @@ fn show<R: Threads + Wait + Print + Alloc + Clock + Sync>(
     alloc: Global,
     subject: &str,
     mut words: Args,
-) -> io::Result<()> {
-    match (subject, words.next(), words.next()) {
-        ("rounds", None, _) => rounds::show_moves(rt, alloc),
+) -> Result<()> {
+    let (first, second) = (words.next(), words.next());
+    match (subject, first, second) {
+        ("rounds", None, _) => rounds::show_moves(rt, alloc)?,
+        ("rounds", Some(times), None) => rounds::show_times(rt, alloc, number_in(times.as_str())?)?,
         ("rounds", Some(part), Some(times)) => {
-            rounds::show_part(rt, alloc, part.as_str(), number_in(times.as_str())?)
+            rounds::show_part(rt, alloc, part.as_str(), number_in(times.as_str())?)?
         }
-        ("rounds", Some(times), None) => rounds::show_times(rt, alloc, number_in(times.as_str())?),
-        ("clients", None, _) => clients::show_settled(rt, alloc),
+        ("clients", None, _) => clients::show_settled(rt, alloc)?,
         ("clients", Some(times), None) => {
-            clients::show_times(rt, alloc, number_in(times.as_str())?)
+            clients::show_times(rt, alloc, number_in(times.as_str())?)?
         }
-        ("hands", None, _) => hands::show_loads(rt, alloc),
-        ("hands", Some(pages), None) => hands::show_times(rt, alloc, number_in(pages.as_str())?),
-        _ => Err(io::Error::from(ErrorKind::InvalidInput)),
+        ("hands", None, _) => hands::show_loads(rt, alloc)?,
+        ("hands", Some(pages), None) => hands::show_times(rt, alloc, number_in(pages.as_str())?)?,
+        _ => bail!("wanted: rounds, clients or hands, and then a number"),
     }
+    Ok(())
 }
 
-fn number_in(word: &str) -> io::Result<u32> {
-    match word.parse::<u32>() {
-        Ok(number) => Ok(number),
-        Err(_) => Err(io::Error::from(ErrorKind::InvalidInput)),
-    }
+fn number_in(word: &str) -> Result<u32> {
+    word.parse::<u32>().ok().context("a number is wanted")
 }

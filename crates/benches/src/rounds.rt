@@ -7,7 +7,6 @@ use crate::times::Times;
 use alone::{fill_alone, move_alone};
 use std::alloc::Global;
 use std::io;
-use std::io::ErrorKind;
 use std::marker::Brand;
 use std::sync::Wait;
 use std::thread::Threads;
@@ -60,13 +59,14 @@ pub fn show_part<R: Print + Alloc + Clock>(
     alloc: Global,
     part: &str,
     times: u32,
-) -> io::Result<()> {
+) -> anyhow::Result<()> {
     let pages = match part {
         "alone" => best_alone(rt, alloc, times)?.moved,
         "filled" => filled(alloc, times),
-        _ => return Err(io::Error::from(ErrorKind::InvalidInput)),
+        _ => anyhow::bail!("wanted: alone or filled"),
     };
-    println!(rt; "{pages} pages")
+    println!(rt; "{pages} pages")?;
+    Ok(())
 }
 
 /// The best of so many rounds.

@@ -1,14 +1,14 @@
 use std::io;
 use std::time::{Clock, Instant};
 
-/// How long it took, in nanoseconds.
+/// How long a round took.
 #[derive(Clone, Copy)]
 pub struct Times {
     /// The pages that were moved.
     pub moved: u32,
-    /// To move them.
+    /// Nanoseconds that moving them took.
     pub whole: u64,
-    /// The same again, with nothing to move.
+    /// Nanoseconds that a round with nothing to move took.
     pub empty: u64,
 }
 
@@ -29,7 +29,7 @@ impl Times {
         }
     }
 
-    /// For each page.
+    /// Nanoseconds for each page that was moved.
     pub fn each(&self) -> u64 {
         self.whole / u64::from(self.moved.max(1))
     }

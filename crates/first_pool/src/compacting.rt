@@ -3,7 +3,7 @@ ghost use Rattle.zone_core.specs.Books.{AreFor};
 use crate::numbers::{address, client, frame, word};
 use anyhow::{Context, Result};
 use bitflags::Flags;
-use frame_core::{PageFlags, ZoneNo};
+use frame_core::{BlockNo, PageFlags, ZoneNo};
 use round_core::{NoGate, compact_alone};
 use std::alloc::Global;
 use std::sync::Wait;
@@ -26,28 +26,57 @@ fn open<I: Ledger, N: Ledger, M: Ledger, B: Ledger>(
     Ok((zone, Seats { scan, ends }))
 }
 
+/// What was seen of the zone.
+#[derive(Clone, Copy)]
+pub struct Seen {
+    /// The whole pageblocks before the round and after it.
+    pub before: u32,
+    pub after: u32,
+    /// The pages that the round moved.
+    pub moved: u32,
+    /// The word that was stored before the round, loaded after it.
+    pub loaded: u64,
+    /// The pageblock that was handed out.
+    pub huge: u32,
+}
+
+/// Maps a page in each of two pageblocks, and stores 7 in a word of the lower one. The answer is how many pageblocks are whole then.
+fn map_two_pages<I: Ledger, M: Ledger, B: Ledger>(zone: &mut Zone<I, M, B>) -> Result<u32> {
+    let (low, high) = (address(0, 10)?, address(0, 11)?);
+    zone.map_at(client(0)?, low, PageFlags::empty(), frame(0)?)?;
+    zone.map_at(client(0)?, high, PageFlags::empty(), frame(512)?)?;
+    zone.store(client(0)?, low, word(3)?, 7)?;
+    Ok(zone.info().whole)
+}
+
 /// Moves two pages into one pageblock, by a round of two copiers, and takes the other pageblock.
 pub fn compact_two_pages<
     I: Ledger + Send + Sync,
     N: Ledger,
     M: Ledger + Send + Sync,
     B: Ledger + Send + Sync,
-    R: Threads + Wait + Print + Alloc + Sync,
->(rt: &R, alloc: Global, blanks: Blanks) -> Result<(Zone<I, M, B>, Seats<I, N, M, B>)>
+    R: Threads + Wait + Sync,
+>(rt: &R, alloc: Global, blanks: Blanks) -> Result<Seen>
     requires blanks { AreFor blanks I.name I.parts N.name N.parts M.name M.parts B.name B.parts }
 {
-    let (client, word, movable) = (client(0)?, word(3)?, PageFlags::empty());
-    let (low, high) = (address(0, 10)?, address(0, 11)?);
-
-    let (mut zone, mut seats) = open(alloc, 2, blanks)?;
-    zone.map_at(client, low, movable, frame(0)?)?;
-    zone.map_at(client, high, movable, frame(512)?)?;
-    zone.store(client, low, word, 7)?;
-    println!(rt; "before: {} whole pageblocks", zone.info().whole)?;
+    let (mut zone, mut seats) = open::<I, N, M, B>(alloc, 2, blanks)?;
+    let before = map_two_pages(&mut zone)?;
     let (mut zone, round) = compact_alone(rt, alloc, zone, &mut seats, 2, 8, &NoGate);
-    println!(rt; "moved: {} pages", round?.moved)?;
-    println!(rt; "after: {} whole pageblock", zone.info().whole)?;
-    println!(rt; "loaded: {}", zone.load(client, low, word)?)?;
-    println!(rt; "handed out: pageblock {}", zone.take_huge()?.get())?;
-    Ok((zone, seats))
+    let (moved, after) = (round?.moved, zone.info().whole);
+    let (loaded, huge) = take_pageblock(&mut zone)?;
+    Ok(Seen {
+        before,
+        after,
+        moved,
+        loaded,
+        huge: huge.get(),
+    })
+}
+
+/// Loads the word that was stored, and takes the lowest whole pageblock.
+fn take_pageblock<I: Ledger, M: Ledger, B: Ledger>(
+    zone: &mut Zone<I, M, B>,
+) -> Result<(u64, BlockNo)> {
+    let loaded = zone.load(client(0)?, address(0, 10)?, word(3)?)?;
+    Ok((loaded, zone.take_huge()?))
 }

@@ -10,7 +10,15 @@ use std::marker::Brand;
 use zone_core::Blanks;
 
 fn main(rt: HostRuntime) -> anyhow::Result<()> {
-    let blanks = Blanks::new();
-    compact_two_pages::<Brand, Brand, Brand, Brand, HostRuntime>(&rt, rt.alloc(), blanks)?;
+    let seen = compact_two_pages::<Brand, Brand, Brand, Brand, HostRuntime>(
+        &rt,
+        rt.alloc(),
+        Blanks::new(),
+    )?;
+    println!(rt; "before: {} whole pageblocks", seen.before)?;
+    println!(rt; "moved: {} pages", seen.moved)?;
+    println!(rt; "after: {} whole pageblock", seen.after)?;
+    println!(rt; "loaded: {}", seen.loaded)?;
+    println!(rt; "handed out: pageblock {}", seen.huge)?;
     Ok(())
 }

@@ -1,3 +1,5 @@
 pub mod Early
 pub mod Lists
 pub mod Sharing
+pub mod ByHand
+pub mod Begun

@@ -4,3 +4,5 @@ pub mod Errors
 pub mod Kept
 pub mod Rounds
 pub mod Runs
+pub mod Alone
+pub mod Scanning

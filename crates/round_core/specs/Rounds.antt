@@ -1,8 +1,12 @@
 -- What a round does, and when it is refused.
-use Rattle.std.specs.Prelude.{◌≡◌, ◌≢◌, ℕ, ◌+◌, ◌<◌, List, map, All, ⊤, Some, Result, Err, IfErr, ◌↔◌, ◌⊎◌}
+use Rattle.std.specs.Prelude.{◌≡◌, ◌≢◌, ℕ, ◌+◌, ◌<◌, List, map, All, ⊤, Option, Some, None, Result, Err, IfErr, ◌↔◌, ◌⊎◌}
 use Rattle.std.specs.List.{flat_map, range_with_len}
 use Rattle.std.specs.List.Sorted.{IsPermutation, IsStrictlyIncreasing}
+use Rattle.outcome_core.specs.ByHand.{all_isolated}
+use Rattle.state_core.specs.declared.error.ZoneError.{ZoneError}
 use Rattle.state_core.specs.declared.information.Audit.{Audit}
+use Rattle.state_core.specs.Isolating.{isolate_refusal}
+use Rattle.state_core.specs.ZoneState.{ZoneState}
 use Rattle.zone_core.specs.Seats.{ScanSeat, EndSeat}
 use Rattle.zone_core.specs.declared.seats.Answered.{Answered}
 use Rattle.zone_core.specs.declared.seats.Answered.TheVariants as answered
@@ -16,6 +20,15 @@ use Rattle.round_core.specs.declared.round.Stop.TheVariants as stop
 abbrev pub answer_at : Stop → Answered
 answer_at stop.Met = answered.Met
 answer_at stop.JournalFull = answered.JournalFull
+
+-- why the scanner stops, by what the journal refuses to isolate a page as
+abbrev pub stop_for : Option ZoneError → Stop
+stop_for None = stop.Met
+stop_for (Some error) = stop.JournalFull
+
+-- why the scanner of a round by hand stops
+abbrev pub stop_by_hand : ZoneState → Stop
+stop_by_hand z = stop_for (isolate_refusal (all_isolated z))
 
 -- the lists of a round's copiers
 abbrev pub lists_of : Round → List (List ℕ)

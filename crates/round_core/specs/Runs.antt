@@ -1,5 +1,6 @@
 -- What the threads of a round start with, and how they ran.
-use Rattle.std.specs.Prelude.{◌≡◌, ◌+◌, ◌≤◌, ℕ, true, false, [], All, map, Some, IfSome, length, vec_len, vec_capacity}
+use Rattle.std.specs.Prelude.{◌≡◌, ◌+◌, ◌<◌, ◌≤◌, ℕ, true, false, [], All, map, Some, IfSome, length, vec_len, vec_capacity}
+use Rattle.std.specs.VecDeque.{deque_capacity}
 use Rattle.hand_core.specs.PageEnds.{Giver}
 use Rattle.hand_core.specs.CopyEnds.{has_ended}
 use Rattle.zone_core.specs.Seats.{ScanSeat}
@@ -34,7 +35,7 @@ pub record IsReady (serial : ℕ) (m : Memory) : Type 0 where
   pub giver : IsFresh serial m.outfit.giver
   pub outfit : IsUnstarted m.outfit
   pub copies : has_ended m.copies ≡ false
-  pub pages : m.bursts.pages.items ≡ []
+  pub pages : (m.bursts.pages.items ≡ []) × (0 < deque_capacity m.bursts.pages)
   pub joined : IsEmpty (vec_len m.outfit.takers) m.joined
 
 -- the takers are of the giver's hand-over, and where all copiers came to their ends the lists have the serials of the pages that they took

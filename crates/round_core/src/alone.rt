@@ -1,14 +1,19 @@
-ghost use Rattle.std.specs.Prelude.{◌<◌, ◌≤◌, IfOk};
+ghost use Rattle.std.specs.Prelude.{◌≡◌, ◌+◌, ◌<◌, ◌≤◌, true, IfOk, OnOk};
+ghost use Rattle.journal_core.specs.Moves.{isolated};
+ghost use Rattle.outcome_core.specs.ByHand.{by_hand};
+ghost use Rattle.outcome_core.specs.Outcome.{IsSame};
 ghost use Rattle.round_core.specs.Kept.{IsKept};
-ghost use Rattle.round_core.specs.Rounds.{IsRound, IsRefusedEarly};
+ghost use Rattle.round_core.specs.Rounds.{IsRound, IsRefusedEarly, IsBroken, stop_by_hand};
+ghost use Rattle.state_core.specs.Packed.{IsPacked};
+ghost use Rattle.state_core.specs.Pairs.{is_calm};
 ghost use Rattle.zone_core.specs.Shape.{HasShape};
 
 use crate::compacting::compact;
 use crate::error::RoundError;
 use crate::gate::Gate;
-use crate::round::Round;
-use crate::shape::Shape;
-use crate::shared_zone::SharedZone;
+use crate::keeping::Keeping;
+use crate::round::{Round, Stop};
+use crate::shared_zone::KeptZone;
 use std::alloc::Global;
 use std::marker::Brand;
 use std::sync::Wait;
@@ -28,7 +33,7 @@ pub fn compact_alone<
 >(
     rt: &R,
     alloc: Global,
-    zone: Zone<I, M, B>,
+    mut zone: Zone<I, M, B>,
     seats: &mut Seats<I, N, M, B>,
     copiers: usize,
     cap: usize,
@@ -36,17 +41,32 @@ pub fn compact_alone<
 ) -> (Zone<I, M, B>, Result<Round, RoundError>)
     requires copiers { (0 < copiers) × (copiers ≤ 4) }
     requires cap { (0 < cap) × (cap ≤ 64) }
+    // In every schedule the zone is the one after a round by hand, but for the order in which moves ended.
+    ensures exact { OnOk result.1 (IsSame (by_hand zone) result.0) }
+    // As many pages were isolated, each of them was moved, and the round stopped as that one does.
+    ensures count { IfOk result.1 (λ r. isolated zone.records + r.count ≡ isolated (by_hand zone).records) }
+    ensures none_back { IfOk result.1 (λ r. r.back ≡ 0) }
+    ensures stopped { IfOk result.1 (λ r. r.stopped ≡ stop_by_hand zone) }
+    // Where nothing was stuck and the scanners met, the zone is packed.
+    ensures packed { IfOk result.1 (λ r. r.stopped ≡ Stop.Met → is_calm zone ≡ true → IsPacked result.0) }
+    // Where the seats were whole and no round was begun, the zone is as before.
+    ensures unbegun { ¬ (IsBroken seats.old.scan seats.old.ends) → seats.new.scan.rounds ≡ seats.old.scan.rounds → IsSame zone result.0 }
     ensures kept { IsKept result.0 }
     ensures shape { HasShape zone.number zone.blocks result.0 }
     ensures round { IfOk result.1 (λ r. IsRound seats.old.scan seats.new.scan seats.old.ends seats.new.ends r) }
     ensures early { IsRefusedEarly seats.old.scan seats.new.scan seats.old.ends seats.new.ends result.1 }
 {
-    compact_shared::<Brand, I, N, M, B, G, R>(rt, alloc, zone, seats, copiers, cap, gate)
+    let _ = zone.audit(&mut seats.scan, &mut seats.ends);
+    let (mut zone, round) = compact_shared::<Brand, I, N, M, B, G, R>(
+        rt, alloc, zone, seats, copiers, cap, gate,
+    );
+    let _ = zone.audit(&mut seats.scan, &mut seats.ends);
+    (zone, round)
 }
 
 /// Runs the round over a zone with the number and the pageblocks that the type names.
 fn compact_shared<
-    K: Shape + Send + Sync,
+    K: Keeping + Send + Sync,
     I: Ledger + Send + Sync,
     N: Ledger,
     M: Ledger + Send + Sync,
@@ -65,12 +85,17 @@ fn compact_shared<
     requires copiers { (0 < copiers) × (copiers ≤ 4) }
     requires cap { (0 < cap) × (cap ≤ 64) }
     requires shape { HasShape K.number K.blocks zone }
+    requires keeps { K.keeps zone }
+    requires begins { K.begins_at seats.old.scan.count }
+    ensures keeps { K.keeps result.0 }
+    ensures stops { IfOk result.1 (λ r. K.stops_at seats.new.scan.count r.stopped) }
+    ensures none_back { OnOk result.1 (K.unpinned → seats.new.ends.back ≡ seats.old.ends.back) }
     ensures kept { IsKept result.0 }
     ensures shape { HasShape K.number K.blocks result.0 }
     ensures round { IfOk result.1 (λ r. IsRound seats.old.scan seats.new.scan seats.old.ends seats.new.ends r) }
     ensures early { IsRefusedEarly seats.old.scan seats.new.scan seats.old.ends seats.new.ends result.1 }
 {
-    let shared = SharedZone::<K, I, M, B>::new(zone);
+    let shared = KeptZone::<K, I, M, B>::new(zone);
     let round = compact(rt, alloc, &shared, seats, copiers, cap, gate);
     (shared.into_zone(), round)
 }

@@ -1,11 +1,14 @@
 //! Steps of many pages under one hold of the lock.
 
-ghost use Rattle.std.specs.Prelude.{◌≡◌, ◌+◌, [], length, Some, IfSome};
+ghost use Rattle.std.specs.Prelude.{◌≡◌, ◌+◌, ◌<◌, [], length, Some, IfSome, IfNone, OnSome};
+ghost use Rattle.std.specs.VecDeque.{deque_capacity};
+ghost use Rattle.journal_core.specs.Moves.{isolated};
 ghost use Rattle.state_core.specs.Lawful.{IsLawful};
 ghost use Rattle.word_core.specs.Serials.{HasSerialsFrom};
 ghost use Rattle.zone_core.specs.Shape.{HasShape};
 ghost use Rattle.round_core.specs.Rounds.{answer_at};
 
+use crate::keeping::Keeping;
 use crate::round::Stop;
 use frame_core::Serial;
 use std::collections::VecDeque;
@@ -14,17 +17,23 @@ use word_core::{Copied, Isolated};
 use zone_core::{EndSeat, Next, ScanSeat, Zone};
 
 /// Isolates pages into the empty list, in their order, until the list is full. Where it stops before, the answer says why.
-pub(crate) fn isolate_burst<I: Ledger, N: Ledger, M: Ledger, B: Ledger>(
+pub(crate) fn isolate_burst<K: Keeping, I: Ledger, N: Ledger, M: Ledger, B: Ledger>(
     zone: &mut Zone<I, M, B>,
     scan: &mut ScanSeat<I, N>,
     pages: &mut VecDeque<Isolated>,
 ) -> Option<Stop>
     requires lawful { IsLawful zone.old }
-    requires empty { pages.old.items ≡ [] }
+    requires keeps { K.keeps_scanning zone.old }
+    requires count { isolated zone.old.records ≡ scan.old.count }
+    requires empty { (pages.old.items ≡ []) × (0 < deque_capacity pages.old) }
     ensures serials { HasSerialsFrom scan.old.count pages.new.items }
     ensures count { scan.new.count ≡ scan.old.count + length pages.new.items }
     ensures rounds { scan.new.rounds ≡ scan.old.rounds }
     ensures stopped { IfSome result (λ stop. scan.new.last ≡ Some (answer_at stop)) }
+    ensures keeps { K.keeps zone.new }
+    ensures stops { IfSome result (λ stop. K.stops_at scan.new.count stop) }
+    ensures more { IfNone result (scan.old.count < scan.new.count) }
+    ensures room { deque_capacity pages.new ≡ deque_capacity pages.old }
     ensures shape { HasShape zone.old.number zone.old.blocks zone.new }
     ensures lawful { IsLawful zone.new }
 {
@@ -39,13 +48,16 @@ pub(crate) fn isolate_burst<I: Ledger, N: Ledger, M: Ledger, B: Ledger>(
 }
 
 /// Commits all copies, in their order. The answer is the least serial of those that were refused now or before, if there is one.
-pub(crate) fn commit_burst<I: Ledger, M: Ledger, B: Ledger>(
+pub(crate) fn commit_burst<K: Keeping, I: Ledger, M: Ledger, B: Ledger>(
     zone: &mut Zone<I, M, B>,
     seat: &mut EndSeat<M, B>,
     copies: &mut VecDeque<Copied>,
     mut stranger: Option<Serial>,
 ) -> Option<Serial>
     requires lawful { IsLawful zone.old }
+    requires keeps { K.keeps zone.old }
+    ensures keeps { K.keeps zone.new }
+    ensures back { K.unpinned → seat.new.back ≡ seat.old.back }
     ensures copies { copies.new.items ≡ [] }
     ensures parts { seat.new.parts ≡ seat.old.parts }
     ensures shape { HasShape zone.old.number zone.old.blocks zone.new }

@@ -2,13 +2,14 @@ ghost use Rattle.std.specs.Prelude.{◌≡◌, false, IfOk, IfErr};
 ghost use Rattle.hand_core.specs.CopyEnds.{has_ended, IsTriedInTime};
 
 use crate::gate::{Gate, Point, tell_all};
+use crate::keeping::Keeping;
 use crate::memory::Outfit;
-use crate::shape::Shape;
-use crate::shared_zone::SharedZone;
+use crate::shared_zone::KeptZone;
 use crate::stack::stack;
 use frame_core::Serial;
 use hand_core::{Came, DoneTaker};
 use std::collections::VecDeque;
+use std::marker::PhantomData;
 use std::sync::Wait;
 use std::sync::ledger::Ledger;
 use std::thread::{Promise, PromisedHandle, Scope, Threads};
@@ -32,16 +33,17 @@ enum Behind {
 }
 
 /// Commits all copies that come, with one part of the end seat, as many at once as the list has room for.
-fn commit_all<K: Shape, I: Ledger, M: Ledger, B: Ledger, G: Gate, R: Wait>(
+fn commit_all<K: Keeping, I: Ledger, M: Ledger, B: Ledger, G: Gate, R: Wait>(
     rt: &R,
-    shared: &SharedZone<K, I, M, B>,
+    shared: &KeptZone<K, I, M, B>,
     mut copies: DoneTaker,
     mut gathered: VecDeque<Copied>,
     mut seat: EndSeat<M, B>,
     gate: &G,
 ) -> Committed<M, B>
     requires { has_ended copies ≡ false }
-    ensures { result.seat.parts ≡ seat.parts }
+    ensures parts { result.seat.parts ≡ seat.parts }
+    ensures back { K.unpinned → result.seat.back ≡ seat.back }
 {
     let mut stranger = None;
     for _ in rt.forever() {
@@ -93,22 +95,24 @@ fn next_copy<R: Wait>(rt: &R, copies: &mut DoneTaker, waits: bool) -> Option<Cam
 
 /// The committer hands back the one part of the end seat that it was given.
 #[derive(Drop)]
-pub(crate) struct HandsPartBack;
-
-impl<M: Ledger, B: Ledger> Promise<Committed<M, B>> for HandsPartBack {
-    ghost use Rattle.std.specs.Prelude.{◌≡◌};
-
-    ghost kept_by = { λ _ r. r.seat.parts ≡ 1 };
+pub(crate) struct HandsPartBack<K: Keeping> {
+    of: PhantomData<K>,
 }
 
-pub(crate) type Committer<M, B> = PromisedHandle<Committed<M, B>, HandsPartBack>;
+impl<K: Keeping, M: Ledger, B: Ledger> Promise<Committed<M, B>> for HandsPartBack<K> {
+    ghost use Rattle.std.specs.Prelude.{◌≡◌};
+
+    ghost kept_by = { λ _ r. (r.seat.parts ≡ 1) × (K.unpinned → r.seat.back ≡ 0) };
+}
+
+pub(crate) type Committer<K, M, B> = PromisedHandle<Committed<M, B>, HandsPartBack<K>>;
 
 /// Starts the committer. Where no thread can be started, the committer's body runs on this thread. The outfit is dropped
 /// then, and the senders with it, so that the body ends at once.
 pub(crate) fn start_committer<
     's,
     'e,
-    K: Shape + Send + Sync,
+    K: Keeping + Send + Sync,
     I: Ledger + Send + Sync,
     M: Ledger + Send + Sync,
     B: Ledger + Send + Sync,
@@ -117,25 +121,26 @@ pub(crate) fn start_committer<
 >(
     scope: &'s Scope<'s, &'e ()>,
     rt: &'e R,
-    shared: &'e SharedZone<K, I, M, B>,
+    shared: &'e KeptZone<K, I, M, B>,
     outfit: Outfit,
     copies: DoneTaker,
     gathered: VecDeque<Copied>,
     seat: EndSeat<M, B>,
     gate: &'e G,
-) -> Result<(Outfit, Committer<M, B>), EndSeat<M, B>>
+) -> Result<(Outfit, Committer<K, M, B>), EndSeat<M, B>>
     requires copies { has_ended copies ≡ false }
-    requires part { seat.parts ≡ 1 }
+    requires part { (seat.parts ≡ 1) × (seat.back ≡ 0) }
     ensures outfit { IfOk result (λ started. started.0 ≡ outfit) }
     ensures part { IfErr result (λ seat. seat.parts ≡ 1) }
 {
     let started = stack().spawn_scoped_with(
         scope,
-        HandsPartBack,
+        HandsPartBack::<K> { of: PhantomData },
         move || -> Committed<M, B>
             requires copies { has_ended copies ≡ false }
-            requires part { seat.parts ≡ 1 }
-            ensures { result.seat.parts ≡ 1 }
+            requires part { (seat.parts ≡ 1) × (seat.back ≡ 0) }
+            ensures part { result.seat.parts ≡ 1 }
+            ensures back { K.unpinned → result.seat.back ≡ 0 }
         { commit_all(rt, shared, copies, gathered, seat, gate) },
     );
     match started {

@@ -1,4 +1,4 @@
-ghost use Rattle.std.specs.Prelude.{◌≡◌, ◌+◌, ◌*◌, ◌<◌, ◌≤◌, ◌↔◌, ℕ, true, map, Some, IsOk, IfOk, IfErr, OnOk, OnSome, IfSome, IfNone, length};
+ghost use Rattle.std.specs.Prelude.{◌≡◌, ◌+◌, ◌*◌, ◌<◌, ◌≤◌, ◌↔◌, ℕ, true, map, Some, IsSome, IsOk, IfOk, IfErr, OnOk, OnSome, IfSome, IfNone, length};
 ghost use Rattle.round_core.specs.Kept.{AreAllEnded};
 ghost use Rattle.round_core.specs.Rounds.{AreShared, IsRound, IsRefusedEarly, IsAfter, IsWant};
 ghost use Rattle.round_core.specs.Runs.{IsReady, AreJoined, HasRun};
@@ -6,10 +6,10 @@ ghost use Rattle.round_core.specs.Runs.{IsReady, AreJoined, HasRun};
 use crate::crew::{Ran, run};
 use crate::error::RoundError;
 use crate::gate::Gate;
+use crate::keeping::Keeping;
 use crate::memory::{Joined, Memory, reserve};
 use crate::round::{Round, Stop};
-use crate::shape::Shape;
-use crate::shared_zone::SharedZone;
+use crate::shared_zone::KeptZone;
 use frame_core::Serial;
 use hand_core::settle;
 use std::alloc::Global;
@@ -28,7 +28,7 @@ use zone_core::{Audit, Seats, Zone, ZoneError};
 /// the zone refused a copy; as Broken where an end of a queue was gone, a copier's list had no place for a page, or the audit after the
 /// round refuses.
 pub fn compact<
-    K: Shape + Send + Sync,
+    K: Keeping + Send + Sync,
     I: Ledger + Send + Sync,
     N: Ledger,
     M: Ledger + Send + Sync,
@@ -38,7 +38,7 @@ pub fn compact<
 >(
     rt: &R,
     alloc: Global,
-    shared: &SharedZone<K, I, M, B>,
+    shared: &KeptZone<K, I, M, B>,
     seats: &mut Seats<I, N, M, B>,
     copiers: usize,
     cap: usize,
@@ -46,6 +46,9 @@ pub fn compact<
 ) -> Result<Round, RoundError>
     requires copiers { (0 < copiers) × (copiers ≤ 4) }
     requires cap { (0 < cap) × (cap ≤ 64) }
+    requires begins { K.begins_at seats.old.scan.count }
+    ensures stops { IfOk result (λ r. K.stops_at seats.new.scan.count r.stopped) }
+    ensures none_back { OnOk result (K.unpinned → seats.new.ends.back ≡ seats.old.ends.back) }
     ensures round { IfOk result (λ r. IsRound seats.old.scan seats.new.scan seats.old.ends seats.new.ends r) }
     ensures early { IsRefusedEarly seats.old.scan seats.new.scan seats.old.ends seats.new.ends result }
 {
@@ -77,9 +80,9 @@ fn audit_zone<I: Ledger, N: Ledger, M: Ledger, B: Ledger>(
 }
 
 /// Audits the zone under the lock, with its seats.
-fn audit<K: Shape, I: Ledger, N: Ledger, M: Ledger, B: Ledger, R: Wait>(
+fn audit<K: Keeping, I: Ledger, N: Ledger, M: Ledger, B: Ledger, R: Wait>(
     rt: &R,
-    shared: &SharedZone<K, I, M, B>,
+    shared: &KeptZone<K, I, M, B>,
     seats: &mut Seats<I, N, M, B>,
 ) -> Result<Audit, RoundError>
     ensures counts { IfOk result (λ a. (a.isolated ≡ seats.old.scan.count) × (a.moved ≡ seats.old.ends.moved) × (a.back ≡ seats.old.ends.back) × (a.moved + a.back ≡ a.isolated)) }
@@ -98,7 +101,7 @@ fn audit<K: Shape, I: Ledger, N: Ledger, M: Ledger, B: Ledger, R: Wait>(
 
 /// Runs the threads of a round in a scope of their own. None where one of them can't be started.
 fn in_scope<
-    K: Shape + Send + Sync,
+    K: Keeping + Send + Sync,
     I: Ledger + Send + Sync,
     N: Ledger,
     M: Ledger + Send + Sync,
@@ -107,14 +110,17 @@ fn in_scope<
     R: Threads + Wait + Sync,
 >(
     rt: &R,
-    shared: &SharedZone<K, I, M, B>,
+    shared: &KeptZone<K, I, M, B>,
     seats: &mut Seats<I, N, M, B>,
     memory: Memory,
     gate: &G,
 ) -> Option<Ran>
     requires memory { IsReady seats.old.scan.count memory }
     requires parts { 1 < seats.old.ends.parts }
+    requires begins { K.begins_at seats.old.scan.count }
     ensures ran { IfSome result (HasRun seats.old.scan.count seats.new.scan) }
+    ensures stops { IfSome result (λ ran. IfSome ran.stop (λ stop. K.stops_at seats.new.scan.count stop)) }
+    ensures back { IfSome result (λ ran. OnSome ran.stop (K.unpinned → seats.new.ends.back ≡ seats.old.ends.back)) }
     ensures rounds { OnSome result (seats.new.scan.rounds ≡ seats.old.scan.rounds + 1) }
     ensures none { IfNone result (seats.new.scan ≡ seats.old.scan) }
     ensures ends { (seats.new.ends.parts ≡ seats.old.ends.parts) × (seats.old.ends.moved ≤ seats.new.ends.moved) × (seats.old.ends.back ≤ seats.new.ends.back) }
@@ -126,7 +132,10 @@ fn in_scope<
         move |scope| -> (&mut Seats<I, N, M, B>, Option<Ran>)
             requires memory { IsReady lent.now.scan.count memory }
             requires parts { 1 < lent.now.ends.parts }
+            requires begins { K.begins_at lent.now.scan.count }
             ensures ran { IfSome result.1 (HasRun lent.entry.now.scan.count result.0.now.scan) }
+            ensures stops { IfSome result.1 (λ ran. IfSome ran.stop (λ stop. K.stops_at result.0.now.scan.count stop)) }
+            ensures back { IfSome result.1 (λ ran. OnSome ran.stop (K.unpinned → result.0.now.ends.back ≡ lent.entry.now.ends.back)) }
             ensures rounds { OnSome result.1 (result.0.now.scan.rounds ≡ lent.entry.now.scan.rounds + 1) }
             ensures none { IfNone result.1 (result.0.now.scan ≡ lent.entry.now.scan) }
             ensures ends { (result.0.now.ends.parts ≡ lent.entry.now.ends.parts) × (lent.entry.now.ends.moved ≤ result.0.now.ends.moved) × (lent.entry.now.ends.back ≤ result.0.now.ends.back) }
@@ -141,9 +150,9 @@ fn in_scope<
 }
 
 /// Settles the hand-over of a round that ran, and audits the zone.
-fn wind_up<K: Shape, I: Ledger, N: Ledger, M: Ledger, B: Ledger, R: Wait>(
+fn wind_up<K: Keeping, I: Ledger, N: Ledger, M: Ledger, B: Ledger, R: Wait>(
     rt: &R,
-    shared: &SharedZone<K, I, M, B>,
+    shared: &KeptZone<K, I, M, B>,
     seats: &mut Seats<I, N, M, B>,
     before: &Audit,
     ran: Ran,
@@ -152,6 +161,7 @@ fn wind_up<K: Shape, I: Ledger, N: Ledger, M: Ledger, B: Ledger, R: Wait>(
     requires ends { (before.now.moved ≤ seats.old.ends.moved) × (before.now.back ≤ seats.old.ends.back) × (before.now.moved + before.now.back ≡ before.now.isolated) }
     ensures round { IfOk result (λ r. IsAfter before.now seats.old.scan seats.old.ends r) }
     ensures late { IfErr result (λ error. IsWant error → ⊥) }
+    ensures stop { IfOk result (λ r. ran.stop ≡ Some r.stopped) }
     ensures same { (seats.new.scan ≡ seats.old.scan) × (seats.new.ends ≡ seats.old.ends) }
 {
     let settled = settle_round(ran)?;

@@ -1,4 +1,5 @@
 ghost use Rattle.std.specs.Prelude.{◌≡◌, ◌+◌, ◌<◌, ◌≤◌, ℕ, false, All, IfOk, IfErr, OnSome, IfSome, IfNone, vec_len, []};
+ghost use Rattle.std.specs.VecDeque.{deque_capacity};
 ghost use Rattle.hand_core.specs.CopyEnds.{has_ended};
 ghost use Rattle.round_core.specs.Runs.{IsFresh, IsUnstarted, IsEmpty, IsReady, AreJoined, HasRun};
 
@@ -6,11 +7,11 @@ use crate::committer::{Committed, Committer, start_committer};
 use crate::copier::{Carried, Copier, start_copier};
 use crate::division::Division;
 use crate::gate::Gate;
+use crate::keeping::Keeping;
 use crate::memory::{Bursts, Joined, Memory, Outfit};
 use crate::round::Stop;
 use crate::scanner::scan_all;
-use crate::shape::Shape;
-use crate::shared_zone::SharedZone;
+use crate::shared_zone::KeptZone;
 use frame_core::Serial;
 use hand_core::{DoneTaker, Giver};
 use std::collections::VecDeque;
@@ -31,10 +32,10 @@ pub(crate) struct Ran {
 
 /// The threads of a round, and the giver of its pages.
 #[derive(Drop)]
-struct Crew<M: Ledger, B: Ledger> {
+struct Crew<K: Keeping, M: Ledger, B: Ledger> {
     giver: Giver,
     copiers: Vec<Copier>,
-    committer: Committer<M, B>,
+    committer: Committer<K, M, B>,
 }
 
 /// Starts the copiers, the last of them first. None where one can't be started.
@@ -93,10 +94,10 @@ fn let_go(outfit: Outfit) -> Vec<Copier> {
 }
 
 /// Joins the copiers that were started, and then the committer.
-fn join_early<M: Ledger, B: Ledger, R: Threads>(
+fn join_early<K: Keeping, M: Ledger, B: Ledger, R: Threads>(
     rt: &R,
     outfit: Outfit,
-    committer: Committer<M, B>,
+    committer: Committer<K, M, B>,
 ) -> EndSeat<M, B>
     ensures { result.parts ≡ 1 }
 {
@@ -113,7 +114,7 @@ fn join_early<M: Ledger, B: Ledger, R: Threads>(
 fn start_crew<
     's,
     'e,
-    K: Shape + Send + Sync,
+    K: Keeping + Send + Sync,
     I: Ledger + Send + Sync,
     M: Ledger + Send + Sync,
     B: Ledger + Send + Sync,
@@ -122,16 +123,16 @@ fn start_crew<
 >(
     scope: &'s Scope<'s, &'e ()>,
     rt: &'e R,
-    shared: &'e SharedZone<K, I, M, B>,
+    shared: &'e KeptZone<K, I, M, B>,
     outfit: Outfit,
     copies: DoneTaker,
     gathered: VecDeque<Copied>,
     part: EndSeat<M, B>,
     gate: &'e G,
-) -> Result<Crew<M, B>, EndSeat<M, B>>
+) -> Result<Crew<K, M, B>, EndSeat<M, B>>
     requires outfit { IsUnstarted outfit }
     requires copies { has_ended copies ≡ false }
-    requires part { part.parts ≡ 1 }
+    requires part { (part.parts ≡ 1) × (part.back ≡ 0) }
     ensures giver { IfOk result (λ crew. crew.giver ≡ outfit.giver) }
     ensures copiers { IfOk result (λ crew. (vec_len crew.copiers ≡ vec_len outfit.takers) × All (λ c. c.promise.taker.value.hand_over ≡ outfit.giver.hand_over) crew.copiers.items) }
     ensures part { IfErr result (λ part. part.parts ≡ 1) }
@@ -151,12 +152,12 @@ fn start_crew<
 }
 
 /// Runs a round with its scanner on this thread, and joins its crew.
-fn run_crew<K: Shape, I: Ledger, N: Ledger, M: Ledger, B: Ledger, G: Gate, R: Threads + Wait>(
+fn run_crew<K: Keeping, I: Ledger, N: Ledger, M: Ledger, B: Ledger, G: Gate, R: Threads + Wait>(
     rt: &R,
-    shared: &SharedZone<K, I, M, B>,
+    shared: &KeptZone<K, I, M, B>,
     scan: &mut ScanSeat<I, N>,
     ends: &mut EndSeat<M, B>,
-    crew: Crew<M, B>,
+    crew: Crew<K, M, B>,
     mut pages: VecDeque<Isolated>,
     division: Division,
     joined: Joined,
@@ -164,18 +165,20 @@ fn run_crew<K: Shape, I: Ledger, N: Ledger, M: Ledger, B: Ledger, G: Gate, R: Th
 ) -> Ran
     requires giver { IsFresh scan.old.count crew.giver }
     requires copiers { All (λ c. c.promise.taker.value.hand_over ≡ crew.giver.hand_over) crew.copiers.items }
-    requires pages { pages.items ≡ [] }
+    requires pages { (pages.items ≡ []) × (0 < deque_capacity pages) }
     requires joined { IsEmpty (vec_len crew.copiers) joined }
+    requires begins { K.begins_at scan.old.count }
     ensures ran { HasRun scan.old.count scan.new result }
+    ensures stops { IfSome result.stop (λ stop. K.stops_at scan.new.count stop) }
     ensures rounds { scan.new.rounds ≡ scan.old.rounds + 1 }
     ensures ends { (ends.new.parts ≡ ends.old.parts + 1) × (ends.old.moved ≤ ends.new.moved) × (ends.old.back ≤ ends.new.back) }
+    ensures back { OnSome result.stop (K.unpinned → ends.new.back ≡ ends.old.back) }
 {
     let Crew {
         mut giver,
         copiers,
         committer,
     } = crew;
-    shared.begin_round(rt, scan);
     let stop = scan_all(
         rt, shared, scan, ends, &mut giver, &mut pages, division, gate,
     );
@@ -200,7 +203,7 @@ fn run_crew<K: Shape, I: Ledger, N: Ledger, M: Ledger, B: Ledger, G: Gate, R: Th
 pub(crate) fn run<
     's,
     'e,
-    K: Shape + Send + Sync,
+    K: Keeping + Send + Sync,
     I: Ledger + Send + Sync,
     N: Ledger,
     M: Ledger + Send + Sync,
@@ -210,14 +213,17 @@ pub(crate) fn run<
 >(
     scope: &'s Scope<'s, &'e ()>,
     rt: &'e R,
-    shared: &'e SharedZone<K, I, M, B>,
+    shared: &'e KeptZone<K, I, M, B>,
     seats: &mut Seats<I, N, M, B>,
     memory: Memory,
     gate: &'e G,
 ) -> Option<Ran>
     requires memory { IsReady seats.old.scan.count memory }
     requires parts { 1 < seats.old.ends.parts }
+    requires begins { K.begins_at seats.old.scan.count }
     ensures ran { IfSome result (HasRun seats.old.scan.count seats.new.scan) }
+    ensures stops { IfSome result (λ ran. IfSome ran.stop (λ stop. K.stops_at seats.new.scan.count stop)) }
+    ensures back { IfSome result (λ ran. OnSome ran.stop (K.unpinned → seats.new.ends.back ≡ seats.old.ends.back)) }
     ensures rounds { OnSome result (seats.new.scan.rounds ≡ seats.old.scan.rounds + 1) }
     ensures none { IfNone result (seats.new.scan ≡ seats.old.scan) }
     ensures ends { (seats.new.ends.parts ≡ seats.old.ends.parts) × (seats.old.ends.moved ≤ seats.new.ends.moved) × (seats.old.ends.back ≤ seats.new.ends.back) }

@@ -47,7 +47,9 @@ impl Division {
 
     /// How many pages are isolated or committed under one hold of the lock at most: as many as a queue has room for, or as there are
     /// in a handful for each copier where that is more.
-    pub(crate) fn burst(self) -> usize {
+    pub(crate) fn burst(self) -> usize
+        ensures { 0 < result }
+    {
         self.room.max(self.most * self.copiers)
     }
 }

@@ -1,6 +1,7 @@
 //! The memory of a round, which is taken before it begins.
 
 ghost use Rattle.std.specs.Prelude.{◌≡◌, ◌<◌, ◌≤◌, [], false, true, All, IfOk, IfSome, vec_len, vec_capacity};
+ghost use Rattle.std.specs.VecDeque.{deque_capacity};
 ghost use Rattle.hand_core.specs.CopyEnds.{has_ended};
 ghost use Rattle.round_core.specs.Crews.{IsUnused, IsUnsent};
 ghost use Rattle.round_core.specs.Runs.{IsFresh, IsEmpty, IsReady};
@@ -159,7 +160,7 @@ fn reserve_joined(alloc: Global, copiers: usize) -> Result<Joined, AllocError>
 
 /// Takes the memory of the lists for bursts with this division.
 fn reserve_bursts(alloc: Global, division: Division) -> Result<Bursts, AllocError>
-    ensures { IfOk result (λ b. b.pages.items ≡ []) }
+    ensures { IfOk result (λ b. (b.pages.items ≡ []) × (0 < deque_capacity b.pages)) }
 {
     let burst = division.burst();
     Ok(Bursts {

@@ -1,13 +1,14 @@
 ghost use Rattle.std.specs.Prelude.{◌≡◌, ◌+◌, ◌++◌, ◌<◌, ◌≤◌, [], false, Some, length, IfSome, IfNone, OnSome};
+ghost use Rattle.std.specs.VecDeque.{deque_capacity};
 ghost use Rattle.word_core.specs.Serials.{HasSerialsFrom};
 ghost use Rattle.round_core.specs.Crews.{IsNext};
 ghost use Rattle.round_core.specs.Rounds.{answer_at};
 
 use crate::division::Division;
 use crate::gate::{Gate, Point, tell_all};
+use crate::keeping::Keeping;
 use crate::round::Stop;
-use crate::shape::Shape;
-use crate::shared_zone::SharedZone;
+use crate::shared_zone::KeptZone;
 use hand_core::{Giver, Handful};
 use std::collections::VecDeque;
 use std::sync::Wait;
@@ -17,9 +18,9 @@ use zone_core::{EndSeat, ScanSeat};
 
 /// Isolates pages and gives them, as many at once as the empty list has room for, until the scanners meet or the journal is
 /// full. None where the takers are gone.
-pub(crate) fn scan_all<K: Shape, I: Ledger, N: Ledger, M: Ledger, B: Ledger, G: Gate, R: Wait>(
+pub(crate) fn scan_all<K: Keeping, I: Ledger, N: Ledger, M: Ledger, B: Ledger, G: Gate, R: Wait>(
     rt: &R,
-    shared: &SharedZone<K, I, M, B>,
+    shared: &KeptZone<K, I, M, B>,
     scan: &mut ScanSeat<I, N>,
     ends: &mut EndSeat<M, B>,
     giver: &mut Giver,
@@ -28,13 +29,21 @@ pub(crate) fn scan_all<K: Shape, I: Ledger, N: Ledger, M: Ledger, B: Ledger, G: 
     gate: &G,
 ) -> Option<Stop>
     requires next { IsNext scan.old.count giver.old }
-    requires pages { pages.old.items ≡ [] }
+    requires pages { (pages.old.items ≡ []) × (0 < deque_capacity pages.old) }
+    requires begins { K.begins_at scan.old.count }
     ensures giver { giver.new ≡ record giver.old { given = giver.new.given } }
     ensures count { IfSome result (λ _. IsNext scan.new.count giver.new) }
     ensures stopped { IfSome result (λ stop. scan.new.last ≡ Some (answer_at stop)) }
-    ensures rounds { scan.new.rounds ≡ scan.old.rounds }
+    ensures stops { IfSome result (λ stop. K.stops_at scan.new.count stop) }
+    ensures rounds { scan.new.rounds ≡ scan.old.rounds + 1 }
     ensures ends { (ends.new.parts ≡ ends.old.parts) × (ends.new.moved ≡ ends.old.moved) × (ends.old.back ≤ ends.new.back) }
+    ensures back { OnSome result (ends.new.back ≡ ends.old.back) }
 {
+    let stop = shared.begin_burst(rt, scan, pages);
+    give_all(rt, shared, ends, giver, pages, division, gate)?;
+    if stop.is_some() {
+        return stop;
+    }
     for _ in rt.forever() {
         let stop = shared.isolate_burst(rt, scan, pages);
         give_all(rt, shared, ends, giver, pages, division, gate)?;
@@ -46,9 +55,9 @@ pub(crate) fn scan_all<K: Shape, I: Ledger, N: Ledger, M: Ledger, B: Ledger, G: 
 }
 
 /// Gives all pages, in their order and in handfuls. Where the takers are gone, those that are left are put back, and the answer is none.
-fn give_all<K: Shape, I: Ledger, M: Ledger, B: Ledger, G: Gate, R: Wait>(
+fn give_all<K: Keeping, I: Ledger, M: Ledger, B: Ledger, G: Gate, R: Wait>(
     rt: &R,
-    shared: &SharedZone<K, I, M, B>,
+    shared: &KeptZone<K, I, M, B>,
     ends: &mut EndSeat<M, B>,
     giver: &mut Giver,
     pages: &mut VecDeque<Isolated>,
@@ -60,7 +69,9 @@ fn give_all<K: Shape, I: Ledger, M: Ledger, B: Ledger, G: Gate, R: Wait>(
     ensures giver { giver.new ≡ record giver.old { given = giver.new.given } }
     ensures given { IfSome result (λ _. giver.new.given ≡ giver.old.given ++ pages.old.items) }
     ensures pages { IfSome result (λ _. pages.new.items ≡ []) }
+    ensures room { deque_capacity pages.new ≡ deque_capacity pages.old }
     ensures ends { (ends.new.parts ≡ ends.old.parts) × (ends.new.moved ≡ ends.old.moved) × (ends.old.back ≤ ends.new.back) }
+    ensures back { OnSome result (ends.new.back ≡ ends.old.back) }
 {
     tell_all(gate, Point::Isolated, 0, pages.len());
     let share = division.share(pages.len());
@@ -80,6 +91,7 @@ fn first_of(pages: &mut VecDeque<Isolated>, share: usize) -> Option<Handful<Isol
     ensures first { IfSome result (λ handful. pages.old.items ≡ handful.items ++ pages.new.items) }
     ensures fewer { OnSome result (length pages.new.items < length pages.old.items) }
     ensures none { IfNone result ((pages.old.items ≡ []) × (pages.new.items ≡ [])) }
+    ensures room { deque_capacity pages.new ≡ deque_capacity pages.old }
 {
     let mut handful = Handful::new();
     while handful.len() < share {
@@ -95,9 +107,9 @@ fn first_of(pages: &mut VecDeque<Isolated>, share: usize) -> Option<Handful<Isol
 }
 
 /// Puts the pages of a handful back.
-fn put_back_handful<K: Shape, I: Ledger, M: Ledger, B: Ledger, R: Wait>(
+fn put_back_handful<K: Keeping, I: Ledger, M: Ledger, B: Ledger, R: Wait>(
     rt: &R,
-    shared: &SharedZone<K, I, M, B>,
+    shared: &KeptZone<K, I, M, B>,
     ends: &mut EndSeat<M, B>,
     handful: Handful<Isolated>,
 )
@@ -109,13 +121,14 @@ fn put_back_handful<K: Shape, I: Ledger, M: Ledger, B: Ledger, R: Wait>(
 }
 
 /// Puts all pages back.
-fn put_back_all<K: Shape, I: Ledger, M: Ledger, B: Ledger, R: Wait>(
+fn put_back_all<K: Keeping, I: Ledger, M: Ledger, B: Ledger, R: Wait>(
     rt: &R,
-    shared: &SharedZone<K, I, M, B>,
+    shared: &KeptZone<K, I, M, B>,
     ends: &mut EndSeat<M, B>,
     pages: &mut VecDeque<Isolated>,
 )
-    ensures { (ends.new.parts ≡ ends.old.parts) × (ends.new.moved ≡ ends.old.moved) × (ends.old.back ≤ ends.new.back) }
+    ensures ends { (ends.new.parts ≡ ends.old.parts) × (ends.new.moved ≡ ends.old.moved) × (ends.old.back ≤ ends.new.back) }
+    ensures room { deque_capacity pages.new ≡ deque_capacity pages.old }
 {
     while let Some(page) = pages.pop_front() {
         shared.put_back(rt, ends, page);

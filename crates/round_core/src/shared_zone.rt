@@ -1,8 +1,8 @@
 ghost use Rattle.std.specs.Prelude.{◌≡◌, ◌<◌, ◌≤◌};
 
 use crate::burst::{commit_burst, isolate_burst};
+use crate::keeping::{Keeping, Open};
 use crate::round::Stop;
-use crate::shape::Shape;
 use frame_core::Serial;
 use hand_core::patience::{TRIES, pause};
 use std::collections::VecDeque;
@@ -14,13 +14,13 @@ use zone_core::{EndSeat, ScanSeat, Zone};
 
 /// What is under the lock: a zone, and whether a thread waits for the end of a move in it.
 #[derive(Drop)]
-pub struct Room<K: Shape, I: Ledger, M: Ledger, B: Ledger> {
+pub struct Room<K: Keeping, I: Ledger, M: Ledger, B: Ledger> {
     pub zone: Zone<I, M, B>,
     is_awaited: bool,
     of: PhantomData<K>,
 }
 
-impl<K: Shape, I: Ledger, M: Ledger, B: Ledger> Model for Room<K, I, M, B> {
+impl<K: Keeping, I: Ledger, M: Ledger, B: Ledger> Model for Room<K, I, M, B> {
     ghost use Rattle.plain_core.specs.contracts.plain.PlainZone as plain_zone;
     ghost use Rattle.state_core.specs.Lawful.{IsLawful};
     ghost use Rattle.state_core.specs.ZoneState.{ZoneState};
@@ -32,10 +32,10 @@ impl<K: Shape, I: Ledger, M: Ledger, B: Ledger> Model for Room<K, I, M, B> {
 
     ghost view = { λ r. r.zone };
 
-    ghost invariant = { λ r. IsLawful r.zone × HasShape K.number K.blocks r.zone };
+    ghost invariant = { λ r. IsLawful r.zone × HasShape K.number K.blocks r.zone × K.keeps r.zone };
 }
 
-impl<K: Shape, I: Ledger, M: Ledger, B: Ledger> Room<K, I, M, B> {
+impl<K: Keeping, I: Ledger, M: Ledger, B: Ledger> Room<K, I, M, B> {
     ghost use Rattle.std.specs.Prelude.{◌≡◌};
     ghost use Rattle.round_core.specs.Kept.{IsKept};
     ghost use Rattle.zone_core.specs.Shape.{HasShape};
@@ -45,14 +45,15 @@ impl<K: Shape, I: Ledger, M: Ledger, B: Ledger> Room<K, I, M, B> {
         ensures zone { result.now ≡ self.now }
         ensures kept { IsKept self.now }
         ensures shape { HasShape K.number K.blocks self.now }
+        ensures keeps { K.keeps self.now }
     {
         &self.zone
     }
 }
 
-/// A zone under one lock.
+/// A zone under one lock, which keeps what `K` says of it.
 #[derive(Drop)]
-pub struct SharedZone<K: Shape, I: Ledger, M: Ledger, B: Ledger> {
+pub struct KeptZone<K: Keeping, I: Ledger, M: Ledger, B: Ledger> {
     room: Mutex<Room<K, I, M, B>>,
     ended: Condvar,
     blocks: u32,
@@ -60,17 +61,23 @@ pub struct SharedZone<K: Shape, I: Ledger, M: Ledger, B: Ledger> {
     ghost in_range: { (0 < blocks) × (blocks ≤ 8) },
 }
 
-impl<K: Shape, I: Ledger, M: Ledger, B: Ledger> SharedZone<K, I, M, B> {
-    ghost use Rattle.std.specs.Prelude.{◌≡◌, ◌+◌, [], length, Some, IfSome};
+/// A zone under one lock that anyone may use: it keeps nothing but that the zone is lawful.
+pub type SharedZone<K, I, M, B> = KeptZone<Open<K>, I, M, B>;
+
+impl<K: Keeping, I: Ledger, M: Ledger, B: Ledger> KeptZone<K, I, M, B> {
+    ghost use Rattle.std.specs.Prelude.{◌≡◌, ◌+◌, ◌<◌, [], length, Some, IfSome, IfNone, OnSome};
+    ghost use Rattle.std.specs.VecDeque.{deque_capacity};
     ghost use Rattle.word_core.specs.Serials.{HasSerialsFrom};
     ghost use Rattle.zone_core.specs.Seats.{seat_begun};
     ghost use Rattle.round_core.specs.Kept.{IsKept};
     ghost use Rattle.round_core.specs.Rounds.{answer_at};
+    ghost use Rattle.round_core.specs.Scanning.{HasBegun};
     ghost use Rattle.zone_core.specs.Shape.{HasShape};
 
     /// Puts a zone under a lock. Its number and its pageblocks are those of `K`.
     pub fn new(zone: Zone<I, M, B>) -> Self
         requires shape { HasShape K.number K.blocks zone }
+        requires keeps { K.keeps zone }
     {
         let blocks = zone.blocks();
         let room = Room {
@@ -78,7 +85,7 @@ impl<K: Shape, I: Ledger, M: Ledger, B: Ledger> SharedZone<K, I, M, B> {
             is_awaited: false,
             of: PhantomData,
         };
-        SharedZone {
+        KeptZone {
             room: Mutex::new(room),
             ended: Condvar::new(),
             blocks,
@@ -89,6 +96,7 @@ impl<K: Shape, I: Ledger, M: Ledger, B: Ledger> SharedZone<K, I, M, B> {
     pub fn into_zone(self) -> Zone<I, M, B>
         ensures kept { IsKept result }
         ensures shape { HasShape K.number K.blocks result }
+        ensures keeps { K.keeps result }
     {
         self.room.into_inner().zone
     }
@@ -133,28 +141,51 @@ impl<K: Shape, I: Ledger, M: Ledger, B: Ledger> SharedZone<K, I, M, B> {
         }
     }
 
-    /// Begins a round under the lock.
-    pub(crate) fn begin_round<N: Ledger, R: Wait>(&self, rt: &R, seat: &mut ScanSeat<I, N>)
-        ensures { seat.new ≡ seat_begun seat.old }
+    /// Begins a round, and isolates pages into the empty list, in their order, until the list is full. Where it stops before, the
+    /// answer says why.
+    #[tactic(auto, using(crate::proofs::Begun::begun_first))]
+    pub(crate) fn begin_burst<N: Ledger, R: Wait>(
+        &self,
+        rt: &R,
+        seat: &mut ScanSeat<I, N>,
+        pages: &mut VecDeque<Isolated>,
+    ) -> Option<Stop>
+        requires begins { K.begins_at seat.old.count }
+        requires pages { (pages.old.items ≡ []) × (0 < deque_capacity pages.old) }
+        ensures serials { HasSerialsFrom seat.old.count pages.new.items }
+        ensures count { seat.new.count ≡ seat.old.count + length pages.new.items }
+        ensures rounds { seat.new.rounds ≡ seat.old.rounds + 1 }
+        ensures stopped { IfSome result (λ stop. seat.new.last ≡ Some (answer_at stop)) }
+        ensures stops { IfSome result (λ stop. K.stops_at seat.new.count stop) }
+        ensures goes_on { IfNone result (HasBegun K.begins_at seat.new.count) }
+        ensures room { deque_capacity pages.new ≡ deque_capacity pages.old }
     {
-        self.lock(rt).zone.begin_round(seat);
+        let mut room = self.lock(rt);
+        room.zone.begin_round(seat);
+        isolate_burst::<K, I, N, M, B>(&mut room.zone, seat, pages)
     }
 
     /// Isolates pages into the empty list, in their order, until the list is full. Where it stops before, the answer says why.
+    #[tactic(auto, using(crate::proofs::Begun::begun_more))]
     pub(crate) fn isolate_burst<N: Ledger, R: Wait>(
         &self,
         rt: &R,
         seat: &mut ScanSeat<I, N>,
         pages: &mut VecDeque<Isolated>,
     ) -> Option<Stop>
-        requires { pages.old.items ≡ [] }
+        requires goes_on { HasBegun K.begins_at seat.old.count }
+        requires pages { (pages.old.items ≡ []) × (0 < deque_capacity pages.old) }
         ensures serials { HasSerialsFrom seat.old.count pages.new.items }
         ensures count { seat.new.count ≡ seat.old.count + length pages.new.items }
         ensures rounds { seat.new.rounds ≡ seat.old.rounds }
         ensures stopped { IfSome result (λ stop. seat.new.last ≡ Some (answer_at stop)) }
+        ensures stops { IfSome result (λ stop. K.stops_at seat.new.count stop) }
+        ensures goes_on { IfNone result (HasBegun K.begins_at seat.new.count) }
+        ensures room { deque_capacity pages.new ≡ deque_capacity pages.old }
     {
         let mut room = self.lock(rt);
-        isolate_burst(&mut room.zone, seat, pages)
+        room.zone.show_count(seat);
+        isolate_burst::<K, I, N, M, B>(&mut room.zone, seat, pages)
     }
 
     /// Ends the moves of pages with their copies, and wakes the threads that wait for the end of a move. The answer is the
@@ -168,9 +199,10 @@ impl<K: Shape, I: Ledger, M: Ledger, B: Ledger> SharedZone<K, I, M, B> {
     ) -> Option<Serial>
         ensures copies { copies.new.items ≡ [] }
         ensures parts { seat.new.parts ≡ seat.old.parts }
+        ensures back { K.unpinned → seat.new.back ≡ seat.old.back }
     {
         let mut room = self.lock(rt);
-        let least = commit_burst(&mut room.zone, seat, copies, stranger);
+        let least = commit_burst::<K, I, M, B>(&mut room.zone, seat, copies, stranger);
         self.tell_ended(&mut room);
         least
     }

@@ -99,7 +99,7 @@ fn tries_in<
     }
 }
 
-/// The same, for an opening of its own.
+/// Tries something with a zone 1 that is opened for it under a name of its own.
 fn tries<R: Threads + Wait + Abort + AllocGlobal + Sync>(
     rt: &R,
     blocks: u32,

@@ -14,14 +14,13 @@ pub trait Watch {
     /// The zone before a command.
     fn before<I: Ledger, M: Ledger, B: Ledger>(
         &mut self,
-        command: Command,
+        command: &Command,
         zone: Option<&Zone<I, M, B>>,
     );
 
-    /// The zone after a command, and the reply; after a block its last reply.
+    /// The zone after that command, and the reply; after a block its last reply.
     fn after<I: Ledger, M: Ledger, B: Ledger>(
         &mut self,
-        command: Command,
         reply: &Reply,
         zone: Option<&Zone<I, M, B>>,
     );
@@ -35,14 +34,13 @@ impl Watch for NoWatch {
     #[inline(always)]
     fn before<I: Ledger, M: Ledger, B: Ledger>(
         &mut self,
-        _command: Command,
+        _command: &Command,
         _zone: Option<&Zone<I, M, B>>,
     ) {}
 
     #[inline(always)]
     fn after<I: Ledger, M: Ledger, B: Ledger>(
         &mut self,
-        _command: Command,
         _reply: &Reply,
         _zone: Option<&Zone<I, M, B>>,
     ) {}
@@ -51,22 +49,22 @@ impl Watch for NoWatch {
 /// What has a zone to show.
 pub(crate) trait Shows {
     /// Shows a watcher the zone before a command.
-    fn show_before<V: Watch>(&self, watcher: &mut V, command: Command);
+    fn show_before<V: Watch>(&self, watcher: &mut V, command: &Command);
 
-    /// Shows a watcher the zone after a command, with the reply.
-    fn show_after<V: Watch>(&self, watcher: &mut V, command: Command, reply: &Reply);
+    /// Shows a watcher the zone after that command, with the reply.
+    fn show_after<V: Watch>(&self, watcher: &mut V, reply: &Reply);
 }
 
 impl<I: Ledger, N: Ledger, M: Ledger, B: Ledger, R, P, D> Shows
     for Answering<Threaded<I, N, M, B>, R, P, D> {
     #[inline(always)]
-    fn show_before<V: Watch>(&self, watcher: &mut V, command: Command) {
+    fn show_before<V: Watch>(&self, watcher: &mut V, command: &Command) {
         watcher.before(command, self.machine.zone());
     }
 
     #[inline(always)]
-    fn show_after<V: Watch>(&self, watcher: &mut V, command: Command, reply: &Reply) {
-        watcher.after(command, reply, self.machine.zone());
+    fn show_after<V: Watch>(&self, watcher: &mut V, reply: &Reply) {
+        watcher.after(reply, self.machine.zone());
     }
 }
 
@@ -86,19 +84,19 @@ impl<A: Respond + Shows, V: Watch> Respond for Watched<'_, A, V> {
 
     #[inline(always)]
     fn respond(&mut self, command: Command, reply: &mut Reply) -> Result<(), AllocError> {
-        self.answering.show_before(self.watcher, command);
+        self.answering.show_before(self.watcher, &command);
         self.answering.respond(command, reply)?;
-        self.answering.show_after(self.watcher, command, reply);
+        self.answering.show_after(self.watcher, reply);
         Ok(())
     }
 
     fn respond_to_block(&mut self, block: Block) -> Result<Answers, AllocError> {
         let command = Command::During { zone: block.zone() };
-        self.answering.show_before(self.watcher, command);
+        self.answering.show_before(self.watcher, &command);
         let answers = self.answering.respond_to_block(block)?;
         let (clients, own) = answers.into_parts();
         let (line, reply) = own.into_parts();
-        self.answering.show_after(self.watcher, command, &reply);
+        self.answering.show_after(self.watcher, &reply);
         Ok(Answers::new(clients, Answer::new(line, reply)))
     }
 }

@@ -9,7 +9,7 @@ use frame_core::{Order, ZoneNo};
 use huge_core::{Collector, Huge, Stop, give};
 use rand_core::Rng;
 use rand_pcg::Pcg32;
-use round_core::{NoGate, Shape, SharedZone};
+use round_core::{Keeping, NoGate, Open, Shape, SharedZone};
 use std::alloc::Global;
 use std::sync::Wait;
 use std::sync::ledger::Ledger;
@@ -47,7 +47,10 @@ struct Guest {
 }
 
 #[derive(Drop)]
-struct Host<K: Shape, I: Ledger, N: Ledger, M: Ledger, B: Ledger> {
+struct Host<K: Shape, I: Ledger, N: Ledger, M: Ledger, B: Ledger>
+where
+    Open<K>: Keeping,
+{
     shared: SharedZone<K, I, M, B>,
     seats: Seats<I, N, M, B>,
     collector: Collector,

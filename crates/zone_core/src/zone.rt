@@ -242,11 +242,22 @@ impl<I: Ledger, M: Ledger, B: Ledger> Zone<I, M, B> {
         ensures zone { self.new ≡ round_begun self.old }
         ensures seat { seat.new ≡ seat_begun seat.old }
         ensures quiet { is_quiet self.new ≡ is_calm self.old }
+        ensures serial { seat.old.count ≡ isolated self.old.records }
         ensures shape { HasShape self.old.number self.old.blocks self.new }
         ensures lawful { IsLawful self.new }
     {
+        seat.tell(&mut self.isolated);
         self.plain.begin_round();
         seat.begin();
+    }
+
+    /// Shows that the seat has counted the pages that were isolated, and changes nothing.
+    pub fn show_count<N: Ledger>(&mut self, seat: &mut ScanSeat<I, N>)
+        ensures serial { seat.old.count ≡ isolated self.old.records }
+        ensures same { (self.new ≡ self.old) × (seat.new ≡ seat.old) }
+        ensures lawful { IsLawful self.new }
+    {
+        seat.tell(&mut self.isolated);
     }
 
     /// Isolates the page of the lowest source and notes the highest free frame above it as its target, both in unmarked pageblocks
@@ -392,6 +403,7 @@ impl<I: Ledger, M: Ledger, B: Ledger> Zone<I, M, B> {
         ensures same { self.new ≡ self.old }
         ensures seats { (scan.new ≡ scan.old) × (ends.new ≡ ends.old) }
         ensures packed { OnOk result (is_quiet self.new ≡ true → HaveMet self.new → IsPacked self.new) }
+        ensures serial { scan.old.count ≡ isolated self.old.records }
         ensures lawful { IsLawful self.new }
     {
         scan.tell(&mut self.isolated);

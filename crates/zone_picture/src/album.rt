@@ -53,6 +53,7 @@ pub struct Album {
     alloc: Global,
     panels: Vec<Panel>,
     commands: u32,
+    name: Option<String>,
     latest: Option<View>,
     error: Option<AlbumError>,
 }
@@ -64,6 +65,7 @@ impl Album {
             alloc,
             panels: Vec::new(alloc),
             commands: 0,
+            name: None,
             latest: None,
             error: None,
         }
@@ -95,46 +97,46 @@ impl Album {
         self.add(view, caption)
     }
 
-    /// The zone before a command, where the last panel doesn't show it.
+    /// The zone before a command that is drawn, where the last panel doesn't show it.
     fn show_before<I: Ledger, M: Ledger, B: Ledger>(
         &mut self,
-        command: Command,
-        zone: &Zone<I, M, B>,
+        command: &Command,
+        zone: Option<&Zone<I, M, B>>,
     ) -> Result<(), AlbumError> {
-        let Some(name) = name_of(self.alloc, command)? else {
+        self.name = name_of(self.alloc, command)?;
+        let (Some(name), Some(zone)) = (&self.name, zone) else {
             return Ok(());
+        };
+        let caption = Caption {
+            title: format!(in self.alloc; "Before {name}")?,
+            reply: String::new(self.alloc),
         };
         let view = View::of(self.alloc, zone)?;
         if self.is_shown(&view) {
             return Ok(());
         }
-        let caption = Caption {
-            title: format!(in self.alloc; "Before {name}")?,
-            reply: String::new(self.alloc),
-        };
         self.add(view, caption)
     }
 
-    /// The zone after a command. The latest one is kept for the end.
+    /// The zone after that command. After one that isn't drawn it is kept for the end.
     fn show_after<I: Ledger, M: Ledger, B: Ledger>(
         &mut self,
-        command: Command,
         reply: &Reply,
-        zone: &Zone<I, M, B>,
+        zone: Option<&Zone<I, M, B>>,
     ) -> Result<(), AlbumError> {
+        let name = self.name.take();
+        let Some(zone) = zone else {
+            return Ok(());
+        };
         let view = View::of(self.alloc, zone)?;
-        match name_of(self.alloc, command)? {
-            Some(name) => {
-                self.latest = None;
-                self.count()?;
-                let caption = self.answered(&name, reply)?;
-                self.add(view, caption)
-            }
-            None => {
-                self.latest = Some(view);
-                Ok(())
-            }
-        }
+        let Some(name) = name else {
+            self.latest = Some(view);
+            return Ok(());
+        };
+        self.latest = None;
+        self.count()?;
+        let caption = self.answered(&name, reply)?;
+        self.add(view, caption)
     }
 
     /// Counts a command that is drawn.
@@ -186,27 +188,24 @@ impl Album {
 impl Watch for Album {
     fn before<I: Ledger, M: Ledger, B: Ledger>(
         &mut self,
-        command: Command,
+        command: &Command,
         zone: Option<&Zone<I, M, B>>,
     ) {
-        let (Some(zone), None) = (zone, self.error) else {
-            return;
-        };
-        let outcome = self.show_before(command, zone);
-        self.note(outcome);
+        if self.error.is_none() {
+            let outcome = self.show_before(command, zone);
+            self.note(outcome);
+        }
     }
 
     fn after<I: Ledger, M: Ledger, B: Ledger>(
         &mut self,
-        command: Command,
         reply: &Reply,
         zone: Option<&Zone<I, M, B>>,
     ) {
-        let (Some(zone), None) = (zone, self.error) else {
-            return;
-        };
-        let outcome = self.show_after(command, reply, zone);
-        self.note(outcome);
+        if self.error.is_none() {
+            let outcome = self.show_after(reply, zone);
+            self.note(outcome);
+        }
     }
 }
 
@@ -218,7 +217,7 @@ pub fn text_of(reply: &Reply) -> ArrayString<160> {
 }
 
 /// The line of a command that moves pages, or may; None for any other.
-fn name_of(alloc: Global, command: Command) -> Result<Option<String>, AllocError> {
+fn name_of(alloc: Global, command: &Command) -> Result<Option<String>, AllocError> {
     Ok(Some(match command {
         Command::Compact { zone } => format!(in alloc; "compact {}", zone.get())?,
         Command::Pool {

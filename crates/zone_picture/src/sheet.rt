@@ -89,7 +89,9 @@ impl Sheet {
     }
 
     /// Where the zone stands in a panel, below the captions.
-    pub fn zone_top(&self) -> u32 {
+    pub fn zone_top(&self) -> u32
+        ensures { result ≤ 10000 }
+    {
         u32::from(self.captions) * CAPTION + 4
     }
 

@@ -78,10 +78,9 @@ fn cells_of(alloc: Global, frames: &Frames, block: u32) -> Result<Vec<Cell>, All
 fn cell_at(frames: &Frames, number: u32) -> Cell
     ensures { result ≡ cell_at frames.now number }
 {
+    let count = frames.len();
     match FrameNo::new(number) {
-        Some(frame) if number < frames.len() => {
-            Cell::of(frames.state(frame), frames.movable(frame))
-        }
+        Some(frame) if number < count => { Cell::of(frames.state(frame), frames.movable(frame)) }
         _ => Cell::Free,
     }
 }

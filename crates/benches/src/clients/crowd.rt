@@ -95,7 +95,7 @@ fn store<K: Shape, I: Ledger, M: Ledger, B: Ledger, R: Wait>(
         .ok()
 }
 
-/// Loads it.
+/// Loads the client's word of the page whose turn it is.
 fn load<K: Shape, I: Ledger, M: Ledger, B: Ledger, R: Wait>(
     rt: &R,
     shared: &SharedZone<K, I, M, B>,

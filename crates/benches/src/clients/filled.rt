@@ -7,7 +7,7 @@ use crate::opening::{FRAMES, Opening, open, page};
 use bitflags::Flags;
 use client_core::Client;
 use frame_core::{ClientNo, FrameNo, PageFlags};
-use round_core::{Shape, SharedZone};
+use round_core::{Keeping, Open, Shape, SharedZone};
 use std::alloc::Global;
 use std::sync::Wait;
 use std::sync::ledger::Ledger;
@@ -18,7 +18,10 @@ pub const PAGES: u32 = 64;
 
 /// A shared zone with its seats, and the client that mapped its pages.
 #[derive(Drop)]
-pub struct Filled<K: Shape, I: Ledger, N: Ledger, M: Ledger, B: Ledger> {
+pub struct Filled<K: Shape, I: Ledger, N: Ledger, M: Ledger, B: Ledger>
+where
+    Open<K>: Keeping,
+{
     pub shared: SharedZone<K, I, M, B>,
     pub seats: Seats<I, N, M, B>,
     pub keeper: Client,

@@ -27,7 +27,7 @@ pub fn carry<R: Threads + Wait + Sync>(
     if sent { loads } else { None }
 }
 
-/// The same end of a channel for each of so many takers.
+/// A receiver of one channel for each of so many takers.
 fn shared_by(alloc: Global, from: Pages, takers: usize) -> Option<Vec<Pages>> {
     let mut ends = Vec::new(alloc);
     for _taker in 1..takers {

@@ -1,8 +1,6 @@
 //! The work of the zone alone, on one thread and without queues.
 
-ghost use Rattle.std.specs.Prelude.{IfSome};
 ghost use Rattle.zone_core.specs.Books.{AreFor};
-ghost use Rattle.zone_core.specs.Shape.{HasShape};
 
 use crate::opening::{Opening, open, page};
 use crate::times::{Times, nanos_since};
@@ -23,7 +21,6 @@ pub fn half_full<I: Ledger, N: Ledger, M: Ledger, B: Ledger>(
     blanks: Blanks,
 ) -> Option<Opening<I, N, M, B>>
     requires blanks { AreFor blanks I.name I.parts N.name N.parts M.name M.parts B.name B.parts }
-    ensures shape { IfSome result (λ opening. HasShape 0 8 opening.zone) }
 {
     let Opening { mut zone, seats } = open::<I, N, M, B>(alloc, blanks)?;
     for number in 0..PAGES {
@@ -33,9 +30,7 @@ pub fn half_full<I: Ledger, N: Ledger, M: Ledger, B: Ledger>(
 }
 
 /// The virtual page of this number names a fresh page at the lowest free frame.
-fn map_page<I: Ledger, M: Ledger, B: Ledger>(zone: &mut Zone<I, M, B>, number: u32) -> Option<()>
-    ensures shape { HasShape zone.old.number zone.old.blocks zone.new }
-{
+fn map_page<I: Ledger, M: Ledger, B: Ledger>(zone: &mut Zone<I, M, B>, number: u32) -> Option<()> {
     let client = ClientNo::new(0)?;
     let _frame = zone.map(client, page(number)?, PageFlags::empty()).ok()?;
     Some(())

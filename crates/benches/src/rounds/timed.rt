@@ -36,7 +36,7 @@ pub fn run_round<
     time_rounds::<Brand, I, N, M, B, R>(rt, alloc, zone, seats, copiers, cap)
 }
 
-/// The same over a zone of the shape that the type names.
+/// How long both rounds take over a zone of the shape that the type names.
 fn time_rounds<
     K: Shape + Send + Sync,
     I: Ledger + Send + Sync,

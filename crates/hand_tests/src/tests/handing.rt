@@ -81,7 +81,7 @@ fn take_all<R: Wait>(rt: &R, alloc: Global, mut taker: Taker) -> Done
     unreachable!()
 }
 
-// The same by two takers on threads of their own.
+// Two takers on threads of their own take pages up to their end marks.
 fn take_by_two<R: Threads + Wait + Sync>(
     rt: &R,
     alloc: Global,

@@ -29,7 +29,7 @@ fn give_three<R: Wait + Abort>(rt: &R, mut giver: Giver)
     assert!(rt; giver.close(rt).is_ok());
 }
 
-// Their copies come, and then the end.
+// Takes the copies of the three pages, and then the end.
 fn take_three<R: Wait + Abort>(rt: &R, mut copies: DoneTaker)
     requires { has_ended copies ≡ false }
 {

@@ -5,7 +5,7 @@ use super::calls::{Answer, Call, play};
 use super::client_number;
 use client_core::{Client, Mismatch, settle_clients};
 use frame_core::ZoneNo;
-use round_core::{Gate, Round, RoundError, Shape, SharedZone, compact};
+use round_core::{Gate, Keeping, Open, Round, RoundError, Shape, SharedZone, compact};
 use std::process::Abort;
 use std::sync::Wait;
 use std::sync::ledger::Ledger;
@@ -14,7 +14,10 @@ use zone_core::{Blanks, Info, Seats, Zone};
 
 /// A shared zone with its seats, and the client that maps its pages.
 #[derive(Drop)]
-pub struct Opening<K: Shape, I: Ledger, N: Ledger, M: Ledger, B: Ledger> {
+pub struct Opening<K: Shape, I: Ledger, N: Ledger, M: Ledger, B: Ledger>
+where
+    Open<K>: Keeping,
+{
     pub shared: SharedZone<K, I, M, B>,
     pub seats: Seats<I, N, M, B>,
     pub keeper: Client,

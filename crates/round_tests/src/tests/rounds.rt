@@ -136,7 +136,7 @@ impl<
         page
     }
 
-    /// Puts it back.
+    /// Puts a page back by hand.
     fn put_back<R: Wait + Abort>(&mut self, rt: &R, page: Isolated) {
         let mut room = self.shared.lock(rt);
         let ended = room.zone.put_back(&mut self.seats.ends, page);

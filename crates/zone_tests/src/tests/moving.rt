@@ -89,7 +89,7 @@ impl<I: Ledger, N: Ledger, M: Ledger, B: Ledger> Moving<I, N, M, B> {
         copy.into_page()
     }
 
-    /// The same of a page that would be put back.
+    /// A zone refuses to put a page back that isn't its own: the page comes back, and the zone is as before.
     fn refuses_page(&mut self, rt: &impl Abort, page: Isolated) -> Page {
         let before = self.told(rt);
         let serial = page.serial();

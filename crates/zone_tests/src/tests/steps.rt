@@ -103,21 +103,25 @@ pub fn valued(answer: Result<u64, ZoneError>) -> Answer {
 
 pub fn looked(answer: Result<Look, ZoneError>) -> Answer {
     match answer {
-        Ok(
-            Look::At {
-                frame,
-                flags,
-                pins,
-                maps,
-            },
-        ) => Answer::At {
+        Ok(look) => found(look),
+        Err(error) => Answer::Refused(error),
+    }
+}
+
+fn found(look: Look) -> Answer {
+    match look {
+        Look::At {
+            frame,
+            flags,
+            pins,
+            maps,
+        } => Answer::At {
             frame: frame.get(),
             dirty: flags.is_dirty(),
             unmovable: flags.is_unmovable(),
             pins,
             maps,
         },
-        Ok(Look::Moving { serial, pins, maps }) => Answer::Moving { serial, pins, maps },
-        Err(error) => Answer::Refused(error),
+        Look::Moving { serial, pins, maps } => Answer::Moving { serial, pins, maps },
     }
 }

@@ -33,8 +33,8 @@ impl<I: Ledger, N: Ledger, M: Ledger, B: Ledger> OpenWorld<I, N, M, B> {
 
     pub fn make(&mut self, rt: &impl Abort, step: Step) -> Answer {
         match step {
-            Step::Map(name) => self.map(rt, name, PageFlags::empty()),
-            Step::MapUnmovable(name) => self.map(rt, name, PageFlags::UNMOVABLE),
+            Step::Map(name) => self.map(rt, name),
+            Step::MapUnmovable(name) => self.map_unmovable(rt, name),
             Step::MapAt(name, number) => self.map_at(rt, name, number),
             Step::Share(name, alias) => self.share(rt, name, alias),
             Step::Unmap(name) => done(self.world.unmap(client(rt), address(rt, name))),
@@ -64,7 +64,13 @@ impl<I: Ledger, N: Ledger, M: Ledger, B: Ledger> OpenWorld<I, N, M, B> {
         }
     }
 
-    fn map(&mut self, rt: &impl Abort, name: Name, flags: PageFlags) -> Answer {
+    fn map(&mut self, rt: &impl Abort, name: Name) -> Answer {
+        let flags = PageFlags::empty();
+        framed(self.world.map(client(rt), address(rt, name), flags))
+    }
+
+    fn map_unmovable(&mut self, rt: &impl Abort, name: Name) -> Answer {
+        let flags = PageFlags::UNMOVABLE;
         framed(self.world.map(client(rt), address(rt, name), flags))
     }
 

@@ -8,6 +8,8 @@ invariant-loop-copy g l = record {
   parts : l.seat.parts ≡ l.fn.seat.parts;
   shape : HasShape l.fn.zone.number l.fn.zone.blocks l.zone;
   lawful : IsLawful l.zone;
+  keeps : g.K.Keeping.keeps l.zone;
+  back : g.K.Keeping.unpinned → l.seat.back ≡ l.fn.seat.back;
 }
 
 abbrev pub decreases-loop-copy : goal.decreases-loop-copy

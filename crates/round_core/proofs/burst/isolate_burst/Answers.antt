@@ -1,20 +1,28 @@
-use Rattle.std.proofs.Common.{rules, ◌≡◌, ◌+◌, ◌∷◌, [], length, sym, ap, subst, ◌∙◌, arith, length-append}
+use Rattle.std.proofs.Common.{rules, ◌≡◌, ◌+◌, ◌∷◌, [], length, refl, sym, ap, subst, ◌∙◌, arith, length-append}
 use Rattle.std.specs.Prelude.{Option, None, Some}
 use Rattle.word_core.specs.Page.{OnItsWay}
 use Rattle.word_core.specs.Serials.{HasSerialsFrom}
 use Rattle.journal_core.specs.Moves.{isolated}
 use Rattle.state_core.specs.declared.moves.Next.TheVariants.{Page}
 use Rattle.state_core.specs.declared.round.Pair.{Pair}
-use Rattle.state_core.specs.Isolating.{next_answer}
+use Rattle.state_core.specs.Isolating.{next_answer, next_state}
 use Rattle.state_core.specs.Pairs.{next_pair}
 use Rattle.state_core.specs.ZoneState.{ZoneState}
 use Rattle.zone_core.specs.Seats.{ScanSeat, seat_noted}
 use Rattle.hand_core.proofs.Serials.{serials-snoc}
+use Rattle.round_core.specs.Rounds.{stop_for}
+use Rattle.round_core.specs.declared.round.Stop.TheVariants as Stopped
+use Rattle.outcome_core.proofs.Steps.{stepped, met_none, met_stops}
 use Rattle.round_core.proofs.burst.isolate_burst.Goals as goal
 
 serial_is : (z : ZoneState) (pair : Option Pair) (p : OnItsWay) → Page p ≡ next_answer z pair → p.serial ≡ isolated z.records
 serial_is z None p e = cc
 serial_is z (Some pair) p e = cc
+
+-- a page more was isolated
+grown : (z : ZoneState) (pair : Option Pair) (p : OnItsWay) → Page p ≡ next_answer z pair → isolated (next_state z pair).records ≡ isolated z.records + 1
+grown z None p e = cc
+grown z (Some pair) p e = refl
 
 pub loop-zone-preserved : goal.loop-zone-preserved
 loop-zone-preserved g c =
@@ -35,4 +43,24 @@ loop-zone-preserved g c =
       rounds = ap (λ (s : ScanSeat). s.rounds) seat ∙ old.rounds;
       shape = search rules;
       lawful = c.in-Ok-Page.ensures.lawful;
+      keeps = subst g.K.Keeping.keeps_scanning (sym (c.in-Ok-Page.ensures.ok ∙ stepped zone c.in-Ok-Page.ensures.refused)) (g.K.Keeping.scans zone old.lawful old.keeps);
+      told = ap (λ (z : ZoneState). isolated z.records) c.in-Ok-Page.ensures.ok ∙ grown zone (next_pair zone) p (sym c.in-Ok-Page.field-0-is ∙ c.in-Ok-Page.ensures.answer) ∙ ap (λ n. n + 1) old.told ∙ sym count;
+      room = c.push_back_reserved.ensures.capacity ∙ old.room;
     }
+
+pub returns-in-Ok-Met-clause-keeps : goal.returns-in-Ok-Met-clause-keeps
+returns-in-Ok-Met-clause-keeps g c =
+    let zone = c.loop-zone.zone in
+    let met = sym c.in-Ok-Met.field-0-is ∙ c.in-Ok-Met.ensures.answer in
+    let same = c.in-Ok-Met.ensures.ok ∙ ap (next_state zone) (met_none zone (next_pair zone) met) in
+    subst g.K.Keeping.keeps (sym same) (g.K.Keeping.lets_go zone c.loop-zone.invariant.keeps)
+
+pub returns-in-Ok-Met-clause-stops : goal.returns-in-Ok-Met-clause-stops
+returns-in-Ok-Met-clause-stops g c =
+    let zone = c.loop-zone.zone in
+    let old = c.loop-zone.invariant in
+    let refused = c.in-Ok-Met.ensures.refused in
+    let met = sym c.in-Ok-Met.field-0-is ∙ c.in-Ok-Met.ensures.answer in
+    let seat = c.in-Ok-Met.ensures.seat ∙ ap (seat_noted c.loop-zone.scan) c.in-Ok-Met.field-0-is in
+    subst (λ n. g.K.Keeping.stops_at n Stopped.Met) (old.told ∙ sym (ap (λ (s : ScanSeat). s.count) seat))
+    (subst (λ refusal. g.K.Keeping.stops_at (isolated zone.records) (stop_for refusal)) (sym refused) (g.K.Keeping.stops zone old.lawful old.keeps (met_stops zone refused met)))

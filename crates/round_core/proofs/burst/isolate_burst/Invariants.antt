@@ -1,5 +1,6 @@
 use Rattle.std.proofs.Common.{◌≡◌, ◌+◌, ◌-◌, length}
 use Rattle.std.specs.VecDeque.{deque_capacity}
+use Rattle.journal_core.specs.Moves.{isolated}
 use Rattle.state_core.specs.Lawful.{IsLawful}
 use Rattle.word_core.specs.Serials.{HasSerialsFrom}
 use Rattle.zone_core.specs.Shape.{HasShape}
@@ -12,6 +13,9 @@ invariant-loop-zone g l = record {
   rounds : l.scan.rounds ≡ l.fn.scan.rounds;
   shape : HasShape l.fn.zone.number l.fn.zone.blocks l.zone;
   lawful : IsLawful l.zone;
+  keeps : g.K.Keeping.keeps_scanning l.zone;
+  told : isolated l.zone.records ≡ l.scan.count;
+  room : deque_capacity l.pages ≡ deque_capacity l.fn.pages;
 }
 
 abbrev pub decreases-loop-zone : goal.decreases-loop-zone

@@ -6,4 +6,5 @@ abbrev pub invariant-loop : goal.invariant-loop
 invariant-loop g l = record {
   going : has_ended l.copies ≡ false;
   parts : l.seat.parts ≡ l.fn.seat.parts;
+  back : g.K.Keeping.unpinned → l.seat.back ≡ l.fn.seat.back;
 }

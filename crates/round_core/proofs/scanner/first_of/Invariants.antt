@@ -1,4 +1,5 @@
 use Rattle.std.proofs.Common.{◌≡◌, ◌++◌, ◌-◌, ◌≤◌, length}
+use Rattle.std.specs.VecDeque.{deque_capacity}
 use Rattle.round_core.proofs.scanner.first_of.Given as goal
 
 -- what was taken and what is left are the pages that there were
@@ -6,6 +7,7 @@ abbrev pub invariant-loop-pages : goal.invariant-loop-pages
 invariant-loop-pages l = record {
   pages : l.fn.pages.items ≡ l.handful.items ++ l.pages.items;
   few : length l.handful.items ≤ l.fn.share;
+  room : deque_capacity l.pages ≡ deque_capacity l.fn.pages;
 }
 
 abbrev pub decreases-loop-pages : goal.decreases-loop-pages

@@ -31,4 +31,5 @@ loop-handful-preserved g c =
       giver = ok ∙ ap (λ (v : Giver). record v { given = giver.given ++ items }) old.giver ∙ ap (λ l. record first { given = l }) (sym given);
       given = ap (λ l. l ++ rest) given ∙ append_assoc giver.given items rest ∙ ap (λ l. giver.given ++ l) (sym split) ∙ old.given;
       ends = old.ends;
+      room = c.in-Some.ensures.room ∙ old.room;
     }

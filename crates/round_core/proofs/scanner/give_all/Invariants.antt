@@ -1,4 +1,5 @@
 use Rattle.std.proofs.Common.{◌≡◌, ◌+◌, ◌++◌, length}
+use Rattle.std.specs.VecDeque.{deque_capacity}
 use Rattle.word_core.specs.Serials.{HasSerialsFrom}
 use Rattle.round_core.proofs.scanner.give_all.Given as goal
 
@@ -9,6 +10,7 @@ invariant-loop-handful g l = record {
   giver : l.giver ≡ record l.fn.giver { given = l.giver.given };
   given : l.giver.given ++ l.pages.items ≡ l.fn.giver.given ++ l.fn.pages.items;
   ends : l.ends ≡ l.fn.ends;
+  room : deque_capacity l.pages ≡ deque_capacity l.fn.pages;
 }
 
 abbrev pub decreases-loop-handful : goal.decreases-loop-handful

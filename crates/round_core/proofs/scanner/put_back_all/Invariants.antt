@@ -1,4 +1,5 @@
 use Rattle.std.proofs.Common.{◌≡◌, ◌≤◌, length}
+use Rattle.std.specs.VecDeque.{deque_capacity}
 use Rattle.round_core.proofs.scanner.put_back_all.Given as goal
 
 abbrev pub invariant-loop-page : goal.invariant-loop-page
@@ -6,6 +7,7 @@ invariant-loop-page g l = record {
   parts : l.ends.parts ≡ l.fn.ends.parts;
   moved : l.ends.moved ≡ l.fn.ends.moved;
   back : l.fn.ends.back ≤ l.ends.back;
+  room : deque_capacity l.pages ≡ deque_capacity l.fn.pages;
 }
 
 abbrev pub decreases-loop-page : goal.decreases-loop-page

@@ -1,0 +1,9 @@
+pub mod Records
+pub mod Scanner
+pub mod Scanning
+pub mod Ending
+pub mod Coming
+pub mod ByHand
+pub mod Alone
+pub mod Steps
+pub mod Packed

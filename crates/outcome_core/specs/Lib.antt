@@ -1,0 +1,3 @@
+pub mod ByHand
+pub mod Outcome
+pub mod Alone

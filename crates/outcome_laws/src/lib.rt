@@ -1,0 +1,12 @@
+//! Laws over zones that are the same but for the order of moves, as two rounds over one zone leave them: they answer each call alike,
+//! refusals too, and are still the same after it.
+//!
+//! Each function has the laws of one kind of call for its contract, and does nothing.
+#![tactic(auto)]
+
+mod law;
+
+pub use law::{
+    blocks_agree, loads_and_stores_agree, looks_agree, maps_agree, marks_agree, pins_agree,
+    rounds_agree, shares_agree, unmaps_agree,
+};

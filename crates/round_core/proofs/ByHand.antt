@@ -1,0 +1,124 @@
+-- A round over a zone that nobody else has comes to what the round by hand comes to.
+use Rattle.std.proofs.Common.{◌≡◌, ◌+◌, ◌≤◌, ◌↔◌, inl, inr, sym, ap, subst, ◌∙◌, arith, true, refl, Option, Some, None, IsOk, IfOk, OnOk}
+use Rattle.std.specs.Prelude.{Result, Ok, Err}
+use Rattle.std.proofs.lemmas.Bool.{cases_eq, cases_lt}
+use Rattle.journal_core.specs.Moves.{isolated}
+use Rattle.outcome_core.specs.Alone.{IsAtRest, KeepsAlone, KeepsScanning}
+use Rattle.outcome_core.specs.ByHand.{all_isolated, by_hand, scan_pair}
+use Rattle.outcome_core.specs.Outcome.{IsSame}
+use Rattle.outcome_core.proofs.Alone.{alone_exact, alone_goes_on, alone_stops, alone_unbegun}
+use Rattle.outcome_core.proofs.Packed.{packed_exact}
+use Rattle.outcome_core.proofs.Records.{isolated_same}
+use Rattle.outcome_core.proofs.Scanner.{refusal_same}
+use Rattle.state_core.specs.declared.error.ZoneError.{ZoneError}
+use Rattle.state_core.specs.declared.information.Audit.{Audit}
+use Rattle.state_core.specs.Isolating.{isolate_refusal}
+use Rattle.state_core.specs.Lawful.{IsLawful}
+use Rattle.state_core.specs.Packed.{IsPacked}
+use Rattle.state_core.specs.Pairs.{is_calm}
+use Rattle.state_core.specs.ZoneState.{ZoneState}
+use Rattle.zone_core.specs.Seats.{ScanSeat, EndSeat, IsAudited}
+use Rattle.round_core.specs.Alone.{StopsAlone}
+use Rattle.round_core.specs.declared.error.RoundError.{RoundError}
+use Rattle.round_core.specs.declared.error.RoundError.TheVariants.{Broken}
+use Rattle.round_core.specs.declared.round.Round.{Round}
+use Rattle.round_core.specs.declared.round.Stop.TheVariants as stop
+use Rattle.round_core.specs.Scanning.{HasBegun}
+use Rattle.round_core.specs.Rounds.{IsRound, IsRefusedEarly, IsBroken, stop_for, stop_by_hand}
+
+-- the scanner goes on once it has begun, and stops as by hand
+
+pub goes_on_alone : (start z : ZoneState) → IsLawful z → HasBegun (λ n. n ≡ isolated start.records) (isolated z.records) → KeepsAlone start z → KeepsScanning start z
+goes_on_alone start z law begun = alone_goes_on start z law (let base = begun.begun in let more = begun.more in omega arith)
+
+pub stops_alone : (start z : ZoneState) → IsLawful z → KeepsScanning start z → scan_pair z ≡ None → StopsAlone start (isolated z.records) (stop_for (isolate_refusal z))
+stops_alone start z law keeps none rest =
+    let seen = alone_stops start z keeps none rest in
+    record { count_is = seen.count; stop_is = ap stop_for (refusal_same z (all_isolated start) seen) }
+
+-- what an audit found that passed
+audited : (z : ZoneState) (scan : ScanSeat) (ends : EndSeat) (r : Result Audit ZoneError) → IsOk r → IfOk r (λ a. IsAudited z scan ends a) → (a : Audit) × IsAudited z scan ends a
+audited z scan ends (Ok a) ok is = (a, is)
+audited z scan ends (Err error) ok is = cc
+
+not_broken : (r : Round) → ◌≡◌ {A = Result Round RoundError} (Ok r) (Err Broken) → ⊥
+not_broken r e = cc
+
+-- seats that aren't broken are whole
+whole : (scan : ScanSeat) (ends : EndSeat) → (IsBroken scan ends → ⊥) → (64 ≤ ends.parts) × (ends.moved + ends.back ≡ scan.count)
+whole scan ends sound = (
+  elim (cases_lt ends.parts 64) [ inl few ↦ absurd (sound (inl few)) | inr all ↦ all ],
+  elim (cases_eq (ends.moved + ends.back) scan.count) [ inl same ↦ same | inr differs ↦ absurd (sound (inr differs)) ],
+)
+
+-- what a round that was answered Ok did
+pub record IsByHand (start z : ZoneState) (r : Round) : Type 0 where
+  pub same : IsSame (by_hand start) z
+  pub count : isolated start.records + r.count ≡ isolated (by_hand start).records
+  pub none_back : r.back ≡ 0
+  pub stopped : r.stopped ≡ stop_by_hand start
+
+-- what the audits before and after a round find, with the seats that it was given and left
+module _ (start z : ZoneState) (scan scan_new : ScanSeat) (ends ends_new : EndSeat) (before after : Result Audit ZoneError) (law_start : IsLawful start) (law : IsLawful z) (keeps : KeepsAlone start z)
+    (told : 64 ≤ ends.parts → IsOk before ↔ (ends.moved + ends.back ≡ scan.count)) (found : IfOk before (λ a. IsAudited start scan ends a)) (counted : scan.count ≡ isolated start.records)
+    (told_new : 64 ≤ ends_new.parts → IsOk after ↔ (ends_new.moved + ends_new.back ≡ scan_new.count)) (found_new : IfOk after (λ a. IsAudited z scan_new ends_new a)) (counted_new : scan_new.count ≡ isolated z.records) where
+  module _ (sound : IsBroken scan ends → ⊥) where
+    first : (a : Audit) × IsAudited start scan ends a
+    first = let seats = whole scan ends sound in audited start scan ends before ((told seats.0).1 seats.1) found
+
+    at_rest : IsAtRest start
+    at_rest = record { lawful = law_start; none_out = first.1.none_out }
+
+    pub same_unbegun : scan_new ≡ scan → IsSame start z
+    same_unbegun same = alone_unbegun start z at_rest keeps (sym counted_new ∙ ap (λ (s : ScanSeat). s.count) same ∙ counted)
+
+    ok_by_hand : (r : Round) → StopsAlone start scan_new.count r.stopped → (IsAtRest start → ends_new.back ≡ ends.back) → IsRound scan scan_new ends ends_new r → IsByHand start z r
+    ok_by_hand r stops backs round =
+        let all = round.whole in
+        let last = (audited z scan_new ends_new after ((told_new (omega arith)).1 round.settled) found_new).1 in
+        let stop = stops at_rest in
+        let kept = backs at_rest in
+        let back = round.back in
+        let same = alone_exact start z at_rest law keeps (sym counted_new ∙ stop.count_is) last.none_out (sym last.back ∙ last.ends_back ∙ kept ∙ sym first.1.ends_back ∙ first.1.back) in
+        record {
+          same = same;
+          count = ap (λ n. n + r.count) (sym counted) ∙ round.count ∙ counted_new ∙ sym (isolated_same (by_hand start) z same);
+          none_back = omega arith;
+          stopped = stop.stop_is;
+        }
+
+  pub result_by_hand : (result : Result Round RoundError) → IfOk result (λ r. StopsAlone start scan_new.count r.stopped) → OnOk result (IsAtRest start → ends_new.back ≡ ends.back) → IfOk result (λ r. IsRound scan scan_new ends ends_new r) → IsRefusedEarly scan scan_new ends ends_new result
+      → IfOk result (IsByHand start z)
+  result_by_hand (Ok r) stops backs round early = ok_by_hand (λ broken. not_broken r (early.broken.1 broken).0) r stops backs round
+  result_by_hand (Err error) stops backs round early = tt
+
+-- the clauses
+
+met_for : (refusal : Option ZoneError) → stop_for refusal ≡ stop.Met → refusal ≡ None
+met_for None e = refl
+met_for (Some error) e = cc
+
+module _ (start z : ZoneState) where
+  pub if_same : (result : Result Round RoundError) → IfOk result (IsByHand start z) → OnOk result (IsSame (by_hand start) z)
+  if_same (Ok r) is = is.same
+  if_same (Err error) is = tt
+
+  pub if_counted : (result : Result Round RoundError) → IfOk result (IsByHand start z) → IfOk result (λ r. isolated start.records + r.count ≡ isolated (by_hand start).records)
+  if_counted (Ok r) is = is.count
+  if_counted (Err error) is = tt
+
+  pub if_none_back : (result : Result Round RoundError) → IfOk result (IsByHand start z) → IfOk result (λ r. r.back ≡ 0)
+  if_none_back (Ok r) is = is.none_back
+  if_none_back (Err error) is = tt
+
+  pub if_stopped : (result : Result Round RoundError) → IfOk result (IsByHand start z) → IfOk result (λ r. r.stopped ≡ stop_by_hand start)
+  if_stopped (Ok r) is = is.stopped
+  if_stopped (Err error) is = tt
+
+  pub if_packed : IsLawful start → (result : Result Round RoundError) → IfOk result (IsByHand start z) → IfOk result (λ r. r.stopped ≡ stop.Met → is_calm start ≡ true → IsPacked z)
+  if_packed law (Ok r) is = λ met calm. packed_exact start z law calm (met_for (isolate_refusal (all_isolated start)) (sym is.stopped ∙ met)) is.same
+  if_packed law (Err error) is = tt
+
+-- what is known of a zone and its seats is known of the same
+pub known_on : (P : ZoneState → ScanSeat → EndSeat → Type 0) (z z_new : ZoneState) (scan scan_new : ScanSeat) (ends ends_new : EndSeat) → z_new ≡ z → scan_new ≡ scan → ends_new ≡ ends → P z scan ends → P z_new scan_new ends_new
+known_on P z z_new scan scan_new ends ends_new e f h p = subst (λ w. P w scan_new ends_new) (sym e) (subst (λ s. P z s ends_new) (sym f) (subst (λ s. P z scan s) (sym h) p))

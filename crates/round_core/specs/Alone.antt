@@ -1,0 +1,17 @@
+-- How the scanner of a round stops, and goes on, where nobody else has the zone.
+use Rattle.std.specs.Prelude.{◌≡◌, ℕ}
+use Rattle.journal_core.specs.Moves.{isolated}
+use Rattle.state_core.specs.ZoneState.{ZoneState}
+use Rattle.outcome_core.specs.Alone.{IsAtRest}
+use Rattle.outcome_core.specs.ByHand.{all_isolated}
+use Rattle.round_core.specs.Rounds.{stop_by_hand}
+use Rattle.round_core.specs.declared.round.Stop.{Stop}
+
+-- it stops where so many pages are isolated as by hand, and why it stops by hand
+pub record IsStopByHand (start : ZoneState) (count : ℕ) (stop : Stop) : Type 0 where
+  pub count_is : count ≡ isolated (all_isolated start).records
+  pub stop_is : stop ≡ stop_by_hand start
+
+-- if no page was moving before the round
+abbrev pub StopsAlone : ZoneState → ℕ → Stop → Type 0
+StopsAlone start count stop = IsAtRest start → IsStopByHand start count stop

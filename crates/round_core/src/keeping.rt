@@ -1,0 +1,124 @@
+ghost use Rattle.std.specs.Prelude.{◌≡◌, ℕ, Some, None, ⊤};
+ghost use Rattle.std.specs.FinMap as map;
+ghost use Rattle.journal_core.specs.History.{pins};
+ghost use Rattle.journal_core.specs.Moves.{isolated};
+ghost use Rattle.journal_core.specs.declared.record.Cause.{Cause};
+ghost use Rattle.outcome_core.specs.ByHand.{scan_pair, scan_step};
+ghost use Rattle.round_core.specs.Rounds.{stop_for};
+ghost use Rattle.round_core.specs.Scanning.{HasBegun};
+ghost use Rattle.round_core.specs.declared.round.Stop.{Stop as Stopped};
+ghost use Rattle.state_core.specs.Ending.{committed, put_back_to_source, HasCause};
+ghost use Rattle.state_core.specs.Isolating.{isolate_refusal};
+ghost use Rattle.state_core.specs.Lawful.{IsLawful};
+ghost use Rattle.state_core.specs.Rounds.{round_begun};
+ghost use Rattle.state_core.specs.ZoneState.{ZoneState};
+ghost use Rattle.state_core.specs.declared.placement.Placement.TheVariants.{Moving};
+
+use crate::shape::Shape;
+use std::marker::{Brand, PhantomData};
+
+/// What the lock of a zone keeps, beside that the zone is lawful: a fact about the zone that each step of a round leaves true.
+/// Contracts alone know it, and whoever shares a zone picks it. `Open` keeps nothing; `compact_alone` keeps what its round comes to.
+pub trait Keeping: Shape {
+    /// What is so whenever the lock is free.
+    ghost keeps: { ZoneState → Type 0 };
+
+    /// What is so while the scanner has the lock, once its round has begun.
+    ghost keeps_scanning: { ZoneState → Type 0 };
+
+    /// Where so many pages were isolated a round may begin.
+    ghost begins_at: { ℕ → Type 0 };
+
+    /// Where so many pages are isolated the scanner stops, and why.
+    ghost stops_at: { ℕ → Stopped → Type 0 };
+
+    /// No moving page has a pin.
+    ghost unpinned: { Type 0 };
+
+    // A round begins, its scanner takes the lock again, and lets it go.
+    ghost begins: { (z : ZoneState) → IsLawful z → begins_at (isolated z.records) → keeps z → keeps_scanning (round_begun z) };
+
+    ghost goes_on: { (z : ZoneState) → IsLawful z → HasBegun begins_at (isolated z.records) → keeps z → keeps_scanning z };
+
+    ghost lets_go: { (z : ZoneState) → keeps_scanning z → keeps z };
+
+    // It isolates a page, and it stops.
+    ghost scans: { (z : ZoneState) → IsLawful z → keeps_scanning z → keeps_scanning (scan_step z) };
+
+    ghost stops: { (z : ZoneState) → IsLawful z → keeps_scanning z → scan_pair z ≡ None → stops_at (isolated z.records) (stop_for (isolate_refusal z)) };
+
+    // The move of a page ends: it is committed, or put back.
+    ghost commits: { (z : ZoneState) (page serial source target : ℕ) → IsLawful z → map.get z.placement page ≡ Some (Moving serial source target) → keeps z → keeps (committed z serial page) };
+
+    ghost puts_back: { (z : ZoneState) (page serial source target : ℕ) (cause : Cause) → IsLawful z → HasCause cause (pins z.records page) → map.get z.placement page ≡ Some (Moving serial source target) → keeps z → keeps (put_back_to_source z serial page cause) };
+
+    ghost pins_none: { (z : ZoneState) (page serial source target : ℕ) → unpinned → IsLawful z → keeps z → map.get z.placement page ≡ Some (Moving serial source target) → pins z.records page ≡ 0 };
+}
+
+// Nothing: a call that passes `Brand` picks its own.
+impl Keeping for Brand {
+    ghost keeps = { λ z. ⊤ };
+
+    ghost keeps_scanning = { λ z. ⊤ };
+
+    ghost begins_at = { λ n. ⊤ };
+
+    ghost stops_at = { λ n stop. ⊤ };
+
+    ghost unpinned = { ⊥ };
+
+    ghost begins = { λ z law at keeps. tt };
+
+    ghost goes_on = { λ z law begun keeps. tt };
+
+    ghost lets_go = { λ z keeps. tt };
+
+    ghost scans = { λ z law keeps. tt };
+
+    ghost stops = { λ z law keeps none. tt };
+
+    ghost commits = { λ z page serial source target law at keeps. tt };
+
+    ghost puts_back = { λ z page serial source target cause law has at keeps. tt };
+
+    ghost pins_none = { λ z page serial source target never law keeps at. absurd never };
+}
+
+/// Of a zone that anyone may use its lock keeps nothing but that it is lawful.
+pub struct Open<K> {
+    of: PhantomData<K>,
+}
+
+impl<K: Shape> Shape for Open<K> {
+    ghost number = { K.number };
+
+    ghost blocks = { K.blocks };
+}
+
+impl<K: Shape> Keeping for Open<K> {
+    ghost keeps = { λ z. ⊤ };
+
+    ghost keeps_scanning = { λ z. ⊤ };
+
+    ghost begins_at = { λ n. ⊤ };
+
+    ghost stops_at = { λ n stop. ⊤ };
+
+    ghost unpinned = { ⊥ };
+
+    ghost begins = { λ z law at keeps. tt };
+
+    ghost goes_on = { λ z law begun keeps. tt };
+
+    ghost lets_go = { λ z keeps. tt };
+
+    ghost scans = { λ z law keeps. tt };
+
+    ghost stops = { λ z law keeps none. tt };
+
+    ghost commits = { λ z page serial source target law at keeps. tt };
+
+    ghost puts_back = { λ z page serial source target cause law has at keeps. tt };
+
+    ghost pins_none = { λ z page serial source target never law keeps at. absurd never };
+}
