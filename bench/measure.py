@@ -94,9 +94,10 @@ def instructions(command, script=b""):
     counted = ["valgrind", "--tool=callgrind", "--callgrind-out-file=/dev/null", *command]
     ran = subprocess.run(counted, input=script, capture_output=True)
     error = ran.stderr.decode(errors="replace")
-    if ran.returncode != 0:
-        sys.exit(f"status {ran.returncode}: {error}")
-    return int(re.search(r"Collected : (\d+)", error).group(1)), ran.stdout
+    count = re.search(r"Collected : (\d+)", error)
+    if ran.returncode != 0 or count is None:
+        sys.exit(f"{command[0]} isn't counted, with status {ran.returncode}: {error}")
+    return int(count[1]), ran.stdout
 
 
 def ratio(numbers):

@@ -15,11 +15,17 @@ import itertools
 import os
 import pathlib
 import re
+import signal
 import subprocess
+import sys
 import textwrap
 
 import manual
 import runs
+
+sys.path.append(str(runs.ROOT))
+
+from launch import program  # noqa: E402
 
 SECONDS = 120  # that a command of the README may take
 LEFT_OUT = (".git", "out", "__pycache__")
@@ -47,7 +53,7 @@ class Tree:
 
     def has_path(self, path):
         """Whether a path, or its part above `out`, is that of a file or folder, or a part of one's path."""
-        inside = re.sub(r"(^|/)out(/.*)?$", "", path.removeprefix("./").strip("/"))
+        inside = re.sub(r"^\./|(^|/)out(/.*)?$|/$", "", path)
         return not inside or inside in self.paths or "*" in inside and bool(fnmatch.filter(self.paths, inside))
 
     def has_name(self, name):
@@ -146,11 +152,12 @@ def wrong_command(command, lines):
     if not command.startswith("./"):
         return "only a command of this folder can be tried"
     streams = {"stdin": subprocess.DEVNULL, "stdout": subprocess.PIPE, "stderr": subprocess.STDOUT}
-    try:
-        ran = subprocess.run(["bash", "-c", command], cwd=runs.ROOT, timeout=SECONDS, **streams)
-    except subprocess.TimeoutExpired:
-        return f"it takes more than {SECONDS} seconds"
-    found = ran.stdout.decode(errors="replace")
+    with subprocess.Popen(["bash", "-c", command], cwd=runs.ROOT, start_new_session=True, **streams) as begun:
+        try:
+            found = begun.communicate(timeout=SECONDS)[0].decode(errors="replace")
+        except subprocess.TimeoutExpired:
+            os.killpg(begun.pid, signal.SIGTERM)
+            return f"it takes more than {SECONDS} seconds"
     wanted = "".join(r"(?:.*\n)*" if line == ".." else re.escape(line) + r"\n" for line in lines)
     return None if re.fullmatch(wanted, found) else f"it writes\n{found}and not what is shown"
 
@@ -179,12 +186,13 @@ def stand_in_order(lines, file):
 
 def first_wrong_command(commands):
     """What is wrong with the first command that isn't right, if there is one. Those after it aren't tried."""
+    if not program.is_fresh(program.PROVED, program.kit_version(), program.digest_of(runs.ROOT)):
+        return ["its commands aren't tried, since the program isn't proved: `./prove` proves it, or `bash .ci/run`"]
     tried = (f"`{command}`: {wrong}" for command, lines in commands if (wrong := wrong_command(command, lines)))
     return [*itertools.islice(tried, 1)]
 
 
 def main():
-    runs.program()
     tree, readme = Tree(), runs.ROOT / "README.md"
     pages, text = [readme, *sorted((runs.ROOT / "docs").glob("*.md"))], readme.read_text()
     faults = [f"{page.name}: {name}" for page in pages for name in (*missing_names(page, tree), *missing_links(page))]

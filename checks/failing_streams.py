@@ -49,7 +49,8 @@ def run(script=SCRIPT, options=(), prepare=lambda: None, **streams):
     with tempfile.TemporaryFile() as file:
         file.write(script)
         file.seek(0)
-        given = {"stdin": file, "stdout": subprocess.PIPE, "stderr": subprocess.PIPE, "restore_signals": True} | opened
+        pipes = {"stdout": subprocess.PIPE, "stderr": subprocess.PIPE}
+        given = {"stdin": file, **pipes, "restore_signals": True, **opened}
         ran = subprocess.run([runs.program(), *options], preexec_fn=before_the_start, **given)
     return Ran(ran.returncode, ran.stdout or b"", ran.stderr or b"")
 

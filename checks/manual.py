@@ -25,7 +25,7 @@ def examples(text):
         if not found:
             raise runs.Failed(f"a block of {kind} stands before the first script: {content}")
         found[-1][kind] = content.encode()
-    return [Example(**{"replies": None, "fault": b""} | example) for example in found]
+    return [Example(**{"replies": None, "fault": b"", **example}) for example in found]
 
 
 def compare(example, document):

@@ -121,7 +121,7 @@ def main():
         gone, new = sorted((named - standing).elements()), sorted((standing - named).elements())
         wrong = f"it names {gone}, which don't stand or stand twice, and leaves out {new}"
         raise runs.Failed(f"the second part of {DOCUMENT} isn't what `checks/wrong_bodies.py list` prints: {wrong}")
-    return f"{standing.total()} must-fail edits have their rows in {DOCUMENT}"
+    return f"{sum(standing.values())} must-fail edits have their rows in {DOCUMENT}"
 
 
 if __name__ == "__main__":

@@ -1,6 +1,6 @@
 //! Pages over a hand-over.
 
-ghost use Rattle.std.specs.Prelude.{◌≡◌, ◌×◌, [], false, All};
+ghost use Rattle.std.specs.Prelude.{◌≡◌, [], false, All};
 
 use super::load::{Load, page_of};
 use hand_core::{Giver, Taker, Takers, Took, open};
