@@ -127,6 +127,13 @@ def proves(repository, what):
     same(f"calls of the kit by {what}", repository.calls(), ["ci"])
 
 
+def asked_otherwise(repository):
+    """A proof proves anew where it is asked to, and knows no other word."""
+    proves(repository, "a proof")
+    same("a proof anew", (repository.run("prove", "--anew")[:2], repository.calls()), (PROVED, ["ci --anew"]))
+    same("another word", repository.run("prove", "now"), (2, "", "usage: ./prove [--anew]\n"))
+
+
 def lacks_a_kit(repository):
     """With no kit a start and a proof end with status 70."""
     for name in ("compactd", "prove"):
@@ -233,6 +240,7 @@ CASES = (
     hidden_build,
     proved_starts,
     gate_leaves,
+    asked_otherwise,
 )
 
 

@@ -15,8 +15,10 @@ import subprocess
 import sys
 
 ROOT = pathlib.Path(__file__).resolve().parent.parent
-OUT = ROOT / "crates/compactd/out"
-PROVED = OUT / "compactd"
+# Where `rt ci` leaves the program, from the top of a repository.
+PATH = "crates/compactd/out/compactd"
+PROVED = ROOT / PATH
+OUT = PROVED.parent
 UNPROVED = OUT / "unproved/compactd"
 # The status of what can't build the program.
 CANNOT_BUILD = 70
@@ -26,9 +28,9 @@ def say(text):
     print(text, file=sys.stderr, flush=True)
 
 
-def stop(why):
+def stop(why, status=CANNOT_BUILD):
     say(why)
-    sys.exit(CANNOT_BUILD)
+    sys.exit(status)
 
 
 def end_on_signals():
