@@ -1,2 +1,3 @@
+pub mod ByHand
 pub mod Huge
 pub mod Reserving

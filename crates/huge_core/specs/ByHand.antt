@@ -1,0 +1,104 @@
+-- A reservation by hand: blocks are taken one after the other, the lowest free one each time, and where none is free a round by hand is run.
+use Rattle.std.specs.Prelude.{◌≡◌, ℕ, zero, suc, ◌+◌, Bool, nat_lt, if◌then◌else◌, List, [], ◌∷◌, ⊤, Option, Some, None, unwrap_or}
+use Rattle.journal_core.specs.Moves.{isolated}
+use Rattle.outcome_core.specs.ByHand.{by_hand}
+use Rattle.outcome_core.specs.Outcome.{IsSame}
+use Rattle.round_core.specs.Rounds.{IsWant, stop_by_hand}
+use Rattle.round_core.specs.declared.round.Stop.{Stop as RoundStop}
+use Rattle.round_core.specs.declared.round.Stop.TheVariants as round
+use Rattle.state_core.specs.declared.error.ZoneError.{ZoneError}
+use Rattle.state_core.specs.declared.error.ZoneError.TheVariants as zone
+use Rattle.state_core.specs.HandingOut.{lowest_run, take_order_refusal, block_taken}
+use Rattle.state_core.specs.ZoneState.{ZoneState}
+use Rattle.huge_core.specs.Huge.{Huge}
+use Rattle.huge_core.specs.declared.collector.Collector.{Collector}
+use Rattle.huge_core.specs.declared.report.Report.{Report}
+use Rattle.huge_core.specs.declared.report.Stop.{Stop}
+use Rattle.huge_core.specs.declared.report.Stop.TheVariants.{Enough, NoBlock, Rounds, JournalFull, Refused}
+
+-- what a reservation leaves: the first frames of its blocks, in the order in which they were got, how many rounds were run, why it stopped,
+-- and the zone
+pub record Reservation : Type 0 where
+  pub frames : List ℕ
+  pub rounds : ℕ
+  pub stop : Stop
+  pub zone : ZoneState
+
+-- it stops here
+abbrev pub stopped : Stop → ZoneState → Reservation
+stopped stop zone = record { frames = []; rounds = 0; stop = stop; zone = zone }
+
+-- it gets a block first
+abbrev pub with_block : ℕ → Reservation → Reservation
+with_block frame rest = record rest { frames = frame ∷ rest.frames }
+
+-- it runs a round first
+abbrev pub with_round : Reservation → Reservation
+with_round rest = record rest { rounds = rest.rounds + 1 }
+
+-- the first frame of the lowest free block of an order, and 0 where no block is free
+abbrev pub lowest_first : ZoneState → ℕ → ℕ
+lowest_first z order = unwrap_or (lowest_run z order) 0
+
+-- the zone after that block was taken
+abbrev pub lowest_taken : ZoneState → ℕ → ZoneState
+lowest_taken z order = block_taken z (lowest_first z order) order
+
+-- what comes of asking for a block: it is taken, or the journal has no place for it, or no block is free
+abbrev pub asked : Option ZoneError → (taken full none : Reservation) → Reservation
+asked None taken full none = taken
+asked (Some zone.JournalFull) taken full none = full
+asked (Some _) taken full none = none
+
+-- up to n blocks are taken; where none is free it goes on as the last argument says, with the number of blocks that are still wanted
+abbrev pub taking : (order n : ℕ) → ZoneState → (ℕ → ZoneState → Reservation) → Reservation
+taking order zero z none = stopped Enough z
+taking order (suc n) z none =
+    asked (take_order_refusal z order) (with_block (lowest_first z order) (taking order n (lowest_taken z order) none)) (stopped JournalFull z) (none (suc n) z)
+
+-- whether a round by hand moves a page
+abbrev pub moves : ZoneState → Bool
+moves z = nat_lt (isolated z.records) (isolated (by_hand z).records)
+
+-- why a reservation stops whose latest round moved no page, by the reason why that round stopped
+abbrev pub idle_stop : RoundStop → Stop
+idle_stop round.Met = NoBlock
+idle_stop round.JournalFull = JournalFull
+
+-- a reservation of n blocks of an order, which may run this many rounds
+abbrev pub reserved_by_hand : (order rounds n : ℕ) → ZoneState → Reservation
+reserved_by_hand order zero n z = taking order n z (λ left now. stopped Rounds now)
+reserved_by_hand order (suc rounds) n z = taking order n z (λ left now.
+    with_round (if moves now then reserved_by_hand order rounds left (by_hand now) else stopped (idle_stop (stop_by_hand now)) (by_hand now)))
+
+-- the first frames of the blocks of a report
+abbrev pub frames_of : List (Option Huge) → List ℕ
+frames_of [] = []
+frames_of (Some block ∷ more) = block.frame ∷ frames_of more
+frames_of (None ∷ more) = frames_of more
+
+-- A collector that was refused a round did what a reservation by hand does that may run no more rounds than the collector had run by then.
+-- So it stops where that one stops since it may run no more.
+abbrev pub rounds_for : Collector → Stop → (ran : ℕ) → ℕ
+rounds_for c (Refused error) ran = ran
+rounds_for c stop ran = c.rounds
+
+abbrev pub stop_for : Stop → Stop
+stop_for (Refused error) = Rounds
+stop_for stop = stop
+
+-- no round failed: it was refused only for want of memory or of a thread, if it was
+abbrev pub NoneFailed : Stop → Type 0
+NoneFailed (Refused error) = IsWant error
+NoneFailed stop = ⊤
+
+-- the reservation by hand that does what a collector did which was asked for n blocks
+abbrev pub reservation_for : Collector → ℕ → ZoneState → Report → Reservation
+reservation_for c n start report = reserved_by_hand c.order (rounds_for c report.stop report.rounds) n start
+
+-- a collector reported what a reservation by hand of n blocks does, and left the zone as that one does, unless a round failed
+pub record IsReservedByHand (c : Collector) (n : ℕ) (start zone : ZoneState) (report : Report) : Type 0 where
+  pub frames : frames_of report.got.items ≡ (reservation_for c n start report).frames
+  pub rounds : report.rounds ≡ (reservation_for c n start report).rounds
+  pub stop : stop_for report.stop ≡ (reservation_for c n start report).stop
+  pub zone_is : NoneFailed report.stop → IsSame (reservation_for c n start report).zone zone
