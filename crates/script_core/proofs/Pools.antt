@@ -3,6 +3,7 @@ use Rattle.std.proofs.Common.{◌≡◌, ◌∙◌, ℕ, ◌+◌, ◌<◌, ◌�
 use Rattle.std.specs.Prelude.{◌↔◌}
 use Rattle.state_core.specs.declared.error.ZoneError.{ZoneError}
 use Rattle.state_core.specs.ZoneState.{ZoneState}
+use Rattle.outcome_core.specs.Alone.{IsAtRest}
 use Rattle.zone_core.specs.Seats.{ScanSeat, EndSeat, audit_refusal}
 use Rattle.zone_core.specs.Shape.{HasShape}
 use Rattle.world_core.specs.World.{WorldState}
@@ -13,6 +14,7 @@ use Rattle.huge_core.specs.declared.collector.Collector.{Collector}
 use Rattle.huge_core.specs.declared.report.Report.{Report}
 use Rattle.huge_core.specs.declared.report.Stop.{Stop}
 use Rattle.huge_core.specs.declared.report.Stop.TheVariants as stop
+use Rattle.huge_core.specs.ByHand.{IsReservedByHand}
 use Rattle.huge_core.specs.Huge.{Huge}
 use Rattle.huge_core.specs.Reserving.{AreLeft, AreRounds, HasRun, IsGot}
 use Rattle.text_core.specs.declared.pool.PoolBlocks.{PoolBlocks}
@@ -36,7 +38,7 @@ told_more blocks told told_new block rest is =
     ap (λ (list : List ℕ). list ++ told_of blocks rest) is ∙ append_assoc told (told_as blocks block.frame ∷ []) (told_of blocks rest)
 
 -- the end seat after rounds is whole where it was whole before them
-whole_behind : (rounds : List Round) (scan scan_new : ScanSeat) (ends ends_new : EndSeat) → ends.parts ≡ 64 → AreRounds rounds scan scan_new ends ends_new → ends_new.parts ≡ 64
+pub whole_behind : (rounds : List Round) (scan scan_new : ScanSeat) (ends ends_new : EndSeat) → ends.parts ≡ 64 → AreRounds rounds scan scan_new ends ends_new → ends_new.parts ≡ 64
 whole_behind [] scan scan_new ends ends_new whole ran = ap (λ (e : EndSeat). e.parts) ran.1 ∙ whole
 whole_behind (latest ∷ earlier) scan scan_new ends ends_new whole ran = ran.3.whole
 
@@ -77,8 +79,9 @@ pub pool_done : (w : WorldState) (client : Client) (places count : ℕ) (blocks 
     → (report.stop ≡ stop.Enough) ↔ (length report.got.items ≡ count)
     → HasRun collector scan_old scan ends_old ends report
     → (64 ≤ ends.parts → ends.moved + ends.back ≡ scan.count → audit_refusal zone ends ≡ None)
+    → (IsAtRest zone_old → IsReservedByHand collector count zone_old zone report)
     → answer ≡ pool_reply blocks report → new ≡ left_by places client zone scan ends (audit_refusal zone ends) → IsPoolOn count blocks w places client answer new
-pool_done w client places count blocks zone_old zone scan_old scan ends_old ends collector report answer new same_zone same_scan same_ends whole four order kept shape got most enough ran passes told left =
+pool_done w client places count blocks zone_old zone scan_old scan ends_old ends collector report answer new same_zone same_scan same_ends whole four order kept shape got most enough ran passes exact told left =
     record {
       zone = zone;
       kept = kept;
@@ -94,6 +97,7 @@ pool_done w client places count blocks zone_old zone scan_old scan ends_old ends
       most = most;
       enough = enough;
       settled = pool_settles scan_old scan ends_old ends (audit_refusal zone ends) whole passes collector report ran;
+      by_hand = subst (λ z. IsAtRest z → IsReservedByHand collector count z zone report) same_zone exact;
       answer_is = told;
       left = left;
     }

@@ -1,7 +1,10 @@
 -- The steps of a machine with threads.
 use Rattle.std.proofs.Common.{◌≡◌, ℕ, ◌+◌, ◌≤◌, ◌⊎◌, Bool, true, false, List, [], ◌∷◌, refl, sym, ap, subst, ◌∙◌, inl, inr, arith, Option, Some, None, Result, Ok, Err}
-use Rattle.std.specs.Prelude.{IfOk, nat_eq}
+use Rattle.std.specs.Prelude.{IfOk, OnOk, nat_eq}
 use Rattle.std.proofs.lemmas.Bool.Decides.{nat_tests}
+use Rattle.journal_core.specs.Moves.{isolated}
+use Rattle.outcome_core.specs.ByHand.{by_hand}
+use Rattle.outcome_core.specs.Outcome.{IsSame}
 use Rattle.state_core.specs.declared.error.ZoneError.{ZoneError}
 use Rattle.state_core.specs.ZoneState.{ZoneState}
 use Rattle.zone_core.specs.Seats.{ScanSeat, EndSeat, audit_refusal}
@@ -11,7 +14,7 @@ use Rattle.round_core.specs.declared.error.RoundError.{RoundError}
 use Rattle.round_core.specs.declared.error.RoundError.TheVariants.{Memory, NoWorker, Broken, Stranger}
 use Rattle.round_core.specs.declared.round.Round.{Round}
 use Rattle.round_core.specs.Kept.{IsKept}
-use Rattle.round_core.specs.Rounds.{IsBroken, IsRefusedEarly, IsRound}
+use Rattle.round_core.specs.Rounds.{IsBroken, IsRefusedEarly, IsRound, stop_by_hand}
 use Rattle.text_core.specs.declared.command.Command.{Command}
 use Rattle.text_core.specs.declared.command.Command.TheVariants.{During}
 use Rattle.text_core.specs.declared.reply.Reply.{Reply}
@@ -19,7 +22,7 @@ use Rattle.text_core.specs.Grammar.{zone_of}
 use Rattle.client_core.specs.Receipts.{Client}
 use Rattle.play_core.specs.Script.{Answer, ClientLine, Numbered, command_of_line}
 use Rattle.machine_core.specs.Single.{IsStep, Single}
-use Rattle.script_core.specs.Threaded.{IsBlockFor, IsNothingRun, IsReplyStep, IsRoundBeside, IsRoundOver, IsStepAt, IsStepBy, IsThreadedStep, IsTurnBeside, IsUnstarted, IsWorkOn, IsWorkStep, Settles, Threaded, broken_reply, is_threaded, left_by}
+use Rattle.script_core.specs.Threaded.{ComesToByHand, IsBlockFor, IsNothingRun, IsReplyStep, IsRoundBeside, IsRoundOver, IsStepAt, IsStepBy, IsThreadedStep, IsTurnBeside, IsUnstarted, IsWorkOn, IsWorkStep, Settles, Threaded, broken_reply, is_threaded, left_by}
 use Rattle.machine_core.specs.Single.{is_at_rest, number_is_at_rest}
 
 -- a command that uses threads
@@ -113,6 +116,21 @@ module _ (scan_old scan : ScanSeat) (ends_old ends : EndSeat) (refusal : Option 
   settles (Err NoWorker) round early is = unbegun_passes (λ broken. no_worker_isnt_broken (early.broken.1 broken).0) (early.same (early.want tt))
   settles (Err Broken) round early is = absurd is
   settles (Err (Stranger serial)) round early is = absurd is
+
+-- what the clauses of a round over a zone that nobody else has say of the round by hand
+pub came_by_hand : (zone zone_new : ZoneState) (scan scan_new : ScanSeat) (ends ends_new : EndSeat) (result : Result Round RoundError) → OnOk result (IsSame (by_hand zone) zone_new)
+    → IfOk result (λ r. isolated zone.records + r.count ≡ isolated (by_hand zone).records) → IfOk result (λ r. r.back ≡ 0) → IfOk result (λ r. r.stopped ≡ stop_by_hand zone)
+    → ((IsBroken scan ends → ⊥) → scan_new.rounds ≡ scan.rounds → IsSame zone zone_new) → IfOk result (λ r. IsRound scan scan_new ends ends_new r) → IsRefusedEarly scan scan_new ends ends_new result
+    → ComesToByHand zone zone_new result
+came_by_hand zone zone_new scan scan_new ends ends_new (Ok r) exact count none_back stopped unbegun round early =
+    let sum = round.sum in
+    record { same = exact; count = omega (arith, count); moved = omega (arith, count, none_back, sum); none_back = none_back; stopped = stopped }
+came_by_hand zone zone_new scan scan_new ends ends_new (Err Memory) exact count none_back stopped unbegun round early =
+    λ want. unbegun (λ broken. memory_isnt_broken (early.broken.1 broken).0) (early.want tt)
+came_by_hand zone zone_new scan scan_new ends ends_new (Err NoWorker) exact count none_back stopped unbegun round early =
+    λ want. unbegun (λ broken. no_worker_isnt_broken (early.broken.1 broken).0) (early.want tt)
+came_by_hand zone zone_new scan scan_new ends ends_new (Err Broken) exact count none_back stopped unbegun round early = λ want. absurd want
+came_by_hand zone zone_new scan scan_new ends ends_new (Err (Stranger serial)) exact count none_back stopped unbegun round early = λ want. absurd want
 
 -- a round over the zone and the seats that a world was split into
 abbrev pub round_over : (w : WorldState) (zone_old zone : ZoneState) (scan_old scan : ScanSeat) (ends_old ends : EndSeat) (result : Result Round RoundError)

@@ -1,3 +1,4 @@
+pub mod ByHand
 pub mod Clients
 pub mod Threaded
 pub mod Status

@@ -1,5 +1,5 @@
 -- How a run stops before the end of its script, and what the writer for faults is told of it.
-use Rattle.std.specs.Prelude.{◌≡◌, ◌⊎◌, ℕ, Bool, IsTrue, List, ◌++◌, codes, decimal, take, Option, IfSome}
+use Rattle.std.specs.Prelude.{◌≡◌, ◌⊎◌, ℕ, Bool, IsTrue, List, ◌++◌, codes, decimal, take, Option, IfSome, None}
 use Rattle.std.specs.Io.KnownBytes.{Appends, Keeps}
 use Rattle.play_core.specs.declared.error.Fault.TheVariants.{Read, Write, Memory}
 use Rattle.play_core.specs.declared.error.RunError.{RunError}
@@ -7,6 +7,7 @@ use Rattle.machine_core.specs.Ends.{EndsIn}
 use Rattle.play_core.specs.Runs.{IsEnded}
 use Rattle.play_core.specs.ErrorNumber.{fault_number}
 use Rattle.play_core.specs.Streams.{CannotReadOn}
+use Rattle.script_core.specs.ByHand.{IsAloneScript, IsByHandStep, OpensByHand, To}
 use Rattle.script_core.specs.Threaded.{AsksMemory, IsThreadedStep, IsUnthreadedScript, threaded_at_first}
 
 -- the line that says which fault ended the run, and at which line of the script
@@ -36,6 +37,8 @@ pub record Stops (places : ℕ) (left left_new old new : Option (List ℕ)) (rea
   pub ends : IfSome left (λ input. IsEnded IsThreadedStep AsksMemory (threaded_at_first places) error.fault input error left left_new old new)
   -- a script without rounds, pools and blocks was answered as on one thread
   pub alone : IfSome left (λ input. IsUnthreadedScript input → EndsIn error.fault places input error left left_new old new)
+  -- and one without blocks as where each round is made by hand
+  pub by_hand : IfSome left (λ input. IsAloneScript input → IsEnded (IsByHandStep places) OpensByHand (To None) error.fault input error left left_new old new)
   pub unread : error.fault ≡ Read → CannotReadOn failed reads reads_new left
   pub unwritten : error.fault ≡ Write → IsTrue stuck
   pub tells : Tells error told told_new told_stuck

@@ -4,6 +4,9 @@ use Rattle.std.specs.Prelude.{◌≡◌, ◌↔◌, ◌++◌, ◌⊎◌, ℕ, �
 use Rattle.std.specs.List.{AllByRecursion}
 use Rattle.state_core.specs.declared.error.ZoneError.{ZoneError}
 use Rattle.state_core.specs.ZoneState.{ZoneState}
+use Rattle.outcome_core.specs.Alone.{IsAtRest}
+use Rattle.outcome_core.specs.ByHand.{by_hand}
+use Rattle.outcome_core.specs.Outcome.{IsSame}
 use Rattle.zone_core.specs.Seats.{ScanSeat, EndSeat, audit_refusal}
 use Rattle.zone_core.specs.Shape.{HasShape}
 use Rattle.world_core.specs.World.{WorldState, world_closed}
@@ -11,28 +14,24 @@ use Rattle.huge_core.specs.declared.collector.Collector.{Collector}
 use Rattle.huge_core.specs.declared.report.Report.{Report}
 use Rattle.huge_core.specs.declared.report.Stop.{Stop as PoolStop}
 use Rattle.huge_core.specs.declared.report.Stop.TheVariants as pool_stop
+use Rattle.huge_core.specs.ByHand.{IsReservedByHand}
 use Rattle.huge_core.specs.Huge.{Huge}
 use Rattle.huge_core.specs.Reserving.{HasRun, IsGot}
 use Rattle.round_core.specs.declared.error.RoundError.{RoundError}
 use Rattle.round_core.specs.declared.round.Round.{Round}
-use Rattle.round_core.specs.declared.round.Stop.{Stop}
-use Rattle.round_core.specs.declared.round.Stop.TheVariants as stop
 use Rattle.round_core.specs.Errors.{number_of}
 use Rattle.round_core.specs.Kept.{IsKept}
-use Rattle.round_core.specs.Rounds.{IsRefusedEarly, IsRound, IsWant}
+use Rattle.round_core.specs.Rounds.{IsRefusedEarly, IsRound, IsWant, stop_by_hand}
 use Rattle.text_core.specs.declared.command.Command.{Command}
 use Rattle.text_core.specs.declared.command.Command.TheVariants.{Open, On, Compact, Pool, During, Profile2, OutOfRange}
 use Rattle.text_core.specs.declared.pool.PoolBlocks.{PoolBlocks}
-use Rattle.text_core.specs.declared.pool.PoolStopped.{PoolStopped}
-use Rattle.text_core.specs.declared.pool.PoolStopped.TheVariants as pool_stopped
 use Rattle.text_core.specs.Pool.{pool_order, told_as}
 use Rattle.text_core.specs.declared.reply.Reply.{Reply}
 use Rattle.text_core.specs.declared.reply.Reply.TheVariants as reply
-use Rattle.text_core.specs.declared.reply.Stopped.{Stopped}
-use Rattle.text_core.specs.declared.reply.Stopped.TheVariants as stopped
 use Rattle.text_core.specs.Grammar.{zone_of}
 use Rattle.client_core.specs.Receipts.{Agrees, Client}
 use Rattle.script_core.specs.Clients.{AreClientAnswers}
+use Rattle.script_laws.specs.ByHand.{count_by_hand, pool_stopped_as, stopped_as}
 use Rattle.play_core.specs.Script.{Answer, ClientLine, Numbered, commands_of}
 use Rattle.machine_core.specs.Single.{IsStep, Opens, Single, is_at_rest, number_is_at_rest, single_at_first}
 
@@ -56,11 +55,6 @@ abbrev pub is_threaded : Command → Option WorldState → Bool
 is_threaded (Compact zone) world = is_at_rest zone world
 is_threaded (Pool zone count blocks) world = is_at_rest zone world
 is_threaded _ world = false
-
--- why a round stopped, for its reply
-abbrev pub stopped_as : Stop → Stopped
-stopped_as stop.Met = stopped.Met
-stopped_as stop.JournalFull = stopped.JournalFull
 
 -- the reply to a round
 abbrev pub round_reply : Result Round RoundError → Reply
@@ -98,19 +92,25 @@ pub record IsRoundOver (w : WorldState) : Type 0 where
 abbrev pub left_behind : {w : WorldState} → ℕ → Client → IsRoundOver w → Threaded
 left_behind places client over = left_by places client over.zone over.scan over.ends (audit_refusal over.zone over.ends)
 
+-- a round over a zone did what the round by hand does
+pub record IsDoneByHand (z z_new : ZoneState) (r : Round) : Type 0 where
+  pub same : IsSame (by_hand z) z_new
+  pub count : r.count ≡ count_by_hand z
+  pub moved : r.moved ≡ count_by_hand z
+  pub none_back : r.back ≡ 0
+  pub stopped : r.stopped ≡ stop_by_hand z
+
+-- a round came to what the round by hand comes to, and where memory or a thread was wanting, the zone is as before
+abbrev pub ComesToByHand : ZoneState → ZoneState → Result Round RoundError → Type 0
+ComesToByHand z z_new (Ok r) = IsDoneByHand z z_new r
+ComesToByHand z z_new (Err error) = IsWant error → IsSame z z_new
+
 -- a round without a client: its reply, and the machine after it
 pub record IsRoundOn (w : WorldState) (places : ℕ) (client : Client) (answer : Reply) (new : Threaded) : Type 0 where
   pub over : IsRoundOver w
+  pub by_hand : ComesToByHand w.zone over.zone over.result
   pub answer_is : answer ≡ round_reply over.result
   pub left : new ≡ left_behind places client over
-
--- why a pool stopped, for its reply
-abbrev pub pool_stopped_as : PoolStop → PoolStopped
-pool_stopped_as pool_stop.Enough = pool_stopped.Enough
-pool_stopped_as pool_stop.NoBlock = pool_stopped.NoBlock
-pool_stopped_as pool_stop.Rounds = pool_stopped.Rounds
-pool_stopped_as pool_stop.JournalFull = pool_stopped.JournalFull
-pool_stopped_as (pool_stop.Refused error) = pool_stopped.Refused (number_of error)
 
 -- the numbers that name blocks, in the order in which they were got
 abbrev pub told_of : PoolBlocks → List (Option Huge) → List ℕ
@@ -147,6 +147,8 @@ pub record IsPoolOn (count : ℕ) (blocks : PoolBlocks) (w : WorldState) (places
   pub most : length report.got.items ≤ count
   pub enough : (report.stop ≡ pool_stop.Enough) ↔ (length report.got.items ≡ count)
   pub settled : SettlesAt report.stop report.rounds → audit_refusal zone ends ≡ None
+  -- and it did what a reservation by hand does
+  pub by_hand : IsAtRest w.zone → IsReservedByHand collector count w.zone zone report
   pub answer_is : answer ≡ pool_reply blocks report
   pub left : new ≡ left_by places client zone scan ends (audit_refusal zone ends)
 

@@ -8,6 +8,7 @@ ghost use Rattle.play_core.specs.Runs.{IsAnswered, IsEnded, IsTotal};
 ghost use Rattle.play_core.specs.Script.{command_in_block, fault_of};
 ghost use Rattle.machine_core.specs.Replies.{output_of, totals_of};
 ghost use Rattle.play_core.specs.Streams.{CannotReadOn};
+ghost use Rattle.script_core.specs.ByHand.{IsAloneScript, IsByHandStep, OpensByHand, To};
 ghost use Rattle.script_core.specs.Threaded.{AsksMemory, IsBlockFor, IsStepBy, IsThreadedStep, IsUnthreadedScript, is_threaded, threaded_at_first};
 
 use crate::answering::Answering;
@@ -24,9 +25,10 @@ use std::thread::Threads;
 use text_core::{BlockCount, PoolBlocks};
 use zone_core::Blanks;
 
-/// Runs a script as `run` does, but its rounds and pools on threads, and the calls of a client during the round of a block. These may
-/// be answered in more than one way, so a script is answered by replies that its machine may give. A script without them has exactly
-/// the replies that it has by `run`.
+/// Runs a script as `run` does, but its rounds and pools on threads, and the calls of a client during the round of a block. These calls
+/// may be answered in more than one way, so a script with blocks is answered by replies that its machine may give. The replies to a
+/// script without blocks are a function of its bytes, up to a round or a pool that was refused 31, 32, 33 or 34: the replies that it has
+/// where each round is made by hand.
 pub fn run_on_threads<R: Input, W: Output, H: Threads + Wait + Sync>(
     rt: &H,
     alloc: Global,
@@ -59,6 +61,14 @@ pub fn run_on_threads<R: Input, W: Output, H: Threads + Wait + Sync>(
         IsUnthreadedScript input → Appends (W.contents writer.old) (W.contents writer.new) (output_of options.journal input))) }
     ensures ends { IfErr result (λ error. IfSome (R.remaining reader.old) (λ input.
         IsUnthreadedScript input → EndsIn error.fault options.journal input error
+        (R.remaining reader.old) (R.remaining reader.new) (W.contents writer.old) (W.contents writer.new))) }
+
+    // A script without blocks is answered as by the machine that makes its rounds by hand, up to the first round that failed and the
+    // first pool that was refused a round.
+    ensures by_hand { OnOk result (IfSome (R.remaining reader.old) (λ input.
+        IsAloneScript input → IsAnswered (IsByHandStep options.journal) (To None) input (W.contents writer.old) (W.contents writer.new))) }
+    ensures ends_by_hand { IfErr result (λ error. IfSome (R.remaining reader.old) (λ input.
+        IsAloneScript input → IsEnded (IsByHandStep options.journal) OpensByHand (To None) error.fault input error
         (R.remaining reader.old) (R.remaining reader.new) (W.contents writer.old) (W.contents writer.new))) }
 {
     run_watched(rt, alloc, reader, writer, options, &mut NoWatch)

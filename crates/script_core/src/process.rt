@@ -7,6 +7,7 @@ ghost use Rattle.script_core.specs.Stops.{LacksMemory, Stops};
 ghost use Rattle.play_core.specs.Runs.{IsAnswered};
 ghost use Rattle.play_core.specs.Script.{fault_of};
 ghost use Rattle.machine_core.specs.Replies.{output_of};
+ghost use Rattle.script_core.specs.ByHand.{IsAloneScript, IsByHandStep, To};
 ghost use Rattle.script_core.specs.Threaded.{IsThreadedStep, IsUnthreadedScript, threaded_at_first};
 
 use crate::on_threads::run_on_threads;
@@ -63,6 +64,10 @@ pub fn program<R: Input, W: Output, F: Output, H: Threads + Wait + Sync>(
     ensures replies { IfOk words (λ args. refusal_of (texts_of args) ≡ [] → result ≡ 0
         → IfSome (R.remaining reader.old) (λ input. IsUnthreadedScript input → Appends (W.contents writer.old) (W.contents writer.new)
         (output_of (journal_of (texts_of args)) input))) }
+    // One without blocks was answered as by the machine that makes its rounds by hand.
+    ensures by_hand { IfOk words (λ args. refusal_of (texts_of args) ≡ [] → result ≡ 0
+        → IfSome (R.remaining reader.old) (λ input. IsAloneScript input → IsAnswered (IsByHandStep (journal_of (texts_of args))) (To None) input
+        (W.contents writer.old) (W.contents writer.new))) }
     // There was no memory to read the words, or the run stopped.
     ensures fault { IfOk words (λ args. result ≡ 1 → LacksMemory result (W.contents writer.old) (W.contents writer.new)
         (F.contents faults.old) (F.contents faults.new) (F.stuck faults.new) ⊎ Stops (journal_of (texts_of args))
@@ -91,6 +96,8 @@ fn play<R: Input, W: Output, F: Output, H: Threads + Wait + Sync>(
         IsAnswered IsThreadedStep (threaded_at_first options.journal) input (W.contents writer.old) (W.contents writer.new)) }
     ensures replies { result ≡ 0 → IfSome (R.remaining reader.old) (λ input.
         IsUnthreadedScript input → Appends (W.contents writer.old) (W.contents writer.new) (output_of options.journal input)) }
+    ensures by_hand { result ≡ 0 → IfSome (R.remaining reader.old) (λ input.
+        IsAloneScript input → IsAnswered (IsByHandStep options.journal) (To None) input (W.contents writer.old) (W.contents writer.new)) }
     ensures fault { result ≡ 1 → Stops options.journal
         (R.remaining reader.old) (R.remaining reader.new) (W.contents writer.old) (W.contents writer.new)
         (R.reads reader.old) (R.reads reader.new) (R.failed reader.new) (W.stuck writer.new)

@@ -6,7 +6,8 @@ ghost use Rattle.zone_core.specs.Books.{AreFor};
 ghost use Rattle.zone_core.specs.Seats.{audit_refusal};
 ghost use Rattle.zone_core.specs.Shape.{HasShape};
 ghost use Rattle.play_core.specs.Script.{command_in_block};
-ghost use Rattle.script_core.specs.Threaded.{IsBlockFor, IsNothingRun, IsPoolOn, IsRoundBeside, IsRoundOn, IsSettledReply, IsStepBy, IsThreadedStep, IsTurnBeside, IsUnstarted, broken_refusal, broken_reply, is_threaded, left_by, pool_reply, pool_stopped_as, round_reply, stopped_as, threaded_at_first, told_of};
+ghost use Rattle.script_core.specs.Threaded.{ComesToByHand, IsBlockFor, IsNothingRun, IsPoolOn, IsRoundBeside, IsRoundOn, IsSettledReply, IsStepBy, IsThreadedStep, IsTurnBeside, IsUnstarted, broken_refusal, broken_reply, is_threaded, left_by, pool_reply, round_reply, threaded_at_first, told_of};
+ghost use Rattle.script_laws.specs.ByHand.{pool_stopped_as, stopped_as};
 
 use crate::alone::Alone;
 use crate::beside::{Both, Turn, compact_beside};
@@ -244,6 +245,7 @@ impl<I: Ledger + Send + Sync, N: Ledger, M: Ledger + Send + Sync, B: Ledger + Se
         ensures shape { HasShape zone.number zone.blocks result.0 }
         ensures round { IfOk result.1 (λ r. IsRound seats.old.scan seats.new.scan seats.old.ends seats.new.ends r) }
         ensures early { IsRefusedEarly seats.old.scan seats.new.scan seats.old.ends seats.new.ends result.1 }
+        ensures by_hand { ComesToByHand zone result.0 result.1 }
     {
         compact_alone(
             rt,

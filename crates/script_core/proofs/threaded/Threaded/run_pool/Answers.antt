@@ -1,6 +1,8 @@
 use Rattle.std.proofs.Common.{◌≡◌, ◌∙◌, ℕ, length, subst, arith}
 use Rattle.std.specs.Prelude.{◌↔◌}
+use Rattle.huge_core.specs.ByHand.{IsReservedByHand}
 use Rattle.huge_core.specs.declared.report.Stop.TheVariants as stop
+use Rattle.outcome_core.specs.Alone.{IsAtRest}
 use Rattle.script_core.proofs.Pools.{pool_done}
 use Rattle.script_core.proofs.threaded.Threaded.run_pool.Goals as goal
 
@@ -17,4 +19,6 @@ returns g c =
     collector.ensures.rounds (collector.ensures.order ∙ c.order.ensures)
     reserved.kept reserved.shape reserved.got (omega (arith, reserved.most, c.get-n.ensures.value))
     (subst (λ (k : ℕ). (report.stop ≡ stop.Enough) ↔ (length report.got.items ≡ k)) c.get-n.ensures.value reserved.enough)
-    reserved.rounds c.take_back.ensures.exact c.pool_reply.ensures c.take_back.ensures.left
+    reserved.rounds c.take_back.ensures.exact
+    (subst (λ (k : ℕ). IsAtRest c.parts_of-zone.result.0 → IsReservedByHand collector.result k c.parts_of-zone.result.0 c.reserve_alone-zone.result.0 report) c.get-n.ensures.value reserved.exact)
+    c.pool_reply.ensures c.take_back.ensures.left

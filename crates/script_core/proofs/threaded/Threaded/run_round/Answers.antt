@@ -1,3 +1,5 @@
+use Rattle.std.proofs.Common.{subst}
+use Rattle.script_core.specs.Threaded.{ComesToByHand}
 use Rattle.script_core.proofs.Rounds.{round_over}
 use Rattle.script_core.proofs.threaded.Threaded.run_round.Goals as goal
 
@@ -9,6 +11,7 @@ returns g c =
           c.parts_of-zone.ensures.zone c.parts_of-zone.ensures.scan c.parts_of-zone.ensures.ends c.parts_of-zone.ensures.whole
           c.compact-zone.ensures.kept c.compact-zone.ensures.shape c.compact-zone.ensures.round c.compact-zone.ensures.early
           c.take_back.ensures.exact;
+      by_hand = subst (λ z. ComesToByHand z c.compact-zone.result.0 c.compact-zone.result.1) c.parts_of-zone.ensures.zone c.compact-zone.ensures.by_hand;
       answer_is = c.reply_to.ensures;
       left = c.take_back.ensures.left;
     }
