@@ -1,3 +1,4 @@
 pub mod Same
 pub mod Calls
 pub mod Rounds
+pub mod Moves

@@ -47,7 +47,7 @@ module _ (z w : ZoneState) (same : IsSame z w) where
   place_same a = λ i. option_and_then (map.get (same.placement i)) (page_same a i)
 
   -- whether a round that begins now is calm
-  can_move_same : (page : ℕ) → can_move z page ≡ can_move w page
+  pub can_move_same : (page : ℕ) → can_move z page ≡ can_move w page
   can_move_same page = λ i. nat_eq (pins_same page i) 0 && not (set.contains (same.unmovable i) page)
 
   stays_same : (o : Option ℕ) → stays_if_some z o ≡ stays_if_some w o

@@ -1,14 +1,20 @@
 ghost use Rattle.std.specs.Prelude.{◌≡◌, ℕ, Bool};
 ghost use Rattle.frame_core.specs.declared.place.Address.{Address};
+ghost use Rattle.journal_core.specs.declared.record.Cause.{Cause};
 ghost use Rattle.outcome_core.specs.Alone.{IsAtRest};
 ghost use Rattle.outcome_core.specs.ByHand.{by_hand};
 ghost use Rattle.outcome_core.specs.Outcome.{IsSame};
+ghost use Rattle.outcome_laws.specs.Fingers.{IsSameInRound};
 ghost use Rattle.state_core.specs.Access.{access_refusal, value_at, loaded, stored};
+ghost use Rattle.state_core.specs.Ending.{ended_as, committed, put_back_to_source};
 ghost use Rattle.state_core.specs.HandingOut.{lowest_run, take_order_refusal, give_order_refusal, block_taken, block_given};
+ghost use Rattle.state_core.specs.Isolating.{isolate_refusal, next_state};
 ghost use Rattle.state_core.specs.Looking.{look_of, info_of};
 ghost use Rattle.state_core.specs.Mapping.{map_refusal, map_at_refusal, mapped};
 ghost use Rattle.state_core.specs.Marking.{mark_refusal, unmark_refusal, marked_of, block_marked, block_unmarked};
+ghost use Rattle.state_core.specs.Pairs.{next_pair};
 ghost use Rattle.state_core.specs.Pinning.{pin_refusal, unpin_refusal, pinned, unpinned};
+ghost use Rattle.state_core.specs.Rounds.{round_begun};
 ghost use Rattle.state_core.specs.Sharing.{share_refusal, shared};
 ghost use Rattle.state_core.specs.Unmapping.{unmap_refusal, unmapped};
 ghost use Rattle.state_core.specs.ZoneState.{ZoneState, lowest_free_frame};
@@ -76,4 +82,15 @@ pub fn looks_agree()
 /// A round by hand.
 pub fn rounds_agree()
     ensures { (z w : ZoneState) → IsAtRest z → IsAtRest w → IsSame z w → IsSame (by_hand z) (by_hand w) }
+{}
+
+/// What a round by hand calls: it begins, isolates pages, and ends their moves.
+pub fn moves_agree()
+    ensures begun { (z w : ZoneState) → IsSame z w → IsSameInRound (round_begun z) (round_begun w) }
+    ensures refused { (z w : ZoneState) → IsSame z w → isolate_refusal z ≡ isolate_refusal w }
+    ensures pair { (z w : ZoneState) → IsSameInRound z w → next_pair z ≡ next_pair w }
+    ensures isolated { (z w : ZoneState) → IsSameInRound z w → IsSameInRound (next_state z (next_pair z)) (next_state w (next_pair w)) }
+    ensures ended { (z w : ZoneState) → IsSame z w → (page : ℕ) → ended_as z page ≡ ended_as w page }
+    ensures committed { (z w : ZoneState) → IsSameInRound z w → (serial page : ℕ) → IsSameInRound (committed z serial page) (committed w serial page) }
+    ensures put_back { (z w : ZoneState) → IsSameInRound z w → (serial page : ℕ) (cause : Cause) → IsSameInRound (put_back_to_source z serial page cause) (put_back_to_source w serial page cause) }
 {}

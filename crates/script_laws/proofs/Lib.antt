@@ -9,3 +9,4 @@ pub mod Replies
 pub mod Runs
 pub mod Steps
 pub mod ValuesStored
+pub mod Worlds

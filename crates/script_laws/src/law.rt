@@ -1,9 +1,13 @@
 ghost use Rattle.std.specs.Prelude.{◌≡◌, ℕ, ◌<◌, ◌≤◌, [], List, None};
+ghost use Rattle.machine_core.specs.Machine.{call_step};
 ghost use Rattle.machine_core.specs.Replies.{answers_of};
 ghost use Rattle.play_core.specs.Script.{commands_of};
 ghost use Rattle.script_laws.specs.Counts.{CountsAddUp};
 ghost use Rattle.script_laws.specs.Profile2.{IsSameInProfile2, fault_in_profile_1};
 ghost use Rattle.script_laws.specs.Values.{ValuesAreStored};
+ghost use Rattle.script_laws.specs.Worlds.{IsSameWorld};
+ghost use Rattle.text_core.specs.declared.command.Call.{Call};
+ghost use Rattle.world_core.specs.World.{WorldState};
 
 /// Each value in a reply is the last one that was stored before it, through whatever address, in that word of that page
 /// since the page was mapped, or 0 if there is none.
@@ -20,4 +24,9 @@ pub fn counts_add_up()
 /// for the number of frames handed out at the end of the replies to `info`.
 pub fn profile_2_keeps_replies()
     ensures { (places : ℕ) (input : List ℕ) → fault_in_profile_1 input ≡ None → IsSameInProfile2 places input }
+{}
+
+/// Worlds that are the same but for the order in which moves ended answer each call alike, refusals too, and are still the same after it.
+pub fn worlds_agree()
+    ensures { (v w : WorldState) → IsSameWorld v w → (c : Call) → ((call_step v c).reply ≡ (call_step w c).reply) × IsSameWorld (call_step v c).world (call_step w c).world }
 {}

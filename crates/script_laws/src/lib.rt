@@ -6,4 +6,4 @@
 
 mod law;
 
-pub use law::{counts_add_up, profile_2_keeps_replies, values_are_stored};
+pub use law::{counts_add_up, profile_2_keeps_replies, values_are_stored, worlds_agree};
