@@ -7,7 +7,7 @@ use Rattle.outcome_laws.specs.Fingers.{IsSameInRound}
 -- the worlds are the same but for the order in which moves ended, and for the seats, of which no reply tells
 pub record IsSameWorld (v w : WorldState) : Type 0 where
   pub zone : IsSame v.zone w.zone
-  pub open : v.is_open ≡ w.is_open
+  pub is_open : v.is_open ≡ w.is_open
   -- while a hand round is open the fingers stand alike
   pub in_round : v.is_open ≡ true → IsSameInRound v.zone w.zone
   pub waiting : v.waiting ≡ w.waiting
