@@ -2,7 +2,8 @@
 use Rattle.std.proofs.Common.{◌≡◌, ℕ, ◌*◌, ◌<◌, ◌≤◌, Bool, true, false, List, [], ◌∷◌, refl, sym, ap, subst, ◌∙◌, Option, Some, None}
 use Rattle.std.specs.Prelude.{nat_eq, if◌then◌else◌}
 use Rattle.std.specs.List.{AllByRecursion}
-use Rattle.world_core.specs.World.{IsOrderly, WorldState}
+use Rattle.std.specs.Option.{option_or}
+use Rattle.world_core.specs.World.{IsOrderly, WorldState, world_opened}
 use Rattle.text_core.specs.declared.command.Call.{Call}
 use Rattle.text_core.specs.declared.command.Call.TheVariants.{Info, InfoWithHeld}
 use Rattle.text_core.specs.declared.command.Calls.{Calls}
@@ -12,15 +13,17 @@ use Rattle.text_core.specs.declared.command.Command.TheVariants.{Open, On, Compa
 use Rattle.text_core.specs.declared.reply.Reply.{Reply}
 use Rattle.text_core.specs.declared.reply.Reply.TheVariants as reply
 use Rattle.text_core.proofs.Ranges.{IsInRange}
-use Rattle.machine_core.specs.Machine.{answered, call_step, calls_step, declined, pool_step, step, during_on}
-use Rattle.play_core.specs.Script.{Numbered, commands_of, parts_of, ClientLine, by}
-use Rattle.machine_core.specs.Replies.{answers_from, answers_of}
-use Rattle.script_laws.specs.Counts.{AddsUpTo, CountsAddUp, frames_of}
+use Rattle.machine_core.specs.Machine.{Step, answered, call_step, calls_step, declined, step, during_on}
+use Rattle.play_core.specs.Script.{Numbered, commands_of, parts_of, by}
+use Rattle.machine_core.specs.Replies.{answers_of}
+use Rattle.script_laws.specs.ByHand.{answers_by_hand, step_by_hand}
+use Rattle.script_laws.specs.Counts.{AddsUpTo, CountsAddUp, frames_in, frames_of}
 use Rattle.text_core.specs.Grammar.{zone_of}
+use Rattle.script_laws.proofs.ByHand.{machine_by_hand}
 use Rattle.script_laws.proofs.CommandsInRange.{AreInRange, commands_ranged}
-use Rattle.script_laws.proofs.Pools.{pool_tells}
+use Rattle.script_laws.proofs.Machines.{Goes, IsMachine, answers_by, answers_to, is_of_rounds, runs_rounds}
 use Rattle.script_laws.proofs.Replies.{has_counts, plain_call, plain_series}
-use Rattle.script_laws.proofs.Runs.{Goes, goes, opened_orderly}
+use Rattle.script_laws.proofs.Runs.{goes_by, one_thread, opened_orderly}
 use Rattle.text_core.specs.declared.profile.Profile.TheVariants.{Untold}
 
 adds_plain : (frames : Option ℕ) (r : Reply) → has_counts r ≡ false → AddsUpTo frames r
@@ -37,51 +40,82 @@ adds_calls : (w : WorldState) → IsOrderly w → (c : Calls) → AddsUpTo (Some
 adds_calls w o (One c) = adds_call w o c
 adds_calls w o (SeriesOf s) = adds_plain (Some (512 * w.zone.blocks)) _ (plain_series s.call s.space s.first s.step 0 s.count w)
 
-adds_step : (places : ℕ) (w : WorldState) → IsOrderly w → (c : Command) → AddsUpTo (Some (512 * w.zone.blocks)) (step places (Some w) c).reply
-adds_step places w o OutOfRange = tt
-adds_step places w o Profile2 = tt
-adds_step places w o (Open zone blocks) = tt
-adds_step places w o (Compact zone) = tt
-adds_step places w o (Pool zone count blocks) = by_number (nat_eq zone w.zone.number) where
-  by_number : (b : Bool) → AddsUpTo (Some (512 * w.zone.blocks)) (if b then answered (pool_step w count blocks) else declined 43 (Some w)).reply
-  by_number true = adds_plain (Some (512 * w.zone.blocks)) (pool_step w count blocks).reply (pool_tells blocks has_counts (λ got why. refl) refl w count)
-  by_number false = tt
-adds_step places w o (During number) = by_zone (zone_of number) where
+adds_of_rounds : (frames : Option ℕ) (r : Reply) → is_of_rounds r ≡ true → AddsUpTo frames r
+adds_of_rounds frames (reply.Info i) h = cc
+adds_of_rounds frames (reply.InfoWithHeld i) h = cc
+adds_of_rounds frames _ h = tt
+
+adds_other : (places : ℕ) (w : WorldState) → IsOrderly w → (c : Command) → runs_rounds c ≡ false → AddsUpTo (Some (512 * w.zone.blocks)) (step places (Some w) c).reply
+adds_other places w o OutOfRange h = tt
+adds_other places w o Profile2 h = tt
+adds_other places w o (Open zone blocks) h = tt
+adds_other places w o (Compact zone) h = cc
+adds_other places w o (Pool zone count blocks) h = cc
+adds_other places w o (During number) h = by_zone (zone_of number) where
   by_zone : (z : Option ℕ) → AddsUpTo (Some (512 * w.zone.blocks)) (during_on z (Some w)).reply
   by_zone None = tt
   by_zone (Some zone) = tt
-adds_step places w o (On zone calls) = by_number (nat_eq zone w.zone.number) where
+adds_other places w o (On zone calls) h = by_number (nat_eq zone w.zone.number) where
   by_number : (b : Bool) → AddsUpTo (Some (512 * w.zone.blocks)) (if b then answered (calls_step w calls) else declined 43 (Some w)).reply
   by_number true = adds_calls w o calls
   by_number false = tt
 
--- the counts of each reply add up where a zone is open
-open_adds : (places : ℕ) (frames : Option ℕ) (commands : List Numbered) → AreInRange commands → (w : WorldState) → IsOrderly w → frames ≡ Some (512 * w.zone.blocks) → AllByRecursion (λ a. AddsUpTo frames a.reply) (answers_from places (Some w) commands)
-open_adds places frames [] ranged w o is = tt
-open_adds places frames (c ∷ commands) ranged w o is =
-    let on : Goes places w c.command = goes places w o c.command ranged.0 in (
-      subst (λ (f : Option ℕ). AddsUpTo f (step places (Some w) c.command).reply) (sym is) (adds_step places w o c.command),
-      subst (λ (v : Option WorldState). AllByRecursion (λ a. AddsUpTo frames a.reply) (answers_from places v commands)) (sym on.world)
-          (open_adds places frames commands ranged.1 on.after on.keeps.orderly (is ∙ ap (λ n. Some (512 * n)) (sym on.keeps.blocks))),
-    )
+-- in any machine
+module _ (places : ℕ) (steps : Option WorldState → Command → Step) (m : IsMachine places steps) where
+  adds_step : (w : WorldState) → IsOrderly w → (c : Command) → AddsUpTo (Some (512 * w.zone.blocks)) (steps (Some w) c).reply
+  adds_step w o c = by_kind (runs_rounds c) refl where
+    by_kind : (b : Bool) → runs_rounds c ≡ b → AddsUpTo (Some (512 * w.zone.blocks)) (steps (Some w) c).reply
+    by_kind true e = adds_of_rounds (Some (512 * w.zone.blocks)) (steps (Some w) c).reply (m.replies (Some w) c e)
+    by_kind false e = subst (λ (s : Step). AddsUpTo (Some (512 * w.zone.blocks)) s.reply) (sym (m.other (Some w) c e)) (adds_other places w o c e)
 
--- the counts of each reply add up from the first command of a script on
-adds_first : (places : ℕ) → (0 < places) × (places ≤ 65536) → (line : ℕ) (clients : List ClientLine) (command : Command) (commands : List Numbered) → IsInRange command → AreInRange commands → CountsAddUp commands (answers_from places None commands)
-    → CountsAddUp (record { line = line; command = command; clients = clients } ∷ commands) (answers_from places None (record { line = line; command = command; clients = clients } ∷ commands))
-adds_first places range line clients OutOfRange commands r ranged rest = (tt, rest)
-adds_first places range line clients Profile2 commands r ranged rest = (tt, rest)
-adds_first places range line clients (On zone calls) commands r ranged rest = (tt, rest)
-adds_first places range line clients (Pool zone count blocks) commands r ranged rest = (tt, rest)
-adds_first places range line clients (Compact zone) commands r ranged rest = (tt, rest)
-adds_first places range line clients (During number) commands r ranged rest = by_zone (zone_of number) where
-  by_zone : (z : Option ℕ) → AddsUpTo (frames_of commands) (during_on z None).reply × AllByRecursion (λ a. AddsUpTo (frames_of commands) a.reply) (answers_from places (during_on z None).world commands)
-  by_zone None = (tt, rest)
-  by_zone (Some zone) = (tt, rest)
-adds_first places range line clients (Open zone blocks) commands r ranged rest = (tt, open_adds places (Some (512 * blocks)) commands ranged _ (opened_orderly zone blocks places r range) refl)
+  -- the counts of each reply add up from a world on
+  abbrev AddOn : Option ℕ → List Numbered → Option WorldState → Type 0
+  AddOn frames commands w = AllByRecursion (λ a. AddsUpTo frames a.reply) (answers_by steps w commands)
 
-adds : (places : ℕ) → (0 < places) × (places ≤ 65536) → (commands : List Numbered) → AreInRange commands → CountsAddUp commands (answers_from places None commands)
-adds places range [] ranged = tt
-adds places range (c ∷ commands) ranged = adds_first places range c.line c.clients c.command commands ranged.0 ranged.1 (adds places range commands ranged.1)
+  -- and so they do from a step on
+  abbrev AddFrom : Option ℕ → List Numbered → Step → Type 0
+  AddFrom frames commands s = AddsUpTo frames s.reply × AddOn frames commands s.world
+
+  -- where a zone is open
+  open_adds : (frames : Option ℕ) (commands : List Numbered) → AreInRange commands → (w : WorldState) → IsOrderly w → frames ≡ Some (512 * w.zone.blocks) → AddOn frames commands (Some w)
+  open_adds frames [] ranged w o is = tt
+  open_adds frames (c ∷ commands) ranged w o is =
+      let on : Goes w (steps (Some w) c.command) = goes_by places steps m w o c.command ranged.0 in (
+        subst (λ (f : Option ℕ). AddsUpTo f (steps (Some w) c.command).reply) (sym is) (adds_step w o c.command),
+        subst (AddOn frames commands) (sym on.world)
+            (open_adds frames commands ranged.1 on.after on.keeps.orderly (is ∙ ap (λ n. Some (512 * n)) (sym on.keeps.blocks))),
+      )
+
+  -- where none is open
+  other_adds : (frames : Option ℕ) (commands : List Numbered) (c : Command) → runs_rounds c ≡ false → AddFrom frames commands (step places None c) → AddFrom frames commands (steps None c)
+  other_adds frames commands c h adds = subst (AddFrom frames commands) (sym (m.other None c h)) adds
+
+  rounds_add : (frames : Option ℕ) (commands : List Numbered) (c : Command) → runs_rounds c ≡ true → AddOn frames commands None → AddFrom frames commands (steps None c)
+  rounds_add frames commands c h rest = (adds_of_rounds frames (steps None c).reply (m.replies None c h), subst (AddOn frames commands) (sym (m.closed c h)) rest)
+
+  adds_first : (0 < places) × (places ≤ 65536) → (c : Command) (commands : List Numbered) → IsInRange c → AreInRange commands → CountsAddUp commands (answers_by steps None commands)
+      → AddFrom (option_or (frames_in c) (frames_of commands)) commands (steps None c)
+  adds_first range OutOfRange commands r ranged rest = other_adds (frames_of commands) commands OutOfRange refl (tt, rest)
+  adds_first range Profile2 commands r ranged rest = other_adds (frames_of commands) commands Profile2 refl (tt, rest)
+  adds_first range (On zone calls) commands r ranged rest = other_adds (frames_of commands) commands (On zone calls) refl (tt, rest)
+  adds_first range (Pool zone count blocks) commands r ranged rest = rounds_add (frames_of commands) commands (Pool zone count blocks) refl rest
+  adds_first range (Compact zone) commands r ranged rest = rounds_add (frames_of commands) commands (Compact zone) refl rest
+  adds_first range (During number) commands r ranged rest = other_adds (frames_of commands) commands (During number) refl (by_zone (zone_of number)) where
+    by_zone : (z : Option ℕ) → AddFrom (frames_of commands) commands (during_on z None)
+    by_zone None = (tt, rest)
+    by_zone (Some zone) = (tt, rest)
+  adds_first range (Open zone blocks) commands r ranged rest =
+      other_adds (Some (512 * blocks)) commands (Open zone blocks) refl (tt, open_adds (Some (512 * blocks)) commands ranged (world_opened zone blocks places) (opened_orderly zone blocks places r range) refl)
+
+  adds : (0 < places) × (places ≤ 65536) → (commands : List Numbered) → AreInRange commands → CountsAddUp commands (answers_by steps None commands)
+  adds range [] ranged = tt
+  adds range (c ∷ commands) ranged = adds_first range c.command commands ranged.0 ranged.1 (adds range commands ranged.1)
+
+  pub counts_added_by : (0 < places) × (places ≤ 65536) → (input : List ℕ) → CountsAddUp (commands_of input) (answers_to steps input)
+  counts_added_by range input = adds range (commands_of input) (commands_ranged (by Untold) 1 (parts_of input))
 
 pub counts_added : (places : ℕ) → (0 < places) × (places ≤ 65536) → (input : List ℕ) → CountsAddUp (commands_of input) (answers_of places input)
-counts_added places range input = adds places range (commands_of input) (commands_ranged (by Untold) 1 (parts_of input))
+counts_added places range input = counts_added_by places (step places) (one_thread places) range input
+
+pub counts_added_by_hand : (places : ℕ) → (0 < places) × (places ≤ 65536) → (input : List ℕ) → CountsAddUp (commands_of input) (answers_by_hand places input)
+counts_added_by_hand places range input = counts_added_by places (step_by_hand places) (machine_by_hand places) range input

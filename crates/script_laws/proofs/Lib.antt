@@ -1,11 +1,14 @@
+pub mod ByHand
 pub mod CallsAccepted
 pub mod CommandsInRange
 pub mod CountsAdded
 pub mod LockStep
+pub mod Machines
 pub mod Matching
 pub mod PagesMoved
 pub mod Pools
 pub mod Replies
+pub mod RoundsByHand
 pub mod Runs
 pub mod Steps
 pub mod ValuesStored

@@ -22,16 +22,19 @@ use Rattle.text_core.specs.Line.{line_within, line_of}
 use Rattle.text_core.specs.Profile.{profile_told}
 use Rattle.text_core.proofs.Profiles as rows
 use Rattle.text_core.proofs.Profiles.{SayAlike, call_in_profile_2, lines_alike}
-use Rattle.machine_core.specs.Machine.{Step, answered, call_step, calls_step, declined, pool_step, step, during_on}
-use Rattle.play_core.specs.Script.{Answer, Numbered, commands_from, cut_fault, fault_from, line_fault, onto_commands, parts_of, Block, Came, ClientLine, Reading, by, client_comes, command_comes, command_in_block, comes_in, comes_outside, comes_within, commands_of, line_comes, onto, open_fault, reading_behind, within}
-use Rattle.machine_core.specs.Replies.{answers_from}
+use Rattle.machine_core.specs.Machine.{Step, answered, call_step, calls_step, declined, step, during_on}
+use Rattle.play_core.specs.Script.{Answer, Numbered, commands_from, cut_fault, fault_from, fault_of, line_fault, onto_commands, parts_of, Block, Came, ClientLine, Reading, by, client_comes, command_comes, command_in_block, comes_in, comes_outside, comes_within, commands_of, line_comes, onto, open_fault, reading_behind, within}
+use Rattle.machine_core.specs.Replies.{answers_of}
 use Rattle.play_core.specs.declared.error.Fault.{Fault}
 use Rattle.play_core.specs.declared.error.Fault.TheVariants.{Syntax}
 use Rattle.play_core.specs.declared.error.RunError.{RunError}
 use Rattle.play_core.proofs.Lines.{Parts, parts-line, parts_are}
+use Rattle.script_laws.specs.ByHand.{answers_by_hand, step_by_hand}
 use Rattle.script_laws.specs.Profile2.{IsSameInProfile2, behind_profile_2, fault_in_profile_1, with_held}
-use Rattle.script_laws.proofs.Pools.{pool_tells}
+use Rattle.script_laws.proofs.ByHand.{machine_by_hand}
+use Rattle.script_laws.proofs.Machines.{IsMachine, answers_by, answers_to, by_rounds, is_of_rounds, runs_rounds}
 use Rattle.script_laws.proofs.Replies.{has_counts, plain_call, plain_series}
+use Rattle.script_laws.proofs.Runs.{one_thread}
 
 abbrev further : Answer → Answer
 further a = record { line = a.line + 1; reply = with_held a.reply }
@@ -61,40 +64,62 @@ call_told w call.Info = refl
 call_told w call.InfoWithHeld = refl
 call_told w c = told_plain (answered (call_step w c)) (plain_call w c refl)
 
-step_told : (places : ℕ) (w : Option WorldState) (c : Command) → step places w (rows.in_profile_2 c) ≡ told (step places w c)
-step_told places w OutOfRange = refl
-step_told places w Profile2 = refl
-step_told places None (Open zone blocks) = refl
-step_told places (Some w) (Open zone blocks) = refl
-step_told places None (Compact zone) = refl
-step_told places (Some w) (Compact zone) = refl
-step_told places None (Pool zone count blocks) = refl
-step_told places (Some w) (Pool zone count blocks) = by_number (nat_eq zone w.zone.number) where
-  by_number : (b : Bool) → (if b then answered (pool_step w count blocks) else declined 43 (Some w)) ≡ told (if b then answered (pool_step w count blocks) else declined 43 (Some w))
-  by_number true = told_plain (answered (pool_step w count blocks)) (pool_tells blocks has_counts (λ got why. refl) refl w count)
-  by_number false = refl
-step_told places w (During number) = by_zone (zone_of number) w where
+other_told : (places : ℕ) (w : Option WorldState) (c : Command) → runs_rounds c ≡ false → step places w (rows.in_profile_2 c) ≡ told (step places w c)
+other_told places w OutOfRange h = refl
+other_told places w Profile2 h = refl
+other_told places None (Open zone blocks) h = refl
+other_told places (Some w) (Open zone blocks) h = refl
+other_told places w (Compact zone) h = cc
+other_told places w (Pool zone count blocks) h = cc
+other_told places w (During number) h = by_zone (zone_of number) w where
   by_zone : (z : Option ℕ) (v : Option WorldState) → during_on z v ≡ told (during_on z v)
   by_zone None v = refl
   by_zone (Some zone) None = refl
   by_zone (Some zone) (Some v) = refl
-step_told places None (On zone (One c)) = refl
-step_told places None (On zone (SeriesOf s)) = refl
-step_told places (Some w) (On zone (One c)) = by_number (nat_eq zone w.zone.number) where
+other_told places None (On zone (One c)) h = refl
+other_told places None (On zone (SeriesOf s)) h = refl
+other_told places (Some w) (On zone (One c)) h = by_number (nat_eq zone w.zone.number) where
   by_number : (b : Bool) → (if b then answered (call_step w (call_in_profile_2 c)) else declined 43 (Some w)) ≡ told (if b then answered (call_step w c) else declined 43 (Some w))
   by_number true = call_told w c
   by_number false = refl
-step_told places (Some w) (On zone (SeriesOf s)) = by_number (nat_eq zone w.zone.number) where
+other_told places (Some w) (On zone (SeriesOf s)) h = by_number (nat_eq zone w.zone.number) where
   by_number : (b : Bool) → (if b then answered (calls_step w (SeriesOf s)) else declined 43 (Some w)) ≡ told (if b then answered (calls_step w (SeriesOf s)) else declined 43 (Some w))
   by_number true = told_plain (answered (calls_step w (SeriesOf s))) (plain_series s.call s.space s.first s.step 0 s.count w)
   by_number false = refl
 
-answers_told : (places : ℕ) (w : Option WorldState) (commands : List Numbered) → answers_from places w (map moved commands) ≡ map further (answers_from places w commands)
-answers_told places w [] = refl
-answers_told places w (c ∷ commands) =
-    let s : Step = step places w c.command in
-    (λ i. (let t = step_told places w c.command i in record { line = c.line + 1; reply = t.reply } ∷ answers_from places t.world (map moved commands)))
-    ∙ ap (λ (rest : List Answer). record { line = c.line + 1; reply = with_held s.reply } ∷ rest) (answers_told places s.world commands)
+-- a round and a pool are the same in profile 2, and their replies have no counts
+held_of_rounds : (r : Reply) → is_of_rounds r ≡ true → r ≡ with_held r
+held_of_rounds (reply.Info i) h = cc
+held_of_rounds _ h = refl
+
+told_of_rounds : (s : Step) → is_of_rounds s.reply ≡ true → s ≡ told s
+told_of_rounds s h = λ i. record { reply = held_of_rounds s.reply h i; world = s.world }
+
+rounds_alike : (c : Command) → runs_rounds c ≡ true → rows.in_profile_2 c ≡ c
+rounds_alike c h = by_rounds (λ c. rows.in_profile_2 c ≡ c) (λ zone. refl) (λ zone count blocks. refl) c h
+
+others_alike : (c : Command) → runs_rounds (rows.in_profile_2 c) ≡ runs_rounds c
+others_alike (On zone (One c)) = refl
+others_alike _ = refl
+
+-- in any machine
+module _ (places : ℕ) (steps : Option WorldState → Command → Step) (m : IsMachine places steps) where
+  step_told : (w : Option WorldState) (c : Command) → steps w (rows.in_profile_2 c) ≡ told (steps w c)
+  step_told w c = by_kind (runs_rounds c) refl where
+    by_kind : (b : Bool) → runs_rounds c ≡ b → steps w (rows.in_profile_2 c) ≡ told (steps w c)
+    by_kind true e = ap (steps w) (rounds_alike c e) ∙ told_of_rounds (steps w c) (m.replies w c e)
+    by_kind false e = m.other w (rows.in_profile_2 c) (others_alike c ∙ e) ∙ other_told places w c e ∙ ap told (sym (m.other w c e))
+
+  answers_told : (w : Option WorldState) (commands : List Numbered) → answers_by steps w (map moved commands) ≡ map further (answers_by steps w commands)
+  answers_told w [] = refl
+  answers_told w (c ∷ commands) =
+      let s : Step = steps w c.command in
+      (λ i. (let t = step_told w c.command i in record { line = c.line + 1; reply = t.reply } ∷ answers_by steps t.world (map moved commands)))
+      ∙ ap (λ (rest : List Answer). record { line = c.line + 1; reply = with_held s.reply } ∷ rest) (answers_told s.world commands)
+
+  -- the line `profile 2` before others is answered `ok`, and changes nothing else
+  profile_2_told : (commands : List Numbered) → answers_by steps None (record { line = 1; command = Profile2; clients = [] } ∷ commands) ≡ record { line = 1; reply = reply.Done } ∷ answers_by steps None commands
+  profile_2_told commands = ap (λ (s : Step). record { line = 1; reply = s.reply } ∷ answers_by steps s.world commands) (m.other None Profile2 refl)
 
 told_one : (c : Command) → profile_told c Profile1 ≡ Profile1
 told_one Profile2 = refl
@@ -279,16 +304,18 @@ first_says = refl
 first_parts : (input : List ℕ) → parts_of (behind_profile_2 input) ≡ first_line ∷ parts_of input
 first_parts input = parts-line first_line input refl
 
-pub same_in_profile_2 : (places : ℕ) (input : List ℕ) → fault_in_profile_1 input ≡ None → IsSameInProfile2 places input
-same_in_profile_2 places input e =
+-- the commands of a script without a fault in profile 1
+record IsInLockStep (input : List ℕ) : Type 0 where
+  fault : fault_of input ≡ None
+  fault_in_profile_2 : fault_of (behind_profile_2 input) ≡ None
+  commands : commands_of (behind_profile_2 input) ≡ record { line = 1; command = Profile2; clients = [] } ∷ map moved (commands_of input)
+
+in_lock_step : (input : List ℕ) → fault_in_profile_1 input ≡ None → IsInLockStep input
+in_lock_step input e =
     let p : Parts input = parts_are input in
     let lower : ReadsLower 1 None (parts_of input) = reads_lower 1 None (parts_of input) e in
     let alone : ReadsFirst 1 (parts_of input) = reads_first 1 (parts_of input) e in
     let first : parts_of (behind_profile_2 input) ≡ first_line ∷ p.first ∷ p.others = first_parts input ∙ ap (λ (parts : List (List ℕ)). first_line ∷ parts) p.are in
-    let commands : commands_of (behind_profile_2 input) ≡ record { line = 1; command = Profile2; clients = [] } ∷ commands_from (by Two) 2 (parts_of input) =
-    ap (commands_from (by Untold) 1) first
-    ∙ ap (λ l. let came = comes_outside Untold 1 l in onto_commands came (commands_from (reading_behind (by Untold) came) 2 (p.first ∷ p.others))) first_says
-    ∙ ap (λ (parts : List (List ℕ)). record { line = 1; command = Profile2; clients = [] } ∷ commands_from (by Two) 2 parts) (sym p.are) in
     record {
       fault = alone.fault;
       fault_in_profile_2 =
@@ -296,8 +323,27 @@ same_in_profile_2 places input e =
           ∙ ap (λ l. let came = comes_outside Untold 1 l in option_or (line_fault 1 came) (fault_from (reading_behind (by Untold) came) 2 (p.first ∷ p.others))) first_says
           ∙ ap (fault_from (by Two) 2) (sym p.are)
           ∙ lower.fault;
-      answers =
-          ap (answers_from places None) commands
-          ∙ ap (λ (rest : List Numbered). record { line = 1; reply = reply.Done } ∷ answers_from places None rest) (lower.commands ∙ ap (map moved) (sym alone.commands))
-          ∙ ap (λ (rest : List Answer). record { line = 1; reply = reply.Done } ∷ rest) (answers_told places None (commands_of input));
+      commands =
+          ap (commands_from (by Untold) 1) first
+          ∙ ap (λ l. let came = comes_outside Untold 1 l in onto_commands came (commands_from (reading_behind (by Untold) came) 2 (p.first ∷ p.others))) first_says
+          ∙ ap (λ (parts : List (List ℕ)). record { line = 1; command = Profile2; clients = [] } ∷ commands_from (by Two) 2 parts) (sym p.are)
+          ∙ ap (λ (rest : List Numbered). record { line = 1; command = Profile2; clients = [] } ∷ rest) (lower.commands ∙ ap (map moved) (sym alone.commands));
     }
+
+pub same_in_profile_2_by : (places : ℕ) (steps : Option WorldState → Command → Step) → IsMachine places steps → (input : List ℕ) → fault_in_profile_1 input ≡ None → IsSameInProfile2 (answers_to steps) input
+same_in_profile_2_by places steps m input e =
+    let l : IsInLockStep input = in_lock_step input e in
+    record {
+      fault = l.fault;
+      fault_in_profile_2 = l.fault_in_profile_2;
+      answers =
+          ap (answers_by steps None) l.commands
+          ∙ profile_2_told places steps m (map moved (commands_of input))
+          ∙ ap (λ (rest : List Answer). record { line = 1; reply = reply.Done } ∷ rest) (answers_told places steps m None (commands_of input));
+    }
+
+pub same_in_profile_2 : (places : ℕ) (input : List ℕ) → fault_in_profile_1 input ≡ None → IsSameInProfile2 (answers_of places) input
+same_in_profile_2 places input e = same_in_profile_2_by places (step places) (one_thread places) input e
+
+pub same_in_profile_2_by_hand : (places : ℕ) (input : List ℕ) → fault_in_profile_1 input ≡ None → IsSameInProfile2 (answers_by_hand places) input
+same_in_profile_2_by_hand places input e = same_in_profile_2_by places (step_by_hand places) (machine_by_hand places) input e

@@ -1,18 +1,15 @@
--- A pool on one thread keeps a world orderly, and changes no address and no word. Its reply has no counts and no value.
+-- A pool on one thread keeps a world orderly, and changes no address and no word. Its reply is that of a pool, or a refusal.
 use Rattle.std.proofs.Common.{◌≡◌, ℕ, zero, suc, Bool, true, false, List, [], ◌∷◌, ◌++◌, refl, sym, ap, subst, Option, Some, None}
 use Rattle.std.specs.Prelude.{if◌then◌else◌, unwrap_or}
 use Rattle.state_core.specs.declared.error.ZoneError.{ZoneError}
 use Rattle.state_core.specs.HandingOut.{take_order_refusal, block_taken}
 use Rattle.world_core.specs.World.{IsOrderly, WorldState, with_zone}
 use Rattle.text_core.specs.declared.pool.PoolBlocks.{PoolBlocks}
-use Rattle.text_core.specs.declared.pool.PoolStopped.{PoolStopped}
-use Rattle.text_core.specs.declared.pool.PoolStopped.TheVariants as stopped
-use Rattle.text_core.specs.declared.reply.Reply.{Reply}
-use Rattle.text_core.specs.declared.reply.Reply.TheVariants as reply
 use Rattle.text_core.specs.Pool.{pool_order, told_as}
 use Rattle.text_core.proofs.Ranges.{HasOrder}
-use Rattle.machine_core.specs.Machine.{Answered, next_first, pool_from, pool_step, pooled, refused, stopped_by, unless_stopped}
+use Rattle.machine_core.specs.Machine.{Answered, next_first, pool_from, pool_step, refused, unless_stopped}
 use Rattle.script_laws.proofs.CallsAccepted.{some_run, take_order_lawful}
+use Rattle.script_laws.proofs.Machines.{is_of_rounds}
 use Rattle.script_laws.proofs.PagesMoved.{LeavesCells, leaves_all, leaves_then}
 use Rattle.script_laws.proofs.Steps.{Keeps, keeps_all, keeps_taken, keeps_then}
 
@@ -64,15 +61,14 @@ module _ (blocks : PoolBlocks) where
     by_open false = leaves_from [] count w
 
   -- the reply is that of a pool, or a refusal
-  from_tells : (tells : Reply → Bool) → ((got : List ℕ) (why : PoolStopped) → tells (pooled blocks got why) ≡ false) → (got : List ℕ) (n : ℕ) (w : WorldState) → tells (pool_from blocks got n w).reply ≡ false
-  from_tells tells none got zero w = none got stopped.Enough
-  from_tells tells none got (suc n) w =
-      either (λ a. tells a.reply ≡ false) (take_order_refusal w.zone order) got w (pool_from blocks (more got w) n (taken w)) (λ error. none got (stopped_by error))
-      (λ accepted. from_tells tells none (more got w) n (taken w))
+  from_replies : (got : List ℕ) (n : ℕ) (w : WorldState) → is_of_rounds (pool_from blocks got n w).reply ≡ true
+  from_replies got zero w = refl
+  from_replies got (suc n) w =
+      either (λ a. is_of_rounds a.reply ≡ true) (take_order_refusal w.zone order) got w (pool_from blocks (more got w) n (taken w)) (λ error. refl)
+      (λ accepted. from_replies (more got w) n (taken w))
 
-  pub pool_tells : (tells : Reply → Bool) → ((got : List ℕ) (why : PoolStopped) → tells (pooled blocks got why) ≡ false) → tells (reply.Refused 45) ≡ false
-      → (w : WorldState) (count : ℕ) → tells (pool_step w count blocks).reply ≡ false
-  pool_tells tells none refusal w count = by_open w.is_open where
-    by_open : (b : Bool) → tells (if b then refused 45 w else pool_from blocks [] count w).reply ≡ false
-    by_open true = refusal
-    by_open false = from_tells tells none [] count w
+  pub pool_replies : (w : WorldState) (count : ℕ) → is_of_rounds (pool_step w count blocks).reply ≡ true
+  pool_replies w count = by_open w.is_open where
+    by_open : (b : Bool) → is_of_rounds (if b then refused 45 w else pool_from blocks [] count w).reply ≡ true
+    by_open true = refl
+    by_open false = from_replies [] count w

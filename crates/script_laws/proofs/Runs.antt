@@ -1,5 +1,5 @@
 -- Each command keeps the world of a run orderly.
-use Rattle.std.proofs.Common.{◌≡◌, ℕ, ◌*◌, ◌<◌, ◌≤◌, Bool, true, false, refl, Option, Some, None}
+use Rattle.std.proofs.Common.{◌≡◌, ℕ, ◌*◌, ◌<◌, ◌≤◌, Bool, true, false, refl, sym, subst, Option, Some, None}
 use Rattle.std.specs.Prelude.{nat_eq, if◌then◌else◌}
 use Rattle.state_core.specs.Opening.{opened}
 use Rattle.state_core.proofs.Opened.{opened_lawful}
@@ -10,17 +10,14 @@ use Rattle.text_core.specs.declared.command.Calls.{Calls}
 use Rattle.text_core.specs.declared.command.Calls.TheVariants.{One, Series as SeriesOf}
 use Rattle.text_core.specs.declared.command.Command.{Command}
 use Rattle.text_core.specs.declared.command.Command.TheVariants.{Open, On, Compact, Pool, Profile2, OutOfRange, During}
-use Rattle.text_core.proofs.Ranges.{IsInRange}
-use Rattle.machine_core.specs.Machine.{answered, calls_step, declined, pool_step, step, during_on}
-use Rattle.script_laws.proofs.Pools.{keeps_pool}
+use Rattle.text_core.specs.declared.pool.PoolBlocks.{PoolBlocks}
+use Rattle.text_core.proofs.Ranges.{HasOrder, IsInRange}
+use Rattle.machine_core.specs.Machine.{Step, answered, calls_step, declined, pool_step, step, during_on}
+use Rattle.script_laws.proofs.Machines.{Goes, GoesOn, IsMachine, by_rounds, is_of_rounds, runs_rounds}
+use Rattle.script_laws.proofs.PagesMoved.{leaves_all}
+use Rattle.script_laws.proofs.Pools.{keeps_pool, pool_leaves, pool_replies}
 use Rattle.text_core.specs.Grammar.{zone_of}
 use Rattle.script_laws.proofs.Steps.{Keeps, keeps_all, keeps_call, keeps_series}
-
--- the world after a command is orderly and has the same number of pageblocks
-pub record Goes (places : ℕ) (w : WorldState) (c : Command) : Type 0 where
-  pub after : WorldState
-  pub world : (step places (Some w) c).world ≡ Some after
-  pub keeps : Keeps w after
 
 keeps_calls : (w : WorldState) → IsOrderly w → (zone : ℕ) (c : Calls) → IsInRange (On zone c) → Keeps w (calls_step w c).world
 keeps_calls w o zone (One c) r = keeps_call w o c r
@@ -31,20 +28,59 @@ pub during_keeps : (zone : Option ℕ) (w : WorldState) → (during_on zone (Som
 during_keeps None w = refl
 during_keeps (Some zone) w = refl
 
-pub goes : (places : ℕ) (w : WorldState) → IsOrderly w → (c : Command) → IsInRange c → Goes places w c
-goes places w o OutOfRange r = record { after = w; world = refl; keeps = keeps_all w o }
-goes places w o Profile2 r = record { after = w; world = refl; keeps = keeps_all w o }
-goes places w o (Open zone blocks) r = record { after = w; world = refl; keeps = keeps_all w o }
-goes places w o (Compact zone) r = record { after = w; world = refl; keeps = keeps_all w o }
-goes places w o (Pool zone count blocks) r = by_number (nat_eq zone w.zone.number) refl where
-  by_number : (b : Bool) → nat_eq zone w.zone.number ≡ b → Goes places w (Pool zone count blocks)
-  by_number true e = record { after = (pool_step w count blocks).world; world = λ i. (if e i then answered (pool_step w count blocks) else declined 43 (Some w)).world; keeps = keeps_pool blocks r w count o }
-  by_number false e = record { after = w; world = λ i. (if e i then answered (pool_step w count blocks) else declined 43 (Some w)).world; keeps = keeps_all w o }
-goes places w o (During number) r = record { after = w; world = during_keeps (zone_of number) w; keeps = keeps_all w o }
-goes places w o (On zone calls) r = by_number (nat_eq zone w.zone.number) refl where
-  by_number : (b : Bool) → nat_eq zone w.zone.number ≡ b → Goes places w (On zone calls)
-  by_number true e = record { after = (calls_step w calls).world; world = λ i. (if e i then answered (calls_step w calls) else declined 43 (Some w)).world; keeps = keeps_calls w o zone calls r }
-  by_number false e = record { after = w; world = λ i. (if e i then answered (calls_step w calls) else declined 43 (Some w)).world; keeps = keeps_all w o }
+-- a command that is neither a round nor a pool
+goes_other : (places : ℕ) (w : WorldState) → IsOrderly w → (c : Command) → IsInRange c → runs_rounds c ≡ false → Goes w (step places (Some w) c)
+goes_other places w o OutOfRange r h = record { after = w; world = refl; keeps = keeps_all w o }
+goes_other places w o Profile2 r h = record { after = w; world = refl; keeps = keeps_all w o }
+goes_other places w o (Open zone blocks) r h = record { after = w; world = refl; keeps = keeps_all w o }
+goes_other places w o (Compact zone) r h = cc
+goes_other places w o (Pool zone count blocks) r h = cc
+goes_other places w o (During number) r h = record { after = w; world = during_keeps (zone_of number) w; keeps = keeps_all w o }
+goes_other places w o (On zone calls) r h = by_number (nat_eq zone w.zone.number) where
+  by_number : (b : Bool) → Goes w (if b then answered (calls_step w calls) else declined 43 (Some w))
+  by_number true = record { after = (calls_step w calls).world; world = refl; keeps = keeps_calls w o zone calls r }
+  by_number false = record { after = w; world = refl; keeps = keeps_all w o }
+
+-- any command, in any machine
+pub goes_by : (places : ℕ) (steps : Option WorldState → Command → Step) → IsMachine places steps → (w : WorldState) → IsOrderly w → (c : Command) → IsInRange c → Goes w (steps (Some w) c)
+goes_by places steps m w o c r = by_kind (runs_rounds c) refl where
+  by_kind : (b : Bool) → runs_rounds c ≡ b → Goes w (steps (Some w) c)
+  by_kind true e = (m.goes_on w o c r e).goes
+  by_kind false e = subst (Goes w) (sym (m.other (Some w) c e)) (goes_other places w o c r e)
+
+-- a refusal leaves an orderly world as it is
+pub refusal_goes_on : (w : WorldState) → IsOrderly w → (number : ℕ) → GoesOn w (declined number (Some w))
+refusal_goes_on w o number = record { goes = record { after = w; world = refl; keeps = keeps_all w o }; leaves = leaves_all w.zone }
+
+-- The machine on one thread
+module _ (places : ℕ) where
+  pool_goes_on : (w : WorldState) → IsOrderly w → (zone count : ℕ) (blocks : PoolBlocks) → HasOrder blocks → GoesOn w (step places (Some w) (Pool zone count blocks))
+  pool_goes_on w o zone count blocks range = by_number (nat_eq zone w.zone.number) where
+    by_number : (b : Bool) → GoesOn w (if b then answered (pool_step w count blocks) else declined 43 (Some w))
+    by_number true = record { goes = record { after = (pool_step w count blocks).world; world = refl; keeps = keeps_pool blocks range w count o }; leaves = pool_leaves blocks w count }
+    by_number false = refusal_goes_on w o 43
+
+  compact_replies : (w : Option WorldState) (zone : ℕ) → is_of_rounds (step places w (Compact zone)).reply ≡ true
+  compact_replies None zone = refl
+  compact_replies (Some w) zone = refl
+
+  replies_to_pool : (w : Option WorldState) (zone count : ℕ) (blocks : PoolBlocks) → is_of_rounds (step places w (Pool zone count blocks)).reply ≡ true
+  replies_to_pool None zone count blocks = refl
+  replies_to_pool (Some w) zone count blocks = by_number (nat_eq zone w.zone.number) where
+    by_number : (b : Bool) → is_of_rounds (if b then answered (pool_step w count blocks) else declined 43 (Some w)).reply ≡ true
+    by_number true = pool_replies blocks w count
+    by_number false = refl
+
+  pub one_thread : IsMachine places (step places)
+  one_thread = record {
+    other = λ w c h. refl;
+    replies = λ w c h. by_rounds (λ c. is_of_rounds (step places w c).reply ≡ true) (compact_replies w) (replies_to_pool w) c h;
+    closed = λ c h. by_rounds (λ c. (step places None c).world ≡ None) (λ zone. refl) (λ zone count blocks. refl) c h;
+    goes_on = λ w o c r h. by_rounds (λ c. IsInRange c → GoesOn w (step places (Some w) c)) (λ zone r. refusal_goes_on w o _) (λ zone count blocks r. pool_goes_on w o zone count blocks r) c h r;
+  }
+
+  pub goes : (w : WorldState) → IsOrderly w → (c : Command) → IsInRange c → Goes w (step places (Some w) c)
+  goes w o c r = goes_by places (step places) one_thread w o c r
 
 pub opened_orderly : (zone blocks places : ℕ) → (0 < blocks) × (blocks ≤ 8) → (0 < places) × (places ≤ 65536) → IsOrderly (world_opened zone blocks places)
 opened_orderly zone blocks places b p =

@@ -38,16 +38,18 @@ use Rattle.text_core.specs.declared.reply.Reply.{Reply}
 use Rattle.text_core.specs.declared.reply.Reply.TheVariants as reply
 use Rattle.text_core.specs.Grammar.{address_of, zone_of}
 use Rattle.text_core.proofs.Ranges.{IsInRange}
-use Rattle.machine_core.specs.Machine.{Answered, answered, by_hand, call_at, call_step, calls_step, copied, declined, ending, found, fresh_page, handed_out, looked, order_handed_out, page_step, pool_step, says, series_from, step, unless, unless_refused, during_on}
-use Rattle.play_core.specs.Script.{Numbered, commands_of, parts_of, ClientLine, by}
-use Rattle.machine_core.specs.Replies.{answers_from, answers_of}
+use Rattle.machine_core.specs.Machine.{Answered, Step, answered, by_hand, call_at, call_step, calls_step, copied, declined, ending, found, fresh_page, handed_out, looked, order_handed_out, page_step, says, series_from, step, unless, unless_refused, during_on}
+use Rattle.play_core.specs.Script.{Numbered, commands_of, parts_of, by}
+use Rattle.machine_core.specs.Replies.{answers_of}
+use Rattle.script_laws.specs.ByHand.{answers_by_hand, step_by_hand}
 use Rattle.script_laws.specs.Values.{IsLastStored, ValuesAreStored, accepted, accepted_count, called, repeated, told}
+use Rattle.script_laws.proofs.ByHand.{machine_by_hand}
 use Rattle.script_laws.proofs.CallsAccepted.{CanMap, can_map, can_map_at, fresh_number, mapped_is, rests_for_access}
 use Rattle.script_laws.proofs.CommandsInRange.{AreInRange, commands_ranged}
+use Rattle.script_laws.proofs.Machines.{Goes, IsMachine, answers_by, answers_to, by_rounds, is_of_rounds, runs_rounds}
 use Rattle.script_laws.proofs.Matching.{Match, match_empty, match_mapped, match_same, match_shared, match_stored, match_unmapped}
 use Rattle.script_laws.proofs.PagesMoved.{LeavesCells, copied_leaves, finished_leaves, leaves_all, opened_leaves, scanned_leaves, shut_leaves, taken_leaves}
-use Rattle.script_laws.proofs.Pools.{pool_leaves, pool_tells}
-use Rattle.script_laws.proofs.Runs.{Goes, goes, opened_orderly}
+use Rattle.script_laws.proofs.Runs.{goes_by, one_thread, opened_orderly}
 use Rattle.script_laws.proofs.Steps.{keeps_page_step}
 
 -- an answer to a call made after this history has the value of the history, and the world after it matches the history after it
@@ -222,10 +224,10 @@ tells_series c s v further done (suc n) older w o m =
     (tells_at older w o m c s v (address_of s v) refl)
     (λ matched. tells_series c s (v + further) further (done + 1) n (accepted older (call_at c (record { space = s; vpage = v }))) a.world (keeps_page_step w o c s v).orderly matched)
 
--- what a command does on the open zone
-record StepTold (places : ℕ) (w : WorldState) (older : List Record) (c : Command) : Type 0 where
-  match : (after : WorldState) → (step places (Some w) c).world ≡ Some after → Match after.zone.records (told older c (step places (Some w) c).reply)
-  value : IsLastStored older c (step places (Some w) c).reply
+-- what a step of the open zone does, which answers a command
+record StepTold (older : List Record) (c : Command) (s : Step) : Type 0 where
+  match : (after : WorldState) → s.world ≡ Some after → Match after.zone.records (told older c s.reply)
+  value : IsLastStored older c s.reply
 
 refused_nothing : (older : List Record) (c : Command) (number : ℕ) → told older c (reply.Refused number) ≡ older
 refused_nothing older OutOfRange number = refl
@@ -249,67 +251,99 @@ tells_calls older w o m zone (SeriesOf s) =
       no_value older (On zone (SeriesOf s)) (calls_step w (SeriesOf s)).reply t.none,
     )
 
-tells_step : (places : ℕ) (older : List Record) (w : WorldState) → IsOrderly w → Match w.zone.records older → (c : Command) → StepTold places w older c
-tells_step places older w o m OutOfRange = record { match = λ after e. moved_to w after older e m; value = tt }
-tells_step places older w o m Profile2 = record { match = λ after e. moved_to w after older e m; value = tt }
-tells_step places older w o m (Open zone blocks) = record { match = λ after e. moved_to w after older e m; value = tt }
-tells_step places older w o m (Compact zone) = record { match = λ after e. moved_to w after older e m; value = tt }
-tells_step places older w o m (Pool zone count blocks) = record { match = (by_number (nat_eq zone w.zone.number)).0; value = (by_number (nat_eq zone w.zone.number)).1 } where
-  by_number : (b : Bool)
-      → ((after : WorldState) → (if b then answered (pool_step w count blocks) else declined 43 (Some w)).world ≡ Some after → Match after.zone.records older)
-      × IsLastStored older (Pool zone count blocks) (if b then answered (pool_step w count blocks) else declined 43 (Some w)).reply
-  by_number true = (
-    λ after e. moved_to (pool_step w count blocks).world after older e (leaves older w.zone (pool_step w count blocks).world.zone (pool_leaves blocks w count) m),
-    no_value older (Pool zone count blocks) (pool_step w count blocks).reply (pool_tells blocks has_value (λ got why. refl) refl w count),
+tells_other : (places : ℕ) (older : List Record) (w : WorldState) → IsOrderly w → Match w.zone.records older → (c : Command) → runs_rounds c ≡ false → StepTold older c (step places (Some w) c)
+tells_other places older w o m OutOfRange h = record { match = λ after e. moved_to w after older e m; value = tt }
+tells_other places older w o m Profile2 h = record { match = λ after e. moved_to w after older e m; value = tt }
+tells_other places older w o m (Open zone blocks) h = record { match = λ after e. moved_to w after older e m; value = tt }
+tells_other places older w o m (Compact zone) h = cc
+tells_other places older w o m (Pool zone count blocks) h = cc
+tells_other places older w o m (During number) h = by_zone (zone_of number) where
+  by_zone : (z : Option ℕ) → StepTold older (During number) (during_on z (Some w))
+  by_zone None = record { match = λ after e. moved_to w after older e m; value = tt }
+  by_zone (Some zone) = record { match = λ after e. moved_to w after older e m; value = tt }
+tells_other places older w o m (On zone calls) h = by_number (nat_eq zone w.zone.number) where
+  by_number : (b : Bool) → StepTold older (On zone calls) (if b then answered (calls_step w calls) else declined 43 (Some w))
+  by_number true = let t = tells_calls older w o m zone calls in record { match = λ after e. moved_to (calls_step w calls).world after _ e t.0; value = t.1 }
+  by_number false = record {
+    match = λ after e. moved_to w after _ e (subst (Match w.zone.records) (sym (refused_nothing older (On zone calls) 43)) m);
+    value = no_value older (On zone calls) (reply.Refused 43) refl;
+  }
+
+-- a round and a pool
+value_of_rounds : (older : List Record) (c : Command) (r : Reply) → is_of_rounds r ≡ true → IsLastStored older c r
+value_of_rounds older c (reply.Value x) h = cc
+value_of_rounds older c _ h = tt
+
+told_by_rounds : (older : List Record) (r : Reply) (c : Command) → runs_rounds c ≡ true → told older c r ≡ older
+told_by_rounds older r c h = by_rounds (λ c. told older c r ≡ older) (λ zone. refl) (λ zone count blocks. refl) c h
+
+-- in any machine
+module _ (places : ℕ) (steps : Option WorldState → Command → Step) (m : IsMachine places steps) where
+  tells_step : (older : List Record) (w : WorldState) → IsOrderly w → Match w.zone.records older → (c : Command) → IsInRange c → StepTold older c (steps (Some w) c)
+  tells_step older w o matched c r = by_kind (runs_rounds c) refl where
+    by_kind : (b : Bool) → runs_rounds c ≡ b → StepTold older c (steps (Some w) c)
+    by_kind true e =
+        let on = m.goes_on w o c r e in
+        let s : Step = steps (Some w) c in
+        record {
+          match = λ after is. subst (Match after.zone.records) (sym (told_by_rounds older s.reply c e)) (moved_to on.goes.after after older (sym on.goes.world ∙ is) (leaves older w.zone on.goes.after.zone on.leaves matched));
+          value = value_of_rounds older c s.reply (m.replies (Some w) c e);
+        }
+    by_kind false e = subst (StepTold older c) (sym (m.other (Some w) c e)) (tells_other places older w o matched c e)
+
+  -- the values of the replies from a step on, which answers a command
+  abbrev StoredFrom : List Record → Command → List Numbered → Step → Type 0
+  StoredFrom older c commands s = IsLastStored older c s.reply × ValuesAreStored (told older c s.reply) commands (answers_by steps s.world commands)
+
+  -- the values of a script whose zone is open
+  open_values : (commands : List Numbered) → AreInRange commands → (older : List Record) (w : WorldState) → IsOrderly w → Match w.zone.records older → ValuesAreStored older commands (answers_by steps (Some w) commands)
+  open_values [] ranged older w o matched = tt
+  open_values (c ∷ commands) ranged older w o matched =
+      let on : Goes w (steps (Some w) c.command) = goes_by places steps m w o c.command ranged.0 in
+      let t : StepTold older c.command (steps (Some w) c.command) = tells_step older w o matched c.command ranged.0 in
+      let next : List Record = told older c.command (steps (Some w) c.command).reply in (
+        t.value,
+        subst (λ (v : Option WorldState). ValuesAreStored next commands (answers_by steps v commands)) (sym on.world)
+            (open_values commands ranged.1 next on.after on.keeps.orderly (t.match on.after on.world)),
+      )
+
+  -- and where none is open
+  other_values : (commands : List Numbered) (c : Command) → runs_rounds c ≡ false → StoredFrom [] c commands (step places None c) → StoredFrom [] c commands (steps None c)
+  other_values commands c h stored = subst (StoredFrom [] c commands) (sym (m.other None c h)) stored
+
+  rounds_values : (commands : List Numbered) (c : Command) → runs_rounds c ≡ true → ValuesAreStored [] commands (answers_by steps None commands) → StoredFrom [] c commands (steps None c)
+  rounds_values commands c h rest =
+      let s : Step = steps None c in (
+        value_of_rounds [] c s.reply (m.replies None c h),
+        subst (λ (history : List Record). ValuesAreStored history commands (answers_by steps s.world commands)) (sym (told_by_rounds [] s.reply c h))
+            (subst (λ (v : Option WorldState). ValuesAreStored [] commands (answers_by steps v commands)) (sym (m.closed c h)) rest),
+      )
+
+  first_values : (0 < places) × (places ≤ 65536) → (c : Command) (commands : List Numbered) → IsInRange c → AreInRange commands → ValuesAreStored [] commands (answers_by steps None commands) → StoredFrom [] c commands (steps None c)
+  first_values range OutOfRange commands r ranged rest = other_values commands OutOfRange refl (tt, rest)
+  first_values range Profile2 commands r ranged rest = other_values commands Profile2 refl (tt, rest)
+  first_values range (Pool zone count blocks) commands r ranged rest = rounds_values commands (Pool zone count blocks) refl rest
+  first_values range (Compact zone) commands r ranged rest = rounds_values commands (Compact zone) refl rest
+  first_values range (During number) commands r ranged rest = other_values commands (During number) refl (by_zone (zone_of number)) where
+    by_zone : (z : Option ℕ) → StoredFrom [] (During number) commands (during_on z None)
+    by_zone None = (tt, rest)
+    by_zone (Some zone) = (tt, rest)
+  first_values range (On zone calls) commands r ranged rest = other_values commands (On zone calls) refl (
+    no_value [] (On zone calls) (reply.Refused 43) refl,
+    subst (λ (history : List Record). ValuesAreStored history commands (answers_by steps None commands)) (sym (refused_nothing [] (On zone calls) 43)) rest,
   )
-  by_number false = (λ after e. moved_to w after older e m, tt)
-tells_step places older w o m (During number) = record { match = (by_zone (zone_of number)).0; value = (by_zone (zone_of number)).1 } where
-  by_zone : (z : Option ℕ) → ((after : WorldState) → (during_on z (Some w)).world ≡ Some after → Match after.zone.records (told older (During number) (during_on z (Some w)).reply))
-      × IsLastStored older (During number) (during_on z (Some w)).reply
-  by_zone None = (λ after e. moved_to w after older e m, tt)
-  by_zone (Some zone) = (λ after e. moved_to w after older e m, tt)
-tells_step places older w o m (On zone calls) = record { match = (by_number (nat_eq zone w.zone.number)).0; value = (by_number (nat_eq zone w.zone.number)).1 } where
-  by_number : (b : Bool)
-      → ((after : WorldState) → (if b then answered (calls_step w calls) else declined 43 (Some w)).world ≡ Some after → Match after.zone.records (told older (On zone calls) (if b then answered (calls_step w calls) else declined 43 (Some w)).reply))
-      × IsLastStored older (On zone calls) (if b then answered (calls_step w calls) else declined 43 (Some w)).reply
-  by_number true = let t = tells_calls older w o m zone calls in (λ after e. moved_to (calls_step w calls).world after _ e t.0, t.1)
-  by_number false = (
-    λ after e. moved_to w after _ e (subst (Match w.zone.records) (sym (refused_nothing older (On zone calls) 43)) m),
-    no_value older (On zone calls) (reply.Refused 43) refl,
-  )
+  first_values range (Open zone blocks) commands r ranged rest =
+      other_values commands (Open zone blocks) refl (tt, open_values commands ranged [] (world_opened zone blocks places) (opened_orderly zone blocks places r range) match_empty)
 
--- the values of a script whose zone is open
-open_values : (places : ℕ) (commands : List Numbered) → AreInRange commands → (older : List Record) (w : WorldState) → IsOrderly w → Match w.zone.records older → ValuesAreStored older commands (answers_from places (Some w) commands)
-open_values places [] ranged older w o m = tt
-open_values places (c ∷ commands) ranged older w o m =
-    let on : Goes places w c.command = goes places w o c.command ranged.0 in
-    let t : StepTold places w older c.command = tells_step places older w o m c.command in
-    let next : List Record = told older c.command (step places (Some w) c.command).reply in (
-      t.value,
-      subst (λ (v : Option WorldState). ValuesAreStored next commands (answers_from places v commands)) (sym on.world)
-          (open_values places commands ranged.1 next on.after on.keeps.orderly (t.match on.after on.world)),
-    )
+  values : (0 < places) × (places ≤ 65536) → (commands : List Numbered) → AreInRange commands → ValuesAreStored [] commands (answers_by steps None commands)
+  values range [] ranged = tt
+  values range (c ∷ commands) ranged = first_values range c.command commands ranged.0 ranged.1 (values range commands ranged.1)
 
--- the values of a script, from its first command on
-first_values : (places : ℕ) → (0 < places) × (places ≤ 65536) → (line : ℕ) (clients : List ClientLine) (command : Command) (commands : List Numbered) → IsInRange command → AreInRange commands → ValuesAreStored [] commands (answers_from places None commands)
-    → ValuesAreStored [] (record { line = line; command = command; clients = clients } ∷ commands) (answers_from places None (record { line = line; command = command; clients = clients } ∷ commands))
-first_values places range line clients OutOfRange commands r ranged rest = (tt, rest)
-first_values places range line clients Profile2 commands r ranged rest = (tt, rest)
-first_values places range line clients (Pool zone count blocks) commands r ranged rest = (tt, rest)
-first_values places range line clients (Compact zone) commands r ranged rest = (tt, rest)
-first_values places range line clients (During number) commands r ranged rest = by_zone (zone_of number) where
-  by_zone : (z : Option ℕ) → IsLastStored [] (During number) (during_on z None).reply × ValuesAreStored [] commands (answers_from places (during_on z None).world commands)
-  by_zone None = (tt, rest)
-  by_zone (Some zone) = (tt, rest)
-first_values places range line clients (On zone calls) commands r ranged rest = (
-  no_value [] (On zone calls) (reply.Refused 43) refl,
-  subst (λ (history : List Record). ValuesAreStored history commands (answers_from places None commands)) (sym (refused_nothing [] (On zone calls) 43)) rest,
-)
-first_values places range line clients (Open zone blocks) commands r ranged rest = (tt, open_values places commands ranged [] (world_opened zone blocks places) (opened_orderly zone blocks places r range) match_empty)
-
-values : (places : ℕ) → (0 < places) × (places ≤ 65536) → (commands : List Numbered) → AreInRange commands → ValuesAreStored [] commands (answers_from places None commands)
-values places range [] ranged = tt
-values places range (c ∷ commands) ranged = first_values places range c.line c.clients c.command commands ranged.0 ranged.1 (values places range commands ranged.1)
+  pub values_stored_by : (0 < places) × (places ≤ 65536) → (input : List ℕ) → ValuesAreStored [] (commands_of input) (answers_to steps input)
+  values_stored_by range input = values range (commands_of input) (commands_ranged (by Untold) 1 (parts_of input))
 
 pub values_stored : (places : ℕ) → (0 < places) × (places ≤ 65536) → (input : List ℕ) → ValuesAreStored [] (commands_of input) (answers_of places input)
-values_stored places range input = values places range (commands_of input) (commands_ranged (by Untold) 1 (parts_of input))
+values_stored places range input = values_stored_by places (step places) (one_thread places) range input
+
+pub values_stored_by_hand : (places : ℕ) → (0 < places) × (places ≤ 65536) → (input : List ℕ) → ValuesAreStored [] (commands_of input) (answers_by_hand places input)
+values_stored_by_hand places range input = values_stored_by places (step_by_hand places) (machine_by_hand places) range input

@@ -5,7 +5,6 @@ use Rattle.text_core.specs.declared.reply.Reply.{Reply}
 use Rattle.text_core.specs.declared.reply.Reply.TheVariants as reply
 use Rattle.play_core.specs.declared.error.RunError.{RunError}
 use Rattle.play_core.specs.Script.{Answer, by, fault_from, fault_of, parts_of}
-use Rattle.machine_core.specs.Replies.{answers_of}
 
 -- the first fault of an input where each line is read by profile 1, so that `profile 2` is a fault too
 abbrev pub fault_in_profile_1 : List ℕ → Option RunError
@@ -24,8 +23,8 @@ with_held r = r
 abbrev pub in_profile_2 : List Answer → List Answer
 in_profile_2 answers = record { line = 1; reply = reply.Done } ∷ map (λ a. record { line = a.line + 1; reply = with_held a.reply }) answers
 
--- a script without a fault in profile 1 has no fault by itself, none after `profile 2`, and the same replies there
-pub record IsSameInProfile2 (places : ℕ) (input : List ℕ) : Type 0 where
+-- a script without a fault in profile 1 has no fault by itself, none after `profile 2`, and the same replies there, from what answers inputs so
+pub record IsSameInProfile2 (answers_to : List ℕ → List Answer) (input : List ℕ) : Type 0 where
   pub fault : fault_of input ≡ None
   pub fault_in_profile_2 : fault_of (behind_profile_2 input) ≡ None
-  pub answers : answers_of places (behind_profile_2 input) ≡ in_profile_2 (answers_of places input)
+  pub answers : answers_to (behind_profile_2 input) ≡ in_profile_2 (answers_to input)

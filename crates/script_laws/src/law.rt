@@ -2,6 +2,7 @@ ghost use Rattle.std.specs.Prelude.{◌≡◌, ℕ, ◌<◌, ◌≤◌, [], List
 ghost use Rattle.machine_core.specs.Machine.{call_step};
 ghost use Rattle.machine_core.specs.Replies.{answers_of};
 ghost use Rattle.play_core.specs.Script.{commands_of};
+ghost use Rattle.script_laws.specs.ByHand.{answers_by_hand};
 ghost use Rattle.script_laws.specs.Counts.{CountsAddUp};
 ghost use Rattle.script_laws.specs.Profile2.{IsSameInProfile2, fault_in_profile_1};
 ghost use Rattle.script_laws.specs.Values.{ValuesAreStored};
@@ -12,18 +13,21 @@ ghost use Rattle.world_core.specs.World.{WorldState};
 /// Each value in a reply is the last one that was stored before it, through whatever address, in that word of that page
 /// since the page was mapped, or 0 if there is none.
 pub fn values_are_stored()
-    ensures { (places : ℕ) (input : List ℕ) → (0 < places) × (places ≤ 65536) → ValuesAreStored [] (commands_of input) (answers_of places input) }
+    ensures one_thread { (places : ℕ) (input : List ℕ) → (0 < places) × (places ≤ 65536) → ValuesAreStored [] (commands_of input) (answers_of places input) }
+    ensures by_hand { (places : ℕ) (input : List ℕ) → (0 < places) × (places ≤ 65536) → ValuesAreStored [] (commands_of input) (answers_by_hand places input) }
 {}
 
 /// In each reply to `info`, the free frames, the pages, the moving pages and the frames handed out add up to the frames of the zone.
 pub fn counts_add_up()
-    ensures { (places : ℕ) (input : List ℕ) → (0 < places) × (places ≤ 65536) → CountsAddUp (commands_of input) (answers_of places input) }
+    ensures one_thread { (places : ℕ) (input : List ℕ) → (0 < places) × (places ≤ 65536) → CountsAddUp (commands_of input) (answers_of places input) }
+    ensures by_hand { (places : ℕ) (input : List ℕ) → (0 < places) × (places ≤ 65536) → CountsAddUp (commands_of input) (answers_by_hand places input) }
 {}
 
 /// A script without a fault in profile 1 has the same replies after the line `profile 2`, except for the first `ok`, and
 /// for the number of frames handed out at the end of the replies to `info`.
 pub fn profile_2_keeps_replies()
-    ensures { (places : ℕ) (input : List ℕ) → fault_in_profile_1 input ≡ None → IsSameInProfile2 places input }
+    ensures one_thread { (places : ℕ) (input : List ℕ) → fault_in_profile_1 input ≡ None → IsSameInProfile2 (answers_of places) input }
+    ensures by_hand { (places : ℕ) (input : List ℕ) → fault_in_profile_1 input ≡ None → IsSameInProfile2 (answers_by_hand places) input }
 {}
 
 /// Worlds that are the same but for the order in which moves ended answer each call alike, refusals too, and are still the same after it.

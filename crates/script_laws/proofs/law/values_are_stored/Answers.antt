@@ -1,5 +1,8 @@
-use Rattle.script_laws.proofs.ValuesStored.{values_stored}
+use Rattle.script_laws.proofs.ValuesStored.{values_stored, values_stored_by_hand}
 use Rattle.script_laws.proofs.law.values_are_stored.Goals as goal
 
-pub returns : goal.returns
-returns c = λ places input range. values_stored places range input
+pub returns-clause-one_thread : goal.returns-clause-one_thread
+returns-clause-one_thread c = λ places input range. values_stored places range input
+
+pub returns-clause-by_hand : goal.returns-clause-by_hand
+returns-clause-by_hand c = λ places input range. values_stored_by_hand places range input
