@@ -6,7 +6,8 @@ use Rattle.journal_core.proofs.OnTheWay.{none_out}
 use Rattle.state_core.specs.ZoneState.{ZoneState}
 use Rattle.outcome_core.specs.Alone.{IsAtRest}
 use Rattle.outcome_core.specs.ByHand.{by_hand}
-use Rattle.world_core.specs.World.{IsOrderly, WorldState}
+use Rattle.world_core.specs.World.{IsOrderly, WorldState, world_closed}
+use Rattle.zone_core.specs.Seats.{ScanSeat, EndSeat}
 use Rattle.world_core.proofs.Closing.{carried_closed}
 use Rattle.text_core.specs.declared.command.Command.{Command}
 use Rattle.text_core.specs.declared.command.Command.TheVariants.{Compact, Pool}
@@ -20,6 +21,10 @@ use Rattle.script_laws.proofs.Machines.{Goes, GoesOn, IsMachine, by_rounds, is_o
 use Rattle.script_laws.proofs.RoundsByHand.{Rests, reserved_rests, round_rests}
 use Rattle.script_laws.proofs.Runs.{goes_by, refusal_goes_on}
 
+-- a world in which no hand round is open and no page is moving is orderly
+pub closed_orderly : (zone : ZoneState) (scan : ScanSeat) (ends : EndSeat) → IsAtRest zone → ends.parts ≡ 64 → IsOrderly (world_closed zone scan ends)
+closed_orderly zone scan ends rest whole = (carried_closed zone scan ends rest.lawful whole (λ serial. ap (list_any (nat_eq serial)) rest.none_out) (256 * zone.blocks) refl).orderly
+
 -- what a round or a pool leaves
 left_goes_on : (w : WorldState) → IsOrderly w → (zone : ZoneState) (r : Reply) → Rests w.zone zone → GoesOn w (answered (says r (left_by_hand w zone)))
 left_goes_on w o zone r left = record {
@@ -27,7 +32,7 @@ left_goes_on w o zone r left = record {
     after = left_by_hand w zone;
     world = refl;
     keeps = record {
-      orderly = (carried_closed zone w.scan w.ends left.rest.lawful o.whole (λ serial. ap (list_any (nat_eq serial)) left.rest.none_out) (256 * zone.blocks) refl).orderly;
+      orderly = closed_orderly zone w.scan w.ends left.rest o.whole;
       blocks = left.leaves.blocks;
     };
   };

@@ -19,7 +19,7 @@ use Rattle.script_laws.proofs.Pools.{keeps_pool, pool_leaves, pool_replies}
 use Rattle.text_core.specs.Grammar.{zone_of}
 use Rattle.script_laws.proofs.Steps.{Keeps, keeps_all, keeps_call, keeps_series}
 
-keeps_calls : (w : WorldState) → IsOrderly w → (zone : ℕ) (c : Calls) → IsInRange (On zone c) → Keeps w (calls_step w c).world
+pub keeps_calls : (w : WorldState) → IsOrderly w → (zone : ℕ) (c : Calls) → IsInRange (On zone c) → Keeps w (calls_step w c).world
 keeps_calls w o zone (One c) r = keeps_call w o c r
 keeps_calls w o zone (SeriesOf s) r = keeps_series s.call s.space s.first s.step 0 s.count w o
 
