@@ -28,7 +28,7 @@ use Rattle.huge_core.specs.declared.collector.Collector.{Collector}
 use Rattle.huge_core.specs.declared.report.Report.{Report}
 use Rattle.huge_core.specs.declared.report.Stop.{Stop as PoolStop}
 use Rattle.huge_core.specs.declared.report.Stop.TheVariants as pool_stop
-use Rattle.huge_core.proofs.SameByHand.{AreSame, by_hand_same, reserved_same, rest_by_hand, same_sym, same_trans, stop_same}
+use Rattle.huge_core.proofs.SameByHand.{AreSame, by_hand_same, reserved_same, rest_by_hand, same_refl, same_sym, same_trans, stop_same}
 use Rattle.text_core.specs.declared.command.Calls.{Calls}
 use Rattle.text_core.specs.declared.command.Command.{Command}
 use Rattle.text_core.specs.declared.command.Command.TheVariants.{Open, On, Compact, Pool, During, Profile2, OutOfRange}
@@ -48,7 +48,7 @@ use Rattle.script_laws.proofs.ByHand.{closed_orderly, closed_rests}
 use Rattle.script_laws.proofs.CommandsInRange.{AreInRange}
 use Rattle.script_laws.proofs.RoundsByHand.{reserved_rests}
 use Rattle.script_laws.proofs.Runs.{keeps_calls, opened_orderly}
-use Rattle.script_laws.proofs.Worlds.{calls_alike, same_world_self}
+use Rattle.script_laws.proofs.Worlds.{calls_alike}
 use Rattle.script_core.specs.ByHand.{Followed, To, NoLonger, IsNoBlock, IsByHandStep, IsReplyByHand, IsUnbegun, HasFailed, OpensByHand}
 use Rattle.script_core.specs.Threaded.{AsksMemory, ComesToByHand, IsBlockFor, IsDoneByHand, IsPoolOn, IsRoundOn, IsStepAt, IsStepBy, IsThreadedStep, IsWorkStep, Settles, Threaded, is_threaded, left_by, round_reply, threaded_at_first, told_of}
 use Rattle.script_core.proofs.Pools.{whole_behind}
@@ -117,11 +117,14 @@ alike_follows places old world command answer new same_places alike is whole =
     done_as places world command answer new (step_by_hand places world command) refl (ap (λ (t : Step). t.reply) here ∙ alike.reply) whole (is.places_are ∙ same_places)
     (subst (λ (o : Option WorldState). Beside o (step_by_hand places world command).world) (sym (ap (λ (t : Step). t.world) here)) alike.world)
 
+opened_same : (zone blocks places : ℕ) → IsSameWorld (world_opened zone blocks places) (world_opened zone blocks places)
+opened_same zone blocks places = record { zone = same_refl (world_opened zone blocks places).zone; is_open = refl; in_round = λ e. absurd (false≢true e); waiting = refl; hands = refl }
+
 module _ (places : ℕ) (range : (0 < places) × (places ≤ 65536)) where
   open_alike : (v w : Option WorldState) → Beside v w → (zone blocks : ℕ) → (0 < blocks) × (blocks ≤ 8) → StepsAlike (step places v (Open zone blocks)) (step places w (Open zone blocks))
   open_alike None None with zone blocks some =
       let orderly = opened_orderly zone blocks places some range in
-      record { reply = refl; world = record { same = same_world_self (world_opened zone blocks places); orderly = orderly; orderly_by_hand = orderly } }
+      record { reply = refl; world = record { same = opened_same zone blocks places; orderly = orderly; orderly_by_hand = orderly } }
   open_alike (Some v) (Some w) with zone blocks some = record { reply = refl; world = with }
   open_alike None (Some w) with zone blocks some = absurd with
   open_alike (Some v) None with zone blocks some = absurd with
