@@ -1,5 +1,5 @@
 -- A reservation by hand: blocks are taken one after the other, the lowest free one each time, and where none is free a round by hand is run.
-use Rattle.std.specs.Prelude.{◌≡◌, ℕ, zero, suc, ◌+◌, Bool, nat_lt, if◌then◌else◌, List, [], ◌∷◌, ⊤, Option, Some, None, unwrap_or}
+use Rattle.std.specs.Prelude.{◌≡◌, ℕ, zero, suc, ◌+◌, Bool, nat_lt, if◌then◌else◌, ◌-◌, List, [], ◌∷◌, ◌++◌, length, ⊤, Option, Some, None, unwrap_or}
 use Rattle.journal_core.specs.Moves.{isolated}
 use Rattle.outcome_core.specs.ByHand.{by_hand}
 use Rattle.outcome_core.specs.Outcome.{IsSame}
@@ -76,6 +76,17 @@ abbrev pub frames_of : List (Option Huge) → List ℕ
 frames_of [] = []
 frames_of (Some block ∷ more) = block.frame ∷ frames_of more
 frames_of (None ∷ more) = frames_of more
+
+-- what a reservation leaves that had these blocks and had run so many rounds when it went on so
+abbrev pub after : List ℕ → ℕ → Reservation → Reservation
+after frames ran rest = record rest { frames = frames ++ rest.frames; rounds = ran + rest.rounds }
+
+-- a reservation by hand of n blocks that had some of them goes on with the older zone as with the newer zone and the blocks that it has there:
+-- so these were taken, the lowest free one each time
+abbrev pub HasFilled : (order n : ℕ) (zone zone_new : ZoneState) (got got_new : List (Option Huge)) → Type 0
+HasFilled order n zone zone_new got got_new =
+    (ran : ℕ) (none : ℕ → ZoneState → Reservation)
+    → after (frames_of got) ran (taking order (n - length got) zone none) ≡ after (frames_of got_new) ran (taking order (n - length got_new) zone_new none)
 
 -- A collector that was refused a round did what a reservation by hand does that may run no more rounds than the collector had run by then.
 -- So it stops where that one stops since it may run no more.
