@@ -20,8 +20,12 @@ use Rattle.huge_core.proofs.SameByHand.{AreSame, are_same_refl, are_same_trans, 
 -- a block that is taken
 
 -- the zone has no page that is moving then either
-pub rest_block : (z z_new : ZoneState) (frame order : ℕ) → z_new ≡ block_taken z frame order → IsLawful z_new → IsAtRest z → IsAtRest z_new
-rest_block z z_new frame order taken law rest = record { lawful = law; none_out = ap (λ (v : ZoneState). out v.records) taken ∙ rest.none_out }
+pub rest_block : (z z_new : ZoneState) (frame order : ℕ) → z_new ≡ block_taken z frame order → IsLawful z_new
+    → IsAtRest z → IsAtRest z_new
+rest_block z z_new frame order taken law rest = record {
+  lawful = law;
+  none_out = ap (λ (v : ZoneState). out v.records) taken ∙ rest.none_out;
+}
 
 frames_push : (got : List (Option Huge)) (huge : Huge) → frames_of (got ++ Some huge ∷ []) ≡ frames_of got ++ huge.frame ∷ []
 frames_push [] huge = refl
@@ -42,10 +46,11 @@ module _ (order : ℕ) where
       → taking order (suc left) z none ≡ with_block frame (taking order left (block_taken z frame order) none)
   taking_one left z frame none accepted lowest = λ i.
       let first = unwrap_or (lowest i) 0 in
-      asked (accepted i) (with_block first (taking order left (block_taken z first order) none)) (stopped JournalFull z) (none (suc left) z)
+      let one = with_block first (taking order left (block_taken z first order) none) in
+      asked (accepted i) one (stopped JournalFull z) (none (suc left) z)
 
-  module _ (n : ℕ) (z z_new : ZoneState) (huge : Huge) (accepted : take_order_refusal z order ≡ None) (lowest : lowest_run z order ≡ Some huge.frame)
-      (taken : z_new ≡ block_taken z huge.frame order) where
+  module _ (n : ℕ) (z z_new : ZoneState) (huge : Huge) (accepted : take_order_refusal z order ≡ None)
+      (lowest : lowest_run z order ≡ Some huge.frame) (taken : z_new ≡ block_taken z huge.frame order) where
     filled_one : (got : List (Option Huge)) (left : ℕ) → n - length got ≡ suc left → n - length (got ++ Some huge ∷ []) ≡ left
         → HasFilled order n z z_new got (got ++ Some huge ∷ [])
     filled_one got left before behind ran none =
@@ -62,7 +67,8 @@ module _ (order : ℕ) where
     filled_more start had got got_new fewer pushed filled ran none =
         let count = length-append got (Some huge ∷ []) in
         let one = filled_one got (n - (length got + 1)) (omega arith) (omega (arith, count)) in
-        filled ran none ∙ one ran none ∙ ap (λ (g : List (Option Huge)). after (frames_of g) ran (taking order (n - length g) z_new none)) (sym pushed)
+        filled ran none ∙ one ran none
+        ∙ ap (λ (g : List (Option Huge)). after (frames_of g) ran (taking order (n - length g) z_new none)) (sym pushed)
 
 -- what is left of a reservation by hand where a block is refused
 
@@ -82,7 +88,8 @@ module _ (order rounds left : ℕ) (z : ZoneState) (some : 0 < left) where
       ∙ taking_refused order left z (where_none order rounds) zone.JournalFull some refused (stopped JournalFull z) (λ taken. refl)
 
   -- no block is free
-  pub where_none_free : take_order_refusal z order ≡ Some zone.NoBlock → reserved_by_hand order rounds left z ≡ where_none order rounds left z
+  pub where_none_free : take_order_refusal z order ≡ Some zone.NoBlock
+      → reserved_by_hand order rounds left z ≡ where_none order rounds left z
   where_none_free refused =
       reserved_is order rounds left z
       ∙ taking_refused order left z (where_none order rounds) zone.NoBlock some refused (where_none order rounds left z) (λ taken. refl)
@@ -96,11 +103,13 @@ module _ (order rounds left : ℕ) (z : ZoneState) (some : 0 < left) (refused : 
       where_none_free order (suc rounds) left z some refused ∙ ap (λ (b : Bool). with_round (if b then on else idle)) is
 
   -- a round moves a page
-  pub where_moves : moves z ≡ true → reserved_by_hand order (suc rounds) left z ≡ with_round (reserved_by_hand order rounds left (by_hand z))
+  pub where_moves : moves z ≡ true
+      → reserved_by_hand order (suc rounds) left z ≡ with_round (reserved_by_hand order rounds left (by_hand z))
   where_moves = by_moves true
 
   -- a round moves none
-  pub where_idle : moves z ≡ false → reserved_by_hand order (suc rounds) left z ≡ with_round (stopped (idle_stop (stop_by_hand z)) (by_hand z))
+  pub where_idle : moves z ≡ false
+      → reserved_by_hand order (suc rounds) left z ≡ with_round (stopped (idle_stop (stop_by_hand z)) (by_hand z))
   where_idle = by_moves false
 
 pub after_round : (frames : List ℕ) (ran : ℕ) (rest : Reservation) → after frames ran (with_round rest) ≡ after frames (ran + 1) rest
@@ -113,8 +122,8 @@ after_round frames ran rest =
 -- the collector got these blocks and ran so many rounds, and the reservation by hand goes on as from the zone as it is now
 pub record IsUnderWayByHand (order n : ℕ) (start : ZoneState) (got : List (Option Huge)) (ran : ℕ) (now : ZoneState) : Type 0 where
   pub rest : IsAtRest now
-  pub same : (rounds : ℕ)
-      → AreSame (reserved_by_hand order (ran + rounds) n start) (after (frames_of got) ran (reserved_by_hand order rounds (n - length got) now))
+  pub same : (rounds : ℕ) → AreSame (reserved_by_hand order (ran + rounds) n start)
+      (after (frames_of got) ran (reserved_by_hand order rounds (n - length got) now))
 
 module _ (order n : ℕ) (start : ZoneState) where
   pub begun_by_hand : IsAtRest start → IsUnderWayByHand order n start [] 0 start
@@ -127,7 +136,8 @@ module _ (order n : ℕ) (start : ZoneState) where
         let none : here.rounds ≡ 0 + here.rounds = omega arith in
         let left : n ≡ n - length {A = Option Huge} [] = omega arith in
         let same : AreSame whole here = subst (λ (k : ℕ). AreSame whole (reserved_by_hand order k n start)) ran (are_same_refl whole) in
-        let front : AreSame whole (after [] 0 here) = record { frames = same.frames; rounds = same.rounds ∙ none; stop = same.stop; zone = same.zone } in
+        let front : AreSame whole (after [] 0 here) =
+        record { frames = same.frames; rounds = same.rounds ∙ none; stop = same.stop; zone = same.zone } in
         subst (λ (m : ℕ). AreSame whole (after [] 0 (reserved_by_hand order rounds m start))) left front;
   }
 
@@ -147,7 +157,8 @@ module _ (order n : ℕ) (start : ZoneState) where
 
     -- it runs a round that moves a page
     pub ran_by_hand : 3 ≤ order → order ≤ 9 → length got < n → take_order_refusal now order ≡ Some zone.NoBlock → moves now ≡ true
-        → IsSame (by_hand now) next → IsLawful next → IsUnderWayByHand order n start got ran now → IsUnderWayByHand order n start got (ran + 1) next
+        → IsSame (by_hand now) next → IsLawful next
+        → IsUnderWayByHand order n start got ran now → IsUnderWayByHand order n start got (ran + 1) next
     ran_by_hand low high fewer refused moved same lawful was =
         let hand = rest_by_hand now was.rest in
         let rests = rest_same (by_hand now) next hand lawful same in

@@ -15,13 +15,16 @@ refused zone order lawful (Ok huge) is = tt
 refused zone order lawful (Err error) is = record { zone = zone; lawful = lawful; refused = sym is }
 
 -- a lawful zone refuses a block
-pub refused_by : (zone : ZoneState) (order : ℕ) (error : ZoneError) → IsLawful zone → take_order_refusal zone order ≡ Some error → IsRefused order error
+pub refused_by : (zone : ZoneState) (order : ℕ) (error : ZoneError) → IsLawful zone → take_order_refusal zone order ≡ Some error
+    → IsRefused order error
 refused_by zone order error lawful is = record { zone = zone; lawful = lawful; refused = is }
 
 -- where a block is refused and the journal isn't full, no block is free
-pub refused_no_block : (zone : ZoneState) (order : ℕ) (error : ZoneError) → take_order_refusal zone order ≡ Some error → (error ≡ JournalFull → ⊥) → take_order_refusal zone order ≡ Some NoBlock
+pub refused_no_block : (zone : ZoneState) (order : ℕ) (error : ZoneError) → take_order_refusal zone order ≡ Some error
+    → (error ≡ JournalFull → ⊥) → take_order_refusal zone order ≡ Some NoBlock
 refused_no_block zone order error refused other =
-    subst (λ (e : ZoneError). take_order_refusal zone order ≡ Some e) (only (has_room zone) (is_none (lowest_run zone order)) error refused other) refused
+    subst (λ (e : ZoneError). take_order_refusal zone order ≡ Some e)
+    (only (has_room zone) (is_none (lowest_run zone order)) error refused other) refused
   where
     only : (room none : Bool) (error : ZoneError) → (if not room then Some JournalFull else if none then Some NoBlock else None) ≡ Some error
         → (error ≡ JournalFull → ⊥) → error ≡ NoBlock

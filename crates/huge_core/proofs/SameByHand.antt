@@ -84,7 +84,8 @@ same_after frames ran a b s = record {
   zone = s.zone;
 }
 
-same_with_block : (frame frame' : ℕ) (a b : Reservation) → frame ≡ frame' → AreSame a b → AreSame (with_block frame a) (with_block frame' b)
+same_with_block : (frame frame' : ℕ) (a b : Reservation) → frame ≡ frame' → AreSame a b
+    → AreSame (with_block frame a) (with_block frame' b)
 same_with_block frame frame' a b e s = record {
   frames = λ i. e i ∷ s.frames i;
   rounds = s.rounds;
@@ -98,7 +99,8 @@ same_with_round a b s = record { frames = s.frames; rounds = ap (λ (n : ℕ). n
 same_stopped : (stop stop' : Stop) (z w : ZoneState) → stop ≡ stop' → IsSame z w → AreSame (stopped stop z) (stopped stop' w)
 same_stopped stop stop' z w e same = record { frames = refl; rounds = refl; stop = e; zone = same }
 
-same_cond : (b : Bool) (on idle on' idle' : Reservation) → AreSame on on' → AreSame idle idle' → AreSame (cond b on idle) (cond b on' idle')
+same_cond : (b : Bool) (on idle on' idle' : Reservation) → AreSame on on' → AreSame idle idle'
+    → AreSame (cond b on idle) (cond b on' idle')
 same_cond true on idle on' idle' s t = s
 same_cond false on idle on' idle' s t = t
 
@@ -144,7 +146,8 @@ module _ (z w : ZoneState) (rest_z : IsAtRest z) (rest_w : IsAtRest w) (same : I
       let left = sym (room_by_hand z rest_z) ∙ by_hand_same.room ∙ room_by_hand w rest_w in
       let of_z = all_isolated z in
       let of_w = all_isolated w in
-      ap (λ (b : Bool). stop_for (if b then None else Some JournalIsFull)) (two_left of_z.room (length (out of_z.records)) of_w.room (length (out of_w.records)) left)
+      ap (λ (b : Bool). stop_for (if b then None else Some JournalIsFull))
+      (two_left of_z.room (length (out of_z.records)) of_w.room (length (out of_w.records)) left)
 
 -- a block that is taken
 
@@ -185,8 +188,10 @@ module _ (order : ℕ) (low : 3 ≤ order) (high : order ≤ 9) where
       let on = λ (accepted : take_order_refusal z order ≡ None).
       taking_same none agrees n (lowest_taken z order) (lowest_taken w order)
       (rest_taken z rest_z accepted) (rest_taken w rest_w (sym refusal ∙ accepted)) (taken_same z w same) in
-      subst (λ (o : Option ZoneError). AreSame (taking order (suc n) z none) (asked o taken_w (stopped JournalFull w) (none (suc n) w))) refusal
-      (same_asked (take_order_refusal z order) taken_z (stopped JournalFull z) (none (suc n) z) taken_w (stopped JournalFull w) (none (suc n) w)
+      let full_z = stopped JournalFull z in
+      let full_w = stopped JournalFull w in
+      subst (λ (o : Option ZoneError). AreSame (taking order (suc n) z none) (asked o taken_w full_w (none (suc n) w))) refusal
+      (same_asked (take_order_refusal z order) taken_z full_z (none (suc n) z) taken_w full_w (none (suc n) w)
       (λ accepted. same_with_block (lowest_first z order) (lowest_first w order) on_z on_w first (on accepted))
       (same_stopped JournalFull JournalFull z w refl same) (agrees (suc n) z w rest_z rest_w same))
 
@@ -194,7 +199,8 @@ module _ (order : ℕ) (low : 3 ≤ order) (high : order ≤ 9) where
 abbrev pub where_none : (order rounds left : ℕ) → ZoneState → Reservation
 where_none order zero left now = stopped Rounds now
 where_none order (suc rounds) left now =
-    with_round (if moves now then reserved_by_hand order rounds left (by_hand now) else stopped (idle_stop (stop_by_hand now)) (by_hand now))
+    with_round (if moves now then reserved_by_hand order rounds left (by_hand now)
+    else stopped (idle_stop (stop_by_hand now)) (by_hand now))
 
 pub reserved_is : (order rounds n : ℕ) (z : ZoneState) → reserved_by_hand order rounds n z ≡ taking order n z (where_none order rounds)
 reserved_is order zero n z = refl

@@ -50,19 +50,22 @@ none_more : {A : Type 0} (xs : List A) → xs ++ [] ≡ xs
 none_more [] = refl
 none_more (x ∷ xs) = ap (λ ys. x ∷ ys) (none_more xs)
 
-after_stopped : (got : List (Option Huge)) (ran : ℕ) (stop : Stop) (z : ZoneState) → after (frames_of got) ran (stopped stop z) ≡ at_end got ran stop z
+after_stopped : (got : List (Option Huge)) (ran : ℕ) (stop : Stop) (z : ZoneState)
+    → after (frames_of got) ran (stopped stop z) ≡ at_end got ran stop z
 after_stopped got ran stop z =
     let frames = none_more (frames_of got) in
     let rounds : ran + 0 ≡ ran = omega arith in
     λ i. record { frames = frames i; rounds = rounds i; stop = stop; zone = z }
 
 -- why it stops after a round that moved no page
-idle_stop_is : (at : RoundStop) (stop : Stop) → (at ≡ round.Met → stop ≡ NoBlock) → (at ≡ round.JournalFull → stop ≡ JournalFull) → stop ≡ idle_stop at
+idle_stop_is : (at : RoundStop) (stop : Stop) → (at ≡ round.Met → stop ≡ NoBlock) → (at ≡ round.JournalFull → stop ≡ JournalFull)
+    → stop ≡ idle_stop at
 idle_stop_is round.Met stop met full = met refl
 idle_stop_is round.JournalFull stop met full = full refl
 
 -- after such a round no round was refused
-none_refused : (c : Collector) (ran : ℕ) (at : RoundStop) → (rounds_for c (idle_stop at) ran ≡ c.rounds) × (stop_for (idle_stop at) ≡ idle_stop at)
+none_refused : (c : Collector) (ran : ℕ) (at : RoundStop)
+    → (rounds_for c (idle_stop at) ran ≡ c.rounds) × (stop_for (idle_stop at) ≡ idle_stop at)
 none_refused c ran round.Met = (refl, refl)
 none_refused c ran round.JournalFull = (refl, refl)
 
@@ -92,7 +95,8 @@ module _ (c : Collector) (n : ℕ) (start now : ZoneState) (got : ArrayVec (Opti
       }
 
   -- it has as many blocks as it was asked for
-  pub stopped_enough : ran ≤ c.rounds → length got.items ≡ n → IsReservedByHand c n start now (record { got = got; rounds = ran; stop = Enough })
+  pub stopped_enough : ran ≤ c.rounds → length got.items ≡ n
+      → IsReservedByHand c n start now (record { got = got; rounds = ran; stop = Enough })
   stopped_enough most all =
       let left = c.rounds - ran in
       let none : wanted ≡ 0 = omega (arith, all) in
@@ -112,7 +116,8 @@ module _ (c : Collector) (n : ℕ) (start now : ZoneState) (got : ArrayVec (Opti
 
     module _ (refused : take_order_refusal now c.order ≡ Some zone.NoBlock) where
       no_round_left : after fs ran (reserved_by_hand c.order 0 wanted now) ≡ at_end got.items ran Rounds now
-      no_round_left = ap (after fs ran) (where_none_free c.order 0 wanted now (omega (arith, fewer)) refused) ∙ after_stopped got.items ran Rounds now
+      no_round_left =
+          ap (after fs ran) (where_none_free c.order 0 wanted now (omega (arith, fewer)) refused) ∙ after_stopped got.items ran Rounds now
 
       -- no block is free, and it may run no more rounds
       pub stopped_rounds : ran ≡ c.rounds → IsReservedByHand c n start now (record { got = got; rounds = ran; stop = Rounds })
@@ -126,7 +131,8 @@ module _ (c : Collector) (n : ℕ) (start now : ZoneState) (got : ArrayVec (Opti
           told (record { got = got; rounds = ran; stop = Refused error }) now behind 0 (omega arith) no_round_left same
 
       -- no block is free, and a round moved no page
-      pub stopped_idle : ran < c.rounds → moves now ≡ false → (behind : ZoneState) → IsSame (by_hand now) behind → (at : RoundStop) → at ≡ stop_by_hand now
+      pub stopped_idle : ran < c.rounds → moves now ≡ false → (behind : ZoneState) → IsSame (by_hand now) behind
+          → (at : RoundStop) → at ≡ stop_by_hand now
           → (stop : Stop) → (at ≡ round.Met → stop ≡ NoBlock) → (at ≡ round.JournalFull → stop ≡ JournalFull)
           → IsReservedByHand c n start behind (record { got = got; rounds = ran + 1; stop = stop })
       stopped_idle most idles behind same at at_is stop met full =
@@ -139,4 +145,5 @@ module _ (c : Collector) (n : ℕ) (start now : ZoneState) (got : ArrayVec (Opti
           ∙ ap (λ (s : Stop). at_end got.items (ran + 1) s hand) (sym none.1) in
           subst (λ (s : Stop). IsReservedByHand c n start behind (record { got = got; rounds = ran + 1; stop = s }))
           (sym (idle_stop_is at stop met full ∙ ap idle_stop at_is))
-          (told (record { got = got; rounds = ran + 1; stop = idle_stop by }) hand behind (suc left) (omega (arith, most, none.0)) here (λ fine. same))
+          (told (record { got = got; rounds = ran + 1; stop = idle_stop by }) hand behind (suc left)
+          (omega (arith, most, none.0)) here (λ fine. same))

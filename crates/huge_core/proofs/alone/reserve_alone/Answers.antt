@@ -24,6 +24,8 @@ loop-error-preserved g c =
     let collector = c.args.collector.now in
     let order = collector.order in
     let start = c.args.zone in
+    let scan = c.args.seats.now.scan in
+    let ends = c.args.seats.now.ends in
     let was = c.loop-error in
     let filled = c.fill_alone in
     let now = filled.new.zone in
@@ -38,12 +40,12 @@ loop-error-preserved g c =
     record {
       fewer = err.err;
       got = filled.ensures.got;
-      running = run_on collector c.args.seats.now.scan was.seats.scan run.new.seats.scan c.args.seats.now.ends was.seats.ends run.new.seats.ends
-          was.rounds round was.invariant.running c.if-rounds-collector.false (refused_by now order zone.NoBlock filled.ensures.lawful none)
+      running = run_on collector scan was.seats.scan run.new.seats.scan ends was.seats.ends run.new.seats.ends was.rounds round
+          was.invariant.running c.if-rounds-collector.false (refused_by now order zone.NoBlock filled.ensures.lawful none)
           is_round c.if-round-eq0.false;
       hand = λ rest.
-          let here = filled_by_hand order c.args.n start was.zone now was.got.items was.rounds got filled.ensures.filled filled.ensures.rest
-          (was.invariant.hand rest) in
+          let here = filled_by_hand order c.args.n start was.zone now was.got.items was.rounds got
+          filled.ensures.filled filled.ensures.rest (was.invariant.hand rest) in
           ran_by_hand order c.args.n start now run.result.0 got was.rounds filled.ensures.low filled.ensures.high err.err none
           (round_moves now round count none_back is_round.sum c.if-round-eq0.false)
           (rw c.in-Ok.is at run.ensures.exact) run.ensures.kept.lawful here;
@@ -73,8 +75,8 @@ returns-clause-exact g c = λ rest.
     let got = filled.new.got in
     let ran = was.rounds in
     let most = was.invariant.running.most in
-    let here = filled_by_hand order n start was.zone now was.got.items ran got.items filled.ensures.filled filled.ensures.rest
-    (was.invariant.hand rest) in
+    let here = filled_by_hand order n start was.zone now was.got.items ran got.items
+    filled.ensures.filled filled.ensures.rest (was.invariant.hand rest) in
     elim c.match-fill_alone.branch [
       | in_default w ↦ rw (w.zone-is, w.rounds-is, w.stop-is)
           (stopped_enough collector n start now got ran here most (rw w.in_default.is at filled.ensures.ok))
@@ -83,7 +85,8 @@ returns-clause-exact g c = λ rest.
           (subst (λ (e : ZoneError). take_order_refusal now order ≡ Some e) w.in-JournalFull.is w.in-Err.ensures.refused))
       | in-Err+in_default-error+then-rounds-collector w ↦ rw (w.zone-is, w.rounds-is, w.stop-is)
           (stopped_rounds collector n start now got ran here w.in-Err.ensures.err
-          (refused_no_block now order w.in-Err.error w.in-Err.ensures.refused w.in_default-error.not-JournalFull) w.if-rounds-collector.true)
+          (refused_no_block now order w.in-Err.error w.in-Err.ensures.refused w.in_default-error.not-JournalFull)
+          w.if-rounds-collector.true)
       | in-Err+in_default-error+else-rounds-collector+in-Ok+then-round-eq0 w ↦ rw (w.zone-is, w.rounds-is, w.stop-is)
           (let run = w.compact_alone-after in
           let round = w.in-Ok.round in
