@@ -14,15 +14,26 @@ pub refused : (zone : ZoneState) (order : ℕ) → IsLawful zone → (result : R
 refused zone order lawful (Ok huge) is = tt
 refused zone order lawful (Err error) is = record { zone = zone; lawful = lawful; refused = sym is }
 
+-- a lawful zone refuses a block
+pub refused_by : (zone : ZoneState) (order : ℕ) (error : ZoneError) → IsLawful zone → take_order_refusal zone order ≡ Some error
+    → IsRefused order error
+refused_by zone order error lawful is = record { zone = zone; lawful = lawful; refused = is }
+
 -- where a block is refused and the journal isn't full, no block is free
-pub no_block : (order : ℕ) (error : ZoneError) → IsRefused order error → (error ≡ JournalFull → ⊥) → IsRefused order NoBlock
-no_block order error was other = subst (IsRefused order) (only (has_room was.zone) (is_none (lowest_run was.zone order)) error was.refused other) was
+pub refused_no_block : (zone : ZoneState) (order : ℕ) (error : ZoneError) → take_order_refusal zone order ≡ Some error
+    → (error ≡ JournalFull → ⊥) → take_order_refusal zone order ≡ Some NoBlock
+refused_no_block zone order error refused other =
+    subst (λ (e : ZoneError). take_order_refusal zone order ≡ Some e)
+    (only (has_room zone) (is_none (lowest_run zone order)) error refused other) refused
   where
     only : (room none : Bool) (error : ZoneError) → (if not room then Some JournalFull else if none then Some NoBlock else None) ≡ Some error
         → (error ≡ JournalFull → ⊥) → error ≡ NoBlock
     only false none error is other = absurd (other (cc is))
     only true true error is other = cc is
     only true false error is other = absurd (subst (λ o. IfSome o (λ _. ⊥)) is tt)
+
+pub no_block : (order : ℕ) (error : ZoneError) → IsRefused order error → (error ≡ JournalFull → ⊥) → IsRefused order NoBlock
+no_block order error was other = refused_by was.zone order NoBlock was.lawful (refused_no_block was.zone order error was.refused other)
 
 pub taken_back : (zone zone_new : ZoneState) (huge : Huge) → IsLawful zone_new → (result : Result Unit (ZoneError × Huge))
     → OnOk result (give_order_refusal zone huge.frame huge.order ≡ None) → OnOk result (zone_new ≡ block_given zone huge.frame huge.order)

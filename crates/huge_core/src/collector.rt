@@ -120,7 +120,7 @@ fn take<K: Shape, I: Ledger, M: Ledger, B: Ledger, R: Wait>(
 }
 
 /// Why a collector stops after a round that moved no page.
-fn idle_stop(stopped: RoundStop) -> Stop
+pub(crate) fn idle_stop(stopped: RoundStop) -> Stop
     ensures met { stopped ≡ RoundStop.Met → result ≡ Stop.NoBlock }
     ensures full { stopped ≡ RoundStop.JournalFull → result ≡ Stop.JournalFull }
 {

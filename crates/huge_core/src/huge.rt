@@ -1,7 +1,7 @@
 ghost use Rattle.std.specs.Prelude.{◌≡◌, ◌/◌, Some, None, IsTrue, IfOk, IfErr, OnOk, OnErr};
 ghost use Rattle.std.specs.Result.{result_err};
 ghost use Rattle.frame_core.specs.Order.{is_aligned};
-ghost use Rattle.state_core.specs.HandingOut.{take_order_refusal, give_order_refusal, block_taken, block_given};
+ghost use Rattle.state_core.specs.HandingOut.{lowest_run, take_order_refusal, give_order_refusal, block_taken, block_given};
 ghost use Rattle.state_core.specs.Lawful.{IsLawful};
 ghost use Rattle.zone_core.specs.Shape.{HasShape};
 ghost use Rattle.huge_core.specs.Huge.{IsHandedOut, IsTakenBack, IsRefusedBack};
@@ -42,6 +42,7 @@ impl Huge {
         ensures refused { result_err result ≡ take_order_refusal zone.old order }
         ensures err { OnErr result (zone.new ≡ zone.old) }
         ensures order { IfOk result (λ huge. huge.order ≡ order) }
+        ensures lowest { IfOk result (λ huge. lowest_run zone.old order ≡ Some huge.frame) }
         ensures ok { IfOk result (λ huge. zone.new ≡ block_taken zone.old huge.frame order) }
         ensures handed_out { IfOk result IsHandedOut }
         ensures shape { HasShape zone.old.number zone.old.blocks zone.new }
