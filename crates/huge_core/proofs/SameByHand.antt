@@ -39,6 +39,21 @@ same_refl z = record {
   room = refl;
 }
 
+pub same_sym : (z w : ZoneState) → IsSame z w → IsSame w z
+same_sym z w same = record {
+  number = sym same.number;
+  blocks = sym same.blocks;
+  placement = sym same.placement;
+  unmovable = sym same.unmovable;
+  marked = sym same.marked;
+  handed_out = sym same.handed_out;
+  records = sym same.records;
+  length_is = sym same.length_is;
+  back = sym same.back;
+  out_is = sym same.out_is;
+  room = sym same.room;
+}
+
 pub same_trans : (z w v : ZoneState) → IsSame z w → IsSame w v → IsSame z v
 same_trans z w v a b = record {
   number = a.number ∙ b.number;
@@ -135,13 +150,13 @@ two_left : (room out room' out' : ℕ) → room - out ≡ room' - out' → nat_l
 two_left room out room' out' e = grind (arith, nat_tests)
 
 module _ (z w : ZoneState) (rest_z : IsAtRest z) (rest_w : IsAtRest w) (same : IsSame z w) where
-  by_hand_same : IsSame (by_hand z) (by_hand w)
+  pub by_hand_same : IsSame (by_hand z) (by_hand w)
   by_hand_same = by_hand_agrees z w rest_z rest_w same
 
   moves_same : moves z ≡ moves w
   moves_same = λ i. nat_lt (isolated_same z w same i) (isolated_same (by_hand z) (by_hand w) by_hand_same i)
 
-  stop_same : stop_by_hand z ≡ stop_by_hand w
+  pub stop_same : stop_by_hand z ≡ stop_by_hand w
   stop_same =
       let left = sym (room_by_hand z rest_z) ∙ by_hand_same.room ∙ room_by_hand w rest_w in
       let of_z = all_isolated z in
