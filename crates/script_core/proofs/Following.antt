@@ -63,10 +63,10 @@ all_followable [] none ranged = tt
 all_followable (c ∷ commands) none ranged = ((none.0, ranged.0), all_followable commands none.1 ranged.1)
 
 -- two worlds that no reply tells apart
-record AreBeside (v w : WorldState) : Type 0 where
-  same : IsSameWorld v w
-  orderly : IsOrderly v
-  orderly_by_hand : IsOrderly w
+pub record AreBeside (v w : WorldState) : Type 0 where
+  pub same : IsSameWorld v w
+  pub orderly : IsOrderly v
+  pub orderly_by_hand : IsOrderly w
 
 -- or no world in either
 abbrev Beside : Option WorldState → Option WorldState → Type 0
@@ -78,7 +78,7 @@ Beside (Some v) None = ⊥
 -- a machine with threads that is followed so far
 abbrev pub Follows : ℕ → Threaded → Followed → Type 0
 Follows places old NoLonger = ⊤
-Follows places old (To world) = (old.broken ≡ None) × ((old.single.places ≡ places) × Beside old.single.world world)
+Follows places old (To world) = (old.broken ≡ None) × (old.single.places ≡ places) × Beside old.single.world world
 
 pub first_follows : (places : ℕ) → Follows places (threaded_at_first places) (To None)
 first_follows places = (refl, refl, tt)
@@ -264,7 +264,7 @@ module _ (v w : WorldState) (with : AreBeside v w) (closed : v.is_open ≡ false
     passed settles = left_alone places client on.over.zone on.over.scan on.over.ends _ new (on.over.settled settles) on.left
 
     unbegun : (error : RoundError) → on.over.result ≡ Err error → IsWant error → IsUnbegun (Compact zone_number) answer → GoesOn places (Some w) (Compact zone_number) answer new
-    unbegun error result want refused =
+    unbegun error result want told =
         let settles = subst Settles (sym result) want in
         let after = passed settles in
         let E : Result Round RoundError → Type 0 = λ r. IsRefusedEarly v.scan on.over.scan v.ends on.over.ends r in
@@ -274,7 +274,7 @@ module _ (v w : WorldState) (with : AreBeside v w) (closed : v.is_open ≡ false
         let whole : on.over.ends.parts ≡ 64 = ap (λ (e : EndSeat). e.parts) (early.same (early.want want)).1 ∙ with.orderly.whole in
         record {
           beside = To (Some w);
-          step = inr (inl (refused, refl));
+          step = inr (inl (told, refl));
           related = (
             ap (λ (t : Threaded). t.broken) after,
             ap (λ (t : Threaded). t.single.places) after,
@@ -283,7 +283,7 @@ module _ (v w : WorldState) (with : AreBeside v w) (closed : v.is_open ≡ false
         }
 
     failed : HasFailed (Compact zone_number) answer → GoesOn places (Some w) (Compact zone_number) answer new
-    failed refused = record { beside = NoLonger; step = inr (inr (refused, refl)); related = tt }
+    failed told = record { beside = NoLonger; step = inr (inr (told, refl)); related = tt }
 
     done : (r : Round) → on.over.result ≡ Ok r → GoesOn places (Some w) (Compact zone_number) answer new
     done r result =
@@ -297,7 +297,7 @@ module _ (v w : WorldState) (with : AreBeside v w) (closed : v.is_open ≡ false
         (subst (λ (o : Option WorldState). Beside o (Some (round_by_hand w).world)) (sym (ap (λ (t : Threaded). t.single.world) after))
         (round_world on.over.zone on.over.scan on.over.ends on.over.kept.lawful round.whole d.same))
 
-    pub round_goes : GoesOn places (Some w) (Compact zone_number) answer new
+    round_goes : GoesOn places (Some w) (Compact zone_number) answer new
     round_goes = by_result on.over.result refl where
       by_result : (r : Result Round RoundError) → on.over.result ≡ r → GoesOn places (Some w) (Compact zone_number) answer new
       by_result (Ok r) result = done r result
@@ -362,7 +362,7 @@ module _ (v w : WorldState) (with : AreBeside v w) (closed : v.is_open ≡ false
             on.answer_is ∙ ap (λ (s : PoolStop). reply.Pool blocks (record { items = told_of blocks on.report.got.items }) on.report.rounds (pool_stopped_as s)) stops in
         record { beside = NoLonger; step = inr (inr (subst (HasFailed (Pool number count blocks)) (sym told) (of_round error), refl)); related = tt }
 
-    pub pool_goes : GoesOn places (Some w) (Pool number count blocks) answer new
+    pool_goes : GoesOn places (Some w) (Pool number count blocks) answer new
     pool_goes = by_stop on.report.stop refl where
       left_as : (stop : PoolStop) → on.report.stop ≡ stop → AreLeft stop on.ran.scan_behind on.scan on.ran.ends_behind on.ends
       left_as stop stops = subst (λ s. AreLeft s on.ran.scan_behind on.scan on.ran.ends_behind on.ends) stops on.ran.left

@@ -18,7 +18,7 @@ use Rattle.machine_core.specs.Ends.{EndsIn}
 use Rattle.play_core.specs.Runs.{IsAnswered, IsEnded, IsTotal}
 use Rattle.play_core.specs.Script.{Answer, Numbered, by, commands_of, parts_of}
 use Rattle.machine_core.specs.Replies.{output_of, totals_of}
-use Rattle.machine_core.specs.Single.{IsSingleStep, IsStep, Opens, single_at_first}
+use Rattle.machine_core.specs.Single.{IsSingleStep, Single, IsStep, Opens, single_at_first}
 use Rattle.script_core.specs.Threaded.{AsksMemory, IsBlockFor, IsUnthreaded, IsStepAt, IsThreadedStep, IsUnthreadedScript, Threaded, threaded_at_first}
 use Rattle.script_core.specs.ByHand.{IsAloneScript, IsByHandStep, OpensByHand, To}
 use Rattle.script_core.proofs.Following.{Follows, IsFollowable, all_followable, asks_follows, first_follows, step_follows}

@@ -26,7 +26,7 @@ unbegun_tells Profile2 r is = absurd is
 unbegun_tells OutOfRange r is = absurd is
 
 between : (low high n : ℕ) → low ≤ n → n ≤ high → (nat_le low n && nat_le n high) ≡ true
-between low high n least most = λ i. leb-from low n least i && leb-from n high most i
+between low high n least most = λ i. le-leb low n least i && le-leb n high most i
 
 -- and so does one that failed
 failed_tells : (c : Command) (r : Reply) → HasFailed c r → tells_refusal r ≡ true
