@@ -359,7 +359,7 @@ module _ (v w : WorldState) (with : AreBeside v w) (closed : v.is_open ≡ false
     pool_failed : (error : RoundError) → on.report.stop ≡ pool_stop.Refused error → GoesOn places (Some w) (Pool number count blocks) answer new
     pool_failed error stops =
         let told : answer ≡ reply.Pool blocks (record { items = told_of blocks on.report.got.items }) on.report.rounds (pool_stopped.Refused (number_of error)) =
-            on.answer_is ∙ ap (λ (s : PoolStop). reply.Pool blocks (record { items = told_of blocks on.report.got.items }) on.report.rounds (pool_stopped_as s)) stops in
+        on.answer_is ∙ ap (λ (s : PoolStop). reply.Pool blocks (record { items = told_of blocks on.report.got.items }) on.report.rounds (pool_stopped_as s)) stops in
         record { beside = NoLonger; step = inr (inr (subst (HasFailed (Pool number count blocks)) (sym told) (of_round error), refl)); related = tt }
 
     pool_goes : GoesOn places (Some w) (Pool number count blocks) answer new

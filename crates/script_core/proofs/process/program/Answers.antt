@@ -1,6 +1,9 @@
-use Rattle.std.proofs.Common.{◌∙◌, inl, sym}
+use Rattle.std.proofs.Common.{◌∙◌, ℕ, inl, subst, sym, None}
+use Rattle.std.specs.Prelude.{IfSome}
 use Rattle.std.proofs.lemmas.Result.{IfOk-weaker}
 use Rattle.clap.specs.Words.{kind_of}
+use Rattle.play_core.specs.Runs.{IsAnswered}
+use Rattle.script_core.specs.ByHand.{IsAloneScript, IsByHandStep, To}
 use Rattle.script_core.proofs.Endings.{helped, no_help, one_lacks_memory, refused, two_is_no_help, two_refuses}
 use Rattle.script_core.proofs.process.program.Goals as goal
 
@@ -23,3 +26,9 @@ returns-in-Err-clause-quiet g c = λ two. c.answer.ensures.quiet (two_is_no_help
 pub returns-in-Err-clause-fault : goal.returns-in-Err-clause-fault
 returns-in-Err-clause-fault g c =
     IfOk-weaker c.args.words _ _ (λ args kinds one. inl (c.answer.ensures.memory (one_lacks_memory (kind_of c.in-Err.error) (sym c.answer.ensures.status ∙ one)))) c.in-Err.ensures.refused
+
+pub returns-in-Ok-clause-by_hand : goal.returns-in-Ok-clause-by_hand
+returns-in-Ok-clause-by_hand g c =
+    IfOk-weaker c.args.words _ _ (λ args given none done. subst (λ (places : ℕ). IfSome (g.R.Read.remaining c.args.reader.now) (λ input. IsAloneScript input
+        → IsAnswered (IsByHandStep places) (To None) input (g.W.Write.contents c.args.writer.now) (g.W.Write.contents c.play.new.writer))) given.journal (c.play.ensures.by_hand done))
+    c.in-Ok.ensures.ok
