@@ -11,7 +11,6 @@ use Rattle.world_core.specs.World.{WorldState}
 use Rattle.text_core.specs.declared.profile.Profile.TheVariants.{Untold}
 use Rattle.text_core.specs.declared.reply.Reply.{Reply}
 use Rattle.play_core.specs.declared.error.Fault.{Fault}
-use Rattle.play_core.specs.declared.error.Fault.TheVariants.{Syntax, LongLine, Read, Write, Memory}
 use Rattle.play_core.specs.declared.error.RunError.{RunError}
 use Rattle.play_core.specs.declared.totals.Totals.{Totals}
 use Rattle.machine_core.specs.Ends.{EndsIn}

@@ -30,5 +30,5 @@ returns-in-Err-clause-fault g c =
 pub returns-in-Ok-clause-by_hand : goal.returns-in-Ok-clause-by_hand
 returns-in-Ok-clause-by_hand g c =
     IfOk-weaker c.args.words _ _ (λ args given none done. subst (λ (places : ℕ). IfSome (g.R.Read.remaining c.args.reader.now) (λ input. IsAloneScript input
-        → IsAnswered (IsByHandStep places) (To None) input (g.W.Write.contents c.args.writer.now) (g.W.Write.contents c.play.new.writer))) given.journal (c.play.ensures.by_hand done))
+    → IsAnswered (IsByHandStep places) (To None) input (g.W.Write.contents c.args.writer.now) (g.W.Write.contents c.play.new.writer))) given.journal (c.play.ensures.by_hand done))
     c.in-Ok.ensures.ok
