@@ -1,4 +1,4 @@
-ghost use Rattle.std.specs.Prelude.{◌≡◌, ◌≢◌, ◌<◌, IfErr, IfOk, IfSome, IsTrue, OnOk, OnSome, None, Some, false, length};
+ghost use Rattle.std.specs.Prelude.{◌≡◌, ◌≢◌, ◌+◌, ◌<◌, ◌≤◌, IfErr, IfOk, IfSome, IsTrue, OnOk, OnSome, None, Some, false, length};
 ghost use Rattle.std.specs.Io.KnownBytes.{Appends};
 ghost use Rattle.zone_core.specs.Books.{AreFor};
 ghost use Rattle.play_core.specs.declared.error.Fault.{Fault};
@@ -37,6 +37,7 @@ pub fn run<R: Input, W: Output>(
 
     // Where a read ended the run, it failed, or ten million reads didn't come to the end; where a write did, it failed or took no byte.
     ensures heard { OnOk result (R.failed reader.new ≡ false) }
+    ensures few { R.reads reader.new ≤ R.reads reader.old + 10000000 }
     ensures unread { IfErr result (λ error. error.fault ≡ Fault.Read → CannotReadOn (R.failed reader.new)
         (R.reads reader.old) (R.reads reader.new) (R.remaining reader.old)) }
     ensures stuck { IfErr result (λ error. error.fault ≡ Fault.Write → IsTrue (W.stuck writer.new)) }
@@ -94,6 +95,7 @@ fn run_with<I: Ledger, N: Ledger, M: Ledger, B: Ledger, R: Input, W: Output>(
         EndsIn error.fault options.journal input error (R.remaining reader.old) (R.remaining reader.new)
         (W.contents writer.old) (W.contents writer.new))) }
     ensures heard { OnOk result (R.failed reader.new ≡ false) }
+    ensures few { R.reads reader.new ≤ R.reads reader.old + 10000000 }
     ensures unread { IfErr result (λ error. error.fault ≡ Fault.Read → CannotReadOn (R.failed reader.new)
         (R.reads reader.old) (R.reads reader.new) (R.remaining reader.old)) }
     ensures stuck { IfErr result (λ error. error.fault ≡ Fault.Write → IsTrue (W.stuck writer.new)) }

@@ -411,6 +411,8 @@ impl<A: Respond> Player<A> {
             IsEnded A.may A.asks self.old.machine error.fault input error (R.remaining reader.old) (R.remaining reader.new)
             (W.contents writer.old) (W.contents writer.new))) }
         ensures heard { OnOk result (R.failed reader.new ≡ false) }
+        // At most ten million reads give bytes.
+        ensures few { R.reads reader.new ≤ R.reads reader.old + 10000000 }
         ensures unread { IfErr result (λ error. error.fault ≡ Fault.Read → CannotReadOn (R.failed reader.new)
             (R.reads reader.old) (R.reads reader.new) (R.remaining reader.old)) }
         ensures stuck { IfErr result (λ error. error.fault ≡ Fault.Write → IsTrue (W.stuck writer.new)) }
@@ -506,6 +508,7 @@ pub fn play<A: Respond + Drop, R: Input, W: Output>(
         IsEnded A.may A.asks machine error.fault input error (R.remaining reader.old) (R.remaining reader.new)
         (W.contents writer.old) (W.contents writer.new))) }
     ensures heard { OnOk result (R.failed reader.new ≡ false) }
+    ensures few { R.reads reader.new ≤ R.reads reader.old + 10000000 }
     ensures unread { IfErr result (λ error. error.fault ≡ Fault.Read → CannotReadOn (R.failed reader.new)
         (R.reads reader.old) (R.reads reader.new) (R.remaining reader.old)) }
     ensures stuck { IfErr result (λ error. error.fault ≡ Fault.Write → IsTrue (W.stuck writer.new)) }

@@ -1,4 +1,4 @@
-ghost use Rattle.std.specs.Prelude.{◌≡◌, IfErr, IfOk, IfSome, IsTrue, OnErr, OnOk, None, false};
+ghost use Rattle.std.specs.Prelude.{◌≡◌, ◌+◌, ◌≤◌, IfErr, IfOk, IfSome, IsTrue, OnErr, OnOk, None, false};
 ghost use Rattle.std.specs.Io.KnownBytes.{Appends};
 ghost use Rattle.zone_core.specs.Books.{AreFor};
 ghost use Rattle.text_core.specs.declared.command.Command.TheVariants.{Compact, Pool};
@@ -50,6 +50,7 @@ pub fn run_on_threads<R: Input, W: Output, H: Threads + Wait + Sync>(
 
     // Where a read ended the run, it failed, or ten million reads didn't come to the end; where a write did, it failed or took no byte.
     ensures heard { OnOk result (R.failed reader.new ≡ false) }
+    ensures few { R.reads reader.new ≤ R.reads reader.old + 10000000 }
     ensures unread { IfErr result (λ error. error.fault ≡ Fault.Read → CannotReadOn (R.failed reader.new)
         (R.reads reader.old) (R.reads reader.new) (R.remaining reader.old)) }
     ensures stuck { IfErr result (λ error. error.fault ≡ Fault.Write → IsTrue (W.stuck writer.new)) }
@@ -90,6 +91,7 @@ pub fn run_watched<R: Input, W: Output, H: Threads + Wait + Sync, V: Watch>(
         IsEnded IsThreadedStep AsksMemory (threaded_at_first options.journal) error.fault input error
         (R.remaining reader.old) (R.remaining reader.new) (W.contents writer.old) (W.contents writer.new))) }
     ensures heard { OnOk result (R.failed reader.new ≡ false) }
+    ensures few { R.reads reader.new ≤ R.reads reader.old + 10000000 }
     ensures unread { IfErr result (λ error. error.fault ≡ Fault.Read → CannotReadOn (R.failed reader.new)
         (R.reads reader.old) (R.reads reader.new) (R.remaining reader.old)) }
     ensures stuck { IfErr result (λ error. error.fault ≡ Fault.Write → IsTrue (W.stuck writer.new)) }
@@ -132,6 +134,7 @@ fn run_threaded<
         IsEnded IsThreadedStep AsksMemory (threaded_at_first options.journal) error.fault input error
         (R.remaining reader.old) (R.remaining reader.new) (W.contents writer.old) (W.contents writer.new))) }
     ensures heard { OnOk result (R.failed reader.new ≡ false) }
+    ensures few { R.reads reader.new ≤ R.reads reader.old + 10000000 }
     ensures unread { IfErr result (λ error. error.fault ≡ Fault.Read → CannotReadOn (R.failed reader.new)
         (R.reads reader.old) (R.reads reader.new) (R.remaining reader.old)) }
     ensures stuck { IfErr result (λ error. error.fault ≡ Fault.Write → IsTrue (W.stuck writer.new)) }

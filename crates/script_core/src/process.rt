@@ -1,4 +1,4 @@
-ghost use Rattle.std.specs.Prelude.{◌≡◌, ◌≢◌, ◌≤◌, ◌⊎◌, [], false, true, None, IfOk, IfErr, IfSome};
+ghost use Rattle.std.specs.Prelude.{◌≡◌, ◌≢◌, ◌+◌, ◌≤◌, ◌⊎◌, [], false, true, None, IfOk, IfErr, IfSome};
 ghost use Rattle.std.specs.Io.KnownBytes.{Appends, Keeps};
 ghost use Rattle.clap.specs.Words.{kind_of};
 ghost use Rattle.options_core.specs.CommandLine.{texts_of, refusal_of, journal_of, is_help, asks_help, asks_only_help};
@@ -55,6 +55,8 @@ pub fn program<R: Input, W: Output, F: Output, H: Threads + Wait + Sync>(
         → (result ≡ 0) ⊎ LacksMemory result (W.contents writer.old) (W.contents writer.new)
         (F.contents faults.old) (F.contents faults.new) (F.stuck faults.new)) }
     ensures quiet { result ≡ 2 → Keeps (W.contents writer.old) (W.contents writer.new) }
+    // At most ten million reads of the script give bytes.
+    ensures few { R.reads reader.new ≤ R.reads reader.old + 10000000 }
     // The script has no fault, and was answered; one without rounds, pools and blocks was answered as on one thread.
     ensures whole { IfOk words (λ args. refusal_of (texts_of args) ≡ [] → result ≡ 0
         → IfSome (R.remaining reader.old) (λ input. fault_of input ≡ None)) }
@@ -91,6 +93,7 @@ fn play<R: Input, W: Output, F: Output, H: Threads + Wait + Sync>(
     options: Options,
 ) -> u8
     ensures status { result ≤ 1 }
+    ensures few { R.reads reader.new ≤ R.reads reader.old + 10000000 }
     ensures whole { result ≡ 0 → IfSome (R.remaining reader.old) (λ input. fault_of input ≡ None) }
     ensures answered { result ≡ 0 → IfSome (R.remaining reader.old) (λ input.
         IsAnswered IsThreadedStep (threaded_at_first options.journal) input (W.contents writer.old) (W.contents writer.new)) }

@@ -17,6 +17,7 @@ loop-init g c = record {
   line = omega (arith, ap (λ (s : Player _). s.line) c.requires);
   none = ap (λ (s : Player _). s.box) c.requires;
   reads = omega arith;
+  few = omega arith;
   past = ([], Consumes-nil (g.R.Read.remaining c.args.reader.now), begun_read g.A.Respond.may c.args.self.now.machine c.args.self.now (g.W.Write.contents c.args.writer.now) c.requires, omega arith);
 }
 
@@ -34,6 +35,9 @@ all_read g c input known =
 pub returns-in-Ok-eq0-clause-ok : goal.returns-in-Ok-eq0-clause-ok
 returns-in-Ok-eq0-clause-ok g c = MatchResult-weaker c.end.result c.end.ensures.ok (λ totals ends. if_known (g.R.Read.remaining c.args.reader.now) _ (λ input known.
     (ends c.args.self.now.machine input _ _ (all_read g c input known)).0.fault)) (λ _ u. u)
+
+pub returns-in-Ok-eq0-clause-few : goal.returns-in-Ok-eq0-clause-few
+returns-in-Ok-eq0-clause-few g c = (let same = c.in-Ok-eq0.ensures.reads.0 c.in-Ok-eq0.field-0-test in omega (arith, same, c.loop.invariant.few, c.loop-test.true))
 
 pub returns-in-Ok-eq0-clause-answered : goal.returns-in-Ok-eq0-clause-answered
 returns-in-Ok-eq0-clause-answered g c =
@@ -77,6 +81,9 @@ returns-in_err-play-in-Ok-clause-err g c =
     let E : List ℕ → Type 0 = λ i. IsEnded g.A.Respond.may g.A.Respond.asks start e.fault i e left after first now in
     subst E (sym rest.2) ((c.in_err-play-in-Ok.ensures.err start past.0 first past.2).ends rest.0 left after)))
 
+pub returns-in_err-play-in-Ok-clause-few : goal.returns-in_err-play-in-Ok-clause-few
+returns-in_err-play-in-Ok-clause-few g c = (let counted = c.in-Ok.ensures.reads.1 (omega (arith, c.in-Ok.count-test)) in omega (arith, counted, c.loop.invariant.few, c.loop-test.true))
+
 pub returns-in_err-play-in-Ok-clause-unread : goal.returns-in_err-play-in-Ok-clause-unread
 returns-in_err-play-in-Ok-clause-unread g c =
     let p = err_from_is_err_and c.from_residual.result c.from_residual.ensures.1 in
@@ -93,6 +100,7 @@ loop-preserved g c =
       line = omega (arith, c.in_ok-play-in-Ok.ensures.line, c.in-Ok.ensures.bound.0, c.in-Ok.ensures.bound.1, c.read_noted.auto.buffer, c.loop.invariant.room, c.loop.invariant.line);
       none = c.in_ok-play-in-Ok.ensures.empty;
       reads = (let counted = c.in-Ok.ensures.reads.1 (omega (arith, some)) in omega (arith, counted, c.loop.invariant.reads));
+      few = (let counted = c.in-Ok.ensures.reads.1 (omega (arith, some)) in omega (arith, counted, c.loop.invariant.few));
       past = (
         past.0 ++ piece,
         Consumes-trans _ _ _ past.0 piece past.1 c.in-Ok.ensures.bytes.0,
@@ -100,6 +108,9 @@ loop-preserved g c =
         (let n : length piece ≡ c.in-Ok.count = length-take-le c.in-Ok.count c.read_noted.new.buffer c.in-Ok.ensures.bound.0 in omega (arith, length-append past.0 piece, n, past.3, some)),
       );
     }
+
+pub returns-in-Err-clause-few : goal.returns-in-Err-clause-few
+returns-in-Err-clause-few g c = omega (arith, c.in-Err.ensures.reads, c.loop.invariant.few, c.loop-test.true)
 
 pub returns-in-Err-clause-err : goal.returns-in-Err-clause-err
 returns-in-Err-clause-err g c =

@@ -11,6 +11,7 @@ invariant-loop g l = record {
   line : l.self.line ≤ 4096 * l.counter + 1;
   none : l.self.box ≡ empty;
   reads : min (g.R.Input.reads l.fn.reader + l.counter) (2 ^ 64 - 1) ≤ g.R.Input.reads l.reader;
+  few : g.R.Input.reads l.reader ≤ g.R.Input.reads l.fn.reader + l.counter;
   past : (past : List ℕ) × Consumes (g.R.Read.remaining l.fn.reader) (g.R.Read.remaining l.reader) past
       × HasRead g.A.Respond.may l.fn.self.machine l.self past (g.W.Write.contents l.fn.writer) (g.W.Write.contents l.writer)
       × (l.counter ≤ length past);
