@@ -20,6 +20,13 @@ pub fn comes_above(number: &AtomicU64, low: u64) -> bool {
     false
 }
 
+/// Lets other threads run for a while.
+pub fn linger() {
+    for _turn in 0..1000 {
+        yield_now();
+    }
+}
+
 /// Holds the first copier that reaches a point until a page has ended and a client has spoken, and some turns more.
 #[derive(Drop)]
 pub struct Holds {
@@ -46,9 +53,7 @@ impl Holds {
         if !comes_above(&self.ended, 0) || !comes_above(&self.answered, 0) {
             self.held_in_vain.store(1, Ordering::SeqCst);
         }
-        for _turn in 0..1000 {
-            yield_now();
-        }
+        linger();
     }
 
     /// What it waited for came.
