@@ -30,7 +30,7 @@ impl Dams {
 
     fn hold(&self) {
         let _ = comes_above(&self.isolated, self.wanted.saturating_sub(1));
-        linger();
+        linger(300);
         self.ahead
             .store(self.isolated.load(Ordering::SeqCst), Ordering::SeqCst);
     }

@@ -7,7 +7,7 @@ use std::sync::atomic::{AtomicU64, Ordering};
 use std::sync::ledger::Ledger;
 use std::thread::{Threads, yield_now};
 
-const TURNS: u32 = 1_000_000;
+const TURNS: u32 = 20_000_000;
 
 /// Whether a number comes to be above another.
 pub fn comes_above(number: &AtomicU64, low: u64) -> bool {
@@ -20,9 +20,9 @@ pub fn comes_above(number: &AtomicU64, low: u64) -> bool {
     false
 }
 
-/// Lets other threads run for a while.
-pub fn linger() {
-    for _turn in 0..1000 {
+/// Lets other threads run for so many turns.
+pub fn linger(turns: u32) {
+    for _turn in 0..turns {
         yield_now();
     }
 }
@@ -53,7 +53,7 @@ impl Holds {
         if !comes_above(&self.ended, 0) || !comes_above(&self.answered, 0) {
             self.held_in_vain.store(1, Ordering::SeqCst);
         }
-        linger();
+        linger(1000);
     }
 
     /// What it waited for came.

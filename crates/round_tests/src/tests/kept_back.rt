@@ -11,10 +11,10 @@ use std::sync::atomic::{AtomicU64, Ordering};
 use std::sync::ledger::Ledger;
 use std::thread::Threads;
 
-const PAGES: u32 = 40;
+const PAGES: u32 = 12;
 
 /// Keeps back all of so many copiers but the last to come, each with the first page that it took. Once all other pages have ended it
-/// lets them go, one after the other, in the order in which they came.
+/// lets them go, one after the other, in the order in which they came. The last waits some turns, in which others could come.
 #[derive(Drop)]
 struct KeepsBack {
     copiers: u64,
@@ -47,10 +47,11 @@ impl KeepsBack {
         place.store(came, Ordering::SeqCst);
         let ended = u64::from(PAGES).saturating_add(came);
         let low = ended.saturating_sub(self.copiers).saturating_sub(1);
-        if came < self.copiers && !comes_above(&self.ended, low) {
+        if came >= self.copiers {
+            linger(300);
+        } else if !comes_above(&self.ended, low) {
             self.kept_in_vain.store(1, Ordering::SeqCst);
         }
-        linger();
     }
 
     /// As many copiers came, and none was kept back in vain.

@@ -1,3 +1,4 @@
+use super::gates::linger;
 use super::opening::{Opening, counts_of, round_of};
 use super::{Trial, tries};
 use journal_core::{Journal, Record};
@@ -6,9 +7,9 @@ use std::process::Abort;
 use std::sync::Wait;
 use std::sync::atomic::{AtomicU64, Ordering};
 use std::sync::ledger::Ledger;
-use std::thread::{Threads, yield_now};
+use std::thread::Threads;
 
-const PAGES: u32 = 24;
+const PAGES: u32 = 16;
 
 /// A number of pages for each point.
 #[derive(Drop)]
@@ -111,9 +112,7 @@ impl<
 > Gate for Looks<'a, K, I, M, B, R> {
     fn at(&self, point: Point, _who: usize) {
         self.told.add(point);
-        for _turn in 0..100 {
-            yield_now();
-        }
+        linger(10);
         let isolated = self.told.count(Point::Isolated);
         let ended = self.told.count(Point::Ended);
         let recorded = self.look();
@@ -162,8 +161,8 @@ impl<
 
 #[test]
 fn the_gate_stands_between_two_steps_with_the_lock_free(rt: HostRuntime) {
-    for copiers in 1..5usize {
-        for room in [1, 3, 8] {
+    for copiers in [1, 2, 4] {
+        for room in [1, 8] {
             tries(&rt, 1, 99, Trial::LooksAtEachPoint(copiers, room));
         }
     }

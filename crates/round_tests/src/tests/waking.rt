@@ -42,7 +42,7 @@ impl Gate for Lulls {
         if point == Point::Copied {
             self.reached.fetch_add(1, Ordering::SeqCst);
             let _ = comes_above(&self.waiting, 1);
-            linger();
+            linger(300);
         }
     }
 }
