@@ -1,15 +1,19 @@
 ghost use Rattle.std.specs.Prelude.{◌≡◌};
 ghost use Rattle.zone_core.specs.Books.{AreFor};
 
+mod ahead;
 mod calls;
 mod carrying;
 mod clients;
 mod gates;
+mod kept_back;
+mod looking;
 mod opening;
 mod refused_calls;
 mod reserving;
 mod rounds;
 mod settling;
+mod waking;
 
 use calls::{Answer, Call};
 use frame_core::{Address, ClientNo, FrameNo, SpaceNo, VPage, WordNo};
@@ -21,6 +25,7 @@ use std::process::Abort;
 use std::sync::Wait;
 use std::sync::ledger::Ledger;
 use std::thread::Threads;
+use waking::Waiting;
 use zone_core::Blanks;
 
 fn client_number(rt: &impl Abort, number: u32) -> ClientNo {
@@ -54,15 +59,24 @@ enum Trial<'a> {
     IsBroken,
     HoldsOneOfTwoCopiers,
     NotesEachPage,
+    /// All but one of so many copiers.
+    KeepsCopiersBack(usize),
+    /// With so many copiers, and room for so many pages.
+    LooksAtEachPoint(usize, usize),
     UsesAPageBesideAHeldOne,
     PinsAHeldPage,
     WaitsForAHeldPage(Call, Answer),
+    WakesBoth(Waiting, Waiting),
     SharesAPage,
     UsesOwnWords,
     RefusesCalls,
     RefusesCallsWithoutRoom,
     Reserves(&'a Case),
     GivesBack,
+    /// With so many copiers.
+    CollectsWithEachCopier(usize),
+    /// With room for so many pages. So many pages are isolated ahead.
+    CollectsAhead(usize, u64),
 }
 
 /// Opens zone 1, of so many pageblocks and with so many places in its journal, and tries something with it.
@@ -87,15 +101,20 @@ fn tries_in<
         Trial::IsBroken => opening.is_broken(rt),
         Trial::HoldsOneOfTwoCopiers => opening.holds_one_of_two_copiers(rt),
         Trial::NotesEachPage => opening.notes_each_page(rt),
+        Trial::KeepsCopiersBack(copiers) => opening.keeps_copiers_back(rt, copiers),
+        Trial::LooksAtEachPoint(copiers, room) => opening.looks_at_each_point(rt, copiers, room),
         Trial::UsesAPageBesideAHeldOne => opening.uses_a_page_beside_a_held_one(rt),
         Trial::PinsAHeldPage => opening.pins_a_held_page(rt),
         Trial::WaitsForAHeldPage(call, answer) => opening.waits_for_a_held_page(rt, call, answer),
+        Trial::WakesBoth(first, second) => opening.wakes_both(rt, first, second),
         Trial::SharesAPage => opening.shares_a_page(rt),
         Trial::UsesOwnWords => opening.uses_own_words(rt),
         Trial::RefusesCalls => opening.refuses_calls(rt),
         Trial::RefusesCallsWithoutRoom => opening.refuses_calls_without_room(rt),
         Trial::Reserves(case) => opening.reserves(rt, case),
         Trial::GivesBack => opening.gives_back(rt),
+        Trial::CollectsWithEachCopier(copiers) => opening.collects_with_each_copier(rt, copiers),
+        Trial::CollectsAhead(room, ahead) => opening.collects_ahead(rt, room, ahead),
     }
 }
 

@@ -7,7 +7,7 @@ use std::sync::atomic::{AtomicU64, Ordering};
 use std::sync::ledger::Ledger;
 use std::thread::{Threads, yield_now};
 
-const TURNS: u32 = 1_000_000;
+const TURNS: u32 = 20_000_000;
 
 /// Whether a number comes to be above another.
 pub fn comes_above(number: &AtomicU64, low: u64) -> bool {
@@ -18,6 +18,13 @@ pub fn comes_above(number: &AtomicU64, low: u64) -> bool {
         yield_now();
     }
     false
+}
+
+/// Lets other threads run for so many turns.
+pub fn linger(turns: u32) {
+    for _turn in 0..turns {
+        yield_now();
+    }
 }
 
 /// Holds the first copier that reaches a point until a page has ended and a client has spoken, and some turns more.
@@ -46,9 +53,7 @@ impl Holds {
         if !comes_above(&self.ended, 0) || !comes_above(&self.answered, 0) {
             self.held_in_vain.store(1, Ordering::SeqCst);
         }
-        for _turn in 0..1000 {
-            yield_now();
-        }
+        linger(1000);
     }
 
     /// What it waited for came.

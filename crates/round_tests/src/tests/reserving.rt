@@ -4,7 +4,7 @@ use super::{Trial, tries};
 use arrayvec::ArrayVec;
 use frame_core::Order;
 use huge_core::{Collector, Huge, Report, Stop, give};
-use round_core::{NoGate, RoundError, Shape};
+use round_core::{Gate, NoGate, RoundError, Shape};
 use std::process::Abort;
 use std::sync::Wait;
 use std::sync::ledger::Ledger;
@@ -189,6 +189,26 @@ impl<
             order: Order::new(order).expect(rt, "an order"),
         };
         collector.reserve(rt, rt.alloc(), &self.shared, &mut self.seats, n, &NoGate)
+    }
+
+    /// A collector that may run one round runs it, and gets no block.
+    pub fn collects<G: Gate, R: Threads + Wait + Abort + AllocGlobal + Sync>(
+        &mut self,
+        rt: &R,
+        copiers: usize,
+        cap: usize,
+        gate: &G,
+    ) {
+        assert!(rt; 0 < copiers && copiers <= 4 && 0 < cap && cap <= 64);
+        let collector = Collector {
+            copiers,
+            cap,
+            rounds: 1,
+            order: Order::new(9).expect(rt, "an order"),
+        };
+        let report = collector.reserve(rt, rt.alloc(), &self.shared, &mut self.seats, 1, gate);
+        assert!(rt; report.got.is_empty() && report.rounds == 1);
+        assert_eq!(rt; report.stop, Stop::Rounds);
     }
 
     /// A collector reports what the case says. Where the end seat isn't whole, a part of it is kept back meanwhile.

@@ -10,7 +10,7 @@ use word_core::Isolated;
 use zone_core::{Next, ZoneError};
 
 /// The lists rise, and together they are the round's serials.
-fn assert_shared(rt: &(impl Abort + AllocGlobal), round: &Round) {
+pub fn assert_shared(rt: &(impl Abort + AllocGlobal), round: &Round) {
     let mut seen = Vec::from_elem(rt.alloc(), false, round.count as usize).expect(rt, "memory");
     let mut carried = 0u64;
     for list in round.by_copier.iter() {
