@@ -1,10 +1,10 @@
-//! The counts of a zone, its journal, its tables and its frames.
+//! The counts of a zone, its journal, its tables, its frames and their words.
 
-ghost use Rattle.std.specs.Prelude.{◌≡◌, ◌+◌};
+ghost use Rattle.std.specs.Prelude.{◌≡◌, ◌+◌, length};
 ghost use Rattle.state_core.specs.Lawful.{IsLawful};
 ghost use Rattle.state_core.specs.Looking.{info_of};
 ghost use Rattle.state_core.specs.ZoneState.{frame_count};
-ghost use Rattle.plain_core.specs.Fits.{EntriesFit, FramesFit, MovableFit};
+ghost use Rattle.plain_core.specs.Fits.{EntriesFit, FramesFit, MovableFit, WordsFit};
 
 use crate::plain::PlainZone;
 use frame_core::ZoneNo;
@@ -12,6 +12,7 @@ use journal_core::Journal;
 use scan_core::Frames;
 use state_core::Info;
 use table_core::Tables;
+use word_core::Words;
 
 impl PlainZone {
     /// The counts of the zone.
@@ -66,5 +67,14 @@ impl PlainZone {
         ensures movable { MovableFit result.now.movable self.now }
     {
         &self.frames
+    }
+
+    /// The words of each frame. The frame in which a page stands has the words of this page; while a page is moving, the one
+    /// that it left has them.
+    pub fn words(&self) -> &Words
+        ensures words { WordsFit result.now self.now }
+        ensures frames { length result.now ≡ frame_count self.now }
+    {
+        &self.words
     }
 }

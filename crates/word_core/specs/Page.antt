@@ -21,3 +21,7 @@ blank_page zone number = record { zone = zone; number = number; flags = record {
 pub record OnItsWay : Type 0 where
   pub serial : ℕ
   pub page : Page
+
+-- a blank isolated page, or a blank copy: the blank page 0 of zone 0, under the serial 0
+abbrev pub blank_on_its_way : OnItsWay
+blank_on_its_way = record { serial = 0; page = blank_page 0 0 }

@@ -20,8 +20,12 @@ impl Model for Copied {
     ghost view = { λ p. record { serial = p.serial; page = p.page } };
 }
 
-/// A blank copy. It fills the empty places of a list whose capacity is fixed.
+/// A copy of a blank page, under the serial 0. It fills the empty places of a list whose capacity is fixed.
 impl Default for Copied {
+    ghost use Rattle.word_core.specs.Page.{blank_on_its_way};
+
+    ghost is_default = { λ p. p ≡ blank_on_its_way };
+
     fn default() -> Self {
         Isolated::default().copy_into_new()
     }

@@ -20,8 +20,12 @@ impl Model for Isolated {
     ghost view = { λ p. record { serial = p.serial; page = p.page } };
 }
 
-/// A blank page. It fills the empty places of a list whose capacity is fixed.
+/// A blank page, under the serial 0. It fills the empty places of a list whose capacity is fixed.
 impl Default for Isolated {
+    ghost use Rattle.word_core.specs.Page.{blank_on_its_way};
+
+    ghost is_default = { λ p. p ≡ blank_on_its_way };
+
     fn default() -> Self {
         Isolated::new(0, Page::default())
     }

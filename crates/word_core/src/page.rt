@@ -22,8 +22,14 @@ impl Model for Page {
     ghost invariant = { λ p. length p.words ≡ 8 };
 }
 
-/// A blank page. It fills the empty places of a list whose capacity is fixed.
+/// A blank page: page 0 of zone 0, with no flags, and all its words 0. It fills the empty places of a list whose capacity
+/// is fixed.
 impl Default for Page {
+    ghost use Rattle.std.specs.Prelude.{◌≡◌};
+    ghost use Rattle.word_core.specs.Page.{blank_page};
+
+    ghost is_default = { λ p. p ≡ blank_page 0 0 };
+
     fn default() -> Self {
         let Some(zone) = ZoneNo::new(0) else {
             unreachable!()

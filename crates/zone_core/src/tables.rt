@@ -1,13 +1,18 @@
-//! The entries of a zone's addresses and the states of its frames, to be read.
+//! The entries of a zone's addresses, and the states and words of its frames, to be read.
 
-ghost use Rattle.std.specs.Prelude.{◌≡◌};
-ghost use Rattle.plain_core.specs.Fits.{EntriesFit, FramesFit, MovableFit};
-ghost use Rattle.state_core.specs.ZoneState.{frame_count};
+ghost use Rattle.std.specs.Prelude.{◌≡◌, ◌<◌, ℕ, Some, length};
+ghost use Rattle.std.specs.FinMap as map;
+ghost use Rattle.journal_core.specs.History.{last};
+ghost use Rattle.plain_core.specs.Fits.{EntriesFit, FramesFit, MovableFit, WordsFit};
+ghost use Rattle.state_core.specs.ZoneState.{frame_count, words_frame};
+ghost use Rattle.state_core.specs.declared.placement.Placement.{Placement};
+ghost use Rattle.word_core.specs.Words.{word_of};
 
 use crate::zone::Zone;
 use scan_core::Frames;
 use std::sync::ledger::Ledger;
 use table_core::Tables;
+use word_core::Words;
 
 impl<I: Ledger, M: Ledger, B: Ledger> Zone<I, M, B> {
     /// The entry of each address, and the addresses that are listed under each frame.
@@ -24,5 +29,17 @@ impl<I: Ledger, M: Ledger, B: Ledger> Zone<I, M, B> {
         ensures movable { MovableFit result.now.movable self.now }
     {
         self.plain.frames()
+    }
+
+    /// The words of each frame. The frame in which a page stands has the words of this page; while a page is moving, the one
+    /// that it left has them.
+    pub fn words(&self) -> &Words
+        ensures words { WordsFit result.now self.now }
+        ensures frames { length result.now ≡ frame_count self.now }
+        // `Words::load` answers the value that was stored last in this word of the page, or 0.
+        ensures last { (page : ℕ) (placement : Placement) (word : ℕ) → map.get self.now.placement page ≡ Some placement
+            → word < 8 → word_of result.now (words_frame placement) word ≡ last self.now.records page word }
+    {
+        self.plain.words()
     }
 }
