@@ -70,18 +70,20 @@ copy_answered (Came.Copy copy) = copy ∷ []
 copy_answered Came.End = []
 copy_answered Came.Gone = []
 
--- the answer is the end exactly where the mark of every sender was received, and then every copy was answered
+-- the answer is the end exactly where the mark of every sender was received; with it, and where the senders are gone, every copy
+-- that was received has been answered
 abbrev pub IsEndInTime : DoneTaker → Came → Type 0
 IsEndInTime t (Came.Copy copy) = has_ended t ≡ false
 IsEndInTime t Came.End = (has_ended t ≡ true) × (t.in_hand ≡ [])
-IsEndInTime t Came.Gone = has_ended t ≡ false
+IsEndInTime t Came.Gone = (has_ended t ≡ false) × (t.in_hand ≡ [])
 
 -- the copy that the answer of a try has, if it has one
 abbrev pub copy_tried : Option Came → List OnItsWay
 copy_tried None = []
 copy_tried (Some came) = copy_answered came
 
--- the answer of a try is the end exactly where the mark of every sender was received; where nothing was there, a mark has yet to come
+-- the answer of a try is the end exactly where the mark of every sender was received; where nothing was there, a mark has yet to come,
+-- and every copy that was received has been answered
 abbrev pub IsTriedInTime : DoneTaker → Option Came → Type 0
-IsTriedInTime t None = has_ended t ≡ false
+IsTriedInTime t None = (has_ended t ≡ false) × (t.in_hand ≡ [])
 IsTriedInTime t (Some came) = IsEndInTime t came

@@ -88,6 +88,7 @@ impl DoneSender {
         requires { self.old.closed ≡ false }
         ensures ok { OnOk result (self.new ≡ record self.old { closed = true; marked = true }) }
         ensures err { OnErr result (self.new ≡ record self.old { closed = true }) }
+        ensures unmarked { OnErr result (self.new.marked ≡ false) }
     {
         self.closed = true;
         let DoneSender {

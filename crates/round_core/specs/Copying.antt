@@ -1,5 +1,5 @@
 -- What a copier hands back.
-use Rattle.std.specs.Prelude.{◌≡◌, true}
+use Rattle.std.specs.Prelude.{◌≡◌, true, false, ◌⊎◌}
 use Rattle.word_core.specs.Serials.{serials_of}
 use Rattle.hand_core.specs.PageEnds.{Taker}
 use Rattle.hand_core.specs.CopyEnds.{DoneSender}
@@ -15,3 +15,7 @@ pub record IsCarried (taker : Taker) (sender : DoneSender) (carried : Carried) :
   pub copies : carried.whole ≡ true → carried.sender.sent ≡ carried.taker.taken
   -- both queues had their end marks
   pub ended : carried.whole ≡ true → (carried.taker.ended ≡ true) × (carried.sender.marked ≡ true)
+  -- where it gave up, one of them had none
+  pub gave_up : carried.whole ≡ false → (carried.taker.ended ≡ false) ⊎ (carried.sender.marked ≡ false)
+  -- it closed its sender exactly where its taker ended
+  pub closed : carried.sender.closed ≡ carried.taker.ended

@@ -42,7 +42,7 @@ pub fn carry<G: Gate, R: Wait>(
             Took::Page(page) => {
                 gate.at(Point::Taken, who);
                 if serials.len() >= serials.capacity() {
-                    break;
+                    return given_up(taker, sender, serials);
                 }
                 serials.push_reserved(page.serial());
                 copies.push(page.copy_into_new());
@@ -51,7 +51,7 @@ pub fn carry<G: Gate, R: Wait>(
                     continue;
                 }
                 if sender.send_all(rt, copies.take()).is_err() {
-                    break;
+                    return given_up(taker, sender, serials);
                 }
             }
             Took::End => {
@@ -63,9 +63,16 @@ pub fn carry<G: Gate, R: Wait>(
                     whole,
                 };
             }
-            Took::Gone => break,
+            Took::Gone => return given_up(taker, sender, serials),
         }
     }
+    unreachable!()
+}
+
+/// What a copier hands back that didn't come to its end.
+fn given_up(taker: Taker, sender: DoneSender, serials: Vec<Serial>) -> Carried
+    ensures { result ≡ record { taker = taker; sender = sender; serials = serials; whole = false } }
+{
     Carried {
         taker,
         sender,
