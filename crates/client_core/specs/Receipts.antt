@@ -1,8 +1,8 @@
 -- What contracts see of a client, and what it means that its receipts are its records in a journal.
-use Rattle.std.specs.Prelude.{◌≡◌, ℕ, Bool, false, List, [], ◌∷◌, ◌++◌, nat_eq, reverse}
+use Rattle.std.specs.Prelude.{◌≡◌, ℕ, List, [], ◌∷◌, ◌++◌, reverse}
 use Rattle.std.specs.List.{filter}
 use Rattle.journal_core.specs.declared.record.Record.{Record}
-use Rattle.journal_core.specs.declared.record.Record.TheVariants.{Map, Share, Unmap, Store, Load, Pin, Unpin}
+use Rattle.round_core.specs.Calls.{is_of}
 
 -- a client: its number, and the receipts of its accepted calls, the oldest first
 pub record Client : Type 0 where
@@ -12,17 +12,6 @@ pub record Client : Type 0 where
 -- the client with one more receipt
 abbrev pub with_receipt : Client → Record → Client
 with_receipt client receipt = record client { receipts = client.receipts ++ receipt ∷ [] }
-
--- whether a record is of a call of the client with this number
-abbrev pub is_of : ℕ → Record → Bool
-is_of number (Map client address page) = nat_eq client number
-is_of number (Share client address alias) = nat_eq client number
-is_of number (Unmap client address) = nat_eq client number
-is_of number (Store client address word value) = nat_eq client number
-is_of number (Load client address word value) = nat_eq client number
-is_of number (Pin client address) = nat_eq client number
-is_of number (Unpin client address) = nat_eq client number
-is_of number _ = false
 
 -- the records of a client in a journal, the oldest first; the journal has the newest first
 abbrev pub records_of : ℕ → List Record → List Record

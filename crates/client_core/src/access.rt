@@ -1,19 +1,24 @@
 //! The calls of a client that need a page at an address, and how a call waits for its page.
 
-ghost use Rattle.std.specs.Prelude.{◌≡◌, ◌≢◌, Option, IfOk, IfErr, OnErr};
+ghost use Rattle.std.specs.Prelude.{◌≡◌, ◌≢◌, ℕ, Option, Some, IfOk, IfErr, OnOk, OnErr};
+ghost use Rattle.std.specs.Int.RustNames.{bit_and};
 ghost use Rattle.std.specs.Result.{result_err};
+ghost use Rattle.frame_core.specs.PageFlags.{is_unmovable};
+ghost use Rattle.round_core.specs.Calls.{IsCall};
 ghost use Rattle.state_core.specs.declared.error.ZoneError.{ZoneError};
 ghost use Rattle.state_core.specs.Access.{access_refusal, stored};
 ghost use Rattle.state_core.specs.Lawful.{IsLawful};
+ghost use Rattle.state_core.specs.Mapping.{map_refusal, map_at_refusal, mapped};
 ghost use Rattle.state_core.specs.Pinning.{pin_refusal, unpin_refusal, pinned, unpinned};
 ghost use Rattle.state_core.specs.Sharing.{share_refusal, shared};
 ghost use Rattle.state_core.specs.Unmapping.{unmap_refusal, unmapped};
-ghost use Rattle.state_core.specs.ZoneState.{ZoneState};
+ghost use Rattle.state_core.specs.ZoneState.{ZoneState, lowest_free_frame};
 ghost use Rattle.zone_core.specs.Shape.{HasShape};
 ghost use Rattle.client_core.specs.Calls.{IsAccepted, IsRefused, leaving, loading};
+ghost use Rattle.client_core.specs.Noted.{load_notes, pin_notes, share_notes, store_notes, unmap_notes, unpin_notes};
 
-use frame_core::{Address, ClientNo, WordNo};
-use round_core::{Shape, SharedZone};
+use frame_core::{Address, ClientNo, FrameNo, PageFlags, WordNo};
+use round_core::{Keeping, KeptZone};
 use std::sync::Wait;
 use std::sync::ledger::Ledger;
 use zone_core::{Zone, ZoneError};
@@ -21,6 +26,9 @@ use zone_core::{Zone, ZoneError};
 /// A call of a client, which may be made of any zone.
 pub(crate) trait Access {
     type Answer: Drop;
+
+    /// The number of the client that makes the call.
+    ghost caller: { Self → ℕ };
 
     /// Why a zone refuses the call, if it does.
     ghost refusal: { Self → ZoneState → Option ZoneError };
@@ -37,21 +45,84 @@ pub(crate) trait Access {
         ensures accepted { IfOk result (λ answer. leaves self.now zone.old answer zone.new) }
         ensures shape { HasShape zone.old.number zone.old.blocks zone.new }
         ensures lawful { IsLawful zone.new };
+
+    /// A call that a zone accepts adds one record to the journal, which is of the client.
+    ghost notes: { (call : Self) (zone : ZoneState) (answer : Self.Answer) (zone_new : ZoneState) → leaves call zone answer zone_new → IsCall (caller call) zone zone_new };
+}
+
+/// Makes a call of a zone while its lock is held. What the lock keeps is kept by the calls of a client that may make them.
+fn make_kept<A: Access, K: Keeping, I: Ledger, M: Ledger, B: Ledger>(
+    access: &A,
+    zone: &mut Zone<I, M, B>,
+) -> Result<A::Answer, ZoneError>
+    requires allows { K.allows (A.caller access.now) }
+    requires lawful { IsLawful zone.old }
+    requires keeps { K.keeps zone.old }
+    ensures refused { result_err result ≡ A.refusal access.now zone.old }
+    ensures accepted { IfOk result (λ answer. A.leaves access.now zone.old answer zone.new) }
+    ensures keeps { K.keeps zone.new }
+    ensures shape { HasShape zone.old.number zone.old.blocks zone.new }
+    ensures lawful { IsLawful zone.new }
+{
+    access.make(zone)
+}
+
+/// Makes an address name a fresh page in the lowest free frame, while the lock of the zone is held.
+pub(crate) fn map_kept<K: Keeping, I: Ledger, M: Ledger, B: Ledger>(
+    zone: &mut Zone<I, M, B>,
+    client: ClientNo,
+    address: Address,
+    flags: PageFlags,
+) -> Result<FrameNo, ZoneError>
+    requires clean { bit_and flags.0 2 ≡ 0 }
+    requires allows { K.allows client }
+    requires lawful { IsLawful zone.old }
+    requires keeps { K.keeps zone.old }
+    ensures refused { result_err result ≡ map_refusal zone.old address }
+    ensures frame { IfOk result (λ frame. lowest_free_frame zone.old ≡ Some frame) }
+    ensures ok { IfOk result (λ frame. zone.new ≡ mapped zone.old client address (is_unmovable flags) frame) }
+    ensures keeps { K.keeps zone.new }
+    ensures shape { HasShape zone.old.number zone.old.blocks zone.new }
+    ensures lawful { IsLawful zone.new }
+{
+    zone.map(client, address, flags)
+}
+
+/// Makes an address name a fresh page in a given frame, while the lock of the zone is held.
+pub(crate) fn map_at_kept<K: Keeping, I: Ledger, M: Ledger, B: Ledger>(
+    zone: &mut Zone<I, M, B>,
+    client: ClientNo,
+    address: Address,
+    flags: PageFlags,
+    frame: FrameNo,
+) -> Result<(), ZoneError>
+    requires clean { bit_and flags.0 2 ≡ 0 }
+    requires allows { K.allows client }
+    requires lawful { IsLawful zone.old }
+    requires keeps { K.keeps zone.old }
+    ensures refused { result_err result ≡ map_at_refusal zone.old address frame }
+    ensures ok { OnOk result (zone.new ≡ mapped zone.old client address (is_unmovable flags) frame) }
+    ensures keeps { K.keeps zone.new }
+    ensures shape { HasShape zone.old.number zone.old.blocks zone.new }
+    ensures lawful { IsLawful zone.new }
+{
+    zone.map_at(client, address, flags, frame)
 }
 
 /// Makes a call under the lock of a zone. While its page is moving, it waits until a move has ended and makes the call again.
-pub(crate) fn once_there<A: Access, K: Shape, I: Ledger, M: Ledger, B: Ledger, R: Wait>(
+pub(crate) fn once_there<A: Access, K: Keeping, I: Ledger, M: Ledger, B: Ledger, R: Wait>(
     rt: &R,
-    shared: &SharedZone<K, I, M, B>,
+    shared: &KeptZone<K, I, M, B>,
     access: &A,
 ) -> Result<A::Answer, ZoneError>
+    requires allows { K.allows (A.caller access.now) }
     ensures accepted { IfOk result (IsAccepted (A.refusal access.now) (A.leaves access.now)) }
     ensures refused { IfErr result (IsRefused (A.refusal access.now)) }
     ensures there { IfErr result (λ refusal. refusal ≢ ZoneError.Moving) }
 {
     let mut room = shared.lock(rt);
     for _ in rt.forever() {
-        match access.make(&mut room.zone) {
+        match make_kept::<A, K, I, M, B>(access, &mut room.zone) {
             Err(ZoneError::Moving) => room = shared.wait_for_end(rt, room),
             answer => return answer,
         }
@@ -60,16 +131,17 @@ pub(crate) fn once_there<A: Access, K: Shape, I: Ledger, M: Ledger, B: Ledger, R
 }
 
 /// Makes a call under the lock of a zone, and doesn't wait where its page is moving.
-pub(crate) fn at_once<A: Access, K: Shape, I: Ledger, M: Ledger, B: Ledger, R: Wait>(
+pub(crate) fn at_once<A: Access, K: Keeping, I: Ledger, M: Ledger, B: Ledger, R: Wait>(
     rt: &R,
-    shared: &SharedZone<K, I, M, B>,
+    shared: &KeptZone<K, I, M, B>,
     access: &A,
 ) -> Result<A::Answer, ZoneError>
+    requires allows { K.allows (A.caller access.now) }
     ensures accepted { IfOk result (IsAccepted (A.refusal access.now) (A.leaves access.now)) }
     ensures refused { IfErr result (IsRefused (A.refusal access.now)) }
 {
     let mut room = shared.lock(rt);
-    access.make(&mut room.zone)
+    make_kept::<A, K, I, M, B>(access, &mut room.zone)
 }
 
 #[derive(Clone, Copy)]
@@ -82,9 +154,13 @@ pub(crate) struct Share {
 impl Access for Share {
     type Answer = ();
 
+    ghost caller = { λ call. call.client };
+
     ghost refusal = { λ call zone. share_refusal zone call.address call.alias };
 
     ghost leaves = { λ call. leaving (λ zone. shared zone call.client call.address call.alias) };
+
+    ghost notes = { λ call zone answer zone_new left. share_notes call.client call.address call.alias zone zone_new left };
 
     fn make<I: Ledger, M: Ledger, B: Ledger>(
         &self,
@@ -103,9 +179,13 @@ pub(crate) struct Unmap {
 impl Access for Unmap {
     type Answer = ();
 
+    ghost caller = { λ call. call.client };
+
     ghost refusal = { λ call zone. unmap_refusal zone call.address };
 
     ghost leaves = { λ call. leaving (λ zone. unmapped zone call.client call.address) };
+
+    ghost notes = { λ call zone answer zone_new left. unmap_notes call.client call.address zone zone_new left };
 
     fn make<I: Ledger, M: Ledger, B: Ledger>(
         &self,
@@ -125,9 +205,13 @@ pub(crate) struct Load {
 impl Access for Load {
     type Answer = u64;
 
+    ghost caller = { λ call. call.client };
+
     ghost refusal = { λ call zone. access_refusal zone call.address };
 
     ghost leaves = { λ call. loading call.client call.address call.word };
+
+    ghost notes = { λ call zone answer zone_new left. load_notes call.client call.address call.word zone answer zone_new left };
 
     fn make<I: Ledger, M: Ledger, B: Ledger>(
         &self,
@@ -148,9 +232,13 @@ pub(crate) struct Store {
 impl Access for Store {
     type Answer = ();
 
+    ghost caller = { λ call. call.client };
+
     ghost refusal = { λ call zone. access_refusal zone call.address };
 
     ghost leaves = { λ call. leaving (λ zone. stored zone call.client call.address call.word call.value) };
+
+    ghost notes = { λ call zone answer zone_new left. store_notes call.client call.address call.word call.value zone zone_new left };
 
     fn make<I: Ledger, M: Ledger, B: Ledger>(
         &self,
@@ -169,9 +257,13 @@ pub(crate) struct Pin {
 impl Access for Pin {
     type Answer = ();
 
+    ghost caller = { λ call. call.client };
+
     ghost refusal = { λ call zone. pin_refusal zone call.address };
 
     ghost leaves = { λ call. leaving (λ zone. pinned zone call.client call.address) };
+
+    ghost notes = { λ call zone answer zone_new left. pin_notes call.client call.address zone zone_new left };
 
     fn make<I: Ledger, M: Ledger, B: Ledger>(
         &self,
@@ -190,9 +282,13 @@ pub(crate) struct Unpin {
 impl Access for Unpin {
     type Answer = ();
 
+    ghost caller = { λ call. call.client };
+
     ghost refusal = { λ call zone. unpin_refusal zone call.address };
 
     ghost leaves = { λ call. leaving (λ zone. unpinned zone call.client call.address) };
+
+    ghost notes = { λ call zone answer zone_new left. unpin_notes call.client call.address zone zone_new left };
 
     fn make<I: Ledger, M: Ledger, B: Ledger>(
         &self,

@@ -11,11 +11,11 @@ ghost use Rattle.client_core.specs.Calls.{IsAccepted, IsFailed, leaving, loading
 ghost use Rattle.client_core.specs.Receipts.{with_receipt};
 
 use crate::access;
-use crate::access::{at_once, once_there};
+use crate::access::{at_once, map_at_kept, map_kept, once_there};
 use crate::error::ClientError;
 use frame_core::{Address, ClientNo, FrameNo, PageFlags, WordNo};
 use journal_core::{Journal, Record};
-use round_core::{Shape, SharedZone};
+use round_core::{Keeping, KeptZone};
 use std::alloc::{AllocError, Global};
 use std::marker::Model;
 use std::sync::Wait;
@@ -80,13 +80,14 @@ impl Client {
     /// the page. The flags must not have DIRTY.
     ///
     /// The zone refuses as JournalFull, Occupied or NoFrame.
-    pub fn map<K: Shape, I: Ledger, M: Ledger, B: Ledger, R: Wait>(
+    pub fn map<K: Keeping, I: Ledger, M: Ledger, B: Ledger, R: Wait>(
         &mut self,
         rt: &R,
-        shared: &SharedZone<K, I, M, B>,
+        shared: &KeptZone<K, I, M, B>,
         address: Address,
         flags: PageFlags,
     ) -> Result<FrameNo, ClientError>
+        requires allows { K.allows self.old.number }
         requires clean { bit_and flags.0 2 ≡ 0 }
         ensures ok { IfOk result (λ frame. (page : ℕ) × (self.new ≡ with_receipt self.old (Map self.old.number address page))
             × IsAccepted (λ zone. map_refusal zone address) (mapping_lowest self.old.number address (is_unmovable flags) frame) page) }
@@ -95,7 +96,7 @@ impl Client {
     {
         self.receipts.reserve(1)?;
         let mut room = shared.lock(rt);
-        let frame = room.zone.map(self.number, address, flags)?;
+        let frame = map_kept::<K, I, M, B>(&mut room.zone, self.number, address, flags)?;
         self.receipts.push_reserved(newest(room.zone.journal()));
         Ok(frame)
     }
@@ -103,14 +104,15 @@ impl Client {
     /// Makes an address name a fresh page in a given frame. The receipt has the number of the page. The flags must not have DIRTY.
     ///
     /// The zone refuses as Range, JournalFull, Occupied or NoFrame.
-    pub fn map_at<K: Shape, I: Ledger, M: Ledger, B: Ledger, R: Wait>(
+    pub fn map_at<K: Keeping, I: Ledger, M: Ledger, B: Ledger, R: Wait>(
         &mut self,
         rt: &R,
-        shared: &SharedZone<K, I, M, B>,
+        shared: &KeptZone<K, I, M, B>,
         address: Address,
         flags: PageFlags,
         frame: FrameNo,
     ) -> Result<(), ClientError>
+        requires allows { K.allows self.old.number }
         requires clean { bit_and flags.0 2 ≡ 0 }
         ensures ok { OnOk result ((page : ℕ) × (self.new ≡ with_receipt self.old (Map self.old.number address page))
             × IsAccepted (λ zone. map_at_refusal zone address frame) (mapping self.old.number address (is_unmovable flags) frame) page) }
@@ -119,7 +121,7 @@ impl Client {
     {
         self.receipts.reserve(1)?;
         let mut room = shared.lock(rt);
-        room.zone.map_at(self.number, address, flags, frame)?;
+        map_at_kept::<K, I, M, B>(&mut room.zone, self.number, address, flags, frame)?;
         self.receipts.push_reserved(newest(room.zone.journal()));
         Ok(())
     }
@@ -127,13 +129,14 @@ impl Client {
     /// Makes an alias name the page of an address too.
     ///
     /// The zone refuses as JournalFull, Unmapped, Occupied or ShareFull.
-    pub fn share<K: Shape, I: Ledger, M: Ledger, B: Ledger, R: Wait>(
+    pub fn share<K: Keeping, I: Ledger, M: Ledger, B: Ledger, R: Wait>(
         &mut self,
         rt: &R,
-        shared: &SharedZone<K, I, M, B>,
+        shared: &KeptZone<K, I, M, B>,
         address: Address,
         alias: Address,
     ) -> Result<(), ClientError>
+        requires allows { K.allows self.old.number }
         ensures ok { OnOk result (self.new ≡ with_receipt self.old (Share self.old.number address alias)) }
         ensures accepted { IfOk result (IsAccepted (λ zone. share_refusal zone address alias) (leaving (λ zone. shared_by zone self.old.number address alias))) }
         ensures err { OnErr result (self.new ≡ self.old) }
@@ -158,12 +161,13 @@ impl Client {
     /// Makes an address name no page any more.
     ///
     /// The zone refuses as JournalFull, Unmapped or Pinned.
-    pub fn unmap<K: Shape, I: Ledger, M: Ledger, B: Ledger, R: Wait>(
+    pub fn unmap<K: Keeping, I: Ledger, M: Ledger, B: Ledger, R: Wait>(
         &mut self,
         rt: &R,
-        shared: &SharedZone<K, I, M, B>,
+        shared: &KeptZone<K, I, M, B>,
         address: Address,
     ) -> Result<(), ClientError>
+        requires allows { K.allows self.old.number }
         ensures ok { OnOk result (self.new ≡ with_receipt self.old (Unmap self.old.number address)) }
         ensures accepted { IfOk result (IsAccepted (λ zone. unmap_refusal zone address) (leaving (λ zone. unmapped zone self.old.number address))) }
         ensures err { OnErr result (self.new ≡ self.old) }
@@ -186,13 +190,14 @@ impl Client {
     /// Reads a word of the page that an address names.
     ///
     /// The zone refuses as JournalFull or Unmapped.
-    pub fn load<K: Shape, I: Ledger, M: Ledger, B: Ledger, R: Wait>(
+    pub fn load<K: Keeping, I: Ledger, M: Ledger, B: Ledger, R: Wait>(
         &mut self,
         rt: &R,
-        shared: &SharedZone<K, I, M, B>,
+        shared: &KeptZone<K, I, M, B>,
         address: Address,
         word: WordNo,
     ) -> Result<u64, ClientError>
+        requires allows { K.allows self.old.number }
         ensures ok { IfOk result (λ value. self.new ≡ with_receipt self.old (Load self.old.number address word value)) }
         ensures accepted { IfOk result (IsAccepted (λ zone. access_refusal zone address) (loading self.old.number address word)) }
         ensures err { OnErr result (self.new ≡ self.old) }
@@ -218,14 +223,15 @@ impl Client {
     /// Writes a word of the page that an address names.
     ///
     /// The zone refuses as JournalFull or Unmapped.
-    pub fn store<K: Shape, I: Ledger, M: Ledger, B: Ledger, R: Wait>(
+    pub fn store<K: Keeping, I: Ledger, M: Ledger, B: Ledger, R: Wait>(
         &mut self,
         rt: &R,
-        shared: &SharedZone<K, I, M, B>,
+        shared: &KeptZone<K, I, M, B>,
         address: Address,
         word: WordNo,
         value: u64,
     ) -> Result<(), ClientError>
+        requires allows { K.allows self.old.number }
         ensures ok { OnOk result (self.new ≡ with_receipt self.old (Store self.old.number address word value)) }
         ensures accepted { IfOk result (IsAccepted (λ zone. access_refusal zone address) (leaving (λ zone. stored zone self.old.number address word value))) }
         ensures err { OnErr result (self.new ≡ self.old) }
@@ -252,12 +258,13 @@ impl Client {
     /// Pins the page that an address names, also while the page is moving.
     ///
     /// The zone refuses as JournalFull, Unmapped or PinFull.
-    pub fn pin<K: Shape, I: Ledger, M: Ledger, B: Ledger, R: Wait>(
+    pub fn pin<K: Keeping, I: Ledger, M: Ledger, B: Ledger, R: Wait>(
         &mut self,
         rt: &R,
-        shared: &SharedZone<K, I, M, B>,
+        shared: &KeptZone<K, I, M, B>,
         address: Address,
     ) -> Result<(), ClientError>
+        requires allows { K.allows self.old.number }
         ensures ok { OnOk result (self.new ≡ with_receipt self.old (Pin self.old.number address)) }
         ensures accepted { IfOk result (IsAccepted (λ zone. pin_refusal zone address) (leaving (λ zone. pinned zone self.old.number address))) }
         ensures err { OnErr result (self.new ≡ self.old) }
@@ -279,12 +286,13 @@ impl Client {
     /// Takes a pin off the page that an address names, also while the page is moving.
     ///
     /// The zone refuses as JournalFull, Unmapped or NotPinned.
-    pub fn unpin<K: Shape, I: Ledger, M: Ledger, B: Ledger, R: Wait>(
+    pub fn unpin<K: Keeping, I: Ledger, M: Ledger, B: Ledger, R: Wait>(
         &mut self,
         rt: &R,
-        shared: &SharedZone<K, I, M, B>,
+        shared: &KeptZone<K, I, M, B>,
         address: Address,
     ) -> Result<(), ClientError>
+        requires allows { K.allows self.old.number }
         ensures ok { OnOk result (self.new ≡ with_receipt self.old (Unpin self.old.number address)) }
         ensures accepted { IfOk result (IsAccepted (λ zone. unpin_refusal zone address) (leaving (λ zone. unpinned zone self.old.number address))) }
         ensures err { OnErr result (self.new ≡ self.old) }

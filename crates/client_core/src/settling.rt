@@ -1,5 +1,6 @@
 ghost use Rattle.std.specs.Prelude.{◌≡◌, ◌↔◌, Some, slice_get, IsTrue, IsOk, IfErr, IfNone, IfSome, All};
-ghost use Rattle.client_core.specs.Receipts.{is_of, records_of, Agrees};
+ghost use Rattle.round_core.specs.Calls.{is_of};
+ghost use Rattle.client_core.specs.Receipts.{records_of, Agrees};
 ghost use Rattle.client_core.specs.Settling.{IsFirstDifference, IsFirstMismatch};
 
 use crate::client::Client;

@@ -3,3 +3,4 @@ pub mod Lists
 pub mod Sharing
 pub mod ByHand
 pub mod Begun
+pub mod Beside

@@ -1,3 +1,4 @@
+pub mod Calls
 pub mod Copying
 pub mod Crews
 pub mod Errors

@@ -4,6 +4,7 @@ ghost use Rattle.journal_core.specs.History.{pins};
 ghost use Rattle.journal_core.specs.Moves.{isolated};
 ghost use Rattle.journal_core.specs.declared.record.Cause.{Cause};
 ghost use Rattle.outcome_core.specs.ByHand.{scan_pair, scan_step};
+ghost use Rattle.round_core.specs.Calls.{IsCall};
 ghost use Rattle.round_core.specs.Rounds.{stop_for};
 ghost use Rattle.round_core.specs.Scanning.{HasBegun};
 ghost use Rattle.round_core.specs.declared.round.Stop.{Stop as Stopped};
@@ -17,8 +18,9 @@ ghost use Rattle.state_core.specs.declared.placement.Placement.TheVariants.{Movi
 use crate::shape::Shape;
 use std::marker::{Brand, PhantomData};
 
-/// What the lock of a zone keeps, beside that the zone is lawful: a fact about the zone that each step of a round leaves true.
-/// Contracts alone know it, and whoever shares a zone picks it. `Open` keeps nothing; `compact_alone` keeps what its round comes to.
+/// What the lock of a zone keeps, beside that the zone is lawful: a fact about the zone that each step of a round leaves true, and each
+/// call of a client that may make calls. Contracts alone know it, and whoever shares a zone picks it. `Open` keeps nothing;
+/// `compact_alone` keeps what its round comes to, and no client may make calls.
 pub trait Keeping: Shape {
     /// What is so whenever the lock is free.
     ghost keeps: { ZoneState → Type 0 };
@@ -34,6 +36,9 @@ pub trait Keeping: Shape {
 
     /// No moving page has a pin.
     ghost unpinned: { Type 0 };
+
+    /// The client with this number may make calls.
+    ghost allows: { ℕ → Type 0 };
 
     // A round begins, its scanner takes the lock again, and lets it go.
     ghost begins: { (z : ZoneState) → IsLawful z → begins_at (isolated z.records) → keeps z → keeps_scanning (round_begun z) };
@@ -53,6 +58,9 @@ pub trait Keeping: Shape {
     ghost puts_back: { (z : ZoneState) (page serial source target : ℕ) (cause : Cause) → IsLawful z → HasCause cause (pins z.records page) → map.get z.placement page ≡ Some (Moving serial source target) → keeps z → keeps (put_back_to_source z serial page cause) };
 
     ghost pins_none: { (z : ZoneState) (page serial source target : ℕ) → unpinned → IsLawful z → keeps z → map.get z.placement page ≡ Some (Moving serial source target) → pins z.records page ≡ 0 };
+
+    // A client makes a call that the zone accepts; one that the zone refuses leaves it as it was.
+    ghost calls: { (z z_new : ZoneState) (client : ℕ) → allows client → IsLawful z → IsCall client z z_new → keeps z → keeps z_new };
 }
 
 // Nothing: a call that passes `Brand` picks its own.
@@ -66,6 +74,8 @@ impl Keeping for Brand {
     ghost stops_at = { λ n stop. ⊤ };
 
     ghost unpinned = { ⊥ };
+
+    ghost allows = { λ client. ⊤ };
 
     ghost begins = { λ z law at keeps. tt };
 
@@ -82,9 +92,11 @@ impl Keeping for Brand {
     ghost puts_back = { λ z page serial source target cause law has at keeps. tt };
 
     ghost pins_none = { λ z page serial source target never law keeps at. absurd never };
+
+    ghost calls = { λ z z_new client may law call keeps. tt };
 }
 
-/// Of a zone that anyone may use its lock keeps nothing but that it is lawful.
+/// Of a zone that anyone may use its lock keeps nothing but that it is lawful, and each client may make calls.
 pub struct Open<K> {
     of: PhantomData<K>,
 }
@@ -106,6 +118,8 @@ impl<K: Shape> Keeping for Open<K> {
 
     ghost unpinned = { ⊥ };
 
+    ghost allows = { λ client. ⊤ };
+
     ghost begins = { λ z law at keeps. tt };
 
     ghost goes_on = { λ z law begun keeps. tt };
@@ -121,4 +135,6 @@ impl<K: Shape> Keeping for Open<K> {
     ghost puts_back = { λ z page serial source target cause law has at keeps. tt };
 
     ghost pins_none = { λ z page serial source target never law keeps at. absurd never };
+
+    ghost calls = { λ z z_new client may law call keeps. tt };
 }

@@ -1,7 +1,10 @@
 -- The answers to a client's lines, from one line to the next.
-use Rattle.std.proofs.Common.{◌≡◌, suc, List, [], ◌∷◌, ◌++◌, length, refl, ap, subst}
+use Rattle.std.proofs.Common.{◌≡◌, ℕ, suc, List, [], ◌∷◌, ◌++◌, length, refl, sym, ap, subst, Option, Some, None, Result, Ok, Err}
+use Rattle.client_core.specs.declared.error.ClientError.{ClientError}
 use Rattle.client_core.specs.Receipts.{Client}
-use Rattle.script_core.specs.Clients.{AreClientAnswers, IsClientReply}
+use Rattle.text_core.specs.declared.command.ClientCall.{ClientCall}
+use Rattle.text_core.specs.declared.reply.Reply.{Reply}
+use Rattle.script_core.specs.Clients.{AreClientAnswers, IsClientReply, IsMade}
 use Rattle.play_core.specs.Script.{Answer, ClientLine}
 
 -- one more line is answered
@@ -22,3 +25,17 @@ length-client_answers old new [] [] told = refl
 length-client_answers old new [] (a ∷ answers) told = absurd told
 length-client_answers old new (c ∷ clients) [] told = absurd told
 length-client_answers old new (c ∷ clients) (a ∷ answers) told = ap suc (length-client_answers told.0 new clients answers told.3)
+
+-- a client has the same number after a call
+number_made : (old new : Client) (call : ClientCall) (result : Result Reply ClientError) → IsMade old call result new → new.number ≡ old.number
+number_made old new call (Ok answer) made = ap (λ (c : Client). c.number) made.receipt
+number_made old new call (Err error) made = ap (λ (c : Client). c.number) made.same
+
+-- and after a line
+number_kept : (old new : Client) (call : Option ClientCall) (answer : Reply) → IsClientReply old call answer new → new.number ≡ old.number
+number_kept old new None answer told = ap (λ (c : Client). c.number) told.1
+number_kept old new (Some call) answer told = number_made old new call told.result told.made
+
+-- so it may still make calls
+pub still_allowed : (allows : ℕ → Type 0) (old new : Client) (call : Option ClientCall) (answer : Reply) → IsClientReply old call answer new → allows old.number → allows new.number
+still_allowed allows old new call answer told may = subst allows (sym (number_kept old new call answer told)) may

@@ -13,6 +13,7 @@ use Rattle.world_core.specs.World.{WorldState, world_closed}
 use Rattle.round_core.specs.declared.error.RoundError.{RoundError}
 use Rattle.round_core.specs.declared.error.RoundError.TheVariants.{Memory, NoWorker, Broken, Stranger}
 use Rattle.round_core.specs.declared.round.Round.{Round}
+use Rattle.round_core.specs.Calls.{IsAddedBeside}
 use Rattle.round_core.specs.Kept.{IsKept}
 use Rattle.round_core.specs.Rounds.{IsBroken, IsRefusedEarly, IsRound, stop_by_hand}
 use Rattle.text_core.specs.declared.command.Command.{Command}
@@ -185,6 +186,7 @@ module _ (w : WorldState) (old given : Threaded) (c : Numbered) (answers : List 
     one = u.one;
     nothing = record {
       zone = nothing.zone;
+      added = subst (λ (k : Client). IsAddedBeside k.number w.zone.records nothing.zone.records) client nothing.added;
       kept = nothing.kept;
       shape = nothing.shape;
       left = nothing.left ∙ (λ i. left_by (places i) (client i) nothing.zone w.scan w.ends (audit_refusal nothing.zone w.ends));
@@ -196,15 +198,24 @@ module _ (w : WorldState) (old given : Threaded) (c : Numbered) (answers : List 
   block_step there whole block (inl b) = inr (record { world = w; there = there; whole = whole; block = block; ran = inl (round_beside b) })
   block_step there whole block (inr u) = inr (record { world = w; there = there; whole = whole; block = block; ran = inr (unstarted u) })
 
+-- what was added to the zone that a world was split into was added to the world's zone
+pub added_to : (zone_now zone_old zone : ZoneState) (client_now client : Client) → zone_old ≡ zone_now → client ≡ client_now
+    → IsAddedBeside client.number zone_old.records zone.records → IsAddedBeside client_now.number zone_now.records zone.records
+added_to zone_now zone_old zone client_now client same_zone same_client added =
+    subst (λ (k : Client). IsAddedBeside k.number zone_now.records zone.records) same_client
+    (subst (λ (z : ZoneState). IsAddedBeside client.number z.records zone.records) same_zone added)
+
 -- nothing ran over the zone and the seats that a world was split into
 pub nothing_ran : (w : WorldState) (old new : Threaded) (zone_old zone : ZoneState) (scan_old scan : ScanSeat) (ends_old ends : EndSeat)
-    → zone_old ≡ w.zone → scan_old ≡ w.scan → ends_old ≡ w.ends → (scan ≡ scan_old) × (ends ≡ ends_old) → IsKept zone → HasShape zone_old.number zone_old.blocks zone
+    → zone_old ≡ w.zone → scan_old ≡ w.scan → ends_old ≡ w.ends → (scan ≡ scan_old) × (ends ≡ ends_old)
+    → (client : Client) → client ≡ old.client → IsAddedBeside client.number zone_old.records zone.records → IsKept zone → HasShape zone_old.number zone_old.blocks zone
     → new ≡ left_by old.single.places old.client zone scan ends (audit_refusal zone ends) → IsNothingRun w old new
-nothing_ran w old new zone_old zone scan_old scan ends_old ends same_zone same_scan same_ends same kept shape left =
+nothing_ran w old new zone_old zone scan_old scan ends_old ends same_zone same_scan same_ends same client same_client added kept shape left =
     let scans : scan ≡ w.scan = same.0 ∙ same_scan in
     let ends_are : ends ≡ w.ends = same.1 ∙ same_ends in
     record {
       zone = zone;
+      added = added_to w.zone zone_old zone old.client client same_zone same_client added;
       kept = kept;
       shape = (shape.0 ∙ ap (λ (z : ZoneState). z.number) same_zone, shape.1 ∙ ap (λ (z : ZoneState). z.blocks) same_zone);
       left = left ∙ (λ i. left_by old.single.places old.client zone (scans i) (ends_are i) (audit_refusal zone (ends_are i)));

@@ -19,6 +19,7 @@ use Rattle.huge_core.specs.Huge.{Huge}
 use Rattle.huge_core.specs.Reserving.{HasRun, IsGot}
 use Rattle.round_core.specs.declared.error.RoundError.{RoundError}
 use Rattle.round_core.specs.declared.round.Round.{Round}
+use Rattle.round_core.specs.Calls.{IsAddedBeside}
 use Rattle.round_core.specs.Errors.{number_of}
 use Rattle.round_core.specs.Kept.{IsKept}
 use Rattle.round_core.specs.Rounds.{IsRefusedEarly, IsRound, IsWant, stop_by_hand}
@@ -210,6 +211,8 @@ pub record IsSettledReply (zone : ZoneState) (client : Client) (result : Result 
 -- a round during which a client made calls: the answers to the client's lines, the reply to the round, and the machine after it
 pub record IsTurnBeside (w : WorldState) (places : ℕ) (client : Client) (lines : List ClientLine) (told : List Answer) (own : Reply) (new : Threaded) : Type 0 where
   pub over : IsRoundOver w
+  -- each record that the journal has more is of the round or of the client
+  pub added : IsAddedBeside client.number w.zone.records over.zone.records
   pub client_behind : Client
   pub clients : AreClientAnswers client lines told client_behind
   pub settled : IsSettledReply over.zone client_behind over.result own
@@ -225,6 +228,8 @@ pub record IsRoundBeside (w : WorldState) (old : Threaded) (c : Numbered) (answe
 -- nothing ran over the zone of a world, which the machine has again
 pub record IsNothingRun (w : WorldState) (old new : Threaded) : Type 0 where
   pub zone : ZoneState
+  -- each record that the journal has more is of a round or of the client
+  pub added : IsAddedBeside old.client.number w.zone.records zone.records
   pub kept : IsKept zone
   pub shape : HasShape w.zone.number w.zone.blocks zone
   pub left : new ≡ left_by old.single.places old.client zone w.scan w.ends (audit_refusal zone w.ends)

@@ -1,6 +1,7 @@
 //! A round during which a client makes calls.
 
 ghost use Rattle.std.specs.Prelude.{◌≡◌, ◌≤◌, [], IfOk, IfSome, IfNone, vec_len, vec_capacity};
+ghost use Rattle.round_core.specs.Calls.{IsAddedBeside};
 ghost use Rattle.round_core.specs.Kept.{IsKept};
 ghost use Rattle.round_core.specs.Rounds.{IsRefusedEarly, IsRound};
 ghost use Rattle.zone_core.specs.Shape.{HasShape};
@@ -9,7 +10,7 @@ ghost use Rattle.script_core.specs.Clients.{AreClientAnswers, IsClientReply, IsM
 use client_core::{Client, ClientError};
 use machine_core::{Options, flags};
 use play_core::{Answer, ClientLine};
-use round_core::{NoGate, Round, RoundError, Shape, SharedZone, compact};
+use round_core::{Keeping, KeptZone, NoGate, Round, RoundError, compact};
 use std::alloc::Global;
 use std::marker::Brand;
 use std::snapshot::Snapshot;
@@ -53,6 +54,8 @@ pub(crate) fn compact_beside<
     turn: Turn,
 ) -> (Zone<I, M, B>, Option<Both>)
     requires room { (turn.answers.items ≡ []) × (vec_len turn.lines ≤ vec_capacity turn.answers) }
+    // Each record that the journal has more is of the round or of the client.
+    ensures added { IsAddedBeside turn.client.number zone.records result.0.records }
     ensures kept { IsKept result.0 }
     ensures shape { HasShape zone.number zone.blocks result.0 }
     ensures played { IfSome result.1 (λ both. AreClientAnswers turn.client turn.lines.items both.answers.items both.client) }
@@ -65,7 +68,7 @@ pub(crate) fn compact_beside<
 
 /// Runs both over a zone with the number and the pageblocks that the type names.
 fn compact_shared<
-    K: Shape + Send + Sync,
+    K: Keeping + Send + Sync,
     I: Ledger + Send + Sync,
     N: Ledger,
     M: Ledger + Send + Sync,
@@ -80,7 +83,11 @@ fn compact_shared<
     turn: Turn,
 ) -> (Zone<I, M, B>, Option<Both>)
     requires shape { HasShape K.number K.blocks zone }
+    requires keeps { K.keeps zone }
+    requires begins { K.begins_at seats.old.scan.count }
+    requires allows { K.allows turn.client.number }
     requires room { (turn.answers.items ≡ []) × (vec_len turn.lines ≤ vec_capacity turn.answers) }
+    ensures keeps { K.keeps result.0 }
     ensures kept { IsKept result.0 }
     ensures shape { HasShape K.number K.blocks result.0 }
     ensures played { IfSome result.1 (λ both. AreClientAnswers turn.client turn.lines.items both.answers.items both.client) }
@@ -88,14 +95,14 @@ fn compact_shared<
     ensures early { IfSome result.1 (λ both. IsRefusedEarly seats.old.scan seats.new.scan seats.old.ends seats.new.ends both.round) }
     ensures none { IfNone result.1 ((seats.new.scan ≡ seats.old.scan) × (seats.new.ends ≡ seats.old.ends)) }
 {
-    let shared = SharedZone::<K, I, M, B>::new(zone);
+    let shared = KeptZone::<K, I, M, B>::new(zone);
     let both = in_scope(rt, alloc, &shared, seats, options, turn);
     (shared.into_zone(), both)
 }
 
 /// Runs both in a scope of their own.
 fn in_scope<
-    K: Shape + Send + Sync,
+    K: Keeping + Send + Sync,
     I: Ledger + Send + Sync,
     N: Ledger,
     M: Ledger + Send + Sync,
@@ -104,11 +111,13 @@ fn in_scope<
 >(
     rt: &R,
     alloc: Global,
-    shared: &SharedZone<K, I, M, B>,
+    shared: &KeptZone<K, I, M, B>,
     seats: &mut Seats<I, N, M, B>,
     options: Options,
     turn: Turn,
 ) -> Option<Both>
+    requires begins { K.begins_at seats.old.scan.count }
+    requires allows { K.allows turn.client.number }
     requires room { (turn.answers.items ≡ []) × (vec_len turn.lines ≤ vec_capacity turn.answers) }
     ensures played { IfSome result (λ both. AreClientAnswers turn.client turn.lines.items both.answers.items both.client) }
     ensures round { IfSome result (λ both. IfOk both.round (λ r. IsRound seats.old.scan seats.new.scan seats.old.ends seats.new.ends r)) }
@@ -120,6 +129,8 @@ fn in_scope<
         thread::scope_env(),
         rt,
         move |scope| -> (&mut Seats<I, N, M, B>, Option<Both>)
+            requires begins { K.begins_at lent.now.scan.count }
+            requires allows { K.allows turn.client.number }
             requires room { (turn.answers.items ≡ []) × (vec_len turn.lines ≤ vec_capacity turn.answers) }
             ensures played { IfSome result.1 (λ both. AreClientAnswers turn.client turn.lines.items both.answers.items both.client) }
             ensures round { IfSome result.1 (λ both. IfOk both.round (λ r. IsRound lent.entry.now.scan result.0.now.scan lent.entry.now.ends result.0.now.ends r)) }
@@ -139,7 +150,7 @@ fn in_scope<
 fn run_both<
     's,
     'e,
-    K: Shape + Send + Sync,
+    K: Keeping + Send + Sync,
     I: Ledger + Send + Sync,
     N: Ledger,
     M: Ledger + Send + Sync,
@@ -149,11 +160,13 @@ fn run_both<
     scope: &'s Scope<'s, &'e ()>,
     rt: &'e R,
     alloc: Global,
-    shared: &'e SharedZone<K, I, M, B>,
+    shared: &'e KeptZone<K, I, M, B>,
     seats: &mut Seats<I, N, M, B>,
     options: Options,
     turn: Turn,
 ) -> Option<Both>
+    requires begins { K.begins_at seats.old.scan.count }
+    requires allows { K.allows turn.client.number }
     requires room { (turn.answers.items ≡ []) × (vec_len turn.lines ≤ vec_capacity turn.answers) }
     ensures played { IfSome result (λ both. AreClientAnswers turn.client turn.lines.items both.answers.items both.client) }
     ensures round { IfSome result (λ both. IfOk both.round (λ r. IsRound seats.old.scan seats.new.scan seats.old.ends seats.new.ends r)) }
@@ -198,7 +211,7 @@ impl Promise<Turn> for Plays {
 fn start_client<
     's,
     'e,
-    K: Shape + Send + Sync,
+    K: Keeping + Send + Sync,
     I: Ledger + Send + Sync,
     M: Ledger + Send + Sync,
     B: Ledger + Send + Sync,
@@ -206,9 +219,10 @@ fn start_client<
 >(
     scope: &'s Scope<'s, &'e ()>,
     rt: &'e R,
-    shared: &'e SharedZone<K, I, M, B>,
+    shared: &'e KeptZone<K, I, M, B>,
     turn: Turn,
 ) -> Option<PromisedHandle<Turn, Plays>>
+    requires allows { K.allows turn.client.number }
     requires room { (turn.answers.items ≡ []) × (vec_len turn.lines ≤ vec_capacity turn.answers) }
     ensures { IfSome result (λ player. player.promise.turn.value ≡ turn) }
 {
@@ -218,6 +232,7 @@ fn start_client<
     let started = scope.spawn_with(
         promise,
         move || -> Turn
+            requires allows { K.allows turn.client.number }
             requires room { (turn.answers.items ≡ []) × (vec_len turn.lines ≤ vec_capacity turn.answers) }
             ensures { AreClientAnswers turn.client turn.lines.items result.answers.items result.client }
         { play_lines(rt, shared, turn) },
@@ -226,11 +241,12 @@ fn start_client<
 }
 
 /// Makes the calls of a client's lines, one after the other.
-fn play_lines<K: Shape, I: Ledger, M: Ledger, B: Ledger, R: Wait>(
+fn play_lines<K: Keeping, I: Ledger, M: Ledger, B: Ledger, R: Wait>(
     rt: &R,
-    shared: &SharedZone<K, I, M, B>,
+    shared: &KeptZone<K, I, M, B>,
     turn: Turn,
 ) -> Turn
+    requires allows { K.allows turn.client.number }
     requires room { (turn.answers.items ≡ []) × (vec_len turn.lines ≤ vec_capacity turn.answers) }
     ensures { AreClientAnswers turn.client turn.lines.items result.answers.items result.client }
 {
@@ -251,12 +267,13 @@ fn play_lines<K: Shape, I: Ledger, M: Ledger, B: Ledger, R: Wait>(
 }
 
 /// Answers a line of a client.
-fn reply_to<K: Shape, I: Ledger, M: Ledger, B: Ledger, R: Wait>(
+fn reply_to<K: Keeping, I: Ledger, M: Ledger, B: Ledger, R: Wait>(
     rt: &R,
-    shared: &SharedZone<K, I, M, B>,
+    shared: &KeptZone<K, I, M, B>,
     client: &mut Client,
     call: Option<ClientCall>,
 ) -> Reply
+    requires { K.allows client.old.number }
     ensures { IsClientReply client.old call result client.new }
 {
     let Some(call) = call else {
@@ -268,12 +285,13 @@ fn reply_to<K: Shape, I: Ledger, M: Ledger, B: Ledger, R: Wait>(
 }
 
 /// Makes a call of a client.
-fn make<K: Shape, I: Ledger, M: Ledger, B: Ledger, R: Wait>(
+fn make<K: Keeping, I: Ledger, M: Ledger, B: Ledger, R: Wait>(
     rt: &R,
-    shared: &SharedZone<K, I, M, B>,
+    shared: &KeptZone<K, I, M, B>,
     client: &mut Client,
     call: ClientCall,
 ) -> Result<Reply, ClientError>
+    requires { K.allows client.old.number }
     ensures { IsMade client.old call result client.new }
 {
     match call {

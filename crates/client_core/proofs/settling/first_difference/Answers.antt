@@ -4,7 +4,8 @@ use Rattle.std.specs.Prelude.{Some, slice_get, option_copied}
 use Rattle.std.specs.List.{filter}
 use Rattle.std.proofs.lemmas.List.{take_all, length-reverse}
 use Rattle.std.proofs.lemmas.Option.{slice_get_within}
-use Rattle.client_core.specs.Receipts.{is_of, records_of}
+use Rattle.round_core.specs.Calls.{is_of}
+use Rattle.client_core.specs.Receipts.{records_of}
 use Rattle.client_core.specs.Settling.{IsFirstDifference}
 use Rattle.client_core.proofs.Differences.{filter-take_past, filter-take_next, differs_at, ends_early}
 use Rattle.client_core.proofs.settling.first_difference.Goals as goal

@@ -1,7 +1,7 @@
 use Rattle.std.proofs.Common.{◌≡◌, ◌≤◌, length, take}
 use Rattle.std.specs.Prelude.{reverse}
 use Rattle.std.specs.List.{filter}
-use Rattle.client_core.specs.Receipts.{is_of}
+use Rattle.round_core.specs.Calls.{is_of}
 use Rattle.client_core.proofs.settling.first_difference.Given as goal
 
 -- the client's records among those passed so far are the first of its receipts

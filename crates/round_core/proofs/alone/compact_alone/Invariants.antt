@@ -18,6 +18,7 @@ ghosts-compact_shared-K-Keeping g a = record {
   begins_at = λ n. n ≡ isolated a.zone.records;
   stops_at = StopsAlone a.zone;
   unpinned = IsAtRest a.zone;
+  allows = λ client. ⊥;
   begins = alone_begins a.zone;
   goes_on = goes_on_alone a.zone;
   lets_go = alone_lets_go a.zone;
@@ -26,4 +27,5 @@ ghosts-compact_shared-K-Keeping g a = record {
   commits = alone_commits a.zone;
   puts_back = alone_puts_back a.zone;
   pins_none = λ z page serial source target rest law. alone_unpinned a.zone z page serial source target rest;
+  calls = λ z z_new client never law call keeps. absurd never;
 }

@@ -5,7 +5,7 @@ use Rattle.text_core.specs.declared.reply.Reply.{Reply}
 use Rattle.std.specs.Prelude.{Option}
 use Rattle.script_core.specs.Clients.{AreClientAnswers, IsClientReply}
 use Rattle.play_core.specs.Script.{Answer, ClientLine}
-use Rattle.script_core.proofs.ClientAnswers.{client_answers_more}
+use Rattle.script_core.proofs.ClientAnswers.{client_answers_more, still_allowed}
 use Rattle.script_core.proofs.beside.play_lines.Goals as goal
 
 pub loop-line-preserved : goal.loop-line-preserved
@@ -23,6 +23,7 @@ loop-line-preserved g c =
     let len = c.push_reserved.ensures.len in
     let count = c.loop-line.invariant.count in
     record {
+      allowed = still_allowed g.K.Keeping.allows mid new _ c.reply_to-reply.result c.reply_to-reply.ensures c.loop-line.invariant.allowed;
       played = subst (λ (ls : List ClientLine). AreClientAnswers old ls c.push_reserved.new.self.items new)
           (sym (take_more items i line c.loop-line-test.true ∙ ap (λ (d : ClientLine). take i items ++ d ∷ []) (sym c.line-item.is)))
           (subst (λ (told : List Answer). AreClientAnswers old (take i items ++ line ∷ []) told new) (sym c.push_reserved.ensures.items) more);

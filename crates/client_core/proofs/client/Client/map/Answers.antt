@@ -7,7 +7,7 @@ use Rattle.client_core.proofs.client.Client.map.Goals as goal
 
 pub returns-in_err-frame-clause-refused : goal.returns-in_err-frame-clause-refused
 returns-in_err-frame-clause-refused g c =
-    let is = refused (λ zone. map_refusal zone c.args.address) c.behind-room.inside.zone c.behind-room.invariant.0 c.map.result c.map.ensures.refused in
+    let is = refused (λ zone. map_refusal zone c.args.address) c.behind-room.inside.zone c.behind-room.invariant.0 c.map_kept.result c.map_kept.ensures.refused in
     search (rules, is)
 
 pub returns-clause-ok : goal.returns-clause-ok
@@ -18,7 +18,7 @@ returns-clause-ok g c = (
     zone = c.behind-room.inside.zone;
     lawful = c.behind-room.invariant.0;
     accepted = search rules;
-    zone_new = c.map.new.self;
+    zone_new = c.map_kept.new.zone;
     left = search rules;
   },
 )

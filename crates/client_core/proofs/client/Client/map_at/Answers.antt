@@ -5,9 +5,9 @@ use Rattle.state_core.specs.ZoneState.{lowest_unused_page}
 use Rattle.client_core.proofs.Calls.{refused}
 use Rattle.client_core.proofs.client.Client.map_at.Goals as goal
 
-pub returns-in_err-map_at-clause-refused : goal.returns-in_err-map_at-clause-refused
-returns-in_err-map_at-clause-refused g c =
-    let is = refused (λ zone. map_at_refusal zone c.args.address c.args.frame) c.behind-room.inside.zone c.behind-room.invariant.0 c.map_at.result c.map_at.ensures.refused in
+pub returns-in_err-map_at_kept-clause-refused : goal.returns-in_err-map_at_kept-clause-refused
+returns-in_err-map_at_kept-clause-refused g c =
+    let is = refused (λ zone. map_at_refusal zone c.args.address c.args.frame) c.behind-room.inside.zone c.behind-room.invariant.0 c.map_at_kept.result c.map_at_kept.ensures.refused in
     search (rules, is)
 
 pub returns-clause-ok : goal.returns-clause-ok
@@ -18,7 +18,7 @@ returns-clause-ok g c = (
     zone = c.behind-room.inside.zone;
     lawful = c.behind-room.invariant.0;
     accepted = search rules;
-    zone_new = c.map_at.new.self;
+    zone_new = c.map_at_kept.new.zone;
     left = search rules;
   },
 )

@@ -26,3 +26,6 @@ returns g c = inl (record {
       refl (c.in_ok-client.ensures ∙ ap (λ (t : Threaded). t.client) c.self.view_is) c.into_parts-lines.ensures.clients
       c.in-Some.ensures.played;
 })
+
+pub run_turn-requires-clause-client : goal.run_turn-requires-clause-client
+run_turn-requires-clause-client g c = λ lives within. c.in_ok-client.ensures ∙ ap (λ (t : Threaded). t.client) c.self.view_is

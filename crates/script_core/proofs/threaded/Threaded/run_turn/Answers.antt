@@ -1,10 +1,10 @@
-use Rattle.std.proofs.Common.{List, ap, subst, sym, ◌∙◌}
+use Rattle.std.proofs.Common.{List, ap, refl, subst, sym, ◌∙◌}
 use Rattle.std.proofs.lemmas.Option.{MatchOption-at_none, MatchOption-at_some}
 use Rattle.zone_core.specs.Seats.{audit_refusal}
 use Rattle.play_core.specs.Script.{Answer}
 use Rattle.script_core.specs.Clients.{AreClientAnswers}
 use Rattle.script_core.specs.Threaded.{Threaded, left_by}
-use Rattle.script_core.proofs.Rounds.{nothing_ran, round_over}
+use Rattle.script_core.proofs.Rounds.{added_to, nothing_ran, round_over}
 use Rattle.script_core.proofs.threaded.Threaded.run_turn.Goals as goal
 
 pub returns-in_default-clause-none : goal.returns-in_default-clause-none
@@ -14,7 +14,7 @@ returns-in_default-clause-none g c =
     nothing_ran c.args.world c.args.self.now c.take_back.new.self c.parts_of-zone.result.0 ran.result.0 c.parts_of-zone.result.1.scan seats.scan c.parts_of-zone.result.1.ends seats.ends
     c.parts_of-zone.ensures.zone c.parts_of-zone.ensures.scan c.parts_of-zone.ensures.ends
     (MatchOption-at_none _ _ c.in_default.is ran.ensures.none)
-    ran.ensures.kept ran.ensures.shape c.take_back.ensures.left
+    c.args.turn.client c.requires.client ran.ensures.added ran.ensures.kept ran.ensures.shape c.take_back.ensures.left
 
 pub returns-clause-played : goal.returns-clause-played
 returns-clause-played g c =
@@ -26,6 +26,7 @@ returns-clause-played g c =
           c.parts_of-zone.ensures.zone c.parts_of-zone.ensures.scan c.parts_of-zone.ensures.ends c.parts_of-zone.ensures.whole
           ran.ensures.kept ran.ensures.shape (MatchOption-at_some _ _ both c.in-Some.is ran.ensures.round) (MatchOption-at_some _ _ both c.in-Some.is ran.ensures.early)
           c.take_back-2.ensures.exact;
+      added = added_to c.args.world.zone c.parts_of-zone.result.0 ran.result.0 c.args.turn.client c.args.turn.client c.parts_of-zone.ensures.zone refl ran.ensures.added;
       client_behind = both.client;
       clients = subst (λ (told : List Answer). AreClientAnswers c.args.turn.client c.args.turn.lines.items told both.client) (sym c.settle-told.ensures.answers)
           (MatchOption-at_some _ _ both c.in-Some.is ran.ensures.played);
