@@ -1,1 +1,2 @@
+pub mod ScannersMet
 pub mod Seated

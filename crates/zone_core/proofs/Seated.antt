@@ -20,6 +20,7 @@ use Rattle.state_core.specs.Ending.{is_own, IsSettled, IsEnded}
 use Rattle.state_core.specs.Packed.{IsPacked}
 use Rattle.state_core.specs.Pairs.{HaveMet}
 use Rattle.zone_core.specs.Seats.{IsAudited, ScanSeat, EndSeat}
+use Rattle.zone_core.specs.declared.seats.Answered.TheVariants as answered
 use Rattle.state_core.specs.ZoneState.{ZoneState, is_quiet}
 use Rattle.state_core.proofs.Entries.{get_insert_same}
 use Rattle.state_core.proofs.Packing.{packed_quiet}
@@ -41,16 +42,16 @@ ended_in z v new p page serial source target kept left view number under way set
     (record { source = source; target = target; way = way; settled = settled })))
 
 -- the counts of a zone and of its seats, where these agree
-pub audited : (z v : ZoneState) (scan : ScanSeat) (ends : EndSeat) (i m b : ℕ) (o : Option Audit) → z ≡ v → IsLawful z → AreBooks i m b z → scan.count ≡ i → ends.moved ≡ m → ends.back ≡ b → IsSome o ↔ (length (out z.records) ≡ 0) → IfSome o (λ a. a.isolated ≡ isolated z.records) → IfSome o (λ a. a.moved ≡ moved z.records) → IfSome o (λ a. a.back ≡ put_back z.records) → IfSome o (λ a. a.moved + a.back ≡ a.isolated) → IfSome o (λ a. IsAudited v scan ends a)
-audited z v scan ends i m b None view law books s t u none isolated_is moved_is back_is sum = tt
-audited z v scan ends i m b (Some a) view law books s t u none isolated_is moved_is back_is sum =
+pub audited : (z v : ZoneState) (scan : ScanSeat) (ends : EndSeat) (m b : ℕ) (o : Option Audit) → z ≡ v → IsLawful z → AreBooks m b z → scan.count ≡ isolated z.records → ends.moved ≡ m → ends.back ≡ b → IsSome o ↔ (length (out z.records) ≡ 0) → IfSome o (λ a. a.isolated ≡ isolated z.records) → IfSome o (λ a. a.moved ≡ moved z.records) → IfSome o (λ a. a.back ≡ put_back z.records) → IfSome o (λ a. a.moved + a.back ≡ a.isolated) → IfSome o (λ a. IsAudited v scan ends a)
+audited z v scan ends m b None view law books s t u none isolated_is moved_is back_is sum = tt
+audited z v scan ends m b (Some a) view law books s t u none isolated_is moved_is back_is sum =
     let empty : out z.records ≡ [] = nil_from_length (out z.records) (none.0 refl) in
     subst (λ (w : ZoneState). IsAudited w scan ends a) view (record {
       isolated = isolated_is;
       moved = moved_is;
       back = back_is;
       sum = sum;
-      scan = isolated_is ∙ sym books.isolated ∙ sym s;
+      scan = isolated_is ∙ sym s;
       ends_moved = moved_is ∙ sym books.moved ∙ sym t;
       ends_back = back_is ∙ sym books.back ∙ sym u;
       none_out = empty;
@@ -62,24 +63,25 @@ ok_if_some P None error h = tt
 ok_if_some P (Some a) error h = h
 
 -- an audit finds a quiet zone packed where the scanners have met
-pub ok_packed : (z : ZoneState) (scan : ScanSeat) (ends : EndSeat) (r : Result Audit ZoneError) → IsLawful z → IfOk r (λ audit. IsAudited z scan ends audit) → OnOk r (is_quiet z ≡ true → HaveMet z → IsPacked z)
-ok_packed z scan ends (Ok audit) law audited = λ quiet. packed_quiet z law quiet (ap length audited.none_out)
-ok_packed z scan ends (Err error) law audited = tt
+pub ok_packed : (z : ZoneState) (scan : ScanSeat) (ends : EndSeat) (r : Result Audit ZoneError) → IsLawful z → IfOk r (λ audit. IsAudited z scan ends audit)
+    → (scan.last ≡ Some answered.Met → is_quiet z ≡ true → HaveMet z) → OnOk r (is_quiet z ≡ true → scan.last ≡ Some answered.Met → IsPacked z)
+ok_packed z scan ends (Ok audit) law audited have_met = λ quiet last. packed_quiet z law quiet (ap length audited.none_out) (have_met last quiet)
+ok_packed z scan ends (Err error) law audited have_met = tt
 
 -- a whole end seat passes an audit exactly where its counts add up to that of the scan seat
-pub passes_exactly : (z : ZoneState) (scan : ScanSeat) (ends : EndSeat) (i m b : ℕ) (o : Option Audit) (r : Result Audit ZoneError) (error : ZoneError) → IsLawful z → AreBooks i m b z → scan.count ≡ i → ends.moved ≡ m → ends.back ≡ b → IsSome o ↔ (length (out z.records) ≡ 0) → r ≡ ok_or o error → IsOk r ↔ (ends.moved + ends.back ≡ scan.count)
-passes_exactly z scan ends i m b o r error law books s t u none is =
+pub passes_exactly : (z : ZoneState) (scan : ScanSeat) (ends : EndSeat) (m b : ℕ) (o : Option Audit) (r : Result Audit ZoneError) (error : ZoneError) → IsLawful z → AreBooks m b z → scan.count ≡ isolated z.records → ends.moved ≡ m → ends.back ≡ b → IsSome o ↔ (length (out z.records) ≡ 0) → r ≡ ok_or o error → IsOk r ↔ (ends.moved + ends.back ≡ scan.count)
+passes_exactly z scan ends m b o r error law books s t u none is =
     subst (λ (x : Result Audit ZoneError). IsOk x ↔ (ends.moved + ends.back ≡ scan.count)) (sym is) (by_audit o none) where
       balanced : length (out z.records) + ends.moved + ends.back ≡ scan.count
-      balanced = omega (arith, is_balanced z.records law.well_ended, s, t, u, books.isolated, books.moved, books.back)
+      balanced = omega (arith, is_balanced z.records law.well_ended, s, t, u, books.moved, books.back)
 
       by_audit : (p : Option Audit) → IsSome p ↔ (length (out z.records) ≡ 0) → IsOk (ok_or p error) ↔ (ends.moved + ends.back ≡ scan.count)
       by_audit None some = (λ bad. cc, λ sum. (let bad = some.1 (omega (arith, balanced, sum)) in cc))
       by_audit (Some a) some = (λ ok. (let gone = some.0 refl in omega (arith, balanced)), λ sum. refl)
 
 -- a whole end seat counts no more pages than were isolated
-pub counts_most : (z : ZoneState) (scan : ScanSeat) (ends : EndSeat) (i m b : ℕ) → IsLawful z → AreBooks i m b z → scan.count ≡ i → ends.moved ≡ m → ends.back ≡ b → ends.moved + ends.back ≤ scan.count
-counts_most z scan ends i m b law books s t u = omega (arith, is_balanced z.records law.well_ended, s, t, u, books.isolated, books.moved, books.back)
+pub counts_most : (z : ZoneState) (scan : ScanSeat) (ends : EndSeat) (m b : ℕ) → IsLawful z → AreBooks m b z → scan.count ≡ isolated z.records → ends.moved ≡ m → ends.back ≡ b → ends.moved + ends.back ≤ scan.count
+counts_most z scan ends m b law books s t u = omega (arith, is_balanced z.records law.well_ended, s, t, u, books.moved, books.back)
 
 -- an end seat that isn't whole has fewer than 64 parts
 pub part_missing : (ends told : EndSeat) → told ≡ ends → nat_eq told.parts 64 ≡ false → told.parts ≤ 64 → 64 ≤ ends.parts → ⊥

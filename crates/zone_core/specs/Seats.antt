@@ -1,5 +1,5 @@
 -- What contracts see of the seats of a zone, and what the calls with a seat note in it.
-use Rattle.std.specs.Prelude.{◌≡◌, ℕ, ◌+◌, ◌<◌, ◌^◌, ⊤, length, not, nat_eq, nat_lt, if◌then◌else◌, [], Option, Some, None}
+use Rattle.std.specs.Prelude.{◌≡◌, ℕ, ◌+◌, ◌*◌, ◌<◌, ◌^◌, ⊤, length, not, nat_eq, nat_lt, if◌then◌else◌, [], Option, Some, None}
 use Rattle.journal_core.specs.Moves.{isolated, moved, put_back, out}
 use Rattle.journal_core.specs.Ends.{AreEndedOnce}
 use Rattle.state_core.specs.declared.error.ZoneError.{ZoneError}
@@ -25,6 +25,15 @@ pub record EndSeat : Type 0 where
   pub parts : ℕ
   pub moved : ℕ
   pub back : ℕ
+
+-- what a last answer counts in the ledger of the scanner: one where the scanners met
+abbrev pub met_mark : Option Answered → ℕ
+met_mark (Some answered.Met) = 1
+met_mark _ = 0
+
+-- what a scan seat has in the ledger of the scanner: two for each page that was isolated, and the mark of its last answer
+abbrev pub scan_amount : ℕ → Option Answered → ℕ
+scan_amount count last = 2 * count + met_mark last
 
 -- the scan seat that a zone is opened with
 abbrev pub fresh_scan_seat : ScanSeat

@@ -1,17 +1,18 @@
 ghost use Rattle.std.specs.Prelude.{◌≡◌, ◌+◌, ◌-◌, ◌<◌, ◌≤◌, ◌↔◌, nat_eq, Some, None, IsSome, IfSome, OnSome, IfNone};
-ghost use Rattle.zone_core.specs.Seats.{fresh_scan_seat, fresh_end_seat, seat_begun};
+ghost use Rattle.zone_core.specs.Seats.{fresh_scan_seat, fresh_end_seat, met_mark, scan_amount, seat_begun};
 
 use std::marker::Model;
 use std::sync::ledger::{Blank, Book, Ledger, Share};
 
-/// Four ledgers that aren't opened yet: a zone is opened with them. Their names are its name, which no other zone has.
+/// Four ledgers that aren't opened yet: a zone is opened with them. Their names are its name, which no other zone has. That of the
+/// scanner, `isolated`, counts two for each page that was isolated, and one while the last answer is that the scanners met.
 #[derive(Drop)]
 pub struct Blanks {
     pub isolated: Blank,
     pub rounds: Blank,
     pub moved: Blank,
     pub back: Blank,
-    // The share of isolated pages has one part, and the shares of moved pages and of pages put back have 64.
+    // The share of the scanner has one part, and the shares of moved pages and of pages put back have 64.
     ghost isolated_parts: { isolated.parts ≡ 1 },
     ghost rounds_parts: { rounds.parts ≡ 1 },
     ghost moved_parts: { moved.parts ≡ 64 },
@@ -49,14 +50,14 @@ pub struct ScanSeat<I: Ledger, N: Ledger> {
 }
 
 impl<I: Ledger, N: Ledger> Model for ScanSeat<I, N> {
-    ghost use Rattle.std.specs.Prelude.{◌≡◌};
-    ghost use Rattle.zone_core.specs.Seats.{ScanSeat as Seen};
+    ghost use Rattle.std.specs.Prelude.{◌≡◌, ◌/◌};
+    ghost use Rattle.zone_core.specs.Seats.{ScanSeat as Seen, scan_amount};
 
     ghost Value = { Seen };
 
-    ghost view = { λ s. record { count = s.isolated.amount; rounds = s.rounds.total; last = s.last } };
+    ghost view = { λ s. record { count = s.isolated.amount / 2; rounds = s.rounds.total; last = s.last } };
 
-    ghost invariant = { λ s. (s.isolated.parts ≡ 1) × (s.begun.parts ≡ 1) };
+    ghost invariant = { λ s. (s.isolated.parts ≡ 1) × (s.begun.parts ≡ 1) × (s.isolated.amount ≡ scan_amount (s.isolated.amount / 2) s.last) };
 }
 
 /// A seat of those who end moves. It counts the pages that were moved and put back with it. A zone is opened with one that has
@@ -108,10 +109,10 @@ impl<I: Ledger, N: Ledger> ScanSeat<I, N> {
 }
 
 impl<I: Ledger, N: Ledger> ScanSeat<I, N> {
-    /// Tells that the book's count is the seat's.
+    /// Tells that the book's total is what the seat has in it.
     pub(crate) fn tell(&mut self, book: &mut Book<I>)
         requires { I.parts ≡ 1 }
-        ensures count { self.old.count ≡ book.old.total }
+        ensures total { book.old.total ≡ scan_amount self.old.count self.old.last }
         ensures seat { self.new ≡ self.old }
         ensures book { book.new.total ≡ book.old.total }
     {
@@ -120,27 +121,51 @@ impl<I: Ledger, N: Ledger> ScanSeat<I, N> {
 
     /// Counts one page more, and notes that the last answer was a page.
     pub(crate) fn count(&mut self, book: &mut Book<I>)
+        requires { I.parts ≡ 1 }
         ensures seat { self.new ≡ record self.old { count = self.old.count + 1; last = Some Answered.Page } }
-        ensures book { book.new.total ≡ book.old.total + 1 }
+        ensures book { book.new.total ≡ scan_amount (self.old.count + 1) (Some Answered.Page) }
     {
-        book.add(&mut self.isolated, 1);
-        self.last = Some(Answered::Page);
+        self.set_last(book, Some(Answered::Page));
+        book.add(&mut self.isolated, 2);
     }
 
     /// Notes an answer that isn't a page.
-    pub(crate) fn note(&mut self, answer: Answered)
-        ensures { self.new ≡ record self.old { last = Some answer } }
+    pub(crate) fn note(&mut self, book: &mut Book<I>, answer: Answered)
+        requires { I.parts ≡ 1 }
+        ensures seat { self.new ≡ record self.old { last = Some answer } }
+        ensures book { book.new.total ≡ scan_amount self.old.count (Some answer) }
     {
-        self.last = Some(answer);
+        self.set_last(book, Some(answer));
     }
 
     /// Counts one round more, in which there was no answer yet.
-    pub(crate) fn begin(&mut self)
-        ensures { self.new ≡ seat_begun self.old }
+    pub(crate) fn begin(&mut self, book: &mut Book<I>)
+        requires { I.parts ≡ 1 }
+        ensures seat { self.new ≡ seat_begun self.old }
+        ensures book { book.new.total ≡ scan_amount self.old.count None }
     {
         self.rounds.add(&mut self.begun, 1);
-        self.last = None;
+        self.set_last(book, None);
     }
+
+    // Sets the last answer, and its mark in the ledger.
+    fn set_last(&mut self, book: &mut Book<I>, last: Option<Answered>)
+        requires { I.parts ≡ 1 }
+        ensures seat { self.new ≡ record self.old { last = last } }
+        ensures book { book.new.total ≡ scan_amount self.old.count last }
+    {
+        book.audit(&mut self.isolated);
+        book.sub(&mut self.isolated, met_mark(self.last));
+        book.add(&mut self.isolated, met_mark(last));
+        self.last = last;
+    }
+}
+
+// What a last answer counts in the ledger of the scanner.
+fn met_mark(last: Option<Answered>) -> u64
+    ensures { result ≡ met_mark last }
+{
+    u64::from(last == Some(Answered::Met))
 }
 
 impl<M: Ledger, B: Ledger> EndSeat<M, B> {

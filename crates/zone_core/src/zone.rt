@@ -48,7 +48,7 @@ pub struct Zone<I: Ledger, M: Ledger, B: Ledger> {
 impl<I: Ledger, M: Ledger, B: Ledger> Model for Zone<I, M, B> {
     ghost use Rattle.state_core.specs.Lawful.{IsLawful};
     ghost use Rattle.state_core.specs.ZoneState.{ZoneState};
-    ghost use Rattle.zone_core.specs.Books.{AreBooks, AreCut};
+    ghost use Rattle.zone_core.specs.Books.{AreBooks, AreCut, IsScanned};
     ghost use Rattle.plain_core.specs.contracts.plain.PlainZone as plain_zone;
 
     ghost Value = { ZoneState };
@@ -57,7 +57,7 @@ impl<I: Ledger, M: Ledger, B: Ledger> Model for Zone<I, M, B> {
 
     ghost view = { λ z. z.plain };
 
-    ghost invariant = { λ z. AreBooks z.isolated.total z.moved.total z.back.total z.plain × AreCut I.parts M.parts B.parts × IsLawful z.plain };
+    ghost invariant = { λ z. AreBooks z.moved.total z.back.total z.plain × AreCut I.parts M.parts B.parts × IsLawful z.plain × IsScanned z.isolated.total z.plain };
 }
 
 impl<I: Ledger, M: Ledger, B: Ledger> Zone<I, M, B> {
@@ -248,7 +248,7 @@ impl<I: Ledger, M: Ledger, B: Ledger> Zone<I, M, B> {
     {
         seat.tell(&mut self.isolated);
         self.plain.begin_round();
-        seat.begin();
+        seat.begin(&mut self.isolated);
     }
 
     /// Shows that the seat has counted the pages that were isolated, and changes nothing.
@@ -284,11 +284,11 @@ impl<I: Ledger, M: Ledger, B: Ledger> Zone<I, M, B> {
     {
         seat.tell(&mut self.isolated);
         if !self.plain.has_room_for_two() {
-            seat.note(Answered::JournalFull);
+            seat.note(&mut self.isolated, Answered::JournalFull);
             return Err(ZoneError::JournalFull);
         }
         let Some(pair) = self.plain.next_pair() else {
-            seat.note(Answered::Met);
+            seat.note(&mut self.isolated, Answered::Met);
             return Ok(Next::Met);
         };
         let page = self.plain.isolate(pair);
@@ -402,7 +402,8 @@ impl<I: Ledger, M: Ledger, B: Ledger> Zone<I, M, B> {
         ensures most { 64 ≤ ends.old.parts → ends.old.moved + ends.old.back ≤ scan.old.count }
         ensures same { self.new ≡ self.old }
         ensures seats { (scan.new ≡ scan.old) × (ends.new ≡ ends.old) }
-        ensures packed { OnOk result (is_quiet self.new ≡ true → HaveMet self.new → IsPacked self.new) }
+        // Where the last answer of a quiet round was that the scanners met, the zone is packed.
+        ensures packed { OnOk result (is_quiet self.new ≡ true → scan.old.last ≡ Some Answered.Met → IsPacked self.new) }
         ensures serial { scan.old.count ≡ isolated self.old.records }
         ensures lawful { IsLawful self.new }
     {

@@ -1,13 +1,14 @@
-use Rattle.std.proofs.Common.{rules, ◌∙◌, ap, subst, sym}
+use Rattle.std.proofs.Common.{rules, ◌∙◌, ap, subst, sym, refl}
 use Rattle.std.specs.FinMap as map
 use Rattle.journal_core.specs.declared.record.Cause.TheVariants.{Pinned}
 use Rattle.journal_core.specs.declared.record.Record.TheVariants.{Moved, Back}
 use Rattle.word_core.specs.Page.{Page}
-use Rattle.state_core.specs.Ending.{is_own, source_of, target_of, moved_to_target}
+use Rattle.state_core.specs.Ending.{is_own, source_of, target_of, moved_to_target, put_back_to_source}
 use Rattle.state_core.specs.Pairs.{HaveMet}
 use Rattle.state_core.specs.ZoneState.{ZoneState, is_quiet}
 use Rattle.state_core.proofs.StaysMet.{met_moved, never_pinned}
 use Rattle.zone_core.proofs.Seated.{ended_once, ended_in}
+use Rattle.zone_core.proofs.ScannersMet.{scanned_loud, scanned_quiet}
 use Rattle.zone_core.proofs.zone.Zone.commit.Goals as goal
 
 pub returns-then-has_pin-clause-once : goal.returns-then-has_pin-clause-once
@@ -57,3 +58,16 @@ arrive-requires-clause-words g c = search rules
 
 pub returns-clause-own : goal.returns-clause-own
 returns-clause-own g c = search rules
+
+pub invariant_of-self : goal.invariant_of-self
+invariant_of-self g c =
+    let v = c.self.inside.plain in
+    let scanned = scanned_loud c.self.inside.isolated.total v (put_back_to_source v c.in-Some.way.serial c.in-Some.way.page Pinned) c.go_back.new.self (Back c.in-Some.way.serial Pinned) c.self.invariant.2 c.self.invariant.3 c.go_back.ensures.step refl refl refl refl in
+    search (rules, scanned)
+
+pub invariant_of-self-2 : goal.invariant_of-self-2
+invariant_of-self-2 g c =
+    let v = c.self.inside.plain in
+    let scanned = scanned_quiet c.self.inside.isolated.total v (moved_to_target v c.in-Some.way.serial c.in-Some.way.page) c.arrive.new.self (Moved c.in-Some.way.serial) c.self.invariant.2 c.self.invariant.3 c.arrive.ensures.step refl refl refl refl
+        (λ quiet. met_moved v c.in-Some.way.page c.in-Some.way.serial c.in-Some.way.source c.in-Some.way.target c.self.invariant.2 (c.self.invariant.2.swept quiet) c.in-Some.ensures.placed) in
+    search (rules, scanned)

@@ -9,6 +9,10 @@ use Rattle.state_core.specs.ZoneState.{ZoneState}
 use Rattle.state_core.proofs.Entries.{get_insert_same, get_insert_other}
 use Rattle.state_core.proofs.Facts.{isolated_most}
 use Rattle.state_core.proofs.Packing.{packed_quiet}
+use Rattle.zone_core.specs.Books.{IsScanned}
+use Rattle.zone_core.specs.Seats.{ScanSeat, scan_amount}
+use Rattle.zone_core.specs.declared.seats.Answered.TheVariants as answered
+use Rattle.zone_core.proofs.ScannersMet.{seat_counted}
 use Rattle.zone_core.proofs.zone.Zone.isolate_next.Goals as goal
 
 pub returns-clause-followed : goal.returns-clause-followed
@@ -42,3 +46,14 @@ returns-in_default-clause-packed g c met quiet none = packed_quiet c.self.inside
 
 pub returns-in_default-clause-seat : goal.returns-in_default-clause-seat
 returns-in_default-clause-seat g c = search rules
+
+pub invariant_of-self-in_default : goal.invariant_of-self-in_default
+invariant_of-self-in_default g c =
+    let seat = c.args.seat.now in
+    let counted = seat_counted c.self.inside.isolated.total seat.count seat.last c.self.inside.plain c.self.invariant.3 c.tell.ensures.total in
+    let scanned : IsScanned c.note-in_default.new.book.total c.self.inside.plain = record {
+      last = Some answered.Met;
+      counted = c.note-in_default.ensures.book ∙ ap (λ (n : ℕ). scan_amount n (Some answered.Met)) (ap (λ (s : ScanSeat). s.count) c.tell.ensures.seat ∙ counted);
+      met = λ met quiet. c.in_default.ensures.none;
+    } in
+    search (rules, scanned)

@@ -1,11 +1,12 @@
-use Rattle.std.proofs.Common.{rules, ◌∙◌, ap, sym}
+use Rattle.std.proofs.Common.{rules, ◌∙◌, ap, sym, refl}
 use Rattle.std.specs.FinMap as map
 use Rattle.journal_core.specs.declared.record.Cause.TheVariants.{NotCopied}
 use Rattle.journal_core.specs.declared.record.Record.TheVariants.{Back}
 use Rattle.word_core.specs.Page.{Page}
-use Rattle.state_core.specs.Ending.{is_own, source_of}
+use Rattle.state_core.specs.Ending.{is_own, source_of, put_back_to_source}
 use Rattle.state_core.specs.ZoneState.{ZoneState}
 use Rattle.zone_core.proofs.Seated.{ended_once, ended_in}
+use Rattle.zone_core.proofs.ScannersMet.{scanned_loud}
 use Rattle.zone_core.proofs.zone.Zone.put_back.Goals as goal
 
 pub returns-clause-once : goal.returns-clause-once
@@ -23,3 +24,9 @@ go_back-requires-clause-cause g c = search rules
 
 pub returns-clause-ok : goal.returns-clause-ok
 returns-clause-ok g c = search rules
+
+pub invariant_of-self : goal.invariant_of-self
+invariant_of-self g c =
+    let v = c.self.inside.plain in
+    let scanned = scanned_loud c.self.inside.isolated.total v (put_back_to_source v c.in-Some.way.serial c.in-Some.way.page NotCopied) c.go_back.new.self (Back c.in-Some.way.serial NotCopied) c.self.invariant.2 c.self.invariant.3 c.go_back.ensures.step refl refl refl refl in
+    search (rules, scanned)
