@@ -1,6 +1,6 @@
 //! Steps of many pages under one hold of the lock.
 
-ghost use Rattle.std.specs.Prelude.{◌≡◌, ◌+◌, ◌<◌, [], length, Some, IfSome, IfNone, OnSome};
+ghost use Rattle.std.specs.Prelude.{◌≡◌, ◌+◌, ◌<◌, [], length, Some, None, IfSome, IfNone, OnSome};
 ghost use Rattle.std.specs.VecDeque.{deque_capacity};
 ghost use Rattle.journal_core.specs.Moves.{isolated};
 ghost use Rattle.state_core.specs.Lawful.{IsLawful};
@@ -65,15 +65,18 @@ pub(crate) fn commit_burst<K: Keeping, I: Ledger, M: Ledger, B: Ledger>(
 {
     while let Some(copy) = copies.pop_front() {
         if let Err(refused) = zone.commit(seat, copy) {
-            stranger = Some(least(stranger, refused.0.serial()));
+            stranger = least(stranger, Some(refused.0.serial()));
         }
     }
     stranger
 }
 
-fn least(stranger: Option<Serial>, serial: Serial) -> Serial {
-    match stranger {
-        Some(other) if other < serial => other,
-        _ => serial,
+/// The least of two serials, of which each may be none.
+pub(crate) fn least(one: Option<Serial>, other: Option<Serial>) -> Option<Serial>
+    ensures { result ≡ None → (one ≡ None) × (other ≡ None) }
+{
+    match (one, other) {
+        (Some(one), Some(other)) => Some(if one < other { one } else { other }),
+        (one, other) => one.or(other),
     }
 }

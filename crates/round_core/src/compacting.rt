@@ -25,7 +25,7 @@ use zone_core::{Audit, Seats, Zone, ZoneError};
 /// fail for want of memory or of a thread fails before the first page is isolated.
 ///
 /// Refused as Broken where `audit` refuses, before anything else; as Memory or NoWorker, and then no round was begun; as Stranger where
-/// the zone refused a copy; as Broken where an end of a queue was gone, a copier's list had no place for a page, or the audit after the
+/// the zone refused a copy, or a page that was to be put back; as Broken where an end of a queue was gone, a copier's list had no place for a page, or the audit after the
 /// round refuses.
 pub fn compact<
     K: Keeping + Send + Sync,
@@ -205,7 +205,8 @@ fn settle_round(ran: Ran) -> Result<Settlement, RoundError>
     })
 }
 
-/// Why the scanner stopped. Refused as Stranger where the zone refused a copy, and as Broken where some thread didn't come to its end.
+/// Why the scanner stopped. Refused as Stranger where the zone refused a copy or a page that was to be put back, and as Broken where
+/// some thread didn't come to its end.
 fn stop_of(ran: &Ran) -> Result<Stop, RoundError>
     ensures stop { IfOk result (λ stop. ran.now.stop ≡ Some stop) }
     ensures whole { OnOk result (ran.now.joined.whole ≡ true) }

@@ -3,6 +3,7 @@ ghost use Rattle.std.specs.VecDeque.{deque_capacity};
 ghost use Rattle.hand_core.specs.CopyEnds.{has_ended};
 ghost use Rattle.round_core.specs.Runs.{IsFresh, IsUnstarted, IsEmpty, IsReady, AreJoined, HasRun};
 
+use crate::burst::least;
 use crate::committer::{Committed, Committer, start_committer};
 use crate::copier::{Carried, Copier, start_copier};
 use crate::division::Division;
@@ -179,7 +180,7 @@ fn run_crew<K: Keeping, I: Ledger, N: Ledger, M: Ledger, B: Ledger, G: Gate, R: 
         copiers,
         committer,
     } = crew;
-    let stop = scan_all(
+    let scanned = scan_all(
         rt, shared, scan, ends, &mut giver, &mut pages, division, gate,
     );
     let _ = giver.close(rt);
@@ -191,6 +192,10 @@ fn run_crew<K: Keeping, I: Ledger, N: Ledger, M: Ledger, B: Ledger, G: Gate, R: 
     } = committer.join(rt);
     ends.join(seat);
     joined.whole &= whole;
+    let (stop, stranger) = match scanned {
+        Ok(stop) => (Some(stop), stranger),
+        Err(left) => (None, least(left, stranger)),
+    };
     Ran {
         giver,
         joined,

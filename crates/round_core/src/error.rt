@@ -14,8 +14,8 @@ pub enum RoundError {
     /// An audit was refused, an end of a queue was gone, or a copier's list had no place for a page.
     #[error("an audit was refused, or a thread of the round ended early")]
     Broken,
-    /// The least serial whose copy the zone refused.
-    #[error("the copy with serial {0} was refused")]
+    /// The zone refused a copy, or a page that was to be put back. The serial is the least of those refused.
+    #[error("the page with serial {0} was refused")]
     Stranger(Serial),
 }
 

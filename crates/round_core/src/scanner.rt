@@ -1,4 +1,4 @@
-ghost use Rattle.std.specs.Prelude.{◌≡◌, ◌+◌, ◌++◌, ◌<◌, ◌≤◌, [], false, Some, length, IfSome, IfNone, OnSome};
+ghost use Rattle.std.specs.Prelude.{◌≡◌, ◌+◌, ◌++◌, ◌<◌, ◌≤◌, [], false, Some, None, Err, length, IfSome, IfNone, OnSome, IfOk, OnOk};
 ghost use Rattle.std.specs.VecDeque.{deque_capacity};
 ghost use Rattle.word_core.specs.Serials.{HasSerialsFrom};
 ghost use Rattle.round_core.specs.Crews.{IsNext};
@@ -9,6 +9,7 @@ use crate::gate::{Gate, Point, tell_all};
 use crate::keeping::Keeping;
 use crate::round::Stop;
 use crate::shared_zone::KeptZone;
+use frame_core::Serial;
 use hand_core::{Giver, Handful};
 use std::collections::VecDeque;
 use std::sync::Wait;
@@ -17,7 +18,8 @@ use word_core::Isolated;
 use zone_core::{EndSeat, ScanSeat};
 
 /// Isolates pages and gives them, as many at once as the empty list has room for, until the scanners meet or the journal is
-/// full. None where the takers are gone.
+/// full. Where the takers are gone, the pages that nobody took are put back, and the answer is an `Err`: with the least serial of
+/// those that the zone refused, if there is one.
 pub(crate) fn scan_all<K: Keeping, I: Ledger, N: Ledger, M: Ledger, B: Ledger, G: Gate, R: Wait>(
     rt: &R,
     shared: &KeptZone<K, I, M, B>,
@@ -27,34 +29,37 @@ pub(crate) fn scan_all<K: Keeping, I: Ledger, N: Ledger, M: Ledger, B: Ledger, G
     pages: &mut VecDeque<Isolated>,
     division: Division,
     gate: &G,
-) -> Option<Stop>
+) -> Result<Stop, Option<Serial>>
     requires next { IsNext scan.old.count giver.old }
     requires pages { (pages.old.items ≡ []) × (0 < deque_capacity pages.old) }
     requires begins { K.begins_at scan.old.count }
     ensures giver { giver.new ≡ record giver.old { given = giver.new.given } }
-    ensures count { IfSome result (λ _. IsNext scan.new.count giver.new) }
-    ensures stopped { IfSome result (λ stop. scan.new.last ≡ Some (answer_at stop)) }
-    ensures stops { IfSome result (λ stop. K.stops_at scan.new.count stop) }
+    ensures count { OnOk result (IsNext scan.new.count giver.new) }
+    ensures stopped { IfOk result (λ stop. scan.new.last ≡ Some (answer_at stop)) }
+    ensures stops { IfOk result (λ stop. K.stops_at scan.new.count stop) }
     ensures rounds { scan.new.rounds ≡ scan.old.rounds + 1 }
     ensures ends { (ends.new.parts ≡ ends.old.parts) × (ends.new.moved ≡ ends.old.moved) × (ends.old.back ≤ ends.new.back) }
-    ensures back { OnSome result (ends.new.back ≡ ends.old.back) }
+    ensures back { OnOk result (ends.new.back ≡ ends.old.back) }
+    // Where the zone refused none, each page that was counted was given or put back.
+    ensures left { result ≡ Err None → giver.new.base + length giver.new.given + ends.new.back ≡ scan.new.count + ends.old.back }
 {
     let stop = shared.begin_burst(rt, scan, pages);
     give_all(rt, shared, ends, giver, pages, division, gate)?;
-    if stop.is_some() {
-        return stop;
+    if let Some(stop) = stop {
+        return Ok(stop);
     }
     for _ in rt.forever() {
         let stop = shared.isolate_burst(rt, scan, pages);
         give_all(rt, shared, ends, giver, pages, division, gate)?;
-        if stop.is_some() {
-            return stop;
+        if let Some(stop) = stop {
+            return Ok(stop);
         }
     }
     unreachable!()
 }
 
-/// Gives all pages, in their order and in handfuls. Where the takers are gone, those that are left are put back, and the answer is none.
+/// Gives all pages, in their order and in handfuls. Where the takers are gone, those that are left are put back, and the answer is an
+/// `Err`: with the least serial of those that the zone refused, if there is one.
 fn give_all<K: Keeping, I: Ledger, M: Ledger, B: Ledger, G: Gate, R: Wait>(
     rt: &R,
     shared: &KeptZone<K, I, M, B>,
@@ -63,26 +68,27 @@ fn give_all<K: Keeping, I: Ledger, M: Ledger, B: Ledger, G: Gate, R: Wait>(
     pages: &mut VecDeque<Isolated>,
     division: Division,
     gate: &G,
-) -> Option<()>
+) -> Result<(), Option<Serial>>
     requires open { giver.old.closed ≡ false }
     requires serials { HasSerialsFrom (giver.old.base + length giver.old.given) pages.old.items }
     ensures giver { giver.new ≡ record giver.old { given = giver.new.given } }
-    ensures given { IfSome result (λ _. giver.new.given ≡ giver.old.given ++ pages.old.items) }
-    ensures pages { IfSome result (λ _. pages.new.items ≡ []) }
+    ensures given { OnOk result (giver.new.given ≡ giver.old.given ++ pages.old.items) }
+    ensures pages { pages.new.items ≡ [] }
     ensures room { deque_capacity pages.new ≡ deque_capacity pages.old }
     ensures ends { (ends.new.parts ≡ ends.old.parts) × (ends.new.moved ≡ ends.old.moved) × (ends.old.back ≤ ends.new.back) }
-    ensures back { OnSome result (ends.new.back ≡ ends.old.back) }
+    ensures back { OnOk result (ends.new.back ≡ ends.old.back) }
+    // Where the zone refused none, each page was given or put back.
+    ensures left { result ≡ Err None → length giver.new.given + ends.new.back ≡ length giver.old.given + length pages.old.items + ends.old.back }
 {
     tell_all(gate, Point::Isolated, 0, pages.len());
     let share = division.share(pages.len());
     while let Some(handful) = first_of(pages, share) {
         if let Err(refused) = giver.give_all(rt, handful) {
-            put_back_handful(rt, shared, ends, refused);
-            put_back_all(rt, shared, ends, pages);
-            return None;
+            let stranger = put_back_handful(rt, shared, ends, refused);
+            return Err(put_back_all(rt, shared, ends, pages, stranger));
         }
     }
-    Some(())
+    Ok(())
 }
 
 /// Takes `share` pages off the front, or all where there are fewer. None where there are none.
@@ -106,31 +112,38 @@ fn first_of(pages: &mut VecDeque<Isolated>, share: usize) -> Option<Handful<Isol
     Some(handful)
 }
 
-/// Puts the pages of a handful back.
+/// Puts the pages of a handful back. The answer is the least serial of those that the zone refused, if there is one.
 fn put_back_handful<K: Keeping, I: Ledger, M: Ledger, B: Ledger, R: Wait>(
     rt: &R,
     shared: &KeptZone<K, I, M, B>,
     ends: &mut EndSeat<M, B>,
-    handful: Handful<Isolated>,
-)
-    ensures { (ends.new.parts ≡ ends.old.parts) × (ends.new.moved ≡ ends.old.moved) × (ends.old.back ≤ ends.new.back) }
+    mut handful: Handful<Isolated>,
+) -> Option<Serial>
+    ensures ends { (ends.new.parts ≡ ends.old.parts) × (ends.new.moved ≡ ends.old.moved) × (ends.old.back ≤ ends.new.back) }
+    ensures back { result ≡ None → ends.new.back ≡ ends.old.back + length handful.items }
 {
-    for page in handful {
-        shared.put_back(rt, ends, page);
+    let mut stranger = None;
+    while let Some(page) = handful.pop_at(0) {
+        stranger = shared.put_back(rt, ends, page, stranger);
     }
+    stranger
 }
 
-/// Puts all pages back.
+/// Puts all pages back. The answer is the least serial of those that the zone refused now or before, if there is one.
 fn put_back_all<K: Keeping, I: Ledger, M: Ledger, B: Ledger, R: Wait>(
     rt: &R,
     shared: &KeptZone<K, I, M, B>,
     ends: &mut EndSeat<M, B>,
     pages: &mut VecDeque<Isolated>,
-)
+    mut stranger: Option<Serial>,
+) -> Option<Serial>
     ensures ends { (ends.new.parts ≡ ends.old.parts) × (ends.new.moved ≡ ends.old.moved) × (ends.old.back ≤ ends.new.back) }
+    ensures pages { pages.new.items ≡ [] }
+    ensures back { result ≡ None → (stranger ≡ None) × (ends.new.back ≡ ends.old.back + length pages.old.items) }
     ensures room { deque_capacity pages.new ≡ deque_capacity pages.old }
 {
     while let Some(page) = pages.pop_front() {
-        shared.put_back(rt, ends, page);
+        stranger = shared.put_back(rt, ends, page, stranger);
     }
+    stranger
 }

@@ -1,6 +1,6 @@
 ghost use Rattle.std.specs.Prelude.{◌≡◌, ◌<◌, ◌≤◌};
 
-use crate::burst::{commit_burst, isolate_burst};
+use crate::burst::{commit_burst, isolate_burst, least};
 use crate::keeping::{Keeping, Open};
 use crate::round::Stop;
 use frame_core::Serial;
@@ -65,7 +65,7 @@ pub struct KeptZone<K: Keeping, I: Ledger, M: Ledger, B: Ledger> {
 pub type SharedZone<K, I, M, B> = KeptZone<Open<K>, I, M, B>;
 
 impl<K: Keeping, I: Ledger, M: Ledger, B: Ledger> KeptZone<K, I, M, B> {
-    ghost use Rattle.std.specs.Prelude.{◌≡◌, ◌+◌, ◌<◌, [], length, Some, IfSome, IfNone, OnSome};
+    ghost use Rattle.std.specs.Prelude.{◌≡◌, ◌+◌, ◌<◌, ◌≤◌, [], length, Some, None, IfSome, IfNone, OnSome};
     ghost use Rattle.std.specs.VecDeque.{deque_capacity};
     ghost use Rattle.word_core.specs.Serials.{HasSerialsFrom};
     ghost use Rattle.zone_core.specs.Seats.{seat_begun};
@@ -202,17 +202,29 @@ impl<K: Keeping, I: Ledger, M: Ledger, B: Ledger> KeptZone<K, I, M, B> {
         ensures back { K.unpinned → seat.new.back ≡ seat.old.back }
     {
         let mut room = self.lock(rt);
-        let least = commit_burst::<K, I, M, B>(&mut room.zone, seat, copies, stranger);
+        let stranger = commit_burst::<K, I, M, B>(&mut room.zone, seat, copies, stranger);
         self.tell_ended(&mut room);
-        least
+        stranger
     }
 
-    /// Ends the move of a page that wasn't copied, and wakes the threads that wait for the end of a move.
-    pub(crate) fn put_back<R: Wait>(&self, rt: &R, seat: &mut EndSeat<M, B>, page: Isolated)
-        ensures { (seat.new.parts ≡ seat.old.parts) × (seat.new.moved ≡ seat.old.moved) × (seat.old.back ≤ seat.new.back) }
+    /// Ends the move of a page that wasn't copied, and wakes the threads that wait for the end of a move. The answer is the least
+    /// serial of those that were refused now or before, if there is one.
+    pub(crate) fn put_back<R: Wait>(
+        &self,
+        rt: &R,
+        seat: &mut EndSeat<M, B>,
+        page: Isolated,
+        stranger: Option<Serial>,
+    ) -> Option<Serial>
+        ensures seat { (seat.new.parts ≡ seat.old.parts) × (seat.new.moved ≡ seat.old.moved) × (seat.old.back ≤ seat.new.back) }
+        ensures back { result ≡ None → (stranger ≡ None) × (seat.new.back ≡ seat.old.back + 1) }
     {
         let mut room = self.lock(rt);
-        let _ = room.zone.put_back(seat, page);
+        let ended = room.zone.put_back(seat, page);
         self.tell_ended(&mut room);
+        match ended {
+            Ok(()) => stranger,
+            Err(refused) => least(stranger, Some(refused.0.serial())),
+        }
     }
 }

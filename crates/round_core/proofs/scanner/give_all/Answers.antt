@@ -1,5 +1,6 @@
-use Rattle.std.proofs.Common.{◌≡◌, ◌+◌, ◌++◌, length, ap, sym, ◌∙◌, subst, append_assoc, length-append, arith}
+use Rattle.std.proofs.Common.{◌≡◌, ◌+◌, ◌++◌, length, ap, sym, ◌∙◌, subst, append_assoc, length-append, arith, None}
 use Rattle.word_core.specs.Serials.{HasSerialsFrom}
+use Rattle.zone_core.specs.Seats.{EndSeat}
 use Rattle.hand_core.specs.PageEnds.{Giver}
 use Rattle.hand_core.proofs.Serials.{serials_front, serials_behind}
 use Rattle.round_core.proofs.scanner.give_all.Goals as goal
@@ -33,3 +34,19 @@ loop-handful-preserved g c =
       ends = old.ends;
       room = c.in-Some.ensures.room ∙ old.room;
     }
+
+pub returns-in-Err-clause-left : goal.returns-in-Err-clause-left
+returns-in-Err-clause-left g c is =
+    let old = c.loop-handful.invariant in
+    let none : c.put_back_all.result ≡ None = cc in
+    let all = c.put_back_all.ensures.back none in
+    let some = c.put_back_handful-stranger.ensures.back all.0 in
+    let refused : length c.in-Err.refused.items ≡ length c.in-Some.handful.items = (λ i. length (c.in-Err.ensures.back i).items) in
+    let given = ap (λ (v : Giver). length v.given) c.in-Err.ensures.err in
+    let ends = ap (λ (v : EndSeat). v.back) old.ends in
+    let before = ap length old.given in
+    let first = ap length c.in-Some.ensures.first in
+    omega (arith, all.1, some, refused, given, ends, before, first,
+    length-append c.loop-handful.giver.given c.loop-handful.pages.items,
+    length-append c.args.giver.now.given c.args.pages.now.items,
+    length-append c.in-Some.handful.items c.first_of.new.pages.items)
