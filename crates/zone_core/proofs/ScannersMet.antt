@@ -45,7 +45,7 @@ module _ (total count : ℕ) (last : Option Answered) (v : ZoneState) (scanned :
 
 -- a call that adds a record, which isn't of an isolation
 module _ (total : ℕ) (v u w : ZoneState) (entry : Record) (law : IsLawful v) (scanned : IsScanned total v) (step : w ≡ u)
-  (records : u.records ≡ entry ∷ v.records) (round : u.round ≡ v.round) (none : isolated (entry ∷ v.records) ≡ isolated v.records) where
+    (records : u.records ≡ entry ∷ v.records) (round : u.round ≡ v.round) (none : isolated (entry ∷ v.records) ≡ isolated v.records) where
   counted_still : total ≡ scan_amount (isolated u.records) scanned.last
   counted_still = scanned.counted ∙ ap (λ (n : ℕ). scan_amount n scanned.last) (sym (ap isolated records ∙ none))
 

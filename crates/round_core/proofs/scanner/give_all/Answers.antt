@@ -46,7 +46,16 @@ returns-in-Err-clause-left g c is =
     let ends = ap (λ (v : EndSeat). v.back) old.ends in
     let before = ap length old.given in
     let first = ap length c.in-Some.ensures.first in
-    omega (arith, all.1, some, refused, given, ends, before, first,
-    length-append c.loop-handful.giver.given c.loop-handful.pages.items,
-    length-append c.args.giver.now.given c.args.pages.now.items,
-    length-append c.in-Some.handful.items c.first_of.new.pages.items)
+    omega (
+      arith,
+      all.1,
+      some,
+      refused,
+      given,
+      ends,
+      before,
+      first,
+      length-append c.loop-handful.giver.given c.loop-handful.pages.items,
+      length-append c.args.giver.now.given c.args.pages.now.items,
+      length-append c.in-Some.handful.items c.first_of.new.pages.items,
+    )

@@ -69,5 +69,5 @@ pub invariant_of-self-2 : goal.invariant_of-self-2
 invariant_of-self-2 g c =
     let v = c.self.inside.plain in
     let scanned = scanned_quiet c.self.inside.isolated.total v (moved_to_target v c.in-Some.way.serial c.in-Some.way.page) c.arrive.new.self (Moved c.in-Some.way.serial) c.self.invariant.2 c.self.invariant.3 c.arrive.ensures.step refl refl refl refl
-        (λ quiet. met_moved v c.in-Some.way.page c.in-Some.way.serial c.in-Some.way.source c.in-Some.way.target c.self.invariant.2 (c.self.invariant.2.swept quiet) c.in-Some.ensures.placed) in
+    (λ quiet. met_moved v c.in-Some.way.page c.in-Some.way.serial c.in-Some.way.source c.in-Some.way.target c.self.invariant.2 (c.self.invariant.2.swept quiet) c.in-Some.ensures.placed) in
     search (rules, scanned)

@@ -13,5 +13,5 @@ pub invariant_of-self : goal.invariant_of-self
 invariant_of-self g c =
     let v = c.self.inside.plain in
     let scanned = scanned_quiet c.self.inside.isolated.total v (loaded v c.args.client c.args.address c.args.word) c.read.new.self (Load c.args.client c.args.address c.args.word (value_at v c.args.address c.args.word)) c.self.invariant.2 c.self.invariant.3 c.read.ensures.step refl refl refl refl
-        (λ quiet. met_loaded v c.args.client c.args.address c.args.word) in
+    (λ quiet. met_loaded v c.args.client c.args.address c.args.word) in
     search (rules, scanned)

@@ -13,5 +13,5 @@ pub invariant_of-self : goal.invariant_of-self
 invariant_of-self g c =
     let v = c.self.inside.plain in
     let scanned = scanned_quiet c.self.inside.isolated.total v (stored v c.args.client c.args.address c.args.word c.args.value) c.write.new.self (Store c.args.client c.args.address c.args.word c.args.value) c.self.invariant.2 c.self.invariant.3 c.write.ensures.step refl refl refl refl
-        (λ quiet. met_stored v c.args.client c.args.address c.args.word c.args.value) in
+    (λ quiet. met_stored v c.args.client c.args.address c.args.word c.args.value) in
     search (rules, scanned)
