@@ -25,17 +25,24 @@ use text_core::{
 use world_core::{Finished, Scanned, World, WorldError};
 use zone_core::Blanks;
 
-/// What a script works on: no zone yet, with the blanks to open one, or the world of the one zone that it opened.
+/// What a script works on: no zone yet, with what it takes to open one, or the world of the one zone that it opened. A machine
+/// that has a world has no allocator, so no command on its zone can ask for memory.
 #[derive(Drop)]
 pub struct Machine<I: Ledger, N: Ledger, M: Ledger, B: Ledger> {
-    alloc: Global,
     places: u32,
-    blanks: Option<Blanks>,
+    opening: Option<Opening>,
     world: Option<World<I, N, M, B>>,
 }
 
+/// What it takes to open a zone. The first opening uses it up.
+#[derive(Drop)]
+struct Opening {
+    alloc: Global,
+    blanks: Blanks,
+}
+
 impl<I: Ledger, N: Ledger, M: Ledger, B: Ledger> Model for Machine<I, N, M, B> {
-    ghost use Rattle.std.specs.Prelude.{◌<◌, ◌≤◌};
+    ghost use Rattle.std.specs.Prelude.{◌≡◌, ◌<◌, ◌≤◌, None};
     ghost use Rattle.std.specs.Option.{ForSome};
     ghost use Rattle.zone_core.specs.Books.{AreFor};
     ghost use Rattle.std.specs.Coded.{codes};
@@ -48,7 +55,8 @@ impl<I: Ledger, N: Ledger, M: Ledger, B: Ledger> Model for Machine<I, N, M, B> {
 
     ghost view = { λ m. record { places = m.places; world = m.world } };
 
-    ghost invariant = { λ m. (0 < m.places) × (m.places ≤ 65536) × ForSome m.blanks (λ b. AreFor b I.name I.parts N.name N.parts M.name M.parts B.name B.parts) };
+    ghost invariant = { λ m. (0 < m.places) × (m.places ≤ 65536) × ForSome m.world (λ _. m.opening ≡ None)
+        × ForSome m.opening (λ o. AreFor o.blanks I.name I.parts N.name N.parts M.name M.parts B.name B.parts) };
 }
 
 impl<I: Ledger, N: Ledger, M: Ledger, B: Ledger> Respond for Machine<I, N, M, B> {
@@ -76,9 +84,8 @@ impl<I: Ledger, N: Ledger, M: Ledger, B: Ledger> Machine<I, N, M, B> {
         ensures { result ≡ single_at_first places }
     {
         Machine {
-            alloc,
             places,
-            blanks: Some(blanks),
+            opening: Some(Opening { alloc, blanks }),
             world: None,
         }
     }
@@ -115,10 +122,10 @@ impl<I: Ledger, N: Ledger, M: Ledger, B: Ledger> Machine<I, N, M, B> {
         if self.world.is_some() {
             return Ok(Reply::Refused(44));
         }
-        let Some(blanks) = self.blanks.take() else {
+        let Some(Opening { alloc, blanks }) = self.opening.take() else {
             return Err(AllocError);
         };
-        let Ok(world) = World::open(self.alloc, zone, blocks.get(), self.places, blanks) else {
+        let Ok(world) = World::open(alloc, zone, blocks.get(), self.places, blanks) else {
             return Err(AllocError);
         };
         self.give_world(world);
@@ -183,10 +190,11 @@ impl<I: Ledger, N: Ledger, M: Ledger, B: Ledger> Machine<I, N, M, B> {
         None
     }
 
-    /// Gives the machine a world, which replaces the one that it has, if it has one.
+    /// Gives the machine a world, which replaces the one that it has, if it has one. It can open no zone from then on.
     pub fn give_world(&mut self, world: World<I, N, M, B>)
         ensures { self.new ≡ record self.old { world = Some world } }
     {
+        self.opening = None;
         self.world = Some(world);
     }
 

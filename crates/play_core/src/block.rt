@@ -48,6 +48,34 @@ impl ClientLine {
     }
 }
 
+/// What begins blocks. It gives its allocator to nobody, so whoever has it can ask for no other memory than that of a block.
+#[derive(Drop)]
+pub(crate) struct Blocks {
+    alloc: Global,
+}
+
+impl Blocks {
+    /// Blocks whose memory this allocator gives.
+    pub(crate) fn new(alloc: Global) -> Self {
+        Blocks { alloc }
+    }
+
+    /// A block that begins at this line, or an error where there isn't enough memory. It takes all of its memory here.
+    pub(crate) fn begin(&self, line: u64, zone: u64) -> Result<Block, AllocError>
+        ensures { IfOk result (λ block. block ≡ record { line = line; zone = zone; clients = [] }) }
+    {
+        let parts = Parts {
+            line,
+            zone,
+            clients: Vec::with_capacity(self.alloc, MOST)?,
+            answers: Vec::with_capacity(self.alloc, MOST)?,
+        };
+        Ok(Block {
+            parts: Box::new(self.alloc, parts)?,
+        })
+    }
+}
+
 /// A block that has begun. It is one pointer, so that moving it is cheap.
 #[derive(Drop)]
 pub struct Block {
@@ -76,21 +104,6 @@ impl Model for Block {
 }
 
 impl Block {
-    /// A block that begins at this line, or an error where there isn't enough memory. It takes all of its memory here.
-    pub fn begin(alloc: Global, line: u64, zone: u64) -> Result<Self, AllocError>
-        ensures { IfOk result (λ block. block ≡ record { line = line; zone = zone; clients = [] }) }
-    {
-        let parts = Parts {
-            line,
-            zone,
-            clients: Vec::with_capacity(alloc, MOST)?,
-            answers: Vec::with_capacity(alloc, MOST)?,
-        };
-        Ok(Block {
-            parts: Box::new(alloc, parts)?,
-        })
-    }
-
     /// The number of the line of its `during`.
     pub fn line(&self) -> u64
         ensures { result ≡ self.now.line }

@@ -8,7 +8,7 @@ ghost use Rattle.play_core.specs.Player.{Finishes, HasClosed, HasEnded, HasRead,
 ghost use Rattle.play_core.specs.Streams.{CannotReadOn};
 
 use crate::answer::{Answer, Answers};
-use crate::block::{Block, ClientLine};
+use crate::block::{Block, Blocks, ClientLine};
 use crate::error::{Fault, RunError};
 use crate::input::Input;
 use crate::outbox::Outbox;
@@ -27,7 +27,7 @@ use text_core::{
 /// A script that is being played: its machine, the block and the line that have begun, and the replies that wait.
 #[derive(Drop)]
 pub(crate) struct Player<A: Respond> {
-    alloc: Global,
+    blocks: Blocks,
     profile: Profile,
     block: Option<Block>,
     machine: A,
@@ -50,12 +50,12 @@ impl<A: Respond> Model for Player<A> {
 
 impl<A: Respond> Player<A> {
     /// A script at its first byte.
-    fn new(alloc: Global, machine: A) -> Self
+    fn new(blocks: Blocks, machine: A) -> Self
         requires { A.ready machine }
         ensures { result ≡ begun machine }
     {
         Player {
-            alloc,
+            blocks,
             profile: Profile::Untold,
             block: None,
             machine,
@@ -132,7 +132,7 @@ impl<A: Respond> Player<A> {
         ensures err { IfErr result (λ error. error ≡ record { fault = Fault.Memory; line = self.old.line }) }
     {
         let line = self.line;
-        let Ok(block) = Block::begin(self.alloc, line, zone) else {
+        let Ok(block) = self.blocks.begin(line, zone) else {
             return Err(RunError {
                 fault: Fault::Memory,
                 line,
@@ -513,7 +513,7 @@ pub fn play<A: Respond + Drop, R: Input, W: Output>(
         (R.reads reader.old) (R.reads reader.new) (R.remaining reader.old)) }
     ensures stuck { IfErr result (λ error. error.fault ≡ Fault.Write → IsTrue (W.stuck writer.new)) }
 {
-    let mut player = Player::new(alloc, machine);
+    let mut player = Player::new(Blocks::new(alloc), machine);
     player.run(reader, writer)
 }
 

@@ -142,7 +142,7 @@ fn run_threaded<
     let round = move |machine: &mut Threaded<I, N, M, B>, zone: ZoneNo|
         requires whole { machine.old.broken ≡ None }
         ensures { IsStepBy (is_threaded (Compact zone) machine.old.single.world) machine.old (Compact zone) result machine.new }
-    { machine.answer_compact(rt, zone) };
+    { machine.answer_compact(rt, alloc, zone) };
     let pool = move |machine: &mut Threaded<
         I,
         N,
@@ -151,12 +151,12 @@ fn run_threaded<
     >, zone: ZoneNo, count: BlockCount, blocks: PoolBlocks,|
         requires whole { machine.old.broken ≡ None }
         ensures { IsStepBy (is_threaded (Pool zone count blocks) machine.old.single.world) machine.old (Pool zone count blocks) result machine.new }
-    { machine.answer_pool(rt, zone, count, blocks) };
+    { machine.answer_pool(rt, alloc, zone, count, blocks) };
     let block = move |machine: &mut Threaded<I, N, M, B>, block: Block|
         requires whole { machine.old.broken ≡ None }
         ensures ok { IfOk result (λ answers. IsThreadedStep machine.old (command_in_block block) answers machine.new) }
         ensures memory { OnErr result (IsBlockFor (command_in_block block).command machine.old.single.world) }
-    { machine.answer_block(rt, block) };
+    { machine.answer_block(rt, alloc, block) };
     let machine = Threaded::new(alloc, options, blanks);
     let answering = Answering {
         machine,

@@ -32,10 +32,10 @@ use zone_core::{Audit, Blanks, Seats, Zone, ZoneError};
 const POOL_ROUNDS: u32 = 4;
 
 /// What a script works on where there are threads: the machine as on one thread, the number of a zone that a round left broken, so
-/// that no audit passes, and the client that makes calls during rounds.
+/// that no audit passes, and the client that makes calls during rounds. It has no allocator: the commands that start threads are
+/// passed one.
 #[derive(Drop)]
 pub(crate) struct Threaded<I: Ledger, N: Ledger, M: Ledger, B: Ledger> {
-    alloc: Global,
     options: Options,
     machine: Machine<I, N, M, B>,
     broken: Option<ZoneNo>,
@@ -62,7 +62,6 @@ impl<I: Ledger, N: Ledger, M: Ledger, B: Ledger> Threaded<I, N, M, B> {
         ensures { result ≡ threaded_at_first options.journal }
     {
         Threaded {
-            alloc,
             options,
             machine: Machine::new(alloc, options.journal, blanks),
             broken: None,
@@ -102,14 +101,19 @@ impl<I: Ledger + Send + Sync, N: Ledger, M: Ledger + Send + Sync, B: Ledger + Se
     /// Answers the command for a round over a zone, where no zone is broken. This is a function of its own since it needs room for a
     /// whole world, which no other command does.
     #[inline(never)]
-    pub(crate) fn answer_compact<H: Threads + Wait + Sync>(&mut self, rt: &H, zone: ZoneNo) -> Reply
+    pub(crate) fn answer_compact<H: Threads + Wait + Sync>(
+        &mut self,
+        rt: &H,
+        alloc: Global,
+        zone: ZoneNo,
+    ) -> Reply
         requires whole { self.old.broken ≡ None }
         ensures { IsStepBy (is_threaded (Command.Compact zone) self.old.single.world) self.old (Command.Compact zone) result self.new }
     {
         let Some(world) = self.machine.take_closed(zone) else {
             return self.machine.compact(zone);
         };
-        self.run_round(rt, world)
+        self.run_round(rt, alloc, world)
     }
 
     /// Answers the command for a pool of blocks of a zone. This is a function of its own for the same reason.
@@ -117,6 +121,7 @@ impl<I: Ledger + Send + Sync, N: Ledger, M: Ledger + Send + Sync, B: Ledger + Se
     pub(crate) fn answer_pool<H: Threads + Wait + Sync>(
         &mut self,
         rt: &H,
+        alloc: Global,
         zone: ZoneNo,
         count: BlockCount,
         blocks: PoolBlocks,
@@ -127,7 +132,7 @@ impl<I: Ledger + Send + Sync, N: Ledger, M: Ledger + Send + Sync, B: Ledger + Se
         let Some(world) = self.machine.take_closed(zone) else {
             return self.machine.pool(zone, count, blocks);
         };
-        self.run_pool(rt, world, count, blocks)
+        self.run_pool(rt, alloc, world, count, blocks)
     }
 
     /// Answers a block. This is a function of its own for the same reason.
@@ -135,6 +140,7 @@ impl<I: Ledger + Send + Sync, N: Ledger, M: Ledger + Send + Sync, B: Ledger + Se
     pub(crate) fn answer_block<H: Threads + Wait + Sync>(
         &mut self,
         rt: &H,
+        alloc: Global,
         block: Block,
     ) -> Result<Answers, AllocError>
         requires whole { self.old.broken ≡ None }
@@ -148,18 +154,23 @@ impl<I: Ledger + Send + Sync, N: Ledger, M: Ledger + Send + Sync, B: Ledger + Se
             let reply = self.machine.compact(zone);
             return Ok(block.answered(reply));
         };
-        self.run_beside(rt, world, block)
+        self.run_beside(rt, alloc, world, block)
     }
 
     /// Runs a round over the zone of a world, which the machine gave away for it.
-    fn run_round<H: Threads + Wait + Sync>(&mut self, rt: &H, world: World<I, N, M, B>) -> Reply
+    fn run_round<H: Threads + Wait + Sync>(
+        &mut self,
+        rt: &H,
+        alloc: Global,
+        world: World<I, N, M, B>,
+    ) -> Reply
         requires given { self.old.single.world ≡ None }
         requires whole { self.old.broken ≡ None }
         requires closed { world.is_open ≡ false }
         ensures { IsRoundOn world self.old.single.places self.old.client result self.new }
     {
         let (zone, mut seats, rest) = parts_of(world);
-        let (zone, round) = self.compact(rt, zone, &mut seats);
+        let (zone, round) = self.compact(rt, alloc, zone, &mut seats);
         self.take_back(zone, seats, rest);
         reply_to(round)
     }
@@ -169,6 +180,7 @@ impl<I: Ledger + Send + Sync, N: Ledger, M: Ledger + Send + Sync, B: Ledger + Se
     fn run_beside<H: Threads + Wait + Sync>(
         &mut self,
         rt: &H,
+        alloc: Global,
         world: World<I, N, M, B>,
         block: Block,
     ) -> Result<Answers, AllocError>
@@ -185,9 +197,9 @@ impl<I: Ledger + Send + Sync, N: Ledger, M: Ledger + Send + Sync, B: Ledger + Se
             lines,
             answers,
         };
-        let Some((answers, own)) = self.run_turn(rt, world, turn) else {
+        let Some((answers, own)) = self.run_turn(rt, alloc, world, turn) else {
             let own = Answer::new(line, Reply::Refused(32));
-            return Ok(Answers::new(Vec::new(self.alloc), own));
+            return Ok(Answers::new(Vec::new(alloc), own));
         };
         Ok(Answers::new(answers, Answer::new(line, own)))
     }
@@ -197,6 +209,7 @@ impl<I: Ledger + Send + Sync, N: Ledger, M: Ledger + Send + Sync, B: Ledger + Se
     fn run_turn<H: Threads + Wait + Sync>(
         &mut self,
         rt: &H,
+        alloc: Global,
         world: World<I, N, M, B>,
         turn: Turn,
     ) -> Option<(Vec<Answer>, Reply)>
@@ -209,7 +222,7 @@ impl<I: Ledger + Send + Sync, N: Ledger, M: Ledger + Send + Sync, B: Ledger + Se
         ensures none { IfNone result (IsNothingRun world self.old self.new) }
     {
         let (zone, mut seats, rest) = parts_of(world);
-        let (zone, both) = compact_beside(rt, self.alloc, zone, &mut seats, self.options, turn);
+        let (zone, both) = compact_beside(rt, alloc, zone, &mut seats, self.options, turn);
         let Some(both) = both else {
             self.take_back(zone, seats, rest);
             return None;
@@ -239,6 +252,7 @@ impl<I: Ledger + Send + Sync, N: Ledger, M: Ledger + Send + Sync, B: Ledger + Se
     fn compact<H: Threads + Wait + Sync>(
         &self,
         rt: &H,
+        alloc: Global,
         zone: Zone<I, M, B>,
         seats: &mut Seats<I, N, M, B>,
     ) -> (Zone<I, M, B>, Result<Round, RoundError>)
@@ -250,7 +264,7 @@ impl<I: Ledger + Send + Sync, N: Ledger, M: Ledger + Send + Sync, B: Ledger + Se
     {
         compact_alone(
             rt,
-            self.alloc,
+            alloc,
             zone,
             seats,
             self.options.copiers,
@@ -263,6 +277,7 @@ impl<I: Ledger + Send + Sync, N: Ledger, M: Ledger + Send + Sync, B: Ledger + Se
     fn run_pool<H: Threads + Wait + Sync>(
         &mut self,
         rt: &H,
+        alloc: Global,
         world: World<I, N, M, B>,
         count: BlockCount,
         blocks: PoolBlocks,
@@ -275,9 +290,7 @@ impl<I: Ledger + Send + Sync, N: Ledger, M: Ledger + Send + Sync, B: Ledger + Se
         let (zone, mut seats, rest) = parts_of(world);
         let collector = self.collector(blocks.order());
         let n = count.get() as usize;
-        let (zone, report) = reserve_alone(
-            rt, self.alloc, &collector, zone, &mut seats, n, &NoGate,
-        );
+        let (zone, report) = reserve_alone(rt, alloc, &collector, zone, &mut seats, n, &NoGate);
         self.take_back(zone, seats, rest);
         pool_reply(blocks, &report)
     }
