@@ -214,7 +214,7 @@ impl Client {
         self.receipts.push_reserved(Record::Load {
             client: call.client,
             address: call.address,
-            word: call.word,
+            word: call.word.noted(),
             value,
         });
         Ok(value)
@@ -249,7 +249,7 @@ impl Client {
         self.receipts.push_reserved(Record::Store {
             client: call.client,
             address: call.address,
-            word: call.word,
+            word: call.word.noted(),
             value: call.value,
         });
         Ok(())

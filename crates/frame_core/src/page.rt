@@ -1,44 +1,53 @@
-ghost use Rattle.std.specs.Prelude.{◌≡◌, ℕ, ◌<◌, ◌↔◌, IsSome, IfSome};
+ghost use Rattle.std.specs.Prelude.{◌≡◌, ℕ, ◌<◌, ◌≤◌, ◌↔◌, IsSome, IfSome};
 
 use std::marker::Model;
 
-const WORDS: u32 = 8;
-
-/// A word's number in its page, 0 to 7.
+/// A word's number in a page of `W` words.
 #[derive(Clone, Copy, Debug, PartialEq, Eq, PartialOrd, Ord, Hash)]
-pub struct WordNo {
-    word: u8,
+pub struct WordNo<const W: usize> {
+    word: u16,
 }
 
-impl Model for WordNo {
+impl<const W: usize> Model for WordNo<W> {
     ghost Value = { ℕ };
 
     ghost view = { λ n. n.word };
 
-    ghost invariant = { λ n. n.word < 8 };
+    ghost invariant = { λ n. n.word < W };
 
     ghost inverse = { λ n. record { word = n } };
 }
 
-impl WordNo {
-    /// The number as one of 0 to 7. None where it is out of this range.
+impl<const W: usize> WordNo<W> {
+    /// The number as one of those below `W`, which is at most 65,536. None where it is out of this range.
     pub fn new(number: u32) -> Option<Self>
-        ensures valid { IsSome result ↔ (number < 8) }
+        requires { W ≤ 65536 }
+        ensures valid { IsSome result ↔ (number < W) }
         ensures value { IfSome result (λ n. n ≡ number) }
     {
-        if number < WORDS {
-            Some(WordNo { word: number as u8 })
+        if (number as usize) < W {
+            Some(WordNo {
+                word: number as u16,
+            })
         } else {
             None
         }
     }
 
-    /// The number, 0 to 7.
+    /// The number, below `W`.
     pub fn get(self) -> u32
-        ensures value { result ≡ self }
-        ensures range { result < 8 }
+        ensures value { result ≡ self.entry }
+        ensures range { result < W }
     {
         u32::from(self.word)
+    }
+
+    /// The number, as a record has it.
+    pub fn noted(self) -> u16
+        ensures value { result ≡ self.entry }
+        ensures range { result < W }
+    {
+        self.word
     }
 }
 

@@ -28,6 +28,7 @@ pub same_refl : (z : ZoneState) → IsSame z z
 same_refl z = record {
   number = refl;
   blocks = refl;
+  page_size = refl;
   placement = refl;
   unmovable = refl;
   marked = refl;
@@ -43,6 +44,7 @@ pub same_sym : (z w : ZoneState) → IsSame z w → IsSame w z
 same_sym z w same = record {
   number = sym same.number;
   blocks = sym same.blocks;
+  page_size = sym same.page_size;
   placement = sym same.placement;
   unmovable = sym same.unmovable;
   marked = sym same.marked;
@@ -58,6 +60,7 @@ pub same_trans : (z w v : ZoneState) → IsSame z w → IsSame w v → IsSame z 
 same_trans z w v a b = record {
   number = a.number ∙ b.number;
   blocks = a.blocks ∙ b.blocks;
+  page_size = a.page_size ∙ b.page_size;
   placement = a.placement ∙ b.placement;
   unmovable = a.unmovable ∙ b.unmovable;
   marked = a.marked ∙ b.marked;

@@ -46,12 +46,12 @@ impl<I: Ledger, N: Ledger, M: Ledger, B: Ledger> Model for Machine<I, N, M, B> {
     ghost use Rattle.std.specs.Option.{ForSome};
     ghost use Rattle.zone_core.specs.Books.{AreFor};
     ghost use Rattle.std.specs.Coded.{codes};
-    ghost use Rattle.plain_core.specs.contracts.plain.PlainZone as plain_zone;
+    ghost use Rattle.state_core.specs.ZoneCode.{coded_zone};
     ghost use Rattle.machine_core.specs.Single.{Single};
 
     ghost Value = { Single };
 
-    ghost coded = { Prim.hlevel (codes, plain_zone.the_row.coded) };
+    ghost coded = { Prim.hlevel (codes, coded_zone) };
 
     ghost view = { λ m. record { places = m.places; world = m.world } };
 

@@ -28,6 +28,7 @@ same_begun : (v z : ZoneState) → IsSame v (round_begun z) → IsSame v z
 same_begun v z same = record {
   number = same.number;
   blocks = same.blocks;
+  page_size = same.page_size;
   placement = same.placement;
   unmovable = same.unmovable;
   marked = same.marked;
@@ -41,7 +42,7 @@ same_begun v z same = record {
 
 -- a zone whose round has just begun is the same
 begun_same : (z : ZoneState) → IsSame z (round_begun z)
-begun_same z = record { number = refl; blocks = refl; placement = refl; unmovable = refl; marked = refl; handed_out = refl; records = refl; length_is = refl; back = refl; out_is = refl; room = refl }
+begun_same z = record { number = refl; blocks = refl; page_size = refl; placement = refl; unmovable = refl; marked = refl; handed_out = refl; records = refl; length_is = refl; back = refl; out_is = refl; room = refl }
 
 module _ (start : ZoneState) where
   -- the round begins where no page of it was isolated, and its scanner goes on where one was

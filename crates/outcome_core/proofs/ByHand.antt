@@ -116,6 +116,7 @@ same_outcome z w at_z at_w none_z none_w backs e =
     record {
       number = ap (λ (r : Outcome). r.number) e;
       blocks = ap (λ (r : Outcome). r.blocks) e;
+      page_size = ap (λ (r : Outcome). r.page_size) e;
       records = ap (λ (r : Outcome). r.records) e;
       room = omega (arith, room, ap length none_z, ap length none_w);
       unmovable = ap (λ (r : Outcome). r.unmovable) e;

@@ -28,6 +28,7 @@ without_ends (entry ∷ older) = entry ∷ without_ends older
 pub record Outcome : Type 0 where
   pub number : ℕ
   pub blocks : ℕ
+  pub page_size : ℕ
   pub records : List Record
   -- the places that the journal has left once each move has its end
   pub room : ℕ
@@ -46,6 +47,7 @@ abbrev pub outcome_of : ZoneState → Outcome
 outcome_of z = record {
   number = z.number;
   blocks = z.blocks;
+  page_size = z.page_size;
   records = without_ends z.records;
   room = z.room - length (out z.records);
   places = length z.records + z.room;
@@ -63,6 +65,7 @@ outcome_of z = record {
 pub record IsSame (z w : ZoneState) : Type 0 where
   pub number : z.number ≡ w.number
   pub blocks : z.blocks ≡ w.blocks
+  pub page_size : z.page_size ≡ w.page_size
   -- each page stands where it stands in the other, or is moving alike
   pub placement : z.placement ≡ w.placement
   pub unmovable : z.unmovable ≡ w.unmovable

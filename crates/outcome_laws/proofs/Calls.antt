@@ -67,6 +67,7 @@ module _ (z w : ZoneState) (same : IsSame z w) where
       record {
         number = next.number;
         blocks = next.blocks;
+        page_size = next.page_size;
         placement = λ i. map.insert (same.placement i) (page_agrees i) (At frame);
         unmovable = λ i. cond unmovable (set.insert (same.unmovable i) (page_agrees i)) (same.unmovable i);
         marked = next.marked;
@@ -130,6 +131,7 @@ module _ (z w : ZoneState) (same : IsSame z w) where
       record {
         number = next.number;
         blocks = next.blocks;
+        page_size = next.page_size;
         placement = λ i. map.remove (same.placement i) (page i);
         unmovable = λ i. set.remove (same.unmovable i) (page i);
         marked = next.marked;
@@ -172,6 +174,7 @@ module _ (z w : ZoneState) (same : IsSame z w) where
       record {
         number = next.number;
         blocks = next.blocks;
+        page_size = next.page_size;
         placement = next.placement;
         unmovable = next.unmovable;
         marked = next.marked;
@@ -189,6 +192,7 @@ module _ (z w : ZoneState) (same : IsSame z w) where
       record {
         number = next.number;
         blocks = next.blocks;
+        page_size = next.page_size;
         placement = next.placement;
         unmovable = next.unmovable;
         marked = next.marked;
@@ -219,6 +223,7 @@ module _ (z w : ZoneState) (same : IsSame z w) where
   with_marks entry f next = record {
     number = next.number;
     blocks = next.blocks;
+    page_size = next.page_size;
     placement = next.placement;
     unmovable = next.unmovable;
     marked = ap f same.marked;

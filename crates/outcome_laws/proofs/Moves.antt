@@ -52,6 +52,7 @@ module _ (z w : ZoneState) (same : IsSame z w) where
     same = record {
       number = same.number;
       blocks = same.blocks;
+      page_size = same.page_size;
       placement = same.placement;
       unmovable = same.unmovable;
       marked = same.marked;
@@ -78,6 +79,7 @@ module _ (z w : ZoneState) (same : IsSame z w) where
   relocated_agrees entry entry' page p p' placed rs back outs = record {
     number = same.number;
     blocks = same.blocks;
+    page_size = same.page_size;
     placement = λ i. map.insert (same.placement i) page (placed i);
     unmovable = same.unmovable;
     marked = same.marked;
@@ -172,6 +174,7 @@ module _ (z w : ZoneState) (alike : IsSameInRound z w) where
         same = record {
           number = there.number;
           blocks = there.blocks;
+          page_size = there.page_size;
           placement = there.placement;
           unmovable = there.unmovable;
           marked = there.marked;

@@ -105,7 +105,7 @@ module _ (states : List FrameState) (v : ZoneState) (fit : FramesFit states v) w
       ∙ ap (lowest (is_run v order)) fit.count
 
 -- a free block is handed out
-module _ (z : Inside) (v : ZoneState) (sound : IsSound z v) (view : state_of z ≡ v) (first order : ℕ) (run : is_run v order first ≡ true) where
+module _ {W : ℕ} (z : Inside W) (v : ZoneState) (sound : IsSound z v) (view : state_of z ≡ v) (first order : ℕ) (run : is_run v order first ≡ true) where
   within : first + 2 ^ order ≤ length z.frames.states
   within = omega (arith, blocks.run_within v first order run, sound.frames.count)
 
@@ -139,7 +139,7 @@ module _ (z : Inside) (v : ZoneState) (sound : IsSound z v) (view : state_of z �
   }
 
   -- the fields after the block was handed out
-  abbrev pub after_take : History → Inside
+  abbrev pub after_take : History → Inside W
   after_take history = record z { frames = record z.frames { states = with_run z.frames.states first (2 ^ order) Huge }; handed_out = slice_set z.handed_out first (Some order); history = history }
 
   pub take_sound : length (out v.records) < v.room → 3 ≤ order → order ≤ 9 → (history : History) → IsSound (after_take history) (block_taken v first order)
@@ -149,7 +149,7 @@ module _ (z : Inside) (v : ZoneState) (sound : IsSound z v) (view : state_of z �
     frames = held_states;
     tables = sound.tables;
     entries = record { each = sound.entries.each };
-    words = record { count = sound.words.count; eight = sound.words.eight; each = sound.words.each };
+    words = record { count = sound.words.count; sized = sound.words.sized; each = sound.words.each };
     notes = record { count = sound.notes.count; each = λ page note e used. (let fit = sound.notes.each page note e used in record { dirty = fit.dirty; pins = fit.pins; maps = fit.maps }) };
     moves = moves_kept z.moves v.records v.room sound.moves (TakeHuge first order) refl (λ serial. refl) refl refl (omega arith);
     movable = record { count = sound.movable.count; each = sound.movable.each };
@@ -168,7 +168,7 @@ module _ (z : Inside) (v : ZoneState) (sound : IsSound z v) (view : state_of z �
       here ∙ ap (λ (s : ZoneState). block_taken s first order) view
 
 -- a block is taken back
-module _ (z : Inside) (v : ZoneState) (sound : IsSound z v) (view : state_of z ≡ v) (first order : ℕ) (at : map.get v.handed_out first ≡ Some order) where
+module _ {W : ℕ} (z : Inside W) (v : ZoneState) (sound : IsSound z v) (view : state_of z ≡ v) (first order : ℕ) (at : map.get v.handed_out first ≡ Some order) where
   within_given : first + 2 ^ order ≤ frame_count v
   within_given = (sound.lawful.blocks first order at).within
 
@@ -219,7 +219,7 @@ module _ (z : Inside) (v : ZoneState) (sound : IsSound z v) (view : state_of z �
   }
 
   -- the fields after the block was taken back
-  abbrev pub after_give : History → Inside
+  abbrev pub after_give : History → Inside W
   after_give history = record z { frames = record z.frames { states = with_run z.frames.states first (2 ^ order) Free }; handed_out = slice_set z.handed_out first None; history = history }
 
   pub give_sound : length (out v.records) < v.room → (history : History) → IsSound (after_give history) (block_given v first order)
@@ -229,7 +229,7 @@ module _ (z : Inside) (v : ZoneState) (sound : IsSound z v) (view : state_of z �
     frames = freed_states;
     tables = sound.tables;
     entries = record { each = sound.entries.each };
-    words = record { count = sound.words.count; eight = sound.words.eight; each = sound.words.each };
+    words = record { count = sound.words.count; sized = sound.words.sized; each = sound.words.each };
     notes = record { count = sound.notes.count; each = λ page note e used. (let fit = sound.notes.each page note e used in record { dirty = fit.dirty; pins = fit.pins; maps = fit.maps }) };
     moves = moves_kept z.moves v.records v.room sound.moves (GiveHuge first order) refl (λ serial. refl) refl refl (omega arith);
     movable = record { count = sound.movable.count; each = sound.movable.each };

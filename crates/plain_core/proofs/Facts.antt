@@ -19,5 +19,5 @@ pub held_by : (frames : List FrameState) (v : ZoneState) → FramesFit frames v 
 held_by frames v fit page frame e = fit.of_page page frame (Holds page) (ap (λ (o : Option Placement). state_by page o frame) e ∙ chosen frame _ _)
 
 -- the state with one more record, and nothing else changed
-pub noted_view : (z : Inside) (v : ZoneState) (history : History) (entry : Record) → state_of z ≡ v → history ≡ told z.history entry → state_of (record z { history = history }) ≡ noted v entry
+pub noted_view : {W : ℕ} (z : Inside W) (v : ZoneState) (history : History) (entry : Record) → state_of z ≡ v → history ≡ told z.history entry → state_of (record z { history = history }) ≡ noted v entry
 noted_view z v history entry view is = ap (λ (h : History). state_of (record z { history = h })) is ∙ ap (λ (u : ZoneState). noted u entry) view

@@ -6,7 +6,7 @@ use Rattle.std.specs.FinMap as map
 use Rattle.std.specs.FinSet as set
 use Rattle.std.proofs.lemmas.Bool.{eq-eqb}
 use Rattle.std.proofs.lemmas.Bool.Decides.{eqb_tells}
-use Rattle.std.proofs.lemmas.List.{length-set}
+use Rattle.std.proofs.lemmas.List.{length-set, length-replicate}
 use Rattle.frame_core.proofs.Lists.{slice_get_set_same, slice_get_set_other, slice_get_replicate}
 use Rattle.frame_core.specs.declared.place.Address.{Address}
 use Rattle.frame_core.specs.declared.state.FrameState.{FrameState}
@@ -57,6 +57,7 @@ module _ (v : ZoneState) (client : ℕ) (address : Address) (unmovable : Bool) (
     now = at_page v client address unmovable page frame can;
     others = at_other v client address unmovable page frame can;
     blocks = refl;
+    size = refl;
     handed_out = refl;
   }
 
@@ -97,19 +98,19 @@ module _ (v : ZoneState) (client : ℕ) (address : Address) (unmovable : Bool) (
   pub entries_placed : (old new : List Entry) → EntriesFit old v → ChangesOnly old new address (Present frame) → EntriesFit new next
   entries_placed old new fit changes = entries_changed v next old new address (Present frame) fit changes (λ b e. sym (ap entry_for (placement_here b e))) placement_there
 
-  pub words_placed : (rows : List (List ℕ)) → WordsFit rows v → WordsFit (with_words rows frame blank_words) next
-  words_placed rows fit =
+  pub words_placed : (size : ℕ) → size ≡ v.page_size → (rows : List (List ℕ)) → WordsFit rows v → WordsFit (with_words rows frame (blank_words size)) next
+  words_placed size same rows fit =
       let within : frame < length rows = omega (arith, can.within, fit.count) in
-      let blank : words_of (with_words rows frame blank_words) frame ≡ blank_words = words_set_same rows frame blank_words within in
-      words_fit v next page None (Some (At frame)) gets rows (with_words rows frame blank_words) fit (record {
-        count = length-set rows frame blank_words;
+      let blank : words_of (with_words rows frame (blank_words size)) frame ≡ (blank_words size) = words_set_same rows frame (blank_words size) within in
+      words_fit v next page None (Some (At frame)) gets rows (with_words rows frame (blank_words size)) fit (record {
+        count = length-set rows frame (blank_words size);
         mine = λ placement w e small.
             (let here : placement ≡ At frame = cc in
-            ap (λ (p : Placement). slice_get (words_of (with_words rows frame blank_words) (words_frame p)) w) here
-            ∙ ap (λ (ws : List ℕ). slice_get ws w) blank ∙ slice_get_replicate 8 w 0 small ∙ ap Some (sym (chosen page 0 (last v.records page w))));
-        kept = λ g gone. words_set_other rows frame g blank_words (away g gone);
-        eight = λ g has. elim (eqb_tells g frame) [
-          | inl here ↦ ap (λ (f : ℕ). length (words_of (with_words rows frame blank_words) f)) here.1 ∙ ap length blank
+            ap (λ (p : Placement). slice_get (words_of (with_words rows frame (blank_words size)) (words_frame p)) w) here
+            ∙ ap (λ (ws : List ℕ). slice_get ws w) blank ∙ slice_get_replicate size w 0 (omega (arith, small, same)) ∙ ap Some (sym (chosen page 0 (last v.records page w))));
+        kept = λ g gone. words_set_other rows frame g (blank_words size) (away g gone);
+        sized = λ g has. elim (eqb_tells g frame) [
+          | inl here ↦ ap (λ (f : ℕ). length (words_of (with_words rows frame (blank_words size)) f)) here.1 ∙ ap length blank ∙ length-replicate size 0 ∙ same
           | inr off ↦ absurd (untrue _ off.0 has)
         ];
       }) leaves
@@ -150,7 +151,7 @@ module _ (v : ZoneState) (client : ℕ) (address : Address) (unmovable : Bool) (
   }) (sym movable_here) movable_there
 
 -- what is known when a fresh page is placed
-pub record Placing (z : Inside) (v : ZoneState) (client : ℕ) (address : Address) (unmovable : Bool) (page frame : ℕ) (tables : Tables) (history : History) : Type 0 where
+pub record Placing {W : ℕ} (z : Inside W) (v : ZoneState) (client : ℕ) (address : Address) (unmovable : Bool) (page frame : ℕ) (tables : Tables) (history : History) : Type 0 where
   pub sound : IsSound z v
   pub view : state_of z ≡ v
   pub can : CanPlace v address page frame
@@ -159,11 +160,11 @@ pub record Placing (z : Inside) (v : ZoneState) (client : ℕ) (address : Addres
   pub history_is : history ≡ told z.history (Map client address page)
 
 -- the fields of a zone after a fresh page was placed
-abbrev pub after_place : Inside → Bool → ℕ → ℕ → Tables → History → Inside
-after_place z unmovable page frame tables history = record z {
+abbrev pub after_place : {W : ℕ} → Inside W → Bool → ℕ → ℕ → Tables → History → Inside W
+after_place {W} z unmovable page frame tables history = record z {
   frames = record { states = slice_set z.frames.states frame (Holds page); movable = slice_set z.frames.movable frame (not unmovable) };
   tables = tables;
-  words = with_words z.words frame blank_words;
+  words = with_words z.words frame (blank_words W);
   notes = slice_set z.notes page (fresh_note unmovable frame);
   history = history;
 }
@@ -172,7 +173,7 @@ movable_none : (o : Option Note) → option_and_then (λ (note : Note). note.pla
 movable_none None e = refl
 movable_none (Some note) e = ap (λ (o : Option Placement). is_some o && note.unmovable) e
 
-module _ (z : Inside) (v : ZoneState) (client : ℕ) (address : Address) (unmovable : Bool) (page frame : ℕ) (tables : Tables) (history : History) (known : Placing z v client address unmovable page frame tables history) where
+module _ {W : ℕ} (z : Inside W) (v : ZoneState) (client : ℕ) (address : Address) (unmovable : Bool) (page frame : ℕ) (tables : Tables) (history : History) (known : Placing z v client address unmovable page frame tables history) where
   abbrev notes_new : List Note
   notes_new = slice_set z.notes page (fresh_note unmovable frame)
 
@@ -186,7 +187,7 @@ module _ (z : Inside) (v : ZoneState) (client : ℕ) (address : Address) (unmova
         tables = known.frames_same ∙ sound.tables;
         frames = frames_placed v client address unmovable page frame can z.frames.states sound.frames;
         entries = entries_placed v client address unmovable page frame can z.tables.entries tables.entries sound.entries known.tables_new;
-        words = words_placed v client address unmovable page frame can z.words sound.words;
+        words = words_placed v client address unmovable page frame can W (ap (λ (u : ZoneState). u.page_size) known.view) z.words sound.words;
         notes = notes_placed v client address unmovable page frame can z.notes sound.notes;
         moves = (let spare = can.spare in moves_kept z.moves v.records v.room sound.moves (Map client address page) refl (λ serial. refl) refl refl (omega arith));
         movable = movable_placed v client address unmovable page frame can z.frames.movable sound.movable;

@@ -55,12 +55,12 @@ module _ (frames : List FrameState) (page source target serial : ℕ) (apart : s
     kept = λ g off gone. slice_get_set_other one_set target g (Target serial) (differs g target (right_false _ _ gone)) ∙ slice_get_set_other frames source g (Source serial) (differs g source off);
   }
 
-pub isolated_words : (rows : List (List ℕ)) (v : ZoneState) → WordsFit rows v → (serial source target : ℕ) → source < frame_count v → target < frame_count v → WordsSettled rows rows (At source) (Moving serial source target)
+pub isolated_words : (rows : List (List ℕ)) (v : ZoneState) → WordsFit rows v → (serial source target : ℕ) → source < frame_count v → target < frame_count v → WordsSettled v.page_size rows rows (At source) (Moving serial source target)
 isolated_words rows v fit serial source target source_in target_in = record {
   count = refl;
   carried = refl;
   kept = λ g gone. refl;
-  eight = λ g has. fit.eight g (elim (eqb_tells g source) [
+  sized = λ g has. fit.sized g (elim (eqb_tells g source) [
     | inl s ↦ omega (arith, s.1, source_in)
     | inr s ↦ elim (eqb_tells g target) [
       | inl t ↦ omega (arith, t.1, target_in)

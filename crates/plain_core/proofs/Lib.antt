@@ -25,3 +25,4 @@ pub mod Tables
 pub mod Tabulating
 pub mod Unmapped
 pub mod Unused
+mod WordsAtOnce

@@ -50,14 +50,14 @@ migration_refused None serial source e = cc
 migration_refused (Some (At frame)) serial source e = cc
 migration_refused (Some (Moving s from target)) serial source e = refl
 
-pub loaded_sound : (z : Inside) (v : ZoneState) → IsSound z v → (history : History) (client : ℕ) (address : Address) (frame word : ℕ) → placement_at v address ≡ Some (At frame) → length (out v.records) < v.room → IsSound (record z { history = history }) (loaded v client address word)
+pub loaded_sound : {W : ℕ} (z : Inside W) (v : ZoneState) → IsSound z v → (history : History) (client : ℕ) (address : Address) (frame word : ℕ) → placement_at v address ≡ Some (At frame) → length (out v.records) < v.room → IsSound (record z { history = history }) (loaded v client address word)
 loaded_sound z v sound history client address frame word at spare = record {
   lawful = lawful_loaded v sound.lawful spare client address frame word at;
   orders = sound.orders;
   tables = sound.tables;
   frames = record { count = sound.frames.count; of_page = sound.frames.of_page; of_block = sound.frames.of_block; of_none = sound.frames.of_none };
   entries = record { each = sound.entries.each };
-  words = record { count = sound.words.count; eight = sound.words.eight; each = sound.words.each };
+  words = record { count = sound.words.count; sized = sound.words.sized; each = sound.words.each };
   notes = record { count = sound.notes.count; each = λ page note e used. (let fit = sound.notes.each page note e used in record { dirty = fit.dirty; pins = fit.pins; maps = fit.maps }) };
   moves = moves_kept z.moves v.records v.room sound.moves (Load client address word (value_at v address word)) refl (λ serial. refl) refl refl (omega arith);
   movable = record { count = sound.movable.count; each = sound.movable.each };
@@ -82,7 +82,7 @@ not_right true b e = e
 not_right false b e = refl
 
 -- the words of a zone after a store
-module _ (rows : List (List ℕ)) (v : ZoneState) (law : IsLawful v) (fit : WordsFit rows v) (client : ℕ) (address : Address) (page frame word value : ℕ) (named : page_at v.records address ≡ Some page) (at : map.get v.placement page ≡ Some (At frame)) (small : word < 8) where
+module _ (rows : List (List ℕ)) (v : ZoneState) (law : IsLawful v) (fit : WordsFit rows v) (client : ℕ) (address : Address) (page frame word value : ℕ) (named : page_at v.records address ≡ Some page) (at : map.get v.placement page ≡ Some (At frame)) (small : word < v.page_size) where
   within : frame < length rows
   within = omega (arith, frame_within v law page (At frame) at, fit.count)
 
@@ -93,12 +93,12 @@ module _ (rows : List (List ℕ)) (v : ZoneState) (law : IsLawful v) (fit : Word
   row_new : words_of (with_word rows frame word value) frame ≡ slice_set (words_of rows frame) word value
   row_new = words_set_same rows frame (slice_set (words_of rows frame) word value) within
 
-  at_page : (w : ℕ) → w < 8 → slice_get (words_of (with_word rows frame word value) frame) w ≡ Some (last (Store client address word value ∷ v.records) page w)
+  at_page : (w : ℕ) → w < v.page_size → slice_get (words_of (with_word rows frame word value) frame) w ≡ Some (last (Store client address word value ∷ v.records) page w)
   at_page w w_small =
       ap (λ (ws : List ℕ). slice_get ws w) row_new
       ∙ elim (eqb_tells word w) [
         | inl hit ↦
-            (let eight = fit.eight frame (frame_within v law page (At frame) at) in
+            (let sized = fit.sized frame (frame_within v law page (At frame) at) in
             let long : word < length (words_of rows frame) = omega arith in
             slice_get_set_same (words_of rows frame) word w value (sym hit.1) long ∙ ap Some (sym (last_is page w ∙ taken _ _ _ (both _ _ (eq-eqb page page refl) hit.0))))
         | inr miss ↦
@@ -106,7 +106,7 @@ module _ (rows : List (List ℕ)) (v : ZoneState) (law : IsLawful v) (fit : Word
             slice_get_set_other (words_of rows frame) word w value away ∙ fit.each page (At frame) w at w_small ∙ ap Some (sym (last_is page w ∙ skipped _ _ _ (not_right _ _ miss.0))))
       ]
 
-  elsewhere : (q : ℕ) (placement : Placement) (w : ℕ) → q ≢ page → map.get v.placement q ≡ Some placement → w < 8 → slice_get (words_of (with_word rows frame word value) (words_frame placement)) w ≡ Some (last (Store client address word value ∷ v.records) q w)
+  elsewhere : (q : ℕ) (placement : Placement) (w : ℕ) → q ≢ page → map.get v.placement q ≡ Some placement → w < v.page_size → slice_get (words_of (with_word rows frame word value) (words_frame placement)) w ≡ Some (last (Store client address word value ∷ v.records) q w)
   elsewhere q placement w ne at_q w_small =
       let apart : words_frame placement ≢ frame = frames_differ v law page q (At frame) placement at at_q ne in
       let other : nat_eq page q ≡ false = no_test page q (λ e. ne (sym e)) in
@@ -116,9 +116,9 @@ module _ (rows : List (List ℕ)) (v : ZoneState) (law : IsLawful v) (fit : Word
   pub stored_words : WordsFit (with_word rows frame word value) (stored v client address word value)
   stored_words = record {
     count = length-set rows frame (slice_set (words_of rows frame) word value) ∙ fit.count;
-    eight = λ g h. elim (eqb_tells g frame) [
-      | inl here ↦ ap (λ (f : ℕ). length (words_of (with_word rows frame word value) f)) here.1 ∙ ap length row_new ∙ length-set (words_of rows frame) word value ∙ fit.eight frame (frame_within v law page (At frame) at)
-      | inr away ↦ ap length (words_set_other rows frame g (slice_set (words_of rows frame) word value) away.1) ∙ fit.eight g h
+    sized = λ g h. elim (eqb_tells g frame) [
+      | inl here ↦ ap (λ (f : ℕ). length (words_of (with_word rows frame word value) f)) here.1 ∙ ap length row_new ∙ length-set (words_of rows frame) word value ∙ fit.sized frame (frame_within v law page (At frame) at)
+      | inr away ↦ ap length (words_set_other rows frame g (slice_set (words_of rows frame) word value) away.1) ∙ fit.sized g h
     ];
     each = λ q placement w at_q w_small. elim (eqb_tells q page) [
       | inl same ↦
@@ -155,14 +155,14 @@ module _ (rows : List (List ℕ)) (v : ZoneState) (law : IsLawful v) (fit : Word
   }
 
 -- what a load reads is the last value stored
-pub word_read : (z : Inside) (v : ZoneState) → IsSound z v → (address : Address) (frame word : ℕ) → placement_at v address ≡ Some (At frame) → word < 8 → word_of z.words frame word ≡ value_at v address word
+pub word_read : {W : ℕ} (z : Inside W) (v : ZoneState) → IsSound z v → (address : Address) (frame word : ℕ) → placement_at v address ≡ Some (At frame) → word < v.page_size → word_of z.words frame word ≡ value_at v address word
 word_read z v sound address frame word at small =
     let page = page_named v address (At frame) at in
     get_or_from_slice_get (words_of z.words frame) word _ 0 (sound.words.each page.0 (At frame) word page.2 small)
     ∙ ap (λ (o : Option ℕ). last v.records (unwrap_or o 0) word) (sym page.1)
 
 -- what is known of the page that an address names, where the page isn't moving
-pub record Resident (z : Inside) (v : ZoneState) (address : Address) (frame : ℕ) : Type 0 where
+pub record Resident {W : ℕ} (z : Inside W) (v : ZoneState) (address : Address) (frame : ℕ) : Type 0 where
   pub page : ℕ
   pub named : page_at v.records address ≡ Some page
   pub at : map.get v.placement page ≡ Some (At frame)
@@ -171,7 +171,7 @@ pub record Resident (z : Inside) (v : ZoneState) (address : Address) (frame : �
   pub row_within : frame < length z.words
   pub note_within : page < length z.notes
 
-pub resident : (z : Inside) (v : ZoneState) → IsSound z v → (address : Address) (frame : ℕ) → placement_at v address ≡ Some (At frame) → Resident z v address frame
+pub resident : {W : ℕ} (z : Inside W) (v : ZoneState) → IsSound z v → (address : Address) (frame : ℕ) → placement_at v address ≡ Some (At frame) → Resident z v address frame
 resident z v sound address frame at =
     let page = page_named v address (At frame) at in
     let within = frame_within v sound.lawful page.0 (At frame) page.2 in
@@ -187,21 +187,21 @@ resident z v sound address frame at =
     }
 
 -- what is known when a word is written
-pub record Storing (z : Inside) (v : ZoneState) (client : ℕ) (address : Address) (page frame word value : ℕ) (note : Note) (history : History) : Type 0 where
+pub record Storing {W : ℕ} (z : Inside W) (v : ZoneState) (client : ℕ) (address : Address) (page frame word value : ℕ) (note : Note) (history : History) : Type 0 where
   pub sound : IsSound z v
   pub view : state_of z ≡ v
   pub spare : length (out v.records) < v.room
   pub named : page_at v.records address ≡ Some page
   pub at : map.get v.placement page ≡ Some (At frame)
-  pub small : word < 8
+  pub small : word < v.page_size
   pub note_is : slice_get z.notes page ≡ Some note
   pub history_is : history ≡ told z.history (Store client address word value)
 
 -- the fields of a zone after a store
-abbrev pub after_store : Inside → ℕ → ℕ → ℕ → ℕ → Note → History → Inside
+abbrev pub after_store : {W : ℕ} → Inside W → ℕ → ℕ → ℕ → ℕ → Note → History → Inside W
 after_store z page frame word value note history = record z { words = with_word z.words frame word value; notes = slice_set z.notes page (record note { dirty = true }); history = history }
 
-pub store_view : (z : Inside) (v : ZoneState) (client : ℕ) (address : Address) (page frame word value : ℕ) (note : Note) (history : History) → Storing z v client address page frame word value note history → state_of (after_store z page frame word value note history) ≡ stored v client address word value
+pub store_view : {W : ℕ} (z : Inside W) (v : ZoneState) (client : ℕ) (address : Address) (page frame word value : ℕ) (note : Note) (history : History) → Storing z v client address page frame word value note history → state_of (after_store z page frame word value note history) ≡ stored v client address word value
 store_view z v client address page frame word value note history known =
     let dirty_note : Note = record note { dirty = true } in
     let within = slice_get_within z.notes page note known.note_is in
@@ -210,7 +210,7 @@ store_view z v client address page frame word value note history known =
     let here : state_of (after_store z page frame word value note history) ≡ state_of (record z { history = history }) = λ i. record (state_of (record z { history = history })) { placement = p i; unmovable = u i } in
     here ∙ noted_view z v history (Store client address word value) known.view known.history_is
 
-pub store_sound : (z : Inside) (v : ZoneState) (client : ℕ) (address : Address) (page frame word value : ℕ) (note : Note) (history : History) → Storing z v client address page frame word value note history → IsSound (after_store z page frame word value note history) (stored v client address word value)
+pub store_sound : {W : ℕ} (z : Inside W) (v : ZoneState) (client : ℕ) (address : Address) (page frame word value : ℕ) (note : Note) (history : History) → Storing z v client address page frame word value note history → IsSound (after_store z page frame word value note history) (stored v client address word value)
 store_sound z v client address page frame word value note history known =
     let sound = known.sound in
     let spare = known.spare in

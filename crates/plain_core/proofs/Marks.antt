@@ -30,10 +30,10 @@ module _ (marks : List Bool) (block : ℕ) (mark : Bool) (eight : length marks �
   no_mark_then q h = ap (λ (o : Option Bool). unwrap_or o false) (slice_get_past (slice_set marks block mark) q (omega (arith, length-set marks block mark)))
 
 -- the fields after a mark was set or taken off
-abbrev pub after_mark : Inside → ℕ → Bool → History → Inside
+abbrev pub after_mark : {W : ℕ} → Inside W → ℕ → Bool → History → Inside W
 after_mark z block mark history = record z { marked = slice_set z.marked block mark; history = history }
 
-module _ (z : Inside) (v : ZoneState) (sound : IsSound z v) (view : state_of z ≡ v) (eight : length z.marked ≡ 8) (block : ℕ) (small : block < 8) (spare : length (out v.records) < v.room) (history : History) where
+module _ {W : ℕ} (z : Inside W) (v : ZoneState) (sound : IsSound z v) (view : state_of z ≡ v) (eight : length z.marked ≡ 8) (block : ℕ) (small : block < 8) (spare : length (out v.records) < v.room) (history : History) where
   pub mark_sound : IsSound (after_mark z block true history) (block_marked v block)
   mark_sound = record {
     lawful = lawful_marked v sound.lawful spare block;
@@ -41,7 +41,7 @@ module _ (z : Inside) (v : ZoneState) (sound : IsSound z v) (view : state_of z �
     tables = sound.tables;
     frames = record { count = sound.frames.count; of_page = sound.frames.of_page; of_block = sound.frames.of_block; of_none = sound.frames.of_none };
     entries = record { each = sound.entries.each };
-    words = record { count = sound.words.count; eight = sound.words.eight; each = sound.words.each };
+    words = record { count = sound.words.count; sized = sound.words.sized; each = sound.words.each };
     notes = record { count = sound.notes.count; each = λ page note e used. (let fit = sound.notes.each page note e used in record { dirty = fit.dirty; pins = fit.pins; maps = fit.maps }) };
     moves = moves_kept z.moves v.records v.room sound.moves (Mark block) refl (λ serial. refl) refl refl (omega arith);
     movable = record { count = sound.movable.count; each = sound.movable.each };
@@ -54,7 +54,7 @@ module _ (z : Inside) (v : ZoneState) (sound : IsSound z v) (view : state_of z �
     tables = sound.tables;
     frames = record { count = sound.frames.count; of_page = sound.frames.of_page; of_block = sound.frames.of_block; of_none = sound.frames.of_none };
     entries = record { each = sound.entries.each };
-    words = record { count = sound.words.count; eight = sound.words.eight; each = sound.words.each };
+    words = record { count = sound.words.count; sized = sound.words.sized; each = sound.words.each };
     notes = record { count = sound.notes.count; each = λ page note e used. (let fit = sound.notes.each page note e used in record { dirty = fit.dirty; pins = fit.pins; maps = fit.maps }) };
     moves = moves_kept z.moves v.records v.room sound.moves (Unmark block) refl (λ serial. refl) refl refl (omega arith);
     movable = record { count = sound.movable.count; each = sound.movable.each };

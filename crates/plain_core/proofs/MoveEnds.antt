@@ -88,20 +88,20 @@ back_frames frames page serial source target apart source_in target_in = record 
   kept = λ g off gone. state_other frames page source target apart source_in target_in g (differs g source gone) (differs g target (right_false _ _ off));
 }
 
-pub moved_words : (rows : List (List ℕ)) (words : List ℕ) (serial source target : ℕ) → target < length rows → words ≡ words_of rows source → length words ≡ 8 → WordsSettled rows (with_words rows target words) (Moving serial source target) (At target)
-moved_words rows words serial source target within same eight = record {
+pub moved_words : {size : ℕ} → (rows : List (List ℕ)) (words : List ℕ) (serial source target : ℕ) → target < length rows → words ≡ words_of rows source → length words ≡ size → WordsSettled size rows (with_words rows target words) (Moving serial source target) (At target)
+moved_words rows words serial source target within same sized = record {
   count = length-set rows target words;
   carried = words_set_same rows target words within ∙ same;
   kept = λ g gone. words_set_other rows target g words (differs g target gone);
-  eight = λ g has. ap (λ (f : ℕ). length (words_of (with_words rows target words) f)) (equals g target has) ∙ ap length (words_set_same rows target words within) ∙ eight;
+  sized = λ g has. ap (λ (f : ℕ). length (words_of (with_words rows target words) f)) (equals g target has) ∙ ap length (words_set_same rows target words within) ∙ sized;
 }
 
-pub back_words : (rows : List (List ℕ)) (v : ZoneState) → WordsFit rows v → (serial source target : ℕ) → source < frame_count v → WordsSettled rows rows (Moving serial source target) (At source)
+pub back_words : (rows : List (List ℕ)) (v : ZoneState) → WordsFit rows v → (serial source target : ℕ) → source < frame_count v → WordsSettled v.page_size rows rows (Moving serial source target) (At source)
 back_words rows v fit serial source target within = record {
   count = refl;
   carried = refl;
   kept = λ g gone. refl;
-  eight = λ g has. fit.eight g (let at : g ≡ source = equals g source has in omega arith);
+  sized = λ g has. fit.sized g (let at : g ≡ source = equals g source has in omega arith);
 }
 
 pub kept_movable : (movable : List Bool) (can noted : Bool) (kept : ℕ) → kept < length movable → noted ≡ can → MovableSettled movable (slice_set movable kept noted) can (At kept)

@@ -29,7 +29,7 @@ pub record NotesOnly (v : ZoneState) (entry : Record) (page : ℕ) : Type 0 wher
   pub maps : (q : ℕ) → q ≢ page → maps (entry ∷ v.records) q ≡ maps v.records q
 
 -- what is known when the note of a page changes
-pub record Noting (z : Inside) (v : ZoneState) (page : ℕ) (entry : Record) (note changed : Note) (frames : Frames) (tables : Tables) (history : History) : Type 0 where
+pub record Noting {W : ℕ} (z : Inside W) (v : ZoneState) (page : ℕ) (entry : Record) (note changed : Note) (frames : Frames) (tables : Tables) (history : History) : Type 0 where
   pub sound : IsSound z v
   pub view : state_of z ≡ v
   pub lawful : IsLawful (noted v entry)
@@ -46,22 +46,23 @@ pub record Noting (z : Inside) (v : ZoneState) (page : ℕ) (entry : Record) (no
   pub history_is : history ≡ told z.history entry
 
 -- the fields of a zone after a note changed
-abbrev pub after_noting : Inside → ℕ → Note → Frames → Tables → History → Inside
+abbrev pub after_noting : {W : ℕ} → Inside W → ℕ → Note → Frames → Tables → History → Inside W
 after_noting z page changed frames tables history = record z { frames = frames; tables = tables; notes = slice_set z.notes page changed; history = history }
 
 -- the page stays where it is, as a change of place from a placement to the same one
-pub stays : (v w : ZoneState) (page : ℕ) → IsLawful v → IsLawful w → w.placement ≡ v.placement → w.blocks ≡ v.blocks → w.handed_out ≡ v.handed_out → GetsPlace v w page (map.get v.placement page) (map.get v.placement page)
-stays v w page before after placement blocks handed_out = record {
+pub stays : (v w : ZoneState) (page : ℕ) → IsLawful v → IsLawful w → w.placement ≡ v.placement → w.blocks ≡ v.blocks → w.page_size ≡ v.page_size → w.handed_out ≡ v.handed_out → GetsPlace v w page (map.get v.placement page) (map.get v.placement page)
+stays v w page before after placement blocks size handed_out = record {
   before = before;
   after = after;
   at = refl;
   now = λ i. map.get (placement i) page;
   others = λ q ne i. map.get (placement i) q;
   blocks = blocks;
+  size = size;
   handed_out = handed_out;
 }
 
-module _ (z : Inside) (v : ZoneState) (page : ℕ) (entry : Record) (note changed : Note) (frames : Frames) (tables : Tables) (history : History) (known : Noting z v page entry note changed frames tables history) where
+module _ {W : ℕ} (z : Inside W) (v : ZoneState) (page : ℕ) (entry : Record) (note changed : Note) (frames : Frames) (tables : Tables) (history : History) (known : Noting z v page entry note changed frames tables history) where
   leaves : LeavesOthers v (noted v entry) page
   leaves = record { last = λ q w ne. known.only.last q w; dirty = λ q ne. known.only.dirty q; pins = known.only.pins; maps = known.only.maps }
 
@@ -79,8 +80,8 @@ module _ (z : Inside) (v : ZoneState) (page : ℕ) (entry : Record) (note change
             (record { count = sound.frames.count; of_page = sound.frames.of_page; of_block = sound.frames.of_block; of_none = sound.frames.of_none });
         movable = known.movable;
         entries = known.entries;
-        words = record { count = sound.words.count; eight = sound.words.eight; each = λ q placement w at small. sound.words.each q placement w at small ∙ ap Some (sym (known.only.last q w)) };
-        notes = notes_fit v (noted v entry) page _ _ (stays v (noted v entry) page sound.lawful known.lawful refl refl refl) z.notes changed within sound.notes (λ used. known.fits) leaves;
+        words = record { count = sound.words.count; sized = sound.words.sized; each = λ q placement w at small. sound.words.each q placement w at small ∙ ap Some (sym (known.only.last q w)) };
+        notes = notes_fit v (noted v entry) page _ _ (stays v (noted v entry) page sound.lawful known.lawful refl refl refl refl) z.notes changed within sound.notes (λ used. known.fits) leaves;
         moves = known.moves;
       }
 
@@ -92,7 +93,7 @@ module _ (z : Inside) (v : ZoneState) (page : ℕ) (entry : Record) (note change
       here ∙ noted_view z v history entry known.view known.history_is
 
   -- the fields of a zone after a note changed, given its notes
-  abbrev noting_with : List Note → Inside
+  abbrev noting_with : List Note → Inside W
   noting_with notes = record z { frames = frames; tables = tables; notes = notes; history = history }
 
   pub noting_holds : (notes : List Note) → notes ≡ slice_set z.notes page changed → IsSound (noting_with notes) (state_of (noting_with notes)) × (state_of (noting_with notes) ≡ noted v entry)

@@ -17,7 +17,7 @@ use Rattle.plain_core.proofs.Copies.{copies, no_placement, all_movable, no_order
 use Rattle.plain_core.specs.declared.plain.PlainZone.TheInside.{Inside}
 use Rattle.state_core.specs.declared.placement.Placement.{Placement}
 use Rattle.state_core.specs.declared.placement.Placement.TheVariants.{At}
-use Rattle.state_core.specs.Opening.{opened, IsOpenable}
+use Rattle.state_core.specs.Opening.{opened_with, IsOpenable}
 use Rattle.plain_core.specs.Fits.{state_by, MovesFit}
 use Rattle.plain_core.specs.Sound.{state_of, IsSound}
 use Rattle.scan_core.specs.Frames.{Frames, all_free, true_at}
@@ -29,14 +29,14 @@ use Rattle.plain_core.proofs.Tabulating.{tabulated_none, gathered_none}
 use Rattle.state_core.proofs.Opened.{unheld, opened_lawful}
 
 -- the fields of a zone that was just opened
-pub record IsFresh (z : Inside) (number blocks places : ℕ) : Type 0 where
+pub record IsFresh {W : ℕ} (z : Inside W) (number blocks places : ℕ) : Type 0 where
   pub openable : IsOpenable blocks places
   pub number_is : z.number ≡ number
   pub blocks_is : z.blocks ≡ blocks
   pub frames : z.frames ≡ all_free blocks
   pub tables : IsBlank z.tables.entries
   pub tables_frames : z.tables.frames ≡ 512 * blocks
-  pub words : z.words ≡ replicate (512 * blocks) blank_words
+  pub words : z.words ≡ replicate (512 * blocks) (blank_words W)
   pub notes : z.notes ≡ replicate (512 * blocks) unused_note
   pub handed_out : z.handed_out ≡ replicate (512 * blocks) None
   pub marked : z.marked ≡ replicate 8 false
@@ -44,8 +44,8 @@ pub record IsFresh (z : Inside) (number blocks places : ℕ) : Type 0 where
   pub moves : z.moves ≡ record { pages = []; places = places; moved = 0; back = 0 }
   pub history : z.history ≡ record { records = []; room = places; round = None }
 
-pub opened_view : (z : Inside) (number blocks places : ℕ) → IsFresh z number blocks places → state_of z ≡ opened number blocks places
-opened_view z number blocks places fresh =
+pub opened_view : {W : ℕ} (z : Inside W) (number blocks places : ℕ) → IsFresh z number blocks places → state_of z ≡ opened_with W number blocks places
+opened_view {W} z number blocks places fresh =
     let u : gathered (is_unmovable_of z.notes) (length z.notes) ≡ set.empty =
     gathered_none (is_unmovable_of z.notes) (length z.notes) (λ page. ap (λ (ns : List Note). is_unmovable_of ns page) fresh.notes ∙ all_movable (512 * blocks) page) in
     let m : gathered (true_at z.marked) 8 ≡ set.empty = ap (λ (bs : List Bool). gathered (true_at bs) 8) fresh.marked in
@@ -56,6 +56,7 @@ opened_view z number blocks places fresh =
     λ i. record {
       number = fresh.number_is i;
       blocks = fresh.blocks_is i;
+      page_size = W;
       records = (fresh.history i).records;
       room = (fresh.history i).room;
       unmovable = u i;
@@ -67,8 +68,8 @@ opened_view z number blocks places fresh =
       round = (fresh.history i).round;
     }
 
-some_eight : (rows : List (List ℕ)) (frame : ℕ) → slice_get rows frame ≡ Some blank_words → length (words_of rows frame) ≡ 8
-some_eight rows frame e = ap (λ (o : Option (List ℕ)). length (unwrap_or o [])) e
+some_eight : (size : ℕ) (rows : List (List ℕ)) (frame : ℕ) → slice_get rows frame ≡ Some (blank_words size) → length (words_of rows frame) ≡ size
+some_eight size rows frame e = ap (λ (o : Option (List ℕ)). length (unwrap_or o [])) e ∙ length-replicate size 0
 
 note_clash : (n page : ℕ) (note : Note) → slice_get (replicate n unused_note) page ≡ Some note → IsSome note.placement → ⊥
 note_clash n page note e used = elim (copies n page unused_note) [
@@ -77,25 +78,25 @@ note_clash n page note e used = elim (copies n page unused_note) [
   | inr is ↦ (let bad : None ≡ Some note = sym is ∙ e in cc)
 ]
 
-state_clash : (number blocks places page frame : ℕ) (state : FrameState) → state_by page (map.get (opened number blocks places).placement page) frame ≡ Some state → ⊥
-state_clash number blocks places page frame state e =
+state_clash : (size number blocks places page frame : ℕ) (state : FrameState) → state_by page (map.get (opened_with size number blocks places).placement page) frame ≡ Some state → ⊥
+state_clash size number blocks places page frame state e =
     let bad : None ≡ Some state = sym (ap (λ (o : Option Placement). state_by page o frame) (map.get-empty nat_cmp page)) ∙ e in cc
 
-pub opened_sound : (z : Inside) (number blocks places : ℕ) → IsFresh z number blocks places → IsSound z (opened number blocks places)
-opened_sound z number blocks places fresh = record {
-  lawful = opened_lawful number blocks places fresh.openable;
+pub opened_sound : {W : ℕ} (z : Inside W) (number blocks places : ℕ) → IsFresh z number blocks places → IsSound z (opened_with W number blocks places)
+opened_sound {W} z number blocks places fresh = record {
+  lawful = opened_lawful W number blocks places fresh.openable;
   orders = ap length fresh.handed_out ∙ length-replicate (512 * blocks) None;
   tables = fresh.tables_frames;
   frames = record {
     count = ap (λ (fs : Frames). length fs.states) fresh.frames ∙ length-replicate (512 * blocks) Free;
-    of_page = λ page frame state e. absurd (state_clash number blocks places page frame state e);
-    of_block = λ frame h held. (let bad : false ≡ true = sym (unheld number blocks places frame) ∙ held in cc);
+    of_page = λ page frame state e. absurd (state_clash W number blocks places page frame state e);
+    of_block = λ frame h held. (let bad : false ≡ true = sym (unheld W number blocks places frame) ∙ held in cc);
     of_none = λ frame h free. ap (λ (fs : Frames). slice_get fs.states frame) fresh.frames ∙ slice_get_replicate (512 * blocks) frame Free h;
   };
   entries = record { each = λ address range. fresh.tables address };
   words = record {
-    count = ap length fresh.words ∙ length-replicate (512 * blocks) blank_words;
-    eight = λ frame h. some_eight z.words frame (ap (λ (rows : List (List ℕ)). slice_get rows frame) fresh.words ∙ slice_get_replicate (512 * blocks) frame blank_words h);
+    count = ap length fresh.words ∙ length-replicate (512 * blocks) (blank_words W);
+    sized = λ frame h. some_eight W z.words frame (ap (λ (rows : List (List ℕ)). slice_get rows frame) fresh.words ∙ slice_get_replicate (512 * blocks) frame (blank_words W) h);
     each = λ page placement word e h. (let bad : None ≡ Some placement = sym (map.get-empty nat_cmp page) ∙ e in cc);
   };
   notes = record {

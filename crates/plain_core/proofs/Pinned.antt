@@ -24,7 +24,7 @@ use Rattle.plain_core.proofs.OutAndEnded.{moves_kept}
 use Rattle.plain_core.proofs.Placement.{movable_said}
 use Rattle.plain_core.proofs.Tables.{note_seen}
 
-module _ (z : Inside) (v : ZoneState) (sound : IsSound z v) (view : state_of z ≡ v) (page : ℕ) (used : IsSome (map.get v.placement page)) (note : Note) (note_is : slice_get z.notes page ≡ Some note) where
+module _ {W : ℕ} (z : Inside W) (v : ZoneState) (sound : IsSound z v) (view : state_of z ≡ v) (page : ℕ) (used : IsSome (map.get v.placement page)) (note : Note) (note_is : slice_get z.notes page ≡ Some note) where
   -- the frame of the page says whether the page may be taken from it
   said_so : (entry : Record) → IsLawful (noted v entry) → (count : ℕ) → count ≡ pins (entry ∷ v.records) page → ((q : ℕ) → q ≢ page → pins (entry ∷ v.records) q ≡ pins v.records q) → (frames : Frames) → frames ≡ record z.frames { movable = movable_by z.frames.movable (record note { pins = count }) } → MovableFit frames.movable (noted v entry)
   said_so entry lawful count is others frames frames_are =
@@ -32,7 +32,7 @@ module _ (z : Inside) (v : ZoneState) (sound : IsSound z v) (view : state_of z �
       let can : Bool = can_move_by (record note { pins = count }) in
       subst (λ (fs : Frames). MovableFit fs.movable (noted v entry)) (sym frames_are)
       (subst (λ (o : Option Placement). MovableFit (movable_at z.frames.movable o can) (noted v entry)) (sym seen.placement)
-      (movable_said v (noted v entry) page (map.get v.placement page) (stays v (noted v entry) page sound.lawful lawful refl refl refl) z.frames.movable can sound.movable
+      (movable_said v (noted v entry) page (map.get v.placement page) (stays v (noted v entry) page sound.lawful lawful refl refl refl refl) z.frames.movable can sound.movable
       (λ i. nat_eq (is i) 0 && not (seen.unmovable i))
       (λ q ne. ap (λ n. nat_eq n 0 && not (set.contains v.unmovable q)) (others q ne))))
 

@@ -31,6 +31,7 @@ pub record GetsPlace (v w : ZoneState) (page : ℕ) (old new : Option Placement)
   pub now : map.get w.placement page ≡ new
   pub others : (q : ℕ) → q ≢ page → map.get w.placement q ≡ map.get v.placement q
   pub blocks : w.blocks ≡ v.blocks
+  pub size : w.page_size ≡ v.page_size
   pub handed_out : w.handed_out ≡ v.handed_out
 
 -- how the states of frames change when a page gets another place
@@ -49,9 +50,9 @@ pub record MovablePlaced (movable changed : List Bool) (can : Bool) (new : Optio
 -- the frame of the page has the words of the page
 pub record WordsPlaced (rows changed : List (List ℕ)) (w : ZoneState) (page : ℕ) (new : Option Placement) : Type 0 where
   pub count : length changed ≡ length rows
-  pub mine : (placement : Placement) (word : ℕ) → new ≡ Some placement → word < 8 → slice_get (words_of changed (words_frame placement)) word ≡ Some (last w.records page word)
+  pub mine : (placement : Placement) (word : ℕ) → new ≡ Some placement → word < w.page_size → slice_get (words_of changed (words_frame placement)) word ≡ Some (last w.records page word)
   pub kept : (frame : ℕ) → takes_up new frame ≡ false → words_of changed frame ≡ words_of rows frame
-  pub eight : (frame : ℕ) → takes_up new frame ≡ true → length (words_of changed frame) ≡ 8
+  pub sized : (frame : ℕ) → takes_up new frame ≡ true → length (words_of changed frame) ≡ w.page_size
 
 -- a call leaves the values, flags, pins and addresses of all other pages as they are
 pub record LeavesOthers (v w : ZoneState) (page : ℕ) : Type 0 where
@@ -156,14 +157,14 @@ module _ (v w : ZoneState) (page : ℕ) (old new : Option Placement) (gets : Get
   pub words_fit : (rows changed : List (List ℕ)) → WordsFit rows v → WordsPlaced rows changed w page new → LeavesOthers v w page → WordsFit changed w
   words_fit rows changed fit change leaves = record {
     count = change.count ∙ fit.count ∙ sym frames_same;
-    eight = λ g h. elim (decide (takes_up new g)) [ inl has ↦ change.eight g has | inr hasnt ↦ ap length (change.kept g hasnt) ∙ fit.eight g (omega (arith, h, frames_same)) ];
+    sized = λ g h. elim (decide (takes_up new g)) [ inl has ↦ change.sized g has | inr hasnt ↦ ap length (change.kept g hasnt) ∙ fit.sized g (omega (arith, h, frames_same)) ∙ sym gets.size ];
     each = λ q placement word e small. elim (eqb_tells q page) [
       | inl same ↦ change.mine placement word (sym gets.now ∙ ap (map.get w.placement) (sym same.1) ∙ e) small ∙ ap (λ (p : ℕ). Some (last w.records p word)) (sym same.1)
       | inr other ↦
           (let was : map.get v.placement q ≡ Some placement = sym (gets.others q other.1) ∙ e in
           let has : takes_up (map.get v.placement q) (words_frame placement) ≡ true = takes _ _ (words_frame placement) was ∙ takes_own placement in
           ap (λ (ws : List ℕ). slice_get ws word) (change.kept (words_frame placement) (not_new q (words_frame placement) other.1 has))
-          ∙ fit.each q placement word was small ∙ ap Some (sym (leaves.last q word other.1)))
+          ∙ fit.each q placement word was (omega (arith, small, gets.size)) ∙ ap Some (sym (leaves.last q word other.1)))
     ];
   }
 

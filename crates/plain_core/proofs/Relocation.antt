@@ -47,11 +47,11 @@ abbrev pub MovableSettled : List Bool → List Bool → Bool → Placement → T
 MovableSettled movable changed can new = MovablePlaced movable changed can (Some new)
 
 -- the words of a page are in its new frame
-pub record WordsSettled (rows settled : List (List ℕ)) (old new : Placement) : Type 0 where
+pub record WordsSettled (size : ℕ) (rows settled : List (List ℕ)) (old new : Placement) : Type 0 where
   pub count : length settled ≡ length rows
   pub carried : words_of settled (words_frame new) ≡ words_of rows (words_frame old)
   pub kept : (frame : ℕ) → takes_up (Some new) frame ≡ false → words_of settled frame ≡ words_of rows frame
-  pub eight : (frame : ℕ) → takes_up (Some new) frame ≡ true → length (words_of settled frame) ≡ 8
+  pub sized : (frame : ℕ) → takes_up (Some new) frame ≡ true → length (words_of settled frame) ≡ size
 
 module _ (v : ZoneState) (page : ℕ) (old new : Placement) (can : CanSettle v page old new) (entry : Record) (recorded : IsRecorded v entry page new) where
   abbrev next : ZoneState
@@ -99,7 +99,7 @@ module _ (v : ZoneState) (page : ℕ) (old new : Placement) (can : CanSettle v p
     ]
 
 -- the fields of a zone before and after a page was relocated
-pub record Settling (z changed : Inside) (v : ZoneState) (page : ℕ) (old new : Placement) (entry : Record) (note : Note) (migrate_new free_new : ℕ) : Type 0 where
+pub record Settling {W : ℕ} (z changed : Inside W) (v : ZoneState) (page : ℕ) (old new : Placement) (entry : Record) (note : Note) (migrate_new free_new : ℕ) : Type 0 where
   pub sound : IsSound z v
   pub view : state_of z ≡ v
   pub can : CanSettle v page old new
@@ -109,7 +109,7 @@ pub record Settling (z changed : Inside) (v : ZoneState) (page : ℕ) (old new :
   -- what changed with the page's place
   pub frames : FramesSettled z.frames.states changed.frames.states page old new
   pub tables : Replaces z.tables.entries changed.tables.entries (entry_for (Some old)) (entry_for (Some new))
-  pub words : WordsSettled z.words changed.words old new
+  pub words : WordsSettled v.page_size z.words changed.words old new
   pub notes : changed.notes ≡ slice_set z.notes page (record note { placement = Some new })
   pub moves : MovesFit changed.moves (entry ∷ v.records) (v.room - 1)
   pub movable : MovableSettled z.frames.movable changed.frames.movable (can_move v page) new
@@ -124,7 +124,7 @@ pub record Settling (z changed : Inside) (v : ZoneState) (page : ℕ) (old new :
   pub marked_same : changed.marked ≡ z.marked
   pub handed_out_same : changed.handed_out ≡ z.handed_out
 
-module _ (z changed : Inside) (v : ZoneState) (page : ℕ) (old new : Placement) (entry : Record) (note : Note) (migrate free : ℕ) (known : Settling z changed v page old new entry note migrate free) where
+module _ {W : ℕ} (z changed : Inside W) (v : ZoneState) (page : ℕ) (old new : Placement) (entry : Record) (note : Note) (migrate free : ℕ) (known : Settling z changed v page old new entry note migrate free) where
   abbrev after : ZoneState
   after = record (relocated v entry page new) { migrate = migrate; free = free }
 
@@ -145,6 +145,7 @@ module _ (z changed : Inside) (v : ZoneState) (page : ℕ) (old new : Placement)
     now = at_page v page old new known.can entry;
     others = at_other v page old new known.can entry;
     blocks = refl;
+    size = refl;
     handed_out = refl;
   }
 
@@ -161,7 +162,7 @@ module _ (z changed : Inside) (v : ZoneState) (page : ℕ) (old new : Placement)
         ap (λ (p : Placement). slice_get (words_of changed.words (words_frame p)) w) is ∙ ap (λ (ws : List ℕ). slice_get ws w) known.words.carried
         ∙ known.sound.words.each page old w known.can.at small ∙ ap Some (sym (known.recorded.still.last page w)));
     kept = known.words.kept;
-    eight = known.words.eight;
+    sized = known.words.sized;
   }
 
   can_still : (q : ℕ) → can_move after q ≡ can_move v q
@@ -207,6 +208,7 @@ module _ (z changed : Inside) (v : ZoneState) (page : ℕ) (old new : Placement)
       λ i. record {
         number = known.number_same i;
         blocks = known.blocks_same i;
+        page_size = W;
         records = (known.history i).records;
         room = (known.history i).room;
         unmovable = unmovable_new i;

@@ -12,10 +12,10 @@ use Rattle.state_core.proofs.Rounds.{begun, lawful_from}
 use Rattle.state_core.proofs.Sweeping.{swept_begun}
 
 -- the fields after a round began
-abbrev pub after_begin : Inside → RoundStart → Inside
+abbrev pub after_begin : {W : ℕ} → Inside W → RoundStart → Inside W
 after_begin z start = record z { fingers = record { migrate = 0; free = 512 * z.blocks }; history = record z.history { round = Some start } }
 
-pub begun_sound : (z : Inside) (v : ZoneState) → IsSound z v → (start : RoundStart) → start.records ≡ length v.records → start.calm ≡ is_calm v →
+pub begun_sound : {W : ℕ} (z : Inside W) (v : ZoneState) → IsSound z v → (start : RoundStart) → start.records ≡ length v.records → start.calm ≡ is_calm v →
     IsSound (after_begin z start) (begun v start)
 begun_sound z v sound start here as_calm = record {
   lawful = lawful_from v sound.lawful start here as_calm;
@@ -23,7 +23,7 @@ begun_sound z v sound start here as_calm = record {
   tables = sound.tables;
   frames = record { count = sound.frames.count; of_page = sound.frames.of_page; of_block = sound.frames.of_block; of_none = sound.frames.of_none };
   entries = record { each = sound.entries.each };
-  words = record { count = sound.words.count; eight = sound.words.eight; each = sound.words.each };
+  words = record { count = sound.words.count; sized = sound.words.sized; each = sound.words.each };
   notes = record {
     count = sound.notes.count;
     each = λ page note at used. (let fit = sound.notes.each page note at used in record { dirty = fit.dirty; pins = fit.pins; maps = fit.maps });

@@ -39,7 +39,7 @@ some_same p r (suc n) same =
     λ i. here i || rest i
 
 -- the fingers of a zone are those of its state
-pub fingers_seen : (z : Inside) (v : ZoneState) → state_of z ≡ v → z.fingers ≡ record { migrate = v.migrate; free = v.free }
+pub fingers_seen : {W : ℕ} (z : Inside W) (v : ZoneState) → state_of z ≡ v → z.fingers ≡ record { migrate = v.migrate; free = v.free }
 fingers_seen z v view = λ i. record { migrate = (view i).migrate; free = (view i).free }
 
 -- what a pair that was answered says of the searches for its source and its target

@@ -72,10 +72,10 @@ lowest_free_seen frames v fit =
     lowest_same (free_at frames) (is_free v) (length frames) (λ frame h. free_seen frames v fit frame (omega (arith, h, fit.count)))
     ∙ ap (lowest (is_free v)) fit.count
 
-pub placements_seen : (z : Inside) → get (state_of z).placement ≡ placement_of z.notes
+pub placements_seen : {W : ℕ} (z : Inside W) → get (state_of z).placement ≡ placement_of z.notes
 placements_seen z = λ i page. get_placements z.notes page i
 
-pub lowest_unused_seen : (z : Inside) (v : ZoneState) → state_of z ≡ v → length z.notes ≡ frame_count v → lowest (λ page. is_none (placement_of z.notes page)) (length z.notes) ≡ lowest_unused_page v
+pub lowest_unused_seen : {W : ℕ} (z : Inside W) (v : ZoneState) → state_of z ≡ v → length z.notes ≡ frame_count v → lowest (λ page. is_none (placement_of z.notes page)) (length z.notes) ≡ lowest_unused_page v
 lowest_unused_seen z v view count =
     ap (λ (placed : ℕ → Option Placement). lowest (λ page. is_none (placed page)) (length z.notes)) (sym (placements_seen z))
     ∙ ap (λ (u : ZoneState). lowest (λ page. is_none (get u.placement page)) (length z.notes)) view
@@ -95,7 +95,7 @@ whole_counted frames v fit =
     ∙ ap (count_below (whole_block v)) blocks
 
 -- the counts of pages in use and of blocks that are handed out
-pub in_use_seen : (z : Inside) (v : ZoneState) → state_of z ≡ v → length z.notes ≡ frame_count v → count_below (is_in_use z.notes) (length z.notes) ≡ count_below (λ page. is_some (get v.placement page)) (frame_count v)
+pub in_use_seen : {W : ℕ} (z : Inside W) (v : ZoneState) → state_of z ≡ v → length z.notes ≡ frame_count v → count_below (is_in_use z.notes) (length z.notes) ≡ count_below (λ page. is_some (get v.placement page)) (frame_count v)
 in_use_seen z v view count =
     ap (λ (placed : ℕ → Option Placement). count_below (λ page. is_some (placed page)) (length z.notes)) (sym (placements_seen z))
     ∙ ap (λ (u : ZoneState). count_below (λ page. is_some (get u.placement page)) (length z.notes)) view
@@ -104,13 +104,13 @@ in_use_seen z v view count =
 pub order_past : (orders : List (Option ℕ)) (first : ℕ) → length orders ≤ first → order_of orders first ≡ None
 order_past orders first h = ap (option_and_then (λ (order : Option ℕ). order)) (slice_get_past orders first h)
 
-pub orders_seen : (z : Inside) (v : ZoneState) → state_of z ≡ v → order_of z.handed_out ≡ get v.handed_out
+pub orders_seen : {W : ℕ} (z : Inside W) (v : ZoneState) → state_of z ≡ v → order_of z.handed_out ≡ get v.handed_out
 orders_seen z v view =
     sym (λ i first. get_tabulated_all (order_of z.handed_out) (length z.handed_out) first (order_past z.handed_out) i)
     ∙ ap (λ (u : ZoneState). get u.handed_out) view
 
-pub blocks_seen : (z : Inside) (v : ZoneState) → state_of z ≡ v → length z.handed_out ≡ frame_count v → count_below (λ first. is_some (order_of z.handed_out first)) (length z.handed_out) ≡ count_below (λ first. is_some (get v.handed_out first)) (frame_count v)
+pub blocks_seen : {W : ℕ} (z : Inside W) (v : ZoneState) → state_of z ≡ v → length z.handed_out ≡ frame_count v → count_below (λ first. is_some (order_of z.handed_out first)) (length z.handed_out) ≡ count_below (λ first. is_some (get v.handed_out first)) (frame_count v)
 blocks_seen z v view count = λ i. count_below (λ first. is_some (orders_seen z v view i first)) (count i)
 
-pub held_seen : (z : Inside) (v : ZoneState) → state_of z ≡ v → length z.handed_out ≡ frame_count v → count_below (held_at z.handed_out) (length z.handed_out) ≡ count_below (is_held v) (frame_count v)
+pub held_seen : {W : ℕ} (z : Inside W) (v : ZoneState) → state_of z ≡ v → length z.handed_out ≡ frame_count v → count_below (held_at z.handed_out) (length z.handed_out) ≡ count_below (is_held v) (frame_count v)
 held_seen z v view count = λ i. count_below (λ frame. some_below (λ first. covers (orders_seen z v view i first) first frame) (count i)) (count i)

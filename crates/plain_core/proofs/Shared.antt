@@ -22,7 +22,7 @@ use Rattle.plain_core.proofs.Noting.{Noting}
 use Rattle.plain_core.proofs.OutAndEnded.{moves_kept}
 use Rattle.plain_core.proofs.Tables.{note_seen}
 
-pub sharing : (z : Inside) (v : ZoneState) → IsSound z v → state_of z ≡ v → (client : ℕ) (address alias : Address) (page frame : ℕ) → CanShare v address alias page frame → (note : Note) (tables : Tables) (history : History) → slice_get z.notes page ≡ Some note → ChangesOnly z.tables.entries tables.entries alias (Present frame) → tables.frames ≡ z.tables.frames → history ≡ told z.history (Share client address alias) → Noting z v page (Share client address alias) note (record note { maps = note.maps + 1 }) z.frames tables history
+pub sharing : {W : ℕ} (z : Inside W) (v : ZoneState) → IsSound z v → state_of z ≡ v → (client : ℕ) (address alias : Address) (page frame : ℕ) → CanShare v address alias page frame → (note : Note) (tables : Tables) (history : History) → slice_get z.notes page ≡ Some note → ChangesOnly z.tables.entries tables.entries alias (Present frame) → tables.frames ≡ z.tables.frames → history ≡ told z.history (Share client address alias) → Noting z v page (Share client address alias) note (record note { maps = note.maps + 1 }) z.frames tables history
 sharing z v sound view client address alias page frame can note tables history note_is changes frames_same history_is =
     let before = (note_seen z v view sound page (not_none _ (At frame) can.at) note note_is).fits in
     let next = shared v client address alias in

@@ -30,6 +30,7 @@ use Rattle.state_core.specs.Carrying.{words_now, flags_of}
 use Rattle.state_core.specs.Looking.{look_by, look_of}
 use Rattle.state_core.specs.Pairs.{holder, can_move}
 use Rattle.scan_core.specs.Frames.{true_at}
+use Rattle.std.specs.List.{range_with_len}
 use Rattle.plain_core.specs.Sound.{state_of, IsSound}
 use Rattle.state_core.proofs.Facts.{frame_within}
 use Rattle.plain_core.proofs.Facts.{held_by}
@@ -38,13 +39,9 @@ use Rattle.state_core.proofs.Placed.{untrue}
 use Rattle.plain_core.proofs.Tabulating.{gathered_in, contains_gathered}
 use Rattle.state_core.proofs.Holding.{stands_at, when_not, holder_none}
 
-abbrev numbers : ℕ → ℕ → List ℕ
-numbers first zero = []
-numbers first (suc n) = first ∷ numbers (suc first) n
-
 -- a list whose items are f of the numbers from a first one on
 in_turn : (f : ℕ → ℕ) (xs : List ℕ) (n first : ℕ) → length xs ≡ n →
-    ((k : ℕ) → k < n → slice_get xs k ≡ Some (f (first + k))) → xs ≡ each f (numbers first n)
+    ((k : ℕ) → k < n → slice_get xs k ≡ Some (f (first + k))) → xs ≡ each f (range_with_len first n)
 in_turn f [] zero first e has = refl
 in_turn f [] (suc n) first e has = absurd (omega arith)
 in_turn f (x ∷ xs) zero first e has = absurd (omega arith)
@@ -52,9 +49,9 @@ in_turn f (x ∷ xs) (suc n) first e has =
     let at : first + 0 ≡ first = omega arith in
     let one : Some x ≡ Some (f first) = has 0 (omega arith) ∙ ap (λ (k : ℕ). Some (f k)) at in
     let here : x ≡ f first = cc in
-    let next : (k : ℕ) → first + suc k ≡ suc first + k = λ k. omega arith in
-    let rest : xs ≡ each f (numbers (suc first) n) =
-    in_turn f xs n (suc first) (omega arith) (λ k h. has (suc k) (omega arith) ∙ ap (λ (j : ℕ). Some (f j)) (next k)) in
+    let next : (k : ℕ) → first + suc k ≡ first + 1 + k = λ k. omega arith in
+    let rest : xs ≡ each f (range_with_len (first + 1) n) =
+    in_turn f xs n (first + 1) (omega arith) (λ k h. has (suc k) (omega arith) ∙ ap (λ (j : ℕ). Some (f j)) (next k)) in
     λ i. here i ∷ rest i
 
 -- the frame of a page in use has the page's words
@@ -62,14 +59,14 @@ pub words_seen : (rows : List (List ℕ)) (v : ZoneState) → WordsFit rows v �
     (page : ℕ) (placement : Placement) → map.get v.placement page ≡ Some placement →
     words_of rows (words_frame placement) ≡ words_now v page
 words_seen rows v fit law page placement at =
-    in_turn (last v.records page) (words_of rows (words_frame placement)) 8 0
-    (fit.eight (words_frame placement) (frame_within v law page placement at))
+    in_turn (last v.records page) (words_of rows (words_frame placement)) v.page_size 0
+    (fit.sized (words_frame placement) (frame_within v law page placement at))
     (λ k h. fit.each page placement k at h ∙ ap (λ (w : ℕ). Some (last v.records page w)) (plain k)) where
       plain : (k : ℕ) → k ≡ 0 + k
       plain k = omega arith
 
 -- the marks of pageblocks are those of the state
-pub mark_seen : (z : Inside) (v : ZoneState) → state_of z ≡ v → (block : ℕ) → block < 8 →
+pub mark_seen : {W : ℕ} (z : Inside W) (v : ZoneState) → state_of z ≡ v → (block : ℕ) → block < 8 →
     true_at z.marked block ≡ set.contains v.marked block
 mark_seen z v view block h =
     sym (gathered_in (true_at z.marked) 8 block h)
@@ -79,13 +76,13 @@ mark_seen z v view block h =
 unmovable_past : (notes : List Note) (page : ℕ) → length notes ≤ page → is_unmovable_of notes page ≡ false
 unmovable_past notes page h = ap says_unmovable (slice_get_past notes page h)
 
-pub placement_seen : (z : Inside) (v : ZoneState) → state_of z ≡ v → (page : ℕ) →
+pub placement_seen : {W : ℕ} (z : Inside W) (v : ZoneState) → state_of z ≡ v → (page : ℕ) →
     placement_of z.notes page ≡ map.get v.placement page
 placement_seen z v view page =
     ap (λ (placed : ℕ → Option Placement). placed page) (sym (placements_seen z))
     ∙ ap (λ (u : ZoneState). map.get u.placement page) view
 
-pub record Noted (z : Inside) (v : ZoneState) (page : ℕ) (note : Note) : Type 0 where
+pub record Noted {W : ℕ} (z : Inside W) (v : ZoneState) (page : ℕ) (note : Note) : Type 0 where
   pub placement : note.placement ≡ map.get v.placement page
   pub unmovable : note.unmovable ≡ set.contains v.unmovable page
   pub fits : NoteFits note v page
@@ -94,7 +91,7 @@ if_placed : (a b : Bool) → a ≡ true → (a && b) ≡ b
 if_placed true b e = refl
 if_placed false b e = cc
 
-pub note_seen : (z : Inside) (v : ZoneState) → state_of z ≡ v → IsSound z v → (page : ℕ) →
+pub note_seen : {W : ℕ} (z : Inside W) (v : ZoneState) → state_of z ≡ v → IsSound z v → (page : ℕ) →
     IsSome (map.get v.placement page) → (note : Note) → slice_get z.notes page ≡ Some note → Noted z v page note
 note_seen z v view sound page used note at =
     let placed : note.placement ≡ map.get v.placement page = sym (ap placement_in at) ∙ placement_seen z v view page in
@@ -112,7 +109,7 @@ note_seen z v view sound page used note at =
       placement_in (Some note) = note.placement
 
 -- a page in use has a note
-pub note_within : (z : Inside) (v : ZoneState) → IsSound z v → (page : ℕ) → IsSome (map.get v.placement page) → page < length z.notes
+pub note_within : {W : ℕ} (z : Inside W) (v : ZoneState) → IsSound z v → (page : ℕ) → IsSome (map.get v.placement page) → page < length z.notes
 note_within z v sound page used = omega (arith, sound.lawful.numbered page used, sound.notes.count)
 
 -- a page gives a state only to its own frames
@@ -184,12 +181,12 @@ none_seen frames v fit frame state at none =
     let same : state ≡ Holds page = cc in none page same))
 
 -- the note of a page says whether the page may be taken
-pub movable_seen : (z : Inside) (v : ZoneState) (page : ℕ) (note : Note) → Noted z v page note →
+pub movable_seen : {W : ℕ} (z : Inside W) (v : ZoneState) (page : ℕ) (note : Note) → Noted z v page note →
     (nat_eq note.pins 0 && not note.unmovable) ≡ can_move v page
 movable_seen z v page note noted = λ i. nat_eq (noted.fits.pins i) 0 && not (noted.unmovable i)
 
 -- the note of a page has the page's flags
-pub flags_seen : (z : Inside) (v : ZoneState) (page : ℕ) (note : Note) → Noted z v page note → page_flags note.unmovable note.dirty ≡ flags_of v page
+pub flags_seen : {W : ℕ} (z : Inside W) (v : ZoneState) (page : ℕ) (note : Note) → Noted z v page note → page_flags note.unmovable note.dirty ≡ flags_of v page
 flags_seen z v page note noted = λ i. page_flags (noted.unmovable i) (noted.fits.dirty i)
 
 -- a frame is in a block that is handed out exactly where its state is Huge

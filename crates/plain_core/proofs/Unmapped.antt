@@ -34,7 +34,7 @@ use Rattle.plain_core.proofs.Placement.{GetsPlace, LeavesOthers, frames_fit, mov
 use Rattle.plain_core.proofs.Tables.{note_seen}
 
 -- what is known when an address names its page no more
-pub record Unmapping (z : Inside) (v : ZoneState) (client : ℕ) (address : Address) (page frame : ℕ) (tables : Tables) (history : History) : Type 0 where
+pub record Unmapping {W : ℕ} (z : Inside W) (v : ZoneState) (client : ℕ) (address : Address) (page frame : ℕ) (tables : Tables) (history : History) : Type 0 where
   pub sound : IsSound z v
   pub view : state_of z ≡ v
   pub can : CanUnmap v address page frame
@@ -43,7 +43,7 @@ pub record Unmapping (z : Inside) (v : ZoneState) (client : ℕ) (address : Addr
   pub history_is : history ≡ told z.history (Unmap client address)
 
 -- the fields of a zone after the last address of a page was taken
-abbrev pub after_last : Inside → ℕ → ℕ → Tables → History → Inside
+abbrev pub after_last : {W : ℕ} → Inside W → ℕ → ℕ → Tables → History → Inside W
 after_last z page frame tables history = record z {
   frames = record z.frames { states = slice_set z.frames.states frame Free };
   tables = tables;
@@ -51,7 +51,7 @@ after_last z page frame tables history = record z {
   history = history;
 }
 
-module _ (z : Inside) (v : ZoneState) (client : ℕ) (address : Address) (page frame : ℕ) (tables : Tables) (history : History) (known : Unmapping z v client address page frame tables history) where
+module _ {W : ℕ} (z : Inside W) (v : ZoneState) (client : ℕ) (address : Address) (page frame : ℕ) (tables : Tables) (history : History) (known : Unmapping z v client address page frame tables history) where
   abbrev can : CanUnmap v address page frame
   can = known.can
 
@@ -95,6 +95,7 @@ module _ (z : Inside) (v : ZoneState) (client : ℕ) (address : Address) (page f
       now = get_remove_same v.placement page page refl;
       others = λ q ne. get_remove_other v.placement page q ne;
       blocks = refl;
+      size = refl;
       handed_out = refl;
     }
 
@@ -133,7 +134,7 @@ module _ (z : Inside) (v : ZoneState) (client : ℕ) (address : Address) (page f
           entries = entries_changed v gone z.tables.entries tables.entries address Absent sound.entries known.changes
               (λ a e. sym (ap entry_for (ap (option_and_then (map.get gone.placement)) (named_here v client address page frame can a e))))
               placement_there;
-          words = words_fit v gone page (Some (At frame)) None gets z.words z.words sound.words (record { count = refl; mine = λ p w e small. cc; kept = λ g off. refl; eight = λ g has. cc }) leaves;
+          words = words_fit v gone page (Some (At frame)) None gets z.words z.words sound.words (record { count = refl; mine = λ p w e small. cc; kept = λ g off. refl; sized = λ g has. cc }) leaves;
           notes = notes_fit v gone page (Some (At frame)) None gets z.notes unused_note note_within sound.notes (λ used. cc) leaves;
           moves = moves_kept z.moves v.records v.room sound.moves (Unmap client address) refl (λ serial. refl) refl refl (omega arith);
         }
@@ -147,11 +148,11 @@ module _ (z : Inside) (v : ZoneState) (client : ℕ) (address : Address) (page f
         here ∙ ap (λ (s : ZoneState). without_page (noted s (Unmap client address)) page) known.view
 
     -- the fields of a zone after the last address was taken, given its frames and notes
-    abbrev last_with : Frames → List Note → Inside
+    abbrev last_with : Frames → List Note → Inside W
     last_with frames notes = record z { frames = frames; tables = tables; notes = notes; history = history }
 
     pub last_holds : (frames : Frames) (notes : List Note) → frames ≡ record z.frames { states = slice_set z.frames.states frame Free } → notes ≡ slice_set z.notes page unused_note → IsSound (last_with frames notes) (state_of (last_with frames notes)) × (state_of (last_with frames notes) ≡ gone)
     last_holds frames notes frames_are notes_are =
-        let Holds : Inside → Type 0 = λ u. IsSound u (state_of u) × (state_of u ≡ gone) in
+        let Holds : Inside W → Type 0 = λ u. IsSound u (state_of u) × (state_of u ≡ gone) in
         let same : last_with frames notes ≡ after_last z page frame tables history = λ i. last_with (frames_are i) (notes_are i) in
         subst Holds (sym same) (subst (IsSound (after_last z page frame tables history)) (sym last_view) last_sound, last_view)

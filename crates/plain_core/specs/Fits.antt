@@ -46,8 +46,8 @@ pub record EntriesFit (entries : List Entry) (v : ZoneState) : Type 0 where
 -- each word of a page in use is the value that was stored there last
 pub record WordsFit (rows : List (List ℕ)) (v : ZoneState) : Type 0 where
   pub count : length rows ≡ frame_count v
-  pub eight : (frame : ℕ) → frame < frame_count v → length (words_of rows frame) ≡ 8
-  pub each : (page : ℕ) (placement : Placement) (word : ℕ) → map.get v.placement page ≡ Some placement → word < 8 → slice_get (words_of rows (words_frame placement)) word ≡ Some (last v.records page word)
+  pub sized : (frame : ℕ) → frame < frame_count v → length (words_of rows frame) ≡ v.page_size
+  pub each : (page : ℕ) (placement : Placement) (word : ℕ) → map.get v.placement page ≡ Some placement → word < v.page_size → slice_get (words_of rows (words_frame placement)) word ≡ Some (last v.records page word)
 
 -- the note of a page in use says what the journal says of the page
 pub record NoteFits (note : Note) (v : ZoneState) (page : ℕ) : Type 0 where

@@ -1,6 +1,8 @@
 -- The records of a zone, and how its latest round began.
-use Rattle.std.specs.Prelude.{ℕ, ◌-◌, List, ◌∷◌, Option}
+use Rattle.std.specs.Prelude.{ℕ, ◌+◌, ◌-◌, List, [], ◌∷◌, Option}
+use Rattle.frame_core.specs.declared.place.Address.{Address}
 use Rattle.journal_core.specs.declared.record.Record.{Record}
+use Rattle.journal_core.specs.declared.record.Record.TheVariants.{Load, Store}
 use Rattle.state_core.specs.declared.round.RoundStart.{RoundStart}
 
 -- the journal of a zone, and its latest round
@@ -14,3 +16,13 @@ pub record History : Type 0 where
 -- a history with one more record
 abbrev pub told : History → Record → History
 told h entry = record h { records = entry ∷ h.records; room = h.room - 1 }
+
+-- a history with a load of each of these values, in the words from one on
+abbrev pub told_loads : History → ℕ → Address → ℕ → List ℕ → History
+told_loads h client address from [] = h
+told_loads h client address from (value ∷ values) = told_loads (told h (Load client address from value)) client address (from + 1) values
+
+-- a history with a store of each of these values, in the words from one on
+abbrev pub told_stores : History → ℕ → Address → ℕ → List ℕ → History
+told_stores h client address from [] = h
+told_stores h client address from (value ∷ values) = told_stores (told h (Store client address from value)) client address (from + 1) values

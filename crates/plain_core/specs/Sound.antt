@@ -1,5 +1,5 @@
 -- What contracts see of the fields of a zone, and what is true of them.
-use Rattle.std.specs.Prelude.{◌≡◌, length}
+use Rattle.std.specs.Prelude.{◌≡◌, ℕ, length}
 use Rattle.plain_core.specs.declared.plain.PlainZone.TheInside.{Inside}
 use Rattle.state_core.specs.ZoneState.{ZoneState, frame_count}
 use Rattle.state_core.specs.Lawful.{IsLawful}
@@ -11,10 +11,11 @@ use Rattle.scan_core.specs.NumberSet.{gathered}
 use Rattle.plain_core.specs.Tabulated.{tabulated}
 
 -- the state that contracts see, read off the fields
-abbrev pub state_of : Inside → ZoneState
-state_of z = record {
+abbrev pub state_of : {W : ℕ} → Inside W → ZoneState
+state_of {W} z = record {
   number = z.number;
   blocks = z.blocks;
+  page_size = W;
   records = z.history.records;
   room = z.history.room;
   unmovable = gathered (is_unmovable_of z.notes) (length z.notes);
@@ -27,7 +28,7 @@ state_of z = record {
 }
 
 -- the state is lawful, and each field stands for its part of it
-pub record IsSound (z : Inside) (v : ZoneState) : Type 0 where
+pub record IsSound {W : ℕ} (z : Inside W) (v : ZoneState) : Type 0 where
   pub lawful : IsLawful v
   pub orders : length z.handed_out ≡ frame_count v
   pub frames : FramesFit z.frames.states v

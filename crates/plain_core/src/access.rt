@@ -10,12 +10,12 @@ ghost use Rattle.state_core.specs.ZoneState.{has_room, placement_at};
 ghost use Rattle.state_core.specs.declared.placement.Placement.TheVariants.{At};
 
 use crate::plain::PlainZone;
-use frame_core::{Address, ClientNo, FrameNo, WordNo};
+use frame_core::{Address, ClientNo, FrameNo, WordOf};
 use journal_core::Record;
 use state_core::ZoneError;
 use table_core::Entry;
 
-impl PlainZone {
+impl<const W: usize> PlainZone<W> {
     /// Whether the journal has room for a call.
     pub fn has_room(&self) -> bool
         ensures { result ≡ has_room self.now }
@@ -45,18 +45,24 @@ impl PlainZone {
     }
 
     /// Reads a word of the page that an address names.
-    pub fn read(&mut self, client: ClientNo, address: Address, frame: FrameNo, word: WordNo) -> u64
+    pub fn read(
+        &mut self,
+        client: ClientNo,
+        address: Address,
+        frame: FrameNo,
+        word: WordOf<W>,
+    ) -> u64
         requires room { IsTrue (has_room self.old) }
         requires frame { placement_at self.old address ≡ Some (At frame) }
-        ensures value { result ≡ value_at self.old address word }
-        ensures step { self.new ≡ loaded self.old client address word }
+        ensures value { result ≡ value_at self.old address word.entry }
+        ensures step { self.new ≡ loaded self.old client address word.entry }
         ensures lawful { IsLawful self.new }
     {
         let value = self.words.load(frame, word);
         self.history.note(Record::Load {
             client,
             address,
-            word,
+            word: word.noted(),
             value,
         });
         value
@@ -68,12 +74,12 @@ impl PlainZone {
         client: ClientNo,
         address: Address,
         frame: FrameNo,
-        word: WordNo,
+        word: WordOf<W>,
         value: u64,
     )
         requires room { IsTrue (has_room self.old) }
         requires frame { placement_at self.old address ≡ Some (At frame) }
-        ensures step { self.new ≡ stored self.old client address word value }
+        ensures step { self.new ≡ stored self.old client address word.entry value }
         ensures lawful { IsLawful self.new }
     {
         let Some(page) = self.holder(frame) else {
@@ -85,7 +91,7 @@ impl PlainZone {
         self.history.note(Record::Store {
             client,
             address,
-            word,
+            word: word.noted(),
             value,
         });
     }

@@ -14,7 +14,7 @@ use crate::plain::PlainZone;
 use frame_core::{FrameNo, PageNo, Serial};
 use journal_core::{Cause, Record};
 use state_core::{Audit, Placement};
-use word_core::Page;
+use word_core::PageOf;
 
 /// A moving page, with its serial and its two frames.
 #[derive(Clone, Copy)]
@@ -25,10 +25,10 @@ pub struct Way {
     pub target: FrameNo,
 }
 
-impl PlainZone {
+impl<const W: usize> PlainZone<W> {
     /// The move of a page, if the page is of this zone and is moving under this serial.
     #[inline(always)]
-    pub fn way_of(&self, serial: Serial, page: &Page) -> Option<Way>
+    pub fn way_of(&self, serial: Serial, page: &PageOf<W>) -> Option<Way>
         ensures own { IsSome result ↔ IsTrue (is_own self.now (record { serial = serial; page = page.now })) }
         ensures named { IfSome result (λ way. (way.page ≡ page.now.number) × (way.serial ≡ serial)) }
         ensures placed { IfSome result (λ way. map.get self.now.placement way.page ≡ Some (Moving way.serial way.source way.target)) }
@@ -56,7 +56,7 @@ impl PlainZone {
     }
 
     /// Whether a moving page has the words of this one.
-    pub fn has_words(&self, way: &Way, page: &Page) -> bool
+    pub fn has_words(&self, way: &Way, page: &PageOf<W>) -> bool
         requires { map.get self.now.placement way.now.page ≡ Some (Moving way.now.serial way.now.source way.now.target) }
         ensures { IsTrue result ↔ (page.now.words ≡ words_now self.now way.now.page) }
     {
@@ -73,7 +73,7 @@ impl PlainZone {
 
     /// Ends a move: the page is in its target, with the words of its copy.
     #[inline(always)]
-    pub fn arrive(&mut self, way: &Way, copy: &Page)
+    pub fn arrive(&mut self, way: &Way, copy: &PageOf<W>)
         requires placed { map.get self.old.placement way.now.page ≡ Some (Moving way.now.serial way.now.source way.now.target) }
         requires unpinned { pins self.old.records way.now.page ≡ 0 }
         requires words { copy.now.words ≡ words_now self.old way.now.page }

@@ -10,7 +10,7 @@ use crate::plain::PlainZone;
 use frame_core::{FrameNo, Order};
 use journal_core::Record;
 
-impl PlainZone {
+impl<const W: usize> PlainZone<W> {
     /// Whether a block of this order may begin at a frame: it is aligned, and all of it is in the zone.
     pub fn has_block(&self, first: FrameNo, order: Order) -> bool
         ensures { result ≡ has_block self.now order first }

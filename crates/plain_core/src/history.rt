@@ -1,9 +1,10 @@
 //! The journal of a zone, and whether its latest round is quiet.
 
-ghost use Rattle.std.specs.Prelude.{◌≡◌, ◌<◌, ◌≤◌, [], length, None, Some, IfOk};
-ghost use Rattle.plain_core.specs.History.{told};
+ghost use Rattle.std.specs.Prelude.{◌≡◌, ◌+◌, ◌<◌, ◌≤◌, [], length, None, Some, IfOk};
+ghost use Rattle.plain_core.specs.History.{told, told_loads, told_stores};
 ghost use Rattle.state_core.specs.ZoneState.{keeps_quiet, is_quiet_since};
 
+use frame_core::{Address, ClientNo};
 use journal_core::{Journal, Record};
 use state_core::RoundStart;
 use std::alloc::{AllocError, Global};
@@ -72,6 +73,38 @@ impl History {
     {
         self.quiet = self.quiet && keeps_quiet(&entry);
         self.journal.push(entry);
+    }
+
+    /// Notes a load of each of these values, in the words from one on.
+    pub fn note_loads(&mut self, client: ClientNo, address: &Address, from: u16, values: &[u64])
+        requires room { length values.now ≤ self.old.room }
+        requires words { from + length values.now ≤ 65536 }
+        ensures { self.new ≡ told_loads self.old client address.now from values.now }
+    {
+        for offset in 0..values.len() {
+            self.note(Record::Load {
+                client,
+                address: *address,
+                word: from + offset as u16,
+                value: values[offset],
+            });
+        }
+    }
+
+    /// Notes a store of each of these values, in the words from one on.
+    pub fn note_stores(&mut self, client: ClientNo, address: &Address, from: u16, values: &[u64])
+        requires room { length values.now ≤ self.old.room }
+        requires words { from + length values.now ≤ 65536 }
+        ensures { self.new ≡ told_stores self.old client address.now from values.now }
+    {
+        for offset in 0..values.len() {
+            self.note(Record::Store {
+                client,
+                address: *address,
+                word: from + offset as u16,
+                value: values[offset],
+            });
+        }
     }
 
     /// Notes that a round begins, calm or not.

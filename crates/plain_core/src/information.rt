@@ -12,9 +12,9 @@ use journal_core::Journal;
 use scan_core::Frames;
 use state_core::Info;
 use table_core::Tables;
-use word_core::Words;
+use word_core::WordsOf;
 
-impl PlainZone {
+impl<const W: usize> PlainZone<W> {
     /// The counts of the zone.
     pub fn info(&self) -> Info
         ensures counts { result ≡ info_of self.now }
@@ -71,7 +71,7 @@ impl PlainZone {
 
     /// The words of each frame. The frame in which a page stands has the words of this page; while a page is moving, the one
     /// that it left has them.
-    pub fn words(&self) -> &Words
+    pub fn words(&self) -> &WordsOf<W>
         ensures words { WordsFit result.now self.now }
         ensures frames { length result.now ≡ frame_count self.now }
     {

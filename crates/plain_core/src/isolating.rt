@@ -17,9 +17,9 @@ use frame_core::{FrameNo, FrameState, PageFlags, PageNo};
 use journal_core::Record;
 use scan_core::{Fingers, Step};
 use state_core::{Pair, Placement};
-use word_core::Isolated;
+use word_core::IsolatedOf;
 
-impl PlainZone {
+impl<const W: usize> PlainZone<W> {
     /// The page that a frame holds, if it holds one that isn't moving.
     pub fn holder(&self, frame: FrameNo) -> Option<PageNo>
         requires { frame < frame_count self.now }
@@ -62,7 +62,7 @@ impl PlainZone {
 
     /// Isolates the page of the next pair under the next serial.
     #[inline(always)]
-    pub fn isolate(&mut self, pair: Pair) -> Isolated
+    pub fn isolate(&mut self, pair: Pair) -> IsolatedOf<W>
         requires pair { IsPair self.old pair.page pair.source pair.target }
         requires room { length (out self.old.records) + 1 < self.old.room }
         ensures page { result ≡ record { serial = isolated self.old.records; page = page_now self.old pair.page } }
@@ -89,7 +89,7 @@ impl PlainZone {
         self.fingers.free = target.get();
         self.history.note(Record::Isolate { serial, page });
         let carried = self.words.read_out(source, self.number, page, flags);
-        Isolated::new(serial, carried)
+        IsolatedOf::new(serial, carried)
     }
 
     /// Whether a round that begins now is calm.

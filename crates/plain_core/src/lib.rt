@@ -1,11 +1,12 @@
 //! The tables of a zone, without the ledgers that name its opening: frames, entries, words, notes, moves, blocks that are
 //! handed out, and the journal with its latest round. Each is a type that keeps its own counts.
 //!
-//! Contracts see a `PlainZone` as the state of `state_core`. Its methods are the tests and the steps that the calls of a
+//! Contracts see a `PlainZone`, with pages of any size, as the state of `state_core`. Its methods are the tests and the steps that the calls of a
 //! zone consist of. `specs/Fits.antt` says how each table stands for the state.
 #![tactic(auto)]
 
 mod access;
+mod bulk;
 mod ending;
 mod handed_out;
 mod handing_out;

@@ -21,7 +21,7 @@ pub struct Uses {
     pub maps: u8,
 }
 
-impl PlainZone {
+impl<const W: usize> PlainZone<W> {
     /// The page that an address names, if it names one. The page may be moving.
     pub fn page_named(&self, address: &Address) -> Option<PageNo>
         ensures page { result ≡ page_at self.now.records address.now }

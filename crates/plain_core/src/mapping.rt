@@ -12,7 +12,7 @@ use frame_core::{Address, ClientNo, FrameNo, PageNo};
 use journal_core::Record;
 use table_core::Entry;
 
-impl PlainZone {
+impl<const W: usize> PlainZone<W> {
     /// Whether an address names a page.
     pub fn names_page(&self, address: &Address) -> bool
         ensures { result ≡ is_some (page_at self.now.records address.now) }

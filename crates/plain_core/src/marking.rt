@@ -10,7 +10,7 @@ use crate::plain::PlainZone;
 use frame_core::BlockNo;
 use journal_core::Record;
 
-impl PlainZone {
+impl<const W: usize> PlainZone<W> {
     /// Whether the zone has a pageblock.
     pub fn has_pageblock(&self, block: BlockNo) -> bool
         ensures { result ≡ nat_lt block self.now.blocks }

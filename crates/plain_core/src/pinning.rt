@@ -16,7 +16,7 @@ use journal_core::Record;
 use scan_core::Frames;
 use state_core::Placement;
 
-impl PlainZone {
+impl<const W: usize> PlainZone<W> {
     /// Pins the page that an address names.
     pub fn pin(&mut self, client: ClientNo, address: Address)
         requires room { IsTrue (has_room self.old) }

@@ -8,16 +8,16 @@ use frame_core::ZoneNo;
 use scan_core::{Fingers, Frames};
 use std::marker::Model;
 use table_core::Tables;
-use word_core::Words;
+use word_core::WordsOf;
 
-/// A zone without the ledgers that name its opening.
+/// A zone of pages of `W` words, without the ledgers that name its opening.
 #[derive(Drop)]
-pub struct PlainZone {
+pub struct PlainZone<const W: usize> {
     pub(crate) number: ZoneNo,
     pub(crate) blocks: u32,
     pub(crate) frames: Frames,
     pub(crate) tables: Tables,
-    pub(crate) words: Words,
+    pub(crate) words: WordsOf<W>,
     pub(crate) notes: Notes,
     pub(crate) moves: Moves,
     pub(crate) handed_out: HandedOut,
@@ -26,17 +26,13 @@ pub struct PlainZone {
     pub(crate) history: History,
 }
 
-impl Model for PlainZone {
+impl<const W: usize> Model for PlainZone<W> {
     ghost use Rattle.state_core.specs.ZoneState.{ZoneState};
-    ghost use Rattle.std.specs.Coded.{codes, coded_ℕ};
-    ghost use Rattle.std.specs.FinMap as map;
-    ghost use Rattle.std.specs.FinSet as set;
-    ghost use Rattle.std.specs.Ordering.{nat_cmp};
-    ghost use Rattle.state_core.specs.contracts.placement.Placement as placement;
+    ghost use Rattle.state_core.specs.ZoneCode.{coded_zone};
 
     ghost Value = { ZoneState };
 
-    ghost coded = { Prim.hlevel (codes, set.code {R = nat_cmp} coded_ℕ, map.code {R = nat_cmp} coded_ℕ coded_ℕ, map.code {R = nat_cmp} coded_ℕ placement.the_row.coded) };
+    ghost coded = { coded_zone };
 
     ghost use Rattle.plain_core.specs.Sound.{state_of, IsSound};
 

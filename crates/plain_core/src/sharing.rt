@@ -11,7 +11,7 @@ use crate::plain::PlainZone;
 use frame_core::{Address, ClientNo, FrameNo};
 use journal_core::Record;
 
-impl PlainZone {
+impl<const W: usize> PlainZone<W> {
     /// Makes an alias name the page of an address too.
     pub fn share(&mut self, client: ClientNo, address: Address, alias: Address, frame: FrameNo)
         requires room { IsTrue (has_room self.old) }

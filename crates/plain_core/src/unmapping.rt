@@ -14,7 +14,7 @@ use crate::plain::PlainZone;
 use frame_core::{Address, ClientNo, FrameNo, PageNo};
 use journal_core::Record;
 
-impl PlainZone {
+impl<const W: usize> PlainZone<W> {
     /// Makes an address name no page any more. A page that has no address left isn't in use.
     pub fn unmap(&mut self, client: ClientNo, address: Address, frame: FrameNo)
         requires room { IsTrue (has_room self.old) }

@@ -21,14 +21,14 @@ pub struct Room<K: Keeping, I: Ledger, M: Ledger, B: Ledger> {
 }
 
 impl<K: Keeping, I: Ledger, M: Ledger, B: Ledger> Model for Room<K, I, M, B> {
-    ghost use Rattle.plain_core.specs.contracts.plain.PlainZone as plain_zone;
+    ghost use Rattle.state_core.specs.ZoneCode.{coded_zone};
     ghost use Rattle.state_core.specs.Lawful.{IsLawful};
     ghost use Rattle.state_core.specs.ZoneState.{ZoneState};
     ghost use Rattle.zone_core.specs.Shape.{HasShape};
 
     ghost Value = { ZoneState };
 
-    ghost coded = { plain_zone.the_row.coded };
+    ghost coded = { coded_zone };
 
     ghost view = { λ r. r.zone };
 

@@ -44,12 +44,12 @@ pub(crate) struct Threaded<I: Ledger, N: Ledger, M: Ledger, B: Ledger> {
 
 impl<I: Ledger, N: Ledger, M: Ledger, B: Ledger> Model for Threaded<I, N, M, B> {
     ghost use Rattle.std.specs.Coded.{codes};
-    ghost use Rattle.plain_core.specs.contracts.plain.PlainZone as plain_zone;
+    ghost use Rattle.state_core.specs.ZoneCode.{coded_zone};
     ghost use Rattle.script_core.specs.Threaded.{Threaded as Seen};
 
     ghost Value = { Seen };
 
-    ghost coded = { Prim.hlevel (codes, plain_zone.the_row.coded) };
+    ghost coded = { Prim.hlevel (codes, coded_zone) };
 
     ghost view = { λ t. record { single = t.machine; broken = t.broken; client = t.client } };
 }

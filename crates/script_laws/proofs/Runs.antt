@@ -84,4 +84,4 @@ module _ (places : ℕ) where
 
 pub opened_orderly : (zone blocks places : ℕ) → (0 < blocks) × (blocks ≤ 8) → (0 < places) × (places ≤ 65536) → IsOrderly (world_opened zone blocks places)
 opened_orderly zone blocks places b p =
-    (carried_closed (opened zone blocks places) fresh_scan_seat fresh_end_seat (opened_lawful zone blocks places (b.0, b.1, p.0, p.1)) refl (λ serial. refl) (256 * blocks) refl).orderly
+    (carried_closed (opened zone blocks places) fresh_scan_seat fresh_end_seat (opened_lawful 8 zone blocks places (b.0, b.1, p.0, p.1)) refl (λ serial. refl) (256 * blocks) refl).orderly

@@ -1,6 +1,7 @@
 -- What a call of the zone leaves unchanged of the moving pages.
-use Rattle.std.proofs.Common.{◌≡◌, ◌≢◌, ℕ, Bool, true, false, [], ◌∷◌, refl, sym, ap, ◌∙◌, Option, Some, None, map as each, nat_eq, ◌&&◌, if◌then◌else◌}
+use Rattle.std.proofs.Common.{◌≡◌, ◌≢◌, ℕ, Bool, true, false, ◌∷◌, refl, sym, ap, ◌∙◌, Option, Some, None, map as each, nat_eq, ◌&&◌, if◌then◌else◌}
 use Rattle.std.specs.Prelude.{unwrap_or}
+use Rattle.std.specs.List.{range_with_len}
 use Rattle.std.specs.FinMap as map
 use Rattle.std.proofs.lemmas.Bool.{and_parts, and_from, both_ways, eq-eqb, eqb-true, ne_eqb}
 use Rattle.frame_core.specs.declared.place.Address.{Address}
@@ -45,10 +46,10 @@ pub own_page : (z : ZoneState) → IsLawful z → (p : OnItsWay) → is_own z p 
 own_page z law p own = ((law.under_way p.page.number p.serial).0 (own_under z p own)).1
 
 -- a copy stays one of the zone where the placement and the words of its page stay
-own_kept : (z next : ZoneState) (p : OnItsWay) → next.number ≡ z.number → map.get next.placement p.page.number ≡ map.get z.placement p.page.number → ((w : ℕ) → last next.records p.page.number w ≡ last z.records p.page.number w) → IsOwnCopy z p → IsOwnCopy next p
-own_kept z next p number placement words own = record {
+own_kept : (z next : ZoneState) (p : OnItsWay) → next.number ≡ z.number → next.page_size ≡ z.page_size → map.get next.placement p.page.number ≡ map.get z.placement p.page.number → ((w : ℕ) → last next.records p.page.number w ≡ last z.records p.page.number w) → IsOwnCopy z p → IsOwnCopy next p
+own_kept z next p number size placement words own = record {
   own = (λ i. nat_eq p.page.zone (number i) && is_under (placement i) p.serial) ∙ own.own;
-  same = own.same ∙ sym (λ i. each (λ w. words w i) (0 ∷ 1 ∷ 2 ∷ 3 ∷ 4 ∷ 5 ∷ 6 ∷ 7 ∷ []));
+  same = own.same ∙ sym (λ i. each (λ w. words w i) (range_with_len 0 (size i)));
 }
 
 pub own_begun : (z : ZoneState) (p : OnItsWay) → IsOwnCopy z p → IsOwnCopy (round_begun z) p
@@ -96,7 +97,7 @@ own_unmapped z client address frame at p own = by_last (is_last z address) where
   named = ap (λ (o : Option ℕ). unwrap_or o 0) page.1
 
   by_last : (b : Bool) → IsOwnCopy (if b then without_page (noted z (Unmap client address)) (unwrap_or (page_at z.records address) 0) else noted z (Unmap client address)) p
-  by_last true = own_kept z _ p refl (get_remove_other z.placement _ p.page.number (λ same. apart_from z page.0 _ p page.2 refl own.own (same ∙ named))) (λ w. refl) own
+  by_last true = own_kept z _ p refl refl (get_remove_other z.placement _ p.page.number (λ same. apart_from z page.0 _ p page.2 refl own.own (same ∙ named))) (λ w. refl) own
   by_last false = record { own = own.own; same = own.same }
 
 pub own_stored : (z : ZoneState) (client : ℕ) (address : Address) (word value frame : ℕ) → placement_at z address ≡ Some (At frame) → (p : OnItsWay) → IsOwnCopy z p → IsOwnCopy (stored z client address word value) p
@@ -104,12 +105,12 @@ own_stored z client address word value frame at p own =
     let page = page_named z address (At frame) at in
     let unnamed : names z.records address p.page.number ≡ false =
     ap (λ (o : Option ℕ). is_page o p.page.number) page.1 ∙ ne_eqb page.0 p.page.number (λ same. apart_from z page.0 _ p page.2 refl own.own (sym same)) in
-    own_kept z (stored z client address word value) p refl refl (λ w. ap (λ b. if b && nat_eq word w then value else last z.records p.page.number w) unnamed) own
+    own_kept z (stored z client address word value) p refl refl refl (λ w. ap (λ b. if b && nat_eq word w then value else last z.records p.page.number w) unnamed) own
 
 pub own_placed : (z : ZoneState) (client : ℕ) (address : Address) (unmovable : Bool) (page frame : ℕ) → map.get z.placement page ≡ None → (p : OnItsWay) → IsOwnCopy z p → IsOwnCopy (placed z client address unmovable page frame) p
 own_placed z client address unmovable page frame unused p own =
     let ne = apart_from z page _ p unused refl own.own in
-    own_kept z (placed z client address unmovable page frame) p refl
+    own_kept z (placed z client address unmovable page frame) p refl refl
     (get_insert_other z.placement page p.page.number (At frame) ne)
     (λ w. skipped (nat_eq page p.page.number) 0 (last z.records p.page.number w) (ne_eqb page p.page.number (λ same. ne (sym same))))
     own
@@ -117,7 +118,7 @@ own_placed z client address unmovable page frame unused p own =
 -- a copy stays one of the zone when another page is isolated
 pub own_isolated : (z : ZoneState) (pair : Pair) (frame : ℕ) → map.get z.placement pair.page ≡ Some (At frame) → (p : OnItsWay) → IsOwnCopy z p → IsOwnCopy (isolated_next z pair) p
 own_isolated z pair frame at p own =
-    own_kept z (isolated_next z pair) p refl
+    own_kept z (isolated_next z pair) p refl refl
     (get_insert_other z.placement pair.page p.page.number _ (apart_from z pair.page _ p at refl own.own))
     (λ w. refl) own
 
@@ -132,7 +133,7 @@ own_fresh z pair = record {
 -- a copy stays one of the zone when another page's move ends
 own_ended : (z : ZoneState) (entry : Record) (q : OnItsWay) (frame : ℕ) (p : OnItsWay) → is_own z q ≡ true → q.serial ≢ p.serial → ((w : ℕ) → last (entry ∷ z.records) p.page.number w ≡ last z.records p.page.number w) → IsOwnCopy z p → IsOwnCopy (relocated z entry q.page.number (At frame)) p
 own_ended z entry q frame p own_q ne words own =
-    own_kept z (relocated z entry q.page.number (At frame)) p refl
+    own_kept z (relocated z entry q.page.number (At frame)) p refl refl
     (get_insert_other z.placement q.page.number p.page.number (At frame) (serials_apart z p q own.own own_q ne))
     words own
 

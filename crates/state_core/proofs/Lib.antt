@@ -1,4 +1,5 @@
 pub mod Accessed
+pub mod Bulk
 pub mod Carried
 pub mod Ending
 pub mod Entries

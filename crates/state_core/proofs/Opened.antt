@@ -8,13 +8,13 @@ use Rattle.std.proofs.lemmas.Option.{none-some}
 use Rattle.frame_core.proofs.Searches.{count_all, count_none, none_some}
 use Rattle.frame_core.specs.Below.{count_below}
 use Rattle.state_core.specs.declared.placement.Placement.{Placement}
-use Rattle.state_core.specs.Opening.{opened, IsOpenable}
+use Rattle.state_core.specs.Opening.{opened_with, IsOpenable}
 use Rattle.state_core.specs.Lawful.{IsLawful, is_under}
 use Rattle.state_core.specs.ZoneState.{ZoneState, frame_count, takes_up, covers, is_held, is_free}
 
-module _ (number blocks places : ℕ) where
+module _ (words number blocks places : ℕ) where
   abbrev new_zone : ZoneState
-  new_zone = opened number blocks places
+  new_zone = opened_with words number blocks places
 
   no_page : (page : ℕ) → map.get new_zone.placement page ≡ None
   no_page page = map.get-empty nat_cmp page

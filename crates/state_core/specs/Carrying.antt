@@ -1,5 +1,6 @@
 -- A page with its flags and words, and the step that changes where a page in use is.
-use Rattle.std.specs.Prelude.{ℕ, List, ◌∷◌, [], map as each}
+use Rattle.std.specs.Prelude.{ℕ, List, map as each}
+use Rattle.std.specs.List.{range_with_len}
 use Rattle.std.specs.FinMap as map
 use Rattle.std.specs.FinSet as set
 use Rattle.frame_core.specs.declared.flags.PageFlags.{PageFlags}
@@ -14,9 +15,9 @@ use Rattle.state_core.specs.ZoneState.{ZoneState, noted}
 abbrev pub flags_of : ZoneState → ℕ → PageFlags
 flags_of z page = page_flags (set.contains z.unmovable page) (dirty z.records page)
 
--- the last values of the eight words of a page
+-- the last values of the words of a page
 abbrev pub words_now : ZoneState → ℕ → List ℕ
-words_now z page = each (last z.records page) (0 ∷ 1 ∷ 2 ∷ 3 ∷ 4 ∷ 5 ∷ 6 ∷ 7 ∷ [])
+words_now z page = each (last z.records page) (range_with_len 0 z.page_size)
 
 -- a page with its flags and words, as it is carried between frames
 abbrev pub page_now : ZoneState → ℕ → Page

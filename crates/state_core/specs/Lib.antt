@@ -1,4 +1,5 @@
 pub mod Access
+pub mod Bulk
 pub mod Carrying
 pub mod Clear
 pub mod Ending
@@ -18,3 +19,4 @@ pub mod Sharing
 pub mod Swept
 pub mod Unmapping
 pub mod ZoneState
+pub mod ZoneCode

@@ -8,11 +8,12 @@ use Rattle.std.specs.FinSet as set
 abbrev pub IsOpenable : ℕ → ℕ → Type 0
 IsOpenable blocks places = (0 < blocks) × (blocks ≤ 8) × (0 < places) × (places ≤ 65536)
 
--- a zone that was just opened: it has no page, no record and no block handed out
-abbrev pub opened : ℕ → ℕ → ℕ → ZoneState
-opened number blocks places = record {
+-- a zone that was just opened, with this many words in a page: it has no page, no record and no block handed out
+abbrev pub opened_with : ℕ → ℕ → ℕ → ℕ → ZoneState
+opened_with size number blocks places = record {
   number = number;
   blocks = blocks;
+  page_size = size;
   records = [];
   room = places;
   unmovable = set.empty;
@@ -23,3 +24,7 @@ opened number blocks places = record {
   free = 0;
   round = None;
 }
+
+-- a zone that was just opened, with eight words in a page
+abbrev pub opened : ℕ → ℕ → ℕ → ZoneState
+opened number blocks places = opened_with 8 number blocks places

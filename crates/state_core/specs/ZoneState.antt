@@ -21,6 +21,8 @@ pub record ZoneState : Type 0 where
   pub number : ℕ
   -- how many pageblocks it has
   pub blocks : ℕ
+  -- how many words a page has
+  pub page_size : ℕ
   -- the journal, the newest record first
   pub records : List Record
   -- the number of places that are left in the journal

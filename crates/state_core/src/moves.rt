@@ -3,9 +3,9 @@ use word_core::Isolated;
 
 /// What the scanner found.
 #[derive(Drop, Debug)]
-pub enum Next {
+pub enum Next<P = Isolated> {
     /// A page, which is isolated now and has to be brought back.
-    Page(Isolated),
+    Page(P),
     /// The scanners met: no pair is left between the fingers.
     Met,
 }

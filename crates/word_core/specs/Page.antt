@@ -9,13 +9,13 @@ pub record Page : Type 0 where
   pub flags : PageFlags
   pub words : List ℕ
 
--- the words of a page that nothing was stored to: eight zeros
-abbrev pub blank_words : List ℕ
-blank_words = replicate 8 0
+-- the words of a page of so many words that nothing was stored to: zeros
+abbrev pub blank_words : ℕ → List ℕ
+blank_words size = replicate size 0
 
--- a page with no flags, and all its words 0
-abbrev pub blank_page : ℕ → ℕ → Page
-blank_page zone number = record { zone = zone; number = number; flags = record { 0 = 0 }; words = blank_words }
+-- a page of so many words, with no flags, and all its words 0
+abbrev pub blank_page : ℕ → ℕ → ℕ → Page
+blank_page size zone number = record { zone = zone; number = number; flags = record { 0 = 0 }; words = blank_words size }
 
 -- an isolated page, under the serial that its zone gave it
 pub record OnItsWay : Type 0 where
@@ -23,5 +23,5 @@ pub record OnItsWay : Type 0 where
   pub page : Page
 
 -- a blank isolated page, or a blank copy: the blank page 0 of zone 0, under the serial 0
-abbrev pub blank_on_its_way : OnItsWay
-blank_on_its_way = record { serial = 0; page = blank_page 0 0 }
+abbrev pub blank_on_its_way : ℕ → OnItsWay
+blank_on_its_way size = record { serial = 0; page = blank_page size 0 0 }

@@ -1,5 +1,5 @@
--- The words of the frames: a row of eight words for each frame.
-use Rattle.std.specs.Prelude.{ℕ, List, [], slice_get, slice_index, slice_set, unwrap_or}
+-- The words of the frames: a row for each frame.
+use Rattle.std.specs.Prelude.{ℕ, List, [], ◌+◌, ◌++◌, take, drop, length, slice_get, slice_index, slice_set, unwrap_or}
 
 -- the words of a frame
 abbrev pub words_of : List (List ℕ) → ℕ → List ℕ
@@ -8,6 +8,14 @@ words_of rows frame = unwrap_or (slice_get rows frame) []
 -- one word of a frame
 abbrev pub word_of : List (List ℕ) → ℕ → ℕ → ℕ
 word_of rows frame word = slice_index (words_of rows frame) word
+
+-- this many words of a frame, from one on
+abbrev pub words_from : List (List ℕ) → ℕ → ℕ → ℕ → List ℕ
+words_from rows frame from count = take count (drop from (words_of rows frame))
+
+-- the words of a frame where these values stand from one word on, and each other word stays
+abbrev pub put_from : List ℕ → ℕ → List ℕ → List ℕ
+put_from row from values = take from row ++ values ++ drop (from + length values) row
 
 -- the frame has these words now, and each other frame keeps its own
 abbrev pub with_words : List (List ℕ) → ℕ → List ℕ → List (List ℕ)

@@ -7,12 +7,12 @@ use std::marker::Model;
 
 /// An isolated page that was copied and is ready for its new frame.
 #[derive(Drop, Debug)]
-pub struct Copied {
-    pub(crate) page: Page,
+pub struct Copied<const W: usize> {
+    pub(crate) page: Page<W>,
     pub(crate) serial: Serial,
 }
 
-impl Model for Copied {
+impl<const W: usize> Model for Copied<W> {
     ghost use Rattle.word_core.specs.Page.{OnItsWay};
 
     ghost Value = { OnItsWay };
@@ -21,17 +21,17 @@ impl Model for Copied {
 }
 
 /// A copy of a blank page, under the serial 0. It fills the empty places of a list whose capacity is fixed.
-impl Default for Copied {
+impl<const W: usize> Default for Copied<W> {
     ghost use Rattle.word_core.specs.Page.{blank_on_its_way};
 
-    ghost is_default = { λ p. p ≡ blank_on_its_way };
+    ghost is_default = { λ p. p ≡ blank_on_its_way W };
 
     fn default() -> Self {
         Isolated::default().copy_into_new()
     }
 }
 
-impl Copied {
+impl<const W: usize> Copied<W> {
     /// The serial that its zone gave it.
     pub fn serial(&self) -> Serial
         ensures { result ≡ self.now.serial }
@@ -47,15 +47,15 @@ impl Copied {
     }
 
     /// The page, with its words.
-    pub fn page(&self) -> &Page
+    pub fn page(&self) -> &Page<W>
         ensures { result.now ≡ self.now.page }
     {
         &self.page
     }
 
     /// The page, without its serial.
-    pub fn into_page(self) -> Page
-        ensures { result ≡ self.page }
+    pub fn into_page(self) -> Page<W>
+        ensures { result ≡ self.entry.page }
     {
         self.page
     }

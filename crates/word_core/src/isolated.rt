@@ -7,12 +7,12 @@ use std::marker::Model;
 
 /// A page that was taken from its frame, under the serial that its zone gave it.
 #[derive(Drop, Debug)]
-pub struct Isolated {
-    page: Page,
+pub struct Isolated<const W: usize> {
+    page: Page<W>,
     serial: Serial,
 }
 
-impl Model for Isolated {
+impl<const W: usize> Model for Isolated<W> {
     ghost use Rattle.word_core.specs.Page.{OnItsWay};
 
     ghost Value = { OnItsWay };
@@ -21,22 +21,22 @@ impl Model for Isolated {
 }
 
 /// A blank page, under the serial 0. It fills the empty places of a list whose capacity is fixed.
-impl Default for Isolated {
+impl<const W: usize> Default for Isolated<W> {
     ghost use Rattle.word_core.specs.Page.{blank_on_its_way};
 
-    ghost is_default = { λ p. p ≡ blank_on_its_way };
+    ghost is_default = { λ p. p ≡ blank_on_its_way W };
 
     fn default() -> Self {
         Isolated::new(0, Page::default())
     }
 }
 
-impl Isolated {
+impl<const W: usize> Isolated<W> {
     /// A page under a serial. A zone takes it only where it has isolated the page with this number under this serial. Else
     /// it hands the page back as a `Stranger`.
-    pub fn new(serial: Serial, page: Page) -> Self
+    pub fn new(serial: Serial, page: Page<W>) -> Self
         ensures serial { result.serial ≡ serial }
-        ensures page { result.page ≡ page }
+        ensures page { result.page ≡ page.entry }
     {
         Isolated { serial, page }
     }
@@ -56,15 +56,15 @@ impl Isolated {
     }
 
     /// The page, with its words.
-    pub fn page(&self) -> &Page
+    pub fn page(&self) -> &Page<W>
         ensures { result.now ≡ self.now.page }
     {
         &self.page
     }
 
     /// Copies the flags and each word into a new page, under the same serial.
-    pub fn copy_into_new(self) -> Copied
-        ensures { result ≡ self }
+    pub fn copy_into_new(self) -> Copied<W>
+        ensures { result ≡ self.entry }
     {
         Copied {
             serial: self.serial,
@@ -73,8 +73,8 @@ impl Isolated {
     }
 
     /// The page, without its serial.
-    pub fn into_page(self) -> Page
-        ensures { result ≡ self.page }
+    pub fn into_page(self) -> Page<W>
+        ensures { result ≡ self.entry.page }
     {
         self.page
     }

@@ -9,7 +9,19 @@ mod isolated;
 mod page;
 mod words;
 
-pub use copied::Copied;
-pub use isolated::Isolated;
-pub use page::Page;
-pub use words::Words;
+pub use copied::Copied as CopiedOf;
+pub use isolated::Isolated as IsolatedOf;
+pub use page::Page as PageOf;
+pub use words::Words as WordsOf;
+
+/// A page of eight words.
+pub type Page = PageOf<8>;
+
+/// An isolated page of eight words.
+pub type Isolated = IsolatedOf<8>;
+
+/// An isolated page of eight words that was copied.
+pub type Copied = CopiedOf<8>;
+
+/// The words of frames of eight each.
+pub type Words = WordsOf<8>;

@@ -1,17 +1,17 @@
 use bitflags::Flags;
-use frame_core::{PageFlags, PageNo, WordNo, ZoneNo};
+use frame_core::{PageFlags, PageNo, WordOf, ZoneNo};
 use std::marker::Model;
 
-/// A page of a zone: its number, its flags and its eight words.
+/// A page of a zone, of `W` words: its number, its flags and its words.
 #[derive(Drop, Debug)]
-pub struct Page {
-    words: [u64; 8],
+pub struct Page<const W: usize> {
+    words: [u64; W],
     number: PageNo,
     zone: ZoneNo,
     flags: PageFlags,
 }
 
-impl Model for Page {
+impl<const W: usize> Model for Page<W> {
     ghost use Rattle.std.specs.Prelude.{◌≡◌, length};
     ghost use Rattle.word_core.specs.Page.{Page as Seen};
 
@@ -19,16 +19,16 @@ impl Model for Page {
 
     ghost view = { λ p. record { zone = p.zone; number = p.number; flags = p.flags; words = p.words } };
 
-    ghost invariant = { λ p. length p.words ≡ 8 };
+    ghost invariant = { λ p. length p.words ≡ W };
 }
 
 /// A blank page: page 0 of zone 0, with no flags, and all its words 0. It fills the empty places of a list whose capacity
 /// is fixed.
-impl Default for Page {
+impl<const W: usize> Default for Page<W> {
     ghost use Rattle.std.specs.Prelude.{◌≡◌};
     ghost use Rattle.word_core.specs.Page.{blank_page};
 
-    ghost is_default = { λ p. p ≡ blank_page 0 0 };
+    ghost is_default = { λ p. p ≡ blank_page W 0 0 };
 
     fn default() -> Self {
         let Some(zone) = ZoneNo::new(0) else {
@@ -41,19 +41,19 @@ impl Default for Page {
     }
 }
 
-impl Page {
+impl<const W: usize> Page<W> {
     ghost use Rattle.std.specs.Prelude.{◌≡◌, slice_index, slice_set, length};
     ghost use Rattle.word_core.specs.Page.{blank_page};
 
     /// The page with no flags, and all its words 0.
     pub fn new(zone: ZoneNo, number: PageNo) -> Self
-        ensures { result ≡ blank_page zone number }
+        ensures { result ≡ blank_page W zone number }
     {
         Page {
             zone,
             number,
             flags: PageFlags::empty(),
-            words: [0; 8],
+            words: [0; W],
         }
     }
 
@@ -85,26 +85,26 @@ impl Page {
         self.flags = flags;
     }
 
-    /// The value of one of its eight words.
-    pub fn word(&self, word: WordNo) -> u64
-        ensures { result ≡ slice_index self.now.words word }
+    /// The value of one of its words.
+    pub fn word(&self, word: WordOf<W>) -> u64
+        ensures { result ≡ slice_index self.now.words word.entry }
     {
         self.words[word.get() as usize]
     }
 
     /// Gives one of its words another value.
-    pub fn set_word(&mut self, word: WordNo, value: u64)
-        ensures { self.new ≡ record self.old { words = slice_set self.old.words word value } }
+    pub fn set_word(&mut self, word: WordOf<W>, value: u64)
+        ensures { self.new ≡ record self.old { words = slice_set self.old.words word.entry value } }
     {
         self.words[word.get() as usize] = value;
     }
 
     /// Copies the flags and each word into a new page. The copy has the same zone and number.
-    pub fn copy_into_new(self) -> Page
-        ensures { result ≡ self }
+    pub fn copy_into_new(self) -> Page<W>
+        ensures { result ≡ self.entry }
     {
-        let mut words = [0; 8];
-        for word in 0..8 {
+        let mut words = [0; W];
+        for word in 0..W {
             words[word] = self.words[word];
         }
         Page {
@@ -115,16 +115,16 @@ impl Page {
         }
     }
 
-    pub(crate) fn words(&self) -> &[u64; 8]
+    pub(crate) fn words(&self) -> &[u64; W]
         ensures value { result.now ≡ self.now.words }
-        ensures eight { length result.now ≡ 8 }
+        ensures size { length result.now ≡ W }
     {
         &self.words
     }
 
     /// The page with these words.
-    pub(crate) fn carrying(zone: ZoneNo, number: PageNo, flags: PageFlags, words: [u64; 8]) -> Self
-        ensures { result ≡ record { zone = zone; number = number; flags = flags; words = words } }
+    pub(crate) fn carrying(zone: ZoneNo, number: PageNo, flags: PageFlags, words: [u64; W]) -> Self
+        ensures { result ≡ record { zone = zone; number = number; flags = flags; words = words.entry } }
     {
         Page {
             words,

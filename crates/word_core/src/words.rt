@@ -1,70 +1,99 @@
-ghost use Rattle.std.specs.Prelude.{◌≡◌, ◌<◌, ◌↔◌, length, replicate, IfOk, IsTrue};
+ghost use Rattle.std.specs.Prelude.{◌≡◌, ◌<◌, ◌≤◌, ◌+◌, ◌↔◌, length, replicate, IfOk, IsTrue};
 ghost use Rattle.word_core.specs.Page.{blank_words};
-ghost use Rattle.word_core.specs.Words.{words_of, word_of, with_words, with_word};
+ghost use Rattle.word_core.specs.Words.{words_of, word_of, words_from, with_words, with_word, put_from};
 
 use crate::page::Page;
-use frame_core::{FrameNo, PageFlags, PageNo, WordNo, ZoneNo, filled};
+use frame_core::{FrameNo, PageFlags, PageNo, WordOf, ZoneNo, filled};
 use std::alloc::{AllocError, Global};
 use std::marker::Model;
 
-/// The words of a zone's frames: a row of eight for each frame.
+/// The words of a zone's frames: a row for each frame.
 #[derive(Drop)]
-pub struct Words {
-    rows: Vec<[u64; 8]>,
+pub struct Words<const W: usize> {
+    rows: Vec<[u64; W]>,
 }
 
-impl Model for Words {
-    ghost use Rattle.std.specs.Prelude.{◌≡◌, ℕ, List, length, vec_len, vec_capacity};
+impl<const W: usize> Model for Words<W> {
+    ghost use Rattle.std.specs.Prelude.{◌≡◌, ◌≤◌, ℕ, List, length, vec_len, vec_capacity};
     ghost use Rattle.std.specs.List.{All};
 
     ghost Value = { List (List ℕ) };
 
     ghost view = { λ w. w.rows.items };
 
-    ghost invariant = { λ w. (vec_capacity w.rows ≡ vec_len w.rows) × All (λ row. length row ≡ 8) w.rows.items };
+    ghost invariant = { λ w. (vec_capacity w.rows ≡ vec_len w.rows) × (W ≤ 65536) × All (λ row. length row ≡ W) w.rows.items };
 }
 
-impl Words {
+impl<const W: usize> Words<W> {
     /// Takes the memory for the words of this many frames, or answers an error where there isn't enough. No other call takes any.
     pub fn open(alloc: Global, frames: u32) -> Result<Self, AllocError>
-        ensures blank { IfOk result (λ rows. rows ≡ replicate frames blank_words) }
+        requires { W ≤ 65536 }
+        ensures blank { IfOk result (λ rows. rows ≡ replicate frames (blank_words W)) }
         ensures frames { IfOk result (λ rows. length rows ≡ frames) }
     {
-        let rows = filled(alloc, [0; 8], frames as usize)?;
+        let rows = filled(alloc, [0; W], frames as usize)?;
         Ok(Words { rows })
     }
 
     /// The value of a word of a frame. The frame has to be one of those that the memory was taken for, here and in each call below.
-    pub fn load(&self, frame: FrameNo, word: WordNo) -> u64
+    pub fn load(&self, frame: FrameNo, word: WordOf<W>) -> u64
         requires { frame < length self.now }
-        ensures value { result ≡ word_of self.now frame word }
-        ensures in_range { word < 8 }
+        ensures value { result ≡ word_of self.now frame word.entry }
+        ensures in_range { word.entry < W }
     {
-        self.row(frame)[word.get() as usize]
+        self.rows[frame.get() as usize][word.get() as usize]
     }
 
     /// Gives a word of a frame another value.
-    pub fn store(&mut self, frame: FrameNo, word: WordNo, value: u64)
+    pub fn store(&mut self, frame: FrameNo, word: WordOf<W>, value: u64)
         requires { frame < length self.old }
-        ensures stored { self.new ≡ with_word self.old frame word value }
-        ensures in_range { word < 8 }
+        ensures stored { self.new ≡ with_word self.old frame word.entry value }
+        ensures in_range { word.entry < W }
         ensures frames { length self.new ≡ length self.old }
     {
         self.rows[frame.get() as usize][word.get() as usize] = value;
     }
 
+    /// The values of the words of a frame from one on, as many as there is room for.
+    pub fn load_words(&self, frame: FrameNo, from: usize, values: &mut [u64])
+        requires frame { frame < length self.now }
+        requires within { from + length values.old ≤ W }
+        ensures values { values.new ≡ words_from self.now frame from (length values.old) }
+        ensures most { W ≤ 65536 }
+    {
+        let row = &self.rows[frame.get() as usize][..];
+        values.copy_from_slice(&row[from..from + values.len()]);
+    }
+
+    /// Gives the words of a frame from one on these values.
+    pub fn store_words(&mut self, frame: FrameNo, from: usize, values: &[u64])
+        requires frame { frame < length self.old }
+        requires within { from + length values.now ≤ W }
+        ensures stored { self.new ≡ with_words self.old frame (put_from (words_of self.old frame) from values.now) }
+        ensures most { W ≤ 65536 }
+        ensures frames { length self.new ≡ length self.old }
+    {
+        copy_into(&mut self.rows[frame.get() as usize], from, values);
+    }
+
     /// Sets all words of the frame to 0.
     pub fn blank(&mut self, frame: FrameNo)
         requires { frame < length self.old }
-        ensures blank { self.new ≡ with_words self.old frame blank_words }
+        ensures blank { self.new ≡ with_words self.old frame (blank_words W) }
         ensures frames { length self.new ≡ length self.old }
     {
-        self.rows[frame.get() as usize] = [0; 8];
+        self.rows[frame.get() as usize] = [0; W];
     }
 
     /// The page in a frame: its words with this zone, number and flags.
     #[inline(always)]
-    pub fn read_out(&self, frame: FrameNo, zone: ZoneNo, number: PageNo, flags: PageFlags) -> Page
+    pub fn read_out(
+        &self,
+        frame: FrameNo,
+        zone: ZoneNo,
+        number: PageNo,
+        flags: PageFlags,
+    ) -> Page<W>
         requires { frame < length self.now }
         ensures { result ≡ record { zone = zone; number = number; flags = flags; words = words_of self.now frame } }
     {
@@ -72,35 +101,44 @@ impl Words {
     }
 
     /// Whether the frame holds the page's words.
-    pub fn same(&self, frame: FrameNo, page: &Page) -> bool
+    pub fn same(&self, frame: FrameNo, page: &Page<W>) -> bool
         requires { frame < length self.now }
         ensures { IsTrue result ↔ (words_of self.now frame ≡ page.now.words) }
     {
         let row = self.row(frame);
         let words = page.words();
         let mut same = true;
-        // With no early return, all eight words are compared at once.
-        for word in 0..8 {
+        // With no early return, words are compared many at once.
+        for word in 0..W {
             same &= row[word] == words[word];
         }
         same
     }
 
     /// Copies the page's words into the frame.
-    pub fn write_in(&mut self, frame: FrameNo, page: &Page)
+    pub fn write_in(&mut self, frame: FrameNo, page: &Page<W>)
         requires { frame < length self.old }
         ensures written { self.new ≡ with_words self.old frame page.now.words }
         ensures frames { length self.new ≡ length self.old }
-        ensures eight { length page.now.words ≡ 8 }
+        ensures size { length page.now.words ≡ W }
     {
         self.rows[frame.get() as usize] = *page.words();
     }
 
-    fn row(&self, frame: FrameNo) -> &[u64; 8]
+    fn row(&self, frame: FrameNo) -> &[u64; W]
         requires { frame < length self.now }
         ensures value { result.now ≡ words_of self.now frame }
-        ensures eight { length result.now ≡ 8 }
+        ensures size { length result.now ≡ W }
     {
         &self.rows[frame.get() as usize]
     }
+}
+
+// Gives the words of a row from one on these values.
+fn copy_into<const W: usize>(row: &mut [u64; W], from: usize, values: &[u64])
+    requires { from + length values.now ≤ W }
+    ensures row { row.new ≡ put_from row.old from values.now }
+    ensures size { length row.old ≡ W }
+{
+    row[..][from..from + values.len()].copy_from_slice(values);
 }

@@ -68,11 +68,11 @@ impl<I: Ledger, N: Ledger, M: Ledger, B: Ledger> Model for World<I, N, M, B> {
     ghost use Rattle.std.specs.Coded.{codes};
     ghost use Rattle.std.specs.VecDeque.{deque_capacity};
     ghost use Rattle.world_core.specs.World.{WorldState};
-    ghost use Rattle.plain_core.specs.contracts.plain.PlainZone as plain_zone;
+    ghost use Rattle.state_core.specs.ZoneCode.{coded_zone};
 
     ghost Value = { WorldState };
 
-    ghost coded = { Prim.hlevel (codes, plain_zone.the_row.coded) };
+    ghost coded = { Prim.hlevel (codes, coded_zone) };
 
     ghost use Rattle.world_core.specs.Carried.{world_of, IsCarried};
 

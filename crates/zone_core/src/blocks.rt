@@ -13,7 +13,7 @@ use frame_core::{BlockNo, FrameNo, Order, block_of, first_frame};
 use state_core::ZoneError;
 use std::sync::ledger::Ledger;
 
-impl<I: Ledger, M: Ledger, B: Ledger> Zone<I, M, B> {
+impl<const W: usize, I: Ledger, M: Ledger, B: Ledger> Zone<W, I, M, B> {
     /// Hands out the lowest free block of an order, 3 to 9, and answers its first frame. The block has 2^order frames, of
     /// which no page has one, and its first frame is a multiple of 2^order. Marks don't count here.
     ///

@@ -4,11 +4,14 @@
 //! counters. The clauses of each call say when it is refused and which step that machine makes, by the definitions of that
 //! crate. Seats are seen as the records of `specs/Seats.antt`.
 //!
+//! A `ZoneOf<W, ..>` has pages of `W` words, at most 65,536. A `Zone<..>` has pages of eight.
+//!
 //! The words (zone, pageblock, order, isolate, put back, pin) are those of the Linux kernel's memory management. What they
 //! mean here is this project's own profile.
 #![tactic(auto)]
 
 mod blocks;
+mod bulk;
 mod seats;
 mod sharing;
 mod tables;
@@ -16,4 +19,7 @@ mod zone;
 
 pub use seats::{Answered, Blanks, EndSeat, ScanSeat, Seats};
 pub use state_core::{Audit, Ended, Info, Look, Next, Placement, RoundStart, Stranger, ZoneError};
-pub use zone::Zone;
+pub use zone::Zone as ZoneOf;
+
+/// A zone with pages of eight words.
+pub type Zone<I, M, B> = ZoneOf<8, I, M, B>;

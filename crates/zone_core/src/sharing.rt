@@ -13,7 +13,7 @@ use frame_core::{Address, ClientNo};
 use state_core::ZoneError;
 use std::sync::ledger::Ledger;
 
-impl<I: Ledger, M: Ledger, B: Ledger> Zone<I, M, B> {
+impl<const W: usize, I: Ledger, M: Ledger, B: Ledger> Zone<W, I, M, B> {
     /// Makes an alias name the page of an address too. A page has at most 4 addresses.
     ///
     /// Refused as JournalFull, as Unmapped or Moving for the address, as Occupied for the alias, or as ShareFull.

@@ -12,9 +12,9 @@ use crate::zone::Zone;
 use scan_core::Frames;
 use std::sync::ledger::Ledger;
 use table_core::Tables;
-use word_core::Words;
+use word_core::WordsOf;
 
-impl<I: Ledger, M: Ledger, B: Ledger> Zone<I, M, B> {
+impl<const W: usize, I: Ledger, M: Ledger, B: Ledger> Zone<W, I, M, B> {
     /// The entry of each address, and the addresses that are listed under each frame.
     pub fn tables(&self) -> &Tables
         ensures entries { EntriesFit result.now.entries self.now }
@@ -33,12 +33,12 @@ impl<I: Ledger, M: Ledger, B: Ledger> Zone<I, M, B> {
 
     /// The words of each frame. The frame in which a page stands has the words of this page; while a page is moving, the one
     /// that it left has them.
-    pub fn words(&self) -> &Words
+    pub fn words(&self) -> &WordsOf<W>
         ensures words { WordsFit result.now self.now }
         ensures frames { length result.now ≡ frame_count self.now }
         // `Words::load` answers the value that was stored last in this word of the page, or 0.
         ensures last { (page : ℕ) (placement : Placement) (word : ℕ) → map.get self.now.placement page ≡ Some placement
-            → word < 8 → word_of result.now (words_frame placement) word ≡ last self.now.records page word }
+            → word < self.now.page_size → word_of result.now (words_frame placement) word ≡ last self.now.records page word }
     {
         self.plain.words()
     }

@@ -14,7 +14,7 @@ ghost use Rattle.zone_core.specs.Seats.{IsFollowed, seat_begun, seat_full, seat_
 ghost use Rattle.state_core.specs.Packed.{IsPacked, IsPlacement, unmarked_free, marked_whole, free_runs, left_whole, left_runs, places_now};
 ghost use Rattle.state_core.specs.Pairs.{HaveMet, is_calm, next_pair};
 ghost use Rattle.state_core.specs.Swept.{IsSwept};
-ghost use Rattle.state_core.specs.Opening.{IsOpenable, opened};
+ghost use Rattle.state_core.specs.Opening.{IsOpenable, opened_with};
 ghost use Rattle.std.specs.Result.{result_err};
 ghost use Rattle.state_core.specs.Mapping.{map_refusal, map_at_refusal, mapped};
 ghost use Rattle.state_core.specs.Access.{access_refusal, value_at, loaded, stored};
@@ -23,44 +23,44 @@ ghost use Rattle.state_core.specs.ZoneState.{frame_count, lowest_free_frame, not
 
 use crate::seats::{Answered, Blanks, EndSeat, ScanSeat};
 use bitflags::Flags;
-use frame_core::{Address, ClientNo, FrameNo, PageFlags, WordNo, ZoneNo};
+use frame_core::{Address, ClientNo, FrameNo, PageFlags, WordOf, ZoneNo};
 use journal_core::{Cause, Journal};
 use plain_core::PlainZone;
 use state_core::{Audit, Ended, Info, Look, Next, Stranger, ZoneError};
 use std::alloc::Global;
 use std::marker::Model;
 use std::sync::ledger::{Book, Ledger};
-use word_core::{Copied, Isolated};
+use word_core::{CopiedOf, IsolatedOf};
 
-/// A zone of 1 to 8 pageblocks. Its type parameters name its opening: the ledgers of the pages that are isolated, moved and
-/// put back. After `open` no call takes memory.
+/// A zone of 1 to 8 pageblocks, whose pages have `W` words. Its type parameters name its opening: the ledgers of the pages
+/// that are isolated, moved and put back. After `open` no call takes memory.
 ///
 /// Each call says what it may be refused as, in the order of the tests. A refused call leaves the zone as it was. JournalFull
 /// means that the journal has no more places left than pages are moving, since the end of each move needs a place.
 #[derive(Drop)]
-pub struct Zone<I: Ledger, M: Ledger, B: Ledger> {
-    pub(crate) plain: PlainZone,
+pub struct Zone<const W: usize, I: Ledger, M: Ledger, B: Ledger> {
+    pub(crate) plain: PlainZone<W>,
     isolated: Book<I>,
     moved: Book<M>,
     back: Book<B>,
 }
 
-impl<I: Ledger, M: Ledger, B: Ledger> Model for Zone<I, M, B> {
+impl<const W: usize, I: Ledger, M: Ledger, B: Ledger> Model for Zone<W, I, M, B> {
     ghost use Rattle.state_core.specs.Lawful.{IsLawful};
     ghost use Rattle.state_core.specs.ZoneState.{ZoneState};
     ghost use Rattle.zone_core.specs.Books.{AreBooks, AreCut, IsScanned};
-    ghost use Rattle.plain_core.specs.contracts.plain.PlainZone as plain_zone;
+    ghost use Rattle.state_core.specs.ZoneCode.{coded_zone};
 
     ghost Value = { ZoneState };
 
-    ghost coded = { plain_zone.the_row.coded };
+    ghost coded = { coded_zone };
 
     ghost view = { λ z. z.plain };
 
     ghost invariant = { λ z. AreBooks z.moved.total z.back.total z.plain × AreCut I.parts M.parts B.parts × IsLawful z.plain × IsScanned z.isolated.total z.plain };
 }
 
-impl<I: Ledger, M: Ledger, B: Ledger> Zone<I, M, B> {
+impl<const W: usize, I: Ledger, M: Ledger, B: Ledger> Zone<W, I, M, B> {
     /// An empty zone with this many pageblocks and this many places in its journal, and its two seats. The blanks are those
     /// of the ledgers that the types name. They are dropped where the call is refused.
     ///
@@ -71,11 +71,12 @@ impl<I: Ledger, M: Ledger, B: Ledger> Zone<I, M, B> {
         blocks: u32,
         places: u32,
         blanks: Blanks,
-    ) -> Result<(Zone<I, M, B>, ScanSeat<I, N>, EndSeat<M, B>), ZoneError>
+    ) -> Result<(Zone<W, I, M, B>, ScanSeat<I, N>, EndSeat<M, B>), ZoneError>
         requires blanks { AreFor blanks I.name I.parts N.name N.parts M.name M.parts B.name B.parts }
+        requires size { W ≤ 65536 }
         ensures range { ¬ (IsOpenable blocks places) → result ≡ Err ZoneError.Range }
         ensures memory { IsOpenable blocks places → IfErr result (λ error. error ≡ ZoneError.Memory) }
-        ensures zone { IfOk result (λ opening. opening.0 ≡ opened number blocks places) }
+        ensures zone { IfOk result (λ opening. opening.0 ≡ opened_with W number blocks places) }
         ensures scan { IfOk result (λ opening. opening.1 ≡ fresh_scan_seat) }
         ensures ends { IfOk result (λ opening. opening.2 ≡ fresh_end_seat) }
         ensures lawful { IfOk result (λ opening. IsLawful opening.0) }
@@ -89,13 +90,13 @@ impl<I: Ledger, M: Ledger, B: Ledger> Zone<I, M, B> {
 
     /// The zone with its ledgers and seats.
     fn seated<N: Ledger>(
-        plain: PlainZone,
+        plain: PlainZone<W>,
         blanks: Blanks,
-    ) -> (Zone<I, M, B>, ScanSeat<I, N>, EndSeat<M, B>)
-        requires fresh { (number blocks places : ℕ) × (plain ≡ opened number blocks places) }
+    ) -> (Zone<W, I, M, B>, ScanSeat<I, N>, EndSeat<M, B>)
+        requires fresh { (number blocks places : ℕ) × (plain ≡ opened_with W number blocks places) }
         requires lawful { IsLawful plain }
         requires blanks { AreFor blanks I.name I.parts N.name N.parts M.name M.parts B.name B.parts }
-        ensures zone { result.0 ≡ plain }
+        ensures zone { result.0 ≡ plain.entry }
         ensures lawful { IsLawful result.0 }
         ensures scan { result.1 ≡ fresh_scan_seat }
         ensures ends { result.2 ≡ fresh_end_seat }
@@ -193,12 +194,12 @@ impl<I: Ledger, M: Ledger, B: Ledger> Zone<I, M, B> {
         &mut self,
         client: ClientNo,
         address: Address,
-        word: WordNo,
+        word: WordOf<W>,
     ) -> Result<u64, ZoneError>
         ensures refused { result_err result ≡ access_refusal self.old address }
         ensures err { OnErr result (self.new ≡ self.old) }
-        ensures value { IfOk result (λ value. value ≡ value_at self.old address word) }
-        ensures ok { OnOk result (self.new ≡ loaded self.old client address word) }
+        ensures value { IfOk result (λ value. value ≡ value_at self.old address word.entry) }
+        ensures ok { OnOk result (self.new ≡ loaded self.old client address word.entry) }
         // A load doesn't make a pair.
         ensures met { OnOk result (HaveMet self.old → HaveMet self.new) }
         ensures shape { HasShape self.old.number self.old.blocks self.new }
@@ -218,12 +219,12 @@ impl<I: Ledger, M: Ledger, B: Ledger> Zone<I, M, B> {
         &mut self,
         client: ClientNo,
         address: Address,
-        word: WordNo,
+        word: WordOf<W>,
         value: u64,
     ) -> Result<(), ZoneError>
         ensures refused { result_err result ≡ access_refusal self.old address }
         ensures err { OnErr result (self.new ≡ self.old) }
-        ensures ok { OnOk result (self.new ≡ stored self.old client address word value) }
+        ensures ok { OnOk result (self.new ≡ stored self.old client address word.entry value) }
         ensures met { OnOk result (HaveMet self.old → HaveMet self.new) }
         ensures shape { HasShape self.old.number self.old.blocks self.new }
         ensures lawful { IsLawful self.new }
@@ -265,7 +266,7 @@ impl<I: Ledger, M: Ledger, B: Ledger> Zone<I, M, B> {
     ///
     /// Refused as JournalFull unless the journal has at least two places more than pages are moving. The seat notes this too.
     #[inline(always)]
-    pub fn isolate_next<N: Ledger>(&mut self, seat: &mut ScanSeat<I, N>) -> Result<Next, ZoneError>
+    pub fn isolate_next<N: Ledger>(&mut self, seat: &mut ScanSeat<I, N>) -> Result<Next<IsolatedOf<W>>, ZoneError>
         ensures refused { result_err result ≡ isolate_refusal self.old }
         ensures err { OnErr result (self.new ≡ self.old) }
         ensures answer { IfOk result (λ next. next ≡ next_answer self.old (next_pair self.old)) }
@@ -303,19 +304,19 @@ impl<I: Ledger, M: Ledger, B: Ledger> Zone<I, M, B> {
     pub fn commit(
         &mut self,
         seat: &mut EndSeat<M, B>,
-        copied: Copied,
-    ) -> Result<Ended, Stranger<Copied>>
-        ensures own { IsOk result ↔ IsOwnCopy self.old copied }
-        ensures back { IfErr result (λ stranger. stranger.0 ≡ copied) }
+        copied: CopiedOf<W>,
+    ) -> Result<Ended, Stranger<CopiedOf<W>>>
+        ensures own { IsOk result ↔ IsOwnCopy self.old copied.entry }
+        ensures back { IfErr result (λ stranger. stranger.0 ≡ copied.entry) }
         ensures err { OnErr result ((self.new ≡ self.old) × (seat.new ≡ seat.old)) }
-        ensures ended { IfOk result (λ ended. ended ≡ ended_as self.old copied.page.number) }
-        ensures ok { OnOk result (self.new ≡ committed self.old copied.serial copied.page.number) }
+        ensures ended { IfOk result (λ ended. ended ≡ ended_as self.old copied.entry.page.number) }
+        ensures ok { OnOk result (self.new ≡ committed self.old copied.entry.serial copied.entry.page.number) }
         // Of a moved page the target holds it and the source is free; of one put back it is the other way round.
-        ensures settled { IfOk result (λ ended. Ends self.old self.new copied ended) }
+        ensures settled { IfOk result (λ ended. Ends self.old self.new copied.entry ended) }
         // In a quiet round each commit moves its page, and no commit makes a pair.
         ensures moves { IfOk result (λ ended. is_quiet self.old ≡ true → ended ≡ Ended.Moved) }
         ensures met { OnOk result (is_quiet self.old ≡ true → HaveMet self.old → HaveMet self.new) }
-        ensures once { OnOk result (is_own self.new copied ≡ false) }
+        ensures once { OnOk result (is_own self.new copied.entry ≡ false) }
         ensures seat { IfOk result (λ ended. seat.new ≡ seat_ended seat.old ended) }
         ensures shape { HasShape self.old.number self.old.blocks self.new }
         ensures lawful { IsLawful self.new }
@@ -341,14 +342,14 @@ impl<I: Ledger, M: Ledger, B: Ledger> Zone<I, M, B> {
     pub fn put_back(
         &mut self,
         seat: &mut EndSeat<M, B>,
-        isolated: Isolated,
-    ) -> Result<(), Stranger<Isolated>>
-        ensures own { IsOk result ↔ (is_own self.old isolated ≡ true) }
-        ensures back { IfErr result (λ stranger. stranger.0 ≡ isolated) }
+        isolated: IsolatedOf<W>,
+    ) -> Result<(), Stranger<IsolatedOf<W>>>
+        ensures own { IsOk result ↔ (is_own self.old isolated.entry ≡ true) }
+        ensures back { IfErr result (λ stranger. stranger.0 ≡ isolated.entry) }
         ensures err { OnErr result ((self.new ≡ self.old) × (seat.new ≡ seat.old)) }
-        ensures ok { OnOk result (self.new ≡ put_back_to_source self.old isolated.serial isolated.page.number Cause.NotCopied) }
-        ensures settled { OnOk result (Ends self.old self.new isolated Ended.Back) }
-        ensures once { OnOk result (is_own self.new isolated ≡ false) }
+        ensures ok { OnOk result (self.new ≡ put_back_to_source self.old isolated.entry.serial isolated.entry.page.number Cause.NotCopied) }
+        ensures settled { OnOk result (Ends self.old self.new isolated.entry Ended.Back) }
+        ensures once { OnOk result (is_own self.new isolated.entry ≡ false) }
         ensures seat { OnOk result (seat.new ≡ record seat.old { back = seat.old.back + 1 }) }
         ensures shape { HasShape self.old.number self.old.blocks self.new }
         ensures lawful { IsLawful self.new }

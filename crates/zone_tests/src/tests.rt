@@ -5,6 +5,7 @@ mod draws;
 mod lists;
 mod moving;
 mod refusals;
+mod sizes;
 mod steps;
 mod walks;
 mod world;

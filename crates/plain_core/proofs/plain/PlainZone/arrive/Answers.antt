@@ -19,43 +19,44 @@ use Rattle.state_core.proofs.Facts.{not_none}
 use Rattle.state_core.proofs.Settled.{can_move_on, moved_recorded, frames_apart, source_within, target_in, swept_if_moved}
 use Rattle.plain_core.proofs.MoveEnds.{moved_frames, moved_words, kept_movable, left_settled, still_on_way, source_on_way, target_on_way, moved_settled, some_on_the_way, ending_room}
 use Rattle.plain_core.proofs.Relocation.{Settling, FramesSettled, MovableSettled, WordsSettled, settle_sound, settle_view}
+use Rattle.plain_core.proofs.plain.PlainZone.arrive.Given.{Over}
 use Rattle.plain_core.proofs.plain.PlainZone.arrive.Goals as goal
 use Rattle.plain_core.proofs.plain.PlainZone.arrive.Goals.{After-note}
 
 pub arrive-requires : goal.arrive-requires
-arrive-requires c =
+arrive-requires g c =
     let sound : IsSound c.self.inside c.args.self.now = subst (IsSound c.self.inside) c.self.view_is c.self.invariant in
     some_out c.self.inside.moves c.args.self.now.records c.args.self.now.room sound.moves sound.lawful.well_ended
     (some_on_the_way c.args.self.now c.args.way.now.page c.args.way.now.serial c.args.way.now.source c.args.way.now.target sound.lawful c.requires.placed)
 
 pub leave-requires : goal.leave-requires
-leave-requires c =
+leave-requires g c =
     let sound : IsSound c.self.inside c.args.self.now = subst (IsSound c.self.inside) c.self.view_is c.self.invariant in
     source_on_way c.args.self.now c.args.way.now.page c.args.way.now.serial c.args.way.now.source c.args.way.now.target sound.lawful c.requires.placed c.self.inside.frames.states sound.frames
 
 pub settle-requires : goal.settle-requires
-settle-requires c =
+settle-requires g c =
     let sound : IsSound c.self.inside c.args.self.now = subst (IsSound c.self.inside) c.self.view_is c.self.invariant in
     still_on_way c.self.inside.frames c.leave.new.self c.args.way.now.target c.args.way.now.source (λ e. frames_apart c.args.self.now c.args.way.now.page c.args.way.now.serial c.args.way.now.source c.args.way.now.target sound.lawful c.requires.placed (sym e)) c.leave.ensures.state
     (target_on_way c.args.self.now c.args.way.now.page c.args.way.now.serial c.args.way.now.source c.args.way.now.target sound.lawful c.requires.placed c.self.inside.frames.states sound.frames)
 
 pub write_in-requires : goal.write_in-requires
-write_in-requires c =
+write_in-requires g c =
     let sound : IsSound c.self.inside c.args.self.now = subst (IsSound c.self.inside) c.self.view_is c.self.invariant in
     let within = target_in c.args.self.now c.args.way.now.page c.args.way.now.serial c.args.way.now.source c.args.way.now.target sound.lawful c.requires.placed in
     omega (arith, within, sound.words.count)
 
 pub place-requires : goal.place-requires
-place-requires c = ap is_some (placement_seen c.self.inside c.args.self.now c.self.view_is c.args.way.now.page ∙ c.requires.placed)
+place-requires g c = ap is_some (placement_seen c.self.inside c.args.self.now c.self.view_is c.args.way.now.page ∙ c.requires.placed)
 
 pub note-requires : goal.note-requires
-note-requires c =
+note-requires g c =
     let sound : IsSound c.self.inside c.args.self.now = subst (IsSound c.self.inside) c.self.view_is c.self.invariant in
     let room = ending_room c.args.self.now c.args.way.now.page c.args.way.now.serial c.args.way.now.source c.args.way.now.target sound.lawful c.requires.placed in
     omega (arith, room, ap (λ (v : ZoneState). v.room) c.self.view_is)
 
 -- the fields after the call
-abbrev after : After-note → Inside
+abbrev after : {g : Over} → After-note g → Inside g.row.W
 after c = record c.self.inside {
   frames = c.settle.new.self;
   tables = c.to_present.new.self;
@@ -65,10 +66,10 @@ after c = record c.self.inside {
   history = c.note.new.self;
 }
 
-frames_are : (c : After-note) → c.settle.new.self ≡ record { states = slice_set (slice_set c.self.inside.frames.states c.args.way.now.source Free) c.args.way.now.target (Holds c.args.way.now.page); movable = slice_set c.self.inside.frames.movable c.args.way.now.target c.can_move.result }
+frames_are : {g : Over} (c : After-note g) → c.settle.new.self ≡ record { states = slice_set (slice_set c.self.inside.frames.states c.args.way.now.source Free) c.args.way.now.target (Holds c.args.way.now.page); movable = slice_set c.self.inside.frames.movable c.args.way.now.target c.can_move.result }
 frames_are c = left_settled c.self.inside.frames c.leave.new.self c.settle.new.self _ _ _ _ c.leave.ensures.state c.settle.ensures.page
 
-settling : (c : After-note) → Settling c.self.inside (after c) c.args.self.now c.args.way.now.page (Moving c.args.way.now.serial c.args.way.now.source c.args.way.now.target) (At c.args.way.now.target) (Moved c.args.way.now.serial) c.get-note.result c.args.self.now.migrate c.args.self.now.free
+settling : {g : Over} (c : After-note g) → Settling c.self.inside (after c) c.args.self.now c.args.way.now.page (Moving c.args.way.now.serial c.args.way.now.source c.args.way.now.target) (At c.args.way.now.target) (Moved c.args.way.now.serial) c.get-note.result c.args.self.now.migrate c.args.self.now.free
 settling c =
     let z = c.self.inside in
     let v = c.args.self.now in
@@ -91,8 +92,8 @@ settling c =
           (kept_movable z.frames.movable (can_move v way.page) c.can_move.result way.target (omega (arith, target_here, sound.movable.count))
           (c.can_move.ensures ∙ movable_seen z v way.page c.get-note.result (note_seen z v c.self.view_is sound way.page (not_none _ (Moving way.serial way.source way.target) at) c.get-note.result c.get-note.ensures)));
       tables = c.to_present.ensures.replaced;
-      words = subst (λ (rows : List (List ℕ)). WordsSettled z.words rows (Moving way.serial way.source way.target) (At way.target)) (sym c.write_in.ensures.written)
-          (moved_words z.words c.args.copy.now.words way.serial way.source way.target (omega (arith, target_here, sound.words.count)) (c.requires.words ∙ sym (words_seen z.words v sound.words law way.page (Moving way.serial way.source way.target) at)) c.write_in.ensures.eight);
+      words = subst (λ (rows : List (List ℕ)). WordsSettled v.page_size z.words rows (Moving way.serial way.source way.target) (At way.target)) (sym c.write_in.ensures.written)
+          (moved_words z.words c.args.copy.now.words way.serial way.source way.target (omega (arith, target_here, sound.words.count)) (c.requires.words ∙ sym (words_seen z.words v sound.words law way.page (Moving way.serial way.source way.target) at)) (c.write_in.ensures.size ∙ ap (λ (u : ZoneState). u.page_size) c.self.view_is));
       notes = c.place.ensures c.get-note.result c.get-note.ensures;
       moves = subst (λ (moves : Moves). MovesFit moves (Moved way.serial ∷ v.records) (v.room - 1)) (sym c.arrive.ensures)
           (moves_arrived z.moves v.records v.room sound.moves way.serial (ending_room v way.page way.serial way.source way.target law at));
@@ -107,21 +108,21 @@ settling c =
       handed_out_same = refl;
     }
 
-view : (c : After-note) → state_of (after c) ≡ moved_to_target c.args.self.now c.args.way.now.serial c.args.way.now.page
+view : {g : Over} (c : After-note g) → state_of (after c) ≡ moved_to_target c.args.self.now c.args.way.now.serial c.args.way.now.page
 view c =
     settle_view c.self.inside (after c) c.args.self.now c.args.way.now.page _ _ _ _ _ _ (settling c)
     ∙ ap (λ (frame : ℕ). relocated c.args.self.now (Moved c.args.way.now.serial) c.args.way.now.page (At frame)) (sym (ap target_of c.requires.placed))
 
 pub invariant_of-self : goal.invariant_of-self
-invariant_of-self c =
+invariant_of-self g c =
     subst (IsSound (after c)) (sym (settle_view c.self.inside (after c) c.args.self.now c.args.way.now.page _ _ _ _ _ _ (settling c)))
     (settle_sound c.self.inside (after c) c.args.self.now c.args.way.now.page _ _ _ _ _ _ (settling c))
 
 pub returns-clause-step : goal.returns-clause-step
-returns-clause-step c = view c
+returns-clause-step g c = view c
 
 pub returns-clause-settled : goal.returns-clause-settled
-returns-clause-settled c =
+returns-clause-settled g c =
     let way = c.args.way.now in
     let v = c.args.self.now in
     let sound : IsSound c.self.inside v = subst (IsSound c.self.inside) c.self.view_is c.self.invariant in
@@ -129,26 +130,26 @@ returns-clause-settled c =
     (moved_settled v way.page way.serial way.source way.target sound.lawful c.requires.placed)
 
 pub returns-clause-lawful : goal.returns-clause-lawful
-returns-clause-lawful c = (invariant_of-self c).lawful
+returns-clause-lawful g c = (invariant_of-self g c).lawful
 
 pub to_present-requires-clause-source_within : goal.to_present-requires-clause-source_within
-to_present-requires-clause-source_within c =
+to_present-requires-clause-source_within g c =
     let sound : IsSound c.self.inside c.args.self.now = subst (IsSound c.self.inside) c.self.view_is c.self.invariant in
     let within = source_within c.args.self.now c.args.way.now.page c.args.way.now.serial c.args.way.now.source c.args.way.now.target sound.lawful c.requires.placed in
     omega (arith, within, sound.tables)
 
 pub to_present-requires-clause-within : goal.to_present-requires-clause-within
-to_present-requires-clause-within c =
+to_present-requires-clause-within g c =
     let sound : IsSound c.self.inside c.args.self.now = subst (IsSound c.self.inside) c.self.view_is c.self.invariant in
     let within = target_in c.args.self.now c.args.way.now.page c.args.way.now.serial c.args.way.now.source c.args.way.now.target sound.lawful c.requires.placed in
     omega (arith, within, sound.tables)
 
 pub to_present-requires-clause-left : goal.to_present-requires-clause-left
-to_present-requires-clause-left c =
+to_present-requires-clause-left g c =
     let sound : IsSound c.self.inside c.args.self.now = subst (IsSound c.self.inside) c.self.view_is c.self.invariant in
     all_left c.self.inside.tables.entries c.args.self.now sound.entries sound.lawful c.args.way.now.page c.args.way.now.serial c.args.way.now.source c.args.way.now.target c.requires.placed
 
 pub to_present-requires-clause-unnamed : goal.to_present-requires-clause-unnamed
-to_present-requires-clause-unnamed c =
+to_present-requires-clause-unnamed g c =
     let sound : IsSound c.self.inside c.args.self.now = subst (IsSound c.self.inside) c.self.view_is c.self.invariant in
     target_unnamed c.self.inside.tables.entries c.args.self.now sound.entries sound.lawful c.args.way.now.page c.args.way.now.serial c.args.way.now.source c.args.way.now.target c.requires.placed

@@ -10,10 +10,10 @@ use Rattle.plain_core.proofs.Rounds.{begun_sound}
 use Rattle.plain_core.proofs.plain.PlainZone.begin_round.Goals as goal
 
 pub invariant_of-self : goal.invariant_of-self
-invariant_of-self c =
+invariant_of-self g c =
     let z = c.self.inside in
     let at_ends : ZoneState → Fingers = λ v. record { migrate = 0; free = frame_count v } in
-    let S : Inside → Type 0 = λ u. IsSound u (state_of u) in
+    let S : Inside g.row.W → Type 0 = λ u. IsSound u (state_of u) in
     let start : RoundStart = record { records = length z.history.records; calm = c.is_calm-calm.result } in
     let begun : c.begin_round.new.self ≡ record z.history { round = Some start } = c.begin_round.ensures in
     subst (λ (fingers : Fingers). S (record z { fingers = fingers; history = c.begin_round.new.self })) (sym (c.fingers_at_ends-self-inside.ensures.ends ∙ ap at_ends (sym c.self.view_is)))
@@ -21,4 +21,4 @@ invariant_of-self c =
     (begun_sound z (state_of z) c.self.invariant start refl (c.is_calm-calm.ensures ∙ ap is_calm (sym c.self.view_is))))
 
 pub returns-clause-lawful : goal.returns-clause-lawful
-returns-clause-lawful c = (invariant_of-self c).lawful
+returns-clause-lawful g c = (invariant_of-self g c).lawful

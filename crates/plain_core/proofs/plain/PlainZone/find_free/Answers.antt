@@ -15,16 +15,16 @@ within_if v None e = tt
 within_if v (Some frame) e = (lowest_some (is_free v) (frame_count v) frame (sym e)).0
 
 pub returns-clause-lowest : goal.returns-clause-lowest
-returns-clause-lowest c =
+returns-clause-lowest g c =
     let sound : IsSound c.self.inside c.args.self.now = subst (IsSound c.self.inside) c.self.view_is c.self.invariant in
     c.lowest_free.ensures.lowest ∙ lowest_free_seen c.self.inside.frames.states c.args.self.now sound.frames
 
 pub returns-clause-free : goal.returns-clause-free
-returns-clause-free c =
+returns-clause-free g c =
     let sound : IsSound c.self.inside c.args.self.now = subst (IsSound c.self.inside) c.self.view_is c.self.invariant in
     free_if c.args.self.now c.lowest_free.result (c.lowest_free.ensures.lowest ∙ lowest_free_seen c.self.inside.frames.states c.args.self.now sound.frames)
 
 pub returns-clause-within : goal.returns-clause-within
-returns-clause-within c =
+returns-clause-within g c =
     let sound : IsSound c.self.inside c.args.self.now = subst (IsSound c.self.inside) c.self.view_is c.self.invariant in
     within_if c.args.self.now c.lowest_free.result (c.lowest_free.ensures.lowest ∙ lowest_free_seen c.self.inside.frames.states c.args.self.now sound.frames)

@@ -12,11 +12,11 @@ run_if v order None e = tt
 run_if v order (Some first) e = (lowest_some (is_run v order) (frame_count v) first (sym e)).1
 
 pub returns-clause-lowest : goal.returns-clause-lowest
-returns-clause-lowest c =
+returns-clause-lowest g c =
     let sound : IsSound c.self.inside c.args.self.now = subst (IsSound c.self.inside) c.self.view_is c.self.invariant in
     c.first_run.ensures.lowest ∙ first_run_seen c.self.inside.frames.states c.args.self.now sound.frames c.args.order
 
 pub returns-clause-run : goal.returns-clause-run
-returns-clause-run c =
+returns-clause-run g c =
     let sound : IsSound c.self.inside c.args.self.now = subst (IsSound c.self.inside) c.self.view_is c.self.invariant in
     run_if c.args.self.now c.args.order c.first_run.result (c.first_run.ensures.lowest ∙ first_run_seen c.self.inside.frames.states c.args.self.now sound.frames c.args.order)

@@ -4,12 +4,12 @@ use Rattle.plain_core.proofs.Tables.{note_seen, note_within, flags_seen}
 use Rattle.plain_core.proofs.plain.PlainZone.flags_of.Goals as goal
 
 pub get-note-requires : goal.get-note-requires
-get-note-requires c =
+get-note-requires g c =
     let sound : IsSound c.self.inside c.args.self.now = subst (IsSound c.self.inside) c.self.view_is c.self.invariant in
     note_within c.self.inside c.args.self.now sound c.args.page c.requires
 
 pub returns : goal.returns
-returns c =
+returns g c =
     let sound : IsSound c.self.inside c.args.self.now = subst (IsSound c.self.inside) c.self.view_is c.self.invariant in
     let noted = note_seen c.self.inside c.args.self.now c.self.view_is sound c.args.page c.requires c.get-note.result c.get-note.ensures in
     c.of.ensures.flags ∙ flags_seen c.self.inside c.args.self.now c.args.page c.get-note.result noted

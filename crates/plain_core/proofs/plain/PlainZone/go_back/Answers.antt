@@ -19,37 +19,38 @@ use Rattle.state_core.proofs.Facts.{not_none}
 use Rattle.state_core.proofs.Settled.{can_go_back, back_recorded, frames_apart, source_within, target_in, swept_if_put_back}
 use Rattle.plain_core.proofs.MoveEnds.{back_frames, back_words, kept_movable, left_settled, still_on_way, source_on_way, target_on_way, back_settled, some_on_the_way, ending_room}
 use Rattle.plain_core.proofs.Relocation.{Settling, FramesSettled, MovableSettled, settle_sound, settle_view}
+use Rattle.plain_core.proofs.plain.PlainZone.go_back.Given.{Over}
 use Rattle.plain_core.proofs.plain.PlainZone.go_back.Goals as goal
 use Rattle.plain_core.proofs.plain.PlainZone.go_back.Goals.{After-note}
 
 pub go_back-requires : goal.go_back-requires
-go_back-requires c =
+go_back-requires g c =
     let sound : IsSound c.self.inside c.args.self.now = subst (IsSound c.self.inside) c.self.view_is c.self.invariant in
     some_out c.self.inside.moves c.args.self.now.records c.args.self.now.room sound.moves sound.lawful.well_ended
     (some_on_the_way c.args.self.now c.args.way.now.page c.args.way.now.serial c.args.way.now.source c.args.way.now.target sound.lawful c.requires.placed)
 
 pub leave-requires : goal.leave-requires
-leave-requires c =
+leave-requires g c =
     let sound : IsSound c.self.inside c.args.self.now = subst (IsSound c.self.inside) c.self.view_is c.self.invariant in
     target_on_way c.args.self.now c.args.way.now.page c.args.way.now.serial c.args.way.now.source c.args.way.now.target sound.lawful c.requires.placed c.self.inside.frames.states sound.frames
 
 pub settle-requires : goal.settle-requires
-settle-requires c =
+settle-requires g c =
     let sound : IsSound c.self.inside c.args.self.now = subst (IsSound c.self.inside) c.self.view_is c.self.invariant in
     still_on_way c.self.inside.frames c.leave.new.self c.args.way.now.source c.args.way.now.target (frames_apart c.args.self.now c.args.way.now.page c.args.way.now.serial c.args.way.now.source c.args.way.now.target sound.lawful c.requires.placed) c.leave.ensures.state
     (source_on_way c.args.self.now c.args.way.now.page c.args.way.now.serial c.args.way.now.source c.args.way.now.target sound.lawful c.requires.placed c.self.inside.frames.states sound.frames)
 
 pub place-requires : goal.place-requires
-place-requires c = ap is_some (placement_seen c.self.inside c.args.self.now c.self.view_is c.args.way.now.page ∙ c.requires.placed)
+place-requires g c = ap is_some (placement_seen c.self.inside c.args.self.now c.self.view_is c.args.way.now.page ∙ c.requires.placed)
 
 pub note-requires : goal.note-requires
-note-requires c =
+note-requires g c =
     let sound : IsSound c.self.inside c.args.self.now = subst (IsSound c.self.inside) c.self.view_is c.self.invariant in
     let room = ending_room c.args.self.now c.args.way.now.page c.args.way.now.serial c.args.way.now.source c.args.way.now.target sound.lawful c.requires.placed in
     omega (arith, room, ap (λ (v : ZoneState). v.room) c.self.view_is)
 
 -- the fields after the call
-abbrev after : After-note → Inside
+abbrev after : {g : Over} → After-note g → Inside g.row.W
 after c = record c.self.inside {
   frames = c.settle.new.self;
   tables = c.to_present.new.self;
@@ -58,10 +59,10 @@ after c = record c.self.inside {
   history = c.note.new.self;
 }
 
-frames_are : (c : After-note) → c.settle.new.self ≡ record { states = slice_set (slice_set c.self.inside.frames.states c.args.way.now.target Free) c.args.way.now.source (Holds c.args.way.now.page); movable = slice_set c.self.inside.frames.movable c.args.way.now.source c.can_move.result }
+frames_are : {g : Over} (c : After-note g) → c.settle.new.self ≡ record { states = slice_set (slice_set c.self.inside.frames.states c.args.way.now.target Free) c.args.way.now.source (Holds c.args.way.now.page); movable = slice_set c.self.inside.frames.movable c.args.way.now.source c.can_move.result }
 frames_are c = left_settled c.self.inside.frames c.leave.new.self c.settle.new.self _ _ _ _ c.leave.ensures.state c.settle.ensures.page
 
-settling : (c : After-note) → Settling c.self.inside (after c) c.args.self.now c.args.way.now.page (Moving c.args.way.now.serial c.args.way.now.source c.args.way.now.target) (At c.args.way.now.source) (Back c.args.way.now.serial c.args.cause) c.get-note.result c.args.self.now.migrate c.args.self.now.free
+settling : {g : Over} (c : After-note g) → Settling c.self.inside (after c) c.args.self.now c.args.way.now.page (Moving c.args.way.now.serial c.args.way.now.source c.args.way.now.target) (At c.args.way.now.source) (Back c.args.way.now.serial c.args.cause) c.get-note.result c.args.self.now.migrate c.args.self.now.free
 settling c =
     let z = c.self.inside in
     let v = c.args.self.now in
@@ -99,21 +100,21 @@ settling c =
       handed_out_same = refl;
     }
 
-view : (c : After-note) → state_of (after c) ≡ put_back_to_source c.args.self.now c.args.way.now.serial c.args.way.now.page c.args.cause
+view : {g : Over} (c : After-note g) → state_of (after c) ≡ put_back_to_source c.args.self.now c.args.way.now.serial c.args.way.now.page c.args.cause
 view c =
     settle_view c.self.inside (after c) c.args.self.now c.args.way.now.page _ _ _ _ _ _ (settling c)
     ∙ ap (λ (frame : ℕ). relocated c.args.self.now (Back c.args.way.now.serial c.args.cause) c.args.way.now.page (At frame)) (sym (ap source_of c.requires.placed))
 
 pub invariant_of-self : goal.invariant_of-self
-invariant_of-self c =
+invariant_of-self g c =
     subst (IsSound (after c)) (sym (settle_view c.self.inside (after c) c.args.self.now c.args.way.now.page _ _ _ _ _ _ (settling c)))
     (settle_sound c.self.inside (after c) c.args.self.now c.args.way.now.page _ _ _ _ _ _ (settling c))
 
 pub returns-clause-step : goal.returns-clause-step
-returns-clause-step c = view c
+returns-clause-step g c = view c
 
 pub returns-clause-settled : goal.returns-clause-settled
-returns-clause-settled c =
+returns-clause-settled g c =
     let way = c.args.way.now in
     let v = c.args.self.now in
     let sound : IsSound c.self.inside v = subst (IsSound c.self.inside) c.self.view_is c.self.invariant in
@@ -121,21 +122,21 @@ returns-clause-settled c =
     (back_settled v way.page way.serial way.source way.target sound.lawful c.requires.placed c.args.cause)
 
 pub returns-clause-lawful : goal.returns-clause-lawful
-returns-clause-lawful c = (invariant_of-self c).lawful
+returns-clause-lawful g c = (invariant_of-self g c).lawful
 
 pub to_present-requires-clause-source_within : goal.to_present-requires-clause-source_within
-to_present-requires-clause-source_within c =
+to_present-requires-clause-source_within g c =
     let sound : IsSound c.self.inside c.args.self.now = subst (IsSound c.self.inside) c.self.view_is c.self.invariant in
     let within = source_within c.args.self.now c.args.way.now.page c.args.way.now.serial c.args.way.now.source c.args.way.now.target sound.lawful c.requires.placed in
     omega (arith, within, sound.tables)
 
 pub to_present-requires-clause-within : goal.to_present-requires-clause-within
-to_present-requires-clause-within c =
+to_present-requires-clause-within g c =
     let sound : IsSound c.self.inside c.args.self.now = subst (IsSound c.self.inside) c.self.view_is c.self.invariant in
     let within = source_within c.args.self.now c.args.way.now.page c.args.way.now.serial c.args.way.now.source c.args.way.now.target sound.lawful c.requires.placed in
     omega (arith, within, sound.tables)
 
 pub to_present-requires-clause-left : goal.to_present-requires-clause-left
-to_present-requires-clause-left c =
+to_present-requires-clause-left g c =
     let sound : IsSound c.self.inside c.args.self.now = subst (IsSound c.self.inside) c.self.view_is c.self.invariant in
     all_left c.self.inside.tables.entries c.args.self.now sound.entries sound.lawful c.args.way.now.page c.args.way.now.serial c.args.way.now.source c.args.way.now.target c.requires.placed

@@ -8,40 +8,41 @@ use Rattle.state_core.proofs.Facts.{spare}
 use Rattle.plain_core.specs.declared.plain.PlainZone.TheInside.{Inside}
 use Rattle.plain_core.specs.Sound.{IsSound, state_of}
 use Rattle.plain_core.proofs.BlockFrames as blocks
+use Rattle.plain_core.proofs.plain.PlainZone.hand_out.Given.{Over}
 use Rattle.plain_core.proofs.plain.PlainZone.hand_out.Goals as goal
 use Rattle.plain_core.proofs.plain.PlainZone.hand_out.Goals.{After-note}
 
 pub hold-requires : goal.hold-requires
-hold-requires c =
+hold-requires g c =
     let sound : IsSound c.self.inside c.args.self.now = subst (IsSound c.self.inside) c.self.view_is c.self.invariant in
     blocks.run_seen c.self.inside.frames.states c.args.self.now sound.frames c.args.order c.args.first ∙ c.requires.run
 
 pub take-requires-clause-clear : goal.take-requires-clause-clear
-take-requires-clause-clear c =
+take-requires-clause-clear g c =
     let sound : IsSound c.self.inside c.args.self.now = subst (IsSound c.self.inside) c.self.view_is c.self.invariant in
     blocks.take_clear c.self.inside c.args.self.now sound c.self.view_is c.args.first c.args.order c.requires.run
 
 -- the fields after the call, given its frames and its list of blocks
-abbrev after : After-note → Frames → List (Option ℕ) → Inside
+abbrev after : {g : Over} → After-note g → Frames → List (Option ℕ) → Inside g.row.W
 after c frames orders = record c.self.inside { frames = frames; handed_out = orders; history = c.note.new.self }
 
-same : (c : After-note) → after c c.hold.new.self c.take.new.self ≡ after c (record c.self.inside.frames { states = with_run c.self.inside.frames.states c.args.first (2 ^ c.args.order) Huge }) (slice_set c.self.inside.handed_out c.args.first (Some c.args.order))
+same : {g : Over} (c : After-note g) → after c c.hold.new.self c.take.new.self ≡ after c (record c.self.inside.frames { states = with_run c.self.inside.frames.states c.args.first (2 ^ c.args.order) Huge }) (slice_set c.self.inside.handed_out c.args.first (Some c.args.order))
 same c = λ i. after c (c.hold.ensures i) (c.take.ensures.set i)
 
-view : (c : After-note) → state_of (after c (record c.self.inside.frames { states = with_run c.self.inside.frames.states c.args.first (2 ^ c.args.order) Huge }) (slice_set c.self.inside.handed_out c.args.first (Some c.args.order))) ≡ block_taken c.args.self.now c.args.first c.args.order
+view : {g : Over} (c : After-note g) → state_of (after c (record c.self.inside.frames { states = with_run c.self.inside.frames.states c.args.first (2 ^ c.args.order) Huge }) (slice_set c.self.inside.handed_out c.args.first (Some c.args.order))) ≡ block_taken c.args.self.now c.args.first c.args.order
 view c =
     let sound : IsSound c.self.inside c.args.self.now = subst (IsSound c.self.inside) c.self.view_is c.self.invariant in
     blocks.take_view c.self.inside c.args.self.now sound c.self.view_is c.args.first c.args.order c.requires.run c.note.new.self c.note.ensures
 
 pub invariant_of-self : goal.invariant_of-self
-invariant_of-self c =
-    let S : Inside → Type 0 = λ z. IsSound z (state_of z) in
+invariant_of-self g c =
+    let S : Inside g.row.W → Type 0 = λ z. IsSound z (state_of z) in
     let sound : IsSound c.self.inside c.args.self.now = subst (IsSound c.self.inside) c.self.view_is c.self.invariant in
     let ideal = after c (record c.self.inside.frames { states = with_run c.self.inside.frames.states c.args.first (2 ^ c.args.order) Huge }) (slice_set c.self.inside.handed_out c.args.first (Some c.args.order)) in
     subst S (sym (same c)) (subst (IsSound ideal) (sym (view c)) (blocks.take_sound c.self.inside c.args.self.now sound c.self.view_is c.args.first c.args.order c.requires.run (spare c.args.self.now c.requires.room) c.take.ensures.low c.take.ensures.high c.note.new.self))
 
 pub returns-clause-step : goal.returns-clause-step
-returns-clause-step c = ap state_of (same c) ∙ view c
+returns-clause-step g c = ap state_of (same c) ∙ view c
 
 pub returns-clause-lawful : goal.returns-clause-lawful
-returns-clause-lawful c = (invariant_of-self c).lawful
+returns-clause-lawful g c = (invariant_of-self g c).lawful

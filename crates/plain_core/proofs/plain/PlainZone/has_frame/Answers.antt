@@ -2,4 +2,4 @@ use Rattle.std.proofs.Common.{rules}
 use Rattle.plain_core.proofs.plain.PlainZone.has_frame.Goals as goal
 
 pub returns : goal.returns
-returns c = search rules
+returns g c = search rules

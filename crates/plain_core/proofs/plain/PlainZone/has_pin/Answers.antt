@@ -5,12 +5,12 @@ use Rattle.plain_core.proofs.Tables.{note_seen, note_within}
 use Rattle.plain_core.proofs.plain.PlainZone.has_pin.Goals as goal
 
 pub get-requires : goal.get-requires
-get-requires c =
+get-requires g c =
     let sound : IsSound c.self.inside c.args.self.now = subst (IsSound c.self.inside) c.self.view_is c.self.invariant in
     note_within c.self.inside c.args.self.now sound c.args.page c.requires
 
 pub returns : goal.returns
-returns c =
+returns g c =
     let sound : IsSound c.self.inside c.args.self.now = subst (IsSound c.self.inside) c.self.view_is c.self.invariant in
     let noted = note_seen c.self.inside c.args.self.now c.self.view_is sound c.args.page c.requires c.get.result c.get.ensures in
     ap (λ (n : ℕ). not (nat_eq n 0)) noted.fits.pins

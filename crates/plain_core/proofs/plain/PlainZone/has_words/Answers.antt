@@ -8,14 +8,14 @@ use Rattle.plain_core.proofs.Tables.{words_seen}
 use Rattle.plain_core.proofs.plain.PlainZone.has_words.Goals as goal
 
 pub same-requires : goal.same-requires
-same-requires c =
+same-requires g c =
     let sound : IsSound c.self.inside c.args.self.now = subst (IsSound c.self.inside) c.self.view_is c.self.invariant in
     let within = frame_within c.args.self.now sound.lawful c.args.way.now.page
     (Moving c.args.way.now.serial c.args.way.now.source c.args.way.now.target) c.requires in
     omega (arith, within, sound.words.count)
 
 pub returns : goal.returns
-returns c =
+returns g c =
     let sound : IsSound c.self.inside c.args.self.now = subst (IsSound c.self.inside) c.self.view_is c.self.invariant in
     let seen : words_of c.self.inside.words c.args.way.now.source ≡ words_now c.args.self.now c.args.way.now.page =
     words_seen c.self.inside.words c.args.self.now sound.words sound.lawful c.args.way.now.page

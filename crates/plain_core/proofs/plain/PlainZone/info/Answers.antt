@@ -3,10 +3,11 @@ use Rattle.state_core.specs.Looking.{info_of}
 use Rattle.plain_core.specs.Sound.{IsSound}
 use Rattle.plain_core.proofs.SearchesAndCounts.{free_counted, whole_counted, in_use_seen, blocks_seen, held_seen}
 use Rattle.plain_core.proofs.OutAndEnded.{out_is}
+use Rattle.plain_core.proofs.plain.PlainZone.info.Given.{Over}
 use Rattle.plain_core.proofs.plain.PlainZone.info.Goals as goal
 use Rattle.plain_core.proofs.plain.PlainZone.info.Goals.{After-frames}
 
-counts : (c : After-frames) → record { free = c.free.result; pages = c.in_use.result; moving = c.out.result; huge = c.blocks-2.result; whole = c.whole_blocks.result; held = c.frames.result } ≡ info_of c.args.self.now
+counts : {g : Over} (c : After-frames g) → record { free = c.free.result; pages = c.in_use.result; moving = c.out.result; huge = c.blocks-2.result; whole = c.whole_blocks.result; held = c.frames.result } ≡ info_of c.args.self.now
 counts c =
     let sound : IsSound c.self.inside c.args.self.now = subst (IsSound c.self.inside) c.self.view_is c.self.invariant in
     let free = c.free.ensures ∙ free_counted c.self.inside.frames.states c.args.self.now sound.frames in
@@ -18,9 +19,9 @@ counts c =
     λ i. record { free = free i; pages = pages i; moving = moving i; huge = huge i; whole = whole i; held = held i }
 
 pub returns-clause-counts : goal.returns-clause-counts
-returns-clause-counts c = counts c
+returns-clause-counts g c = counts c
 
 pub returns-clause-sum : goal.returns-clause-sum
-returns-clause-sum c =
+returns-clause-sum g c =
     let sound : IsSound c.self.inside c.args.self.now = subst (IsSound c.self.inside) c.self.view_is c.self.invariant in
     (λ i. (counts c i).free + (counts c i).pages + (counts c i).moving + (counts c i).held) ∙ sound.lawful.sum

@@ -4,11 +4,11 @@ use Rattle.plain_core.proofs.SearchesAndCounts.{free_seen}
 use Rattle.plain_core.proofs.plain.PlainZone.is_free.Goals as goal
 
 pub is_free-requires : goal.is_free-requires
-is_free-requires c =
+is_free-requires g c =
     let sound : IsSound c.self.inside c.args.self.now = subst (IsSound c.self.inside) c.self.view_is c.self.invariant in
     omega (arith, c.requires, sound.frames.count)
 
 pub returns : goal.returns
-returns c =
+returns g c =
     let sound : IsSound c.self.inside c.args.self.now = subst (IsSound c.self.inside) c.self.view_is c.self.invariant in
     c.is_free.ensures ∙ free_seen c.self.inside.frames.states c.args.self.now sound.frames c.args.frame c.requires

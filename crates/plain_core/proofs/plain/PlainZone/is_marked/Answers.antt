@@ -5,6 +5,6 @@ use Rattle.plain_core.proofs.Tables.{mark_seen}
 use Rattle.plain_core.proofs.plain.PlainZone.is_marked.Goals as goal
 
 pub returns : goal.returns
-returns c =
+returns g c =
     mark_read c.self.inside.marked c.get.result ∙ mark_seen c.self.inside c.args.self.now c.self.view_is c.get.result c.get.ensures.range
     ∙ ap (set.contains c.args.self.now.marked) c.get.ensures.value

@@ -27,11 +27,12 @@ use Rattle.plain_core.specs.Sound.{IsSound}
 use Rattle.plain_core.proofs.Isolation.{isolated_frames, isolated_words, isolated_movable}
 use Rattle.state_core.proofs.Settled.{can_isolate, isolate_recorded, target_within, swept_if_isolated}
 use Rattle.plain_core.proofs.Relocation.{Settling, FramesSettled, MovableSettled, settle_sound, settle_view}
+use Rattle.plain_core.proofs.plain.PlainZone.isolate.Given.{Over}
 use Rattle.plain_core.proofs.plain.PlainZone.isolate.Goals as goal
 use Rattle.plain_core.proofs.plain.PlainZone.isolate.Goals.{After-read_out-carried}
 
 pub to_source-requires : goal.to_source-requires
-to_source-requires c =
+to_source-requires g c =
     let sound : IsSound c.self.inside c.args.self.now = subst (IsSound c.self.inside) c.self.view_is c.self.invariant in
     let from = c.requires.pair.from in
     record {
@@ -40,7 +41,7 @@ to_source-requires c =
     }
 
 pub to_target-requires : goal.to_target-requires
-to_target-requires c =
+to_target-requires g c =
     let sound : IsSound c.self.inside c.args.self.now = subst (IsSound c.self.inside) c.self.view_is c.self.invariant in
     let to = c.requires.pair.to in
     let low = to.low in
@@ -48,28 +49,28 @@ to_target-requires c =
     (free_seen c.self.inside.frames.states c.args.self.now sound.frames c.args.pair.target (target_within c.args.self.now c.args.pair sound.lawful c.requires.pair) ∙ to.free)
 
 pub isolate-serial-requires : goal.isolate-serial-requires
-isolate-serial-requires c =
+isolate-serial-requires g c =
     let sound : IsSound c.self.inside c.args.self.now = subst (IsSound c.self.inside) c.self.view_is c.self.invariant in
     let room = c.requires.room in
     omega (arith, sound.moves.count, sound.moves.places, isolated_most c.args.self.now.records)
 
 pub place-requires : goal.place-requires
-place-requires c =
+place-requires g c =
     let sound : IsSound c.self.inside c.args.self.now = subst (IsSound c.self.inside) c.self.view_is c.self.invariant in
     ap is_some (placement_seen c.self.inside c.args.self.now c.self.view_is c.args.pair.page ∙ (can_isolate c.args.self.now c.args.pair sound.lawful c.requires.pair).at)
 
 -- the note of the page after it was isolated
-abbrev noted : After-read_out-carried → Note
+abbrev noted : {g : Over} → After-read_out-carried g → Note
 noted c = get_or c.self.inside.notes c.args.pair.page unused_note
 
-note_is : (c : After-read_out-carried) → slice_get c.self.inside.notes c.args.pair.page ≡ Some (noted c)
+note_is : {g : Over} (c : After-read_out-carried g) → slice_get c.self.inside.notes c.args.pair.page ≡ Some (noted c)
 note_is c =
     let sound : IsSound c.self.inside c.args.self.now = subst (IsSound c.self.inside) c.self.view_is c.self.invariant in
     let used = not_none _ (At c.args.pair.source) (can_isolate c.args.self.now c.args.pair sound.lawful c.requires.pair).at in
     slice_get-get_or c.self.inside.notes c.args.pair.page unused_note (note_within c.self.inside c.args.self.now sound c.args.pair.page used)
 
 -- the fields after the call
-abbrev after : After-read_out-carried → Inside
+abbrev after : {g : Over} → After-read_out-carried g → Inside g.row.W
 after c = record c.self.inside {
   frames = c.to_target.new.self;
   tables = c.to_migration.new.self;
@@ -79,7 +80,7 @@ after c = record c.self.inside {
   history = c.note.new.self;
 }
 
-settling : (c : After-read_out-carried) → Settling c.self.inside (after c) c.args.self.now c.args.pair.page (At c.args.pair.source) (Moving (isolated c.args.self.now.records) c.args.pair.source c.args.pair.target) (Isolate (isolated c.args.self.now.records) c.args.pair.page) (noted c) (c.args.pair.source + 1) c.args.pair.target
+settling : {g : Over} (c : After-read_out-carried g) → Settling c.self.inside (after c) c.args.self.now c.args.pair.page (At c.args.pair.source) (Moving (isolated c.args.self.now.records) c.args.pair.source c.args.pair.target) (Isolate (isolated c.args.self.now.records) c.args.pair.page) (noted c) (c.args.pair.source + 1) c.args.pair.target
 settling c =
     let z = c.self.inside in
     let v = c.args.self.now in
@@ -123,43 +124,43 @@ settling c =
     }
 
 pub invariant_of-self : goal.invariant_of-self
-invariant_of-self c =
+invariant_of-self g c =
     subst (IsSound (after c.before)) (sym (settle_view c.self.inside (after c.before) c.args.self.now c.args.pair.page _ _ _ _ _ _ (settling c.before)))
     (settle_sound c.self.inside (after c.before) c.args.self.now c.args.pair.page _ _ _ _ _ _ (settling c.before))
 
 pub returns-clause-step : goal.returns-clause-step
-returns-clause-step c = settle_view c.self.inside (after c.before) c.args.self.now c.args.pair.page _ _ _ _ _ _ (settling c.before)
+returns-clause-step g c = settle_view c.self.inside (after c.before) c.args.self.now c.args.pair.page _ _ _ _ _ _ (settling c.before)
 
 pub returns-clause-lawful : goal.returns-clause-lawful
-returns-clause-lawful c = (invariant_of-self c).lawful
+returns-clause-lawful g c = (invariant_of-self g c).lawful
 
 pub to_migration-requires-clause-within : goal.to_migration-requires-clause-within
-to_migration-requires-clause-within c =
+to_migration-requires-clause-within g c =
     let sound : IsSound c.self.inside c.args.self.now = subst (IsSound c.self.inside) c.self.view_is c.self.invariant in
     let within = target_within c.args.self.now c.args.pair sound.lawful c.requires.pair in
     let low = c.requires.pair.to.low in
     omega (arith, within, low, sound.tables)
 
 pub to_migration-requires-clause-fresh : goal.to_migration-requires-clause-fresh
-to_migration-requires-clause-fresh c =
+to_migration-requires-clause-fresh g c =
     let sound : IsSound c.self.inside c.args.self.now = subst (IsSound c.self.inside) c.self.view_is c.self.invariant in
     let serial : c.isolate-serial.result ≡ isolated c.args.self.now.records = c.isolate-serial.ensures.serial ∙ sound.moves.count in
     λ a source range e. fresh_serial c.self.inside.tables.entries c.args.self.now sound.entries sound.lawful a source range (e ∙ ap (λ (n : ℕ). Migration n source) serial)
 
 pub to_migration-requires-clause-resting : goal.to_migration-requires-clause-resting
-to_migration-requires-clause-resting c =
+to_migration-requires-clause-resting g c =
     let sound : IsSound c.self.inside c.args.self.now = subst (IsSound c.self.inside) c.self.view_is c.self.invariant in
     let at = (can_isolate c.args.self.now c.args.pair sound.lawful c.requires.pair).at in
     page_rests c.self.inside.tables.entries c.args.self.now sound.entries sound.lawful c.args.pair.page c.args.pair.source at
 
 pub read_out-carried-requires : goal.read_out-carried-requires
-read_out-carried-requires c =
+read_out-carried-requires g c =
     let sound : IsSound c.self.inside c.args.self.now = subst (IsSound c.self.inside) c.self.view_is c.self.invariant in
     let at = (can_isolate c.args.self.now c.args.pair sound.lawful c.requires.pair).at in
     omega (arith, frame_within c.args.self.now sound.lawful c.args.pair.page (At c.args.pair.source) at, sound.words.count)
 
 pub returns-clause-page : goal.returns-clause-page
-returns-clause-page c =
+returns-clause-page g c =
     let sound : IsSound c.self.inside c.args.self.now = subst (IsSound c.self.inside) c.self.view_is c.self.invariant in
     let at = (can_isolate c.args.self.now c.args.pair sound.lawful c.requires.pair).at in
     let serial = c.isolate-serial.ensures.serial ∙ sound.moves.count in

@@ -2,12 +2,13 @@ use Rattle.std.proofs.Common.{◌≡◌, [], ◌∷◌, refl, subst, sym, false}
 use Rattle.plain_core.specs.declared.plain.PlainZone.TheInside.{Inside}
 use Rattle.state_core.specs.ZoneState.{ZoneState}
 use Rattle.plain_core.specs.Sound.{IsSound, state_of}
-use Rattle.state_core.specs.Opening.{opened}
+use Rattle.state_core.specs.Opening.{opened_with}
 use Rattle.plain_core.proofs.Opened.{IsFresh, opened_view, opened_sound}
+use Rattle.plain_core.proofs.plain.PlainZone.open.Given.{Over}
 use Rattle.plain_core.proofs.plain.PlainZone.open.Goals as goal
 use Rattle.plain_core.proofs.plain.PlainZone.open.Goals.{After-new}
 
-abbrev new_zone : After-new → Inside
+abbrev new_zone : {g : Over} → After-new g → Inside g.row.W
 new_zone c = record {
   number = c.args.number;
   blocks = c.args.blocks;
@@ -22,9 +23,9 @@ new_zone c = record {
   history = c.in-Ok-open-6.history;
 }
 
-fresh : (c : After-new) → IsFresh (new_zone c) c.args.number c.args.blocks c.args.places
+fresh : {g : Over} (c : After-new g) → IsFresh (new_zone c) c.args.number c.args.blocks c.args.places
 fresh c = record {
-  openable = c.requires;
+  openable = c.requires.«open»;
   number_is = refl;
   blocks_is = refl;
   frames = c.in-Ok.ensures.open;
@@ -39,14 +40,14 @@ fresh c = record {
   history = c.in-Ok-open-6.ensures;
 }
 
-view : (c : After-new) → state_of (new_zone c) ≡ opened c.args.number c.args.blocks c.args.places
+view : {g : Over} (c : After-new g) → state_of (new_zone c) ≡ opened_with g.row.W c.args.number c.args.blocks c.args.places
 view c = opened_view (new_zone c) _ _ _ (fresh c)
 
 pub invariant_of-result : goal.invariant_of-result
-invariant_of-result c = let P : ZoneState → Type 0 = λ v. IsSound (new_zone c) v in subst P (sym (view c)) (opened_sound (new_zone c) _ _ _ (fresh c))
+invariant_of-result g c = let P : ZoneState → Type 0 = λ v. IsSound (new_zone c) v in subst P (sym (view c)) (opened_sound (new_zone c) _ _ _ (fresh c))
 
 pub returns-clause-ok : goal.returns-clause-ok
-returns-clause-ok c = view c
+returns-clause-ok g c = view c
 
 pub returns-clause-lawful : goal.returns-clause-lawful
-returns-clause-lawful c = (invariant_of-result c).lawful
+returns-clause-lawful g c = (invariant_of-result g c).lawful

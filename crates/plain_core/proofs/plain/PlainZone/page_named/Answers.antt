@@ -1,4 +1,4 @@
-use Rattle.std.proofs.Common.{◌≡◌, ◌∙◌, ℕ, subst, sym}
+use Rattle.std.proofs.Common.{◌≡◌, ◌∙◌, ℕ, subst, sym, arith}
 use Rattle.std.specs.Prelude.{Option, Some, IfSome}
 use Rattle.state_core.specs.declared.placement.Placement.TheVariants.{At, Moving}
 use Rattle.plain_core.specs.Sound.{IsSound}
@@ -13,15 +13,15 @@ named_so : (o : Option ℕ) (P : ℕ → Type 0) (page : ℕ) → o ≡ Some pag
 named_so o P page is holds = subst (λ (o : Option ℕ). IfSome o P) (sym is) holds
 
 pub holder-requires : goal.holder-requires
-holder-requires c =
+holder-requires g c =
     let sound : IsSound c.self.inside c.args.self.now = subst (IsSound c.self.inside) c.self.view_is c.self.invariant in
     let at = present_is (placement_at c.args.self.now c.args.address.now) c.in-Present.frame
     (sym (sound.entries.each c.args.address.now c.entry.ensures.range) ∙ sym c.entry.ensures.value ∙ c.in-Present.is) in
     let page = page_named c.args.self.now c.args.address.now (At c.in-Present.frame) at in
-    frame_within c.args.self.now sound.lawful page.0 (At c.in-Present.frame) page.2
+    (omega arith, frame_within c.args.self.now sound.lawful page.0 (At c.in-Present.frame) page.2)
 
 pub returns-in-Present : goal.returns-in-Present
-returns-in-Present c =
+returns-in-Present g c =
     let sound : IsSound c.self.inside c.args.self.now = subst (IsSound c.self.inside) c.self.view_is c.self.invariant in
     let at = present_is (placement_at c.args.self.now c.args.address.now) c.in-Present.frame
     (sym (sound.entries.each c.args.address.now c.entry.ensures.range) ∙ sym c.entry.ensures.value ∙ c.in-Present.is) in
@@ -30,7 +30,7 @@ returns-in-Present c =
     record { page = is ∙ sym page.1; in_use = named_so c.holder.result _ page.0 is (not_none _ (At c.in-Present.frame) page.2) }
 
 pub returns-in-Migration : goal.returns-in-Migration
-returns-in-Migration c =
+returns-in-Migration g c =
     let sound : IsSound c.self.inside c.args.self.now = subst (IsSound c.self.inside) c.self.view_is c.self.invariant in
     let at = migration_is (placement_at c.args.self.now c.args.address.now) c.in-Migration.serial c.in-Migration.source
     (sym (sound.entries.each c.args.address.now c.entry.ensures.range) ∙ sym c.entry.ensures.value ∙ c.in-Migration.is) in

@@ -11,16 +11,17 @@ use Rattle.plain_core.proofs.Noting.{Noting, noting_holds}
 use Rattle.plain_core.proofs.Shared.{sharing}
 use Rattle.plain_core.proofs.Tables.{note_seen, placement_seen}
 use Rattle.plain_core.specs.declared.note.Note.{Note}
+use Rattle.plain_core.proofs.plain.PlainZone.share.Given.{Over}
 use Rattle.plain_core.proofs.plain.PlainZone.share.Goals as goal
 use Rattle.plain_core.proofs.plain.PlainZone.share.Goals.{After-note}
 
 pub with_address-requires : goal.with_address-requires
-with_address-requires c =
+with_address-requires g c =
     let sound : IsSound c.self.inside c.args.self.now = subst (IsSound c.self.inside) c.self.view_is c.self.invariant in
     let seen = note_seen c.self.inside c.args.self.now c.self.view_is sound c.page_at-page.result c.page_at-page.ensures.in_use c.get-note.result c.get-note.ensures in
     omega (arith, c.requires.few, ap (λ (o : Option ℕ). maps c.args.self.now.records (unwrap_or o 0)) c.page_at-page.ensures.named, seen.fits.maps)
 
-can : (c : After-note) → CanShare c.args.self.now c.args.address c.args.alias c.page_at-page.result c.args.frame
+can : {g : Over} (c : After-note g) → CanShare c.args.self.now c.args.address c.args.alias c.page_at-page.result c.args.frame
 can c =
     let sound : IsSound c.self.inside c.args.self.now = subst (IsSound c.self.inside) c.self.view_is c.self.invariant in
     record {
@@ -33,44 +34,44 @@ can c =
       few = omega (arith, c.requires.few, ap (λ (o : Option ℕ). maps c.args.self.now.records (unwrap_or o 0)) c.page_at-page.ensures.named);
     }
 
-known : (c : After-note) → Noting c.self.inside c.args.self.now c.page_at-page.result (Share c.args.client c.args.address c.args.alias) c.get-note.result (record c.get-note.result { maps = c.get-note.result.maps + 1 }) c.self.inside.frames c.set.new.self c.note.new.self
+known : {g : Over} (c : After-note g) → Noting c.self.inside c.args.self.now c.page_at-page.result (Share c.args.client c.args.address c.args.alias) c.get-note.result (record c.get-note.result { maps = c.get-note.result.maps + 1 }) c.self.inside.frames c.set.new.self c.note.new.self
 known c =
     sharing c.self.inside c.args.self.now (subst (IsSound c.self.inside) c.self.view_is c.self.invariant) c.self.view_is c.args.client c.args.address c.args.alias c.page_at-page.result c.args.frame (can c)
     c.get-note.result c.set.new.self c.note.new.self c.get-note.ensures c.set.ensures.set c.set.ensures.frames c.note.ensures
 
 pub invariant_of-self : goal.invariant_of-self
-invariant_of-self c = (noting_holds _ _ _ _ _ _ _ _ _ (known c) c.revise.new.self (c.revise.ensures ∙ ap (slice_set c.self.inside.notes c.page_at-page.result) c.with_address.ensures)).0
+invariant_of-self g c = (noting_holds _ _ _ _ _ _ _ _ _ (known c) c.revise.new.self (c.revise.ensures ∙ ap (slice_set c.self.inside.notes c.page_at-page.result) c.with_address.ensures)).0
 
 pub returns-clause-step : goal.returns-clause-step
-returns-clause-step c = (noting_holds _ _ _ _ _ _ _ _ _ (known c) c.revise.new.self (c.revise.ensures ∙ ap (slice_set c.self.inside.notes c.page_at-page.result) c.with_address.ensures)).1
+returns-clause-step g c = (noting_holds _ _ _ _ _ _ _ _ _ (known c) c.revise.new.self (c.revise.ensures ∙ ap (slice_set c.self.inside.notes c.page_at-page.result) c.with_address.ensures)).1
 
 pub returns-clause-lawful : goal.returns-clause-lawful
-returns-clause-lawful c = (invariant_of-self c).lawful
+returns-clause-lawful g c = (invariant_of-self g c).lawful
 
 pub set-requires-clause-within : goal.set-requires-clause-within
-set-requires-clause-within c =
+set-requires-clause-within g c =
     let sound : IsSound c.self.inside c.args.self.now = subst (IsSound c.self.inside) c.self.view_is c.self.invariant in
     let at = page_stands c.args.self.now c.args.address (At c.args.frame) c.page_at-page.result c.page_at-page.ensures.named c.requires.frame in
     omega (arith, frame_within c.args.self.now sound.lawful c.page_at-page.result (At c.args.frame) at, sound.tables)
 
 pub set-requires-clause-room : goal.set-requires-clause-room
-set-requires-clause-room c =
+set-requires-clause-room g c =
     let sound : IsSound c.self.inside c.args.self.now = subst (IsSound c.self.inside) c.self.view_is c.self.invariant in
     let at = page_stands c.args.self.now c.args.address (At c.args.frame) c.page_at-page.result c.page_at-page.ensures.named c.requires.frame in
     omega (arith, c.requires.few, ap (λ (o : Option ℕ). maps c.args.self.now.records (unwrap_or o 0)) c.page_at-page.ensures.named, count_names c.self.inside.tables.entries c.args.self.now sound.entries sound.lawful c.page_at-page.result c.args.frame at)
 
 pub revise-requires-clause-used : goal.revise-requires-clause-used
-revise-requires-clause-used c =
+revise-requires-clause-used g c =
     ap is_some (placement_seen c.self.inside c.args.self.now c.self.view_is c.page_at-page.result) ∙ c.page_at-page.ensures.in_use
 
 pub revise-requires-clause-stays : goal.revise-requires-clause-stays
-revise-requires-clause-stays c =
+revise-requires-clause-stays g c =
     let sound : IsSound c.self.inside c.args.self.now = subst (IsSound c.self.inside) c.self.view_is c.self.invariant in
     let seen = note_seen c.self.inside c.args.self.now c.self.view_is sound c.page_at-page.result c.page_at-page.ensures.in_use c.get-note.result c.get-note.ensures in
     ap (λ (n : Note). is_some n.placement) c.with_address.ensures ∙ ap is_some seen.placement ∙ c.page_at-page.ensures.in_use
 
 pub set-requires-clause-resting : goal.set-requires-clause-resting
-set-requires-clause-resting c =
+set-requires-clause-resting g c =
     let sound : IsSound c.self.inside c.args.self.now = subst (IsSound c.self.inside) c.self.view_is c.self.invariant in
     let at = page_stands c.args.self.now c.args.address (At c.args.frame) c.page_at-page.result c.page_at-page.ensures.named c.requires.frame in
     page_rests c.self.inside.tables.entries c.args.self.now sound.entries sound.lawful c.page_at-page.result c.args.frame at

@@ -5,15 +5,16 @@ use Rattle.scan_core.specs.Frames.{is_holding_state}
 use Rattle.plain_core.specs.Sound.{IsSound}
 use Rattle.plain_core.proofs.Facts.{held_by}
 use Rattle.plain_core.proofs.Unmapped.{Unmapping, last_holds}
+use Rattle.plain_core.proofs.plain.PlainZone.unmap_last.Given.{Over}
 use Rattle.plain_core.proofs.plain.PlainZone.unmap_last.Goals as goal
 use Rattle.plain_core.proofs.plain.PlainZone.unmap_last.Goals.{After-note}
 
 pub empty-requires : goal.empty-requires
-empty-requires c =
+empty-requires g c =
     let sound : IsSound c.self.inside c.args.self.now = subst (IsSound c.self.inside) c.self.view_is c.self.invariant in
     ap is_holding_state (held_by c.self.inside.frames.states c.args.self.now sound.frames c.args.page c.args.frame c.requires.here)
 
-unmapping : (c : After-note) → Unmapping c.self.inside c.args.self.now c.args.client c.args.address c.args.page c.args.frame c.clear.new.self c.note.new.self
+unmapping : {g : Over} (c : After-note g) → Unmapping c.self.inside c.args.self.now c.args.client c.args.address c.args.page c.args.frame c.clear.new.self c.note.new.self
 unmapping c =
     let sound : IsSound c.self.inside c.args.self.now = subst (IsSound c.self.inside) c.self.view_is c.self.invariant in
     record {
@@ -26,10 +27,10 @@ unmapping c =
     }
 
 pub invariant_of-self : goal.invariant_of-self
-invariant_of-self c = (last_holds _ _ _ _ _ _ _ _ (unmapping c) c.requires.last c.empty.new.self c.put.new.self c.empty.ensures.state (c.put.ensures ∙ ap (slice_set c.self.inside.notes c.args.page) c.unused.ensures)).0
+invariant_of-self g c = (last_holds _ _ _ _ _ _ _ _ (unmapping c) c.requires.last c.empty.new.self c.put.new.self c.empty.ensures.state (c.put.ensures ∙ ap (slice_set c.self.inside.notes c.args.page) c.unused.ensures)).0
 
 pub returns-clause-step : goal.returns-clause-step
-returns-clause-step c = (last_holds _ _ _ _ _ _ _ _ (unmapping c) c.requires.last c.empty.new.self c.put.new.self c.empty.ensures.state (c.put.ensures ∙ ap (slice_set c.self.inside.notes c.args.page) c.unused.ensures)).1
+returns-clause-step g c = (last_holds _ _ _ _ _ _ _ _ (unmapping c) c.requires.last c.empty.new.self c.put.new.self c.empty.ensures.state (c.put.ensures ∙ ap (slice_set c.self.inside.notes c.args.page) c.unused.ensures)).1
 
 pub returns-clause-lawful : goal.returns-clause-lawful
-returns-clause-lawful c = (invariant_of-self c).lawful
+returns-clause-lawful g c = (invariant_of-self g c).lawful

@@ -8,17 +8,18 @@ use Rattle.plain_core.proofs.Noting.{Noting, noting_holds}
 use Rattle.plain_core.proofs.Unmapped.{Unmapping, unmapping_one}
 use Rattle.plain_core.proofs.Tables.{note_seen, placement_seen}
 use Rattle.plain_core.specs.declared.note.Note.{Note}
+use Rattle.plain_core.proofs.plain.PlainZone.unmap_one.Given.{Over}
 use Rattle.plain_core.proofs.plain.PlainZone.unmap_one.Goals as goal
 use Rattle.plain_core.proofs.plain.PlainZone.unmap_one.Goals.{After-note}
 
 pub without_address-requires : goal.without_address-requires
-without_address-requires c =
+without_address-requires g c =
     let sound : IsSound c.self.inside c.args.self.now = subst (IsSound c.self.inside) c.self.view_is c.self.invariant in
     let used = not_none _ (At c.requires.here.0) c.requires.here.1 in
     let seen = note_seen c.self.inside c.args.self.now c.self.view_is sound c.args.page used c.get-note.result c.get-note.ensures in
     omega (arith, seen.fits.maps, (sound.lawful.in_use c.args.page used).0)
 
-unmapping : (c : After-note) → Unmapping c.self.inside c.args.self.now c.args.client c.args.address c.args.page c.requires.here.0 c.clear.new.self c.note.new.self
+unmapping : {g : Over} (c : After-note g) → Unmapping c.self.inside c.args.self.now c.args.client c.args.address c.args.page c.requires.here.0 c.clear.new.self c.note.new.self
 unmapping c =
     let sound : IsSound c.self.inside c.args.self.now = subst (IsSound c.self.inside) c.self.view_is c.self.invariant in
     record {
@@ -30,25 +31,25 @@ unmapping c =
       history_is = c.note.ensures;
     }
 
-known : (c : After-note) → Noting c.self.inside c.args.self.now c.args.page (Unmap c.args.client c.args.address) c.get-note.result (record c.get-note.result { maps = c.get-note.result.maps - 1 }) c.self.inside.frames c.clear.new.self c.note.new.self
+known : {g : Over} (c : After-note g) → Noting c.self.inside c.args.self.now c.args.page (Unmap c.args.client c.args.address) c.get-note.result (record c.get-note.result { maps = c.get-note.result.maps - 1 }) c.self.inside.frames c.clear.new.self c.note.new.self
 known c = unmapping_one _ _ _ _ _ _ _ _ (unmapping c) c.requires.more c.get-note.result c.get-note.ensures
 
 pub invariant_of-self : goal.invariant_of-self
-invariant_of-self c = (noting_holds _ _ _ _ _ _ _ _ _ (known c) c.revise.new.self (c.revise.ensures ∙ ap (slice_set c.self.inside.notes c.args.page) c.without_address.ensures)).0
+invariant_of-self g c = (noting_holds _ _ _ _ _ _ _ _ _ (known c) c.revise.new.self (c.revise.ensures ∙ ap (slice_set c.self.inside.notes c.args.page) c.without_address.ensures)).0
 
 pub returns-clause-step : goal.returns-clause-step
-returns-clause-step c = (noting_holds _ _ _ _ _ _ _ _ _ (known c) c.revise.new.self (c.revise.ensures ∙ ap (slice_set c.self.inside.notes c.args.page) c.without_address.ensures)).1
+returns-clause-step g c = (noting_holds _ _ _ _ _ _ _ _ _ (known c) c.revise.new.self (c.revise.ensures ∙ ap (slice_set c.self.inside.notes c.args.page) c.without_address.ensures)).1
 
 pub returns-clause-lawful : goal.returns-clause-lawful
-returns-clause-lawful c = (invariant_of-self c).lawful
+returns-clause-lawful g c = (invariant_of-self g c).lawful
 
 pub revise-requires-clause-used : goal.revise-requires-clause-used
-revise-requires-clause-used c =
+revise-requires-clause-used g c =
     let used = not_none _ (At c.requires.here.0) c.requires.here.1 in
     ap is_some (placement_seen c.self.inside c.args.self.now c.self.view_is c.args.page) ∙ used
 
 pub revise-requires-clause-stays : goal.revise-requires-clause-stays
-revise-requires-clause-stays c =
+revise-requires-clause-stays g c =
     let sound : IsSound c.self.inside c.args.self.now = subst (IsSound c.self.inside) c.self.view_is c.self.invariant in
     let used = not_none _ (At c.requires.here.0) c.requires.here.1 in
     let seen = note_seen c.self.inside c.args.self.now c.self.view_is sound c.args.page used c.get-note.result c.get-note.ensures in

@@ -16,7 +16,7 @@ resting : (o : Option Placement) (placement : Placement) (serial source target :
 resting o placement serial source target e ne f = let same : placement ≡ Moving serial source target = cc in ne same
 
 pub returns-in_err-under-clause-own : goal.returns-in_err-under-clause-own
-returns-in_err-under-clause-own c =
+returns-in_err-under-clause-own g c =
     let noted : map.get c.args.self.now.placement c.args.page.now.number ≡ c.placement.result =
     sym (c.placement.ensures ∙ ap (placement_of c.self.inside.notes) c.number.ensures ∙ placement_seen c.self.inside c.args.self.now c.self.view_is c.args.page.now.number) in
     not_own c.args.page.now.zone c.args.self.now.number c.args.serial
@@ -26,7 +26,7 @@ returns-in_err-under-clause-own c =
     (noted ∙ c.in_err-under.was) e)
 
 pub returns-in_default-clause-own : goal.returns-in_default-clause-own
-returns-in_default-clause-own c =
+returns-in_default-clause-own g c =
     let noted : map.get c.args.self.now.placement c.args.page.now.number ≡ c.placement.result =
     sym (c.placement.ensures ∙ ap (placement_of c.self.inside.notes) c.number.ensures ∙ placement_seen c.self.inside c.args.self.now c.self.view_is c.args.page.now.number) in
     not_own c.args.page.now.zone c.args.self.now.number c.args.serial
@@ -35,7 +35,7 @@ returns-in_default-clause-own c =
     c.args.serial source target (noted ∙ c.in_ok-under.was) (c.in_default.not-Moving c.args.serial source target) e)
 
 pub returns-then-under-serial-clause-own : goal.returns-then-under-serial-clause-own
-returns-then-under-serial-clause-own c =
+returns-then-under-serial-clause-own g c =
     let noted : map.get c.args.self.now.placement c.args.page.now.number ≡ c.placement.result =
     sym (c.placement.ensures ∙ ap (placement_of c.self.inside.notes) c.number.ensures ∙ placement_seen c.self.inside c.args.self.now c.self.view_is c.args.page.now.number) in
     not_own c.args.page.now.zone c.args.self.now.number c.args.serial
@@ -44,7 +44,7 @@ returns-then-under-serial-clause-own c =
     c.in-Moving.source c.in-Moving.target (noted ∙ c.in_ok-under.was ∙ ap Some c.in-Moving.is) c.if-under-serial.true)
 
 pub returns-clause-own : goal.returns-clause-own
-returns-clause-own c =
+returns-clause-own g c =
     let noted : map.get c.args.self.now.placement c.args.page.now.number ≡ c.placement.result =
     sym (c.placement.ensures ∙ ap (placement_of c.self.inside.notes) c.number.ensures ∙ placement_seen c.self.inside c.args.self.now c.self.view_is c.args.page.now.number) in
     let here : c.args.page.now.zone ≡ c.args.self.now.number = sym c.zone.ensures
@@ -57,7 +57,7 @@ returns-clause-own c =
     )
 
 pub returns-clause-placed : goal.returns-clause-placed
-returns-clause-placed c =
+returns-clause-placed g c =
     let noted : map.get c.args.self.now.placement c.args.page.now.number ≡ c.placement.result =
     sym (c.placement.ensures ∙ ap (placement_of c.self.inside.notes) c.number.ensures ∙ placement_seen c.self.inside c.args.self.now c.self.view_is c.args.page.now.number) in
     ap (map.get c.args.self.now.placement) c.number-2.ensures ∙ noted ∙ c.in_ok-under.was ∙ ap Some c.in-Moving.is

@@ -2,4 +2,4 @@ use Rattle.std.proofs.Common.{rules}
 use Rattle.word_core.proofs.copied.Copied.into_page.Goals as goal
 
 pub returns : goal.returns
-returns c = search rules
+returns g c = search rules

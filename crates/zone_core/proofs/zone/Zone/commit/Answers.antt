@@ -53,8 +53,8 @@ returns-then-has_pin-clause-moves g c quiet =
 pub returns-then-has_pin-clause-own : goal.returns-then-has_pin-clause-own
 returns-then-has_pin-clause-own g c = search rules
 
-pub arrive-requires-clause-words : goal.arrive-requires-clause-words
-arrive-requires-clause-words g c = search rules
+pub arrive-requires : goal.arrive-requires
+arrive-requires g c = search rules
 
 pub returns-clause-own : goal.returns-clause-own
 returns-clause-own g c = search rules

@@ -4,8 +4,8 @@ use Rattle.state_core.specs.Sharing.{shared}
 use Rattle.zone_core.proofs.ScannersMet.{scanned_loud}
 use Rattle.zone_core.proofs.zone.Zone.share.Goals as goal
 
-pub share-requires-clause-few : goal.share-requires-clause-few
-share-requires-clause-few g c = search rules
+pub share-requires : goal.share-requires
+share-requires g c = search rules
 
 pub returns-clause-refused : goal.returns-clause-refused
 returns-clause-refused g c = search rules

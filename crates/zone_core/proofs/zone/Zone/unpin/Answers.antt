@@ -4,8 +4,8 @@ use Rattle.state_core.specs.Pinning.{unpinned}
 use Rattle.zone_core.proofs.ScannersMet.{scanned_loud}
 use Rattle.zone_core.proofs.zone.Zone.unpin.Goals as goal
 
-pub unpin-requires-clause-some : goal.unpin-requires-clause-some
-unpin-requires-clause-some g c = search rules
+pub unpin-requires : goal.unpin-requires
+unpin-requires g c = search rules
 
 pub returns-clause-refused : goal.returns-clause-refused
 returns-clause-refused g c = search rules

@@ -1,0 +1,17 @@
+use Rattle.std.proofs.Common.{◌≡◌, ◌+◌}
+use Rattle.journal_core.specs.Moves.{isolated}
+use Rattle.solo_core.proofs.Steps.{IsBetween}
+use Rattle.solo_core.proofs.compacting.compact.Given as goal
+
+abbrev pub invariant-loop : goal.invariant-loop
+invariant-loop g l = record {
+  between : IsBetween l.fn.zone l.zone;
+  count : l.seats.scan.count ≡ isolated l.zone.records;
+  rounds : l.seats.scan.rounds ≡ l.fn.seats.scan.rounds + 1;
+  moved : l.seats.ends.moved + l.fn.seats.scan.count ≡ l.fn.seats.ends.moved + l.seats.scan.count;
+  back : l.seats.ends.back ≡ l.fn.seats.ends.back;
+}
+
+-- each page takes places of the journal
+abbrev pub decreases-loop : goal.decreases-loop
+decreases-loop g l = l.zone.room

@@ -1,0 +1,171 @@
+//! Zones whose pages have 1, 8, 64 and 512 words.
+
+ghost use Rattle.std.specs.Prelude.{◌<◌, ◌≤◌, ◌×◌};
+ghost use Rattle.zone_core.specs.Books.{AreFor};
+
+use super::{address, client};
+use bitflags::Flags;
+use frame_core::{PageFlags, WordOf, ZoneNo};
+use std::marker::Brand;
+use std::process::Abort;
+use std::sync::ledger::Ledger;
+use zone_core::{Blanks, EndSeat, Ended, Next, ScanSeat, ZoneError, ZoneOf};
+
+/// A zone of one pageblock with a page in frame 0, and its seats.
+#[derive(Drop)]
+struct Sized<const W: usize, I: Ledger, N: Ledger, M: Ledger, B: Ledger> {
+    zone: ZoneOf<W, I, M, B>,
+    scan: ScanSeat<I, N>,
+    ends: EndSeat<M, B>,
+}
+
+impl<const W: usize, I: Ledger, N: Ledger, M: Ledger, B: Ledger> Sized<W, I, N, M, B> {
+    fn of(rt: &(impl Abort + AllocGlobal), places: u32, blanks: Blanks) -> Self
+        requires blanks { AreFor blanks I.name I.parts N.name N.parts M.name M.parts B.name B.parts }
+        requires size { W ≤ 65536 }
+    {
+        let number = ZoneNo::new(3).expect(rt, "a zone");
+        let opened = ZoneOf::<W, I, M, B>::open::<N>(rt.alloc(), number, 1, places, blanks);
+        let (mut zone, scan, ends) = opened.expect(rt, "a zone");
+        assert!(rt; zone.page_size() == W);
+        assert!(rt; zone.map(client(rt), address(rt, (7, 9)), PageFlags::empty()).is_ok());
+        Sized { zone, scan, ends }
+    }
+
+    fn write(&mut self, rt: &impl Abort, from: WordOf<W>, values: &[u64]) -> Result<(), ZoneError> {
+        self.zone.write(client(rt), address(rt, (7, 9)), from, values)
+    }
+
+    fn read(&mut self, rt: &impl Abort, from: WordOf<W>, values: &mut [u64]) -> Result<(), ZoneError> {
+        self.zone.read(client(rt), address(rt, (7, 9)), from, values)
+    }
+
+    fn load(&mut self, rt: &impl Abort, word: WordOf<W>) -> Result<u64, ZoneError> {
+        self.zone.load(client(rt), address(rt, (7, 9)), word)
+    }
+
+    /// A page whose words all differ is moved, and has each of them afterwards.
+    fn moves_its_words(&mut self, rt: &impl Abort)
+        requires { W ≤ 65536 }
+    {
+        let first = WordOf::new(0).expect(rt, "a word");
+        let mut words = [0; W];
+        for (number, word) in words.iter_mut().enumerate() {
+            *word = u64::MAX - number as u64;
+        }
+        assert!(rt; self.write(rt, first, &words) == Ok(()));
+        self.zone.begin_round(&mut self.scan);
+        let Ok(Next::Page(page)) = self.zone.isolate_next(&mut self.scan) else {
+            panic!(rt; "no page is isolated");
+        };
+        let mut read = [0; W];
+        assert!(rt; self.read(rt, first, &mut read) == Err(ZoneError::Moving));
+        let Ok(Ended::Moved) = self.zone.commit(&mut self.ends, page.copy_into_new()) else {
+            panic!(rt; "the page isn't moved");
+        };
+        assert!(rt; self.read(rt, first, &mut read) == Ok(()));
+        assert!(rt; read == words);
+        for number in 0..W {
+            let word = WordOf::new(number as u32).expect(rt, "a word");
+            assert!(rt; self.load(rt, word) == Ok(u64::MAX - number as u64));
+        }
+    }
+
+    /// Words that go past the page are refused, and nothing is read or written.
+    fn refuses_words_past_the_page(&mut self, rt: &impl Abort)
+        requires { (0 < W) × (W ≤ 65536) }
+    {
+        let last = WordOf::new((W - 1) as u32).expect(rt, "a word");
+        let mut values = [7; 2];
+        assert!(rt; self.write(rt, last, &values) == Err(ZoneError::Range));
+        assert!(rt; self.read(rt, last, &mut values) == Err(ZoneError::Range));
+        assert!(rt; values == [7; 2]);
+        assert!(rt; self.load(rt, last) == Ok(0));
+        assert!(rt; self.write(rt, last, &values[..1]) == Ok(()));
+        assert!(rt; self.load(rt, last) == Ok(7));
+        assert!(rt; self.zone.journal().len() == 4);
+    }
+
+    /// With one place too few in the journal no word is written.
+    fn needs_a_place_for_each_word(&mut self, rt: &impl Abort)
+        requires { (0 < W) × (W ≤ 65536) }
+    {
+        let first = WordOf::new(0).expect(rt, "a word");
+        let words = [7; W];
+        assert!(rt; self.write(rt, first, &words) == Err(ZoneError::JournalFull));
+        assert!(rt; self.zone.journal().len() == 1);
+        assert!(rt; self.write(rt, first, &words[1..]) == Ok(()));
+        assert!(rt; self.zone.journal().len() == W);
+    }
+}
+
+/// How many words the pages have.
+#[derive(Clone, Copy)]
+enum Size {
+    One,
+    Eight,
+    SixtyFour,
+    FiveHundredTwelve,
+}
+
+fn tries<I: Ledger, N: Ledger, M: Ledger, B: Ledger>(
+    rt: &(impl Abort + AllocGlobal),
+    size: Size,
+    trial: Trial,
+    blanks: Blanks,
+)
+    requires blanks { AreFor blanks I.name I.parts N.name N.parts M.name M.parts B.name B.parts }
+{
+    match size {
+        Size::One => tries_with::<1, I, N, M, B>(rt, trial, blanks),
+        Size::Eight => tries_with::<8, I, N, M, B>(rt, trial, blanks),
+        Size::SixtyFour => tries_with::<64, I, N, M, B>(rt, trial, blanks),
+        Size::FiveHundredTwelve => tries_with::<512, I, N, M, B>(rt, trial, blanks),
+    }
+}
+
+/// What is tried with a zone that was just opened.
+#[derive(Clone, Copy)]
+enum Trial {
+    MovesItsWords,
+    RefusesWordsPastThePage,
+    NeedsAPlaceForEachWord,
+}
+
+fn tries_with<const W: usize, I: Ledger, N: Ledger, M: Ledger, B: Ledger>(
+    rt: &(impl Abort + AllocGlobal),
+    trial: Trial,
+    blanks: Blanks,
+)
+    requires blanks { AreFor blanks I.name I.parts N.name N.parts M.name M.parts B.name B.parts }
+    requires size { (0 < W) × (W ≤ 65536) }
+{
+    let places = match trial {
+        Trial::NeedsAPlaceForEachWord => W as u32,
+        _ => 4096,
+    };
+    let mut sized = Sized::<W, I, N, M, B>::of(rt, places, blanks);
+    match trial {
+        Trial::MovesItsWords => sized.moves_its_words(rt),
+        Trial::RefusesWordsPastThePage => sized.refuses_words_past_the_page(rt),
+        Trial::NeedsAPlaceForEachWord => sized.needs_a_place_for_each_word(rt),
+    }
+}
+
+#[test]
+fn pages_have_any_size(rt: HostRuntime) {
+    for size in [
+        Size::One,
+        Size::Eight,
+        Size::SixtyFour,
+        Size::FiveHundredTwelve,
+    ] {
+        for trial in [
+            Trial::MovesItsWords,
+            Trial::RefusesWordsPastThePage,
+            Trial::NeedsAPlaceForEachWord,
+        ] {
+            tries::<Brand, Brand, Brand, Brand>(&rt, size, trial, Blanks::new());
+        }
+    }
+}
