@@ -62,12 +62,12 @@ returns-clause-own g c = search rules
 pub invariant_of-self : goal.invariant_of-self
 invariant_of-self g c =
     let v = c.self.inside.plain in
-    let scanned = scanned_loud c.self.inside.isolated.total v (put_back_to_source v c.in-Some.way.serial c.in-Some.way.page Pinned) c.go_back.new.self (Back c.in-Some.way.serial Pinned) c.self.invariant.2 c.self.invariant.3 c.go_back.ensures.step refl refl refl refl in
+    let scanned = scanned_loud c.self.inside.isolated.total v (put_back_to_source v c.in-Some.way.serial c.in-Some.way.page Pinned) c.go_back.new.self (Back c.in-Some.way.serial Pinned) c.self.invariant.2.begun c.self.invariant.3 c.go_back.ensures.step refl refl refl refl in
     search (rules, scanned)
 
 pub invariant_of-self-2 : goal.invariant_of-self-2
 invariant_of-self-2 g c =
     let v = c.self.inside.plain in
-    let scanned = scanned_quiet c.self.inside.isolated.total v (moved_to_target v c.in-Some.way.serial c.in-Some.way.page) c.arrive.new.self (Moved c.in-Some.way.serial) c.self.invariant.2 c.self.invariant.3 c.arrive.ensures.step refl refl refl refl
+    let scanned = scanned_quiet c.self.inside.isolated.total v (moved_to_target v c.in-Some.way.serial c.in-Some.way.page) c.arrive.new.self (Moved c.in-Some.way.serial) c.self.invariant.2.begun c.self.invariant.3 c.arrive.ensures.step refl refl refl refl
     (λ quiet. met_moved v c.in-Some.way.page c.in-Some.way.serial c.in-Some.way.source c.in-Some.way.target c.self.invariant.2 (c.self.invariant.2.swept quiet) c.in-Some.ensures.placed) in
     search (rules, scanned)

@@ -15,5 +15,5 @@ returns-clause-run g c =
 pub invariant_of-self : goal.invariant_of-self
 invariant_of-self g c =
     let v = c.self.inside.plain in
-    let scanned = scanned_loud c.self.inside.isolated.total v (block_given v c.args.first c.args.order) c.take_back.new.self (GiveHuge c.args.first c.args.order) c.self.invariant.2 c.self.invariant.3 c.take_back.ensures.step refl refl refl refl in
+    let scanned = scanned_loud c.self.inside.isolated.total v (block_given v c.args.first c.args.order) c.take_back.new.self (GiveHuge c.args.first c.args.order) c.self.invariant.2.begun c.self.invariant.3 c.take_back.ensures.step refl refl refl refl in
     search (rules, scanned)

@@ -28,5 +28,5 @@ returns-clause-ok g c = search rules
 pub invariant_of-self : goal.invariant_of-self
 invariant_of-self g c =
     let v = c.self.inside.plain in
-    let scanned = scanned_loud c.self.inside.isolated.total v (put_back_to_source v c.in-Some.way.serial c.in-Some.way.page NotCopied) c.go_back.new.self (Back c.in-Some.way.serial NotCopied) c.self.invariant.2 c.self.invariant.3 c.go_back.ensures.step refl refl refl refl in
+    let scanned = scanned_loud c.self.inside.isolated.total v (put_back_to_source v c.in-Some.way.serial c.in-Some.way.page NotCopied) c.go_back.new.self (Back c.in-Some.way.serial NotCopied) c.self.invariant.2.begun c.self.invariant.3 c.go_back.ensures.step refl refl refl refl in
     search (rules, scanned)
