@@ -1,1 +1,2 @@
 pub mod Seated
+mod WordsAtOnce

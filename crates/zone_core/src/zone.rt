@@ -266,7 +266,10 @@ impl<const W: usize, I: Ledger, M: Ledger, B: Ledger> Zone<W, I, M, B> {
     ///
     /// Refused as JournalFull unless the journal has at least two places more than pages are moving. The seat notes this too.
     #[inline(always)]
-    pub fn isolate_next<N: Ledger>(&mut self, seat: &mut ScanSeat<I, N>) -> Result<Next<IsolatedOf<W>>, ZoneError>
+    pub fn isolate_next<N: Ledger>(
+        &mut self,
+        seat: &mut ScanSeat<I, N>,
+    ) -> Result<Next<IsolatedOf<W>>, ZoneError>
         ensures refused { result_err result ≡ isolate_refusal self.old }
         ensures err { OnErr result (self.new ≡ self.old) }
         ensures answer { IfOk result (λ next. next ≡ next_answer self.old (next_pair self.old)) }
