@@ -1,2 +1,3 @@
 pub mod ScannersMet
 pub mod Seated
+mod WordsAtOnce
