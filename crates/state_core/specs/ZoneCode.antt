@@ -28,8 +28,17 @@ abbrev pub coded_zone : Coded ZoneState
 coded_zone = code_by Fields coded_fields
     (λ z. (z.number, (z.blocks, (z.page_size, (z.records, (z.room, (z.unmovable, (z.marked, (z.handed_out, (z.placement, (z.migrate, (z.free, z.round))))))))))))
     (λ p. record {
-      number = p.0; blocks = p.1.0; page_size = p.1.1.0; records = p.1.1.1.0; room = p.1.1.1.1.0;
-      unmovable = p.1.1.1.1.1.0; marked = p.1.1.1.1.1.1.0; handed_out = p.1.1.1.1.1.1.1.0; placement = p.1.1.1.1.1.1.1.1.0;
-      migrate = p.1.1.1.1.1.1.1.1.1.0; free = p.1.1.1.1.1.1.1.1.1.1.0; round = p.1.1.1.1.1.1.1.1.1.1.1;
+      number = p.0;
+      blocks = p.1.0;
+      page_size = p.1.1.0;
+      records = p.1.1.1.0;
+      room = p.1.1.1.1.0;
+      unmovable = p.1.1.1.1.1.0;
+      marked = p.1.1.1.1.1.1.0;
+      handed_out = p.1.1.1.1.1.1.1.0;
+      placement = p.1.1.1.1.1.1.1.1.0;
+      migrate = p.1.1.1.1.1.1.1.1.1.0;
+      free = p.1.1.1.1.1.1.1.1.1.1.0;
+      round = p.1.1.1.1.1.1.1.1.1.1.1;
     })
     (λ _. refl)

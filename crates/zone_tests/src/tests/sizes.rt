@@ -28,16 +28,26 @@ impl<const W: usize, I: Ledger, N: Ledger, M: Ledger, B: Ledger> Sized<W, I, N, 
         let opened = ZoneOf::<W, I, M, B>::open::<N>(rt.alloc(), number, 1, places, blanks);
         let (mut zone, scan, ends) = opened.expect(rt, "a zone");
         assert!(rt; zone.page_size() == W);
-        assert!(rt; zone.map(client(rt), address(rt, (7, 9)), PageFlags::empty()).is_ok());
+        assert!(rt;
+            zone.map(client(rt), address(rt, (7, 9)), PageFlags::empty())
+                .is_ok()
+        );
         Sized { zone, scan, ends }
     }
 
     fn write(&mut self, rt: &impl Abort, from: WordOf<W>, values: &[u64]) -> Result<(), ZoneError> {
-        self.zone.write(client(rt), address(rt, (7, 9)), from, values)
+        self.zone
+            .write(client(rt), address(rt, (7, 9)), from, values)
     }
 
-    fn read(&mut self, rt: &impl Abort, from: WordOf<W>, values: &mut [u64]) -> Result<(), ZoneError> {
-        self.zone.read(client(rt), address(rt, (7, 9)), from, values)
+    fn read(
+        &mut self,
+        rt: &impl Abort,
+        from: WordOf<W>,
+        values: &mut [u64],
+    ) -> Result<(), ZoneError> {
+        self.zone
+            .read(client(rt), address(rt, (7, 9)), from, values)
     }
 
     fn load(&mut self, rt: &impl Abort, word: WordOf<W>) -> Result<u64, ZoneError> {
