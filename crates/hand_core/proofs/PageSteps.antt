@@ -1,11 +1,10 @@
 -- Each step of a hand-over keeps its rule.
 use Rattle.std.proofs.Common.{◌≡◌, ◌≢◌, ℕ, zero, suc, ◌+◌, ◌-◌, ◌<◌, true, false, true≢false, List, [], ◌∷◌, ◌++◌, length, map, set, All, sym, refl, ap, ◌∙◌, subst, ⊎_elim, append_assoc, append-nil, arith}
-use Rattle.std.specs.Prelude.{replicate, drop}
+use Rattle.std.specs.Prelude.{replicate}
 use Rattle.std.proofs.lemmas.Grind.{flat_map-append}
 use Rattle.std.proofs.lemmas.List.{map-append, replicate_more}
 use Rattle.std.specs.List.Sorted.{IsPermutation}
-use Rattle.std.proofs.lemmas.List.Sorted.{IsPermutation-refl, IsPermutation-sym, IsPermutation-trans, IsPermutation-append_left, All-permutation, length_permutation}
-use Rattle.std.proofs.Math.Seq.{drop-length}
+use Rattle.std.proofs.lemmas.List.Sorted.{IsPermutation-refl, IsPermutation-sym, IsPermutation-trans, IsPermutation-append_left, All-permutation}
 use mathlib.Core.Option.{some, some-ne-none}
 use lib.ListN.{get_elem?}
 use Rattle.crossbeam_channel.specs.Fifo.{Pushes, Pops, Forks, Merges, Learns}
@@ -15,14 +14,14 @@ use Rattle.hand_core.specs.declared.page_queue.Note.{Note}
 use Rattle.hand_core.specs.declared.page_queue.Note.TheVariants.{Pages, Mark}
 use Rattle.hand_core.specs.declared.page_queue.Known.{Known}
 use Rattle.word_core.specs.Serials.{HasSerialsFrom, IsRising}
-use Rattle.hand_core.specs.PageQueue.{giver_knows, taker_knows, total, all_taken, all_ended, InOrder, after_put, after_take, Takes, joined, nothing_known, Settles, pages_in as queue_pages}
+use Rattle.hand_core.specs.PageQueue.{giver_knows, taker_knows, total, all_off, all_ended, InOrder, after_put, after_take, Takes, joined, nothing_known, Settles}
 use Rattle.hand_core.specs.Handfuls.{Handful, pages_of}
 use Rattle.hand_core.specs.Queue.{Each}
 use Rattle.hand_core.proofs.EachEnd.{each_set, each_new}
 use Rattle.hand_core.proofs.Serials.{serials-append, serials_front, serials_behind, serials_below, rising-append, rising-nil}
-use Rattle.hand_core.proofs.Totals.{total_set, total_same, total_new, total_alone, taken_same, taken_new, taken_longer, taken_joined, taken_alone, all_of_end}
+use Rattle.hand_core.proofs.Totals.{total_set, total_same, total_new, total_alone, off_same, off_new, off_longer, off_joined, off_alone, all_of_end}
 
-abbrev queue_of : List Handful → ℕ → List Note
+abbrev pub queue_of : List Handful → ℕ → List Note
 queue_of waiting marks = map Pages waiting ++ replicate marks Mark
 
 queued_pages : (queue : List Note) (waiting : List Handful) (marks : ℕ) (h : Handful) → queue ≡ queue_of waiting marks → marks ≡ 0 → queue ++ Pages h ∷ [] ≡ queue_of (waiting ++ h ∷ []) 0
@@ -61,10 +60,10 @@ abbrev Gave : ℕ → List OnItsWay → ℕ → ℕ → Known → Type 0
 Gave giver given marks number v = v.gives ≡ true → (number ≡ giver) × (v.given ≡ given) × (v.marks ≡ marks)
 
 abbrev Spent : ℕ → Known → Type 0
-Spent number v = v.shares ≡ 0 → (v.taken ≡ []) × (v.ended ≡ 0)
+Spent number v = v.shares ≡ 0 → (v.off ≡ []) × (v.ended ≡ 0)
 
 abbrev Rises : ℕ → Known → Type 0
-Rises number v = v.gives ≡ false → IsRising v.taken
+Rises number v = v.gives ≡ false → IsRising v.off
 
 -- a hand-over has one giver
 other_giver : (giver : ℕ) (given given_new : List OnItsWay) (marks marks_new number other : ℕ) (u : Known) → number ≡ giver → other ≢ number → Gave giver given marks other u → Gave giver given_new marks_new other u
@@ -119,7 +118,7 @@ pages_in room number v h base gives unmarked serials next queue ends short r at 
         marks = 0;
         serials = subst (HasSerialsFrom base) given (serials-append base v.given h.items serials next);
         queued = queued_pages queue r.waiting r.marks h r.queued none;
-        together = subst (λ l. IsPermutation l r.off) (sym (taken_same ends number v w at refl)) r.together;
+        together = subst (λ l. IsPermutation l r.off) (sym (off_same ends number v w at refl)) r.together;
         rising = each_set Rises ends number w (r.rising number v at) (λ j u other e. r.rising j u e);
         done = λ some. absurd (omega arith);
         given = each_set (Gave r.giver (r.off ++ pages_of waiting) (all_ended (set ends number w) + 0)) ends number w
@@ -148,7 +147,7 @@ mark_in room number v gives queue ends short r at =
         marks = r.marks + 1;
         serials = r.serials;
         queued = queued_mark queue r.waiting r.marks r.queued;
-        together = subst (λ l. IsPermutation l r.off) (sym (taken_same ends number v w at refl)) r.together;
+        together = subst (λ l. IsPermutation l r.off) (sym (off_same ends number v w at refl)) r.together;
         rising = each_set Rises ends number w (r.rising number v at) (λ j u other e. r.rising j u e);
         done = λ some. r.done (omega arith);
         given = each_set (Gave r.giver (r.off ++ pages_of r.waiting) (all_ended (set ends number w) + (r.marks + 1))) ends number w
@@ -162,7 +161,7 @@ mark_in room number v gives queue ends short r at =
 
 -- a handful is received from the front
 pages_off : (number : ℕ) (v : Known) (h : Handful) (queue : List Note) (ends : List Known) → v.gives ≡ false → 0 < v.shares → InOrder (Pages h ∷ queue) ends → get_elem? ends number ≡ some v
-    → InOrder queue (set ends number (after_take v (Pages h))) × IsRising (v.taken ++ h.items)
+    → InOrder queue (set ends number (after_take v (Pages h))) × IsRising (v.off ++ h.items)
 pages_off number v h queue ends plain share r at =
     let w = after_take v (Pages h) in
     let front = front_pages r.waiting r.marks h queue r.queued in
@@ -174,11 +173,11 @@ pages_off number v h queue ends plain share r at =
     let serials : HasSerialsFrom r.base ((r.off ++ h.items) ++ pages_of rest) = subst (HasSerialsFrom r.base) moved r.serials in
     let next : HasSerialsFrom (r.base + length r.off) h.items =
     serials_behind r.base r.off h.items (serials_front r.base (r.off ++ h.items) (pages_of rest) serials) in
-    let below : All (λ (q : OnItsWay). q.serial < r.base + length r.off) v.taken =
+    let below : All (λ (q : OnItsWay). q.serial < r.base + length r.off) v.off =
     all_of_end (λ q. q.serial < r.base + length r.off) ends number v at
-    (All-permutation (λ (q : OnItsWay). q.serial < r.base + length r.off) r.off (all_taken ends) (IsPermutation-sym (all_taken ends) r.off r.together)
+    (All-permutation (λ (q : OnItsWay). q.serial < r.base + length r.off) r.off (all_off ends) (IsPermutation-sym (all_off ends) r.off r.together)
     (serials_below r.base r.off (serials_front r.base r.off (pages_of r.waiting) r.serials))) in
-    let rises : IsRising (v.taken ++ h.items) = rising-append v.taken (r.base + length r.off) h.items (r.rising number v at plain) below next in (
+    let rises : IsRising (v.off ++ h.items) = rising-append v.off (r.base + length r.off) h.items (r.rising number v at plain) below next in (
       record {
         giver = r.giver;
         base = r.base;
@@ -187,9 +186,9 @@ pages_off number v h queue ends plain share r at =
         marks = r.marks;
         serials = serials;
         queued = front.2;
-        together = IsPermutation-trans (all_taken (set ends number w)) (all_taken ends ++ h.items) (r.off ++ h.items)
-            (taken_longer ends number v w h.items at refl)
-            (IsPermutation-append_left h.items (all_taken ends) r.off r.together);
+        together = IsPermutation-trans (all_off (set ends number w)) (all_off ends ++ h.items) (r.off ++ h.items)
+            (off_longer ends number v w h.items at refl)
+            (IsPermutation-append_left h.items (all_off ends) r.off r.together);
         rising = each_set Rises ends number w (λ _. rises) (λ j u other e. r.rising j u e);
         done = λ some. absurd (nothing (sym first ∙ r.done (omega arith)));
         given = each_set (Gave r.giver ((r.off ++ h.items) ++ pages_of rest) (all_ended (set ends number w) + r.marks)) ends number w
@@ -206,7 +205,7 @@ pages_off number v h queue ends plain share r at =
 
 -- an end mark is received from the front
 mark_off : (number : ℕ) (v : Known) (queue : List Note) (ends : List Known) → v.gives ≡ false → 0 < v.shares → InOrder (Mark ∷ queue) ends → get_elem? ends number ≡ some v
-    → InOrder queue (set ends number (after_take v Mark)) × IsRising v.taken
+    → InOrder queue (set ends number (after_take v Mark)) × IsRising v.off
 mark_off number v queue ends plain share r at =
     let w = after_take v Mark in
     let front = front_mark r.waiting r.marks queue r.queued in
@@ -224,7 +223,7 @@ mark_off number v queue ends plain share r at =
         marks = left;
         serials = subst (HasSerialsFrom r.base) pages r.serials;
         queued = front.3;
-        together = subst (λ l. IsPermutation l r.off) (sym (taken_same ends number v w at refl)) r.together;
+        together = subst (λ l. IsPermutation l r.off) (sym (off_same ends number v w at refl)) r.together;
         rising = each_set Rises ends number w (r.rising number v at) (λ j u other e. r.rising j u e);
         done = λ some. refl;
         given = each_set (Gave r.giver (r.off ++ []) (all_ended (set ends number w) + left)) ends number w
@@ -258,7 +257,7 @@ cuts number v shares queue ends r at =
       marks = r.marks;
       serials = r.serials;
       queued = r.queued;
-      together = subst (λ l. IsPermutation l r.off) (sym (taken_new ws taker_knows refl ∙ taken_same ends number v w at refl)) r.together;
+      together = subst (λ l. IsPermutation l r.off) (sym (off_new ws taker_knows refl ∙ off_same ends number v w at refl)) r.together;
       rising = every Rises (r.rising number v at) (λ j plain. rising-nil) r.rising;
       done = λ some. r.done (omega arith);
       given = every (Gave r.giver (r.off ++ pages_of r.waiting) (all_ended (ws ++ taker_knows ∷ []) + r.marks))
@@ -289,7 +288,7 @@ joins number v other u gives share queue ends r at apart at_other =
       marks = r.marks;
       serials = r.serials;
       queued = r.queued;
-      together = IsPermutation-trans (all_taken us) (all_taken ends) r.off (taken_joined ends number other v u both nothing_known apart at was refl refl) r.together;
+      together = IsPermutation-trans (all_off us) (all_off ends) r.off (off_joined ends number other v u both nothing_known apart at was refl refl) r.together;
       rising = every Rises (λ plain. absurd (true≢false (sym gives ∙ plain))) (λ plain. rising-nil) r.rising;
       done = λ some. r.done (omega arith);
       given = every (Gave r.giver (r.off ++ pages_of r.waiting) (all_ended us + r.marks))
@@ -307,13 +306,10 @@ settles number v gives every has_ended all_marks queue ends r at =
     let count = this.2 in
     let whole = r.shares ∙ sym every in
     let ended : all_ended ends ≡ v.ended = total_alone (λ u. u.ended) ends number v at whole (λ j u e none. (r.spent j u e none).1) in
-    let lists : all_taken ends ≡ v.taken = taken_alone ends number v at whole (λ j u e none. (r.spent j u e none).0) in
+    let lists : all_off ends ≡ v.off = off_alone ends number v at whole (λ j u e none. (r.spent j u e none).0) in
     let empty : r.waiting ≡ [] = r.done (omega arith) in
     let given : v.given ≡ r.off = this.1 ∙ ap (λ l. r.off ++ pages_of l) empty ∙ append-nil r.off in
-    let none : r.marks ≡ 0 = omega arith in
-    let came : length v.given ≡ length v.taken = ap (λ l. length l) given ∙ length_permutation (all_taken ends) r.off r.together ∙ ap (λ l. length l) lists in
-    let nothing : queue ≡ [] = r.queued ∙ ap (λ l. map Pages l ++ replicate r.marks Mark) empty ∙ ap (λ m. replicate m Mark) none in (
-      subst (λ l. IsPermutation l v.given) lists (subst (λ l. IsPermutation (all_taken ends) l) (sym given) r.together),
-      ap queue_pages nothing ∙ sym (ap (λ n. drop n v.given) (sym came) ∙ drop-length v.given),
-      nothing,
+    let none : r.marks ≡ 0 = omega arith in (
+      subst (λ l. IsPermutation l v.given) lists (subst (λ l. IsPermutation (all_off ends) l) (sym given) r.together),
+      r.queued ∙ ap (λ l. map Pages l ++ replicate r.marks Mark) empty ∙ ap (λ m. replicate m Mark) none,
     )

@@ -45,5 +45,5 @@ invariant_of-self g c =
       shares = ap (λ (v : Known). v.shares + s.takers) e ∙ k.shares;
       marked = ap (λ (v : Known). v.marks) e ∙ k.marked;
       fresh = k.fresh;
-      took_nothing = (ap (λ (v : Known). v.taken) e ∙ k.took_nothing.0, ap (λ (v : Known). v.ended) e ∙ k.took_nothing.1);
+      took_nothing = (ap (λ (v : Known). v.off) e ∙ k.took_nothing.0, ap (λ (v : Known). v.ended) e ∙ k.took_nothing.1);
     }
