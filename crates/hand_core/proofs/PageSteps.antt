@@ -1,6 +1,8 @@
 -- Each step of a hand-over keeps its rule.
 use Rattle.std.proofs.Common.{◌≡◌, ◌≢◌, ℕ, zero, suc, ◌+◌, ◌-◌, ◌<◌, true, false, true≢false, List, [], ◌∷◌, ◌++◌, length, map, set, All, sym, refl, ap, ◌∙◌, subst, ⊎_elim, append_assoc, append-nil, arith}
-use Rattle.std.specs.Prelude.{replicate}
+use Rattle.std.specs.Prelude.{◌≤◌, max, replicate}
+use Rattle.std.proofs.Math.Nat.{le-max_left, le-max_right}
+use Rattle.std.proofs.lemmas.List.Elements.{All-nil, All-push}
 use Rattle.std.proofs.lemmas.Grind.{flat_map-append}
 use Rattle.std.proofs.lemmas.List.{map-append, replicate_more}
 use Rattle.std.specs.List.Sorted.{IsPermutation}
@@ -62,6 +64,9 @@ Gave giver given marks number v = v.gives ≡ true → (number ≡ giver) × (v.
 abbrev Spent : ℕ → Known → Type 0
 Spent number v = v.shares ≡ 0 → (v.off ≡ []) × (v.ended ≡ 0)
 
+abbrev Fits : List Handful → ℕ → Known → Type 0
+Fits waiting number v = v.gives ≡ true → All (λ (h : Handful). length h.items ≤ v.largest) waiting
+
 abbrev Rises : ℕ → Known → Type 0
 Rises number v = v.gives ≡ false → IsRising v.off
 
@@ -71,6 +76,17 @@ other_giver giver given given_new marks marks_new number other u this apart h gi
 
 same_giver : (giver : ℕ) (given given_new : List OnItsWay) (marks marks_new other : ℕ) (u : Known) → given ≡ given_new → marks ≡ marks_new → Gave giver given marks other u → Gave giver given_new marks_new other u
 same_giver giver given given_new marks marks_new other u pages count h gives = ((h gives).0, (h gives).1 ∙ pages, (h gives).2 ∙ count)
+
+-- the largest handful is the largest of all with one more
+larger : (largest : ℕ) (h : Handful) (waiting : List Handful) → All (λ (g : Handful). length g.items ≤ largest) waiting
+    → All (λ (g : Handful). length g.items ≤ max largest (length h.items)) (waiting ++ h ∷ [])
+larger largest h waiting every =
+    let Small : Handful → Type 0 = λ g. length g.items ≤ max largest (length h.items) in
+    let left = le-max_left largest (length h.items) in
+    All-push Small waiting h (λ k d low. let this = every k d low in omega arith) (le-max_right largest (length h.items))
+
+others_fit : (largest : ℕ) (h : Handful) (rest : List Handful) → All (λ (g : Handful). length g.items ≤ largest) (h ∷ rest) → All (λ (g : Handful). length g.items ≤ largest) rest
+others_fit largest h rest every k d low = every (suc k) d (omega arith)
 
 -- the rule holds of a queue that was just opened, whose one end is the giver
 pub opens : InOrder [] (giver_knows ∷ [])
@@ -88,6 +104,7 @@ opens =
       rising = only Rises (λ plain. rising-nil);
       done = λ some. refl;
       given = only (Gave 0 [] 0) (λ _. (refl, refl, refl));
+      fits = only (Fits []) (λ _. All-nil (λ (h : Handful). length h.items ≤ 0));
       shares = refl;
       spent = only Spent (λ _. (refl, refl));
     }
@@ -124,6 +141,9 @@ pages_in room number v h base gives unmarked serials next queue ends short r at 
         given = each_set (Gave r.giver (r.off ++ pages_of waiting) (all_ended (set ends number w) + 0)) ends number w
             (λ _. (this.0, given, marks))
             (λ j u other e. other_giver r.giver (r.off ++ pages_of r.waiting) (r.off ++ pages_of waiting) (all_ended ends + r.marks) (all_ended (set ends number w) + 0) number j u this.0 other (r.given j u e));
+        fits = each_set (Fits waiting) ends number w
+            (λ _. larger v.largest h r.waiting (r.fits number v at gives))
+            (λ j u other e his. absurd (other ((r.given j u e his).0 ∙ sym this.0)));
         shares = total_same (λ u. u.shares) ends number v w at refl ∙ r.shares;
         spent = each_set Spent ends number w (r.spent number v at) (λ j u other e. r.spent j u e);
       },
@@ -153,6 +173,7 @@ mark_in room number v gives queue ends short r at =
         given = each_set (Gave r.giver (r.off ++ pages_of r.waiting) (all_ended (set ends number w) + (r.marks + 1))) ends number w
             (λ _. (this.0, this.1, marks))
             (λ j u other e. other_giver r.giver (r.off ++ pages_of r.waiting) (r.off ++ pages_of r.waiting) (all_ended ends + r.marks) (all_ended (set ends number w) + (r.marks + 1)) number j u this.0 other (r.given j u e));
+        fits = each_set (Fits r.waiting) ends number w (r.fits number v at) (λ j u other e. r.fits j u e);
         shares = total_same (λ u. u.shares) ends number v w at refl ∙ r.shares;
         spent = each_set Spent ends number w (r.spent number v at) (λ j u other e. r.spent j u e);
       },
@@ -194,6 +215,9 @@ pages_off number v h queue ends plain share r at =
         given = each_set (Gave r.giver ((r.off ++ h.items) ++ pages_of rest) (all_ended (set ends number w) + r.marks)) ends number w
             (λ gives. absurd (true≢false (sym gives ∙ plain)))
             (λ j u other e. same_giver r.giver (r.off ++ pages_of r.waiting) ((r.off ++ h.items) ++ pages_of rest) (all_ended ends + r.marks) (all_ended (set ends number w) + r.marks) j u moved (ap (λ n. n + r.marks) (sym ended)) (r.given j u e));
+        fits = each_set (Fits rest) ends number w
+            (λ gives. absurd (true≢false (sym gives ∙ plain)))
+            (λ j u other e his. others_fit u.largest h rest (subst (All (λ (g : Handful). length g.items ≤ u.largest)) first (r.fits j u e his)));
         shares = total_same (λ u. u.shares) ends number v w at refl ∙ r.shares;
         spent = each_set Spent ends number w (λ none. absurd (omega arith)) (λ j u other e. r.spent j u e);
       },
@@ -229,6 +253,7 @@ mark_off number v queue ends plain share r at =
         given = each_set (Gave r.giver (r.off ++ []) (all_ended (set ends number w) + left)) ends number w
             (λ gives. absurd (true≢false (sym gives ∙ plain)))
             (λ j u other e. same_giver r.giver (r.off ++ pages_of r.waiting) (r.off ++ []) (all_ended ends + r.marks) (all_ended (set ends number w) + left) j u pages marks (r.given j u e));
+        fits = each_set (Fits []) ends number w (λ gives. absurd (true≢false (sym gives ∙ plain))) (λ j u other e his. All-nil (λ (g : Handful). length g.items ≤ u.largest));
         shares = total_same (λ u. u.shares) ends number v w at refl ∙ r.shares;
         spent = each_set Spent ends number w (λ none. absurd (omega arith)) (λ j u other e. r.spent j u e);
       },
@@ -264,6 +289,7 @@ cuts number v shares queue ends r at =
           (same_giver r.giver (r.off ++ pages_of r.waiting) (r.off ++ pages_of r.waiting) (all_ended ends + r.marks) (all_ended (ws ++ taker_knows ∷ []) + r.marks) number w refl (ap (λ n. n + r.marks) (sym ended)) (r.given number v at))
           (λ j gives. absurd (true≢false (sym gives)))
           (λ j u e. same_giver r.giver (r.off ++ pages_of r.waiting) (r.off ++ pages_of r.waiting) (all_ended ends + r.marks) (all_ended (ws ++ taker_knows ∷ []) + r.marks) j u refl (ap (λ n. n + r.marks) (sym ended)) (r.given j u e));
+      fits = every (Fits r.waiting) (r.fits number v at) (λ j none. absurd (true≢false (sym none))) r.fits;
       shares = let a = total_new (λ u. u.shares) ws taker_knows in let b = total_set (λ u. u.shares) ends number v w at in let e = r.shares in omega arith;
       spent = every Spent (λ none. absurd (omega arith)) (λ j none. absurd (omega arith)) r.spent;
     }
@@ -295,6 +321,7 @@ joins number v other u gives share queue ends r at apart at_other =
           (same_giver r.giver (r.off ++ pages_of r.waiting) (r.off ++ pages_of r.waiting) (all_ended ends + r.marks) (all_ended us + r.marks) number both refl (ap (λ n. n + r.marks) (sym ended)) (r.given number v at))
           (λ none. absurd (true≢false (sym none)))
           (λ j y e. same_giver r.giver (r.off ++ pages_of r.waiting) (r.off ++ pages_of r.waiting) (all_ended ends + r.marks) (all_ended us + r.marks) j y refl (ap (λ n. n + r.marks) (sym ended)) (r.given j y e));
+      fits = every (Fits r.waiting) (r.fits number v at) (λ none. absurd (true≢false (sym none))) r.fits;
       shares = sums (λ y. y.shares) refl refl ∙ r.shares;
       spent = every Spent (λ none. absurd (omega arith)) (λ none. (refl, refl)) r.spent;
     }

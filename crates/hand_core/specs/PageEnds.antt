@@ -10,11 +10,12 @@ use Rattle.hand_core.specs.Queue.{QueueName}
 abbrev pub HandOver : Type 0
 HandOver = QueueName Note
 
--- a giver: its hand-over, the queue's room in handfuls, the number of takers, the first serial, the pages given, in their order,
--- the number of end marks put, and whether it is closed
+-- a giver: its hand-over, the queue's room in handfuls, how many pages a handful has at most, the number of takers, the first serial,
+-- the pages given, in their order, the number of end marks put, and whether it is closed
 pub record Giver : Type 0 where
   pub hand_over : HandOver
   pub room : ℕ
+  pub most : ℕ
   pub takers : ℕ
   pub base : ℕ
   pub given : List OnItsWay

@@ -17,6 +17,8 @@ pub record IsGiving (g : giver.Inside) : Type 0 where
   pub few : (0 < g.takers) × (g.takers ≤ 4)
   pub shares : (view g.pass).shares + g.takers ≡ 1024
   pub marked : (view g.pass).marks ≡ g.marks
+  pub largest : (view g.pass).largest ≤ g.most
+  pub some : (0 < g.most) × (g.most ≤ 8)
   pub fresh : g.closed ≡ false → g.marks ≡ 0
   pub took_nothing : ((view g.pass).off ≡ []) × ((view g.pass).ended ≡ 0)
 

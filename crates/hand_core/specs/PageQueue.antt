@@ -1,5 +1,5 @@
 -- The rule of the pages' queue, from one giver to several takers: what holds of the queue and of its ends after each step.
-use Rattle.std.specs.Prelude.{◌≡◌, ℕ, ◌+◌, ◌<◌, Bool, true, false, List, [], ◌∷◌, ◌++◌, map, replicate}
+use Rattle.std.specs.Prelude.{◌≡◌, ℕ, ◌+◌, ◌<◌, ◌≤◌, max, Bool, true, false, List, [], ◌∷◌, ◌++◌, length, All, map, replicate}
 use Rattle.std.specs.List.{flat_map}
 use Rattle.std.specs.List.Sorted.{IsPermutation}
 use Rattle.word_core.specs.Page.{OnItsWay}
@@ -11,16 +11,16 @@ use Rattle.hand_core.specs.Handfuls.{Handful, pages_of}
 use Rattle.hand_core.specs.Queue.{Each}
 
 -- what an end knows, made from its parts
-abbrev pub known : ℕ → Bool → List OnItsWay → ℕ → List OnItsWay → ℕ → Known
-known shares gives given marks off ended = record { shares = shares; gives = gives; given = given; marks = marks; off = off; ended = ended }
+abbrev pub known : ℕ → Bool → List OnItsWay → ℕ → ℕ → List OnItsWay → ℕ → Known
+known shares gives given marks largest off ended = record { shares = shares; gives = gives; given = given; marks = marks; largest = largest; off = off; ended = ended }
 
 -- what the giver knows at first: it has every share; 1024 could be any number above that of the takers
 abbrev pub giver_knows : Known
-giver_knows = known 1024 true [] 0 [] 0
+giver_knows = known 1024 true [] 0 0 [] 0
 
 -- what a taker knows at first
 abbrev pub taker_knows : Known
-taker_knows = known 1 false [] 0 [] 0
+taker_knows = known 1 false [] 0 0 [] 0
 
 -- the sum of a number that each end has
 abbrev pub total : (Known → ℕ) → List Known → ℕ
@@ -55,13 +55,15 @@ pub record InOrder (queue : List Note) (ends : List Known) : Type 0 where
   pub done : 0 < all_ended ends → waiting ≡ []
   -- one end gives: it gave these pages, and put each end mark that waits or that ended a taker
   pub given : Each ends (λ number v. v.gives ≡ true → (number ≡ giver) × (v.given ≡ off ++ pages_of waiting) × (v.marks ≡ all_ended ends + marks))
+  -- no handful that waits has more pages than the largest one that was given
+  pub fits : Each ends (λ _ v. v.gives ≡ true → All (λ (h : Handful). length h.items ≤ v.largest) waiting)
   -- for an end with no share nothing came off, so an end with every share knows all lists
   pub shares : total (λ v. v.shares) ends ≡ 1024
   pub spent : Each ends (λ _ v. v.shares ≡ 0 → (v.off ≡ []) × (v.ended ≡ 0))
 
 -- what the giver knows after it gave a handful or put an end mark
 abbrev pub after_put : Known → Note → Known
-after_put v (Pages h) = record v { given = v.given ++ h.items }
+after_put v (Pages h) = record v { given = v.given ++ h.items; largest = max v.largest (length h.items) }
 after_put v Mark = record v { marks = v.marks + 1 }
 
 -- what a taker knows after it took a handful or an end mark
@@ -79,7 +81,7 @@ joined v taker = record v { shares = v.shares + taker.shares; off = v.off ++ tak
 
 -- what an end knows that gave its share back
 abbrev pub nothing_known : Known
-nothing_known = known 0 false [] 0 [] 0
+nothing_known = known 0 false [] 0 0 [] 0
 
 -- what the giver learns once it has every share and each end mark ended a taker: each page given came off once, and the queue is
 -- empty

@@ -26,6 +26,6 @@ pub use error::{Gone, HandError};
 pub use giver::Giver;
 pub use handful::Handful;
 pub use law::hands_over_in_order;
-pub use opening::{Takers, open};
+pub use opening::{Takers, open, open_in_handfuls};
 pub use settling::{Settled, settle};
 pub use taker::{Taker, Took};

@@ -20,6 +20,7 @@ pub struct Known {
     pub gives: bool,
     pub given: LinkedList<Isolated>,
     pub marks: u64,
+    pub largest: u64,
     pub off: LinkedList<Isolated>,
     pub ended: u64,
 }
