@@ -1,7 +1,6 @@
 -- Each step of the copies' queue keeps its rule.
-use Rattle.std.proofs.Common.{◌≡◌, ◌≢◌, ℕ, zero, suc, ◌+◌, ◌<◌, ◌≤◌, Bool, true, false, true≢false, List, [], ◌∷◌, ◌++◌, length, set, sym, refl, ap, ◌∙◌, subst, ⊎_elim, append_assoc, append-nil, arith, cond}
-use Rattle.std.specs.Prelude.{◌==◌, drop}
-use Rattle.std.proofs.Math.Seq.{drop-append_seam}
+use Rattle.std.proofs.Common.{◌≡◌, ◌≢◌, ℕ, zero, suc, ◌+◌, ◌<◌, ◌≤◌, Bool, true, false, true≢false, List, [], ◌∷◌, ◌++◌, length, set, sym, refl, ap, ◌∙◌, subst, ◌⊎◌, inl, inr, ⊎_elim, append_assoc, append-nil, arith, cond}
+use Rattle.std.specs.Prelude.{◌==◌}
 use Rattle.std.proofs.lemmas.Bool.{eq-eqb, ne_eqb, cases_lt}
 use mathlib.Core.Option.{some, some-ne-none, some-injective}
 use lib.ListN.{get_elem?}
@@ -12,9 +11,10 @@ use Rattle.hand_core.specs.declared.copy_queue.Message.TheVariants.{Copies, Mark
 use Rattle.hand_core.specs.declared.copy_queue.Account.{Account}
 use Rattle.hand_core.specs.Handfuls.{Handful}
 use Rattle.hand_core.specs.Queue.{Each}
-use Rattle.hand_core.specs.CopyQueue.{taker_account, sender_account, sender_of, messages_of, all_sent, InTurn, after_send, Comes, folded, nothing_known, Tells}
+use Rattle.hand_core.specs.CopyQueue.{taker_account, sender_account, sender_of, messages_of, sent_by, all_sent, InTurn, after_send, Comes, folded, nothing_known, Tells}
+use Rattle.hand_core.specs.CopyEnds.{has_mark}
 use Rattle.hand_core.proofs.EachEnd.{each_set}
-use Rattle.hand_core.proofs.Messages.{messages-append, messages_own, messages_other, nobody_sent, all_sent-copies, all_sent-mark}
+use Rattle.hand_core.proofs.Messages.{messages-append, messages_own, messages_other, nobody_sent, nothing_behind_mark, all_sent-copies, all_sent-mark}
 
 -- what the rule says of a sender, and of the taker
 abbrev Sent : (ℕ → ℕ) → ℕ → List Message → ℕ → Account → Type 0
@@ -31,6 +31,7 @@ opens = record {
   made = 0;
   end_of = λ sender. 0;
   sent = λ number v at sends. absurd (true≢false (sym sends ∙ ap (λ (u : Account). u.sends) (sym (only number v at).1)));
+  closed = λ sender. ([], false, refl);
   others = λ sender le. refl;
   taken = λ number v at takes. let o = only number v at in (o.0, ap (λ (u : Account). u.came) (sym o.1), ap (λ (u : Account). u.made) (sym o.1));
 }
@@ -38,6 +39,9 @@ opens = record {
     only : (number : ℕ) (v : Account) → get_elem? (taker_account ∷ []) number ≡ some v → (number ≡ 0) × (taker_account ≡ v)
     only zero v at = (refl, some-injective taker_account v at)
     only (suc number) v at = absurd (some-ne-none v (sym at))
+
+same_or_other : (a b : ℕ) → (a ≡ b) ⊎ (a ≢ b)
+same_or_other a b = ⊎_elim (λ (low : a < b). inr (λ e. omega arith)) (λ (le : b ≤ a). ⊎_elim (λ (low : b < a). inr (λ e. omega arith)) (λ (ge : a ≤ b). inl (omega arith)) (cases_lt b a)) (cases_lt a b)
 
 -- a message of the sender goes in at the back
 message_in : (room number : ℕ) (v w : Account) (x : Message) → v.sends ≡ true → sender_of x ≡ v.sender
@@ -63,6 +67,10 @@ message_in room number v w x sends own same more queue ends short r at =
             (λ j u apart e s. let his = r.sent j u e s in
             let no : sender_of x ≢ u.sender = λ is. apart (sym his.0 ∙ ap r.end_of (sym is ∙ own) ∙ this.0) in
             (his.0, his.1, still u.sender no ∙ his.2));
+        closed = λ sender. ⊎_elim
+            (λ (is : v.sender ≡ sender). (w.sent, w.marked, subst (λ k. messages_of k (r.came ++ (queue ++ x ∷ [])) ≡ sent_by k w.sent w.marked) is (subst (λ k. messages_of v.sender (r.came ++ (queue ++ x ∷ [])) ≡ sent_by k w.sent w.marked) same.1 mine)))
+            (λ (other : v.sender ≢ sender). let his = r.closed sender in (his.0, his.1, still sender (λ is. other (sym own ∙ is)) ∙ his.2))
+            (same_or_other v.sender sender);
         others = λ sender le. let no : sender_of x ≢ sender = λ is. let low = this.1 in absurd (omega arith) in still sender no ∙ r.others sender le;
         taken = each_set (Taken r.taker r.came r.made) ends number w
             (λ t. let his = r.taken number v at (sym same.2 ∙ t) in (his.0, same.4 ∙ his.1, same.3 ∙ his.2))
@@ -83,14 +91,20 @@ mark_in room number v sender sends own fresh =
     message_in room number v (after_send v (Mark sender)) (Mark sender) sends (sym own) (refl, refl, refl, refl, refl)
     (ap (λ k. all_sent v ++ Mark k ∷ []) (sym own) ∙ all_sent-mark v fresh)
 
+-- the sender of a message in the queue was made
+was_made : (queue : List Message) (ends : List Account) (r : InTurn queue ends) (x : Message) (rest : List Message) → queue ≡ x ∷ rest → sender_of x < r.made
+was_made queue ends r x rest is =
+    ⊎_elim (λ (low : sender_of x < r.made). low)
+    (λ (high : r.made ≤ sender_of x). absurd (nobody_sent (sender_of x) r.came x rest (subst (λ l. messages_of (sender_of x) (r.came ++ l) ≡ []) is (r.others (sender_of x) high)) refl))
+    (cases_lt (sender_of x) r.made)
+
 -- a handful or a mark comes off the front
 pub off : (number : ℕ) (v : Account) → v.takes ≡ true → Pops InTurn number v (Comes v)
 off number v takes x queue ends r at =
     let w : Account = record v { came = v.came ++ x ∷ [] } in
     let this = r.taken number v at takes in
     let same : r.came ++ (x ∷ queue) ≡ (r.came ++ x ∷ []) ++ queue = sym (append_assoc r.came (x ∷ []) queue) in
-    let known : sender_of x < r.made =
-    ⊎_elim (λ (low : sender_of x < r.made). low) (λ (high : r.made ≤ sender_of x). absurd (nobody_sent (sender_of x) r.came x queue (r.others (sender_of x) high) refl)) (cases_lt (sender_of x) r.made) in (
+    let known : sender_of x < r.made = was_made (x ∷ queue) ends r x queue refl in (
       w,
       record {
         came = r.came ++ x ∷ [];
@@ -100,6 +114,7 @@ off number v takes x queue ends r at =
         sent = each_set (Sent r.end_of r.made ((r.came ++ x ∷ []) ++ queue)) ends number w
             (subst (λ l. Sent r.end_of r.made l number v) same (r.sent number v at))
             (λ j u apart e. subst (λ l. Sent r.end_of r.made l j u) same (r.sent j u e));
+        closed = λ sender. (let his = r.closed sender in (his.0, his.1, subst (λ l. messages_of sender l ≡ sent_by sender his.0 his.1) same his.2));
         others = λ sender le. subst (λ l. messages_of sender l ≡ []) same (r.others sender le);
         taken = each_set (Taken r.taker (r.came ++ x ∷ []) r.made) ends number w
             (λ t. (this.0, ap (λ l. l ++ x ∷ []) this.1, this.2))
@@ -144,6 +159,7 @@ makes number v takes plain queue ends r at =
             subst (λ k. messages_of k all ≡ all_sent u) (sym sender) (r.others r.made (omega arith) ∙ ap all_sent is),
           ))
           (at_snoc ws new u j e);
+      closed = r.closed;
       others = λ sender le. r.others sender (omega arith);
       taken = λ j u e. ⊎_elim
           (λ x. each_set (Taken r.taker r.came (r.made + 1)) ends number w
@@ -176,6 +192,7 @@ folds number v other u takes sends queue ends r at apart at_other =
           (λ j y away e. each_set (λ i z. i ≢ other → Sent end_of r.made all i z) ends number both
           (λ _ _. (ap (λ (b : Bool). cond b number (r.end_of u.sender)) (eq-eqb u.sender u.sender refl), his.1, his.2))
           (λ i z apart_i e_i away_i. still i z away_i (r.sent i z e_i)) j y e away);
+      closed = r.closed;
       others = r.others;
       taken = each_set (Taken r.taker r.came r.made) ws other nothing_known (λ none. absurd (true≢false (sym none)))
           (λ j y away e. each_set (Taken r.taker r.came r.made) ends number both (λ _. this) (λ i z apart_i e_i. r.taken i z e_i) j y e);
@@ -186,9 +203,13 @@ pub tells : (number : ℕ) (v : Account) → v.takes ≡ true → v.sends ≡ tr
 tells number v takes sends queue ends r at =
     let this = r.taken number v at takes in
     let its = r.sent number v at sends in
-    let mine : List Message = messages_of v.sender v.came in
-    let all : messages_of v.sender (v.came ++ queue) ≡ all_sent v = subst (λ l. messages_of v.sender (l ++ queue) ≡ all_sent v) (sym this.1) its.2 in (
-      subst (λ n. v.sender < n) (sym this.2) its.1,
-      all,
-      sym (drop-append_seam mine (messages_of v.sender queue)) ∙ ap (λ l. drop (length mine) l) (sym (messages-append v.sender v.came queue) ∙ all),
-    )
+    (subst (λ n. v.sender < n) (sym this.2) its.1, subst (λ l. messages_of v.sender (l ++ queue) ≡ all_sent v) (sym this.1) its.2)
+
+-- once every mark was received, the queue holds nothing
+pub all_received : (queue : List Message) (ends : List Account) (r : InTurn queue ends) → ((k : ℕ) → k < r.made → has_mark r.came k ≡ true) → queue ≡ []
+all_received [] ends r marked = refl
+all_received (x ∷ queue) ends r marked =
+    let k : ℕ = sender_of x in
+    let his = r.closed k in
+    let none : messages_of k (x ∷ queue) ≡ [] =
+    nothing_behind_mark k his.0 his.1 r.came (x ∷ queue) his.2 (marked k (was_made (x ∷ queue) ends r x queue refl)) in absurd (nobody_sent k [] x queue none refl)

@@ -16,8 +16,12 @@ pub one_taken : (before : List OnItsWay) (p : OnItsWay) (rest : List OnItsWay) �
 one_taken before p rest = ap (λ l. before_hand l rest) (sym (append_assoc before (p ∷ []) rest)) ∙ before_hand_is (before ++ p ∷ []) rest
 
 -- with an empty hand all pages received were answered
-pub all_taken_is : (came : List OnItsWay) → before_hand came [] ≡ came
-all_taken_is came = ap (λ l. before_hand l []) (sym (append-nil came)) ∙ before_hand_is came []
+pub all_answered : (came : List OnItsWay) → before_hand came [] ≡ came
+all_answered came = ap (λ l. before_hand l []) (sym (append-nil came)) ∙ before_hand_is came []
+
+-- the pages answered and those in hand are all that came off
+pub hand_whole : (came before in_hand : List OnItsWay) → came ≡ before ++ in_hand → before_hand came in_hand ++ in_hand ≡ came
+hand_whole came before in_hand is = ap (λ l. l ++ in_hand) (ap (λ l. before_hand l in_hand) is ∙ before_hand_is before in_hand) ∙ sym is
 
 -- the pages received are those answered, the next of those in hand, and the rest
 pub hand_step : (came before in_hand rest : List OnItsWay) (next : Option OnItsWay) → came ≡ before ++ in_hand → MatchOption next ((in_hand ≡ []) × (rest ≡ [])) (λ p. in_hand ≡ p ∷ rest)

@@ -1,5 +1,6 @@
 pub mod CopySteps
 pub mod EachEnd
+pub mod HandedOver
 pub mod Hands
 pub mod Messages
 pub mod PageSteps

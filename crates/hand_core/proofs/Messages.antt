@@ -11,7 +11,7 @@ use Rattle.hand_core.specs.declared.copy_queue.Message.{Message}
 use Rattle.hand_core.specs.declared.copy_queue.Message.TheVariants.{Copies, Mark}
 use Rattle.hand_core.specs.declared.copy_queue.Account.{Account}
 use Rattle.hand_core.specs.Handfuls.{Handful, pages_of}
-use Rattle.hand_core.specs.CopyQueue.{sender_of, messages_of, all_sent, Comes}
+use Rattle.hand_core.specs.CopyQueue.{sender_of, messages_of, sent_by, all_sent, Comes}
 use Rattle.hand_core.specs.CopyEnds.{is_mark_of, has_mark, copies_in_one, copies_in, copies_of}
 use Rattle.hand_core.specs.CopyInvariants.{marks_of_four}
 
@@ -105,6 +105,10 @@ mark_kept sender (Mark other ∷ messages) = marked (other == sender) refl ∙ a
         ap (λ c. has_mark (cond c (Mark other ∷ messages_of sender messages) (messages_of sender messages)) sender) is
         ∙ ap (λ c. c || has_mark (messages_of sender messages) sender) (sym is)
 
+nil_back : (xs ys : List Message) → xs ++ ys ≡ [] → ys ≡ []
+nil_back [] ys e = e
+nil_back (x ∷ xs) ys e = absurd (cc)
+
 nil_front : (xs ys : List Message) → xs ++ ys ≡ [] → xs ≡ []
 nil_front [] ys e = refl
 nil_front (x ∷ xs) ys e = absurd (cc)
@@ -132,6 +136,25 @@ all_came v came queue is has =
     up_to_mark v.sender v.sent v.marked (messages_of v.sender came) (messages_of v.sender queue)
     (sym (messages-append v.sender came queue) ∙ is)
     (mark_kept v.sender came ∙ has)
+
+-- a sender's mark is the last of its messages
+mark_is_last : (sender : ℕ) (sent : List Handful) (marked : Bool) (came queue : List Message)
+    → came ++ queue ≡ map (Copies sender) sent ++ cond marked (Mark sender ∷ []) [] → has_mark came sender ≡ true → queue ≡ []
+mark_is_last sender [] true [] queue is has = absurd (cc)
+mark_is_last sender [] false [] queue is has = absurd (cc)
+mark_is_last sender [] false (x ∷ came) queue is has = absurd (cc)
+mark_is_last sender [] true (x ∷ came) queue is has = nil_back came queue (cc)
+mark_is_last sender (c ∷ sent) marked [] queue is has = absurd (cc)
+mark_is_last sender (c ∷ sent) marked (x ∷ came) queue is has =
+    let first : x ≡ Copies sender c = cc in
+    let rest : came ++ queue ≡ map (Copies sender) sent ++ cond marked (Mark sender ∷ []) [] = cc in
+    mark_is_last sender sent marked came queue rest (ap (λ m. is_mark_of sender m || has_mark came sender) (sym first) ∙ has)
+
+-- once a sender's mark was received, the queue holds none of its messages
+pub nothing_behind_mark : (sender : ℕ) (sent : List Handful) (marked : Bool) (came queue : List Message)
+    → messages_of sender (came ++ queue) ≡ sent_by sender sent marked → has_mark came sender ≡ true → messages_of sender queue ≡ []
+nothing_behind_mark sender sent marked came queue is has =
+    mark_is_last sender sent marked (messages_of sender came) (messages_of sender queue) (sym (messages-append sender came queue) ∙ is) (mark_kept sender came ∙ has)
 
 -- where all numbers of a run pass, each of them does
 pub each_passes : (test : ℕ → Bool) (first count k : ℕ) → list_all test (range_with_len first count) ≡ true → k < count → test (first + k) ≡ true

@@ -1,11 +1,12 @@
 -- Each step of a hand-over keeps its rule.
 use Rattle.std.proofs.Common.{◌≡◌, ◌≢◌, ℕ, zero, suc, ◌+◌, ◌-◌, ◌<◌, true, false, true≢false, List, [], ◌∷◌, ◌++◌, length, map, set, All, sym, refl, ap, ◌∙◌, subst, ⊎_elim, append_assoc, append-nil, arith}
-use Rattle.std.specs.Prelude.{replicate, drop}
+use Rattle.std.specs.Prelude.{◌≤◌, max, replicate}
+use Rattle.std.proofs.Math.Nat.{le-max_left, le-max_right}
+use Rattle.std.proofs.lemmas.List.Elements.{All-nil, All-push}
 use Rattle.std.proofs.lemmas.Grind.{flat_map-append}
 use Rattle.std.proofs.lemmas.List.{map-append, replicate_more}
 use Rattle.std.specs.List.Sorted.{IsPermutation}
-use Rattle.std.proofs.lemmas.List.Sorted.{IsPermutation-refl, IsPermutation-sym, IsPermutation-trans, IsPermutation-append_left, All-permutation, length_permutation}
-use Rattle.std.proofs.Math.Seq.{drop-length}
+use Rattle.std.proofs.lemmas.List.Sorted.{IsPermutation-refl, IsPermutation-sym, IsPermutation-trans, IsPermutation-append_left, All-permutation}
 use mathlib.Core.Option.{some, some-ne-none}
 use lib.ListN.{get_elem?}
 use Rattle.crossbeam_channel.specs.Fifo.{Pushes, Pops, Forks, Merges, Learns}
@@ -15,14 +16,14 @@ use Rattle.hand_core.specs.declared.page_queue.Note.{Note}
 use Rattle.hand_core.specs.declared.page_queue.Note.TheVariants.{Pages, Mark}
 use Rattle.hand_core.specs.declared.page_queue.Known.{Known}
 use Rattle.word_core.specs.Serials.{HasSerialsFrom, IsRising}
-use Rattle.hand_core.specs.PageQueue.{giver_knows, taker_knows, total, all_taken, all_ended, InOrder, after_put, after_take, Takes, joined, nothing_known, Settles, pages_in as queue_pages}
+use Rattle.hand_core.specs.PageQueue.{giver_knows, taker_knows, total, all_off, all_ended, InOrder, after_put, after_take, Takes, joined, nothing_known, Settles}
 use Rattle.hand_core.specs.Handfuls.{Handful, pages_of}
 use Rattle.hand_core.specs.Queue.{Each}
 use Rattle.hand_core.proofs.EachEnd.{each_set, each_new}
 use Rattle.hand_core.proofs.Serials.{serials-append, serials_front, serials_behind, serials_below, rising-append, rising-nil}
-use Rattle.hand_core.proofs.Totals.{total_set, total_same, total_new, total_alone, taken_same, taken_new, taken_longer, taken_joined, taken_alone, all_of_end}
+use Rattle.hand_core.proofs.Totals.{total_set, total_same, total_new, total_alone, off_same, off_new, off_longer, off_joined, off_alone, all_of_end}
 
-abbrev queue_of : List Handful → ℕ → List Note
+abbrev pub queue_of : List Handful → ℕ → List Note
 queue_of waiting marks = map Pages waiting ++ replicate marks Mark
 
 queued_pages : (queue : List Note) (waiting : List Handful) (marks : ℕ) (h : Handful) → queue ≡ queue_of waiting marks → marks ≡ 0 → queue ++ Pages h ∷ [] ≡ queue_of (waiting ++ h ∷ []) 0
@@ -61,10 +62,13 @@ abbrev Gave : ℕ → List OnItsWay → ℕ → ℕ → Known → Type 0
 Gave giver given marks number v = v.gives ≡ true → (number ≡ giver) × (v.given ≡ given) × (v.marks ≡ marks)
 
 abbrev Spent : ℕ → Known → Type 0
-Spent number v = v.shares ≡ 0 → (v.taken ≡ []) × (v.ended ≡ 0)
+Spent number v = v.shares ≡ 0 → (v.off ≡ []) × (v.ended ≡ 0)
+
+abbrev Fits : List Handful → ℕ → Known → Type 0
+Fits waiting number v = v.gives ≡ true → All (λ (h : Handful). length h.items ≤ v.largest) waiting
 
 abbrev Rises : ℕ → Known → Type 0
-Rises number v = v.gives ≡ false → IsRising v.taken
+Rises number v = v.gives ≡ false → IsRising v.off
 
 -- a hand-over has one giver
 other_giver : (giver : ℕ) (given given_new : List OnItsWay) (marks marks_new number other : ℕ) (u : Known) → number ≡ giver → other ≢ number → Gave giver given marks other u → Gave giver given_new marks_new other u
@@ -72,6 +76,17 @@ other_giver giver given given_new marks marks_new number other u this apart h gi
 
 same_giver : (giver : ℕ) (given given_new : List OnItsWay) (marks marks_new other : ℕ) (u : Known) → given ≡ given_new → marks ≡ marks_new → Gave giver given marks other u → Gave giver given_new marks_new other u
 same_giver giver given given_new marks marks_new other u pages count h gives = ((h gives).0, (h gives).1 ∙ pages, (h gives).2 ∙ count)
+
+-- the largest handful is the largest of all with one more
+larger : (largest : ℕ) (h : Handful) (waiting : List Handful) → All (λ (g : Handful). length g.items ≤ largest) waiting
+    → All (λ (g : Handful). length g.items ≤ max largest (length h.items)) (waiting ++ h ∷ [])
+larger largest h waiting every =
+    let Small : Handful → Type 0 = λ g. length g.items ≤ max largest (length h.items) in
+    let left = le-max_left largest (length h.items) in
+    All-push Small waiting h (λ k d low. let this = every k d low in omega arith) (le-max_right largest (length h.items))
+
+others_fit : (largest : ℕ) (h : Handful) (rest : List Handful) → All (λ (g : Handful). length g.items ≤ largest) (h ∷ rest) → All (λ (g : Handful). length g.items ≤ largest) rest
+others_fit largest h rest every k d low = every (suc k) d (omega arith)
 
 -- the rule holds of a queue that was just opened, whose one end is the giver
 pub opens : InOrder [] (giver_knows ∷ [])
@@ -89,6 +104,7 @@ opens =
       rising = only Rises (λ plain. rising-nil);
       done = λ some. refl;
       given = only (Gave 0 [] 0) (λ _. (refl, refl, refl));
+      fits = only (Fits []) (λ _. All-nil (λ (h : Handful). length h.items ≤ 0));
       shares = refl;
       spent = only Spent (λ _. (refl, refl));
     }
@@ -119,12 +135,15 @@ pages_in room number v h base gives unmarked serials next queue ends short r at 
         marks = 0;
         serials = subst (HasSerialsFrom base) given (serials-append base v.given h.items serials next);
         queued = queued_pages queue r.waiting r.marks h r.queued none;
-        together = subst (λ l. IsPermutation l r.off) (sym (taken_same ends number v w at refl)) r.together;
+        together = subst (λ l. IsPermutation l r.off) (sym (off_same ends number v w at refl)) r.together;
         rising = each_set Rises ends number w (r.rising number v at) (λ j u other e. r.rising j u e);
         done = λ some. absurd (omega arith);
         given = each_set (Gave r.giver (r.off ++ pages_of waiting) (all_ended (set ends number w) + 0)) ends number w
             (λ _. (this.0, given, marks))
             (λ j u other e. other_giver r.giver (r.off ++ pages_of r.waiting) (r.off ++ pages_of waiting) (all_ended ends + r.marks) (all_ended (set ends number w) + 0) number j u this.0 other (r.given j u e));
+        fits = each_set (Fits waiting) ends number w
+            (λ _. larger v.largest h r.waiting (r.fits number v at gives))
+            (λ j u other e his. absurd (other ((r.given j u e his).0 ∙ sym this.0)));
         shares = total_same (λ u. u.shares) ends number v w at refl ∙ r.shares;
         spent = each_set Spent ends number w (r.spent number v at) (λ j u other e. r.spent j u e);
       },
@@ -148,12 +167,13 @@ mark_in room number v gives queue ends short r at =
         marks = r.marks + 1;
         serials = r.serials;
         queued = queued_mark queue r.waiting r.marks r.queued;
-        together = subst (λ l. IsPermutation l r.off) (sym (taken_same ends number v w at refl)) r.together;
+        together = subst (λ l. IsPermutation l r.off) (sym (off_same ends number v w at refl)) r.together;
         rising = each_set Rises ends number w (r.rising number v at) (λ j u other e. r.rising j u e);
         done = λ some. r.done (omega arith);
         given = each_set (Gave r.giver (r.off ++ pages_of r.waiting) (all_ended (set ends number w) + (r.marks + 1))) ends number w
             (λ _. (this.0, this.1, marks))
             (λ j u other e. other_giver r.giver (r.off ++ pages_of r.waiting) (r.off ++ pages_of r.waiting) (all_ended ends + r.marks) (all_ended (set ends number w) + (r.marks + 1)) number j u this.0 other (r.given j u e));
+        fits = each_set (Fits r.waiting) ends number w (r.fits number v at) (λ j u other e. r.fits j u e);
         shares = total_same (λ u. u.shares) ends number v w at refl ∙ r.shares;
         spent = each_set Spent ends number w (r.spent number v at) (λ j u other e. r.spent j u e);
       },
@@ -162,7 +182,7 @@ mark_in room number v gives queue ends short r at =
 
 -- a handful is received from the front
 pages_off : (number : ℕ) (v : Known) (h : Handful) (queue : List Note) (ends : List Known) → v.gives ≡ false → 0 < v.shares → InOrder (Pages h ∷ queue) ends → get_elem? ends number ≡ some v
-    → InOrder queue (set ends number (after_take v (Pages h))) × IsRising (v.taken ++ h.items)
+    → InOrder queue (set ends number (after_take v (Pages h))) × IsRising (v.off ++ h.items)
 pages_off number v h queue ends plain share r at =
     let w = after_take v (Pages h) in
     let front = front_pages r.waiting r.marks h queue r.queued in
@@ -174,11 +194,11 @@ pages_off number v h queue ends plain share r at =
     let serials : HasSerialsFrom r.base ((r.off ++ h.items) ++ pages_of rest) = subst (HasSerialsFrom r.base) moved r.serials in
     let next : HasSerialsFrom (r.base + length r.off) h.items =
     serials_behind r.base r.off h.items (serials_front r.base (r.off ++ h.items) (pages_of rest) serials) in
-    let below : All (λ (q : OnItsWay). q.serial < r.base + length r.off) v.taken =
+    let below : All (λ (q : OnItsWay). q.serial < r.base + length r.off) v.off =
     all_of_end (λ q. q.serial < r.base + length r.off) ends number v at
-    (All-permutation (λ (q : OnItsWay). q.serial < r.base + length r.off) r.off (all_taken ends) (IsPermutation-sym (all_taken ends) r.off r.together)
+    (All-permutation (λ (q : OnItsWay). q.serial < r.base + length r.off) r.off (all_off ends) (IsPermutation-sym (all_off ends) r.off r.together)
     (serials_below r.base r.off (serials_front r.base r.off (pages_of r.waiting) r.serials))) in
-    let rises : IsRising (v.taken ++ h.items) = rising-append v.taken (r.base + length r.off) h.items (r.rising number v at plain) below next in (
+    let rises : IsRising (v.off ++ h.items) = rising-append v.off (r.base + length r.off) h.items (r.rising number v at plain) below next in (
       record {
         giver = r.giver;
         base = r.base;
@@ -187,14 +207,17 @@ pages_off number v h queue ends plain share r at =
         marks = r.marks;
         serials = serials;
         queued = front.2;
-        together = IsPermutation-trans (all_taken (set ends number w)) (all_taken ends ++ h.items) (r.off ++ h.items)
-            (taken_longer ends number v w h.items at refl)
-            (IsPermutation-append_left h.items (all_taken ends) r.off r.together);
+        together = IsPermutation-trans (all_off (set ends number w)) (all_off ends ++ h.items) (r.off ++ h.items)
+            (off_longer ends number v w h.items at refl)
+            (IsPermutation-append_left h.items (all_off ends) r.off r.together);
         rising = each_set Rises ends number w (λ _. rises) (λ j u other e. r.rising j u e);
         done = λ some. absurd (nothing (sym first ∙ r.done (omega arith)));
         given = each_set (Gave r.giver ((r.off ++ h.items) ++ pages_of rest) (all_ended (set ends number w) + r.marks)) ends number w
             (λ gives. absurd (true≢false (sym gives ∙ plain)))
             (λ j u other e. same_giver r.giver (r.off ++ pages_of r.waiting) ((r.off ++ h.items) ++ pages_of rest) (all_ended ends + r.marks) (all_ended (set ends number w) + r.marks) j u moved (ap (λ n. n + r.marks) (sym ended)) (r.given j u e));
+        fits = each_set (Fits rest) ends number w
+            (λ gives. absurd (true≢false (sym gives ∙ plain)))
+            (λ j u other e his. others_fit u.largest h rest (subst (All (λ (g : Handful). length g.items ≤ u.largest)) first (r.fits j u e his)));
         shares = total_same (λ u. u.shares) ends number v w at refl ∙ r.shares;
         spent = each_set Spent ends number w (λ none. absurd (omega arith)) (λ j u other e. r.spent j u e);
       },
@@ -206,7 +229,7 @@ pages_off number v h queue ends plain share r at =
 
 -- an end mark is received from the front
 mark_off : (number : ℕ) (v : Known) (queue : List Note) (ends : List Known) → v.gives ≡ false → 0 < v.shares → InOrder (Mark ∷ queue) ends → get_elem? ends number ≡ some v
-    → InOrder queue (set ends number (after_take v Mark)) × IsRising v.taken
+    → InOrder queue (set ends number (after_take v Mark)) × IsRising v.off
 mark_off number v queue ends plain share r at =
     let w = after_take v Mark in
     let front = front_mark r.waiting r.marks queue r.queued in
@@ -224,12 +247,13 @@ mark_off number v queue ends plain share r at =
         marks = left;
         serials = subst (HasSerialsFrom r.base) pages r.serials;
         queued = front.3;
-        together = subst (λ l. IsPermutation l r.off) (sym (taken_same ends number v w at refl)) r.together;
+        together = subst (λ l. IsPermutation l r.off) (sym (off_same ends number v w at refl)) r.together;
         rising = each_set Rises ends number w (r.rising number v at) (λ j u other e. r.rising j u e);
         done = λ some. refl;
         given = each_set (Gave r.giver (r.off ++ []) (all_ended (set ends number w) + left)) ends number w
             (λ gives. absurd (true≢false (sym gives ∙ plain)))
             (λ j u other e. same_giver r.giver (r.off ++ pages_of r.waiting) (r.off ++ []) (all_ended ends + r.marks) (all_ended (set ends number w) + left) j u pages marks (r.given j u e));
+        fits = each_set (Fits []) ends number w (λ gives. absurd (true≢false (sym gives ∙ plain))) (λ j u other e his. All-nil (λ (g : Handful). length g.items ≤ u.largest));
         shares = total_same (λ u. u.shares) ends number v w at refl ∙ r.shares;
         spent = each_set Spent ends number w (λ none. absurd (omega arith)) (λ j u other e. r.spent j u e);
       },
@@ -258,13 +282,14 @@ cuts number v shares queue ends r at =
       marks = r.marks;
       serials = r.serials;
       queued = r.queued;
-      together = subst (λ l. IsPermutation l r.off) (sym (taken_new ws taker_knows refl ∙ taken_same ends number v w at refl)) r.together;
+      together = subst (λ l. IsPermutation l r.off) (sym (off_new ws taker_knows refl ∙ off_same ends number v w at refl)) r.together;
       rising = every Rises (r.rising number v at) (λ j plain. rising-nil) r.rising;
       done = λ some. r.done (omega arith);
       given = every (Gave r.giver (r.off ++ pages_of r.waiting) (all_ended (ws ++ taker_knows ∷ []) + r.marks))
           (same_giver r.giver (r.off ++ pages_of r.waiting) (r.off ++ pages_of r.waiting) (all_ended ends + r.marks) (all_ended (ws ++ taker_knows ∷ []) + r.marks) number w refl (ap (λ n. n + r.marks) (sym ended)) (r.given number v at))
           (λ j gives. absurd (true≢false (sym gives)))
           (λ j u e. same_giver r.giver (r.off ++ pages_of r.waiting) (r.off ++ pages_of r.waiting) (all_ended ends + r.marks) (all_ended (ws ++ taker_knows ∷ []) + r.marks) j u refl (ap (λ n. n + r.marks) (sym ended)) (r.given j u e));
+      fits = every (Fits r.waiting) (r.fits number v at) (λ j none. absurd (true≢false (sym none))) r.fits;
       shares = let a = total_new (λ u. u.shares) ws taker_knows in let b = total_set (λ u. u.shares) ends number v w at in let e = r.shares in omega arith;
       spent = every Spent (λ none. absurd (omega arith)) (λ j none. absurd (omega arith)) r.spent;
     }
@@ -289,13 +314,14 @@ joins number v other u gives share queue ends r at apart at_other =
       marks = r.marks;
       serials = r.serials;
       queued = r.queued;
-      together = IsPermutation-trans (all_taken us) (all_taken ends) r.off (taken_joined ends number other v u both nothing_known apart at was refl refl) r.together;
+      together = IsPermutation-trans (all_off us) (all_off ends) r.off (off_joined ends number other v u both nothing_known apart at was refl refl) r.together;
       rising = every Rises (λ plain. absurd (true≢false (sym gives ∙ plain))) (λ plain. rising-nil) r.rising;
       done = λ some. r.done (omega arith);
       given = every (Gave r.giver (r.off ++ pages_of r.waiting) (all_ended us + r.marks))
           (same_giver r.giver (r.off ++ pages_of r.waiting) (r.off ++ pages_of r.waiting) (all_ended ends + r.marks) (all_ended us + r.marks) number both refl (ap (λ n. n + r.marks) (sym ended)) (r.given number v at))
           (λ none. absurd (true≢false (sym none)))
           (λ j y e. same_giver r.giver (r.off ++ pages_of r.waiting) (r.off ++ pages_of r.waiting) (all_ended ends + r.marks) (all_ended us + r.marks) j y refl (ap (λ n. n + r.marks) (sym ended)) (r.given j y e));
+      fits = every (Fits r.waiting) (r.fits number v at) (λ none. absurd (true≢false (sym none))) r.fits;
       shares = sums (λ y. y.shares) refl refl ∙ r.shares;
       spent = every Spent (λ none. absurd (omega arith)) (λ none. (refl, refl)) r.spent;
     }
@@ -307,13 +333,10 @@ settles number v gives every has_ended all_marks queue ends r at =
     let count = this.2 in
     let whole = r.shares ∙ sym every in
     let ended : all_ended ends ≡ v.ended = total_alone (λ u. u.ended) ends number v at whole (λ j u e none. (r.spent j u e none).1) in
-    let lists : all_taken ends ≡ v.taken = taken_alone ends number v at whole (λ j u e none. (r.spent j u e none).0) in
+    let lists : all_off ends ≡ v.off = off_alone ends number v at whole (λ j u e none. (r.spent j u e none).0) in
     let empty : r.waiting ≡ [] = r.done (omega arith) in
     let given : v.given ≡ r.off = this.1 ∙ ap (λ l. r.off ++ pages_of l) empty ∙ append-nil r.off in
-    let none : r.marks ≡ 0 = omega arith in
-    let came : length v.given ≡ length v.taken = ap (λ l. length l) given ∙ length_permutation (all_taken ends) r.off r.together ∙ ap (λ l. length l) lists in
-    let nothing : queue ≡ [] = r.queued ∙ ap (λ l. map Pages l ++ replicate r.marks Mark) empty ∙ ap (λ m. replicate m Mark) none in (
-      subst (λ l. IsPermutation l v.given) lists (subst (λ l. IsPermutation (all_taken ends) l) (sym given) r.together),
-      ap queue_pages nothing ∙ sym (ap (λ n. drop n v.given) (sym came) ∙ drop-length v.given),
-      nothing,
+    let none : r.marks ≡ 0 = omega arith in (
+      subst (λ l. IsPermutation l v.given) lists (subst (λ l. IsPermutation (all_off ends) l) (sym given) r.together),
+      r.queued ∙ ap (λ l. map Pages l ++ replicate r.marks Mark) empty ∙ ap (λ m. replicate m Mark) none,
     )

@@ -123,17 +123,5 @@ rising-append pages first (p ∷ more) rises below h =
     (All-append (Below (first + 1)) pages (p ∷ []) wider this)
     (tail_of p.serial first (serials_of more) (range_with_len (first + 1) (length more)) h))
 
--- the front of a list that rises does so too
-pub rising_front : (pages more : List OnItsWay) → IsRising (pages ++ more) → IsRising pages
-rising_front pages more rises =
-    front (serials_of pages) (serials_of more) (subst IsStrictlyIncreasing (map-append (λ (q : OnItsWay). q.serial) pages more) rises)
-  where
-    front : (xs ys : List ℕ) → IsStrictlyIncreasing (xs ++ ys) → IsStrictlyIncreasing xs
-    front xs ys all k lt =
-        let longer = length-append xs ys in
-        let this : get_or (xs ++ ys) k 0 ≡ get_or xs k 0 = get_or-append xs ys 0 k (omega arith) in
-        let next : get_or (xs ++ ys) (k + 1) 0 ≡ get_or xs (k + 1) 0 = get_or-append xs ys 0 (k + 1) lt in
-        let e = all k (omega arith) in omega arith
-
 pub rising-nil : IsRising []
 rising-nil k lt = absurd (omega arith)

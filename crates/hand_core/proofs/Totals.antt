@@ -6,7 +6,7 @@ use mathlib.Core.Option.{some, some-ne-none, some-injective}
 use lib.ListN.{get_elem?}
 use Rattle.word_core.specs.Page.{OnItsWay}
 use Rattle.hand_core.specs.declared.page_queue.Known.{Known}
-use Rattle.hand_core.specs.PageQueue.{total, all_taken}
+use Rattle.hand_core.specs.PageQueue.{total, all_off}
 use Rattle.hand_core.specs.Queue.{Each}
 use Rattle.hand_core.proofs.Serials.{all_front, all_back}
 
@@ -57,14 +57,14 @@ total_alone f (x ∷ ends) (suc number) v at whole idle =
     let rest = total_alone f ends number v at (omega arith) (λ j u at. idle (suc j) u at) in omega arith
 
 -- an end's step that takes no page
-pub taken_same : (ends : List Known) (number : ℕ) (v w : Known) → get_elem? ends number ≡ some v → w.taken ≡ v.taken → all_taken (set ends number w) ≡ all_taken ends
-taken_same [] number v w at e = absurd (some-ne-none v (sym at))
-taken_same (x ∷ ends) zero v w at e = ap (λ l. l ++ all_taken ends) (e ∙ ap (λ (u : Known). u.taken) (sym (some-injective x v at)))
-taken_same (x ∷ ends) (suc number) v w at e = ap (λ l. x.taken ++ l) (taken_same ends number v w at e)
+pub off_same : (ends : List Known) (number : ℕ) (v w : Known) → get_elem? ends number ≡ some v → w.off ≡ v.off → all_off (set ends number w) ≡ all_off ends
+off_same [] number v w at e = absurd (some-ne-none v (sym at))
+off_same (x ∷ ends) zero v w at e = ap (λ l. l ++ all_off ends) (e ∙ ap (λ (u : Known). u.off) (sym (some-injective x v at)))
+off_same (x ∷ ends) (suc number) v w at e = ap (λ l. x.off ++ l) (off_same ends number v w at e)
 
-pub taken_new : (ends : List Known) (new : Known) → new.taken ≡ [] → all_taken (ends ++ new ∷ []) ≡ all_taken ends
-taken_new [] new e = append-nil new.taken ∙ e
-taken_new (x ∷ ends) new e = ap (λ l. x.taken ++ l) (taken_new ends new e)
+pub off_new : (ends : List Known) (new : Known) → new.off ≡ [] → all_off (ends ++ new ∷ []) ≡ all_off ends
+off_new [] new e = append-nil new.off ∙ e
+off_new (x ∷ ends) new e = ap (λ l. x.off ++ l) (off_new ends new e)
 
 behind : (first rest more : List OnItsWay) → Same ((first ++ more) ++ rest) ((first ++ rest) ++ more)
 behind first rest more =
@@ -75,75 +75,75 @@ behind first rest more =
     (same_is (first ++ (rest ++ more)) ((first ++ rest) ++ more) (sym (append_assoc first rest more)))
 
 -- an end's list grows by more pages
-pub taken_longer : (ends : List Known) (number : ℕ) (v w : Known) (more : List OnItsWay) → get_elem? ends number ≡ some v → w.taken ≡ v.taken ++ more
-    → IsPermutation (all_taken (set ends number w)) (all_taken ends ++ more)
-taken_longer [] number v w more at e = absurd (some-ne-none v (sym at))
-taken_longer (x ∷ ends) zero v w more at e =
-    let is : w.taken ≡ x.taken ++ more = e ∙ ap (λ (u : Known). u.taken ++ more) (sym (some-injective x v at)) in
-    subst (λ l. IsPermutation (l ++ all_taken ends) ((x.taken ++ all_taken ends) ++ more)) (sym is) (behind x.taken (all_taken ends) more)
-taken_longer (x ∷ ends) (suc number) v w more at e =
-    subst (λ l. IsPermutation (x.taken ++ all_taken (set ends number w)) l) (sym (append_assoc x.taken (all_taken ends) more))
-    (IsPermutation-append_right x.taken (all_taken (set ends number w)) (all_taken ends ++ more) (taken_longer ends number v w more at e))
+pub off_longer : (ends : List Known) (number : ℕ) (v w : Known) (more : List OnItsWay) → get_elem? ends number ≡ some v → w.off ≡ v.off ++ more
+    → IsPermutation (all_off (set ends number w)) (all_off ends ++ more)
+off_longer [] number v w more at e = absurd (some-ne-none v (sym at))
+off_longer (x ∷ ends) zero v w more at e =
+    let is : w.off ≡ x.off ++ more = e ∙ ap (λ (u : Known). u.off ++ more) (sym (some-injective x v at)) in
+    subst (λ l. IsPermutation (l ++ all_off ends) ((x.off ++ all_off ends) ++ more)) (sym is) (behind x.off (all_off ends) more)
+off_longer (x ∷ ends) (suc number) v w more at e =
+    subst (λ l. IsPermutation (x.off ++ all_off (set ends number w)) l) (sym (append_assoc x.off (all_off ends) more))
+    (IsPermutation-append_right x.off (all_off (set ends number w)) (all_off ends ++ more) (off_longer ends number v w more at e))
 
 -- an end's list is given away
-taken_emptied : (ends : List Known) (number : ℕ) (v w : Known) → get_elem? ends number ≡ some v → w.taken ≡ []
-    → IsPermutation (all_taken ends) (all_taken (set ends number w) ++ v.taken)
-taken_emptied [] number v w at e = absurd (some-ne-none v (sym at))
-taken_emptied (x ∷ ends) zero v w at e =
-    let is : x.taken ≡ v.taken = ap (λ (u : Known). u.taken) (some-injective x v at) in
-    subst (λ l. IsPermutation (x.taken ++ all_taken ends) ((l ++ all_taken ends) ++ v.taken)) (sym e)
-    (subst (λ l. IsPermutation (l ++ all_taken ends) (all_taken ends ++ v.taken)) (sym is) (IsPermutation-append_comm v.taken (all_taken ends)))
-taken_emptied (x ∷ ends) (suc number) v w at e =
-    subst (λ l. IsPermutation (x.taken ++ all_taken ends) l) (sym (append_assoc x.taken (all_taken (set ends number w)) v.taken))
-    (IsPermutation-append_right x.taken (all_taken ends) (all_taken (set ends number w) ++ v.taken) (taken_emptied ends number v w at e))
+off_emptied : (ends : List Known) (number : ℕ) (v w : Known) → get_elem? ends number ≡ some v → w.off ≡ []
+    → IsPermutation (all_off ends) (all_off (set ends number w) ++ v.off)
+off_emptied [] number v w at e = absurd (some-ne-none v (sym at))
+off_emptied (x ∷ ends) zero v w at e =
+    let is : x.off ≡ v.off = ap (λ (u : Known). u.off) (some-injective x v at) in
+    subst (λ l. IsPermutation (x.off ++ all_off ends) ((l ++ all_off ends) ++ v.off)) (sym e)
+    (subst (λ l. IsPermutation (l ++ all_off ends) (all_off ends ++ v.off)) (sym is) (IsPermutation-append_comm v.off (all_off ends)))
+off_emptied (x ∷ ends) (suc number) v w at e =
+    subst (λ l. IsPermutation (x.off ++ all_off ends) l) (sym (append_assoc x.off (all_off (set ends number w)) v.off))
+    (IsPermutation-append_right x.off (all_off ends) (all_off (set ends number w) ++ v.off) (off_emptied ends number v w at e))
 
 -- one end's list goes to another end
-pub taken_joined : (ends : List Known) (number other : ℕ) (v u both none : Known) → other ≢ number → get_elem? ends number ≡ some v → get_elem? ends other ≡ some u
-    → both.taken ≡ v.taken ++ u.taken → none.taken ≡ [] → IsPermutation (all_taken (set (set ends number both) other none)) (all_taken ends)
-taken_joined [] number other v u both none apart at at_other joined empty = absurd (some-ne-none v (sym at))
-taken_joined (x ∷ ends) zero zero v u both none apart at at_other joined empty = absurd (apart refl)
-taken_joined (x ∷ ends) zero (suc other) v u both none apart at at_other joined empty =
-    let is : both.taken ≡ x.taken ++ u.taken = joined ∙ ap (λ (y : Known). y.taken ++ u.taken) (sym (some-injective x v at)) in
-    let rest = all_taken (set ends other none) in
-    let moved : IsPermutation (u.taken ++ rest) (all_taken ends) =
-    IsPermutation-trans (u.taken ++ rest) (rest ++ u.taken) (all_taken ends) (IsPermutation-append_comm u.taken rest)
-    (IsPermutation-sym (all_taken ends) (rest ++ u.taken) (taken_emptied ends other u none at_other empty)) in
-    subst (λ l. IsPermutation (l ++ rest) (x.taken ++ all_taken ends)) (sym is)
-    (subst (λ l. IsPermutation l (x.taken ++ all_taken ends)) (sym (append_assoc x.taken u.taken rest))
-    (IsPermutation-append_right x.taken (u.taken ++ rest) (all_taken ends) moved))
-taken_joined (x ∷ ends) (suc number) zero v u both none apart at at_other joined empty =
-    let is : x.taken ≡ u.taken = ap (λ (y : Known). y.taken) (some-injective x u at_other) in
-    let grown = all_taken (set ends number both) in
-    subst (λ l. IsPermutation (l ++ grown) (x.taken ++ all_taken ends)) (sym empty)
-    (subst (λ l. IsPermutation grown (l ++ all_taken ends)) (sym is)
-    (IsPermutation-trans grown (all_taken ends ++ u.taken) (u.taken ++ all_taken ends) (taken_longer ends number v both u.taken at joined)
-    (IsPermutation-append_comm (all_taken ends) u.taken)))
-taken_joined (x ∷ ends) (suc number) (suc other) v u both none apart at at_other joined empty =
-    IsPermutation-append_right x.taken (all_taken (set (set ends number both) other none)) (all_taken ends)
-    (taken_joined ends number other v u both none (λ same. apart (ap suc same)) at at_other joined empty)
+pub off_joined : (ends : List Known) (number other : ℕ) (v u both none : Known) → other ≢ number → get_elem? ends number ≡ some v → get_elem? ends other ≡ some u
+    → both.off ≡ v.off ++ u.off → none.off ≡ [] → IsPermutation (all_off (set (set ends number both) other none)) (all_off ends)
+off_joined [] number other v u both none apart at at_other joined empty = absurd (some-ne-none v (sym at))
+off_joined (x ∷ ends) zero zero v u both none apart at at_other joined empty = absurd (apart refl)
+off_joined (x ∷ ends) zero (suc other) v u both none apart at at_other joined empty =
+    let is : both.off ≡ x.off ++ u.off = joined ∙ ap (λ (y : Known). y.off ++ u.off) (sym (some-injective x v at)) in
+    let rest = all_off (set ends other none) in
+    let moved : IsPermutation (u.off ++ rest) (all_off ends) =
+    IsPermutation-trans (u.off ++ rest) (rest ++ u.off) (all_off ends) (IsPermutation-append_comm u.off rest)
+    (IsPermutation-sym (all_off ends) (rest ++ u.off) (off_emptied ends other u none at_other empty)) in
+    subst (λ l. IsPermutation (l ++ rest) (x.off ++ all_off ends)) (sym is)
+    (subst (λ l. IsPermutation l (x.off ++ all_off ends)) (sym (append_assoc x.off u.off rest))
+    (IsPermutation-append_right x.off (u.off ++ rest) (all_off ends) moved))
+off_joined (x ∷ ends) (suc number) zero v u both none apart at at_other joined empty =
+    let is : x.off ≡ u.off = ap (λ (y : Known). y.off) (some-injective x u at_other) in
+    let grown = all_off (set ends number both) in
+    subst (λ l. IsPermutation (l ++ grown) (x.off ++ all_off ends)) (sym empty)
+    (subst (λ l. IsPermutation grown (l ++ all_off ends)) (sym is)
+    (IsPermutation-trans grown (all_off ends ++ u.off) (u.off ++ all_off ends) (off_longer ends number v both u.off at joined)
+    (IsPermutation-append_comm (all_off ends) u.off)))
+off_joined (x ∷ ends) (suc number) (suc other) v u both none apart at at_other joined empty =
+    IsPermutation-append_right x.off (all_off (set (set ends number both) other none)) (all_off ends)
+    (off_joined ends number other v u both none (λ same. apart (ap suc same)) at at_other joined empty)
 
-taken_nobody : (ends : List Known) → total (λ u. u.shares) ends ≡ 0 → Each ends (λ _ u. u.shares ≡ 0 → u.taken ≡ []) → all_taken ends ≡ []
-taken_nobody [] none idle = refl
-taken_nobody (x ∷ ends) none idle =
-    ap (λ l. l ++ all_taken ends) (idle 0 x refl (omega arith)) ∙ taken_nobody ends (omega arith) (λ j u at. idle (suc j) u at)
+off_nobody : (ends : List Known) → total (λ u. u.shares) ends ≡ 0 → Each ends (λ _ u. u.shares ≡ 0 → u.off ≡ []) → all_off ends ≡ []
+off_nobody [] none idle = refl
+off_nobody (x ∷ ends) none idle =
+    ap (λ l. l ++ all_off ends) (idle 0 x refl (omega arith)) ∙ off_nobody ends (omega arith) (λ j u at. idle (suc j) u at)
 
 -- where one end has every share, its list has all pages that were taken
-pub taken_alone : (ends : List Known) (number : ℕ) (v : Known) → get_elem? ends number ≡ some v → total (λ u. u.shares) ends ≡ v.shares
-    → Each ends (λ _ u. u.shares ≡ 0 → u.taken ≡ []) → all_taken ends ≡ v.taken
-taken_alone [] number v at whole idle = absurd (some-ne-none v (sym at))
-taken_alone (x ∷ ends) zero v at whole idle =
+pub off_alone : (ends : List Known) (number : ℕ) (v : Known) → get_elem? ends number ≡ some v → total (λ u. u.shares) ends ≡ v.shares
+    → Each ends (λ _ u. u.shares ≡ 0 → u.off ≡ []) → all_off ends ≡ v.off
+off_alone [] number v at whole idle = absurd (some-ne-none v (sym at))
+off_alone (x ∷ ends) zero v at whole idle =
     let is : x ≡ v = some-injective x v at in
     let shares : x.shares ≡ v.shares = ap (λ (u : Known). u.shares) is in
-    ap (λ l. x.taken ++ l) (taken_nobody ends (omega arith) (λ j u at. idle (suc j) u at)) ∙ append-nil x.taken ∙ ap (λ (u : Known). u.taken) is
-taken_alone (x ∷ ends) (suc number) v at whole idle =
+    ap (λ l. x.off ++ l) (off_nobody ends (omega arith) (λ j u at. idle (suc j) u at)) ∙ append-nil x.off ∙ ap (λ (u : Known). u.off) is
+off_alone (x ∷ ends) (suc number) v at whole idle =
     let most = total_at_most (λ (u : Known). u.shares) ends number v at in
-    ap (λ l. l ++ all_taken ends) (idle 0 x refl (omega arith)) ∙ taken_alone ends number v at (omega arith) (λ j u at. idle (suc j) u at)
+    ap (λ l. l ++ all_off ends) (idle 0 x refl (omega arith)) ∙ off_alone ends number v at (omega arith) (λ j u at. idle (suc j) u at)
 
 -- what holds of all pages that were taken holds of those of each end
-pub all_of_end : (holds : OnItsWay → Type 0) (ends : List Known) (number : ℕ) (v : Known) → get_elem? ends number ≡ some v → All holds (all_taken ends) → All holds v.taken
+pub all_of_end : (holds : OnItsWay → Type 0) (ends : List Known) (number : ℕ) (v : Known) → get_elem? ends number ≡ some v → All holds (all_off ends) → All holds v.off
 all_of_end holds [] number v at every = absurd (some-ne-none v (sym at))
-all_of_end holds (x ∷ ends) zero v at every = subst (λ (u : Known). All holds u.taken) (some-injective x v at) (all_front holds x.taken (all_taken ends) every)
-all_of_end holds (x ∷ ends) (suc number) v at every = all_of_end holds ends number v at (all_back holds x.taken (all_taken ends) every)
+all_of_end holds (x ∷ ends) zero v at every = subst (λ (u : Known). All holds u.off) (some-injective x v at) (all_front holds x.off (all_off ends) every)
+all_of_end holds (x ∷ ends) (suc number) v at every = all_of_end holds ends number v at (all_back holds x.off (all_off ends) every)
 
 -- a list that comes back is added to those that came back before
 pub list_back : (mine his before : List OnItsWay) → IsPermutation mine before → IsPermutation (mine ++ his) (his ++ before)

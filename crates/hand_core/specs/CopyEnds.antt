@@ -1,12 +1,15 @@
 -- What contracts see of the two ends of the copies' queue.
-use Rattle.std.specs.Prelude.{◌≡◌, ℕ, ◌==◌, length, drop, Bool, true, false, List, [], ◌∷◌, Option, None, Some}
+use Rattle.std.specs.Prelude.{◌≡◌, ℕ, ◌==◌, Bool, true, false, List, [], ◌∷◌, Option, None, Some}
 use Rattle.std.specs.List.{list_all, list_any, flat_map, range_with_len}
+use mathlib.Core.Option.{some}
+use lib.ListN.{get_elem?}
 use Rattle.word_core.specs.Page.{OnItsWay}
 use Rattle.hand_core.specs.declared.copy_queue.Message.{Message}
 use Rattle.hand_core.specs.declared.copy_queue.Message.TheVariants.{Copies, Mark}
+use Rattle.hand_core.specs.declared.copy_queue.Account.{Account}
 use Rattle.hand_core.specs.declared.done_taker.Came.{Came}
 use Rattle.hand_core.specs.Queue.{QueueName}
-use Rattle.hand_core.specs.CopyQueue.{messages_of}
+use Rattle.hand_core.specs.CopyQueue.{messages_of, InTurn}
 use Rattle.hand_core.specs.Handfuls.{before_hand}
 
 -- the name of the queue of copies that an end belongs to
@@ -56,9 +59,16 @@ has_mark came sender = list_any (is_mark_of sender) came
 abbrev pub has_ended : DoneTaker → Bool
 has_ended t = list_all (has_mark t.came) (range_with_len 0 t.senders)
 
--- the copies of a sender that are in the queue: those that it sent and that the taker didn't receive
-abbrev pub queue_between : DoneSender → DoneTaker → List OnItsWay
-queue_between s t = drop (length (copies_of s.number t.came)) s.sent
+-- the queue holds this, and its taker is this one, by the rule
+pub record Holds (queue : List Message) (t : DoneTaker) : Type 0 where
+  pub ends : List Account
+  pub rule : InTurn queue ends
+  pub number : ℕ
+  pub taker : Account
+  pub at : get_elem? ends number ≡ some taker
+  pub takes : taker.takes ≡ true
+  pub came : taker.came ≡ t.came
+  pub made : taker.made ≡ t.senders
 
 -- the copies that calls of the taker answered, in their order
 abbrev pub copies_taken : DoneTaker → List OnItsWay

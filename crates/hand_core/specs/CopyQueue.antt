@@ -1,5 +1,5 @@
 -- The rule of the copies' queue, from several senders to one taker: what holds of the queue and of its ends after each step.
-use Rattle.std.specs.Prelude.{◌≡◌, ℕ, ◌<◌, ◌≤◌, ◌==◌, Bool, true, false, if◌then◌else◌, List, [], ◌∷◌, ◌++◌, length, map, filter, drop}
+use Rattle.std.specs.Prelude.{◌≡◌, ℕ, ◌<◌, ◌≤◌, ◌==◌, Bool, true, false, if◌then◌else◌, List, [], ◌∷◌, ◌++◌, map, filter}
 use Rattle.hand_core.specs.declared.copy_queue.Message.{Message}
 use Rattle.hand_core.specs.declared.copy_queue.Message.TheVariants.{Copies, Mark}
 use Rattle.hand_core.specs.declared.copy_queue.Account.{Account}
@@ -35,11 +35,6 @@ sent_by sender handfuls marked = map (Copies sender) handfuls ++ (if marked then
 abbrev pub all_sent : Account → List Message
 all_sent v = sent_by v.sender v.sent v.marked
 
--- the messages of a sender that are in the queue where those in `came` were received: what it sent, without as many as
--- are its own among these
-abbrev pub left_in_queue : ℕ → List Handful → Bool → List Message → List Message
-left_in_queue sender handfuls marked came = drop (length (messages_of sender came)) (sent_by sender handfuls marked)
-
 -- The messages `came` were received, by the end with the number `taker`. As many senders as `made` says were made, and each is one end.
 pub record InTurn (queue : List Message) (ends : List Account) : Type 0 where
   pub came : List Message
@@ -48,6 +43,8 @@ pub record InTurn (queue : List Message) (ends : List Account) : Type 0 where
   pub end_of : ℕ → ℕ
   -- of each sender, the messages received and then those in the queue are all that it sent, in its order
   pub sent : Each ends (λ number v. v.sends ≡ true → (end_of v.sender ≡ number) × (v.sender < made) × (messages_of v.sender (came ++ queue) ≡ all_sent v))
+  -- whether or not a sender's end is there, they are handfuls and then its mark, if it put one
+  pub closed : (sender : ℕ) → (handfuls : List Handful) × (marked : Bool) × (messages_of sender (came ++ queue) ≡ sent_by sender handfuls marked)
   -- no message is of anyone else
   pub others : (sender : ℕ) → made ≤ sender → messages_of sender (came ++ queue) ≡ []
   -- one end takes, and it knows all messages received
@@ -71,8 +68,7 @@ abbrev pub nothing_known : Account
 nothing_known = account false 0 [] false false 0 []
 
 -- what the taker learns from its own knowledge and that of a sender: the messages received of the sender and those in the
--- queue are all that it sent, so the queue holds the others
+-- queue are all that it sent
 abbrev pub Tells : Account → List Message → Type 0
 Tells v queue = (v.sender < v.made)
     × (messages_of v.sender (v.came ++ queue) ≡ all_sent v)
-    × (messages_of v.sender queue ≡ left_in_queue v.sender v.sent v.marked v.came)

@@ -2,6 +2,7 @@ pub mod CopyEnds
 pub mod CopyInvariants
 pub mod CopyQueue
 pub mod Errors
+pub mod HandedOver
 pub mod Handfuls
 pub mod PageEnds
 pub mod PageInvariants

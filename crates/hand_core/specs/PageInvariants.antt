@@ -17,8 +17,10 @@ pub record IsGiving (g : giver.Inside) : Type 0 where
   pub few : (0 < g.takers) × (g.takers ≤ 4)
   pub shares : (view g.pass).shares + g.takers ≡ 1024
   pub marked : (view g.pass).marks ≡ g.marks
+  pub largest : (view g.pass).largest ≤ g.most
+  pub some : (0 < g.most) × (g.most ≤ 8)
   pub fresh : g.closed ≡ false → g.marks ≡ 0
-  pub took_nothing : ((view g.pass).taken ≡ []) × ((view g.pass).ended ≡ 0)
+  pub took_nothing : ((view g.pass).off ≡ []) × ((view g.pass).ended ≡ 0)
 
 -- the taker's pass is a seat at its channel with one share, its list rises and ends with the pages in hand, and after its end mark
 -- no page is in hand
@@ -26,7 +28,7 @@ pub record IsTaking (t : taker.Inside) : Type 0 where
   pub seat : IsSeatAt (receives_on t.from) t.pass
   pub takes : (view t.pass).gives ≡ false
   pub share : (view t.pass).shares ≡ 1
-  pub rising : IsRising (view t.pass).taken
-  pub hand : (before : List OnItsWay) × ((view t.pass).taken ≡ before ++ t.hand)
+  pub rising : IsRising (view t.pass).off
+  pub hand : (before : List OnItsWay) × ((view t.pass).off ≡ before ++ t.hand)
   pub empty : t.ended ≡ true → t.hand ≡ []
   pub marked : (view t.pass).ended ≡ (if t.ended then 1 else 0)

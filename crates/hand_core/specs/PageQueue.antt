@@ -1,5 +1,5 @@
 -- The rule of the pages' queue, from one giver to several takers: what holds of the queue and of its ends after each step.
-use Rattle.std.specs.Prelude.{◌≡◌, ℕ, ◌+◌, ◌<◌, Bool, true, false, List, [], ◌∷◌, ◌++◌, length, map, replicate, drop}
+use Rattle.std.specs.Prelude.{◌≡◌, ℕ, ◌+◌, ◌<◌, ◌≤◌, max, Bool, true, false, List, [], ◌∷◌, ◌++◌, length, All, map, replicate}
 use Rattle.std.specs.List.{flat_map}
 use Rattle.std.specs.List.Sorted.{IsPermutation}
 use Rattle.word_core.specs.Page.{OnItsWay}
@@ -11,31 +11,31 @@ use Rattle.hand_core.specs.Handfuls.{Handful, pages_of}
 use Rattle.hand_core.specs.Queue.{Each}
 
 -- what an end knows, made from its parts
-abbrev pub known : ℕ → Bool → List OnItsWay → ℕ → List OnItsWay → ℕ → Known
-known shares gives given marks taken ended = record { shares = shares; gives = gives; given = given; marks = marks; taken = taken; ended = ended }
+abbrev pub known : ℕ → Bool → List OnItsWay → ℕ → ℕ → List OnItsWay → ℕ → Known
+known shares gives given marks largest off ended = record { shares = shares; gives = gives; given = given; marks = marks; largest = largest; off = off; ended = ended }
 
 -- what the giver knows at first: it has every share; 1024 could be any number above that of the takers
 abbrev pub giver_knows : Known
-giver_knows = known 1024 true [] 0 [] 0
+giver_knows = known 1024 true [] 0 0 [] 0
 
 -- what a taker knows at first
 abbrev pub taker_knows : Known
-taker_knows = known 1 false [] 0 [] 0
+taker_knows = known 1 false [] 0 0 [] 0
 
 -- the sum of a number that each end has
 abbrev pub total : (Known → ℕ) → List Known → ℕ
 total number [] = 0
 total number (v ∷ ends) = number v + total number ends
 
--- the pages that all takers took
-abbrev pub all_taken : List Known → List OnItsWay
-all_taken ends = flat_map (λ (v : Known). v.taken) ends
+-- the pages that came off for all takers
+abbrev pub all_off : List Known → List OnItsWay
+all_off ends = flat_map (λ (v : Known). v.off) ends
 
 -- how many takers have ended
 abbrev pub all_ended : List Known → ℕ
 all_ended ends = total (λ v. v.ended) ends
 
--- Of the pages given, `off` were received, and those of the handfuls `waiting` are in the queue, with `marks` end marks after them.
+-- Of the pages given, `off` came off for takers, and those of the handfuls `waiting` are in the queue, with `marks` end marks after them.
 -- `giver` is the number of the giver's end, and `base` is the first serial.
 pub record InOrder (queue : List Note) (ends : List Known) : Type 0 where
   pub giver : ℕ
@@ -47,54 +47,43 @@ pub record InOrder (queue : List Note) (ends : List Known) : Type 0 where
   pub serials : HasSerialsFrom base (off ++ pages_of waiting)
   -- the queue is the handfuls that wait, in this order, and then the end marks
   pub queued : queue ≡ map Pages waiting ++ replicate marks Mark
-  -- the takers' lists together are the pages that were received, each whole and once
-  pub together : IsPermutation (all_taken ends) off
+  -- the takers' lists together are the pages that came off, each whole and once
+  pub together : IsPermutation (all_off ends) off
   -- each taker's list is strictly rising
-  pub rising : Each ends (λ _ v. v.gives ≡ false → IsRising v.taken)
+  pub rising : Each ends (λ _ v. v.gives ≡ false → IsRising v.off)
   -- where a taker has ended, no page waits
   pub done : 0 < all_ended ends → waiting ≡ []
   -- one end gives: it gave these pages, and put each end mark that waits or that ended a taker
   pub given : Each ends (λ number v. v.gives ≡ true → (number ≡ giver) × (v.given ≡ off ++ pages_of waiting) × (v.marks ≡ all_ended ends + marks))
-  -- an end with no share has taken nothing, so an end with every share knows all lists
+  -- no handful that waits has more pages than the largest one that was given
+  pub fits : Each ends (λ _ v. v.gives ≡ true → All (λ (h : Handful). length h.items ≤ v.largest) waiting)
+  -- for an end with no share nothing came off, so an end with every share knows all lists
   pub shares : total (λ v. v.shares) ends ≡ 1024
-  pub spent : Each ends (λ _ v. v.shares ≡ 0 → (v.taken ≡ []) × (v.ended ≡ 0))
+  pub spent : Each ends (λ _ v. v.shares ≡ 0 → (v.off ≡ []) × (v.ended ≡ 0))
 
 -- what the giver knows after it gave a handful or put an end mark
 abbrev pub after_put : Known → Note → Known
-after_put v (Pages h) = record v { given = v.given ++ h.items }
+after_put v (Pages h) = record v { given = v.given ++ h.items; largest = max v.largest (length h.items) }
 after_put v Mark = record v { marks = v.marks + 1 }
 
 -- what a taker knows after it took a handful or an end mark
 abbrev pub after_take : Known → Note → Known
-after_take v (Pages h) = record v { taken = v.taken ++ h.items }
+after_take v (Pages h) = record v { off = v.off ++ h.items }
 after_take v Mark = record v { ended = v.ended + 1 }
 
 -- a taker took this message, and its list still rises
 abbrev pub Takes : Known → Note → Known → Type 0
-Takes v note w = (w ≡ after_take v note) × IsRising w.taken
+Takes v note w = (w ≡ after_take v note) × IsRising w.off
 
 -- what the giver knows after it took back a taker's share with what the taker knows
 abbrev pub joined : Known → Known → Known
-joined v taker = record v { shares = v.shares + taker.shares; taken = v.taken ++ taker.taken; ended = v.ended + taker.ended }
+joined v taker = record v { shares = v.shares + taker.shares; off = v.off ++ taker.off; ended = v.ended + taker.ended }
 
 -- what an end knows that gave its share back
 abbrev pub nothing_known : Known
-nothing_known = known 0 false [] 0 [] 0
+nothing_known = known 0 false [] 0 0 [] 0
 
--- the pages of a handful; an end mark has none
-abbrev pub pages_in_one : Note → List OnItsWay
-pages_in_one (Pages h) = h.items
-pages_in_one Mark = []
-
--- the pages that a queue holds, in their order
-abbrev pub pages_in : List Note → List OnItsWay
-pages_in queue = flat_map pages_in_one queue
-
--- the pages that were given and are in the queue, where this many were received
-abbrev pub left_in_queue : List OnItsWay → ℕ → List OnItsWay
-left_in_queue given taken = drop taken given
-
--- what the giver learns once it has every share and each end mark ended a taker: each page given was taken once, the queue
--- holds the pages that are left, and it is empty
+-- what the giver learns once it has every share and each end mark ended a taker: each page given came off once, and the queue is
+-- empty
 abbrev pub Settles : Known → List Note → Type 0
-Settles v queue = IsPermutation v.taken v.given × (pages_in queue ≡ left_in_queue v.given (length v.taken)) × (queue ≡ [])
+Settles v queue = IsPermutation v.off v.given × (queue ≡ [])

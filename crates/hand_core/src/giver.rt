@@ -18,6 +18,8 @@ pub struct Giver {
     pub(crate) base: Serial,
     // The serial of the next page. Where it is 2^32 no more page can be given.
     pub(crate) next: u64,
+    // How many pages a handful has at most.
+    pub(crate) most: usize,
     pub(crate) takers: usize,
     pub(crate) marks: usize,
     pub(crate) closed: bool,
@@ -35,13 +37,13 @@ impl Model for Giver {
 
     ghost use Rattle.hand_core.specs.PageInvariants.{IsGiving};
 
-    ghost view = { λ g. record { hand_over = name_of (sends_on g.to); room = ruled_capacity (sends_on g.to); takers = g.takers; base = g.base; given = (knows g.pass).given; marks = (knows g.pass).marks; closed = g.closed } };
+    ghost view = { λ g. record { hand_over = name_of (sends_on g.to); room = ruled_capacity (sends_on g.to); most = g.most; takers = g.takers; base = g.base; given = (knows g.pass).given; marks = (knows g.pass).marks; closed = g.closed } };
 
     ghost invariant = { IsGiving };
 }
 
 impl Giver {
-    ghost use Rattle.std.specs.Prelude.{◌≡◌, ◌+◌, ◌<◌, ◌++◌, ◌∷◌, [], true, false, length, OnOk, OnErr, IfErr};
+    ghost use Rattle.std.specs.Prelude.{◌≡◌, ◌+◌, ◌<◌, ◌≤◌, ◌++◌, ◌∷◌, [], true, false, length, OnOk, OnErr, IfErr};
     ghost use Rattle.word_core.specs.Serials.{HasSerialsFrom};
 
     /// Puts a page at the back of the queue, and waits for room. Its serial has to be the next one, and the giver not
@@ -64,8 +66,16 @@ impl Giver {
         Err(page)
     }
 
-    /// Puts pages at the back of the queue together, for one taker, and waits for room. Their serials have to be the next ones,
-    /// and the giver not closed. Where every taker is gone, the pages are handed back.
+    /// How many pages a handful has at most: 1 to 8.
+    pub fn most(&self) -> usize
+        ensures value { result ≡ self.now.most }
+        ensures range { (0 < result) × (result ≤ 8) }
+    {
+        self.most
+    }
+
+    /// Puts pages at the back of the queue together, for one taker, and waits for room. Their serials have to be the next ones, if
+    /// they are several they may be no more than a handful has at most, and the giver must not be closed. Where every taker is gone, the pages are handed back.
     pub fn give_all<R: Wait>(
         &mut self,
         rt: &R,
@@ -73,6 +83,7 @@ impl Giver {
     ) -> Result<(), Handful<Isolated>>
         requires open { self.old.closed ≡ false }
         requires next { HasSerialsFrom (self.old.base + length self.old.given) pages.items }
+        requires few { 1 < length pages.items → length pages.items ≤ self.old.most }
         ensures ok { OnOk result (self.new ≡ record self.old { given = self.old.given ++ pages.items }) }
         ensures back { IfErr result (λ handed_back. handed_back ≡ pages) }
         ensures err { OnErr result (self.new ≡ self.old) }

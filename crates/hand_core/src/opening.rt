@@ -1,4 +1,4 @@
-ghost use Rattle.std.specs.Prelude.{◌≡◌, ◌+◌, ◌<◌, ◌≤◌, ◌↔◌, false, [], All, IfOk, OnOk, vec_len, vec_capacity};
+ghost use Rattle.std.specs.Prelude.{◌≡◌, ◌+◌, ◌*◌, ◌/◌, ◌<◌, ◌≤◌, ◌↔◌, false, [], All, IfOk, OnOk, vec_len, vec_capacity};
 ghost use Rattle.crossbeam_channel.specs.Claims.{view, IsSeatAt};
 ghost use Rattle.crossbeam_channel.specs.Ends.{sends_on, receives_on};
 ghost use Rattle.hand_core.specs.Queue.{name_of};
@@ -16,7 +16,8 @@ use std::alloc::{AllocError, Global};
 /// The takers of a hand-over.
 pub type Takers = Vec<Taker>;
 
-/// Opens a hand-over whose first page has the serial `base`, with room for `cap` handfuls in its queue. No later call takes memory.
+/// Opens a hand-over whose first page has the serial `base`, with room for `cap` pages in its queue, which are given one by one. No
+/// later call takes memory.
 ///
 /// Refused as Range unless there are 1 to 4 takers and a `cap` of 1 to 64, else as Memory where there isn't enough.
 pub fn open<R>(
@@ -27,35 +28,63 @@ pub fn open<R>(
     cap: usize,
 ) -> Result<(Giver, Takers), HandError>
     ensures range { (result ≡ Err HandError.Range) ↔ (¬ ((0 < takers) × (takers ≤ 4) × (0 < cap) × (cap ≤ 64))) }
-    ensures giver { IfOk result (λ ends. ends.0 ≡ record { hand_over = ends.0.hand_over; room = cap; takers = takers; base = base; given = []; marks = 0; closed = false }) }
+    ensures giver { IfOk result (λ ends. ends.0 ≡ record { hand_over = ends.0.hand_over; room = cap; most = 1; takers = takers; base = base; given = []; marks = 0; closed = false }) }
     ensures takers { IfOk result (λ ends. vec_len ends.1 ≡ takers) }
     ensures fresh { IfOk result (λ ends. All (λ t. t ≡ record { hand_over = ends.0.hand_over; taken = []; in_hand = []; ended = false }) ends.1.items) }
 {
     if takers == 0 || takers > 4 || cap == 0 || cap > 64 {
         return Err(HandError::Range);
     }
-    opened(alloc, base, takers, cap).map_err(|_| HandError::Memory)
+    opened(alloc, base, takers, cap, 1).map_err(|_| HandError::Memory)
 }
 
-/// Opens a hand-over where the numbers are in range. The error is for want of memory.
-fn opened(
+/// Opens a hand-over as `open` does, with room for `cap` pages in handfuls of at most `most` pages: for as many handfuls as keep it
+/// from ever holding more pages.
+///
+/// Refused as Range where `open` is, and unless `most` is 1 to 8 and at most `cap`; else as Memory where there isn't enough.
+#[tactic(auto, using(crate::proofs::HandedOver::room_fits))]
+pub fn open_in_handfuls<R>(
+    _rt: &R,
     alloc: Global,
     base: Serial,
     takers: usize,
     cap: usize,
+    most: usize,
+) -> Result<(Giver, Takers), HandError>
+    ensures range { (result ≡ Err HandError.Range) ↔ (¬ ((0 < takers) × (takers ≤ 4) × (cap ≤ 64) × (0 < most) × (most ≤ 8) × (most ≤ cap))) }
+    ensures giver { IfOk result (λ ends. ends.0 ≡ record { hand_over = ends.0.hand_over; room = cap / most; most = most; takers = takers; base = base; given = []; marks = 0; closed = false }) }
+    ensures cap { IfOk result (λ ends. ends.0.room * ends.0.most ≤ cap) }
+    ensures takers { IfOk result (λ ends. vec_len ends.1 ≡ takers) }
+    ensures fresh { IfOk result (λ ends. All (λ t. t ≡ record { hand_over = ends.0.hand_over; taken = []; in_hand = []; ended = false }) ends.1.items) }
+{
+    if takers == 0 || takers > 4 || cap > 64 || most == 0 || most > 8 || most > cap {
+        return Err(HandError::Range);
+    }
+    opened(alloc, base, takers, cap / most, most).map_err(|_| HandError::Memory)
+}
+
+/// Opens a hand-over with room for so many handfuls, where the numbers are in range. The error is for want of memory.
+fn opened(
+    alloc: Global,
+    base: Serial,
+    takers: usize,
+    room: usize,
+    most: usize,
 ) -> Result<(Giver, Takers), AllocError>
     requires takers { (0 < takers) × (takers ≤ 4) }
-    requires cap { 0 < cap }
-    ensures giver { IfOk result (λ ends. ends.0 ≡ record { hand_over = ends.0.hand_over; room = cap; takers = takers; base = base; given = []; marks = 0; closed = false }) }
+    requires room { 0 < room }
+    requires most { (0 < most) × (most ≤ 8) }
+    ensures giver { IfOk result (λ ends. ends.0 ≡ record { hand_over = ends.0.hand_over; room = room; most = most; takers = takers; base = base; given = []; marks = 0; closed = false }) }
     ensures takers { IfOk result (λ ends. vec_len ends.1 ≡ takers) }
     ensures fresh { IfOk result (λ ends. All (λ t. t ≡ record { hand_over = ends.0.hand_over; taken = []; in_hand = []; ended = false }) ends.1.items) }
 {
     let mut all = Vec::with_capacity(alloc, takers)?;
-    let (to, from, mut pass) = bounded_with::<Note, Known, Ordered, Global>(alloc, cap)?;
+    let (to, from, mut pass) = bounded_with::<Note, Known, Ordered, Global>(alloc, room)?;
     add_takers(&to, &from, &mut pass, &mut all, takers)?;
     let giver = Giver {
         base,
         next: u64::from(base),
+        most,
         takers,
         marks: 0,
         closed: false,

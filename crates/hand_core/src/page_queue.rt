@@ -12,7 +12,7 @@ pub enum Note {
     Mark,
 }
 
-/// What an end knows of the hand-over: what it gave, and what it took. This is only for contracts: no value of it is made.
+/// What an end knows of the hand-over: what it gave, and what came off for it. This is only for contracts: no value of it is made.
 ///
 /// An end that has all 1,024 shares knows the list of every taker.
 pub struct Known {
@@ -20,11 +20,12 @@ pub struct Known {
     pub gives: bool,
     pub given: LinkedList<Isolated>,
     pub marks: u64,
-    pub taken: LinkedList<Isolated>,
+    pub largest: u64,
+    pub off: LinkedList<Isolated>,
     pub ended: u64,
 }
 
-/// The rule: pages are taken in the order in which they were given, and the end marks after them.
+/// The rule: pages come off in the order in which they were given, and the end marks after them.
 pub struct Ordered;
 
 impl Protocol<Note, Known> for Ordered {

@@ -1,8 +1,10 @@
-ghost use Rattle.std.specs.Prelude.{◌≡◌, ◌↔◌, true, [], All, IfOk, IfErr, IsOk, length, vec_len};
+ghost use Rattle.std.specs.Prelude.{◌≡◌, ◌↔◌, true, List, [], All, IfOk, IfErr, IsOk, length, vec_len};
 ghost use Rattle.std.specs.List.{range_with_len};
 ghost use Rattle.std.specs.List.Sorted.{IsPermutation};
-ghost use Rattle.hand_core.specs.PageEnds.{taken_by, have_ended, queue_between};
+ghost use Rattle.hand_core.specs.HandedOver.{Holds};
+ghost use Rattle.hand_core.specs.PageEnds.{off, taken_by, have_ended};
 ghost use Rattle.word_core.specs.Serials.{serials_of, IsRising};
+ghost use Rattle.hand_core.specs.declared.page_queue.Note.{Note};
 
 use crate::giver::Giver;
 use crate::opening::Takers;
@@ -26,7 +28,8 @@ pub fn settle(giver: Giver, takers: Takers) -> Result<Settled, (Giver, Takers)>
     ensures pages { IfOk result (λ s. IsPermutation (taken_by takers.items) giver.given) }
     ensures serials { IfOk result (λ s. IsPermutation (serials_of (taken_by takers.items)) (range_with_len s.base s.count)) }
     ensures rising { IfOk result (λ s. All (λ t. IsRising t.taken) takers.items) }
-    ensures empty { IfOk result (λ _. queue_between giver takers.items ≡ []) }
+    ensures answered { IfOk result (λ _. All (λ t. off t ≡ t.taken) takers.items) }
+    ensures empty { IfOk result (λ _. (queue : List Note) → Holds queue giver takers.items → queue ≡ []) }
     ensures err { IfErr result (λ ends. (ends.0 ≡ giver) × (ends.1 ≡ takers)) }
 {
     if giver.marks != giver.takers || takers.len() != giver.takers || !all_ended(&takers) {
@@ -49,7 +52,8 @@ fn take_back(giver: Giver, mut takers: Takers) -> Settled
     ensures count { (result.base ≡ giver.base) × (result.count ≡ length giver.given) }
     ensures pages { IsPermutation (taken_by takers.items) giver.given }
     ensures rising { All (λ t. IsRising t.taken) takers.items }
-    ensures empty { queue_between giver takers.items ≡ [] }
+    ensures answered { All (λ t. off t ≡ t.taken) takers.items }
+    ensures empty { (queue : List Note) → Holds queue giver takers.items → queue ≡ [] }
 {
     let Giver {
         base,

@@ -28,7 +28,7 @@ impl Model for Taker {
 
     ghost use Rattle.hand_core.specs.PageInvariants.{IsTaking};
 
-    ghost view = { λ t. record { hand_over = name_of (receives_on t.from); taken = before_hand (knows t.pass).taken t.hand; in_hand = t.hand; ended = t.ended } };
+    ghost view = { λ t. record { hand_over = name_of (receives_on t.from); taken = before_hand (knows t.pass).off t.hand; in_hand = t.hand; ended = t.ended } };
 
     ghost invariant = { IsTaking };
 }
@@ -52,13 +52,13 @@ enum Came {
 impl Taker {
     ghost use Rattle.std.specs.Prelude.{◌≡◌, ◌≢◌, ◌++◌, ◌∷◌, ◌↔◌, [], true, false, IfSome, IfNone};
     ghost use Rattle.word_core.specs.Serials.{IsRising};
-    ghost use Rattle.hand_core.specs.PageEnds.{IsAnswered};
+    ghost use Rattle.hand_core.specs.PageEnds.{IsAnswered, off};
 
     /// Takes the next page, and waits for it. Nothing more is taken after an end mark.
     pub fn take<R: Wait>(&mut self, rt: &R) -> Took
         requires { self.old.ended ≡ false }
         ensures took { IsAnswered self.old result self.new }
-        ensures rising { IsRising self.new.taken }
+        ensures rising { IsRising (off self.new) }
     {
         for _ in rt.forever() {
             if let Some(page) = self.next_in_hand() {
@@ -83,9 +83,9 @@ impl Taker {
     // Takes the first of the pages that are in hand.
     fn next_in_hand(&mut self) -> Option<Isolated>
         ensures some { IfSome result (λ page. self.new ≡ record self.old { taken = self.old.taken ++ page ∷ []; in_hand = self.new.in_hand }) }
-        ensures first { IfSome result (λ page. self.old.in_hand ≡ page ∷ self.new.in_hand) }
+        ensures off { off self.new ≡ off self.old }
         ensures none { IfNone result ((self.new ≡ self.old) × (self.old.in_hand ≡ [])) }
-        ensures rising { IsRising self.new.taken }
+        ensures rising { IsRising (off self.new) }
     {
         self.hand.next()
     }
@@ -97,7 +97,7 @@ impl Taker {
         ensures pages { result ≡ Came.Pages → self.new ≡ record self.old { in_hand = self.new.in_hand } }
         ensures mark { result ≡ Came.Mark → self.new ≡ record self.old { ended = true } }
         ensures nothing { result ≡ Came.Nothing → self.new ≡ self.old }
-        ensures rising { IsRising self.new.taken }
+        ensures rising { IsRising (off self.new) }
     {
         let Taker {
             ended,

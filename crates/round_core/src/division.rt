@@ -10,9 +10,9 @@ const MOST: usize = 8;
 pub(crate) struct Division {
     copiers: usize,
     // How many pages a queue has room for.
-    room: usize,
+    pub(crate) room: usize,
     // How many pages a handful of this round has at most.
-    most: usize,
+    pub(crate) most: usize,
     ghost some: { (0 < copiers) × (copiers ≤ 4) },
     ghost in_range: { (0 < room) × (room ≤ 64) },
     ghost fits: { (0 < most) × (most ≤ 8) × (most ≤ room) },
@@ -31,14 +31,15 @@ impl Division {
         }
     }
 
-    /// How many of this many pages go into a handful, so that each copier gets some where there are enough.
-    pub(crate) fn share(self, pages: usize) -> usize
-        ensures { (0 < result) × (result ≤ 8) }
+    /// How many of this many pages go into a handful of at most `most`, so that each copier gets some where there are enough.
+    pub(crate) fn share(self, pages: usize, most: usize) -> usize
+        requires { 0 < most }
+        ensures { (0 < result) × (result ≤ most) }
     {
-        pages.div_ceil(self.copiers).clamp(1, self.most)
+        pages.div_ceil(self.copiers).clamp(1, most)
     }
 
-    /// The number of handfuls that a queue has room for.
+    /// The number of handfuls of copies that a queue has room for.
     pub(crate) fn handfuls(self) -> usize
         ensures { (0 < result) × (result ≤ 64) }
     {

@@ -9,7 +9,7 @@ ghost use Rattle.round_core.specs.Runs.{IsFresh, IsEmpty, IsReady};
 use crate::copier::Copier;
 use crate::division::Division;
 use frame_core::Serial;
-use hand_core::{DoneSender, DoneTaker, Giver, HandError, Taker, Takers, done_open, open};
+use hand_core::{DoneSender, DoneTaker, Giver, HandError, Taker, Takers, done_open, open_in_handfuls};
 use std::alloc::{AllocError, Global};
 use std::collections::VecDeque;
 use word_core::{Copied, Isolated};
@@ -91,7 +91,7 @@ pub(crate) fn reserve<R>(
     let Ok(bursts) = reserve_bursts(alloc, division) else {
         return None;
     };
-    let Ok(queues) = open_queues(rt, alloc, base, copiers, division.handfuls()) else {
+    let Ok(queues) = open_queues(rt, alloc, base, copiers, division) else {
         return None;
     };
     let Lists {
@@ -170,13 +170,13 @@ fn reserve_bursts(alloc: Global, division: Division) -> Result<Bursts, AllocErro
     })
 }
 
-/// Opens both queues, each with room for this many handfuls.
+/// Opens both queues, for handfuls and with room for pages as this division has them.
 fn open_queues<R>(
     rt: &R,
     alloc: Global,
     base: Serial,
     copiers: usize,
-    handfuls: usize,
+    division: Division,
 ) -> Result<Queues, HandError>
     requires { 0 < copiers }
     ensures giver { IfOk result (λ q. IsFresh base q.giver) }
@@ -184,8 +184,9 @@ fn open_queues<R>(
     ensures senders { IfOk result (λ q. (vec_len q.senders ≡ copiers) × All IsUnsent q.senders.items) }
     ensures copies { IfOk result (λ q. has_ended q.copies ≡ false) }
 {
-    let (giver, takers) = open(rt, alloc, base, copiers, handfuls)?;
-    let (senders, copies) = done_open(rt, alloc, copiers, handfuls)?;
+    let Division { room, most, .. } = division;
+    let (giver, takers) = open_in_handfuls(rt, alloc, base, copiers, room, most)?;
+    let (senders, copies) = done_open(rt, alloc, copiers, division.handfuls())?;
     Ok(Queues {
         giver,
         takers,

@@ -81,7 +81,7 @@ fn give_all<K: Keeping, I: Ledger, M: Ledger, B: Ledger, G: Gate, R: Wait>(
     ensures left { result ≡ Err None → length giver.new.given + ends.new.back ≡ length giver.old.given + length pages.old.items + ends.old.back }
 {
     tell_all(gate, Point::Isolated, 0, pages.len());
-    let share = division.share(pages.len());
+    let share = division.share(pages.len(), giver.most());
     while let Some(handful) = first_of(pages, share) {
         if let Err(refused) = giver.give_all(rt, handful) {
             let stranger = put_back_handful(rt, shared, ends, refused);
@@ -95,6 +95,7 @@ fn give_all<K: Keeping, I: Ledger, M: Ledger, B: Ledger, G: Gate, R: Wait>(
 fn first_of(pages: &mut VecDeque<Isolated>, share: usize) -> Option<Handful<Isolated>>
     requires { (0 < share) × (share ≤ 8) }
     ensures first { IfSome result (λ handful. pages.old.items ≡ handful.items ++ pages.new.items) }
+    ensures few { IfSome result (λ handful. length handful.items ≤ share) }
     ensures fewer { OnSome result (length pages.new.items < length pages.old.items) }
     ensures none { IfNone result ((pages.old.items ≡ []) × (pages.new.items ≡ [])) }
     ensures room { deque_capacity pages.new ≡ deque_capacity pages.old }

@@ -1,6 +1,6 @@
 use Rattle.std.proofs.Common.{◌≡◌, ◌++◌, [], List, true, All}
 use Rattle.crossbeam_channel.specs.Claims.{view}
-use Rattle.hand_core.specs.CopyEnds.{DoneSender, copies_of, queue_between}
+use Rattle.hand_core.specs.CopyEnds.{DoneSender, copies_of}
 use Rattle.hand_core.proofs.done_settling.done_settle.Given as goal
 
 -- the senders that the loop has passed, whose copies were compared
@@ -11,7 +11,7 @@ invariant-loop-sender l = record {
   came : (view l.pass).came ≡ l.fn.taker.came;
   made : (view l.pass).made ≡ l.fn.taker.senders;
   left : All (λ (s : DoneSender). s.way ≡ l.fn.taker.way) l.senders.items;
-  back : (back : List DoneSender) × (l.fn.senders.items ≡ l.senders.items ++ back) × All (λ (s : DoneSender). copies_of s.number l.fn.taker.came ≡ s.sent) back × All (λ (s : DoneSender). queue_between s l.fn.taker ≡ []) back;
+  back : (back : List DoneSender) × (l.fn.senders.items ≡ l.senders.items ++ back) × All (λ (s : DoneSender). copies_of s.number l.fn.taker.came ≡ s.sent) back;
 }
 
 abbrev pub decreases-loop-sender : goal.decreases-loop-sender

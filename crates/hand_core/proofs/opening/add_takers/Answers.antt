@@ -24,7 +24,7 @@ loop-taker-preserved c =
     let len = pushed.len in
     let capacity = pushed.capacity in
     let channel = c.in_ok-from.ensures ∙ c.requires.channel.0 in
-    let none = ap (λ (v : Known). v.taken) c.another-theirs.ensures.rule.1 in
+    let none = ap (λ (v : Known). v.off) c.another-theirs.ensures.rule.1 in
     let hand = c.into_iter.ensures.into_iter_gives.0 ∙ c.new.ensures in
     let Fresh : Taker → Type 0 = λ t. t ≡ record { hand_over = name_of (sends_on c.args.to.now); taken = []; in_hand = []; ended = false } in
     record {

@@ -1,15 +1,14 @@
 use Rattle.std.proofs.Common.{◌≡◌, ◌++◌, ◌∷◌, [], ◌-◌, List, take, Some, true, All, ap, sym, ◌∙◌, subst, append_assoc, append-nil, arith}
-use Rattle.std.specs.Prelude.{drop}
-use Rattle.std.proofs.Math.Seq.{drop-length}
 use Rattle.std.specs.List.Sorted.{IsPermutation}
-use Rattle.std.proofs.lemmas.List.Sorted.{IsPermutation-sym, IsPermutation-trans, length_permutation}
+use Rattle.std.proofs.lemmas.List.Sorted.{IsPermutation-sym, IsPermutation-trans}
 use Rattle.crossbeam_channel.specs.Claims.{view}
 use Rattle.hand_core.specs.declared.page_queue.Known.{Known}
-use Rattle.hand_core.specs.PageEnds.{Giver, Taker, taken_by}
+use Rattle.hand_core.specs.PageEnds.{Giver, Taker, off, taken_by}
 use Rattle.hand_core.specs.Handfuls.{before_hand}
 use Rattle.word_core.specs.Serials.{IsRising}
 use Rattle.std.proofs.lemmas.List.Elements.{All-cons, All-pop}
-use Rattle.hand_core.proofs.Hands.{all_taken_is}
+use Rattle.hand_core.proofs.HandedOver.{all_have_ended, handed_over}
+use Rattle.hand_core.proofs.Hands.{all_answered}
 use Rattle.hand_core.proofs.Totals.{list_back}
 use Rattle.hand_core.proofs.PageSteps.{joins, settles}
 use Rattle.hand_core.proofs.settling.take_back.Goals as goal
@@ -41,12 +40,13 @@ loop-taker-preserved c =
     let few_was = old.few in
     let share = his.share in
     let before = old.back in
-    let all = all_taken_is (view inside.pass).taken in
-    let came : (view inside.pass).taken ≡ t.taken = sym (ap (before_hand (view inside.pass).taken) (his.empty ended) ∙ all) ∙ ap (λ (u : Taker). u.taken) is in
+    let all = all_answered (view inside.pass).off in
+    let came : (view inside.pass).off ≡ t.taken = sym (ap (before_hand (view inside.pass).off) (his.empty ended) ∙ all) ∙ ap (λ (u : Taker). u.taken) is in
     let rising : IsRising t.taken = subst IsRising came his.rising in
-    let taken : IsPermutation (view c.absorb.new.pass).taken (t.taken ++ taken_by before.0) =
-    subst (λ l. IsPermutation l (t.taken ++ taken_by before.0)) (sym (ap (λ (v : Known). v.taken) e))
-    (subst (λ l. IsPermutation (mine.taken ++ l) (t.taken ++ taken_by before.0)) (sym came) (list_back mine.taken t.taken (taken_by before.0) before.2)) in
+    let answered : off t ≡ t.taken = ap (λ l. t.taken ++ l) (sym (ap (λ (u : Taker). u.in_hand) is) ∙ his.empty ended) ∙ append-nil t.taken in
+    let taken : IsPermutation (view c.absorb.new.pass).off (t.taken ++ taken_by before.0) =
+    subst (λ l. IsPermutation l (t.taken ++ taken_by before.0)) (sym (ap (λ (v : Known). v.off) e))
+    (subst (λ l. IsPermutation (mine.off ++ l) (t.taken ++ taken_by before.0)) (sym came) (list_back mine.off t.taken (taken_by before.0) before.2)) in
     record {
       seat = c.absorb.ensures.channel.0;
       channel = old.channel;
@@ -62,6 +62,7 @@ loop-taker-preserved c =
         before.1 ∙ ap (λ l. l ++ before.0) items ∙ append_assoc c.pop.new.self.items (t ∷ []) before.0,
         taken,
         All-cons (λ (u : Taker). IsRising u.taken) t before.0 rising before.3,
+        All-cons (λ (u : Taker). off u ≡ u.taken) t before.0 answered before.4,
       );
       count = old.count;
     }
@@ -89,10 +90,10 @@ returns-clause-pages c =
     let empty : left.items ≡ [] = end.items ∙ append-nil c.pop.new.self.items ∙ end.rest ∙ ap (λ n. take (n - 1) left.items) end.cases.0 in
     let same : c.args.takers.items ≡ before.0 = all_back c.args.takers.items left.items before.0 before.1 empty in
     let knows : Known = view c.loop-taker.pass in
-    let learned : IsPermutation knows.taken knows.given = c.learn_as.ensures.rule.1.0 in
+    let learned : IsPermutation knows.off knows.given = c.learn_as.ensures.rule.1.0 in
     subst (λ (l : List Taker). IsPermutation (taken_by l) c.args.giver.given) (sym same)
-    (IsPermutation-trans (taken_by before.0) knows.taken c.args.giver.given (IsPermutation-sym knows.taken (taken_by before.0) before.2)
-    (subst (λ l. IsPermutation knows.taken l) c.loop-taker.invariant.given learned))
+    (IsPermutation-trans (taken_by before.0) knows.off c.args.giver.given (IsPermutation-sym knows.off (taken_by before.0) before.2)
+    (subst (λ l. IsPermutation knows.off l) c.loop-taker.invariant.given learned))
 
 pub returns-clause-rising : goal.returns-clause-rising
 returns-clause-rising c =
@@ -102,7 +103,18 @@ returns-clause-rising c =
     let empty : left.items ≡ [] = end.items ∙ append-nil c.pop.new.self.items ∙ end.rest ∙ ap (λ n. take (n - 1) left.items) end.cases.0 in
     subst (λ (l : List Taker). All (λ (t : Taker). IsRising t.taken) l) (sym (all_back c.args.takers.items left.items before.0 before.1 empty)) before.3
 
+pub returns-clause-answered : goal.returns-clause-answered
+returns-clause-answered c =
+    let left = c.loop-taker.takers in
+    let before = c.loop-taker.invariant.back in
+    let end = c.in_default.ensures in
+    let empty : left.items ≡ [] = end.items ∙ append-nil c.pop.new.self.items ∙ end.rest ∙ ap (λ n. take (n - 1) left.items) end.cases.0 in
+    subst (λ (l : List Taker). All (λ (t : Taker). off t ≡ t.taken) l) (sym (all_back c.args.takers.items left.items before.0 before.1 empty)) before.4
+
 pub returns-clause-empty : goal.returns-clause-empty
-returns-clause-empty c =
-    let given = c.args.giver.given in
-    ap (λ n. drop n given) (sym (length_permutation (taken_by c.args.takers.items) given (returns-clause-pages c))) ∙ drop-length given
+returns-clause-empty c queue holds =
+    let few = c.giver.invariant.few in
+    let takers = ap (λ (g : Giver). g.takers) c.giver.view_is in
+    let marks = c.requires.marks in
+    let long = c.args.takers.ok in
+    let all = all_have_ended c.args.takers.items c.requires.ended in (handed_over queue c.args.giver c.args.takers.items holds).empty (omega arith) (omega arith)

@@ -2,7 +2,7 @@ use Rattle.std.proofs.Common.{◌≡◌, ◌+◌, ◌++◌, ◌≤◌, List, tru
 use Rattle.std.specs.List.Sorted.{IsPermutation}
 use Rattle.crossbeam_channel.specs.Claims.{view, IsSeatAt}
 use Rattle.crossbeam_channel.specs.Ends.{sends_on}
-use Rattle.hand_core.specs.PageEnds.{Taker, taken_by}
+use Rattle.hand_core.specs.PageEnds.{Taker, off, taken_by}
 use Rattle.hand_core.specs.Queue.{name_of}
 use Rattle.word_core.specs.Serials.{IsRising}
 use Rattle.hand_core.proofs.settling.take_back.Given as goal
@@ -19,7 +19,7 @@ invariant-loop-taker l = record {
   marks : (view l.pass).marks ≡ l.fn.giver.marks;
   ended : (view l.pass).ended + vec_len l.takers ≡ l.fn.giver.takers;
   left : All (λ t. (t.hand_over ≡ l.fn.giver.hand_over) × (t.ended ≡ true)) l.takers.items;
-  back : (back : List Taker) × (l.fn.takers.items ≡ l.takers.items ++ back) × IsPermutation (view l.pass).taken (taken_by back) × All (λ (t : Taker). IsRising t.taken) back;
+  back : (back : List Taker) × (l.fn.takers.items ≡ l.takers.items ++ back) × IsPermutation (view l.pass).off (taken_by back) × All (λ (t : Taker). IsRising t.taken) back × All (λ (t : Taker). off t ≡ t.taken) back;
   count : (l.base ≡ l.fn.giver.base) × (l.next ≡ l.initial.next);
 }
 

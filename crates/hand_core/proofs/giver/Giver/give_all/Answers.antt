@@ -1,4 +1,6 @@
-use Rattle.std.proofs.Common.{◌+◌, length, ap, sym, ◌∙◌, subst, length-append, arith}
+use Rattle.std.proofs.Common.{ℕ, ◌+◌, ◌≤◌, ◌<◌, ⊎_elim, length, ap, sym, ◌∙◌, subst, length-append, arith}
+use Rattle.std.proofs.Math.Nat.{max-le}
+use Rattle.std.proofs.lemmas.Bool.{cases_lt}
 use Rattle.crossbeam_channel.specs.Claims.{view}
 use Rattle.hand_core.specs.declared.page_queue.Known.{Known}
 use Rattle.hand_core.specs.PageEnds.{Giver}
@@ -23,6 +25,10 @@ send-requires-clause-rule g c =
       λ items views rule at. tt,
     )
 
+-- a single page always fits
+fits : (count most : ℕ) → 0 < most → (1 < count → count ≤ most) → count ≤ most
+fits count most some several = ⊎_elim (λ (more : 1 < count). several more) (λ (single : count ≤ 1). omega arith) (cases_lt 1 count)
+
 pub invariant_of-self : goal.invariant_of-self
 invariant_of-self g c =
     let s = c.self.inside in
@@ -44,6 +50,8 @@ invariant_of-self g c =
       few = k.few;
       shares = ap (λ (v : Known). v.shares + s.takers) e ∙ k.shares;
       marked = ap (λ (v : Known). v.marks) e ∙ k.marked;
+      largest = subst (λ n. n ≤ s.most) (sym (ap (λ (v : Known). v.largest) e)) (max-le k.largest (fits (length c.args.pages.items) s.most k.some.0 (subst (λ (v : Giver). 1 < length c.args.pages.items → length c.args.pages.items ≤ v.most) (sym c.self.view_is) c.requires.few)));
+      some = k.some;
       fresh = k.fresh;
-      took_nothing = (ap (λ (v : Known). v.taken) e ∙ k.took_nothing.0, ap (λ (v : Known). v.ended) e ∙ k.took_nothing.1);
+      took_nothing = (ap (λ (v : Known). v.off) e ∙ k.took_nothing.0, ap (λ (v : Known). v.ended) e ∙ k.took_nothing.1);
     }

@@ -1,12 +1,11 @@
-use Rattle.std.proofs.Common.{◌≡◌, ◌++◌, ◌∷◌, [], Bool, List, None, Some, Option, IfSome, ap, sym, ◌∙◌, subst}
+use Rattle.std.proofs.Common.{◌≡◌, ◌++◌, ◌∷◌, [], Bool, List, None, Some, Option, MatchOption, IfSome, ap, sym, ◌∙◌, subst}
 use Rattle.std.specs.Option.{option_to_list}
 use Rattle.crossbeam_channel.specs.Claims.{view}
 use Rattle.word_core.specs.Page.{OnItsWay}
 use Rattle.word_core.specs.Serials.{IsRising}
 use Rattle.hand_core.specs.Handfuls.{before_hand}
-use Rattle.hand_core.specs.PageEnds.{Taker, HandOver}
-use Rattle.hand_core.proofs.Hands.{before_hand_is, hand_step, empty_step, next_taken}
-use Rattle.hand_core.proofs.Serials.{rising_front}
+use Rattle.hand_core.specs.PageEnds.{Taker, HandOver, off}
+use Rattle.hand_core.proofs.Hands.{hand_whole, hand_step, empty_step, next_taken}
 use Rattle.hand_core.proofs.taker.Taker.next_in_hand.Goals as goal
 
 pub invariant_of-self : goal.invariant_of-self
@@ -20,7 +19,7 @@ invariant_of-self c =
       takes = k.takes;
       share = k.share;
       rising = k.rising;
-      hand = (before.0 ++ option_to_list c.next.result, hand_step (view t.pass).taken before.0 t.hand c.next.new.self c.next.result before.1 next);
+      hand = (before.0 ++ option_to_list c.next.result, hand_step (view t.pass).off before.0 t.hand c.next.new.self c.next.result before.1 next);
       empty = λ ended. empty_step t.hand c.next.new.self c.next.result (k.empty ended) next;
       marked = k.marked;
     }
@@ -39,15 +38,24 @@ pub returns-clause-some : goal.returns-clause-some
 returns-clause-some c =
     let t = c.self.inside in
     let before = c.self.invariant.hand in
-    seen _ t.ended c.args.self.now (view t.pass).taken t.hand c.next.new.self c.next.result c.self.view_is
-    (next_taken (view t.pass).taken before.0 t.hand c.next.new.self c.next.result before.1 c.next.ensures.steps)
+    seen _ t.ended c.args.self.now (view t.pass).off t.hand c.next.new.self c.next.result c.self.view_is
+    (next_taken (view t.pass).off before.0 t.hand c.next.new.self c.next.result before.1 c.next.ensures.steps)
+
+-- what came off is what it was, with fewer pages in hand
+whole : (came before in_hand rest : List OnItsWay) (next : Option OnItsWay) → came ≡ before ++ in_hand → MatchOption next ((in_hand ≡ []) × (rest ≡ [])) (λ p. in_hand ≡ p ∷ rest)
+    → before_hand came rest ++ rest ≡ came
+whole came before in_hand rest next is steps = hand_whole came (before ++ option_to_list next) rest (hand_step came before in_hand rest next is steps)
+
+pub returns-clause-off : goal.returns-clause-off
+returns-clause-off c =
+    let t = c.self.inside in
+    let before = c.self.invariant.hand in
+    whole (view t.pass).off before.0 t.hand c.next.new.self c.next.result before.1 c.next.ensures.steps
+    ∙ sym (hand_whole (view t.pass).off before.0 t.hand before.1)
+    ∙ ap off c.self.view_is
 
 pub returns-clause-rising : goal.returns-clause-rising
 returns-clause-rising c =
     let t = c.self.inside in
     let k = c.self.invariant in
-    let before = k.hand in
-    let rest = c.next.new.self in
-    let answered : List OnItsWay = before.0 ++ option_to_list c.next.result in
-    let split : (view t.pass).taken ≡ answered ++ rest = hand_step (view t.pass).taken before.0 t.hand rest c.next.result before.1 c.next.ensures.steps in
-    subst IsRising (sym (ap (λ l. before_hand l rest) split ∙ before_hand_is answered rest)) (rising_front answered rest (subst IsRising split k.rising))
+    subst IsRising (sym (whole (view t.pass).off k.hand.0 t.hand c.next.new.self c.next.result k.hand.1 c.next.ensures.steps)) k.rising
