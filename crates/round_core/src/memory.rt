@@ -9,7 +9,9 @@ ghost use Rattle.round_core.specs.Runs.{IsFresh, IsEmpty, IsReady};
 use crate::copier::Copier;
 use crate::division::Division;
 use frame_core::Serial;
-use hand_core::{DoneSender, DoneTaker, Giver, HandError, Taker, Takers, done_open, open_in_handfuls};
+use hand_core::{
+    DoneSender, DoneTaker, Giver, HandError, Taker, Takers, done_open, open_in_handfuls,
+};
 use std::alloc::{AllocError, Global};
 use std::collections::VecDeque;
 use word_core::{Copied, Isolated};
