@@ -1,6 +1,6 @@
 //! Zones whose pages have 1, 8, 64 and 512 words.
 
-ghost use Rattle.std.specs.Prelude.{◌<◌, ◌≤◌, ◌×◌};
+ghost use Rattle.std.specs.Prelude.{◌<◌, ◌≤◌};
 ghost use Rattle.zone_core.specs.Books.{AreFor};
 
 use super::{address, client};
