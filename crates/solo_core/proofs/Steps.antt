@@ -1,5 +1,5 @@
 -- What is true between two pages of a round on one thread.
-use Rattle.std.proofs.Common.{◌≡◌, ℕ, Bool, List, [], ◌∷◌, refl, ap, subst, ◌∙◌, Option, Some, None, not, cond}
+use Rattle.std.proofs.Common.{◌≡◌, ℕ, Bool, List, [], ◌∷◌, refl, sym, ap, subst, ◌∙◌, Option, Some, None, not, cond}
 use Rattle.std.specs.Prelude.{is_none}
 use Rattle.std.specs.FinMap as map
 use Rattle.std.proofs.lemmas.Bool.{eq-eqb}
@@ -9,8 +9,10 @@ use Rattle.journal_core.specs.Moves.{isolated, out, put_back, without}
 use Rattle.state_core.specs.declared.error.ZoneError.{ZoneError}
 use Rattle.state_core.specs.declared.placement.Placement.TheVariants.{Moving}
 use Rattle.state_core.specs.declared.round.Pair.{Pair}
+use Rattle.state_core.specs.declared.moves.Next.TheVariants as answer
+use Rattle.state_core.specs.Carrying.{page_now}
 use Rattle.state_core.specs.Ending.{moved_to_target}
-use Rattle.state_core.specs.Isolating.{isolate_refusal, isolated_next, next_state}
+use Rattle.state_core.specs.Isolating.{isolate_refusal, isolated_next, next_answer, next_state}
 use Rattle.state_core.specs.Lawful.{IsLawful}
 use Rattle.state_core.specs.Pairs.{next_pair}
 use Rattle.state_core.specs.Rounds.{round_begun}
@@ -23,6 +25,7 @@ use Rattle.outcome_core.proofs.ByHand.{exact}
 use Rattle.outcome_core.proofs.Coming.{comes_begun, comes_scan, comes_move, stopped_seen}
 use Rattle.outcome_core.proofs.Scanner.{refusal_same}
 use Rattle.outcome_core.proofs.Scanning.{lawful_scan, no_pin}
+use Rattle.word_core.specs.Page.{OnItsWay}
 use Rattle.solo_core.specs.Solo.{last_for, last_by_hand}
 
 -- no page is moving, none was put back, and the round goes on to what the round by hand comes to
@@ -42,7 +45,7 @@ between_begun start rest = record {
   none_back = refl;
 }
 
-pair_scanned : (z : ZoneState) (o : Option Pair) → isolate_refusal z ≡ None → next_pair z ≡ o → scan_pair z ≡ o
+pub pair_scanned : (z : ZoneState) (o : Option Pair) → isolate_refusal z ≡ None → next_pair z ≡ o → scan_pair z ≡ o
 pair_scanned z o spare found = ap (λ (r : Option ZoneError). cond (is_none r) (next_pair z) None) spare ∙ found
 
 -- the page of the pair, once it was isolated
@@ -80,5 +83,26 @@ module _ (start z : ZoneState) (is : IsBetween start z) (none : scan_pair z ≡ 
   pub exact_stopped : IsSame (by_hand start) z
   exact_stopped = exact start z is.rest is.lawful is.comes (stopped_seen start z is.comes none).count is.none_out is.none_back
 
+  pub refusal_is : isolate_refusal z ≡ isolate_refusal (all_isolated start)
+  refusal_is = refusal_same z (all_isolated start) (stopped_seen start z is.comes none)
+
   pub last_is : last_for (isolate_refusal z) ≡ last_by_hand start
-  last_is = ap last_for (refusal_same z (all_isolated start) (stopped_seen start z is.comes none))
+  last_is = ap last_for refusal_is
+
+-- what the answer of a scan tells of the pair
+pub record IsPageOf (z z_new : ZoneState) (p : OnItsWay) (o : Option Pair) : Type 0 where
+  pub pair : Pair
+  pub found : o ≡ Some pair
+  pub page : p ≡ record { serial = isolated z.records; page = page_now z pair.page }
+  pub left : z_new ≡ isolated_next z pair
+
+pub page_scanned : (z z_new : ZoneState) (p : OnItsWay) (o : Option Pair) → answer.Page p ≡ next_answer z o → z_new ≡ next_state z o → IsPageOf z z_new p o
+page_scanned z z_new p None says left = cc
+page_scanned z z_new p (Some pair) says left = record { pair = pair; found = refl; page = cc; left = left }
+
+pub none_scanned : (z : ZoneState) (o : Option Pair) → answer.Met ≡ next_answer z o → o ≡ None
+none_scanned z None says = refl
+none_scanned z (Some pair) says = cc
+
+pub full_scanned : (z : ZoneState) (error : ZoneError) → Some error ≡ isolate_refusal z → scan_pair z ≡ None
+full_scanned z error full = ap (λ (r : Option ZoneError). cond (is_none r) (next_pair z) None) (sym full)

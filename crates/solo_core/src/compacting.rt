@@ -1,4 +1,4 @@
-ghost use Rattle.std.specs.Prelude.{◌≡◌, ◌+◌, ◌×◌, true, IfOk, OnOk, OnErr};
+ghost use Rattle.std.specs.Prelude.{◌≡◌, ◌+◌, ◌≤◌, true, IfOk, OnOk, OnErr};
 ghost use Rattle.std.specs.Result.{result_err};
 ghost use Rattle.journal_core.specs.History.{pins};
 ghost use Rattle.outcome_core.specs.ByHand.{by_hand};
@@ -22,6 +22,7 @@ pub fn compact<const W: usize, I: Ledger, N: Ledger, M: Ledger, B: Ledger>(
     zone: &mut ZoneOf<W, I, M, B>,
     seats: &mut Seats<I, N, M, B>,
 ) -> Result<Answered, ZoneError>
+    requires size { W ≤ 65536 }
     ensures refused { result_err result ≡ audit_refusal zone.old seats.old.ends }
     ensures err { OnErr result ((zone.new ≡ zone.old) × (seats.new.scan ≡ seats.old.scan) × (seats.new.ends ≡ seats.old.ends)) }
     // The zone is the one after a round by hand, but for the order in which moves ended.
@@ -53,8 +54,8 @@ fn carry<const W: usize, I: Ledger, M: Ledger, B: Ledger>(
     ends: &mut EndSeat<M, B>,
     page: IsolatedOf<W>,
 )
-    requires own { IsOwnCopy zone.old page.entry }
-    requires unpinned { pins zone.old.records page.entry.page.number ≡ 0 }
+    requires own { IsOwnCopy zone.old page }
+    requires unpinned { pins zone.old.records page.page.number ≡ 0 }
     ensures zone { zone.new ≡ moved_to_target zone.old page.entry.serial page.entry.page.number }
     ensures ends { ends.new ≡ record ends.old { moved = ends.old.moved + 1 } }
     ensures lawful { IsLawful zone.new }

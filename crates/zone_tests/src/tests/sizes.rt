@@ -1,6 +1,6 @@
 //! Zones whose pages have 1, 8, 64 and 512 words.
 
-ghost use Rattle.std.specs.Prelude.{◌<◌, ◌≤◌, ◌×◌};
+ghost use Rattle.std.specs.Prelude.{◌<◌, ◌≤◌};
 ghost use Rattle.zone_core.specs.Books.{AreFor};
 
 use super::{address, client};
@@ -13,13 +13,13 @@ use zone_core::{Blanks, EndSeat, Ended, Next, ScanSeat, ZoneError, ZoneOf};
 
 /// A zone of one pageblock with a page in frame 0, and its seats.
 #[derive(Drop)]
-struct Sized<const W: usize, I: Ledger, N: Ledger, M: Ledger, B: Ledger> {
+struct Paged<const W: usize, I: Ledger, N: Ledger, M: Ledger, B: Ledger> {
     zone: ZoneOf<W, I, M, B>,
     scan: ScanSeat<I, N>,
     ends: EndSeat<M, B>,
 }
 
-impl<const W: usize, I: Ledger, N: Ledger, M: Ledger, B: Ledger> Sized<W, I, N, M, B> {
+impl<const W: usize, I: Ledger, N: Ledger, M: Ledger, B: Ledger> Paged<W, I, N, M, B> {
     fn of(rt: &(impl Abort + AllocGlobal), places: u32, blanks: Blanks) -> Self
         requires blanks { AreFor blanks I.name I.parts N.name N.parts M.name M.parts B.name B.parts }
         requires size { W ≤ 65536 }
@@ -27,12 +27,19 @@ impl<const W: usize, I: Ledger, N: Ledger, M: Ledger, B: Ledger> Sized<W, I, N, 
         let number = ZoneNo::new(3).expect(rt, "a zone");
         let opened = ZoneOf::<W, I, M, B>::open::<N>(rt.alloc(), number, 1, places, blanks);
         let (mut zone, scan, ends) = opened.expect(rt, "a zone");
+<<<<<<< HEAD
         assert!(rt; zone.page_size() == W);
+=======
+>>>>>>> 57d0341e0584a3f0e9d29a04295fbad7c1cc9d80
         assert!(rt;
             zone.map(client(rt), address(rt, (7, 9)), PageFlags::empty())
                 .is_ok()
         );
+<<<<<<< HEAD
         Sized { zone, scan, ends }
+=======
+        Paged { zone, scan, ends }
+>>>>>>> 57d0341e0584a3f0e9d29a04295fbad7c1cc9d80
     }
 
     fn write(&mut self, rt: &impl Abort, from: WordOf<W>, values: &[u64]) -> Result<(), ZoneError> {
@@ -154,11 +161,11 @@ fn tries_with<const W: usize, I: Ledger, N: Ledger, M: Ledger, B: Ledger>(
         Trial::NeedsAPlaceForEachWord => W as u32,
         _ => 4096,
     };
-    let mut sized = Sized::<W, I, N, M, B>::of(rt, places, blanks);
+    let mut paged = Paged::<W, I, N, M, B>::of(rt, places, blanks);
     match trial {
-        Trial::MovesItsWords => sized.moves_its_words(rt),
-        Trial::RefusesWordsPastThePage => sized.refuses_words_past_the_page(rt),
-        Trial::NeedsAPlaceForEachWord => sized.needs_a_place_for_each_word(rt),
+        Trial::MovesItsWords => paged.moves_its_words(rt),
+        Trial::RefusesWordsPastThePage => paged.refuses_words_past_the_page(rt),
+        Trial::NeedsAPlaceForEachWord => paged.needs_a_place_for_each_word(rt),
     }
 }
 

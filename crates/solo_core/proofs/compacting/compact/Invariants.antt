@@ -3,8 +3,8 @@ use Rattle.journal_core.specs.Moves.{isolated}
 use Rattle.solo_core.proofs.Steps.{IsBetween}
 use Rattle.solo_core.proofs.compacting.compact.Given as goal
 
-abbrev pub invariant-loop : goal.invariant-loop
-invariant-loop g l = record {
+abbrev pub invariant-loop-page : goal.invariant-loop-page
+invariant-loop-page g l = record {
   between : IsBetween l.fn.zone l.zone;
   count : l.seats.scan.count ≡ isolated l.zone.records;
   rounds : l.seats.scan.rounds ≡ l.fn.seats.scan.rounds + 1;
@@ -13,5 +13,5 @@ invariant-loop g l = record {
 }
 
 -- each page takes places of the journal
-abbrev pub decreases-loop : goal.decreases-loop
-decreases-loop g l = l.zone.room
+abbrev pub decreases-loop-page : goal.decreases-loop-page
+decreases-loop-page g l = l.zone.room
