@@ -27,19 +27,11 @@ impl<const W: usize, I: Ledger, N: Ledger, M: Ledger, B: Ledger> Paged<W, I, N, 
         let number = ZoneNo::new(3).expect(rt, "a zone");
         let opened = ZoneOf::<W, I, M, B>::open::<N>(rt.alloc(), number, 1, places, blanks);
         let (mut zone, scan, ends) = opened.expect(rt, "a zone");
-<<<<<<< HEAD
-        assert!(rt; zone.page_size() == W);
-=======
->>>>>>> 57d0341e0584a3f0e9d29a04295fbad7c1cc9d80
         assert!(rt;
             zone.map(client(rt), address(rt, (7, 9)), PageFlags::empty())
                 .is_ok()
         );
-<<<<<<< HEAD
-        Sized { zone, scan, ends }
-=======
         Paged { zone, scan, ends }
->>>>>>> 57d0341e0584a3f0e9d29a04295fbad7c1cc9d80
     }
 
     fn write(&mut self, rt: &impl Abort, from: WordOf<W>, values: &[u64]) -> Result<(), ZoneError> {
