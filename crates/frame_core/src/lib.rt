@@ -3,17 +3,17 @@
 //! Contracts see each number as itself, and a set of flags as its bits.
 #![tactic(auto)]
 
+mod fixed_vec;
 mod flags;
 mod hand;
-mod list;
 mod order;
 mod page;
 mod place;
 mod state;
 
+pub use fixed_vec::FixedVec;
 pub use flags::PageFlags;
 pub use hand::HandNo;
-pub use list::filled;
 pub use order::Order;
 pub use page::{ClientNo, PageNo, WordNo};
 pub use place::{Address, BlockNo, FrameNo, SpaceNo, VPage, ZoneNo, block_of, first_frame};
