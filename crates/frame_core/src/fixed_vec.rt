@@ -67,7 +67,8 @@ impl<T> FixedVec<T> {
 impl<T: Copy> FixedVec<T> {
     /// A vector of this many copies of an item, with room for no other, or an error where there is no memory for them.
     pub fn filled(alloc: Global, item: T, count: usize) -> Result<FixedVec<T>, AllocError>
-        ensures { IfOk result (λ v. v ≡ record { items = replicate count item; room = 0 }) }
+        ensures items { IfOk result (λ v. v.items ≡ replicate count item) }
+        ensures room { IfOk result (λ v. v.room ≡ 0) }
     {
         let mut list = Vec::with_capacity(alloc, count)?;
         for _ in 0..count {
@@ -83,7 +84,9 @@ impl<T> DerefSlice for FixedVec<T> {
     ghost deref_gives = { λ v items. items ≡ v.items };
 
     #[inline]
-    fn deref(&self) -> &[T] {
+    fn deref(&self) -> &[T]
+        ensures value { result.now ≡ self.now.items }
+    {
         self.list.as_slice()
     }
 }
@@ -108,7 +111,10 @@ impl<T> Index<usize> for FixedVec<T> {
     ghost index_gives = { λ v place item. item ≡ slice_index_or v.items place item };
 
     #[inline]
-    fn index(&self, place: usize) -> &T {
+    fn index(&self, place: usize) -> &T
+        requires { place < length self.now.items }
+        ensures { result.now ≡ slice_index_or self.now.items place result.now }
+    {
         &self.list[place]
     }
 }
