@@ -3,25 +3,25 @@ ghost use Rattle.word_core.specs.Page.{blank_words};
 ghost use Rattle.word_core.specs.Words.{words_of, word_of, with_words, with_word};
 
 use crate::page::Page;
-use frame_core::{FrameNo, PageFlags, PageNo, WordNo, ZoneNo, filled};
+use frame_core::{FixedVec, FrameNo, PageFlags, PageNo, WordNo, ZoneNo};
 use std::alloc::{AllocError, Global};
 use std::marker::Model;
 
 /// The words of a zone's frames: a row of eight for each frame.
 #[derive(Drop)]
 pub struct Words {
-    rows: Vec<[u64; 8]>,
+    rows: FixedVec<[u64; 8]>,
 }
 
 impl Model for Words {
-    ghost use Rattle.std.specs.Prelude.{◌≡◌, ℕ, List, length, vec_len, vec_capacity};
+    ghost use Rattle.std.specs.Prelude.{◌≡◌, ℕ, List, length};
     ghost use Rattle.std.specs.List.{All};
 
     ghost Value = { List (List ℕ) };
 
     ghost view = { λ w. w.rows.items };
 
-    ghost invariant = { λ w. (vec_capacity w.rows ≡ vec_len w.rows) × All (λ row. length row ≡ 8) w.rows.items };
+    ghost invariant = { λ w. All (λ row. length row ≡ 8) w.rows.items };
 }
 
 impl Words {
@@ -30,7 +30,7 @@ impl Words {
         ensures blank { IfOk result (λ rows. rows ≡ replicate frames blank_words) }
         ensures frames { IfOk result (λ rows. length rows ≡ frames) }
     {
-        let rows = filled(alloc, [0; 8], frames as usize)?;
+        let rows = FixedVec::filled(alloc, [0; 8], frames as usize)?;
         Ok(Words { rows })
     }
 
