@@ -1,4 +1,5 @@
-//! The words of a page pool: numbers in their ranges, orders, addresses, page flags and frame states.
+//! What the crates of a page pool share: numbers in their ranges, orders, addresses, page flags, frame states, and lists that
+//! can't ask for memory.
 //!
 //! Contracts see each number as itself, and a set of flags as its bits.
 #![tactic(auto)]
