@@ -1,4 +1,5 @@
-//! The words of a page pool: numbers in their ranges, orders, addresses, page flags and frame states.
+//! What the crates of a page pool share: numbers in their ranges, orders, addresses, page flags, frame states, and lists that
+//! can't ask for memory.
 //!
 //! Contracts see each number as itself, and a set of flags as its bits.
 //!
@@ -6,17 +7,17 @@
 //! it is the type for pages of eight words.
 #![tactic(auto)]
 
+mod fixed_vec;
 mod flags;
 mod hand;
-mod list;
 mod order;
 mod page;
 mod place;
 mod state;
 
+pub use fixed_vec::FixedVec;
 pub use flags::PageFlags;
 pub use hand::HandNo;
-pub use list::filled;
 pub use order::Order;
 pub use page::{ClientNo, PageNo, WordNo as WordOf};
 pub use place::{Address, BlockNo, FrameNo, SpaceNo, VPage, ZoneNo, block_of, first_frame};

@@ -1,25 +1,26 @@
 ghost use Rattle.std.specs.Prelude.{◌≡◌, ◌+◌, ◌<◌, [], ◌∷◌, length, slice_get, reverse, IfOk, IsTrue, ◌↔◌, option_copied};
 
 use crate::record::Record;
+use frame_core::FixedVec;
 use std::alloc::{AllocError, Global};
 use std::marker::Model;
 
 /// Records in the order in which they were appended. The memory for all of them is taken once, when the journal is opened.
 #[derive(Drop)]
 pub struct Journal {
-    records: Vec<Record>,
+    records: FixedVec<Record>,
     places: u32,
 }
 
 impl Model for Journal {
-    ghost use Rattle.std.specs.Prelude.{◌≡◌, ◌≤◌, ◌-◌, reverse, vec_len, vec_capacity};
+    ghost use Rattle.std.specs.Prelude.{◌≡◌, ◌+◌, length, reverse};
     ghost use Rattle.journal_core.specs.Journal.{Journal as Seen};
 
     ghost Value = { Seen };
 
-    ghost view = { λ j. record { records = reverse j.records.items; room = j.places - vec_len j.records } };
+    ghost view = { λ j. record { records = reverse j.records.items; room = j.records.room } };
 
-    ghost invariant = { λ j. (vec_len j.records ≤ j.places) × (vec_capacity j.records ≡ j.places) };
+    ghost invariant = { λ j. length j.records.items + j.records.room ≡ j.places };
 }
 
 impl Journal {
@@ -27,7 +28,7 @@ impl Journal {
     pub fn open(alloc: Global, places: u32) -> Result<Journal, AllocError>
         ensures { IfOk result (λ j. j ≡ record { records = []; room = places }) }
     {
-        let records = Vec::with_capacity(alloc, places as usize)?;
+        let records = FixedVec::with_room(alloc, places as usize)?;
         Ok(Journal { records, places })
     }
 
@@ -72,6 +73,6 @@ impl Journal {
         ensures records { self.new.records ≡ entry ∷ self.old.records }
         ensures room { self.new.room + 1 ≡ self.old.room }
     {
-        self.records.push_reserved(entry);
+        self.records.push(entry);
     }
 }

@@ -1,13 +1,13 @@
 -- The fields of the frames stay sound through each change.
-use Rattle.std.proofs.Common.{◌≡◌, ℕ, ◌+◌, ◌*◌, ◌<◌, ◌≤◌, Bool, true, false, not, List, length, length-set, inl, inr, refl, sym, ap, ◌∙◌, eq-eqb, Vec, vec_capacity, replicate, arith}
+use Rattle.std.proofs.Common.{◌≡◌, ℕ, ◌+◌, ◌*◌, ◌<◌, ◌≤◌, Bool, true, false, not, List, length, length-set, inl, inr, refl, sym, ap, ◌∙◌, eq-eqb, replicate, arith}
 use Rattle.std.specs.Prelude.{Option, Some, None, unwrap_or, nat_eq, slice_get, slice_set, if◌then◌else◌, ◌&&◌, ◌||◌}
 use Rattle.std.specs.FinSet as set
 use Rattle.std.specs.Ordering.{nat_cmp}
-use Rattle.std.specs.declared.alloc.Global.{Global}
 use Rattle.std.proofs.lemmas.Bool.{ne_eqb}
 use Rattle.std.proofs.lemmas.Bool.Decides.{eqb_tells, leb_tells}
 use Rattle.std.proofs.lemmas.List.{length-replicate}
 use Rattle.std.proofs.lemmas.Option.{slice_get_past}
+use Rattle.frame_core.specs.FixedVec.{FixedVec}
 use Rattle.frame_core.specs.declared.state.FrameState.{FrameState}
 use Rattle.frame_core.specs.declared.state.FrameState.TheVariants.{Free, Holds, Source, Target, Huge}
 use Rattle.frame_core.proofs.Lists.{slice_get_set_same, slice_get_set_other, slice_get_replicate}
@@ -100,8 +100,8 @@ module _ (z : Inside) (sound : IsSound z) where
   ]
 
   -- one frame, which isn't of a block that is handed out, is used for something else
-  pub sound_put : (kept : Vec FrameState Global) (free stuck : set.FinSet nat_cmp) (frame index : ℕ) (state : FrameState) (is_free is_stuck : Bool) → huge_at (seen z.held z.kept.items) frame ≡ false → is_huge_state (Some state) ≡ false → frame < length z.kept.items → index ≡ frame → kept.items ≡ slice_set z.kept.items index state → vec_capacity kept ≡ vec_capacity z.kept → is_free ≡ is_free_state (Some state) → is_stuck ≡ is_stuck_state (Some state) (true_at z.movable.items frame) → ((n : ℕ) → set.contains free n ≡ (if nat_eq n frame then is_free else set.contains z.free n)) → ((n : ℕ) → set.contains stuck n ≡ (if nat_eq n frame then is_stuck else set.contains z.stuck n)) → IsSound (record z { kept = kept; free = free; stuck = stuck }) × (seen z.held kept.items ≡ slice_set (seen z.held z.kept.items) frame state)
-  sound_put kept free stuck frame index state is_free is_stuck known not_huge within at items room is_free_is is_stuck_is free_put stuck_put =
+  pub sound_put : (kept : FixedVec FrameState) (free stuck : set.FinSet nat_cmp) (frame index : ℕ) (state : FrameState) (is_free is_stuck : Bool) → huge_at (seen z.held z.kept.items) frame ≡ false → is_huge_state (Some state) ≡ false → frame < length z.kept.items → index ≡ frame → kept.items ≡ slice_set z.kept.items index state → is_free ≡ is_free_state (Some state) → is_stuck ≡ is_stuck_state (Some state) (true_at z.movable.items frame) → ((n : ℕ) → set.contains free n ≡ (if nat_eq n frame then is_free else set.contains z.free n)) → ((n : ℕ) → set.contains stuck n ≡ (if nat_eq n frame then is_stuck else set.contains z.stuck n)) → IsSound (record z { kept = kept; free = free; stuck = stuck }) × (seen z.held kept.items ≡ slice_set (seen z.held z.kept.items) frame state)
+  sound_put kept free stuck frame index state is_free is_stuck known not_huge within at items is_free_is is_stuck_is free_put stuck_put =
       let list : kept.items ≡ slice_set z.kept.items frame state = items ∙ ap (λ k. slice_set z.kept.items k state) at in
       let view : seen z.held kept.items ≡ slice_set (seen z.held z.kept.items) frame state = ap (seen z.held) list ∙ seen_put (set.contains z.held) z.kept.items frame state within (not_held frame known) in
       let len : length kept.items ≡ length z.kept.items = ap length list ∙ length-set z.kept.items frame state in
@@ -111,8 +111,6 @@ module _ (z : Inside) (sound : IsSound z) where
           some = omega (arith, len, sound.some);
           few = omega (arith, len, sound.few);
           movable = sound.movable ∙ sym len;
-          room = room ∙ sound.room ∙ sym len;
-          movable_room = sound.movable_room ∙ sym len;
           never_huge = λ n. ap (λ (xs : List FrameState). huge_at xs n) list ∙ elim (eqb_tells n frame) [
             | inl here ↦ (ap is_huge_state (slice_get_set_same z.kept.items frame n state here.1 within) ∙ not_huge)
             | inr away ↦ (ap is_huge_state (slice_get_set_other z.kept.items frame n state away.1) ∙ sound.never_huge n)
@@ -137,8 +135,6 @@ module _ (z : Inside) (sound : IsSound z) where
           some = sound.some;
           few = sound.few;
           movable = sound.movable;
-          room = sound.room;
-          movable_room = sound.movable_room;
           never_huge = sound.never_huge;
           held = λ n e. held_or (in_run first count n) (set.contains z.held n) (slice_get z.kept.items n) (sym (held_each n) ∙ e)
               (λ inside. free_kept (set.contains z.held n) (slice_get z.kept.items n) (ap is_free_state (sym (seen_get (set.contains z.held) z.kept.items n)) ∙ all n inside)) (sound.held n);
@@ -165,8 +161,6 @@ module _ (z : Inside) (sound : IsSound z) where
           some = sound.some;
           few = sound.few;
           movable = sound.movable;
-          room = sound.room;
-          movable_room = sound.movable_room;
           never_huge = sound.never_huge;
           held = λ n e. sound.held n (both (not (in_run first count n)) (set.contains z.held n) (sym (held_each n) ∙ e)).1;
           free = λ n. run_written (λ k o. is_free_state o) (seen z.held z.kept.items) first count Free (set.contains z.free) (set.contains free) true there (λ k. refl) sound.free (λ k. free_each k ∙ or_run (in_run first count k) (set.contains z.free k)) n ∙ ap (λ (xs : List FrameState). free_at xs n) (sym view);
@@ -176,8 +170,8 @@ module _ (z : Inside) (sound : IsSound z) where
       )
 
   -- it is noted whether the page of a frame may be taken from it
-  pub sound_marked : (movable : Vec Bool Global) (stuck : set.FinSet nat_cmp) (frame index : ℕ) (state : FrameState) (is_stuck is_movable : Bool) → frame < length z.kept.items → index ≡ frame → movable.items ≡ slice_set z.movable.items index is_movable → vec_capacity movable ≡ vec_capacity z.movable → slice_get (seen z.held z.kept.items) frame ≡ Some state → is_stuck ≡ is_stuck_state (Some state) is_movable → ((n : ℕ) → set.contains stuck n ≡ (if nat_eq n frame then is_stuck else set.contains z.stuck n)) → IsSound (record z { movable = movable; stuck = stuck })
-  sound_marked movable stuck frame index state is_stuck is_movable within at items room is is_stuck_is put =
+  pub sound_marked : (movable : FixedVec Bool) (stuck : set.FinSet nat_cmp) (frame index : ℕ) (state : FrameState) (is_stuck is_movable : Bool) → frame < length z.kept.items → index ≡ frame → movable.items ≡ slice_set z.movable.items index is_movable → slice_get (seen z.held z.kept.items) frame ≡ Some state → is_stuck ≡ is_stuck_state (Some state) is_movable → ((n : ℕ) → set.contains stuck n ≡ (if nat_eq n frame then is_stuck else set.contains z.stuck n)) → IsSound (record z { movable = movable; stuck = stuck })
+  sound_marked movable stuck frame index state is_stuck is_movable within at items is is_stuck_is put =
       let list : movable.items ≡ slice_set z.movable.items frame is_movable = items ∙ ap (λ k. slice_set z.movable.items k is_movable) at in
       let len : length movable.items ≡ length z.movable.items = ap length list ∙ length-set z.movable.items frame is_movable in
       record {
@@ -185,8 +179,6 @@ module _ (z : Inside) (sound : IsSound z) where
         some = sound.some;
         few = sound.few;
         movable = len ∙ sound.movable;
-        room = sound.room;
-        movable_room = room ∙ sound.movable_room;
         never_huge = sound.never_huge;
         held = sound.held;
         free = sound.free;
@@ -246,19 +238,19 @@ module _ (z : Inside) (sound : IsSound z) (frame : ℕ) where
   free_removed : (free : set.FinSet nat_cmp) → free ≡ set.remove z.free frame → (n : ℕ) → set.contains free n ≡ (if nat_eq n frame then false else set.contains z.free n)
   free_removed free now n = ap (λ s. set.contains s n) now ∙ member_remove z.free frame n ∙ remove_if (nat_eq n frame) (set.contains z.free n) false refl
 
-  module _ (kept : Vec FrameState Global) (index : ℕ) (at : index ≡ frame) (room : vec_capacity kept ≡ vec_capacity z.kept) where
+  module _ (kept : FixedVec FrameState) (index : ℕ) (at : index ≡ frame) where
     -- a frame with a movable page becomes a source
     pub sound_to_source : (serial : ℕ) → holds_at (seen z.held z.kept.items) frame ≡ true → true_at z.movable.items frame ≡ true → kept.items ≡ slice_set z.kept.items index (Source serial) → IsSound (record z { kept = kept }) × (seen z.held kept.items ≡ slice_set (seen z.held z.kept.items) frame (Source serial))
     sound_to_source serial page movable items =
         let only = page_only was page in
-        sound_put z sound kept z.free z.stuck frame index (Source serial) false false only.0 refl (known_within z sound is_holding_state frame refl page) at items room refl refl
+        sound_put z sound kept z.free z.stuck frame index (Source serial) false false only.0 refl (known_within z sound is_holding_state frame refl page) at items refl refl
         (λ n. keep_if n frame (set.contains z.free) false (sound.free frame ∙ only.1))
         (λ n. keep_if n frame (set.contains z.stuck) false (sound.stuck frame ∙ stuck_if_page was (true_at z.movable.items frame) page ∙ ap not movable))
 
     -- a free frame becomes a target
     pub sound_to_target : (free : set.FinSet nat_cmp) (serial : ℕ) → free_at (seen z.held z.kept.items) frame ≡ true → free ≡ set.remove z.free frame → kept.items ≡ slice_set z.kept.items index (Target serial) → IsSound (record z { kept = kept; free = free }) × (seen z.held kept.items ≡ slice_set (seen z.held z.kept.items) frame (Target serial))
     sound_to_target free serial is_free now items =
-        sound_put z sound kept free z.stuck frame index (Target serial) false false (free_not_huge was is_free) refl (known_within z sound is_free_state frame refl is_free) at items room refl refl
+        sound_put z sound kept free z.stuck frame index (Target serial) false false (free_not_huge was is_free) refl (known_within z sound is_free_state frame refl is_free) at items refl refl
         (free_removed free now)
         (λ n. keep_if n frame (set.contains z.stuck) false (sound.stuck frame ∙ free_not_stuck was (true_at z.movable.items frame) is_free))
 
@@ -266,21 +258,21 @@ module _ (z : Inside) (sound : IsSound z) (frame : ℕ) where
     pub sound_left : (free : set.FinSet nat_cmp) → way_at (seen z.held z.kept.items) frame ≡ true → free ≡ set.insert z.free frame → kept.items ≡ slice_set z.kept.items index Free → IsSound (record z { kept = kept; free = free }) × (seen z.held kept.items ≡ slice_set (seen z.held z.kept.items) frame Free)
     sound_left free way now items =
         let only = way_only was (true_at z.movable.items frame) way in
-        sound_put z sound kept free z.stuck frame index Free true false only.0 refl (known_within z sound is_way_state frame refl way) at items room refl refl
+        sound_put z sound kept free z.stuck frame index Free true false only.0 refl (known_within z sound is_way_state frame refl way) at items refl refl
         (free_inserted free now)
         (λ n. keep_if n frame (set.contains z.stuck) false (sound.stuck frame ∙ only.2))
 
     -- the page of a frame goes out of use, and the frame is free
     pub sound_emptied : (free stuck : set.FinSet nat_cmp) → holds_at (seen z.held z.kept.items) frame ≡ true → free ≡ set.insert z.free frame → ((n : ℕ) → set.contains stuck n ≡ (if nat_eq n frame then false else set.contains z.stuck n)) → kept.items ≡ slice_set z.kept.items index Free → IsSound (record z { kept = kept; free = free; stuck = stuck }) × (seen z.held kept.items ≡ slice_set (seen z.held z.kept.items) frame Free)
     sound_emptied free stuck page now put items =
-        sound_put z sound kept free stuck frame index Free true false (page_only was page).0 refl (known_within z sound is_holding_state frame refl page) at items room refl refl
+        sound_put z sound kept free stuck frame index Free true false (page_only was page).0 refl (known_within z sound is_holding_state frame refl page) at items refl refl
         (free_inserted free now) put
 
-    module _ (list : Vec Bool Global) (movable : Bool) (stuck : set.FinSet nat_cmp) (list_items : list.items ≡ slice_set z.movable.items index movable) (list_room : vec_capacity list ≡ vec_capacity z.movable) (put : (n : ℕ) → set.contains stuck n ≡ (if nat_eq n frame then not movable else set.contains z.stuck n)) where
+    module _ (list : FixedVec Bool) (movable : Bool) (stuck : set.FinSet nat_cmp) (list_items : list.items ≡ slice_set z.movable.items index movable) (put : (n : ℕ) → set.contains stuck n ≡ (if nat_eq n frame then not movable else set.contains z.stuck n)) where
       noted : (f : Option FrameState → Bool) → f None ≡ false → f was ≡ true → is_stuck_state was movable ≡ false → set.contains z.stuck frame ≡ false → IsSound (record z { movable = list })
       noted f none is not_stuck out =
           let some = some_state f was none is in
-          sound_marked z sound list z.stuck frame index some.0 false movable (known_within z sound f frame none is) at list_items list_room some.1 (sym not_stuck ∙ ap (λ o. is_stuck_state o movable) some.1)
+          sound_marked z sound list z.stuck frame index some.0 false movable (known_within z sound f frame none is) at list_items some.1 (sym not_stuck ∙ ap (λ o. is_stuck_state o movable) some.1)
           (λ n. keep_if n frame (set.contains z.stuck) false out)
 
       is_noted : frame < length z.kept.items → not movable ≡ not (true_at list.items frame)
@@ -292,25 +284,25 @@ module _ (z : Inside) (sound : IsSound z) (frame : ℕ) where
       sound_settled page way items =
           let within = known_within z sound is_way_state frame refl way in
           let only = way_only was (true_at z.movable.items frame) way in
-          sound_put (record z { movable = list }) (noted is_way_state refl way (way_only was movable way).2 (sound.stuck frame ∙ only.2)) kept z.free stuck frame index (Holds page) false (not movable) only.0 refl within at items room refl (is_noted within)
+          sound_put (record z { movable = list }) (noted is_way_state refl way (way_only was movable way).2 (sound.stuck frame ∙ only.2)) kept z.free stuck frame index (Holds page) false (not movable) only.0 refl within at items refl (is_noted within)
           (λ n. keep_if n frame (set.contains z.free) false (sound.free frame ∙ only.1)) put
 
       -- a page is put into a free frame
       pub sound_filled : (free : set.FinSet nat_cmp) (page : ℕ) → free_at (seen z.held z.kept.items) frame ≡ true → free ≡ set.remove z.free frame → kept.items ≡ slice_set z.kept.items index (Holds page) → IsSound (record z { kept = kept; movable = list; free = free; stuck = stuck }) × (seen z.held kept.items ≡ slice_set (seen z.held z.kept.items) frame (Holds page))
       sound_filled free page is_free now items =
           let within = known_within z sound is_free_state frame refl is_free in
-          sound_put (record z { movable = list }) (noted is_free_state refl is_free (free_not_stuck was movable is_free) (sound.stuck frame ∙ free_not_stuck was (true_at z.movable.items frame) is_free)) kept free stuck frame index (Holds page) false (not movable) (free_not_huge was is_free) refl within at items room refl (is_noted within)
+          sound_put (record z { movable = list }) (noted is_free_state refl is_free (free_not_stuck was movable is_free) (sound.stuck frame ∙ free_not_stuck was (true_at z.movable.items frame) is_free)) kept free stuck frame index (Holds page) false (not movable) (free_not_huge was is_free) refl within at items refl (is_noted within)
           (free_removed free now) put
 
     -- it is noted of a page that stays in its frame whether it may be taken from it
-    pub sound_said : (list : Vec Bool Global) (movable : Bool) (stuck : set.FinSet nat_cmp) → holds_at (seen z.held z.kept.items) frame ≡ true → list.items ≡ slice_set z.movable.items index movable → vec_capacity list ≡ vec_capacity z.movable → ((n : ℕ) → set.contains stuck n ≡ (if nat_eq n frame then not movable else set.contains z.stuck n)) → IsSound (record z { movable = list; stuck = stuck })
-    sound_said list movable stuck page items list_room put =
+    pub sound_said : (list : FixedVec Bool) (movable : Bool) (stuck : set.FinSet nat_cmp) → holds_at (seen z.held z.kept.items) frame ≡ true → list.items ≡ slice_set z.movable.items index movable → ((n : ℕ) → set.contains stuck n ≡ (if nat_eq n frame then not movable else set.contains z.stuck n)) → IsSound (record z { movable = list; stuck = stuck })
+    sound_said list movable stuck page items put =
         let some = some_state is_holding_state was refl page in
-        sound_marked z sound list stuck frame index some.0 (not movable) movable (known_within z sound is_holding_state frame refl page) at items list_room some.1 (sym (stuck_if_page was movable page) ∙ ap (λ o. is_stuck_state o movable) some.1) put
+        sound_marked z sound list stuck frame index some.0 (not movable) movable (known_within z sound is_holding_state frame refl page) at items some.1 (sym (stuck_if_page was movable page) ∙ ap (λ o. is_stuck_state o movable) some.1) put
 
 -- the frames of a zone in which all are free
-pub sound_free : (z : Inside) (blocks : ℕ) → 0 < blocks → blocks ≤ 8 → z.kept.items ≡ replicate (512 * blocks) Free → z.movable.items ≡ replicate (512 * blocks) false → vec_capacity z.kept ≡ 512 * blocks → vec_capacity z.movable ≡ 512 * blocks → z.held ≡ set.empty → z.stuck ≡ set.empty → ((n : ℕ) → set.contains z.free n ≡ free_at z.kept.items n) → IsSound z × (seen z.held z.kept.items ≡ replicate (512 * blocks) Free)
-sound_free z blocks some few kept movable room movable_room held stuck free =
+pub sound_free : (z : Inside) (blocks : ℕ) → 0 < blocks → blocks ≤ 8 → z.kept.items ≡ replicate (512 * blocks) Free → z.movable.items ≡ replicate (512 * blocks) false → z.held ≡ set.empty → z.stuck ≡ set.empty → ((n : ℕ) → set.contains z.free n ≡ free_at z.kept.items n) → IsSound z × (seen z.held z.kept.items ≡ replicate (512 * blocks) Free)
+sound_free z blocks some few kept movable held stuck free =
     let count : length z.kept.items ≡ 512 * blocks = ap length kept ∙ length-replicate (512 * blocks) Free in
     let movable_count : length z.movable.items ≡ 512 * blocks = ap length movable ∙ length-replicate (512 * blocks) false in
     let none = λ (n : ℕ). ap (λ s. set.contains s n) held ∙ set.contains-empty nat_cmp n in
@@ -321,8 +313,6 @@ sound_free z blocks some few kept movable room movable_room held stuck free =
         some = omega arith;
         few = omega arith;
         movable = omega arith;
-        room = omega arith;
-        movable_room = omega arith;
         never_huge = λ n. ap is_huge_state (each n) ∙ free_state is_huge_state blocks n refl refl;
         held = λ n e. absurd (clash (set.contains z.held n) e (none n));
         free = λ n. free n ∙ ap (λ (xs : List FrameState). free_at xs n) (sym view);

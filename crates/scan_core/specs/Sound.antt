@@ -1,5 +1,5 @@
 -- What contracts see of the fields of `Frames`, and what is true of these fields.
-use Rattle.std.specs.Prelude.{◌≡◌, ℕ, ◌<◌, ◌≤◌, ◌*◌, length, true, false, slice_get, vec_capacity, Some}
+use Rattle.std.specs.Prelude.{◌≡◌, ℕ, ◌<◌, ◌≤◌, ◌*◌, length, true, false, slice_get, Some}
 use Rattle.std.specs.FinSet as set
 use Rattle.frame_core.specs.declared.state.FrameState.TheVariants.{Free}
 use Rattle.scan_core.specs.Frames.{Frames, blocks_of, free_at, huge_at, is_stuck_state, true_at}
@@ -10,14 +10,12 @@ use Rattle.scan_core.specs.declared.frames.Frames.TheInside.{Inside}
 abbrev pub frames_of : Inside → Frames
 frames_of z = record { states = seen z.held z.kept.items; movable = z.movable.items }
 
--- there are one to eight whole pageblocks, the lists never grow, and the sets have the frames that they should
+-- there are one to eight whole pageblocks, and the sets have the frames that they should
 pub record IsSound (z : Inside) : Type 0 where
   pub whole : length z.kept.items ≡ 512 * blocks_of z.kept.items
   pub some : 0 < blocks_of z.kept.items
   pub few : blocks_of z.kept.items ≤ 8
   pub movable : length z.movable.items ≡ length z.kept.items
-  pub room : vec_capacity z.kept ≡ length z.kept.items
-  pub movable_room : vec_capacity z.movable ≡ length z.kept.items
   pub never_huge : (frame : ℕ) → huge_at z.kept.items frame ≡ false
   pub held : (frame : ℕ) → set.contains z.held frame ≡ true → slice_get z.kept.items frame ≡ Some Free
   pub free : (frame : ℕ) → set.contains z.free frame ≡ free_at (seen z.held z.kept.items) frame

@@ -10,7 +10,7 @@ use crate::fingers::{Fingers, Step};
 use crate::frame_set::FrameSet;
 use crate::numbers::NumberSet;
 use crate::{lists, pair};
-use frame_core::{FrameNo, FrameState, Order, PageNo, Serial, filled};
+use frame_core::{FixedVec, FrameNo, FrameState, Order, PageNo, Serial};
 use std::alloc::{AllocError, Global};
 use std::marker::Model;
 
@@ -18,8 +18,8 @@ use std::marker::Model;
 #[derive(Drop)]
 pub struct Frames {
     /// The state of each frame. A frame of a block that is handed out stands here as free, and is a member of `held`.
-    kept: Vec<FrameState>,
-    movable: Vec<bool>,
+    kept: FixedVec<FrameState>,
+    movable: FixedVec<bool>,
     held: NumberSet,
     free: FrameSet,
     /// The frames that are handed out, and those with a page that may not be taken from them.
@@ -48,8 +48,8 @@ impl Frames {
         ensures frames { IfOk result (λ frames. length frames.states ≡ 512 * blocks) }
     {
         let count = 512 * blocks as usize;
-        let kept = filled(alloc, FrameState::Free, count)?;
-        let movable = filled(alloc, false, count)?;
+        let kept = FixedVec::filled(alloc, FrameState::Free, count)?;
+        let movable = FixedVec::filled(alloc, false, count)?;
         let free = FrameSet::of(&kept);
         Ok(Frames {
             kept,

@@ -8,7 +8,7 @@ ghost use Rattle.table_core.specs.Tables.{place_of, entry_at, is_listed, IsBlank
 
 use crate::entry::Entry;
 use crate::names::index_of;
-use frame_core::{Address, FrameNo, Serial, filled};
+use frame_core::{Address, FixedVec, FrameNo, Serial};
 use std::alloc::{AllocError, Global};
 use std::marker::Model;
 
@@ -19,12 +19,12 @@ pub const ADDRESSES: usize = 32768;
 /// serial of the page that left it.
 #[derive(Drop)]
 pub struct Entries {
-    frames: Vec<Option<FrameNo>>,
-    serials: Vec<Option<Serial>>,
+    frames: FixedVec<Option<FrameNo>>,
+    serials: FixedVec<Option<Serial>>,
 }
 
 impl Model for Entries {
-    ghost use Rattle.std.specs.Prelude.{◌≡◌, length, vec_capacity};
+    ghost use Rattle.std.specs.Prelude.{length};
     ghost use Rattle.table_core.specs.EntriesInside.{entries_of, AreKept};
     ghost use Rattle.table_core.specs.Tables.{Tables as Kept};
 
@@ -32,9 +32,7 @@ impl Model for Entries {
 
     ghost view = { λ e. record { entries = entries_of e.serials.items e.frames.items; frames = length e.serials.items } };
 
-    ghost invariant = { λ e. AreKept e.serials.items e.frames.items
-        × (vec_capacity e.frames ≡ 32768)
-        × (vec_capacity e.serials ≡ length e.serials.items) };
+    ghost invariant = { λ e. AreKept e.serials.items e.frames.items };
 }
 
 impl Entries {
@@ -46,8 +44,8 @@ impl Entries {
         ensures count { IfOk result (λ entries. length entries.entries ≡ 32768) }
     {
         Ok(Entries {
-            frames: filled(alloc, None, ADDRESSES)?,
-            serials: filled(alloc, None, frames)?,
+            frames: FixedVec::filled(alloc, None, ADDRESSES)?,
+            serials: FixedVec::filled(alloc, None, frames)?,
         })
     }
 

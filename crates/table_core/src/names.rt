@@ -1,10 +1,10 @@
-ghost use Rattle.std.specs.Prelude.{◌≡◌, ◌+◌, ◌<◌, ◌≤◌, [], length, replicate, vec_capacity, IfOk};
+ghost use Rattle.std.specs.Prelude.{◌≡◌, ◌+◌, ◌<◌, ◌≤◌, [], length, replicate, IfOk};
 ghost use Rattle.table_core.specs.Names.{IsIn, IsRising, rank, inserted, without};
 ghost use Rattle.table_core.specs.Tables.{place_of};
 ghost use Rattle.frame_core.specs.Address.{InRange};
 
 use arrayvec::ArrayVec;
-use frame_core::Address;
+use frame_core::{Address, FixedVec};
 use std::alloc::{AllocError, Global};
 use std::marker::Model;
 
@@ -61,14 +61,14 @@ impl Names {
     }
 }
 
-/// This many lists with no address, with a capacity of exactly as many, or an error where there is no memory for them.
-pub fn none_named(alloc: Global, count: usize) -> Result<Vec<Names>, AllocError>
+/// This many lists with no address, with room for no other, or an error where there is no memory for them.
+pub fn none_named(alloc: Global, count: usize) -> Result<FixedVec<Names>, AllocError>
     ensures items { IfOk result (λ lists. lists.items ≡ replicate count []) }
-    ensures capacity { IfOk result (λ lists. vec_capacity lists ≡ count) }
+    ensures room { IfOk result (λ lists. lists.room ≡ 0) }
 {
-    let mut lists = Vec::with_capacity(alloc, count)?;
+    let mut lists = FixedVec::with_room(alloc, count)?;
     for _ in 0..count {
-        lists.push_reserved(Names::none());
+        lists.push(Names::none());
     }
     Ok(lists)
 }

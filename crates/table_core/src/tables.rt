@@ -8,7 +8,7 @@ use crate::entries::Entries;
 use crate::entry::Entry;
 use crate::names::{Names, index_of, none_named};
 use arrayvec::ArrayVec;
-use frame_core::{Address, FrameNo, Serial};
+use frame_core::{Address, FixedVec, FrameNo, Serial};
 use std::alloc::{AllocError, Global};
 use std::marker::Model;
 
@@ -16,11 +16,11 @@ use std::marker::Model;
 #[derive(Drop)]
 pub struct Tables {
     pub(crate) entries: Entries,
-    lists: Vec<Names>,
+    lists: FixedVec<Names>,
 }
 
 impl Model for Tables {
-    ghost use Rattle.std.specs.Prelude.{◌≡◌, length, vec_capacity};
+    ghost use Rattle.std.specs.Prelude.{◌≡◌, length};
     ghost use Rattle.table_core.specs.Listed.{AreListed};
     ghost use Rattle.table_core.specs.Tables.{Tables as Kept};
 
@@ -28,9 +28,7 @@ impl Model for Tables {
 
     ghost view = { λ t. t.entries };
 
-    ghost invariant = { λ t. AreListed t.entries.entries t.lists.items
-        × (t.entries.frames ≡ length t.lists.items)
-        × (vec_capacity t.lists ≡ length t.lists.items) };
+    ghost invariant = { λ t. AreListed t.entries.entries t.lists.items × (t.entries.frames ≡ length t.lists.items) };
 }
 
 impl Tables {

@@ -3,25 +3,25 @@ ghost use Rattle.word_core.specs.Page.{blank_words};
 ghost use Rattle.word_core.specs.Words.{words_of, word_of, words_from, with_words, with_word, put_from};
 
 use crate::page::Page;
-use frame_core::{FrameNo, PageFlags, PageNo, WordOf, ZoneNo, filled};
+use frame_core::{FixedVec, FrameNo, PageFlags, PageNo, WordOf, ZoneNo};
 use std::alloc::{AllocError, Global};
 use std::marker::Model;
 
 /// The words of a zone's frames: a row for each frame.
 #[derive(Drop)]
 pub struct Words<const W: usize> {
-    rows: Vec<[u64; W]>,
+    rows: FixedVec<[u64; W]>,
 }
 
 impl<const W: usize> Model for Words<W> {
-    ghost use Rattle.std.specs.Prelude.{◌≡◌, ◌≤◌, ℕ, List, length, vec_len, vec_capacity};
+    ghost use Rattle.std.specs.Prelude.{◌≡◌, ◌≤◌, ℕ, List, length};
     ghost use Rattle.std.specs.List.{All};
 
     ghost Value = { List (List ℕ) };
 
     ghost view = { λ w. w.rows.items };
 
-    ghost invariant = { λ w. (vec_capacity w.rows ≡ vec_len w.rows) × (W ≤ 65536) × All (λ row. length row ≡ W) w.rows.items };
+    ghost invariant = { λ w. (W ≤ 65536) × All (λ row. length row ≡ W) w.rows.items };
 }
 
 impl<const W: usize> Words<W> {
@@ -31,7 +31,7 @@ impl<const W: usize> Words<W> {
         ensures blank { IfOk result (λ rows. rows ≡ replicate frames (blank_words W)) }
         ensures frames { IfOk result (λ rows. length rows ≡ frames) }
     {
-        let rows = filled(alloc, [0; W], frames as usize)?;
+        let rows = FixedVec::filled(alloc, [0; W], frames as usize)?;
         Ok(Words { rows })
     }
 

@@ -10,9 +10,9 @@ returns c =
     let movable = ap (λ (frames : Frames). length frames.movable) c.self.view_is in
     let same = kept_length z c.self.invariant in
     record {
-      len = omega (arith, states, same, c.len.ensures, z.kept.ok.0);
-      whole = omega (arith, states, same, c.len.ensures, z.kept.ok.0, c.self.invariant.whole);
-      some = omega (arith, same, c.len.ensures, z.kept.ok.0, c.self.invariant.whole, c.self.invariant.some);
-      few = omega (arith, same, c.len.ensures, z.kept.ok.0, c.self.invariant.whole, c.self.invariant.few);
+      len = omega (arith, states, same, c.len.ensures);
+      whole = omega (arith, states, same, c.len.ensures, c.self.invariant.whole);
+      some = omega (arith, same, c.len.ensures, c.self.invariant.whole, c.self.invariant.some);
+      few = omega (arith, same, c.len.ensures, c.self.invariant.whole, c.self.invariant.few);
       movable = omega (arith, states, movable, same, c.self.invariant.movable);
     }

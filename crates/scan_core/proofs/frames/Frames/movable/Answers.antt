@@ -11,7 +11,7 @@ index-requires c =
     let states = ap (λ (frames : Frames). length frames.states) c.self.view_is in
     let same = kept_length z c.self.invariant in
     let within : c.args.frame < length z.kept.items = omega (arith, c.requires, states, same) in
-    omega (arith, within, c.self.invariant.movable, z.movable.ok.0, c.get.ensures.value)
+    omega (arith, within, c.self.invariant.movable, c.get.ensures.value)
 
 pub returns : goal.returns
 returns c =

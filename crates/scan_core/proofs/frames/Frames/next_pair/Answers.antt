@@ -14,7 +14,7 @@ use Rattle.scan_core.proofs.frames.Frames.next_pair.Goals as goal
 pub next_told-requires-clause-high : goal.next_told-requires-clause-high
 next_told-requires-clause-high c =
     let states = ap (λ (frames : Frames). length frames.states) c.self.view_is in
-    omega (arith, c.requires.high, states, kept_length c.self.inside c.self.invariant, c.deref.ensures.len, c.self.inside.kept.ok.0)
+    omega (arith, c.requires.high, states, kept_length c.self.inside c.self.invariant, ap length c.deref.ensures.value)
 
 told : (z : Inside) → IsSound z → (kept : List FrameState) (numbers : set.FinSet nat_cmp) → kept ≡ z.kept.items → numbers ≡ z.free → IsTold (seen z.held z.kept.items) kept numbers
 told z sound kept numbers same free =
@@ -36,4 +36,4 @@ returns-clause-step c = c.next_told.ensures.step _ (told c.self.inside c.self.in
 pub returns-clause-high : goal.returns-clause-high
 returns-clause-high c =
     let states = ap (λ (frames : Frames). length frames.states) c.self.view_is in
-    omega (arith, c.next_told.ensures.high, states, kept_length c.self.inside c.self.invariant, c.deref.ensures.len, c.self.inside.kept.ok.0)
+    omega (arith, c.next_told.ensures.high, states, kept_length c.self.inside c.self.invariant, ap length c.deref.ensures.value)

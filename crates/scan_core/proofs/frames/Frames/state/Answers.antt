@@ -15,7 +15,7 @@ index-requires c =
     let states = ap (λ (frames : Frames). length frames.states) c.self.view_is in
     let same = kept_length z c.self.invariant in
     let within : c.args.frame < length z.kept.items = omega (arith, c.requires, states, same) in
-    omega (arith, within, z.kept.ok.0, c.get.ensures.value)
+    omega (arith, within, c.get.ensures.value)
 
 pub returns-then-contains : goal.returns-then-contains
 returns-then-contains c =

@@ -1,4 +1,4 @@
-use Rattle.std.proofs.Common.{◌≡◌, ◌≢◌, ℕ, true, false, List, length, take, drop, ◌++◌, ap, sym, subst, ◌∙◌, arith}
+use Rattle.std.proofs.Common.{◌≡◌, ◌≢◌, ℕ, true, false, List, length, take, drop, ◌++◌, ap, refl, sym, subst, ◌∙◌, arith}
 use Rattle.std.specs.Prelude.{Option, None, slice_get, slice_set, ◌↔◌}
 use Rattle.std.proofs.lemmas.List.{length-set}
 use Rattle.frame_core.specs.Address.{InRange}
@@ -13,10 +13,8 @@ use Rattle.table_core.proofs.entries.Entries.to_present.Goals as goal
 use Rattle.table_core.proofs.entries.Entries.to_present.Goals.{After-list_under}
 
 -- the frames of all addresses are those that were written
-written : (c : After-list_under) → take c.self.inside.frames.len (c.list_under.new.frames ++ drop (length c.list_under.new.frames) c.self.inside.frames.items) ≡ c.list_under.new.frames
-written c =
-    let ok = c.self.inside.frames.ok.0 in
-    rewritten c.self.inside.frames.items c.list_under.new.frames c.self.inside.frames.len (omega (arith, ok, c.list_under.ensures.count, c.self.invariant.0.count)) (omega (arith, ok))
+written : (c : After-list_under) → take (length c.self.inside.frames.items) (c.list_under.new.frames ++ drop (length c.list_under.new.frames) c.self.inside.frames.items) ≡ c.list_under.new.frames
+written c = rewritten c.self.inside.frames.items c.list_under.new.frames (length c.self.inside.frames.items) (omega (arith, c.list_under.ensures.count, c.self.invariant.count)) refl
 
 others : (c : After-list_under) → (place : ℕ) → ((a : Address) → IsIn c.args.names.now a → place_of a ≢ place) →
     slice_get c.list_under.new.frames place ≡ slice_get c.self.inside.frames.items place
@@ -27,12 +25,9 @@ invariant_of-self c =
     let z = c.self.inside in
     let first = slice_set z.serials.items c.get.result None in
     let more = slice_set first c.get-2.result None in
-    let count : length more ≡ length z.serials.items = length-set first c.get-2.result None ∙ length-set z.serials.items c.get.result None in (
-      subst (AreKept more) (sym (written c.before)) (kept_come z.serials.items more z.frames.items c.list_under.new.frames c.args.names.now c.args.frame c.self.invariant.0 count c.list_under.ensures.count
-          (omega (arith, c.requires.within, ap (λ (t : Tables). t.frames) c.self.view_is)) c.list_under.ensures.named (others c.before)),
-      c.self.invariant.1,
-      c.self.invariant.2 ∙ sym count,
-    )
+    let count : length more ≡ length z.serials.items = length-set first c.get-2.result None ∙ length-set z.serials.items c.get.result None in
+    subst (AreKept more) (sym (written c.before)) (kept_come z.serials.items more z.frames.items c.list_under.new.frames c.args.names.now c.args.frame c.self.invariant count c.list_under.ensures.count
+    (omega (arith, c.requires.within, ap (λ (t : Tables). t.frames) c.self.view_is)) c.list_under.ensures.named (others c.before))
 
 pub returns-clause-replaced : goal.returns-clause-replaced
 returns-clause-replaced c =
@@ -42,11 +37,11 @@ returns-clause-replaced c =
     let to = Present c.args.frame in
     let frames = ap (λ (t : Tables). t.frames) c.self.view_is in
     let same = λ (a : Address). ap (λ (t : Tables). entry_at t.entries a) c.self.view_is in
-    subst (λ (t : Tables). Replaces t.entries (entries_of (slice_set (slice_set s c.get.result None) c.get-2.result None) (take z.frames.len (c.list_under.new.frames ++ drop (length c.list_under.new.frames) z.frames.items))) from to) c.self.view_is
-    (subst (λ (k : ℕ). Replaces (entries_of s z.frames.items) (entries_of (slice_set (slice_set s c.get.result None) k None) (take z.frames.len (c.list_under.new.frames ++ drop (length c.list_under.new.frames) z.frames.items))) from to) (sym c.get-2.ensures.value)
-    (subst (λ (k : ℕ). Replaces (entries_of s z.frames.items) (entries_of (slice_set (slice_set s k None) c.args.frame None) (take z.frames.len (c.list_under.new.frames ++ drop (length c.list_under.new.frames) z.frames.items))) from to) (sym c.get.ensures.value)
+    subst (λ (t : Tables). Replaces t.entries (entries_of (slice_set (slice_set s c.get.result None) c.get-2.result None) (take (length z.frames.items) (c.list_under.new.frames ++ drop (length c.list_under.new.frames) z.frames.items))) from to) c.self.view_is
+    (subst (λ (k : ℕ). Replaces (entries_of s z.frames.items) (entries_of (slice_set (slice_set s c.get.result None) k None) (take (length z.frames.items) (c.list_under.new.frames ++ drop (length c.list_under.new.frames) z.frames.items))) from to) (sym c.get-2.ensures.value)
+    (subst (λ (k : ℕ). Replaces (entries_of s z.frames.items) (entries_of (slice_set (slice_set s k None) c.args.frame None) (take (length z.frames.items) (c.list_under.new.frames ++ drop (length c.list_under.new.frames) z.frames.items))) from to) (sym c.get.ensures.value)
     (subst (λ (new : List (Option ℕ)). Replaces (entries_of s z.frames.items) (entries_of (slice_set (slice_set s c.args.source None) c.args.frame None) new) from to) (sym (written c.before))
-    (entries_come s z.frames.items c.list_under.new.frames c.args.names.now c.args.serial c.args.source c.args.frame c.self.invariant.0.count
+    (entries_come s z.frames.items c.list_under.new.frames c.args.names.now c.args.serial c.args.source c.args.frame c.self.invariant.count
     (omega (arith, c.requires.source_within, frames)) (omega (arith, c.requires.within, frames))
     (subst (λ (t : Tables). (a : Address) → IsIn c.args.names.now a ↔ (InRange a × (entry_at t.entries a ≡ from))) (sym c.self.view_is) c.requires.named)
     (subst (λ (t : Tables). (a : Address) → is_listed (entry_at t.entries a) c.args.source ≡ true → entry_at t.entries a ≡ from) (sym c.self.view_is) c.requires.left)

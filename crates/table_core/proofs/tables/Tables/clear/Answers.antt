@@ -22,7 +22,7 @@ within : (c : After-get-in-Present) → c.get-in-Present.result < length c.self.
 within c = omega (arith, c.get-in-Present.ensures.value, c.self.invariant.0.within c.args.address c.in-Present.frame (is_under c))
 
 pub index_mut-requires : goal.index_mut-requires
-index_mut-requires c = omega (arith, within c, c.self.inside.lists.ok.0)
+index_mut-requires c = omega (arith, within c)
 
 at : (c : After-index_mut) → slice_get c.self.inside.lists.items c.in-Present.frame ≡ Some c.index_mut.result.now
 at c = list_read c.self.inside.lists.items c.in-Present.frame c.get-in-Present.result c.index_mut.result.now c.get-in-Present.ensures.value (within c.before) c.index_mut.ensures.value
@@ -52,7 +52,6 @@ invariant_of-self c =
           (listed_clear z.entries.entries c.clear.new.self.entries z.lists.items c.args.address c.in-Present.frame c.index_mut.result.now c.self.invariant.0 c.index_of-place.ensures.in_range
           count (change c.before.before.before) (entry_is c.before.before.before.before) (at c.before.before.before)),
       ap (λ (t : Tables). t.frames) c.clear.ensures ∙ c.self.invariant.1 ∙ sym (length-set z.lists.items c.get-in-Present.result c.remove.new.self),
-      c.self.invariant.2 ∙ sym (length-set z.lists.items c.get-in-Present.result c.remove.new.self),
     )
 
 pub returns-in-Present-clause-cleared : goal.returns-in-Present-clause-cleared

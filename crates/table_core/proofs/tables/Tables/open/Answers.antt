@@ -11,5 +11,4 @@ invariant_of-result c =
       subst (AreListed c.in_ok-open.field-0.entries) (sym lists)
           (listed_none c.in_ok-open.field-0.entries (512 * c.args.blocks) c.in_ok-open.ensures.count c.in_ok-open.ensures.blank),
       c.in_ok-open.ensures.frames ∙ sym count,
-      c.in_ok-none_named.ensures.capacity ∙ sym count,
     )

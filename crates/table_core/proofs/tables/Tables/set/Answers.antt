@@ -49,7 +49,6 @@ invariant_of-self c =
           (listed_set z.entries.entries c.set.new.self.entries z.lists.items c.args.address c.args.frame c.index_mut.result.now c.self.invariant.0 c.index_of.ensures.in_range
           count (change c.before.before) absent (at c.before.before) (room c.before.before)),
       ap (λ (t : Tables). t.frames) c.set.ensures ∙ c.self.invariant.1 ∙ sym (length-set z.lists.items c.get.result c.insert.new.self),
-      c.self.invariant.2 ∙ sym (length-set z.lists.items c.get.result c.insert.new.self),
     )
 
 pub returns-clause-set : goal.returns-clause-set

@@ -16,5 +16,4 @@ invariant_of-self c =
           (c.to_migration.ensures.count ∙ c.self.invariant.0.count) c.to_migration.ensures.replaced
           (λ a source range e. c.requires.fresh a source range (sym (ap (λ (t : Tables). entry_at t.entries a) c.self.view_is) ∙ e)),
       c.to_migration.ensures.frames ∙ c.self.invariant.1,
-      c.self.invariant.2,
     )

@@ -25,8 +25,8 @@ invariant_of-self c =
     let source_in : c.args.source < length z.lists.items = omega (arith, frames, c.self.invariant.1, c.requires.source_within) in
     let frame_in : c.args.frame < length z.lists.items = omega (arith, frames, c.self.invariant.1, c.requires.within) in
     let swapped = subst (λ (k : ℕ). SwappedAt z.lists.items c.swap.new.self.items k c.args.frame) c.get-2.ensures.value
-    (subst (λ (k : ℕ). SwappedAt z.lists.items c.swap.new.self.items c.get-2.result k) c.get-3.ensures.value c.swap.ensures.by_index) in
-    let count : length c.swap.new.self.items ≡ length z.lists.items = omega (arith, c.swap.ensures.len, c.swap.new.self.ok.0, z.lists.ok.0) in (
+    (subst (λ (k : ℕ). SwappedAt z.lists.items c.swap.new.self.items c.get-2.result k) c.get-3.ensures.value c.swap.ensures.items) in
+    let count : length c.swap.new.self.items ≡ length z.lists.items = c.swap.ensures.len in (
       listed_ended z.entries.entries c.to_present.new.self.entries z.lists.items c.swap.new.self.items c.args.serial c.args.source c.args.frame c.self.invariant.0
           (c.to_present.ensures.count ∙ c.self.invariant.0.count) c.to_present.ensures.replaced
           (swapped_at z.lists.items c.swap.new.self.items c.args.source c.args.frame source_in frame_in count swapped)
@@ -34,5 +34,4 @@ invariant_of-self c =
           (λ ne a range. ap (λ (t : Tables). is_listed (entry_at t.entries a) c.args.frame) c.self.view_is ∙ c.requires.unnamed ne a range)
           source_in frame_in,
       c.to_present.ensures.frames ∙ c.self.invariant.1 ∙ sym count,
-      c.swap.ensures.capacity ∙ c.self.invariant.2 ∙ sym count,
     )
