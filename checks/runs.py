@@ -16,6 +16,7 @@ import sys
 ROOT = pathlib.Path(__file__).resolve().parent.parent
 BUILT = ROOT / "crates/compactd/out/compactd"
 FLAGS = ["-shared", "-fPIC", "-fuse-ld=lld", "-nostdlib", "-O1", "-fno-builtin"]
+PARTS = ("src", "specs", "proofs")  # of a crate that is proved
 
 Ran = collections.namedtuple("Ran", "status output error")
 chosen = BUILT
@@ -71,6 +72,14 @@ def preload(name, folder):
     if built.status != 0:
         raise Failed(f"{source} isn't compiled: {built.error.decode(errors='replace')}")
     return library
+
+
+def copy_sources(folder):
+    """Copies what is proved into a folder: the list of the crates and their sources, definitions and proofs."""
+    for name in ("HANDLES", "crates.txt"):
+        shutil.copy2(ROOT / name, folder)
+    for part in (path for name in PARTS for path in ROOT.glob(f"crates/*/{name}")):
+        shutil.copytree(part, folder / part.relative_to(ROOT))
 
 
 def rt():

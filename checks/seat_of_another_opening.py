@@ -6,14 +6,12 @@ repository. One function of it ends a move with the zone's own seat, and the sam
 another zone. The types of the second call alone have to be refused, which takes no proof."""
 
 import pathlib
-import shutil
 import tempfile
 
 import runs
 
 CRATE = "other_seat"
 LIBRARIES = "word_core zone_core"
-PARTS = ("src", "specs", "proofs")
 WANTED = "error[mismatched-types]: expected `&mut EndSeat<M, B>`, found `&mut EndSeat<P, Q>`"
 
 HEAD = """//! Ends a move in one of two zones.
@@ -42,10 +40,9 @@ def function(name, seat):
 
 def copy_repository(folder):
     """A copy of what is proved, with one crate more, whose folder this gives."""
-    shutil.copy2(runs.ROOT / "HANDLES", folder)
-    (folder / "crates.txt").write_text((runs.ROOT / "crates.txt").read_text() + f"{CRATE}: {LIBRARIES}\n")
-    for part in (path for name in PARTS for path in runs.ROOT.glob(f"crates/*/{name}")):
-        shutil.copytree(part, folder / part.relative_to(runs.ROOT))
+    runs.copy_sources(folder)
+    with open(folder / "crates.txt", "a") as crates:
+        crates.write(f"{CRATE}: {LIBRARIES}\n")
     crate = folder / "crates" / CRATE
     (crate / "src").mkdir(parents=True)
     return crate

@@ -2,7 +2,7 @@
 use Rattle.std.proofs.Common.{◌≡◌, ◌≢◌, ℕ, ◌+◌, ◌-◌, ◌^◌, ◌<◌, ◌≤◌, false, ◌⊎◌, List, length, inl, inr, refl, sym, subst, ap, ◌∙◌, arith}
 use Rattle.std.specs.Prelude.{Option, Some, None, is_some, slice_set, IsTrue, ◌||◌}
 use Rattle.std.specs.Option.{option_and_then}
-use Rattle.std.specs.Vec.{with_item}
+use Rattle.frame_core.specs.FixedVec.{with_item}
 use Rattle.std.proofs.Math.Bool.{or-false}
 use Rattle.std.proofs.lemmas.Bool.{and_left, and_right, both_ways, le-ltb, lt-leb, or_right}
 use Rattle.std.proofs.lemmas.List.{length-set}
@@ -96,7 +96,6 @@ module _ (z : Inside) (counted : IsCounted z) (first order : ℕ) (can : CanTake
   pub taken_counted : IsCounted (record z { orders = with_item z.orders first (Some order); blocks = z.blocks + 1; frames = z.frames + 2 ^ order })
   taken_counted = record {
     few = omega (arith, counted.few, same_taken);
-    room = counted.room ∙ same_taken;
     blocks = omega (arith, counted.blocks, more_blocks old taken first order one_taken same_taken within_taken can.clear);
     frames = omega (arith, counted.frames, more_frames old taken first order one_taken same_taken within_taken can.clear);
   }
@@ -131,7 +130,6 @@ module _ (z : Inside) (counted : IsCounted z) (first order : ℕ) (can : CanGive
   pub given_counted : IsCounted (record z { orders = with_item z.orders first None; blocks = z.blocks - 1; frames = z.frames - 2 ^ order })
   given_counted = record {
     few = omega (arith, counted.few, same_given);
-    room = counted.room ∙ sym same_given;
     blocks = omega (arith, fewer_blocks);
     frames = omega (arith, fewer_frames);
   }

@@ -4,7 +4,7 @@ use Rattle.std.specs.Prelude.{Option, Some, None, is_some, is_none, nat_eq, nat_
 use Rattle.std.specs.FinSet as set
 use Rattle.std.specs.Ordering.{nat_cmp}
 use Rattle.std.specs.Option.{option_and_then}
-use Rattle.std.specs.Vec.{with_item}
+use Rattle.frame_core.specs.FixedVec.{with_item}
 use Rattle.std.proofs.lemmas.Bool.{lt-ltb}
 use Rattle.std.proofs.lemmas.Bool.Decides.{eqb_tells}
 use Rattle.std.proofs.lemmas.List.{length-set}
@@ -94,7 +94,6 @@ module _ (z : Inside) (counted : IsCounted z) (page : ℕ) (note : Note) (within
     pub gained_counted : is_in_use z.notes.items page ≡ false → is ≡ true → IsCounted (record z { notes = with_item z.notes page note; in_use = z.in_use + 1; unused = unused })
     gained_counted was so = record {
       few = omega (arith, counted.few, length-set z.notes.items page note);
-      room = counted.room ∙ sym (length-set z.notes.items page note);
       in_use = omega (arith, counted.in_use, gained z.notes.items page note within was (sym used ∙ so));
       unused = unused_then unused number is at used put;
     }
@@ -102,7 +101,6 @@ module _ (z : Inside) (counted : IsCounted z) (page : ℕ) (note : Note) (within
     pub lost_counted : is_in_use z.notes.items page ≡ true → is ≡ false → IsCounted (record z { notes = with_item z.notes page note; in_use = z.in_use - 1; unused = unused })
     lost_counted was so = record {
       few = omega (arith, counted.few, length-set z.notes.items page note);
-      room = counted.room ∙ sym (length-set z.notes.items page note);
       in_use = omega (arith, counted.in_use, lost z.notes.items page note within was (sym used ∙ so));
       unused = unused_then unused number is at used put;
     }
@@ -110,7 +108,6 @@ module _ (z : Inside) (counted : IsCounted z) (page : ℕ) (note : Note) (within
     pub kept_counted : is_in_use z.notes.items page ≡ is → IsCounted (record z { notes = with_item z.notes page note; unused = unused })
     kept_counted same = record {
       few = omega (arith, counted.few, length-set z.notes.items page note);
-      room = counted.room ∙ sym (length-set z.notes.items page note);
       in_use = counted.in_use ∙ sym (kept z.notes.items page note within (same ∙ used));
       unused = unused_then unused number is at used put;
     }

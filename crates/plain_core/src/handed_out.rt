@@ -5,14 +5,14 @@ ghost use Rattle.frame_core.specs.Below.{count_below};
 ghost use Rattle.plain_core.specs.HandedOut.{order_of, held_at};
 ghost use Rattle.state_core.specs.ZoneState.{covers};
 
-use frame_core::{FrameNo, Order, filled};
+use frame_core::{FixedVec, FrameNo, Order};
 use std::alloc::{AllocError, Global};
 use std::marker::Model;
 
 /// The order of each block that is handed out, by its first frame.
 #[derive(Drop)]
 pub struct HandedOut {
-    orders: Vec<Option<Order>>,
+    orders: FixedVec<Option<Order>>,
     blocks: u32,
     frames: u32,
 }
@@ -36,7 +36,7 @@ impl HandedOut {
         requires { frames ≤ 4096 }
         ensures { IfOk result (λ orders. orders ≡ replicate frames None) }
     {
-        let orders = filled(alloc, None, frames as usize)?;
+        let orders = FixedVec::filled(alloc, None, frames as usize)?;
         Ok(HandedOut {
             orders,
             blocks: 0,

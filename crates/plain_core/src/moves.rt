@@ -2,7 +2,7 @@
 
 ghost use Rattle.std.specs.Prelude.{◌≡◌, ◌+◌, ◌<◌, ◌++◌, [], ◌∷◌, length, slice_get, IfOk};
 
-use frame_core::{PageNo, Serial};
+use frame_core::{FixedVec, PageNo, Serial};
 use state_core::Audit;
 use std::alloc::{AllocError, Global};
 use std::marker::Model;
@@ -10,7 +10,7 @@ use std::marker::Model;
 /// The pages that were isolated, by serial, and how many of them are out and how many were put back. The others were moved.
 #[derive(Drop)]
 pub struct Moves {
-    pages: Vec<PageNo>,
+    pages: FixedVec<PageNo>,
     places: u32,
     out: u32,
     back: u32,
@@ -34,7 +34,7 @@ impl Moves {
     pub fn open(alloc: Global, places: u32) -> Result<Self, AllocError>
         ensures { IfOk result (λ moves. moves ≡ record { pages = []; places = places; moved = 0; back = 0 }) }
     {
-        let pages = Vec::with_capacity(alloc, places as usize)?;
+        let pages = FixedVec::with_room(alloc, places as usize)?;
         Ok(Moves {
             pages,
             places,
@@ -71,7 +71,7 @@ impl Moves {
         ensures pages { self.new ≡ record self.old { pages = self.old.pages ++ page ∷ [] } }
     {
         let serial = self.isolated();
-        self.pages.push_reserved(page);
+        self.pages.push(page);
         self.out += 1;
         serial
     }

@@ -7,7 +7,7 @@ ghost use Rattle.plain_core.specs.Notes.{placement_of, is_in_use, unused_note};
 ghost use Rattle.plain_core.specs.declared.note.Note.{Note as Noted};
 
 use crate::note::Note;
-use frame_core::{PageNo, filled};
+use frame_core::{FixedVec, PageNo};
 use scan_core::NumberSet;
 use state_core::Placement;
 use std::alloc::{AllocError, Global};
@@ -16,7 +16,7 @@ use std::marker::Model;
 /// The notes of a zone, by page number.
 #[derive(Drop)]
 pub struct Notes {
-    notes: Vec<Note>,
+    notes: FixedVec<Note>,
     /// How many page numbers are in use.
     in_use: u32,
     /// The page numbers that aren't in use.
@@ -42,7 +42,7 @@ impl Notes {
         requires { count ≤ 4096 }
         ensures { IfOk result (λ notes. notes ≡ replicate count unused_note) }
     {
-        let notes = filled(alloc, Note::unused(), count as usize)?;
+        let notes = FixedVec::filled(alloc, Note::unused(), count as usize)?;
         Ok(Notes {
             notes,
             in_use: 0,

@@ -1,6 +1,6 @@
 use Rattle.std.proofs.Common.{◌-◌, arith, sym, subst, ℕ}
 use Rattle.std.specs.Prelude.{None}
-use Rattle.std.specs.Vec.{with_item}
+use Rattle.frame_core.specs.FixedVec.{with_item}
 use Rattle.plain_core.specs.HandedOutInside.{IsCounted}
 use Rattle.plain_core.proofs.BlockOrders.{can_give, given_counted, given_some}
 use Rattle.plain_core.proofs.handed_out.HandedOut.give.Goals as goal

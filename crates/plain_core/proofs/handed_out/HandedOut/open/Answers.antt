@@ -15,7 +15,6 @@ invariant_of-result c =
     let count : length orders ≡ c.args.frames = ap length items ∙ length-replicate c.args.frames None in
     record {
       few = omega (arith, count, c.requires);
-      room = c.in_ok-orders.ensures.capacity ∙ sym count;
       blocks = sym (count_none (λ first. is_some (order_of orders first)) (length orders) (λ first h. ap is_some (none first)));
       frames = sym (count_none (held_at orders) (length orders) (λ frame h. none_some (λ first. covers (order_of orders first) first frame) (length orders) (λ first below. ap (λ (o : Option ℕ). covers o first frame) (none first))));
     }

@@ -1,6 +1,6 @@
 use Rattle.std.proofs.Common.{◌+◌, arith, sym, subst, ℕ}
 use Rattle.std.specs.Prelude.{Some}
-use Rattle.std.specs.Vec.{with_item}
+use Rattle.frame_core.specs.FixedVec.{with_item}
 use Rattle.plain_core.specs.HandedOutInside.{IsCounted}
 use Rattle.plain_core.proofs.BlockOrders.{can_take, taken_counted, taken_few}
 use Rattle.plain_core.proofs.handed_out.HandedOut.take.Goals as goal

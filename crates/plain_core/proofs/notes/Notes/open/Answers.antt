@@ -14,7 +14,6 @@ invariant_of-result c =
     let count = ap length items ∙ length-replicate c.args.count unused_note in
     record {
       few = omega (arith, count, c.requires);
-      room = c.in_ok-notes.ensures.capacity ∙ sym count;
       in_use = sym (count_none (is_in_use c.in_ok-notes.notes.items) _ (λ page h. ap (λ (notes : List Note). is_in_use notes page) items ∙ ap is_some (no_placement c.args.count page)));
       unused = λ page. c.numbers_below.ensures page ∙ sym (and_true (nat_lt page c.args.count))
           ∙ (λ i. nat_lt page (sym count i) && sym (ap is_none (ap (λ (notes : List Note). placement_of notes page) items ∙ no_placement c.args.count page)) i);

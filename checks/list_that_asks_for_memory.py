@@ -1,0 +1,69 @@
+"""The list of a journal can't ask for memory, and no list of a zone can.
+
+A `Vec` has the allocator that it was made with. So a body that has one can clone it or let it grow, and where it drops what
+it made, no clause sees that. The lists of a zone are of the type `FixedVec`, of which only its own file reaches the `Vec`.
+What asks for memory doesn't compile elsewhere, and the must-fail edits are for what compiles and isn't proved. So this check
+plants such lines in `Journal::push`, in a copy of the repository. Each has to be refused, and nothing else, which takes no
+proof. It also looks that the crates of a zone name no other type that has an allocator."""
+
+import pathlib
+import re
+import tempfile
+
+import runs
+
+ZONE = "frame_core word_core journal_core table_core scan_core state_core plain_core zone_core".split()
+REACHES = "crates/frame_core/src/fixed_vec.rt"
+OWNERS = re.compile(r"\b(Vec|VecDeque|Box|String|Rc|Arc|HashMap|BTreeMap|HashSet|BTreeSet|BinaryHeap|LinkedList)\b")
+FIELDS = re.compile(r"^(?:pub )?(?:struct|enum|union) .*?^}", re.DOTALL | re.MULTILINE)
+
+FILE = "crates/journal_core/src/journal.rt"
+PUSH = "        self.records.push(entry);\n"
+ASKS = {
+    "let _copy = self.records.clone();": "the method `clone` exists for `FixedVec<Record>`, but its bounds are not met",
+    "let _more = self.records.reserve(1);": "no method named `reserve` found for type `FixedVec<Record>`",
+    "let _from = self.records.allocator();": "no method named `allocator` found for type `FixedVec<Record>`",
+    "let _list = &self.records.list;": "field `list` of struct `FixedVec` is private",
+}
+
+
+def is_without(text):
+    """Whether a file names no type with an allocator, and none of its types has one in a field."""
+    code = re.sub(r"//.*", "", text)
+    return not OWNERS.search(code) and not any("Global" in fields for fields in FIELDS.findall(code))
+
+
+def owners():
+    """The files of a zone's crates that name a type with an allocator, but for that of `FixedVec`."""
+    files = (path for crate in ZONE for path in sorted(runs.ROOT.glob(f"crates/{crate}/src/**/*.rt")))
+    return [name for path in files if (name := str(path.relative_to(runs.ROOT))) != REACHES and not is_without(path.read_text())]
+
+
+def refused(asks):
+    """Why the journal isn't compiled, with these lines planted in its `push`."""
+    with tempfile.TemporaryDirectory() as folder:
+        folder = pathlib.Path(folder)
+        runs.copy_sources(folder)
+        source = folder / FILE
+        text = source.read_text()
+        if text.count(PUSH) != 1:
+            raise runs.Failed(f"{FILE} has no line to plant another before")
+        source.write_text(text.replace(PUSH, "".join(f"        {line}\n" for line in asks) + PUSH))
+        checked = runs.finished([runs.rt(), "check"], cwd=source.parent.parent)
+    log = (checked.output + checked.error).decode(errors="replace")
+    if checked.status == 0:
+        raise runs.Failed("a journal that asks for memory is proved")
+    return [line for line in log.splitlines() if ": error" in line]
+
+
+def main():
+    if found := owners():
+        raise runs.Failed("\n".join(["a zone has a type with an allocator:", *found]))
+    errors = refused(ASKS)
+    if len(errors) != len(ASKS) or not all(any(wanted in error for error in errors) for wanted in ASKS.values()):
+        raise runs.Failed("\n".join(["the journal is refused, but not for each line that asks for memory:", *errors]))
+    return f"{len(ASKS)} ways in which a list of a zone would ask for memory don't compile"
+
+
+if __name__ == "__main__":
+    runs.start(main)
