@@ -12,3 +12,6 @@ invariant_of-result g c =
     rw (c.in_ok-zone.ensures.zone, c.in-Ok.ensures.items, c.new.ensures)
     (carried_closed (opened a.number a.blocks a.places) c.in_ok-zone.scan c.in_ok-zone.ends (subst IsLawful c.in_ok-zone.ensures.zone c.in_ok-zone.ensures.lawful)
     (ap (λ (seat : EndSeat). seat.parts) c.in_ok-zone.ensures.ends) (λ serial. refl) (deque_capacity c.in-Ok.waiting) c.in-Ok.ensures.exact)
+
+pub returns-clause-orderly : goal.returns-clause-orderly
+returns-clause-orderly g c = (invariant_of-result g c).orderly
