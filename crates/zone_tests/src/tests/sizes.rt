@@ -101,7 +101,8 @@ impl<const W: usize, I: Ledger, N: Ledger, M: Ledger, B: Ledger> Paged<W, I, N, 
     {
         let first = WordOf::new(0).expect(rt, "a word");
         let words = [7; W];
-        assert!(rt; self.write(rt, first, &words) == Err(ZoneError::JournalFull));
+        let words = &words[..];
+        assert!(rt; self.write(rt, first, words) == Err(ZoneError::JournalFull));
         assert!(rt; self.zone.journal().len() == 1);
         assert!(rt; self.write(rt, first, &words[1..]) == Ok(()));
         assert!(rt; self.zone.journal().len() == W);
