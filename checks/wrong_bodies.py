@@ -107,8 +107,8 @@ def missing_in_first_part(text, standing):
 def is_test(crate, name):
     """Whether a crate has a test of this name."""
     source = runs.ROOT / "crates" / crate / "src"
-    files = [source / "tests.rt", *source.glob("tests/**/*.rt")]
-    return any(f"fn {name}(" in file.read_text() for file in files if file.exists())
+    files = [*source.glob("**/tests.rt"), *source.glob("**/tests/**/*.rt")]
+    return any(f"fn {name}(" in file.read_text() for file in files)
 
 
 def main():

@@ -1,7 +1,8 @@
 -- Which of the pages received were answered, where the last of them are still in hand.
-use Rattle.std.proofs.Common.{◌≡◌, ◌-◌, List, [], ◌∷◌, ◌++◌, length, take, Some, None, Option, MatchOption, IfSome, ap, sym, ◌∙◌, append_assoc, append-nil, length-append, arith}
+use Rattle.std.proofs.Common.{◌≡◌, ℕ, ◌-◌, ◌<◌, ◌≤◌, ⊎_elim, List, [], ◌∷◌, ◌++◌, length, take, Some, None, Option, MatchOption, IfSome, ap, sym, ◌∙◌, append_assoc, append-nil, length-append, arith}
 use Rattle.std.specs.Option.{option_to_list}
 use Rattle.std.proofs.Math.Seq.{take-append_seam}
+use Rattle.std.proofs.lemmas.Bool.{cases_lt}
 use Rattle.word_core.specs.Page.{OnItsWay}
 use Rattle.hand_core.specs.Handfuls.{before_hand}
 
@@ -42,3 +43,7 @@ next_taken came before in_hand rest None is none = tt
 next_taken came before in_hand rest (Some p) is first =
     let now = ap (λ l. before_hand l rest) (hand_step came before in_hand rest (Some p) is first) ∙ before_hand_is (before ++ p ∷ []) rest in
     let was = ap (λ l. before_hand l in_hand) is ∙ before_hand_is before in_hand in now ∙ ap (λ l. l ++ p ∷ []) (sym was)
+
+-- a single page always fits in a handful
+pub fits : (count most : ℕ) → 0 < most → (1 < count → count ≤ most) → count ≤ most
+fits count most some several = ⊎_elim (λ (more : 1 < count). several more) (λ (single : count ≤ 1). omega arith) (cases_lt 1 count)

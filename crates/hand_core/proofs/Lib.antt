@@ -1,3 +1,4 @@
+pub mod CopyRoom
 pub mod CopySteps
 pub mod EachEnd
 pub mod HandedOver

@@ -16,9 +16,11 @@ use Rattle.hand_core.specs.Handfuls.{before_hand}
 abbrev pub Way : Type 0
 Way = QueueName Message
 
--- a sender: its queue, its number, the copies that it sent, in their order, whether it put its mark, and whether it is closed
+-- a sender: its queue, how many copies a handful has at most, its number, the copies that it sent, in their order, whether it put its
+-- mark, and whether it is closed
 pub record DoneSender : Type 0 where
   pub way : Way
+  pub most : ℕ
   pub number : ℕ
   pub sent : List OnItsWay
   pub marked : Bool

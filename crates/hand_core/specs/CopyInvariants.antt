@@ -1,18 +1,22 @@
 -- What holds of the fields of a sender of copies, and of the taker.
-use Rattle.std.specs.Prelude.{◌≡◌, ◌≤◌, true, false, Bool, List, [], ◌∷◌, ◌++◌}
+use Rattle.std.specs.Prelude.{◌≡◌, ◌<◌, ◌≤◌, true, false, Bool, List, [], ◌∷◌, ◌++◌, All, length}
 use Rattle.crossbeam_channel.specs.Claims.{view, IsSeatAt}
 use Rattle.crossbeam_channel.specs.Ends.{sends_on, receives_on}
 use Rattle.hand_core.specs.declared.done_sender.DoneSender.TheInside as sender
 use Rattle.hand_core.specs.declared.done_taker.DoneTaker.TheInside as taker
 use Rattle.hand_core.specs.declared.copy_queue.Message.{Message}
 use Rattle.hand_core.specs.CopyEnds.{has_mark, copies_in}
+use Rattle.hand_core.specs.Handfuls.{Handful}
 use Rattle.word_core.specs.Page.{OnItsWay}
 
--- the sender's pass is a seat at its channel, and it put no mark unless it is closed
+-- the sender's pass is a seat at its channel, it sent no handful of more copies than one may have, and it put no mark unless it is
+-- closed
 pub record IsSending (s : sender.Inside) : Type 0 where
   pub seat : IsSeatAt (sends_on s.to) s.pass
   pub sends : (view s.pass).sends ≡ true
   pub sender : (view s.pass).sender ≡ s.number
+  pub small : All (λ (h : Handful). length h.items ≤ s.most) (view s.pass).sent
+  pub some : (0 < s.most) × (s.most ≤ 8)
   pub fresh : s.closed ≡ false → (view s.pass).marked ≡ false
 
 -- for each of four senders whether its mark is among some messages

@@ -1,6 +1,7 @@
 pub mod CopyEnds
 pub mod CopyInvariants
 pub mod CopyQueue
+pub mod CopyRoom
 pub mod Errors
 pub mod HandedOver
 pub mod Handfuls

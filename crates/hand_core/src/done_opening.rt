@@ -1,4 +1,4 @@
-ghost use Rattle.std.specs.Prelude.{◌≡◌, ◌<◌, ◌≤◌, ◌↔◌, ℕ, false, [], IfOk, vec_len, slice_get, Some, OnOk, vec_capacity};
+ghost use Rattle.std.specs.Prelude.{◌≡◌, ◌*◌, ◌/◌, ◌<◌, ◌≤◌, ◌↔◌, ℕ, false, [], IfOk, vec_len, slice_get, Some, OnOk, vec_capacity};
 ghost use Rattle.crossbeam_channel.specs.Claims.{view, IsSeatAt};
 ghost use Rattle.crossbeam_channel.specs.Ends.{sends_on};
 ghost use Rattle.hand_core.specs.Queue.{name_of};
@@ -12,7 +12,7 @@ use crate::handful::Handful;
 use crossbeam_channel::{Pass, RuledSender, bounded_with};
 use std::alloc::{AllocError, Global};
 
-/// Opens a queue for the copies of this many senders, with room for `cap` handfuls. No later call takes memory.
+/// Opens a queue for the copies of this many senders, with room for `cap` copies, which are sent one by one. No later call takes memory.
 ///
 /// Refused as Range unless there are 1 to 4 senders and a `cap` of 1 to 64, else as Memory where there isn't enough.
 pub fn done_open<R>(
@@ -24,29 +24,55 @@ pub fn done_open<R>(
     ensures range { (result ≡ Err HandError.Range) ↔ (¬ ((0 < senders) × (senders ≤ 4) × (0 < cap) × (cap ≤ 64))) }
     ensures taker { IfOk result (λ ends. ends.1 ≡ record { way = ends.1.way; room = cap; senders = senders; came = []; in_hand = [] }) }
     ensures senders { IfOk result (λ ends. vec_len ends.0 ≡ senders) }
-    ensures fresh { IfOk result (λ ends. (number : ℕ) → number < senders → slice_get ends.0.items number ≡ Some (record { way = ends.1.way; number = number; sent = []; marked = false; closed = false })) }
+    ensures fresh { IfOk result (λ ends. (number : ℕ) → number < senders → slice_get ends.0.items number ≡ Some (record { way = ends.1.way; most = 1; number = number; sent = []; marked = false; closed = false })) }
 {
     if senders == 0 || senders > 4 || cap == 0 || cap > 64 {
         return Err(HandError::Range);
     }
-    opened(alloc, senders, cap).map_err(|_| HandError::Memory)
+    opened(alloc, senders, cap, 1).map_err(|_| HandError::Memory)
 }
 
-/// Opens a queue where the numbers are in range. The error is for want of memory.
-fn opened(
+/// Opens a queue as `done_open` does, with room for `cap` copies in handfuls of at most `most` copies: for as many handfuls as keep it
+/// from ever holding more copies.
+///
+/// Refused as Range where `done_open` is, and unless `most` is 1 to 8 and at most `cap`; else as Memory where there isn't enough.
+#[tactic(auto, using(crate::proofs::HandedOver::room_fits))]
+pub fn done_open_in_handfuls<R>(
+    _rt: &R,
     alloc: Global,
     senders: usize,
     cap: usize,
+    most: usize,
+) -> Result<(Vec<DoneSender>, DoneTaker), HandError>
+    ensures range { (result ≡ Err HandError.Range) ↔ (¬ ((0 < senders) × (senders ≤ 4) × (cap ≤ 64) × (0 < most) × (most ≤ 8) × (most ≤ cap))) }
+    ensures taker { IfOk result (λ ends. ends.1 ≡ record { way = ends.1.way; room = cap / most; senders = senders; came = []; in_hand = [] }) }
+    ensures cap { IfOk result (λ ends. ends.1.room * most ≤ cap) }
+    ensures senders { IfOk result (λ ends. vec_len ends.0 ≡ senders) }
+    ensures fresh { IfOk result (λ ends. (number : ℕ) → number < senders → slice_get ends.0.items number ≡ Some (record { way = ends.1.way; most = most; number = number; sent = []; marked = false; closed = false })) }
+{
+    if senders == 0 || senders > 4 || cap > 64 || most == 0 || most > 8 || most > cap {
+        return Err(HandError::Range);
+    }
+    opened(alloc, senders, cap / most, most).map_err(|_| HandError::Memory)
+}
+
+/// Opens a queue with room for so many handfuls, where the numbers are in range. The error is for want of memory.
+fn opened(
+    alloc: Global,
+    senders: usize,
+    room: usize,
+    most: usize,
 ) -> Result<(Vec<DoneSender>, DoneTaker), AllocError>
     requires senders { senders ≤ 4 }
-    requires cap { 0 < cap }
-    ensures taker { IfOk result (λ ends. ends.1 ≡ record { way = ends.1.way; room = cap; senders = senders; came = []; in_hand = [] }) }
+    requires room { 0 < room }
+    requires most { (0 < most) × (most ≤ 8) }
+    ensures taker { IfOk result (λ ends. ends.1 ≡ record { way = ends.1.way; room = room; senders = senders; came = []; in_hand = [] }) }
     ensures senders { IfOk result (λ ends. vec_len ends.0 ≡ senders) }
-    ensures fresh { IfOk result (λ ends. (number : ℕ) → number < senders → slice_get ends.0.items number ≡ Some (record { way = ends.1.way; number = number; sent = []; marked = false; closed = false })) }
+    ensures fresh { IfOk result (λ ends. (number : ℕ) → number < senders → slice_get ends.0.items number ≡ Some (record { way = ends.1.way; most = most; number = number; sent = []; marked = false; closed = false })) }
 {
     let mut all = Vec::with_capacity(alloc, senders)?;
-    let (to, from, mut pass) = bounded_with::<Message, Account, Turns, Global>(alloc, cap)?;
-    add_senders(&to, &mut pass, &mut all, senders)?;
+    let (to, from, mut pass) = bounded_with::<Message, Account, Turns, Global>(alloc, room)?;
+    add_senders(&to, &mut pass, &mut all, senders, most)?;
     let taker = DoneTaker {
         senders,
         marked: [false; 4],
@@ -63,19 +89,22 @@ fn add_senders(
     pass: &mut Pass<Message, Account>,
     all: &mut Vec<DoneSender>,
     senders: usize,
+    most: usize,
 ) -> Result<(), AllocError>
     requires room { (all.old.items ≡ []) × (senders ≤ vec_capacity all.old) }
+    requires most { (0 < most) × (most ≤ 8) }
     requires channel { IsSeatAt (sends_on to.now) pass.old }
     requires knows { view pass.old ≡ taker_account }
     ensures channel { IsSeatAt (sends_on to.now) pass.new }
     ensures knows { OnOk result (view pass.new ≡ record taker_account { made = senders }) }
     ensures made { OnOk result (vec_len all.new ≡ senders) }
-    ensures fresh { OnOk result ((number : ℕ) → number < senders → slice_get all.new.items number ≡ Some (record { way = name_of (sends_on to.now); number = number; sent = []; marked = false; closed = false })) }
+    ensures fresh { OnOk result ((number : ℕ) → number < senders → slice_get all.new.items number ≡ Some (record { way = name_of (sends_on to.now); most = most; number = number; sent = []; marked = false; closed = false })) }
 {
     for number in 0..senders {
         let theirs = to.another::<Makes>(pass);
         let to = to.try_clone()?;
         all.push_reserved(DoneSender {
+            most,
             number,
             closed: false,
             to,

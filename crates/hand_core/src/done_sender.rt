@@ -11,6 +11,8 @@ use word_core::Copied;
 /// A sending end of the queue of copies.
 #[derive(Drop)]
 pub struct DoneSender {
+    // How many copies a handful has at most.
+    pub(crate) most: usize,
     pub(crate) number: usize,
     pub(crate) closed: bool,
     pub(crate) to: RuledSender<Message, Account, Turns, Global>,
@@ -28,13 +30,13 @@ impl Model for DoneSender {
 
     ghost use Rattle.hand_core.specs.CopyInvariants.{IsSending};
 
-    ghost view = { λ s. record { way = name_of (sends_on s.to); number = s.number; sent = pages_of (knows s.pass).sent; marked = (knows s.pass).marked; closed = s.closed } };
+    ghost view = { λ s. record { way = name_of (sends_on s.to); most = s.most; number = s.number; sent = pages_of (knows s.pass).sent; marked = (knows s.pass).marked; closed = s.closed } };
 
     ghost invariant = { IsSending };
 }
 
 impl DoneSender {
-    ghost use Rattle.std.specs.Prelude.{◌≡◌, ◌++◌, ◌∷◌, [], true, false, OnOk, OnErr, IfErr};
+    ghost use Rattle.std.specs.Prelude.{◌≡◌, ◌<◌, ◌≤◌, ◌++◌, ◌∷◌, [], true, false, length, OnOk, OnErr, IfErr};
 
     /// Puts a copy at the back of the queue, and waits for room. The sender must not be closed. Where the taker is
     /// gone, the copy is handed back.
@@ -55,14 +57,23 @@ impl DoneSender {
         Err(copy)
     }
 
-    /// Puts copies at the back of the queue together, and waits for room. The sender must not be closed. Where the
-    /// taker is gone, the copies are handed back.
+    /// How many copies a handful has at most: 1 to 8.
+    pub fn most(&self) -> usize
+        ensures value { result ≡ self.now.most }
+        ensures range { (0 < result) × (result ≤ 8) }
+    {
+        self.most
+    }
+
+    /// Puts copies at the back of the queue together, and waits for room. If they are several they may be no more than a handful has
+    /// at most, and the sender must not be closed. Where the taker is gone, the copies are handed back.
     pub fn send_all<R: Wait>(
         &mut self,
         rt: &R,
         copies: Handful<Copied>,
     ) -> Result<(), Handful<Copied>>
-        requires { self.old.closed ≡ false }
+        requires open { self.old.closed ≡ false }
+        requires few { 1 < length copies.items → length copies.items ≤ self.old.most }
         ensures ok { OnOk result (self.new ≡ record self.old { sent = self.old.sent ++ copies.items }) }
         ensures back { IfErr result (λ handed_back. handed_back ≡ copies) }
         ensures err { OnErr result (self.new ≡ self.old) }

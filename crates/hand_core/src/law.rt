@@ -1,8 +1,11 @@
-//! What holds of a hand-over after each step of its ends, in every schedule.
+//! What holds of both queues after each step of their ends, in every schedule.
 
-ghost use Rattle.std.specs.Prelude.{◌≡◌, ◌++◌, ◌∷◌, [], List};
+ghost use Rattle.std.specs.Prelude.{◌≡◌, ℕ, ◌*◌, ◌≤◌, ◌++◌, ◌∷◌, [], List, length, All};
+ghost use Rattle.hand_core.specs.declared.copy_queue.Message.{Message as CopyMessage};
 ghost use Rattle.hand_core.specs.declared.page_queue.Note.{Note as Message};
 ghost use Rattle.hand_core.specs.declared.page_queue.Note.TheVariants.{Pages};
+ghost use Rattle.hand_core.specs.CopyEnds.{DoneSender, DoneTaker, copies_in};
+ghost use Rattle.hand_core.specs.CopyRoom.{HoldsWith};
 ghost use Rattle.hand_core.specs.HandedOver.{Holds, IsHandedOver};
 ghost use Rattle.hand_core.specs.Handfuls.{Handful};
 ghost use Rattle.hand_core.specs.PageEnds.{Giver, Taker};
@@ -12,4 +15,10 @@ ghost use Rattle.hand_core.specs.PageEnds.{Giver, Taker};
 pub fn hands_over_in_order()
     ensures in_order { (queue : List Message) (giver : Giver) (takers : List Taker) → Holds queue giver takers → IsHandedOver queue giver takers }
     ensures closed { (queue : List Message) (handful : Handful) (giver : Giver) (takers : List Taker) → Holds (queue ++ Pages handful ∷ []) giver takers → giver.marks ≡ 0 }
+{}
+
+/// No more copies are in their queue than it has room for: its room is so many handfuls, and no sender puts more copies in one than a
+/// handful has at most.
+pub fn copies_keep_to_their_room()
+    ensures { (queue : List CopyMessage) (taker : DoneTaker) (senders : List DoneSender) (most : ℕ) → HoldsWith queue taker senders → All (λ s. s.most ≤ most) senders → length (copies_in queue) ≤ taker.room * most }
 {}

@@ -18,14 +18,14 @@ pub mod patience;
 mod settling;
 mod taker;
 
-pub use done_opening::done_open;
+pub use done_opening::{done_open, done_open_in_handfuls};
 pub use done_sender::DoneSender;
 pub use done_settling::done_settle;
 pub use done_taker::{Came, DoneTaker};
 pub use error::{Gone, HandError};
 pub use giver::Giver;
 pub use handful::Handful;
-pub use law::hands_over_in_order;
+pub use law::{copies_keep_to_their_room, hands_over_in_order};
 pub use opening::{Takers, open, open_in_handfuls};
 pub use settling::{Settled, settle};
 pub use taker::{Taker, Took};

@@ -22,7 +22,8 @@ pub struct Carried {
 }
 
 /// The body of a copier: it takes pages, copies them, and sends the copies. Copies of pages that were received together are sent
-/// together. It has no zone. It stops early where an end of a queue is gone, or where it takes a page while its list is full.
+/// together, as many at once as a handful of its sender has at most. It has no zone. It stops early where an end of a queue is gone, or
+/// where it takes a page while its list is full.
 pub fn carry<G: Gate, R: Wait>(
     rt: &R,
     mut taker: Taker,
@@ -36,6 +37,7 @@ pub fn carry<G: Gate, R: Wait>(
     requires serials { serials.items ≡ [] }
     ensures { IsCarried taker sender result }
 {
+    let most = sender.most();
     let mut copies = Handful::new();
     for _ in rt.forever() {
         match taker.take(rt) {
@@ -47,7 +49,7 @@ pub fn carry<G: Gate, R: Wait>(
                 serials.push_reserved(page.serial());
                 copies.push(page.copy_into_new());
                 gate.at(Point::Copied, who);
-                if taker.has_more() && !copies.is_full() {
+                if taker.has_more() && copies.len() < most {
                     continue;
                 }
                 if sender.send_all(rt, copies.take()).is_err() {

@@ -39,13 +39,6 @@ impl Division {
         pages.div_ceil(self.copiers).clamp(1, most)
     }
 
-    /// The number of handfuls of copies that a queue has room for.
-    pub(crate) fn handfuls(self) -> usize
-        ensures { (0 < result) × (result ≤ 64) }
-    {
-        self.room / self.most
-    }
-
     /// How many pages are isolated or committed under one hold of the lock at most: as many as a queue has room for, or as there are
     /// in a handful for each copier where that is more.
     pub(crate) fn burst(self) -> usize

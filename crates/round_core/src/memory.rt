@@ -10,7 +10,7 @@ use crate::copier::Copier;
 use crate::division::Division;
 use frame_core::Serial;
 use hand_core::{
-    DoneSender, DoneTaker, Giver, HandError, Taker, Takers, done_open, open_in_handfuls,
+    DoneSender, DoneTaker, Giver, HandError, Taker, Takers, done_open_in_handfuls, open_in_handfuls,
 };
 use std::alloc::{AllocError, Global};
 use std::collections::VecDeque;
@@ -172,7 +172,7 @@ fn reserve_bursts(alloc: Global, division: Division) -> Result<Bursts, AllocErro
     })
 }
 
-/// Opens both queues, for handfuls and with room for pages as this division has them.
+/// Opens both queues, for handfuls and with room for pages and copies as this division has them.
 fn open_queues<R>(
     rt: &R,
     alloc: Global,
@@ -188,7 +188,7 @@ fn open_queues<R>(
 {
     let Division { room, most, .. } = division;
     let (giver, takers) = open_in_handfuls(rt, alloc, base, copiers, room, most)?;
-    let (senders, copies) = done_open(rt, alloc, copiers, division.handfuls())?;
+    let (senders, copies) = done_open_in_handfuls(rt, alloc, copiers, room, most)?;
     Ok(Queues {
         giver,
         takers,

@@ -17,6 +17,9 @@ use std::sync::ledger::Ledger;
 use word_core::Isolated;
 use zone_core::{EndSeat, ScanSeat};
 
+#[cfg(test)]
+mod tests;
+
 /// Isolates pages and gives them, as many at once as the empty list has room for, until the scanners meet or the journal is
 /// full. Where the takers are gone, the pages that nobody took are put back, and the answer is an `Err`: with the least serial of
 /// those that the zone refused, if there is one.

@@ -2,7 +2,9 @@ ghost use Rattle.std.specs.Prelude.{◌≡◌, ◌<◌, true, false, All};
 ghost use Rattle.hand_core.specs.CopyEnds.{has_ended};
 
 use super::{is_page, isolated};
-use hand_core::{Came, DoneSender, DoneTaker, Handful, done_open, done_settle};
+use hand_core::{
+    Came, DoneSender, DoneTaker, Handful, done_open, done_open_in_handfuls, done_settle,
+};
 use std::alloc::Global;
 use std::process::Abort;
 use std::sync::Wait;
@@ -319,9 +321,27 @@ fn is_told_without_waiting_that_the_senders_are_gone(rt: HostRuntime) {
     assert!(rt; matches!(taker.try_take(&rt), Some(Came::Gone)));
 }
 
+// A queue with room for two handfuls of two copies.
+fn opened_in_pairs<R: Wait + Abort>(rt: &R, alloc: Global) -> (Vec<DoneSender>, DoneTaker)
+    ensures senders { All (λ s. (s.closed ≡ false) × (s.most ≡ 2)) result.0.items }
+    ensures taker { has_ended result.1 ≡ false }
+{
+    done_open_in_handfuls(rt, alloc, 1, 4, 2).expect(rt, "a queue")
+}
+
+fn opened_for_pairs<R: Wait + Abort>(rt: &R, alloc: Global) -> (DoneSender, DoneTaker)
+    ensures sender { (result.0.closed ≡ false) × (result.0.most ≡ 2) }
+    ensures taker { has_ended result.1 ≡ false }
+{
+    let (mut senders, taker) = opened_in_pairs(rt, alloc);
+    let one = senders.pop().expect(rt, "a sender");
+    (one, taker)
+}
+
 #[test]
 fn takes_the_copies_of_a_handful_one_by_one(rt: HostRuntime) {
-    let ((mut one, _two), mut taker) = opened_for_two(&rt, rt.alloc());
+    let (mut one, mut taker) = opened_for_pairs(&rt, rt.alloc());
+    assert!(rt; one.most() == 2);
     let mut copies = Handful::new();
     copies.push(copy_of(&rt, 0, 7));
     copies.push(copy_of(&rt, 0, 8));

@@ -12,6 +12,7 @@ invariant-loop g l = record {
   number : l.sender.number ≡ l.fn.sender.number;
   serials : l.serials.items ≡ serials_of l.taker.taken;
   copies : l.sender.sent ++ l.copies.items ≡ l.taker.taken;
-  few : length l.copies.items < 8;
+  few : length l.copies.items < l.most;
+  most : l.most ≡ l.sender.most;
   kept : l.taker.in_hand ≡ [] → l.copies.items ≡ [];
 }

@@ -12,7 +12,7 @@ returns-clause-senders g c =
     let way = c.in_ok-senders.copies.way in (
       made,
       λ k d low.
-          let unsent : DoneSender = record { way = way; number = k; sent = []; marked = false; closed = false } in
+          let unsent : DoneSender = record { way = way; most = c.args.division.most; number = k; sent = []; marked = false; closed = false } in
           let long = c.in_ok-senders.senders.ok in
           let is = get_or_from_slice_get senders k unsent d (c.in_ok-senders.ensures.fresh k (omega arith)) in
           subst IsUnsent (sym is) (record { open_still = refl; none = refl }),

@@ -1,11 +1,11 @@
-use Rattle.std.proofs.Common.{ℕ, ◌+◌, ◌≤◌, ◌<◌, ⊎_elim, length, ap, sym, ◌∙◌, subst, length-append, arith}
+use Rattle.std.proofs.Common.{◌+◌, ◌≤◌, ◌<◌, length, ap, sym, ◌∙◌, subst, length-append, arith}
 use Rattle.std.proofs.Math.Nat.{max-le}
-use Rattle.std.proofs.lemmas.Bool.{cases_lt}
 use Rattle.crossbeam_channel.specs.Claims.{view}
 use Rattle.hand_core.specs.declared.page_queue.Known.{Known}
 use Rattle.hand_core.specs.PageEnds.{Giver}
 use Rattle.word_core.specs.Serials.{HasSerialsFrom}
 use Rattle.hand_core.proofs.Serials.{serials-append}
+use Rattle.hand_core.proofs.Hands.{fits}
 use Rattle.hand_core.proofs.PageSteps.{pages_in}
 use Rattle.hand_core.proofs.giver.Giver.give_all.Goals as goal
 
@@ -24,10 +24,6 @@ send-requires-clause-rule g c =
           (subst (λ (v : Giver). HasSerialsFrom (v.base + length v.given) c.args.pages.items) (sym is) c.requires.next),
       λ items views rule at. tt,
     )
-
--- a single page always fits
-fits : (count most : ℕ) → 0 < most → (1 < count → count ≤ most) → count ≤ most
-fits count most some several = ⊎_elim (λ (more : 1 < count). several more) (λ (single : count ≤ 1). omega arith) (cases_lt 1 count)
 
 pub invariant_of-self : goal.invariant_of-self
 invariant_of-self g c =
