@@ -1,5 +1,5 @@
 -- What a world carries stays its own when its zone changes.
-use Rattle.std.proofs.Common.{◌≡◌, ◌≢◌, ℕ, zero, suc, ◌*◌, ◌<◌, Bool, true, false, not, List, [], ◌∷◌, ◌++◌, length, ◌⊎◌, inl, inr, refl, sym, ap, subst, ◌∙◌, arith}
+use Rattle.std.proofs.Common.{◌≡◌, ◌≢◌, ℕ, zero, suc, ◌+◌, ◌*◌, ◌<◌, Bool, true, false, not, List, [], ◌∷◌, ◌++◌, length, ◌⊎◌, inl, inr, refl, sym, ap, subst, ◌∙◌, arith}
 use Rattle.std.specs.Prelude.{Option, Some, None, IsSome, Result, Ok, Err, IfOk, OnOk, OnErr, map as each, replicate, slice_get, slice_set, unwrap_or, nat_eq, nat_lt, is_some, if◌then◌else◌}
 use Rattle.std.specs.FinMap as map
 use Rattle.std.specs.List.{list_any}
@@ -18,9 +18,8 @@ use Rattle.word_core.specs.Serials.{serials_of}
 use Rattle.state_core.specs.declared.error.ZoneError.{ZoneError}
 use Rattle.state_core.specs.declared.error.ZoneError.TheVariants.{Range, JournalFull, Occupied, NoFrame}
 use Rattle.world_core.specs.declared.hand.Hand.TheVariants as hand
-use Rattle.world_core.specs.declared.hands.Held.{Held}
 use Rattle.world_core.specs.declared.hands.Held.TheVariants.{Nothing, Page, Copy}
-use Rattle.world_core.specs.Carried.{hand_as, page_held, copy_held, is_nothing, world_of, IsCarried}
+use Rattle.world_core.specs.Carried.{InHand, hand_as, page_held, copy_held, is_nothing, world_of, IsCarried}
 use Rattle.state_core.specs.declared.moves.Next.TheVariants.{Page as Found, Met}
 use Rattle.state_core.specs.declared.round.Pair.{Pair}
 use Rattle.state_core.specs.declared.placement.Placement.{Placement}
@@ -34,6 +33,7 @@ use Rattle.state_core.specs.Isolating.{isolate_refusal, isolated_next, next_answ
 use Rattle.zone_core.specs.Seats.{ScanSeat, EndSeat, seat_begun, seat_noted}
 use Rattle.std.specs.Result.{result_err}
 use Rattle.state_core.specs.Access.{placement_refusal, access_refusal}
+use Rattle.state_core.specs.Bulk.{has_room_for, bulk_refusal, loaded_all, stored_all}
 use Rattle.state_core.specs.Mapping.{map_at_refusal}
 use Rattle.state_core.specs.Mapping.{mapped, placed}
 use Rattle.state_core.specs.Access.{loaded, stored}
@@ -51,25 +51,25 @@ use Rattle.state_core.proofs.Facts.{spare, not_none}
 use Rattle.world_core.proofs.Orderly.{orderly_with_zone, orderly_round_opened, orderly_noted, orderly_isolated}
 
 -- Lists of what hands hold
-pub each_set : (held : List Held) (i : ℕ) (x : Held) → each hand_as (slice_set held i x) ≡ slice_set (each hand_as held) i (hand_as x)
+pub each_set : (held : List InHand) (i : ℕ) (x : InHand) → each hand_as (slice_set held i x) ≡ slice_set (each hand_as held) i (hand_as x)
 each_set held i x = map-set hand_as held i x
 
-pub set_twice : (held : List Held) (i : ℕ) (x y : Held) → slice_set (slice_set held i x) i y ≡ slice_set held i y
+pub set_twice : (held : List InHand) (i : ℕ) (x y : InHand) → slice_set (slice_set held i x) i y ≡ slice_set held i y
 set_twice [] i x y = refl
 set_twice (h ∷ held) zero x y = refl
-set_twice (h ∷ held) (suc i) x y = ap (λ (t : List Held). h ∷ t) (set_twice held i x y)
+set_twice (h ∷ held) (suc i) x y = ap (λ (t : List InHand). h ∷ t) (set_twice held i x y)
 
 -- what contracts see of a hand is what the hand holds
-pub seen_at : (held : List Held) (i : ℕ) → unwrap_or (slice_get (each hand_as held) i) hand.Empty ≡ hand_as (unwrap_or (slice_get held i) Nothing)
+pub seen_at : (held : List InHand) (i : ℕ) → unwrap_or (slice_get (each hand_as held) i) hand.Empty ≡ hand_as (unwrap_or (slice_get held i) Nothing)
 seen_at [] i = refl
 seen_at (h ∷ held) zero = refl
 seen_at (h ∷ held) (suc i) = seen_at held i
 
-pub seen_some : (held : List Held) (i : ℕ) (h : Held) → slice_get held i ≡ Some h → unwrap_or (slice_get (each hand_as held) i) hand.Empty ≡ hand_as h
-seen_some held i h e = seen_at held i ∙ ap (λ (o : Option Held). hand_as (unwrap_or o Nothing)) e
+pub seen_some : (held : List InHand) (i : ℕ) (h : InHand) → slice_get held i ≡ Some h → unwrap_or (slice_get (each hand_as held) i) hand.Empty ≡ hand_as h
+seen_some held i h e = seen_at held i ∙ ap (λ (o : Option InHand). hand_as (unwrap_or o Nothing)) e
 
 -- after place i got x, each place has x or what it had
-pub held_after : (held : List Held) (i j : ℕ) (x y : Held) → slice_get (slice_set held i x) j ≡ Some y → ((j ≡ i) × (x ≡ y)) ⊎ ((j ≢ i) × (slice_get held j ≡ Some y))
+pub held_after : (held : List InHand) (i j : ℕ) (x y : InHand) → slice_get (slice_set held i x) j ≡ Some y → ((j ≡ i) × (x ≡ y)) ⊎ ((j ≢ i) × (slice_get held j ≡ Some y))
 held_after held i j x y e = elim (eqb_tells j i) [
   | inl same ↦ (
       let within : i < length held = omega (arith, slice_get_within (slice_set held i x) j y e, length-set held i x, same.1) in
@@ -78,50 +78,50 @@ held_after held i j x y e = elim (eqb_tells j i) [
   | inr other ↦ inr (other.1, sym (slice_get_set_other held i j x other.1) ∙ e)
 ]
 
-pub is_page_held : (o : Option Held) (p : OnItsWay) → page_held (unwrap_or o Nothing) ≡ Some p → o ≡ Some (Page p)
+pub is_page_held : (o : Option InHand) (p : OnItsWay) → page_held (unwrap_or o Nothing) ≡ Some p → o ≡ Some (Page p)
 is_page_held None p e = cc
 is_page_held (Some Nothing) p e = cc
 is_page_held (Some (Page q)) p e = let same : q ≡ p = cc in ap (λ (x : OnItsWay). Some (Page x)) same
 is_page_held (Some (Copy q)) p e = cc
 
-pub is_copy_held : (o : Option Held) (p : OnItsWay) → copy_held (unwrap_or o Nothing) ≡ Some p → o ≡ Some (Copy p)
+pub is_copy_held : (o : Option InHand) (p : OnItsWay) → copy_held (unwrap_or o Nothing) ≡ Some p → o ≡ Some (Copy p)
 is_copy_held None p e = cc
 is_copy_held (Some Nothing) p e = cc
 is_copy_held (Some (Page q)) p e = cc
 is_copy_held (Some (Copy q)) p e = let same : q ≡ p = cc in ap (λ (x : OnItsWay). Some (Copy x)) same
 
-pub page_same : {p q : OnItsWay} → Page p ≡ Page q → p ≡ q
+pub page_same : {p q : OnItsWay} → ◌≡◌ {A = InHand} (Page p) (Page q) → p ≡ q
 page_same {p} {q} e = cc
 
-pub copy_same : {p q : OnItsWay} → Copy p ≡ Copy q → p ≡ q
+pub copy_same : {p q : OnItsWay} → ◌≡◌ {A = InHand} (Copy p) (Copy q) → p ≡ q
 copy_same {p} {q} e = cc
 
-pub page_no_copy : {p q : OnItsWay} → Page p ≡ Copy q → ⊥
+pub page_no_copy : {p q : OnItsWay} → ◌≡◌ {A = InHand} (Page p) (Copy q) → ⊥
 page_no_copy {p} {q} e = cc
 
-pub copy_no_page : {p q : OnItsWay} → Copy p ≡ Page q → ⊥
+pub copy_no_page : {p q : OnItsWay} → ◌≡◌ {A = InHand} (Copy p) (Page q) → ⊥
 copy_no_page {p} {q} e = cc
 
-pub nothing_no_page : {q : OnItsWay} → Nothing ≡ Page q → ⊥
+pub nothing_no_page : {q : OnItsWay} → ◌≡◌ {A = InHand} Nothing (Page q) → ⊥
 nothing_no_page {q} e = cc
 
-pub nothing_no_copy : {q : OnItsWay} → Nothing ≡ Copy q → ⊥
+pub nothing_no_copy : {q : OnItsWay} → ◌≡◌ {A = InHand} Nothing (Copy q) → ⊥
 nothing_no_copy {q} e = cc
 
 pub true_not_false : (b : Bool) → b ≡ true → b ≡ false → ⊥
 true_not_false b t f = let bad : true ≡ false = sym t ∙ f in cc
 
-pub no_page : (n i : ℕ) (p : OnItsWay) → slice_get (replicate n Nothing) i ≡ Some (Page p) → ⊥
+pub no_page : (n i : ℕ) (p : OnItsWay) → slice_get {X = InHand} (replicate n Nothing) i ≡ Some (Page p) → ⊥
 no_page zero i p e = cc
 no_page (suc n) zero p e = cc
 no_page (suc n) (suc i) p e = no_page n i p e
 
-pub no_copy : (n i : ℕ) (p : OnItsWay) → slice_get (replicate n Nothing) i ≡ Some (Copy p) → ⊥
+pub no_copy : (n i : ℕ) (p : OnItsWay) → slice_get {X = InHand} (replicate n Nothing) i ≡ Some (Copy p) → ⊥
 no_copy zero i p e = cc
 no_copy (suc n) zero p e = cc
 no_copy (suc n) (suc i) p e = no_copy n i p e
 
-pub nothing_is : (h : Held) → is_nothing h ≡ true → h ≡ Nothing
+pub nothing_is : (h : InHand) → is_nothing h ≡ true → h ≡ Nothing
 nothing_is Nothing e = refl
 nothing_is (Page p) e = cc
 nothing_is (Copy p) e = cc
@@ -132,7 +132,7 @@ waits_at (q ∷ list) zero p e = let same : q ≡ p = cc in or_left (nat_eq p.se
 waits_at (q ∷ list) (suc i) p e = or_right (nat_eq p.serial q.serial) _ (waits_at list i p e)
 
 -- What a world carries when its zone changes.
-module _ (zone next : ZoneState) (scan : ScanSeat) (ends : EndSeat) (is_open : Bool) (list : List OnItsWay) (held : List Held) (capacity : ℕ) (was : IsCarried zone scan ends is_open list held capacity) where
+module _ (zone next : ZoneState) (scan : ScanSeat) (ends : EndSeat) (is_open : Bool) (list : List OnItsWay) (held : List InHand) (capacity : ℕ) (was : IsCarried zone scan ends is_open list held capacity) where
   pub carried_with : (seat : ScanSeat) (opened : Bool) → IsOrderly (world_of next seat ends opened list held) → ((p : OnItsWay) → IsOwnCopy zone p → IsOwnCopy next p) → next.blocks ≡ zone.blocks → IsCarried next seat ends opened list held capacity
   carried_with seat opened orderly own blocks = record {
     orderly = orderly;
@@ -143,12 +143,12 @@ module _ (zone next : ZoneState) (scan : ScanSeat) (ends : EndSeat) (is_open : B
   }
 
 -- the seat of the scanner notes something
-pub carried_noted : (zone : ZoneState) (scan : ScanSeat) (ends : EndSeat) (is_open : Bool) (list : List OnItsWay) (held : List Held) (capacity : ℕ) → IsCarried zone scan ends is_open list held capacity → (seat : ScanSeat) → IsCarried zone seat ends is_open list held capacity
+pub carried_noted : (zone : ZoneState) (scan : ScanSeat) (ends : EndSeat) (is_open : Bool) (list : List OnItsWay) (held : List InHand) (capacity : ℕ) → IsCarried zone scan ends is_open list held capacity → (seat : ScanSeat) → IsCarried zone seat ends is_open list held capacity
 carried_noted zone scan ends is_open list held capacity was seat =
     carried_with zone zone scan ends is_open list held capacity was seat is_open (orderly_noted (world_of zone scan ends is_open list held) seat was.orderly) (λ p own. own) refl
 
 -- A round opens, and a page is isolated.
-pub carried_opened : (zone : ZoneState) (scan : ScanSeat) (ends : EndSeat) (is_open : Bool) (list : List OnItsWay) (held : List Held) (capacity : ℕ) → IsCarried zone scan ends is_open list held capacity → is_open ≡ false → IsCarried (round_begun zone) (seat_begun scan) ends true list held capacity
+pub carried_opened : (zone : ZoneState) (scan : ScanSeat) (ends : EndSeat) (is_open : Bool) (list : List OnItsWay) (held : List InHand) (capacity : ℕ) → IsCarried zone scan ends is_open list held capacity → is_open ≡ false → IsCarried (round_begun zone) (seat_begun scan) ends true list held capacity
 carried_opened zone scan ends is_open list held capacity was closed =
     carried_with zone (round_begun zone) scan ends is_open list held capacity was (seat_begun scan) true orderly (own_begun zone) refl where
       orderly : IsOrderly (world_of (round_begun zone) (seat_begun scan) ends true list held)
@@ -184,7 +184,7 @@ met_same zone next answer state = by_pair (next_pair zone) answer state where
   by_pair None answer state = state
   by_pair (Some pair) answer state = cc
 
-module _ (zone next : ZoneState) (scan : ScanSeat) (ends : EndSeat) (is_open : Bool) (list : List OnItsWay) (held : List Held) (capacity : ℕ) (p : OnItsWay) (was : IsCarried zone scan ends is_open list held capacity) (opened : is_open ≡ true) (room : isolate_refusal zone ≡ None) (take : IsTaken zone next p) (scans : Scans zone next (Found p)) where
+module _ (zone next : ZoneState) (scan : ScanSeat) (ends : EndSeat) (is_open : Bool) (list : List OnItsWay) (held : List InHand) (capacity : ℕ) (p : OnItsWay) (was : IsCarried zone scan ends is_open list held capacity) (opened : is_open ≡ true) (room : isolate_refusal zone ≡ None) (take : IsTaken zone next p) (scans : Scans zone next (Found p)) where
   abbrev scanning : WorldState
   scanning = world_of zone scan ends is_open list held
 
@@ -299,7 +299,37 @@ leaves_unmapped z client address frame at = record {
   by_last : (P : ZoneState → Type 0) → P next → P ended → P (unmapped z client address)
   by_last P kept gone = by (is_last z address) P kept gone
 
-module _ (zone next : ZoneState) (scan : ScanSeat) (ends : EndSeat) (is_open : Bool) (list : List OnItsWay) (held : List Held) (capacity : ℕ) (was : IsCarried zone scan ends is_open list held capacity) where
+-- words that are read or written in bulk, one after the other
+leaves_read : (z : ZoneState) (client : ℕ) (address : Address) (from count : ℕ) → LeavesMoves z (loaded_all z client address from count)
+leaves_read z client address from zero = record { same_out = refl; migrate = refl; free = refl; blocks = refl; own = λ p own. own }
+leaves_read z client address from (suc count) =
+    let rest = leaves_read (loaded z client address from) client address (from + 1) count in
+    record {
+      same_out = rest.same_out;
+      migrate = rest.migrate;
+      free = rest.free;
+      blocks = rest.blocks;
+      own = λ p own. rest.own p (own_loaded z client address from p own);
+    }
+
+leaves_written : (z : ZoneState) (client : ℕ) (address : Address) (from : ℕ) (values : List ℕ) (frame : ℕ) → placement_at z address ≡ Some (At frame) → LeavesMoves z (stored_all z client address from values)
+leaves_written z client address from [] frame at = record { same_out = refl; migrate = refl; free = refl; blocks = refl; own = λ p own. own }
+leaves_written z client address from (value ∷ values) frame at =
+    let rest = leaves_written (stored z client address from value) client address (from + 1) values frame at in
+    record {
+      same_out = rest.same_out;
+      migrate = rest.migrate;
+      free = rest.free;
+      blocks = rest.blocks;
+      own = λ p own. rest.own p (own_stored z client address from value frame at p own);
+    }
+
+bulk_then : (past room : Bool) (o : Option ZoneError) → (if past then Some Range else if not room then Some JournalFull else o) ≡ None → o ≡ None
+bulk_then true room o e = cc
+bulk_then false true o e = e
+bulk_then false false o e = cc
+
+module _ (zone next : ZoneState) (scan : ScanSeat) (ends : EndSeat) (is_open : Bool) (list : List OnItsWay) (held : List InHand) (capacity : ℕ) (was : IsCarried zone scan ends is_open list held capacity) where
   -- a refused call changes nothing
   unchanged : next ≡ zone → IsCarried next scan ends is_open list held capacity
   unchanged same = subst (λ (v : ZoneState). IsCarried v scan ends is_open list held capacity) (sym same) was
@@ -366,3 +396,14 @@ module _ (zone next : ZoneState) (scan : ScanSeat) (ends : EndSeat) (is_open : B
       let room = room_then (has_room zone) _ (sym refused) in
       let at = at_then (placement_at zone address) (option_or_none _ _ room.1) in
       leaves (unmapped zone client address) ok law (leaves_unmapped zone client address at.0 at.1)
+
+  pub carried_read : {T : Type 0} (kept : Type 0) (client : ℕ) (address : Address) (from count : ℕ) (result : Result T ZoneError) → IsLawful next → OnErr result ((next ≡ zone) × kept) → OnOk result (next ≡ loaded_all zone client address from count) → IsCarried next scan ends is_open list held capacity
+  carried_read kept client address from count (Err error) law err ok = unchanged err.0
+  carried_read kept client address from count (Ok done) law err ok = leaves (loaded_all zone client address from count) ok law (leaves_read zone client address from count)
+
+  pub carried_written : {T : Type 0} (client : ℕ) (address : Address) (from : ℕ) (values : List ℕ) (result : Result T ZoneError) → IsLawful next → result_err result ≡ bulk_refusal zone address from (length values) → OnErr result (next ≡ zone) → OnOk result (next ≡ stored_all zone client address from values) → IsCarried next scan ends is_open list held capacity
+  carried_written client address from values (Err error) law refused err ok = unchanged err
+  carried_written client address from values (Ok done) law refused err ok =
+      let placed_at = bulk_then (nat_lt zone.page_size (from + length values)) (has_room_for zone (length values)) (placement_refusal (placement_at zone address)) (sym refused) in
+      let at = at_then (placement_at zone address) placed_at in
+      leaves (stored_all zone client address from values) ok law (leaves_written zone client address from values at.0 at.1)

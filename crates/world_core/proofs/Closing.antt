@@ -11,9 +11,8 @@ use Rattle.word_core.specs.Page.{OnItsWay}
 use Rattle.word_core.specs.Serials.{serials_of}
 use Rattle.state_core.specs.declared.error.ZoneError.TheVariants.{Missing, Out}
 use Rattle.world_core.specs.declared.hand.Hand.TheVariants as hand
-use Rattle.world_core.specs.declared.hands.Held.{Held}
 use Rattle.world_core.specs.declared.hands.Held.TheVariants.{Nothing, Page, Copy}
-use Rattle.world_core.specs.Carried.{hand_as, is_nothing, AreOwn, world_of, IsCarried, IsRest}
+use Rattle.world_core.specs.Carried.{InHand, hand_as, is_nothing, AreOwn, world_of, IsCarried, IsRest}
 use Rattle.state_core.specs.Lawful.{IsLawful}
 use Rattle.state_core.specs.Ending.{IsOwnCopy, put_back_to_source}
 use Rattle.zone_core.specs.Seats.{ScanSeat, EndSeat, audit_refusal}
@@ -65,7 +64,7 @@ no_list (p ∷ list) none =
     let bad : true ≡ false = sym (waits_at (p ∷ list) zero p refl) ∙ none p.serial in
     cc
 
-pub closed_waits : (zone : ZoneState) (scan : ScanSeat) (ends : EndSeat) (is_open : Bool) (list : List OnItsWay) (held : List Held) → IsOrderly (world_of zone scan ends is_open list held) → is_open ≡ false → list ≡ []
+pub closed_waits : (zone : ZoneState) (scan : ScanSeat) (ends : EndSeat) (is_open : Bool) (list : List OnItsWay) (held : List InHand) → IsOrderly (world_of zone scan ends is_open list held) → is_open ≡ false → list ≡ []
 closed_waits zone scan ends is_open list held orderly closed = no_list list (λ serial. not_waiting_then serial (list_any (nat_eq serial) (serials_of list)) refl) where
   not_waiting_then : (serial : ℕ) (b : Bool) → list_any (nat_eq serial) (serials_of list) ≡ b → b ≡ false
   not_waiting_then serial false e = refl
@@ -105,27 +104,27 @@ closing_next zone p list count first all was page = record {
   rises : (i : ℕ) (q : OnItsWay) → slice_get list i ≡ Some q → p.serial ≢ q.serial
   rises i q e same = let less : p.serial < q.serial = was.rising.0 q.serial (waits_at list i q e) in absurd (omega arith)
 
-all_empty : (held : List Held) → list_all is_nothing held ≡ true → (i : ℕ) (h : Held) → slice_get held i ≡ Some h → h ≡ Nothing
+all_empty : (held : List InHand) → list_all is_nothing held ≡ true → (i : ℕ) (h : InHand) → slice_get held i ≡ Some h → h ≡ Nothing
 all_empty [] e i h is = cc
 all_empty (x ∷ held) e zero h is = let same : x ≡ h = cc in sym same ∙ nothing_is x (and_parts (is_nothing x) _ e).0
 all_empty (x ∷ held) e (suc i) h is = all_empty held (and_parts (is_nothing x) _ e).1 i h is
 
-empty_seen : (held : List Held) → list_all is_empty (each hand_as held) ≡ list_all is_nothing held
+empty_seen : (held : List InHand) → list_all is_empty (each hand_as held) ≡ list_all is_nothing held
 empty_seen [] = refl
 empty_seen (Nothing ∷ held) = empty_seen held
 empty_seen (Page p ∷ held) = refl
 empty_seen (Copy p ∷ held) = refl
 
-pub not_shut : (zone : ZoneState) (scan : ScanSeat) (ends : EndSeat) (is_open : Bool) (list : List OnItsWay) (held : List Held) → list_all is_nothing held ≡ false → shut_step (world_of zone scan ends is_open list held) ≡ None
+pub not_shut : (zone : ZoneState) (scan : ScanSeat) (ends : EndSeat) (is_open : Bool) (list : List OnItsWay) (held : List InHand) → list_all is_nothing held ≡ false → shut_step (world_of zone scan ends is_open list held) ≡ None
 not_shut zone scan ends is_open list held full =
     skipped (list_all is_empty (each hand_as held)) (Some (length (serials_of list), shut (world_of zone scan ends is_open list held))) None (empty_seen held ∙ full)
 
 -- the list of a world has at most 4,096 pages
-pub short_list : (zone : ZoneState) (scan : ScanSeat) (ends : EndSeat) (is_open : Bool) (list : List OnItsWay) (held : List Held) (capacity : ℕ) → IsCarried zone scan ends is_open list held capacity → length list ≤ 4096
+pub short_list : (zone : ZoneState) (scan : ScanSeat) (ends : EndSeat) (is_open : Bool) (list : List OnItsWay) (held : List InHand) (capacity : ℕ) → IsCarried zone scan ends is_open list held capacity → length list ≤ 4096
 short_list zone scan ends is_open list held capacity was =
     omega (arith, was.orderly.few.1, was.orderly.lawful.size.1, length-map list (λ (p : OnItsWay). p.serial))
 
-module _ (zone next : ZoneState) (scan : ScanSeat) (ends : EndSeat) (is_open : Bool) (list : List OnItsWay) (held : List Held) (capacity count : ℕ) (was : IsCarried zone scan ends is_open list held capacity) (empty : list_all is_nothing held ≡ true) (done : next ≡ all_put_back zone (serials_of list)) (blocks : next.blocks ≡ zone.blocks) (counted : count ≡ length list) where
+module _ (zone next : ZoneState) (scan : ScanSeat) (ends : EndSeat) (is_open : Bool) (list : List OnItsWay) (held : List InHand) (capacity count : ℕ) (was : IsCarried zone scan ends is_open list held capacity) (empty : list_all is_nothing held ≡ true) (done : next ≡ all_put_back zone (serials_of list)) (blocks : next.blocks ≡ zone.blocks) (counted : count ≡ length list) where
   abbrev open_world : WorldState
   open_world = world_of zone scan ends is_open list held
 
@@ -157,7 +156,7 @@ audit_then false b e = cc
 audit_then true true e = cc
 audit_then true false e = (refl, refl)
 
-pub carried_joined : (zone : ZoneState) (scan : ScanSeat) (ends : EndSeat) (list : List OnItsWay) (held : List Held) (capacity : ℕ) → IsLawful zone → audit_refusal zone ends ≡ None → IsRest list capacity → capacity / 256 ≡ zone.blocks → held ≡ Nothing ∷ Nothing ∷ Nothing ∷ Nothing ∷ [] → IsCarried zone scan ends false list held capacity
+pub carried_joined : (zone : ZoneState) (scan : ScanSeat) (ends : EndSeat) (list : List OnItsWay) (held : List InHand) (capacity : ℕ) → IsLawful zone → audit_refusal zone ends ≡ None → IsRest list capacity → capacity / 256 ≡ zone.blocks → held ≡ Nothing ∷ Nothing ∷ Nothing ∷ Nothing ∷ [] → IsCarried zone scan ends false list held capacity
 carried_joined zone scan ends list held capacity law audit rest blocks empty =
     let passed = audit_then (nat_eq ends.parts 64) (nat_lt 0 (length (out zone.records))) audit in
     let gone = ltb-false 0 (length (out zone.records)) passed.1 in
@@ -165,13 +164,13 @@ carried_joined zone scan ends list held capacity law audit rest blocks empty =
     (carried_closed zone scan ends law (eqb-true ends.parts 64 passed.0) (out_empty zone.records (omega arith)) capacity (omega (arith, rest.room, blocks)))
 
 -- where no round is open, the zone and its seats pass an audit
-pub audit_left : (zone : ZoneState) (scan : ScanSeat) (ends : EndSeat) (is_open : Bool) (list : List OnItsWay) (held : List Held) (capacity : ℕ) → IsCarried zone scan ends is_open list held capacity → is_open ≡ false → audit_refusal zone ends ≡ None
+pub audit_left : (zone : ZoneState) (scan : ScanSeat) (ends : EndSeat) (is_open : Bool) (list : List OnItsWay) (held : List InHand) (capacity : ℕ) → IsCarried zone scan ends is_open list held capacity → is_open ≡ false → audit_refusal zone ends ≡ None
 audit_left zone scan ends is_open list held capacity was closed =
     ap (λ (n : ℕ). if not (nat_eq n 64) then Some Missing else if nat_lt 0 (length (out zone.records)) then Some Out else None) was.orderly.whole
     ∙ ap (λ (serials : List ℕ). if nat_lt 0 (length serials) then Some Out else None) (none_out zone.records (was.orderly.closed closed))
 
 -- where no round is open no page waits
-pub rest_left : (zone : ZoneState) (scan : ScanSeat) (ends : EndSeat) (is_open : Bool) (list : List OnItsWay) (held : List Held) (capacity : ℕ) → IsCarried zone scan ends is_open list held capacity → is_open ≡ false → IsRest list capacity
+pub rest_left : (zone : ZoneState) (scan : ScanSeat) (ends : EndSeat) (is_open : Bool) (list : List OnItsWay) (held : List InHand) (capacity : ℕ) → IsCarried zone scan ends is_open list held capacity → is_open ≡ false → IsRest list capacity
 rest_left zone scan ends is_open list held capacity was closed = record {
   none = closed_waits zone scan ends is_open list held was.orderly closed;
   room = omega (arith, was.room);

@@ -9,9 +9,8 @@ use Rattle.word_core.specs.Page.{OnItsWay}
 use Rattle.word_core.specs.Serials.{serials_of}
 use Rattle.world_core.specs.declared.hand.Hand.{Hand}
 use Rattle.world_core.specs.declared.hand.Hand.TheVariants as hand
-use Rattle.world_core.specs.declared.hands.Held.{Held}
 use Rattle.world_core.specs.declared.hands.Held.TheVariants.{Nothing, Page, Copy}
-use Rattle.world_core.specs.Carried.{hand_as, page_held, copy_held, is_nothing, held_at, world_of, IsCarried}
+use Rattle.world_core.specs.Carried.{InHand, hand_as, page_held, copy_held, is_nothing, held_at, world_of, IsCarried}
 use Rattle.state_core.specs.Ending.{IsOwnCopy, committed, put_back_to_source, moved_to_target}
 use Rattle.zone_core.specs.Seats.{ScanSeat, EndSeat, seat_ended}
 use Rattle.world_core.specs.World.{WorldState, hand_of, with_hand, serial_in, page_in, copy_in, take_step, copy_step, finish_step, finished_as, finished_in, finished_by, taken_by}
@@ -22,11 +21,11 @@ use Rattle.world_core.proofs.MovesEnded.{orderly_finished}
 use Rattle.world_core.proofs.Carrying.{each_set, seen_at, seen_some, held_after, is_page_held, is_copy_held, page_same, copy_same, page_no_copy, copy_no_page, nothing_no_page, nothing_no_copy, nothing_is, waits_at}
 
 -- Taking, copying and finishing
-module _ (zone : ZoneState) (scan : ScanSeat) (ends : EndSeat) (is_open : Bool) (p : OnItsWay) (list : List OnItsWay) (held : List Held) (k capacity : ℕ) (low : 0 < k) (high : k ≤ 4) (nothing : is_nothing (held_at held k) ≡ true) (was : IsCarried zone scan ends is_open (p ∷ list) held capacity) where
+module _ (zone : ZoneState) (scan : ScanSeat) (ends : EndSeat) (is_open : Bool) (p : OnItsWay) (list : List OnItsWay) (held : List InHand) (k capacity : ℕ) (low : 0 < k) (high : k ≤ 4) (nothing : is_nothing (held_at held k) ≡ true) (was : IsCarried zone scan ends is_open (p ∷ list) held capacity) where
   abbrev before : WorldState
   before = world_of zone scan ends is_open (p ∷ list) held
 
-  abbrev hands_taken : List Held
+  abbrev hands_taken : List InHand
   hands_taken = slice_set held (k - 1) (Page p)
 
   hand_empty : hand_of before k ≡ hand.Empty
@@ -52,11 +51,11 @@ module _ (zone : ZoneState) (scan : ScanSeat) (ends : EndSeat) (is_open : Bool) 
     room = was.room;
   }
 
-module _ (zone : ZoneState) (scan : ScanSeat) (ends : EndSeat) (is_open : Bool) (p : OnItsWay) (list : List OnItsWay) (held : List Held) (k capacity : ℕ) (low : 0 < k) (high : k ≤ 4) (page : page_held (held_at held k) ≡ Some p) (was : IsCarried zone scan ends is_open list held capacity) where
+module _ (zone : ZoneState) (scan : ScanSeat) (ends : EndSeat) (is_open : Bool) (p : OnItsWay) (list : List OnItsWay) (held : List InHand) (k capacity : ℕ) (low : 0 < k) (high : k ≤ 4) (page : page_held (held_at held k) ≡ Some p) (was : IsCarried zone scan ends is_open list held capacity) where
   abbrev uncopied : WorldState
   uncopied = world_of zone scan ends is_open list held
 
-  abbrev hands_copied : List Held
+  abbrev hands_copied : List InHand
   hands_copied = slice_set held (k - 1) (Copy p)
 
   page_at_hand : slice_get held (k - 1) ≡ Some (Page p)
@@ -82,11 +81,11 @@ module _ (zone : ZoneState) (scan : ScanSeat) (ends : EndSeat) (is_open : Bool) 
     room = was.room;
   }
 
-module _ (zone : ZoneState) (scan : ScanSeat) (ends : EndSeat) (is_open : Bool) (p : OnItsWay) (list : List OnItsWay) (held : List Held) (k capacity : ℕ) (low : 0 < k) (high : k ≤ 4) (copy : copy_held (held_at held k) ≡ Some p) (was : IsCarried zone scan ends is_open list held capacity) where
+module _ (zone : ZoneState) (scan : ScanSeat) (ends : EndSeat) (is_open : Bool) (p : OnItsWay) (list : List OnItsWay) (held : List InHand) (k capacity : ℕ) (low : 0 < k) (high : k ≤ 4) (copy : copy_held (held_at held k) ≡ Some p) (was : IsCarried zone scan ends is_open list held capacity) where
   abbrev unfinished : WorldState
   unfinished = world_of zone scan ends is_open list held
 
-  abbrev hands_finished : List Held
+  abbrev hands_finished : List InHand
   hands_finished = slice_set held (k - 1) Nothing
 
   abbrev zone_finished : ZoneState
@@ -128,7 +127,7 @@ module _ (zone : ZoneState) (scan : ScanSeat) (ends : EndSeat) (is_open : Bool) 
       let bad : true ≡ false = sym one ∙ ap (λ (s : ℕ). list_any (nat_eq s) (serials_of list)) (sym same) ∙ none in
       cc
 
-  in_other_hand : (i : ℕ) (h : Held) (q : OnItsWay) → i ≢ k - 1 → slice_get held i ≡ Some h → serial_in (hand_as h) ≡ Some q.serial → p.serial ≢ q.serial
+  in_other_hand : (i : ℕ) (h : InHand) (q : OnItsWay) → i ≢ k - 1 → slice_get held i ≡ Some h → serial_in (hand_as h) ≡ Some q.serial → p.serial ≢ q.serial
   in_other_hand i h q other e is same =
       let place : i + 1 - 1 ≡ i = omega arith in
       let here : serial_in (hand_of unfinished (i + 1)) ≡ Some q.serial =

@@ -17,7 +17,7 @@ use Rattle.state_core.specs.Rounds.{round_begun}
 use Rattle.state_core.specs.Isolating.{isolate_refusal, isolated_next, next_answer}
 use Rattle.state_core.specs.Ending.{committed, ended_as, put_back_to_source}
 use Rattle.state_core.specs.Pairs.{next_pair}
-use Rattle.state_core.specs.Opening.{opened}
+use Rattle.state_core.specs.Opening.{opened_with}
 use Rattle.state_core.specs.ZoneState.{ZoneState, frame_count}
 use Rattle.zone_core.specs.Seats.{ScanSeat, EndSeat, fresh_scan_seat, fresh_end_seat, seat_begun, seat_full, seat_noted, seat_ended}
 
@@ -38,9 +38,13 @@ pub record WorldState : Type 0 where
 abbrev pub world_closed : ZoneState → ScanSeat → EndSeat → WorldState
 world_closed zone scan ends = record { zone = zone; scan = scan; ends = ends; is_open = false; waiting = []; hands = replicate 4 Empty }
 
--- a world with an empty zone
+-- a world with an empty zone, with this many words in a page
+abbrev pub world_opened_with : ℕ → ℕ → ℕ → ℕ → WorldState
+world_opened_with size number blocks places = world_closed (opened_with size number blocks places) fresh_scan_seat fresh_end_seat
+
+-- a world with an empty zone, with eight words in a page
 abbrev pub world_opened : ℕ → ℕ → ℕ → WorldState
-world_opened number blocks places = world_closed (opened number blocks places) fresh_scan_seat fresh_end_seat
+world_opened number blocks places = world_opened_with 8 number blocks places
 
 -- the world with this zone instead of its own
 abbrev pub with_zone : WorldState → ZoneState → WorldState

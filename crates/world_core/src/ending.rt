@@ -13,19 +13,19 @@ ghost use Rattle.world_core.specs.World.{IsRising, finished_as, finished_in, all
 use crate::hand::Finished;
 use std::collections::VecDeque;
 use std::sync::ledger::Ledger;
-use word_core::{Copied, Isolated};
-use zone_core::{EndSeat, Zone};
+use word_core::{CopiedOf, IsolatedOf};
+use zone_core::{EndSeat, ZoneOf};
 
 /// Ends the move of a page of the zone with the page's copy.
-pub(crate) fn finish_in<I: Ledger, M: Ledger, B: Ledger>(
-    zone: &mut Zone<I, M, B>,
+pub(crate) fn finish_in<const W: usize, I: Ledger, M: Ledger, B: Ledger>(
+    zone: &mut ZoneOf<W, I, M, B>,
     ends: &mut EndSeat<M, B>,
-    copy: Copied,
+    copy: CopiedOf<W>,
 ) -> Finished
     requires lawful { IsLawful zone.old }
     requires own { IsOwnCopy zone.old copy }
-    ensures finished { result ≡ finished_as zone.old copy.serial }
-    ensures zone { zone.new ≡ finished_in zone.old copy.serial }
+    ensures finished { result ≡ finished_as zone.old copy.entry.serial }
+    ensures zone { zone.new ≡ finished_in zone.old copy.entry.serial }
     ensures seat { ends.new ≡ seat_ended ends.old result.ended }
 {
     let serial = copy.serial();
@@ -36,16 +36,16 @@ pub(crate) fn finish_in<I: Ledger, M: Ledger, B: Ledger>(
 }
 
 /// Ends the move of a page of the zone that wasn't copied.
-fn put_back_in<I: Ledger, M: Ledger, B: Ledger>(
-    zone: &mut Zone<I, M, B>,
+fn put_back_in<const W: usize, I: Ledger, M: Ledger, B: Ledger>(
+    zone: &mut ZoneOf<W, I, M, B>,
     ends: &mut EndSeat<M, B>,
-    page: Isolated,
+    page: IsolatedOf<W>,
 )
     requires lawful { IsLawful zone.old }
     requires own { IsOwnCopy zone.old page }
-    ensures zone { zone.new ≡ all_put_back zone.old (page.serial ∷ []) }
+    ensures zone { zone.new ≡ all_put_back zone.old (page.entry.serial ∷ []) }
     ensures lawful { IsLawful zone.new }
-    ensures page { page_of zone.old.records page.serial ≡ Some page.page.number }
+    ensures page { page_of zone.old.records page.entry.serial ≡ Some page.entry.page.number }
     ensures seat { ends.new ≡ record ends.old { back = ends.old.back + 1 } }
 {
     let Ok(()) = zone.put_back(ends, page) else {
@@ -54,10 +54,10 @@ fn put_back_in<I: Ledger, M: Ledger, B: Ledger>(
 }
 
 /// Ends the moves of pages of the zone that weren't copied, in order, and answers how many there are.
-pub(crate) fn put_all_back_in<I: Ledger, M: Ledger, B: Ledger>(
-    zone: &mut Zone<I, M, B>,
+pub(crate) fn put_all_back_in<const W: usize, I: Ledger, M: Ledger, B: Ledger>(
+    zone: &mut ZoneOf<W, I, M, B>,
     ends: &mut EndSeat<M, B>,
-    waiting: &mut VecDeque<Isolated>,
+    waiting: &mut VecDeque<IsolatedOf<W>>,
 ) -> u32
     requires lawful { IsLawful zone.old }
     requires own { AreOwn zone.old waiting.old.items }

@@ -7,25 +7,28 @@ ghost use Rattle.world_core.specs.declared.hands.Held.TheVariants.{Nothing};
 
 use frame_core::HandNo;
 use std::mem;
-use word_core::{Copied, Isolated};
+use word_core::{CopiedOf, IsolatedOf};
 
-/// What a hand holds.
+/// What a hand holds: nothing, a page, or its copy.
 #[derive(Drop)]
-pub enum Held {
+pub enum Held<P, C> {
     Nothing,
-    Page(Isolated),
-    Copy(Copied),
+    Page(P),
+    Copy(C),
 }
 
 /// The four hands, numbered from 1 to 4.
 #[derive(Drop)]
-pub struct Hands {
-    pub(crate) held: [Held; 4],
+pub struct Hands<const W: usize> {
+    pub(crate) held: [Held<IsolatedOf<W>, CopiedOf<W>>; 4],
+    // A page has at most 65,536 words.
+    ghost size: { W ≤ 65536 },
 }
 
-impl Hands {
+impl<const W: usize> Hands<W> {
     /// Four hands that hold nothing.
-    pub(crate) fn new() -> Hands
+    pub(crate) fn new() -> Self
+        requires { W ≤ 65536 }
         ensures { result.held ≡ Nothing ∷ Nothing ∷ Nothing ∷ Nothing ∷ [] }
     {
         Hands {
@@ -55,7 +58,7 @@ impl Hands {
     }
 
     /// Takes the page out of a hand.
-    pub(crate) fn page_from(&mut self, hand: HandNo) -> Option<Isolated>
+    pub(crate) fn page_from(&mut self, hand: HandNo) -> Option<IsolatedOf<W>>
         ensures page { result ≡ page_held (held_at self.old.held hand) }
         ensures some { OnSome result (self.new.held ≡ slice_set self.old.held (hand - 1) Nothing) }
         ensures none { IfNone result (self.new ≡ self.old) }
@@ -72,7 +75,7 @@ impl Hands {
     }
 
     /// Takes the copy out of a hand.
-    pub(crate) fn copy_from(&mut self, hand: HandNo) -> Option<Copied>
+    pub(crate) fn copy_from(&mut self, hand: HandNo) -> Option<CopiedOf<W>>
         ensures copy { result ≡ copy_held (held_at self.old.held hand) }
         ensures some { OnSome result (self.new.held ≡ slice_set self.old.held (hand - 1) Nothing) }
         ensures none { IfNone result (self.new ≡ self.old) }
@@ -89,8 +92,8 @@ impl Hands {
     }
 
     /// Puts something in a hand.
-    pub(crate) fn put(&mut self, hand: HandNo, held: Held)
-        ensures { self.new.held ≡ slice_set self.old.held (hand - 1) held }
+    pub(crate) fn put(&mut self, hand: HandNo, held: Held<IsolatedOf<W>, CopiedOf<W>>)
+        ensures { self.new.held ≡ slice_set self.old.held (hand - 1) held.entry }
     {
         self.held[hand.get() as usize - 1] = held;
     }

@@ -12,7 +12,7 @@ ghost use Rattle.std.specs.Result.{result_err};
 ghost use Rattle.state_core.specs.Mapping.{map_refusal, map_at_refusal, mapped};
 ghost use Rattle.state_core.specs.Access.{access_refusal, value_at, loaded, stored};
 ghost use Rattle.frame_core.specs.PageFlags.{is_unmovable};
-ghost use Rattle.world_core.specs.World.{WorldState, IsOrderly, waits, world_opened, world_closed, with_zone, round_opened, scan_stopped, scanned_by, isolated_by, scan_refusal, scan_answer, scanned, take_step, copy_step, finish_step, shut_step};
+ghost use Rattle.world_core.specs.World.{WorldState, IsOrderly, waits, world_opened_with, world_closed, with_zone, round_opened, scan_stopped, scanned_by, isolated_by, scan_refusal, scan_answer, scanned, take_step, copy_step, finish_step, shut_step};
 ghost use Rattle.state_core.specs.ZoneState.{lowest_free_frame};
 
 mod calls;
@@ -21,15 +21,15 @@ use crate::ending::{finish_in, put_all_back_in};
 use crate::hand::{Finished, Scanned};
 use crate::hands::{Hands, Held};
 use crate::rest::Rest;
-use frame_core::{Address, ClientNo, FrameNo, HandNo, PageFlags, Serial, WordNo, ZoneNo};
+use frame_core::{Address, ClientNo, FrameNo, HandNo, PageFlags, Serial, WordOf, ZoneNo};
 use state_core::{Next, ZoneError};
 use std::alloc::Global;
 use std::collections::VecDeque;
 use std::marker::Model;
 use std::sync::ledger::Ledger;
 use thiserror::Error;
-use word_core::Isolated;
-use zone_core::{Blanks, EndSeat, ScanSeat, Seats, Zone};
+use word_core::IsolatedOf;
+use zone_core::{Blanks, EndSeat, ScanSeat, Seats, ZoneOf};
 
 /// Why a call of a world was refused.
 #[derive(Clone, Copy, Debug, PartialEq, Eq, Error)]
@@ -52,19 +52,19 @@ impl WorldError {
     }
 }
 
-/// A zone with its seats, its isolated pages, and four hands. Each hand is empty, or has a page or its copy. After `open`
-/// no call takes memory.
+/// A zone with its seats, its isolated pages, and four hands, over pages of `W` words. Each hand is empty, or has a page or its
+/// copy. After `open` no call takes memory.
 #[derive(Drop)]
-pub struct World<I: Ledger, N: Ledger, M: Ledger, B: Ledger> {
-    zone: Zone<I, M, B>,
+pub struct World<const W: usize, I: Ledger, N: Ledger, M: Ledger, B: Ledger> {
+    zone: ZoneOf<W, I, M, B>,
     scan: ScanSeat<I, N>,
     ends: EndSeat<M, B>,
-    waiting: VecDeque<Isolated>,
-    hands: Hands,
+    waiting: VecDeque<IsolatedOf<W>>,
+    hands: Hands<W>,
     is_open: bool,
 }
 
-impl<I: Ledger, N: Ledger, M: Ledger, B: Ledger> Model for World<I, N, M, B> {
+impl<const W: usize, I: Ledger, N: Ledger, M: Ledger, B: Ledger> Model for World<W, I, N, M, B> {
     ghost use Rattle.std.specs.Coded.{codes};
     ghost use Rattle.std.specs.VecDeque.{deque_capacity};
     ghost use Rattle.world_core.specs.World.{WorldState};
@@ -81,7 +81,7 @@ impl<I: Ledger, N: Ledger, M: Ledger, B: Ledger> Model for World<I, N, M, B> {
     ghost invariant = { λ w. IsCarried w.zone w.scan w.ends w.is_open w.waiting.items w.hands.held (deque_capacity w.waiting) };
 }
 
-impl<I: Ledger, N: Ledger, M: Ledger, B: Ledger> World<I, N, M, B> {
+impl<const W: usize, I: Ledger, N: Ledger, M: Ledger, B: Ledger> World<W, I, N, M, B> {
     /// A world with an empty zone. The blanks are those of the ledgers that the types name. They are dropped where the call is refused.
     ///
     /// Refused as Range unless there are 1 to 8 pageblocks and 1 to 65,536 places, else as Memory where there isn't enough.
@@ -91,14 +91,15 @@ impl<I: Ledger, N: Ledger, M: Ledger, B: Ledger> World<I, N, M, B> {
         blocks: u32,
         places: u32,
         blanks: Blanks,
-    ) -> Result<World<I, N, M, B>, ZoneError>
+    ) -> Result<World<W, I, N, M, B>, ZoneError>
         requires blanks { AreFor blanks I.name I.parts N.name N.parts M.name M.parts B.name B.parts }
+        requires size { W ≤ 65536 }
         ensures range { ¬ (IsOpenable blocks places) → result ≡ Err ZoneError.Range }
         ensures memory { IsOpenable blocks places → IfErr result (λ error. error ≡ ZoneError.Memory) }
-        ensures ok { IfOk result (λ world. world ≡ world_opened number blocks places) }
+        ensures ok { IfOk result (λ world. world ≡ world_opened_with W number blocks places) }
         ensures orderly { IfOk result (λ world. IsOrderly world) }
     {
-        let (zone, scan, ends) = Zone::open(alloc, number, blocks, places, blanks)?;
+        let (zone, scan, ends) = ZoneOf::open(alloc, number, blocks, places, blanks)?;
         let Ok(waiting) = VecDeque::with_capacity(alloc, 256 * blocks as usize) else {
             return Err(ZoneError::Memory);
         };
@@ -113,7 +114,7 @@ impl<I: Ledger, N: Ledger, M: Ledger, B: Ledger> World<I, N, M, B> {
     }
 
     /// The zone of the world.
-    pub fn zone(&self) -> &Zone<I, M, B>
+    pub fn zone(&self) -> &ZoneOf<W, I, M, B>
         ensures zone { result.now ≡ self.now.zone }
         // Whatever calls were made, in any order: the pages that wait and those in hands are exactly the moving ones, each
         // once, and those that wait are in the order of their serials.
@@ -170,12 +171,12 @@ impl<I: Ledger, N: Ledger, M: Ledger, B: Ledger> World<I, N, M, B> {
         &mut self,
         client: ClientNo,
         address: Address,
-        word: WordNo,
+        word: WordOf<W>,
     ) -> Result<u64, ZoneError>
         ensures refused { result_err result ≡ access_refusal self.old.zone address }
         ensures err { OnErr result (self.new ≡ self.old) }
-        ensures value { IfOk result (λ value. value ≡ value_at self.old.zone address word) }
-        ensures ok { OnOk result (self.new ≡ with_zone self.old (loaded self.old.zone client address word)) }
+        ensures value { IfOk result (λ value. value ≡ value_at self.old.zone address word.entry) }
+        ensures ok { OnOk result (self.new ≡ with_zone self.old (loaded self.old.zone client address word.entry)) }
         ensures orderly { IsOrderly self.new }
     {
         self.zone.load(client, address, word)
@@ -186,12 +187,12 @@ impl<I: Ledger, N: Ledger, M: Ledger, B: Ledger> World<I, N, M, B> {
         &mut self,
         client: ClientNo,
         address: Address,
-        word: WordNo,
+        word: WordOf<W>,
         value: u64,
     ) -> Result<(), ZoneError>
         ensures refused { result_err result ≡ access_refusal self.old.zone address }
         ensures err { OnErr result (self.new ≡ self.old) }
-        ensures ok { OnOk result (self.new ≡ with_zone self.old (stored self.old.zone client address word value)) }
+        ensures ok { OnOk result (self.new ≡ with_zone self.old (stored self.old.zone client address word.entry value)) }
         ensures orderly { IsOrderly self.new }
     {
         self.zone.store(client, address, word, value)
@@ -317,7 +318,9 @@ impl<I: Ledger, N: Ledger, M: Ledger, B: Ledger> World<I, N, M, B> {
 
     /// Takes the world apart into its zone, its seats and its rest. While a hand round is open this is refused, and the
     /// world is handed back unchanged.
-    pub fn split(self) -> Result<(Zone<I, M, B>, Seats<I, N, M, B>, Rest), World<I, N, M, B>>
+    pub fn split(
+        self,
+    ) -> Result<(ZoneOf<W, I, M, B>, Seats<I, N, M, B>, Rest<W>), World<W, I, N, M, B>>
         ensures refused { IsErr result ↔ (self.is_open ≡ true) }
         ensures err { IfErr result (λ world. world ≡ self) }
         ensures zone { IfOk result (λ parts. parts.0 ≡ self.zone) }
@@ -342,7 +345,11 @@ impl<I: Ledger, N: Ledger, M: Ledger, B: Ledger> World<I, N, M, B> {
 
     /// Makes a world of a zone with its seats. An audit of these has to be Ok, so no page is moving, and the rest has to fit
     /// the number of pageblocks that the zone has.
-    pub fn join(zone: Zone<I, M, B>, seats: Seats<I, N, M, B>, rest: Rest) -> World<I, N, M, B>
+    pub fn join(
+        zone: ZoneOf<W, I, M, B>,
+        seats: Seats<I, N, M, B>,
+        rest: Rest<W>,
+    ) -> World<W, I, N, M, B>
         requires whole { audit_refusal zone seats.ends ≡ None }
         requires rest { rest ≡ zone.blocks }
         ensures world { result ≡ world_closed zone seats.scan seats.ends }

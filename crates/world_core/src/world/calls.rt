@@ -1,7 +1,8 @@
 //! The other calls of a zone that append a record, made on the zone of a world. Each is refused as the zone's own call is.
 
-ghost use Rattle.std.specs.Prelude.{◌≡◌, ◌*◌, Some, IfOk, OnOk, OnErr};
+ghost use Rattle.std.specs.Prelude.{◌≡◌, ◌*◌, length, Some, IfOk, OnOk, OnErr};
 ghost use Rattle.std.specs.Result.{result_err};
+ghost use Rattle.state_core.specs.Bulk.{bulk_refusal, values_at, loaded_all, stored_all};
 ghost use Rattle.state_core.specs.Sharing.{share_refusal, shared};
 ghost use Rattle.state_core.specs.Unmapping.{unmap_refusal, unmapped};
 ghost use Rattle.state_core.specs.Pinning.{pin_refusal, unpin_refusal, pinned, unpinned};
@@ -10,11 +11,46 @@ ghost use Rattle.state_core.specs.Marking.{mark_refusal, unmark_refusal, block_m
 ghost use Rattle.world_core.specs.World.{IsOrderly, with_zone};
 
 use super::World;
-use frame_core::{Address, BlockNo, ClientNo, FrameNo, Order};
+use frame_core::{Address, BlockNo, ClientNo, FrameNo, Order, WordOf};
 use state_core::ZoneError;
 use std::sync::ledger::Ledger;
 
-impl<I: Ledger, N: Ledger, M: Ledger, B: Ledger> World<I, N, M, B> {
+impl<const W: usize, I: Ledger, N: Ledger, M: Ledger, B: Ledger> World<W, I, N, M, B> {
+    /// Reads words of the page that an address names, from one on, into `values`: as loads of these words do, one after the
+    /// other. Its refusals are those of `Zone::read`.
+    pub fn read(
+        &mut self,
+        client: ClientNo,
+        address: Address,
+        from: WordOf<W>,
+        values: &mut [u64],
+    ) -> Result<(), ZoneError>
+        ensures refused { result_err result ≡ bulk_refusal self.old.zone address from.entry (length values.old) }
+        ensures err { OnErr result ((self.new ≡ self.old) × (values.new ≡ values.old)) }
+        ensures values { OnOk result (values.new ≡ values_at self.old.zone address from.entry (length values.old)) }
+        ensures ok { OnOk result (self.new ≡ with_zone self.old (loaded_all self.old.zone client address from.entry (length values.old))) }
+        ensures orderly { IsOrderly self.new }
+    {
+        self.zone.read(client, address, from, values)
+    }
+
+    /// Writes words of the page that an address names, from one on: as stores of these values do, one after the other. Its
+    /// refusals are those of `Zone::write`.
+    pub fn write(
+        &mut self,
+        client: ClientNo,
+        address: Address,
+        from: WordOf<W>,
+        values: &[u64],
+    ) -> Result<(), ZoneError>
+        ensures refused { result_err result ≡ bulk_refusal self.old.zone address from.entry (length values.now) }
+        ensures err { OnErr result (self.new ≡ self.old) }
+        ensures ok { OnOk result (self.new ≡ with_zone self.old (stored_all self.old.zone client address from.entry values.now)) }
+        ensures orderly { IsOrderly self.new }
+    {
+        self.zone.write(client, address, from, values)
+    }
+
     /// Makes an alias name the page of an address too.
     pub fn share(
         &mut self,

@@ -1,14 +1,15 @@
-//! Zones whose pages have 1, 8, 64 and 512 words.
+//! Zones and worlds whose pages have 1, 8, 64 and 512 words.
 
 ghost use Rattle.std.specs.Prelude.{◌<◌, ◌≤◌};
 ghost use Rattle.zone_core.specs.Books.{AreFor};
 
-use super::{address, client};
+use super::{address, client, hand};
 use bitflags::Flags;
 use frame_core::{PageFlags, WordOf, ZoneNo};
 use std::marker::Brand;
 use std::process::Abort;
 use std::sync::ledger::Ledger;
+use world_core::{Finished, Scanned, WorldOf};
 use zone_core::{Blanks, EndSeat, Ended, Next, ScanSeat, ZoneError, ZoneOf};
 
 /// A zone of one pageblock with a page in frame 0, and its seats.
@@ -58,10 +59,7 @@ impl<const W: usize, I: Ledger, N: Ledger, M: Ledger, B: Ledger> Paged<W, I, N, 
         requires { W ≤ 65536 }
     {
         let first = WordOf::new(0).expect(rt, "a word");
-        let mut words = [0; W];
-        for (number, word) in words.iter_mut().enumerate() {
-            *word = u64::MAX - number as u64;
-        }
+        let words = words_that_differ::<W>();
         assert!(rt; self.write(rt, first, &words) == Ok(()));
         self.zone.begin_round(&mut self.scan);
         let Ok(Next::Page(page)) = self.zone.isolate_next(&mut self.scan) else {
@@ -109,6 +107,76 @@ impl<const W: usize, I: Ledger, N: Ledger, M: Ledger, B: Ledger> Paged<W, I, N, 
     }
 }
 
+/// As many words as a page has, no two alike.
+fn words_that_differ<const W: usize>() -> [u64; W] {
+    let mut words = [0; W];
+    for (number, word) in words.iter_mut().enumerate() {
+        *word = u64::MAX - number as u64;
+    }
+    words
+}
+
+/// Reads all words of the page of a world.
+fn read_page<const W: usize, I: Ledger, N: Ledger, M: Ledger, B: Ledger>(
+    rt: &impl Abort,
+    world: &mut WorldOf<W, I, N, M, B>,
+    values: &mut [u64],
+) -> Result<(), ZoneError>
+    requires { W ≤ 65536 }
+{
+    let first = WordOf::new(0).expect(rt, "a word");
+    world.read(client(rt), address(rt, (7, 9)), first, values)
+}
+
+/// Writes all words of the page of a world.
+fn write_page<const W: usize, I: Ledger, N: Ledger, M: Ledger, B: Ledger>(
+    rt: &impl Abort,
+    world: &mut WorldOf<W, I, N, M, B>,
+    values: &[u64],
+) -> Result<(), ZoneError>
+    requires { W ≤ 65536 }
+{
+    let first = WordOf::new(0).expect(rt, "a word");
+    world.write(client(rt), address(rt, (7, 9)), first, values)
+}
+
+/// A world of one pageblock with a page, which hand 1 moves: the page has each of its words afterwards.
+fn moves_by_hand<const W: usize, I: Ledger, N: Ledger, M: Ledger, B: Ledger>(
+    rt: &(impl Abort + AllocGlobal),
+    blanks: Blanks,
+)
+    requires blanks { AreFor blanks I.name I.parts N.name N.parts M.name M.parts B.name B.parts }
+    requires size { (0 < W) × (W ≤ 65536) }
+{
+    let number = ZoneNo::new(3).expect(rt, "a zone");
+    let opened = WorldOf::<W, I, N, M, B>::open(rt.alloc(), number, 1, 4096, blanks);
+    let mut world = opened.expect(rt, "a world");
+    assert!(rt;
+        world
+            .map(client(rt), address(rt, (7, 9)), PageFlags::empty())
+            .is_ok()
+    );
+    let words = words_that_differ::<W>();
+    assert!(rt; write_page(rt, &mut world, &words) == Ok(()));
+    let hand = hand(rt, 1);
+    assert!(rt; world.scan() == Ok(Scanned::Serial(0)));
+    assert!(rt; world.take(hand) == Ok(0));
+    let mut read = [0; W];
+    assert!(rt; read_page(rt, &mut world, &mut read) == Err(ZoneError::Moving));
+    assert!(rt; world.copy(hand) == Ok(()));
+    let moved = Finished {
+        serial: 0,
+        ended: Ended::Moved,
+    };
+    assert!(rt; world.finish(hand) == Ok(moved));
+    assert!(rt; read_page(rt, &mut world, &mut read) == Ok(()));
+    assert!(rt; read == words);
+    let last = WordOf::new((W - 1) as u32).expect(rt, "a word");
+    assert!(rt; world.store(client(rt), address(rt, (7, 9)), last, 7) == Ok(()));
+    assert!(rt; world.load(client(rt), address(rt, (7, 9)), last) == Ok(7));
+    assert!(rt; world.shut() == Ok(0));
+}
+
 /// How many words the pages have.
 #[derive(Clone, Copy)]
 enum Size {
@@ -134,12 +202,13 @@ fn tries<I: Ledger, N: Ledger, M: Ledger, B: Ledger>(
     }
 }
 
-/// What is tried with a zone that was just opened.
+/// What is tried with a zone or a world that was just opened.
 #[derive(Clone, Copy)]
 enum Trial {
     MovesItsWords,
     RefusesWordsPastThePage,
     NeedsAPlaceForEachWord,
+    MovesByHand,
 }
 
 fn tries_with<const W: usize, I: Ledger, N: Ledger, M: Ledger, B: Ledger>(
@@ -150,6 +219,9 @@ fn tries_with<const W: usize, I: Ledger, N: Ledger, M: Ledger, B: Ledger>(
     requires blanks { AreFor blanks I.name I.parts N.name N.parts M.name M.parts B.name B.parts }
     requires size { (0 < W) × (W ≤ 65536) }
 {
+    if let Trial::MovesByHand = trial {
+        return moves_by_hand::<W, I, N, M, B>(rt, blanks);
+    }
     let places = match trial {
         Trial::NeedsAPlaceForEachWord => W as u32,
         _ => 4096,
@@ -158,7 +230,7 @@ fn tries_with<const W: usize, I: Ledger, N: Ledger, M: Ledger, B: Ledger>(
     match trial {
         Trial::MovesItsWords => paged.moves_its_words(rt),
         Trial::RefusesWordsPastThePage => paged.refuses_words_past_the_page(rt),
-        Trial::NeedsAPlaceForEachWord => paged.needs_a_place_for_each_word(rt),
+        _ => paged.needs_a_place_for_each_word(rt),
     }
 }
 
@@ -174,6 +246,7 @@ fn pages_have_any_size(rt: HostRuntime) {
             Trial::MovesItsWords,
             Trial::RefusesWordsPastThePage,
             Trial::NeedsAPlaceForEachWord,
+            Trial::MovesByHand,
         ] {
             tries::<Brand, Brand, Brand, Brand>(&rt, size, trial, Blanks::new());
         }

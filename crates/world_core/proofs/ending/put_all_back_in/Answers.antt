@@ -1,4 +1,4 @@
-use Rattle.std.proofs.Common.{ℕ, ◌+◌, add-zero, add_assoc, ◌∷◌, List, length, refl, sym, ap, subst, ◌∙◌, arith}
+use Rattle.std.proofs.Common.{rules, ℕ, ◌+◌, add-zero, add_assoc, ◌∷◌, List, length, refl, sym, ap, subst, ◌∙◌, arith}
 use Rattle.word_core.specs.Page.{OnItsWay}
 use Rattle.state_core.specs.ZoneState.{ZoneState}
 use Rattle.zone_core.specs.Seats.{EndSeat}
@@ -17,7 +17,7 @@ pub put_back_in-requires : goal.put_back_in-requires
 put_back_in-requires g c =
     let was : IsClosing c.loop-page.zone (c.in-Some.page ∷ c.pop_front.new.self.items) c.loop-page.count c.args.zone.now c.args.waiting.now.items =
     subst (λ (list : List OnItsWay). IsClosing c.loop-page.zone list c.loop-page.count c.args.zone.now c.args.waiting.now.items) c.in-Some.ensures.items c.loop-page.invariant.closing in
-    record { lawful = c.loop-page.invariant.lawful; own = was.own 0 c.in-Some.page refl }
+    (search rules, (search rules, (c.loop-page.invariant.lawful, was.own 0 c.in-Some.page refl)))
 
 pub overflow_add-count : goal.overflow_add-count
 overflow_add-count g c =

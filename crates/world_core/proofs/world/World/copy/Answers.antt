@@ -2,9 +2,8 @@ use Rattle.std.proofs.Common.{◌≡◌, ◌-◌, List, sym, ap, ◌∙◌}
 use Rattle.std.specs.Prelude.{Some, slice_set}
 use Rattle.std.specs.VecDeque.{deque_capacity}
 use Rattle.word_core.specs.Page.{OnItsWay}
-use Rattle.world_core.specs.declared.hands.Held.{Held}
 use Rattle.world_core.specs.declared.hands.Held.TheVariants.{Copy}
-use Rattle.world_core.specs.Carried.{world_of}
+use Rattle.world_core.specs.Carried.{InHand, world_of}
 use Rattle.world_core.specs.World.{WorldState, copy_step}
 use Rattle.world_core.proofs.Carrying.{set_twice}
 use Rattle.world_core.proofs.Holding.{step_copied, carried_copied}
@@ -16,7 +15,7 @@ hands_are : (g : Over) (c : After-put g) → c.put.new.self.held ≡ slice_set c
 hands_are g c =
     let i = c.args.hand - 1 in
     c.put.ensures
-    ∙ ap (λ (held : List Held). slice_set held i (Copy c.copy_into_new.result)) c.in-Some.ensures.some
+    ∙ ap (λ (held : List InHand). slice_set held i (Copy c.copy_into_new.result)) c.in-Some.ensures.some
     ∙ set_twice c.self.inside.hands.held i _ (Copy c.copy_into_new.result)
     ∙ ap (λ (p : OnItsWay). slice_set c.self.inside.hands.held i (Copy p)) c.copy_into_new.ensures
 
@@ -30,7 +29,7 @@ returns-clause-ok g c =
     let z = c.self.inside in
     ap (λ (w : WorldState). copy_step w c.args.hand) (sym c.self.view_is)
     ∙ step_copied z.zone z.scan z.ends z.is_open c.in-Some.page z.waiting.items z.hands.held c.args.hand (deque_capacity z.waiting) c.in-Some.ensures.number.0 c.in-Some.ensures.number.1 (sym c.in-Some.ensures.page) c.self.invariant
-    ∙ ap (λ (held : List Held). Some (world_of z.zone z.scan z.ends z.is_open z.waiting.items held)) (sym (hands_are g c))
+    ∙ ap (λ (held : List InHand). Some (world_of z.zone z.scan z.ends z.is_open z.waiting.items held)) (sym (hands_are g c))
 
 pub returns-clause-orderly : goal.returns-clause-orderly
 returns-clause-orderly g c = (invariant_of-self-2 g c).orderly

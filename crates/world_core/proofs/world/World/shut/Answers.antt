@@ -1,4 +1,4 @@
-use Rattle.std.proofs.Common.{◌≡◌, ℕ, ◌+◌, false, sym, ap, ◌∙◌}
+use Rattle.std.proofs.Common.{rules, ◌≡◌, ℕ, ◌+◌, false, sym, ap, ◌∙◌}
 use Rattle.std.specs.Prelude.{Some}
 use Rattle.std.specs.VecDeque.{deque_capacity}
 use Rattle.world_core.specs.Carried.{world_of}
@@ -13,13 +13,22 @@ counted_back ends now count waited seat same = seat ∙ ap (λ (n : ℕ). record
 
 pub put_all_back_in-count-requires : goal.put_all_back_in-count-requires
 put_all_back_in-count-requires g c =
-    let z = c.self.inside in
-    record {
-      lawful = c.self.invariant.orderly.lawful;
-      own = c.self.invariant.waiting;
-      rising = c.self.invariant.orderly.rising;
-      few = short_list z.zone z.scan z.ends z.is_open z.waiting.items z.hands.held (deque_capacity z.waiting) c.self.invariant;
-    }
+    let z = c.self.inside in (
+      search rules,
+      (
+        search rules,
+        (
+          c.self.invariant.orderly.lawful,
+          (
+            c.self.invariant.waiting,
+            (
+              c.self.invariant.orderly.rising,
+              short_list z.zone z.scan z.ends z.is_open z.waiting.items z.hands.held (deque_capacity z.waiting) c.self.invariant,
+            ),
+          ),
+        ),
+      ),
+    )
 
 pub invariant_of-self : goal.invariant_of-self
 invariant_of-self g c =

@@ -2,8 +2,8 @@ use Rattle.std.specs.VecDeque.{deque_capacity}
 use Rattle.world_core.proofs.Closing.{rest_left, audit_left}
 use Rattle.world_core.proofs.world.World.split.Goals as goal
 
-pub invariant_of-result : goal.invariant_of-result
-invariant_of-result g c =
+pub invariant_of-result-2 : goal.invariant_of-result-2
+invariant_of-result-2 g c =
     let z = c.self.inside in
     rest_left z.zone z.scan z.ends z.is_open z.waiting.items z.hands.held (deque_capacity z.waiting) c.self.invariant c.if-self.false
 

@@ -7,3 +7,6 @@ invariant_of-self g c =
     let z = c.self.inside in
     carried_unmapped z.zone c.unmap.new.self z.scan z.ends z.is_open z.waiting.items z.hands.held (deque_capacity z.waiting) c.self.invariant
     c.args.client c.args.address c.unmap.result c.unmap.ensures.lawful c.unmap.ensures.refused c.unmap.ensures.err c.unmap.ensures.ok
+
+pub returns-clause-orderly : goal.returns-clause-orderly
+returns-clause-orderly g c = (invariant_of-self g c).orderly
