@@ -4,7 +4,7 @@ use crate::numbers::{address, client, frame, word};
 use anyhow::{Context, Result};
 use bitflags::Flags;
 use frame_core::{BlockNo, PageFlags, ZoneNo};
-use round_core::{NoGate, Round, compact_alone};
+use round_core::{NoGate, compact_alone};
 use std::alloc::Global;
 use std::sync::Wait;
 use std::sync::ledger::Ledger;
@@ -61,22 +61,23 @@ pub fn compact_two_pages<
 {
     let (mut zone, mut seats) = open::<I, N, M, B>(alloc, 2, blanks)?;
     let before = map_two_pages(&mut zone)?;
-    let (zone, round) = compact_alone(rt, alloc, zone, &mut seats, 2, 8, &NoGate);
-    see(zone, before, &round?)
+    let (mut zone, round) = compact_alone(rt, alloc, zone, &mut seats, 2, 8, &NoGate);
+    let moved = round?.moved;
+    see(&mut zone, before, moved)
 }
 
-/// What is seen of the zone after a round.
+/// What is seen of the zone after a round that moved so many pages.
 fn see<I: Ledger, M: Ledger, B: Ledger>(
-    mut zone: Zone<I, M, B>,
+    zone: &mut Zone<I, M, B>,
     before: u32,
-    round: &Round,
+    moved: u32,
 ) -> Result<Seen> {
     let after = zone.info().whole;
-    let (loaded, huge) = take_pageblock(&mut zone)?;
+    let (loaded, huge) = take_pageblock(zone)?;
     Ok(Seen {
         before,
         after,
-        moved: round.moved,
+        moved,
         loaded,
         huge: huge.get(),
     })
