@@ -2,7 +2,7 @@
 use Rattle.std.proofs.Common.{◌≡◌, ℕ, List, [], ◌∷◌, ◌++◌, refl, sym, ap, subst, ◌∙◌, append_assoc, Option, None, Some}
 use Rattle.std.specs.Prelude.{Result, Ok, Err, IsSome, IfOk, IfErr, slice_get}
 use Rattle.std.specs.Result.{result_err}
-use Rattle.halves_core.specs.Told.{Told, pair_of, written_if}
+use Rattle.halves_core.specs.Told.{Pair, Told, pair_of, written_if}
 use Rattle.journal_core.specs.declared.record.Record.{Record}
 use Rattle.state_core.specs.declared.error.ZoneError.{ZoneError}
 use Rattle.state_core.specs.Lawful.{IsLawful}
@@ -19,7 +19,7 @@ refused refusal zone lawful (Err error) is = record { zone = zone; lawful = lawf
 -- the record that a call adds is the newest one
 module _ {client : ℕ} {z z_new : ZoneState} (call : IsCall client z z_new) where
   pub has_newest : IsSome (slice_get z_new.records 0)
-  has_newest = subst (λ (records : List Record). IsSome (slice_get records 0)) (sym call.more) tt
+  has_newest = subst (λ (records : List Record). IsSome (slice_get records 0)) (sym call.more) refl
 
   pub newest_is : (receipt : Record) → slice_get z_new.records 0 ≡ Some receipt → call.entry ≡ receipt
   newest_is receipt is = inner call.entry receipt (subst (λ (records : List Record). slice_get records 0 ≡ Some receipt) call.more is)
@@ -51,13 +51,38 @@ receipted refusal leaves zone zone_new lawful (Ok made) is left receipt = record
 }
 receipted refusal leaves zone zone_new lawful (Err error) is left receipt = tt
 
--- one receipt more, on the slip too
-pub since_more : (before : List Record) (slip : Option Told) (receipts : List Record) (receipt : Record)
+-- the receipt of a call is the record that the call left
+pub receipt_is : (entry receipt : Record) (records : List Record) (z_new left : ZoneState) → z_new ≡ left → left.records ≡ entry ∷ records → z_new.records ≡ receipt ∷ records → receipt ≡ entry
+receipt_is entry receipt records z_new left is more noted = first receipt entry records (sym noted ∙ ap (λ (z : ZoneState). z.records) is ∙ more)
+  where
+    first : (x y : Record) (l : List Record) → x ∷ l ≡ y ∷ l → x ≡ y
+    first x y l same = cc
+
+-- what a client holds: its slip is of this pair, and has the receipts since these
+abbrev Holds : Option Pair → List Record → Option Told → List Record → Type 0
+Holds pair before slip receipts = (pair_of slip ≡ pair) × AreSince before slip receipts
+
+since_more : (before : List Record) (slip : Option Told) (receipts : List Record) (receipt : Record)
     → AreSince before slip receipts → AreSince before (written_if receipt slip) (receipts ++ receipt ∷ [])
 since_more before None receipts receipt since = tt
 since_more before (Some slip) receipts receipt since =
     ap (λ (l : List Record). l ++ receipt ∷ []) since ∙ append_assoc before slip.records (receipt ∷ [])
 
-pub pair_written : (slip : Option Told) (receipt : Record) → pair_of (written_if receipt slip) ≡ pair_of slip
+pair_written : (slip : Option Told) (receipt : Record) → pair_of (written_if receipt slip) ≡ pair_of slip
 pair_written None receipt = refl
 pair_written (Some slip) receipt = refl
+
+-- it holds one receipt more, or the same
+pub holds_more : (pair : Option Pair) (before : List Record) (slip slip_new : Option Told) (receipts receipts_new : List Record) (receipt : Record)
+    → Holds pair before slip receipts → slip_new ≡ written_if receipt slip → receipts_new ≡ receipts ++ receipt ∷ [] → Holds pair before slip_new receipts_new
+holds_more pair before slip slip_new receipts receipts_new receipt holds is more = (
+  ap pair_of is ∙ pair_written slip receipt ∙ holds.0,
+  subst (AreSince before slip_new) (sym more) (subst (λ (s : Option Told). AreSince before s (receipts ++ receipt ∷ [])) (sym is) (since_more before slip receipts receipt holds.1)),
+)
+
+pub holds_same : (pair : Option Pair) (before : List Record) (slip slip_new : Option Told) (receipts receipts_new : List Record)
+    → Holds pair before slip receipts → slip_new ≡ slip → receipts_new ≡ receipts → Holds pair before slip_new receipts_new
+holds_same pair before slip slip_new receipts receipts_new holds is same = (
+  ap pair_of is ∙ holds.0,
+  subst (AreSince before slip_new) (sym same) (subst (λ (s : Option Told). AreSince before s receipts) (sym is) holds.1),
+)

@@ -1,13 +1,13 @@
 -- The receipts that a client has more, from the journal.
-use Rattle.std.proofs.Common.{◌≡◌, ℕ, Bool, true, false, if◌then◌else◌, List, [], ◌∷◌, ◌++◌, length, drop, Option, None, Some, refl, sym, ap, subst, ◌∙◌, append-nil, append_assoc}
-use Rattle.std.specs.Prelude.{reverse}
+use Rattle.std.proofs.Common.{◌≡◌, ℕ, true, false, if◌then◌else◌, List, [], ◌∷◌, ◌++◌, length, drop, Option, None, Some, refl, sym, ap, subst, ◌∙◌, append-nil}
+use Rattle.std.specs.Prelude.{IfSome, reverse}
 use Rattle.std.specs.List.{filter}
 use Rattle.std.proofs.Math.Seq.{drop-append_seam}
 use Rattle.std.proofs.lemmas.List.{reverse-append}
 use Rattle.std.proofs.lemmas.List.Elements.{filter-append}
 use Rattle.journal_core.specs.declared.record.Record.{Record}
-use Rattle.journal_core.specs.declared.record.Record.TheVariants.{Map, Share, Unmap, Store, Load, Pin, Unpin, Isolate, Moved, Back}
-use Rattle.halves_core.specs.Told.{Pair, Told, pair_of, written_if}
+use Rattle.journal_core.specs.declared.record.Record.TheVariants.{Isolate, Moved, Back}
+use Rattle.halves_core.specs.Told.{Pair, Told, written_if}
 use Rattle.state_core.specs.ZoneState.{ZoneState}
 use Rattle.round_core.specs.Calls.{IsAddedBeside, IsCall, is_of, is_of_round}
 use Rattle.client_core.specs.Receipts.{AreSince, Client, IsToldBeside, records_of}
@@ -76,3 +76,9 @@ told_newer_last pair before after client client_new beside since = record {
   beside = beside;
   receipts = since ∙ ap (λ (l : List Record). client.receipts ++ l) (newer_added client.number before after beside.added beside.is);
 }
+
+pub told_if : {A : Type 0} (client_of : A → Client) (pair : Pair) (before after : List Record) (client : Client) → IsAddedBeside client.number before after
+    → (o : Option A) → IfSome o (λ x. AreSince client.receipts (told_newer pair client.number before after) (client_of x).receipts)
+    → IfSome o (λ x. IsToldBeside client (client_of x) before after)
+told_if client_of pair before after client beside None since = tt
+told_if client_of pair before after client beside (Some x) since = told_newer_last pair before after client (client_of x) beside since

@@ -60,16 +60,16 @@ fn make_kept<A: Access, K: Keeping, I: Ledger, M: Ledger, B: Ledger>(
     slip: &mut Option<Slip>,
 ) -> Result<(A::Answer, Record), ZoneError>
     requires allows { K.allows (A.caller access.now) (pair_of slip.old) }
+    ensures lawful { IsLawful room.old }
     ensures refused { result_err result ≡ A.refusal access.now room.old }
     ensures accepted { IfOk result (λ made. A.leaves access.now room.old made.0 room.new) }
     ensures receipt { IfOk result (λ made. room.new.records ≡ made.1 ∷ room.old.records) }
     ensures slip { IfOk result (λ made. slip.new ≡ written_if made.1 slip.old) }
     ensures err { OnErr result (slip.new ≡ slip.old) }
 {
-    let Room { zone, stub, .. } = room;
-    let answer = access.make(zone)?;
-    let receipt = newest(zone.journal());
-    write_both(stub, slip, &receipt);
+    let answer = access.make(&mut room.zone)?;
+    let receipt = newest(room.zone.journal());
+    write_both(&mut room.stub, slip, &receipt);
     Ok((answer, receipt))
 }
 
@@ -84,6 +84,7 @@ pub(crate) fn map_kept<K: Keeping, I: Ledger, M: Ledger, B: Ledger>(
 ) -> Result<(FrameNo, Record), ZoneError>
     requires clean { bit_and flags.0 2 ≡ 0 }
     requires allows { K.allows client (pair_of slip.old) }
+    ensures lawful { IsLawful room.old }
     ensures refused { result_err result ≡ map_refusal room.old address }
     ensures frame { IfOk result (λ made. lowest_free_frame room.old ≡ Some made.0) }
     ensures ok { IfOk result (λ made. room.new ≡ mapped room.old client address (is_unmovable flags) made.0) }
@@ -91,10 +92,9 @@ pub(crate) fn map_kept<K: Keeping, I: Ledger, M: Ledger, B: Ledger>(
     ensures slip { IfOk result (λ made. slip.new ≡ written_if made.1 slip.old) }
     ensures err { OnErr result (slip.new ≡ slip.old) }
 {
-    let Room { zone, stub, .. } = room;
-    let frame = zone.map(client, address, flags)?;
-    let receipt = newest(zone.journal());
-    write_both(stub, slip, &receipt);
+    let frame = room.zone.map(client, address, flags)?;
+    let receipt = newest(room.zone.journal());
+    write_both(&mut room.stub, slip, &receipt);
     Ok((frame, receipt))
 }
 
@@ -109,16 +109,16 @@ pub(crate) fn map_at_kept<K: Keeping, I: Ledger, M: Ledger, B: Ledger>(
 ) -> Result<Record, ZoneError>
     requires clean { bit_and flags.0 2 ≡ 0 }
     requires allows { K.allows client (pair_of slip.old) }
+    ensures lawful { IsLawful room.old }
     ensures refused { result_err result ≡ map_at_refusal room.old address frame }
     ensures ok { OnOk result (room.new ≡ mapped room.old client address (is_unmovable flags) frame) }
     ensures receipt { IfOk result (λ receipt. room.new.records ≡ receipt ∷ room.old.records) }
     ensures slip { IfOk result (λ receipt. slip.new ≡ written_if receipt slip.old) }
     ensures err { OnErr result (slip.new ≡ slip.old) }
 {
-    let Room { zone, stub, .. } = room;
-    zone.map_at(client, address, flags, frame)?;
-    let receipt = newest(zone.journal());
-    write_both(stub, slip, &receipt);
+    room.zone.map_at(client, address, flags, frame)?;
+    let receipt = newest(room.zone.journal());
+    write_both(&mut room.stub, slip, &receipt);
     Ok(receipt)
 }
 

@@ -1,4 +1,4 @@
-ghost use Rattle.std.specs.Prelude.{◌≡◌, ℕ, List, ◌∷◌, Option, Some, None, true, ⊤};
+ghost use Rattle.std.specs.Prelude.{◌≡◌, ℕ, List, ◌∷◌, Option, Some, None, true, refl, ⊤};
 ghost use Rattle.std.specs.FinMap as map;
 ghost use Rattle.journal_core.specs.History.{pins};
 ghost use Rattle.journal_core.specs.Moves.{isolated};

@@ -46,7 +46,7 @@ loop-zone-preserved g c =
       lawful = c.in-Ok-Page.ensures.lawful;
       keeps = subst g.K.Keeping.keeps_scanning (sym (c.in-Ok-Page.ensures.ok ∙ stepped zone c.in-Ok-Page.ensures.refused)) (g.K.Keeping.scans zone old.lawful old.keeps);
       clients = ap (λ (z : ZoneState). g.K.Keeping.told z.records) (c.in-Ok-Page.ensures.ok ∙ stepped zone c.in-Ok-Page.ensures.refused)
-          ∙ scan_tells_none g.K.Keeping.told g.met.K.Keeping.tells_none zone old.lawful ∙ old.clients;
+          ∙ scan_tells_none g.K.Keeping.told g.K.Keeping.tells_none zone old.lawful ∙ old.clients;
       told = ap (λ (z : ZoneState). isolated z.records) c.in-Ok-Page.ensures.ok ∙ grown zone (next_pair zone) p (sym c.in-Ok-Page.field-0-is ∙ c.in-Ok-Page.ensures.answer) ∙ ap (λ n. n + 1) old.told ∙ sym count;
       room = c.push_back_reserved.ensures.capacity ∙ old.room;
     }
