@@ -213,7 +213,7 @@ pub record IsTurnBeside (w : WorldState) (places : ℕ) (client : Client) (lines
   pub over : IsRoundOver w
   pub client_behind : Client
   -- of the records that the journal has more, those of the client are its new receipts, in their order; all others are of the round
-  pub told : IsToldBeside client client_behind w.zone.records over.zone.records
+  pub added : IsToldBeside client client_behind w.zone.records over.zone.records
   pub clients : AreClientAnswers client lines told client_behind
   pub settled : IsSettledReply over.zone client_behind over.result own
   pub left : new ≡ left_behind places client_behind over

@@ -29,7 +29,7 @@ returns-clause-played g c =
           ran.ensures.kept ran.ensures.shape (MatchOption-at_some _ _ both c.in-Some.is ran.ensures.round) (MatchOption-at_some _ _ both c.in-Some.is ran.ensures.early)
           c.take_back-2.ensures.exact;
       client_behind = both.client;
-      told = subst (λ (z : ZoneState). IsToldBeside c.args.turn.client both.client z.records ran.result.0.records) c.parts_of-zone.ensures.zone
+      added = subst (λ (z : ZoneState). IsToldBeside c.args.turn.client both.client z.records ran.result.0.records) c.parts_of-zone.ensures.zone
           (MatchOption-at_some _ _ both c.in-Some.is ran.ensures.told);
       clients = subst (λ (told : List Answer). AreClientAnswers c.args.turn.client c.args.turn.lines.items told both.client) (sym c.settle-told.ensures.answers)
           (MatchOption-at_some _ _ both c.in-Some.is ran.ensures.played);
