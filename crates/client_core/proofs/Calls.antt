@@ -1,35 +1,88 @@
 -- What the answer of a zone under its lock tells of the zone.
-use Rattle.std.proofs.Common.{◌≡◌, ℕ, sym, subst, Option}
-use Rattle.std.specs.Prelude.{Result, Ok, Err, IfOk, IfErr, OnErr}
+use Rattle.std.proofs.Common.{◌≡◌, ℕ, List, [], ◌∷◌, ◌++◌, refl, sym, ap, subst, ◌∙◌, append_assoc, Option, None, Some}
+use Rattle.std.specs.Prelude.{Result, Ok, Err, IsSome, IfOk, IfErr, slice_get}
 use Rattle.std.specs.Result.{result_err}
+use Rattle.halves_core.specs.Told.{Pair, Told, pair_of, written_if}
+use Rattle.journal_core.specs.declared.record.Record.{Record}
 use Rattle.state_core.specs.declared.error.ZoneError.{ZoneError}
 use Rattle.state_core.specs.Lawful.{IsLawful}
 use Rattle.state_core.specs.ZoneState.{ZoneState}
 use Rattle.round_core.specs.Calls.{IsCall}
-use Rattle.client_core.specs.Calls.{IsAccepted, IsRefused}
-
-pub accepted : {X : Type 0} (refusal : ZoneState → Option ZoneError) (leaves : ZoneState → X → ZoneState → Type 0) (zone zone_new : ZoneState)
-    → IsLawful zone → (result : Result X ZoneError) → result_err result ≡ refusal zone
-    → IfOk result (λ answer. leaves zone answer zone_new) → IfOk result (IsAccepted refusal leaves)
-accepted refusal leaves zone zone_new lawful (Ok answer) is left = record {
-  zone = zone;
-  lawful = lawful;
-  accepted = sym is;
-  zone_new = zone_new;
-  left = left;
-}
-accepted refusal leaves zone zone_new lawful (Err error) is left = tt
+use Rattle.client_core.specs.Calls.{IsReceipted, IsRefused}
+use Rattle.client_core.specs.Receipts.{AreSince}
 
 pub refused : {X : Type 0} (refusal : ZoneState → Option ZoneError) (zone : ZoneState)
     → IsLawful zone → (result : Result X ZoneError) → result_err result ≡ refusal zone → IfErr result (IsRefused refusal)
 refused refusal zone lawful (Ok answer) is = tt
 refused refusal zone lawful (Err error) is = record { zone = zone; lawful = lawful; refused = sym is }
 
--- what a lock keeps is kept by a call of a client that may make it
-pub kept : {X : Type 0} (keeps : ZoneState → Type 0) (allows : ℕ → Type 0)
-    → ((z z_new : ZoneState) (client : ℕ) → allows client → IsLawful z → IsCall client z z_new → keeps z → keeps z_new)
-    → (client : ℕ) (z z_new : ZoneState) → allows client → IsLawful z → keeps z
-    → (leaves : X → Type 0) → ((answer : X) → leaves answer → IsCall client z z_new)
-    → (result : Result X ZoneError) → OnErr result (z_new ≡ z) → IfOk result leaves → keeps z_new
-kept keeps allows calls client z z_new may lawful is leaves notes (Ok answer) same left = calls z z_new client may lawful (notes answer left) is
-kept keeps allows calls client z z_new may lawful is leaves notes (Err error) same left = subst keeps (sym same) is
+-- the record that a call adds is the newest one
+module _ {client : ℕ} {z z_new : ZoneState} (call : IsCall client z z_new) where
+  pub has_newest : IsSome (slice_get z_new.records 0)
+  has_newest = subst (λ (records : List Record). IsSome (slice_get records 0)) (sym call.more) refl
+
+  pub newest_is : (receipt : Record) → slice_get z_new.records 0 ≡ Some receipt → call.entry ≡ receipt
+  newest_is receipt is = inner call.entry receipt (subst (λ (records : List Record). slice_get records 0 ≡ Some receipt) call.more is)
+    where
+      inner : (entry other : Record) → Some entry ≡ Some other → entry ≡ other
+      inner entry other same = cc
+
+  pub more_by : (receipt : Record) → slice_get z_new.records 0 ≡ Some receipt → z_new.records ≡ receipt ∷ z.records
+  more_by receipt is = call.more ∙ ap (λ (entry : Record). entry ∷ z.records) (newest_is receipt is)
+
+  -- what was told of the zone before, and the receipt, is what was told of the zone afterwards
+  pub told_by : (told : List Record → Option Told) → told z_new.records ≡ written_if call.entry (told z.records)
+      → (stub : Option Told) → told z.records ≡ stub → (receipt : Record) → slice_get z_new.records 0 ≡ Some receipt → told z_new.records ≡ written_if receipt stub
+  told_by told tells stub before receipt is = tells ∙ (λ i. written_if (newest_is receipt is i) (before i))
+
+-- the receipt of an accepted call
+pub receipted : {X : Type 0} (refusal : ZoneState → Option ZoneError) (leaves : ZoneState → X → ZoneState → Type 0) (zone zone_new : ZoneState)
+    → IsLawful zone → (result : Result (X × Record) ZoneError) → result_err result ≡ refusal zone
+    → IfOk result (λ made. leaves zone made.0 zone_new) → IfOk result (λ made. zone_new.records ≡ made.1 ∷ zone.records) → IfOk result (IsReceipted refusal leaves)
+receipted refusal leaves zone zone_new lawful (Ok made) is left receipt = record {
+  call = record {
+    zone = zone;
+    lawful = lawful;
+    accepted = sym is;
+    zone_new = zone_new;
+    left = left;
+  };
+  receipt = receipt;
+}
+receipted refusal leaves zone zone_new lawful (Err error) is left receipt = tt
+
+-- the receipt of a call is the record that the call left
+pub receipt_is : (entry receipt : Record) (records : List Record) (z_new left : ZoneState) → z_new ≡ left → left.records ≡ entry ∷ records → z_new.records ≡ receipt ∷ records → receipt ≡ entry
+receipt_is entry receipt records z_new left is more noted = first receipt entry records (sym noted ∙ ap (λ (z : ZoneState). z.records) is ∙ more)
+  where
+    first : (x y : Record) (l : List Record) → x ∷ l ≡ y ∷ l → x ≡ y
+    first x y l same = cc
+
+-- what a client holds: its slip is of this pair, and has the receipts since these
+abbrev Holds : Option Pair → List Record → Option Told → List Record → Type 0
+Holds pair before slip receipts = (pair_of slip ≡ pair) × AreSince before slip receipts
+
+since_more : (before : List Record) (slip : Option Told) (receipts : List Record) (receipt : Record)
+    → AreSince before slip receipts → AreSince before (written_if receipt slip) (receipts ++ receipt ∷ [])
+since_more before None receipts receipt since = tt
+since_more before (Some slip) receipts receipt since =
+    ap (λ (l : List Record). l ++ receipt ∷ []) since ∙ append_assoc before slip.records (receipt ∷ [])
+
+pair_written : (slip : Option Told) (receipt : Record) → pair_of (written_if receipt slip) ≡ pair_of slip
+pair_written None receipt = refl
+pair_written (Some slip) receipt = refl
+
+-- it holds one receipt more, or the same
+pub holds_more : (pair : Option Pair) (before : List Record) (slip slip_new : Option Told) (receipts receipts_new : List Record) (receipt : Record)
+    → Holds pair before slip receipts → slip_new ≡ written_if receipt slip → receipts_new ≡ receipts ++ receipt ∷ [] → Holds pair before slip_new receipts_new
+holds_more pair before slip slip_new receipts receipts_new receipt holds is more = (
+  ap pair_of is ∙ pair_written slip receipt ∙ holds.0,
+  subst (AreSince before slip_new) (sym more) (subst (λ (s : Option Told). AreSince before s (receipts ++ receipt ∷ [])) (sym is) (since_more before slip receipts receipt holds.1)),
+)
+
+pub holds_same : (pair : Option Pair) (before : List Record) (slip slip_new : Option Told) (receipts receipts_new : List Record)
+    → Holds pair before slip receipts → slip_new ≡ slip → receipts_new ≡ receipts → Holds pair before slip_new receipts_new
+holds_same pair before slip slip_new receipts receipts_new holds is same = (
+  ap pair_of is ∙ holds.0,
+  subst (AreSince before slip_new) (sym same) (subst (λ (s : Option Told). AreSince before s receipts) (sym is) holds.1),
+)

@@ -1,6 +1,7 @@
 -- What a call under the lock of a zone tells: what the zone was when the call was made, and what it was afterwards.
-use Rattle.std.specs.Prelude.{◌≡◌, ℕ, Bool, Option, Some, None, unwrap_or}
+use Rattle.std.specs.Prelude.{◌≡◌, ℕ, Bool, ◌∷◌, Option, Some, None, unwrap_or}
 use Rattle.frame_core.specs.declared.place.Address.{Address}
+use Rattle.journal_core.specs.declared.record.Record.{Record}
 use Rattle.state_core.specs.declared.error.ZoneError.{ZoneError}
 use Rattle.state_core.specs.Access.{value_at, loaded}
 use Rattle.state_core.specs.Lawful.{IsLawful}
@@ -17,6 +18,11 @@ pub record IsAccepted {X : Type 0} (refusal : ZoneState → Option ZoneError) (l
   pub accepted : refusal zone ≡ None
   pub zone_new : ZoneState
   pub left : leaves zone answer zone_new
+
+-- a call was accepted, as above, and its receipt is the record that it left in the journal
+pub record IsReceipted {X : Type 0} (refusal : ZoneState → Option ZoneError) (leaves : ZoneState → X → ZoneState → Type 0) (made : X × Record) : Type 0 where
+  pub call : IsAccepted refusal leaves made.0
+  pub receipt : call.zone_new.records ≡ made.1 ∷ call.zone.records
 
 -- a call was refused: some lawful zone refused it with this error
 pub record IsRefused (refusal : ZoneState → Option ZoneError) (error : ZoneError) : Type 0 where

@@ -1,5 +1,5 @@
 -- Each call that a zone accepts adds one record to the journal, which is of the client.
-use Rattle.std.specs.Prelude.{◌≡◌, ℕ, Bool, true, false, List, ◌∷◌, if◌then◌else◌, unwrap_or}
+use Rattle.std.specs.Prelude.{◌≡◌, ℕ, Bool, true, false, ◌∷◌, if◌then◌else◌, unwrap_or}
 use Rattle.std.proofs.Common.{refl, ap, ◌∙◌, eq-eqb}
 use Rattle.frame_core.specs.declared.place.Address.{Address}
 use Rattle.journal_core.specs.declared.record.Record.{Record}

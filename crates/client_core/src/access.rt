@@ -1,9 +1,10 @@
 //! The calls of a client that need a page at an address, and how a call waits for its page.
 
-ghost use Rattle.std.specs.Prelude.{◌≡◌, ◌≢◌, ℕ, Option, Some, IfOk, IfErr, OnOk, OnErr};
+ghost use Rattle.std.specs.Prelude.{◌≡◌, ◌≢◌, ℕ, ◌∷◌, Option, Some, slice_get, IsSome, IfOk, IfErr, OnOk, OnErr};
 ghost use Rattle.std.specs.Int.RustNames.{bit_and};
 ghost use Rattle.std.specs.Result.{result_err};
 ghost use Rattle.frame_core.specs.PageFlags.{is_unmovable};
+ghost use Rattle.halves_core.specs.Told.{pair_of, written_if};
 ghost use Rattle.round_core.specs.Calls.{IsCall};
 ghost use Rattle.state_core.specs.declared.error.ZoneError.{ZoneError};
 ghost use Rattle.state_core.specs.Access.{access_refusal, stored};
@@ -14,11 +15,13 @@ ghost use Rattle.state_core.specs.Sharing.{share_refusal, shared};
 ghost use Rattle.state_core.specs.Unmapping.{unmap_refusal, unmapped};
 ghost use Rattle.state_core.specs.ZoneState.{ZoneState, lowest_free_frame};
 ghost use Rattle.zone_core.specs.Shape.{HasShape};
-ghost use Rattle.client_core.specs.Calls.{IsAccepted, IsRefused, leaving, loading};
+ghost use Rattle.client_core.specs.Calls.{IsReceipted, IsRefused, leaving, loading};
 ghost use Rattle.client_core.specs.Noted.{load_notes, pin_notes, share_notes, store_notes, unmap_notes, unpin_notes};
 
 use frame_core::{Address, ClientNo, FrameNo, PageFlags, WordNo};
-use round_core::{Keeping, KeptZone};
+use halves_core::{Slip, write_both};
+use journal_core::{Journal, Record};
+use round_core::{Keeping, KeptZone, Room};
 use std::sync::Wait;
 use std::sync::ledger::Ledger;
 use zone_core::{Zone, ZoneError};
@@ -50,79 +53,104 @@ pub(crate) trait Access {
     ghost notes: { (call : Self) (zone : ZoneState) (answer : Self.Answer) (zone_new : ZoneState) → leaves call zone answer zone_new → IsCall (caller call) zone zone_new };
 }
 
-/// Makes a call of a zone while its lock is held. What the lock keeps is kept by the calls of a client that may make them.
+/// Makes a call while the lock of a zone is held. An accepted call gives its receipt, which is written on the client's slip too.
 fn make_kept<A: Access, K: Keeping, I: Ledger, M: Ledger, B: Ledger>(
     access: &A,
-    zone: &mut Zone<I, M, B>,
-) -> Result<A::Answer, ZoneError>
-    requires allows { K.allows (A.caller access.now) }
-    requires lawful { IsLawful zone.old }
-    requires keeps { K.keeps zone.old }
-    ensures refused { result_err result ≡ A.refusal access.now zone.old }
-    ensures accepted { IfOk result (λ answer. A.leaves access.now zone.old answer zone.new) }
-    ensures keeps { K.keeps zone.new }
-    ensures shape { HasShape zone.old.number zone.old.blocks zone.new }
-    ensures lawful { IsLawful zone.new }
+    room: &mut Room<K, I, M, B>,
+    slip: &mut Option<Slip>,
+) -> Result<(A::Answer, Record), ZoneError>
+    requires allows { K.allows (A.caller access.now) (pair_of slip.old) }
+    ensures lawful { IsLawful room.old }
+    ensures refused { result_err result ≡ A.refusal access.now room.old }
+    ensures accepted { IfOk result (λ made. A.leaves access.now room.old made.0 room.new) }
+    ensures receipt { IfOk result (λ made. room.new.records ≡ made.1 ∷ room.old.records) }
+    ensures slip { IfOk result (λ made. slip.new ≡ written_if made.1 slip.old) }
+    ensures err { OnErr result (slip.new ≡ slip.old) }
 {
-    access.make(zone)
+    let answer = access.make(&mut room.zone)?;
+    let receipt = newest(room.zone.journal());
+    write_both(&mut room.stub, slip, &receipt);
+    Ok((answer, receipt))
 }
 
-/// Makes an address name a fresh page in the lowest free frame, while the lock of the zone is held.
+/// Makes an address name a fresh page in the lowest free frame, while the lock of the zone is held. It answers the frame and the
+/// receipt.
 pub(crate) fn map_kept<K: Keeping, I: Ledger, M: Ledger, B: Ledger>(
-    zone: &mut Zone<I, M, B>,
+    room: &mut Room<K, I, M, B>,
+    slip: &mut Option<Slip>,
     client: ClientNo,
     address: Address,
     flags: PageFlags,
-) -> Result<FrameNo, ZoneError>
+) -> Result<(FrameNo, Record), ZoneError>
     requires clean { bit_and flags.0 2 ≡ 0 }
-    requires allows { K.allows client }
-    requires lawful { IsLawful zone.old }
-    requires keeps { K.keeps zone.old }
-    ensures refused { result_err result ≡ map_refusal zone.old address }
-    ensures frame { IfOk result (λ frame. lowest_free_frame zone.old ≡ Some frame) }
-    ensures ok { IfOk result (λ frame. zone.new ≡ mapped zone.old client address (is_unmovable flags) frame) }
-    ensures keeps { K.keeps zone.new }
-    ensures shape { HasShape zone.old.number zone.old.blocks zone.new }
-    ensures lawful { IsLawful zone.new }
+    requires allows { K.allows client (pair_of slip.old) }
+    ensures lawful { IsLawful room.old }
+    ensures refused { result_err result ≡ map_refusal room.old address }
+    ensures frame { IfOk result (λ made. lowest_free_frame room.old ≡ Some made.0) }
+    ensures ok { IfOk result (λ made. room.new ≡ mapped room.old client address (is_unmovable flags) made.0) }
+    ensures receipt { IfOk result (λ made. room.new.records ≡ made.1 ∷ room.old.records) }
+    ensures slip { IfOk result (λ made. slip.new ≡ written_if made.1 slip.old) }
+    ensures err { OnErr result (slip.new ≡ slip.old) }
 {
-    zone.map(client, address, flags)
+    let frame = room.zone.map(client, address, flags)?;
+    let receipt = newest(room.zone.journal());
+    write_both(&mut room.stub, slip, &receipt);
+    Ok((frame, receipt))
 }
 
-/// Makes an address name a fresh page in a given frame, while the lock of the zone is held.
+/// Makes an address name a fresh page in a given frame, while the lock of the zone is held. It answers the receipt.
 pub(crate) fn map_at_kept<K: Keeping, I: Ledger, M: Ledger, B: Ledger>(
-    zone: &mut Zone<I, M, B>,
+    room: &mut Room<K, I, M, B>,
+    slip: &mut Option<Slip>,
     client: ClientNo,
     address: Address,
     flags: PageFlags,
     frame: FrameNo,
-) -> Result<(), ZoneError>
+) -> Result<Record, ZoneError>
     requires clean { bit_and flags.0 2 ≡ 0 }
-    requires allows { K.allows client }
-    requires lawful { IsLawful zone.old }
-    requires keeps { K.keeps zone.old }
-    ensures refused { result_err result ≡ map_at_refusal zone.old address frame }
-    ensures ok { OnOk result (zone.new ≡ mapped zone.old client address (is_unmovable flags) frame) }
-    ensures keeps { K.keeps zone.new }
-    ensures shape { HasShape zone.old.number zone.old.blocks zone.new }
-    ensures lawful { IsLawful zone.new }
+    requires allows { K.allows client (pair_of slip.old) }
+    ensures lawful { IsLawful room.old }
+    ensures refused { result_err result ≡ map_at_refusal room.old address frame }
+    ensures ok { OnOk result (room.new ≡ mapped room.old client address (is_unmovable flags) frame) }
+    ensures receipt { IfOk result (λ receipt. room.new.records ≡ receipt ∷ room.old.records) }
+    ensures slip { IfOk result (λ receipt. slip.new ≡ written_if receipt slip.old) }
+    ensures err { OnErr result (slip.new ≡ slip.old) }
 {
-    zone.map_at(client, address, flags, frame)
+    room.zone.map_at(client, address, flags, frame)?;
+    let receipt = newest(room.zone.journal());
+    write_both(&mut room.stub, slip, &receipt);
+    Ok(receipt)
 }
 
-/// Makes a call under the lock of a zone. While its page is moving, it waits until a move has ended and makes the call again.
+/// The newest record of a journal.
+fn newest(journal: &Journal) -> Record
+    requires { IsSome (slice_get journal.now.records 0) }
+    ensures { slice_get journal.now.records 0 ≡ Some result }
+{
+    let Some(entry) = journal.last() else {
+        unreachable!();
+    };
+    *entry
+}
+
+/// Makes a call under the lock of a zone. While its page is moving, it waits until a move has ended and makes the call again. An
+/// accepted call gives its receipt, which is written on the client's slip too.
 pub(crate) fn once_there<A: Access, K: Keeping, I: Ledger, M: Ledger, B: Ledger, R: Wait>(
     rt: &R,
     shared: &KeptZone<K, I, M, B>,
     access: &A,
-) -> Result<A::Answer, ZoneError>
-    requires allows { K.allows (A.caller access.now) }
-    ensures accepted { IfOk result (IsAccepted (A.refusal access.now) (A.leaves access.now)) }
+    slip: &mut Option<Slip>,
+) -> Result<(A::Answer, Record), ZoneError>
+    requires allows { K.allows (A.caller access.now) (pair_of slip.old) }
+    ensures accepted { IfOk result (IsReceipted (A.refusal access.now) (A.leaves access.now)) }
+    ensures slip { IfOk result (λ made. slip.new ≡ written_if made.1 slip.old) }
+    ensures err { OnErr result (slip.new ≡ slip.old) }
     ensures refused { IfErr result (IsRefused (A.refusal access.now)) }
     ensures there { IfErr result (λ refusal. refusal ≢ ZoneError.Moving) }
 {
     let mut room = shared.lock(rt);
     for _ in rt.forever() {
-        match make_kept::<A, K, I, M, B>(access, &mut room.zone) {
+        match make_kept::<A, K, I, M, B>(access, &mut room, slip) {
             Err(ZoneError::Moving) => room = shared.wait_for_end(rt, room),
             answer => return answer,
         }
@@ -130,18 +158,22 @@ pub(crate) fn once_there<A: Access, K: Keeping, I: Ledger, M: Ledger, B: Ledger,
     unreachable!()
 }
 
-/// Makes a call under the lock of a zone, and doesn't wait where its page is moving.
+/// Makes a call under the lock of a zone, and doesn't wait where its page is moving. An accepted call gives its receipt, which is
+/// written on the client's slip too.
 pub(crate) fn at_once<A: Access, K: Keeping, I: Ledger, M: Ledger, B: Ledger, R: Wait>(
     rt: &R,
     shared: &KeptZone<K, I, M, B>,
     access: &A,
-) -> Result<A::Answer, ZoneError>
-    requires allows { K.allows (A.caller access.now) }
-    ensures accepted { IfOk result (IsAccepted (A.refusal access.now) (A.leaves access.now)) }
+    slip: &mut Option<Slip>,
+) -> Result<(A::Answer, Record), ZoneError>
+    requires allows { K.allows (A.caller access.now) (pair_of slip.old) }
+    ensures accepted { IfOk result (IsReceipted (A.refusal access.now) (A.leaves access.now)) }
+    ensures slip { IfOk result (λ made. slip.new ≡ written_if made.1 slip.old) }
+    ensures err { OnErr result (slip.new ≡ slip.old) }
     ensures refused { IfErr result (IsRefused (A.refusal access.now)) }
 {
     let mut room = shared.lock(rt);
-    make_kept::<A, K, I, M, B>(access, &mut room.zone)
+    make_kept::<A, K, I, M, B>(access, &mut room, slip)
 }
 
 #[derive(Clone, Copy)]

@@ -1,4 +1,4 @@
-ghost use Rattle.std.specs.Prelude.{◌≡◌, ◌≢◌, ℕ, [], Some, slice_get, IsSome, IfOk, IfErr, OnOk, OnErr};
+ghost use Rattle.std.specs.Prelude.{◌≡◌, ◌≢◌, ℕ, [], Some, IfOk, IfErr, OnOk, OnErr};
 ghost use Rattle.std.specs.Int.RustNames.{bit_and};
 ghost use Rattle.journal_core.specs.declared.record.Record.TheVariants.{Map, Share, Unmap, Store, Load, Pin, Unpin};
 ghost use Rattle.frame_core.specs.PageFlags.{is_unmovable};
@@ -8,16 +8,19 @@ ghost use Rattle.state_core.specs.Pinning.{pin_refusal, unpin_refusal, pinned, u
 ghost use Rattle.state_core.specs.Sharing.{share_refusal, shared as shared_by};
 ghost use Rattle.state_core.specs.Unmapping.{unmap_refusal, unmapped};
 ghost use Rattle.client_core.specs.Calls.{IsAccepted, IsFailed, leaving, loading, mapping, mapping_lowest};
-ghost use Rattle.client_core.specs.Receipts.{with_receipt};
+ghost use Rattle.client_core.specs.Receipts.{AreSince, with_receipt};
+ghost use Rattle.halves_core.specs.Told.{pair_of};
 
 use crate::access;
 use crate::access::{at_once, map_at_kept, map_kept, once_there};
 use crate::error::ClientError;
+use crate::telling::{Telling, Untold};
 use frame_core::{Address, ClientNo, FrameNo, PageFlags, WordNo};
-use journal_core::{Journal, Record};
+use halves_core::Slip;
+use journal_core::Record;
 use round_core::{Keeping, KeptZone};
 use std::alloc::{AllocError, Global};
-use std::marker::Model;
+use std::marker::{Model, PhantomData};
 use std::sync::Wait;
 use std::sync::ledger::Ledger;
 use zone_core::ZoneError;
@@ -27,36 +30,40 @@ use zone_core::ZoneError;
 /// Each call takes the memory for its receipt first, so the error `Memory` comes before any refusal of the zone. Each call says
 /// what the zone may refuse it as. A call that isn't accepted leaves the client as it was. A call whose page is moving waits until
 /// the move has ended; `pin` and `unpin` never wait.
+///
+/// Where `J` says so, the client has the slip of a pair, and each receipt is written on it together with the stub, which is under the
+/// lock of the zone. So what is on the stub are the client's receipts since it has the slip, and nobody else can write on it.
 #[derive(Drop)]
-pub struct Client {
+pub struct Client<J: Telling = Untold> {
     number: ClientNo,
     receipts: Vec<Record>,
+    slip: Option<Slip>,
+    of: PhantomData<J>,
 }
 
-impl Model for Client {
-    ghost use Rattle.client_core.specs.Receipts.{Client as Seen};
+impl<J: Telling> Model for Client<J> {
+    ghost use Rattle.std.specs.Prelude.{◌≡◌};
+    ghost use Rattle.halves_core.specs.Told.{pair_of};
+    ghost use Rattle.client_core.specs.Receipts.{Client as Seen, AreSince};
 
     ghost Value = { Seen };
 
     ghost view = { λ c. record { number = c.number; receipts = c.receipts.items } };
+
+    ghost invariant = { λ c. (pair_of c.slip ≡ J.pair) × AreSince J.before c.slip c.receipts.items };
 }
 
-impl Client {
-    /// A client that has made no call.
+impl Client<Untold> {
+    /// A client that has made no call, and has no slip.
     pub fn new(alloc: Global, number: ClientNo) -> Client
         ensures { result ≡ record { number = number; receipts = [] } }
     {
         Client {
             number,
             receipts: Vec::new(alloc),
+            slip: None,
+            of: PhantomData,
         }
-    }
-
-    /// The number of the client.
-    pub fn number(&self) -> ClientNo
-        ensures { result ≡ self.now.number }
-    {
-        self.number
     }
 
     /// A copy of the client with the same receipts, or an error where there is no memory for them.
@@ -66,7 +73,59 @@ impl Client {
         Ok(Client {
             number: self.number,
             receipts: self.receipts.clone()?,
+            slip: None,
+            of: PhantomData,
         })
+    }
+
+    /// Gives the client a slip with nothing on it.
+    pub fn with_slip<J: Telling>(self, slip: Slip) -> Client<J>
+        requires pair { J.pair ≡ Some slip.pair }
+        requires before { J.before ≡ self.receipts }
+        requires none { slip.records ≡ [] }
+        ensures { result ≡ self }
+    {
+        let Client {
+            number,
+            receipts,
+            ..
+        } = self;
+        Client {
+            number,
+            receipts,
+            slip: Some(slip),
+            of: PhantomData,
+        }
+    }
+}
+
+impl<J: Telling> Client<J> {
+    /// Takes the slip from the client, if it has one. What is on it are the receipts since the client has had it.
+    pub fn into_parts(self) -> (Client, Option<Slip>)
+        ensures client { result.0 ≡ self }
+        ensures pair { pair_of result.1 ≡ J.pair }
+        ensures since { AreSince J.before result.1 self.receipts }
+    {
+        let Client {
+            number,
+            receipts,
+            slip,
+            ..
+        } = self;
+        let client = Client {
+            number,
+            receipts,
+            slip: None,
+            of: PhantomData,
+        };
+        (client, slip)
+    }
+
+    /// The number of the client.
+    pub fn number(&self) -> ClientNo
+        ensures { result ≡ self.now.number }
+    {
+        self.number
     }
 
     /// The records of the accepted calls, the oldest first.
@@ -87,7 +146,7 @@ impl Client {
         address: Address,
         flags: PageFlags,
     ) -> Result<FrameNo, ClientError>
-        requires allows { K.allows self.old.number }
+        requires allows { K.allows self.old.number J.pair }
         requires clean { bit_and flags.0 2 ≡ 0 }
         ensures ok { IfOk result (λ frame. (page : ℕ) × (self.new ≡ with_receipt self.old (Map self.old.number address page))
             × IsAccepted (λ zone. map_refusal zone address) (mapping_lowest self.old.number address (is_unmovable flags) frame) page) }
@@ -96,8 +155,8 @@ impl Client {
     {
         self.receipts.reserve(1)?;
         let mut room = shared.lock(rt);
-        let frame = map_kept::<K, I, M, B>(&mut room.zone, self.number, address, flags)?;
-        self.receipts.push_reserved(newest(room.zone.journal()));
+        let (frame, receipt) = map_kept(&mut room, &mut self.slip, self.number, address, flags)?;
+        self.receipts.push_reserved(receipt);
         Ok(frame)
     }
 
@@ -112,7 +171,7 @@ impl Client {
         flags: PageFlags,
         frame: FrameNo,
     ) -> Result<(), ClientError>
-        requires allows { K.allows self.old.number }
+        requires allows { K.allows self.old.number J.pair }
         requires clean { bit_and flags.0 2 ≡ 0 }
         ensures ok { OnOk result ((page : ℕ) × (self.new ≡ with_receipt self.old (Map self.old.number address page))
             × IsAccepted (λ zone. map_at_refusal zone address frame) (mapping self.old.number address (is_unmovable flags) frame) page) }
@@ -121,8 +180,15 @@ impl Client {
     {
         self.receipts.reserve(1)?;
         let mut room = shared.lock(rt);
-        map_at_kept::<K, I, M, B>(&mut room.zone, self.number, address, flags, frame)?;
-        self.receipts.push_reserved(newest(room.zone.journal()));
+        let receipt = map_at_kept(
+            &mut room,
+            &mut self.slip,
+            self.number,
+            address,
+            flags,
+            frame,
+        )?;
+        self.receipts.push_reserved(receipt);
         Ok(())
     }
 
@@ -136,7 +202,7 @@ impl Client {
         address: Address,
         alias: Address,
     ) -> Result<(), ClientError>
-        requires allows { K.allows self.old.number }
+        requires allows { K.allows self.old.number J.pair }
         ensures ok { OnOk result (self.new ≡ with_receipt self.old (Share self.old.number address alias)) }
         ensures accepted { IfOk result (IsAccepted (λ zone. share_refusal zone address alias) (leaving (λ zone. shared_by zone self.old.number address alias))) }
         ensures err { OnErr result (self.new ≡ self.old) }
@@ -149,12 +215,8 @@ impl Client {
             address,
             alias,
         };
-        once_there(rt, shared, &call)?;
-        self.receipts.push_reserved(Record::Share {
-            client: call.client,
-            address: call.address,
-            alias: call.alias,
-        });
+        let ((), receipt) = once_there(rt, shared, &call, &mut self.slip)?;
+        self.receipts.push_reserved(receipt);
         Ok(())
     }
 
@@ -167,7 +229,7 @@ impl Client {
         shared: &KeptZone<K, I, M, B>,
         address: Address,
     ) -> Result<(), ClientError>
-        requires allows { K.allows self.old.number }
+        requires allows { K.allows self.old.number J.pair }
         ensures ok { OnOk result (self.new ≡ with_receipt self.old (Unmap self.old.number address)) }
         ensures accepted { IfOk result (IsAccepted (λ zone. unmap_refusal zone address) (leaving (λ zone. unmapped zone self.old.number address))) }
         ensures err { OnErr result (self.new ≡ self.old) }
@@ -179,11 +241,8 @@ impl Client {
             client: self.number,
             address,
         };
-        once_there(rt, shared, &call)?;
-        self.receipts.push_reserved(Record::Unmap {
-            client: call.client,
-            address: call.address,
-        });
+        let ((), receipt) = once_there(rt, shared, &call, &mut self.slip)?;
+        self.receipts.push_reserved(receipt);
         Ok(())
     }
 
@@ -197,7 +256,7 @@ impl Client {
         address: Address,
         word: WordNo,
     ) -> Result<u64, ClientError>
-        requires allows { K.allows self.old.number }
+        requires allows { K.allows self.old.number J.pair }
         ensures ok { IfOk result (λ value. self.new ≡ with_receipt self.old (Load self.old.number address word value)) }
         ensures accepted { IfOk result (IsAccepted (λ zone. access_refusal zone address) (loading self.old.number address word)) }
         ensures err { OnErr result (self.new ≡ self.old) }
@@ -210,13 +269,8 @@ impl Client {
             address,
             word,
         };
-        let value = once_there(rt, shared, &call)?;
-        self.receipts.push_reserved(Record::Load {
-            client: call.client,
-            address: call.address,
-            word: call.word.noted(),
-            value,
-        });
+        let (value, receipt) = once_there(rt, shared, &call, &mut self.slip)?;
+        self.receipts.push_reserved(receipt);
         Ok(value)
     }
 
@@ -231,7 +285,7 @@ impl Client {
         word: WordNo,
         value: u64,
     ) -> Result<(), ClientError>
-        requires allows { K.allows self.old.number }
+        requires allows { K.allows self.old.number J.pair }
         ensures ok { OnOk result (self.new ≡ with_receipt self.old (Store self.old.number address word value)) }
         ensures accepted { IfOk result (IsAccepted (λ zone. access_refusal zone address) (leaving (λ zone. stored zone self.old.number address word value))) }
         ensures err { OnErr result (self.new ≡ self.old) }
@@ -245,13 +299,8 @@ impl Client {
             word,
             value,
         };
-        once_there(rt, shared, &call)?;
-        self.receipts.push_reserved(Record::Store {
-            client: call.client,
-            address: call.address,
-            word: call.word.noted(),
-            value: call.value,
-        });
+        let ((), receipt) = once_there(rt, shared, &call, &mut self.slip)?;
+        self.receipts.push_reserved(receipt);
         Ok(())
     }
 
@@ -264,7 +313,7 @@ impl Client {
         shared: &KeptZone<K, I, M, B>,
         address: Address,
     ) -> Result<(), ClientError>
-        requires allows { K.allows self.old.number }
+        requires allows { K.allows self.old.number J.pair }
         ensures ok { OnOk result (self.new ≡ with_receipt self.old (Pin self.old.number address)) }
         ensures accepted { IfOk result (IsAccepted (λ zone. pin_refusal zone address) (leaving (λ zone. pinned zone self.old.number address))) }
         ensures err { OnErr result (self.new ≡ self.old) }
@@ -275,11 +324,8 @@ impl Client {
             client: self.number,
             address,
         };
-        at_once(rt, shared, &call)?;
-        self.receipts.push_reserved(Record::Pin {
-            client: call.client,
-            address: call.address,
-        });
+        let ((), receipt) = at_once(rt, shared, &call, &mut self.slip)?;
+        self.receipts.push_reserved(receipt);
         Ok(())
     }
 
@@ -292,7 +338,7 @@ impl Client {
         shared: &KeptZone<K, I, M, B>,
         address: Address,
     ) -> Result<(), ClientError>
-        requires allows { K.allows self.old.number }
+        requires allows { K.allows self.old.number J.pair }
         ensures ok { OnOk result (self.new ≡ with_receipt self.old (Unpin self.old.number address)) }
         ensures accepted { IfOk result (IsAccepted (λ zone. unpin_refusal zone address) (leaving (λ zone. unpinned zone self.old.number address))) }
         ensures err { OnErr result (self.new ≡ self.old) }
@@ -303,22 +349,8 @@ impl Client {
             client: self.number,
             address,
         };
-        at_once(rt, shared, &call)?;
-        self.receipts.push_reserved(Record::Unpin {
-            client: call.client,
-            address: call.address,
-        });
+        let ((), receipt) = at_once(rt, shared, &call, &mut self.slip)?;
+        self.receipts.push_reserved(receipt);
         Ok(())
     }
-}
-
-/// The newest record of a journal.
-fn newest(journal: &Journal) -> Record
-    requires { IsSome (slice_get journal.now.records 0) }
-    ensures { slice_get journal.now.records 0 ≡ Some result }
-{
-    let Some(entry) = journal.last() else {
-        unreachable!();
-    };
-    *entry
 }

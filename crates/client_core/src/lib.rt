@@ -7,7 +7,9 @@ mod access;
 mod client;
 mod error;
 mod settling;
+mod telling;
 
 pub use client::Client;
 pub use error::ClientError;
 pub use settling::{Mismatch, settle_clients};
+pub use telling::{Telling, Untold};

@@ -4,3 +4,4 @@ pub mod Sharing
 pub mod ByHand
 pub mod Begun
 pub mod Beside
+pub mod NoReceipt

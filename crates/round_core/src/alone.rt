@@ -1,4 +1,4 @@
-ghost use Rattle.std.specs.Prelude.{◌≡◌, ◌+◌, ◌<◌, ◌≤◌, true, IfOk, OnOk};
+ghost use Rattle.std.specs.Prelude.{◌≡◌, ◌+◌, ◌<◌, ◌≤◌, true, None, IfOk, OnOk};
 ghost use Rattle.journal_core.specs.Moves.{isolated};
 ghost use Rattle.outcome_core.specs.ByHand.{by_hand};
 ghost use Rattle.outcome_core.specs.Outcome.{IsSame};
@@ -86,6 +86,7 @@ fn compact_shared<
     requires cap { (0 < cap) × (cap ≤ 64) }
     requires shape { HasShape K.number K.blocks zone }
     requires keeps { K.keeps zone }
+    requires told { K.told zone.records ≡ None }
     requires begins { K.begins_at seats.old.scan.count }
     ensures keeps { K.keeps result.0 }
     ensures stops { IfOk result.1 (λ r. K.stops_at seats.new.scan.count r.stopped) }

@@ -31,6 +31,7 @@ pub(crate) fn isolate_burst<K: Keeping, I: Ledger, N: Ledger, M: Ledger, B: Ledg
     ensures rounds { scan.new.rounds ≡ scan.old.rounds }
     ensures stopped { IfSome result (λ stop. scan.new.last ≡ Some (answer_at stop)) }
     ensures keeps { K.keeps zone.new }
+    ensures told { K.told zone.new.records ≡ K.told zone.old.records }
     ensures stops { IfSome result (λ stop. K.stops_at scan.new.count stop) }
     ensures more { IfNone result (scan.old.count < scan.new.count) }
     ensures room { deque_capacity pages.new ≡ deque_capacity pages.old }
@@ -57,6 +58,7 @@ pub(crate) fn commit_burst<K: Keeping, I: Ledger, M: Ledger, B: Ledger>(
     requires lawful { IsLawful zone.old }
     requires keeps { K.keeps zone.old }
     ensures keeps { K.keeps zone.new }
+    ensures told { K.told zone.new.records ≡ K.told zone.old.records }
     ensures back { K.unpinned → seat.new.back ≡ seat.old.back }
     ensures copies { copies.new.items ≡ [] }
     ensures parts { seat.new.parts ≡ seat.old.parts }

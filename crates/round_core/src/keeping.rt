@@ -1,10 +1,12 @@
-ghost use Rattle.std.specs.Prelude.{◌≡◌, ℕ, Some, None, ⊤};
+ghost use Rattle.std.specs.Prelude.{◌≡◌, ℕ, List, ◌∷◌, Option, Some, None, true, refl, ⊤};
 ghost use Rattle.std.specs.FinMap as map;
 ghost use Rattle.journal_core.specs.History.{pins};
 ghost use Rattle.journal_core.specs.Moves.{isolated};
 ghost use Rattle.journal_core.specs.declared.record.Cause.{Cause};
+ghost use Rattle.journal_core.specs.declared.record.Record.{Record};
+ghost use Rattle.halves_core.specs.Told.{Pair, Told, pair_of, written_if};
 ghost use Rattle.outcome_core.specs.ByHand.{scan_pair, scan_step};
-ghost use Rattle.round_core.specs.Calls.{IsCall};
+ghost use Rattle.round_core.specs.Calls.{IsCall, is_of_round};
 ghost use Rattle.round_core.specs.Rounds.{stop_for};
 ghost use Rattle.round_core.specs.Scanning.{HasBegun};
 ghost use Rattle.round_core.specs.declared.round.Stop.{Stop as Stopped};
@@ -37,8 +39,11 @@ pub trait Keeping: Shape {
     /// No moving page has a pin.
     ghost unpinned: { Type 0 };
 
-    /// The client with this number may make calls.
-    ghost allows: { ℕ → Type 0 };
+    /// The client with this number may make calls, and its slip is of this pair, if it has one.
+    ghost allows: { ℕ → Option Pair → Type 0 };
+
+    /// Where receipts are kept, the pair of the stub under the lock, and the receipts that clients have of this journal.
+    ghost told: { List Record → Option Told };
 
     // A round begins, its scanner takes the lock again, and lets it go.
     ghost begins: { (z : ZoneState) → IsLawful z → begins_at (isolated z.records) → keeps z → keeps_scanning (round_begun z) };
@@ -60,7 +65,14 @@ pub trait Keeping: Shape {
     ghost pins_none: { (z : ZoneState) (page serial source target : ℕ) → unpinned → IsLawful z → keeps z → map.get z.placement page ≡ Some (Moving serial source target) → pins z.records page ≡ 0 };
 
     // A client makes a call that the zone accepts; one that the zone refuses leaves it as it was.
-    ghost calls: { (z z_new : ZoneState) (client : ℕ) → allows client → IsLawful z → IsCall client z z_new → keeps z → keeps z_new };
+    ghost calls: { (z z_new : ZoneState) (client : ℕ) (pair : Option Pair) → allows client pair → IsLawful z → IsCall client z z_new → keeps z → keeps z_new };
+
+    // The record of such a call is one receipt more; a step of a round is none.
+    ghost tells: { (z z_new : ZoneState) (client : ℕ) (pair : Option Pair) → allows client pair → (call : IsCall client z z_new) → keeps z → told z_new.records ≡ written_if call.entry (told z.records) };
+
+    ghost tells_none: { (entry : Record) (records : List Record) → is_of_round entry ≡ true → told (entry ∷ records) ≡ told records };
+
+    ghost pairs: { (client : ℕ) (pair : Option Pair) (records : List Record) → allows client pair → pair_of (told records) ≡ pair };
 }
 
 // Nothing: a call that passes `Brand` picks its own.
@@ -75,7 +87,9 @@ impl Keeping for Brand {
 
     ghost unpinned = { ⊥ };
 
-    ghost allows = { λ client. ⊤ };
+    ghost allows = { λ client pair. None ≡ pair };
+
+    ghost told = { λ records. None };
 
     ghost begins = { λ z law at keeps. tt };
 
@@ -93,10 +107,16 @@ impl Keeping for Brand {
 
     ghost pins_none = { λ z page serial source target never law keeps at. absurd never };
 
-    ghost calls = { λ z z_new client may law call keeps. tt };
+    ghost calls = { λ z z_new client pair may law call keeps. tt };
+
+    ghost tells = { λ z z_new client pair may call keeps. refl };
+
+    ghost tells_none = { λ entry records of_round. refl };
+
+    ghost pairs = { λ client pair records may. may };
 }
 
-/// Of a zone that anyone may use its lock keeps nothing but that it is lawful, and each client may make calls.
+/// Of a zone that anyone may use its lock keeps nothing but that it is lawful, and each client that has no slip may make calls.
 pub struct Open<K> {
     of: PhantomData<K>,
 }
@@ -118,7 +138,9 @@ impl<K: Shape> Keeping for Open<K> {
 
     ghost unpinned = { ⊥ };
 
-    ghost allows = { λ client. ⊤ };
+    ghost allows = { λ client pair. None ≡ pair };
+
+    ghost told = { λ records. None };
 
     ghost begins = { λ z law at keeps. tt };
 
@@ -136,5 +158,11 @@ impl<K: Shape> Keeping for Open<K> {
 
     ghost pins_none = { λ z page serial source target never law keeps at. absurd never };
 
-    ghost calls = { λ z z_new client may law call keeps. tt };
+    ghost calls = { λ z z_new client pair may law call keeps. tt };
+
+    ghost tells = { λ z z_new client pair may call keeps. refl };
+
+    ghost tells_none = { λ entry records of_round. refl };
+
+    ghost pairs = { λ client pair records may. may };
 }

@@ -4,6 +4,7 @@ use crate::burst::{commit_burst, isolate_burst, least};
 use crate::keeping::{Keeping, Open};
 use crate::round::Stop;
 use frame_core::Serial;
+use halves_core::Stub;
 use hand_core::patience::{TRIES, pause};
 use std::collections::VecDeque;
 use std::marker::{Model, PhantomData};
@@ -12,15 +13,18 @@ use std::sync::{Condvar, Mutex, MutexGuard, Wait};
 use word_core::{Copied, Isolated};
 use zone_core::{EndSeat, ScanSeat, Zone};
 
-/// What is under the lock: a zone, and whether a thread waits for the end of a move in it.
+/// What is under the lock: a zone, the stub of its client's receipts where they are kept, and whether a thread waits for the end of a
+/// move in the zone.
 #[derive(Drop)]
 pub struct Room<K: Keeping, I: Ledger, M: Ledger, B: Ledger> {
     pub zone: Zone<I, M, B>,
+    pub stub: Option<Stub>,
     is_awaited: bool,
     of: PhantomData<K>,
 }
 
 impl<K: Keeping, I: Ledger, M: Ledger, B: Ledger> Model for Room<K, I, M, B> {
+    ghost use Rattle.std.specs.Prelude.{◌≡◌};
     ghost use Rattle.state_core.specs.ZoneCode.{coded_zone};
     ghost use Rattle.state_core.specs.Lawful.{IsLawful};
     ghost use Rattle.state_core.specs.ZoneState.{ZoneState};
@@ -32,7 +36,7 @@ impl<K: Keeping, I: Ledger, M: Ledger, B: Ledger> Model for Room<K, I, M, B> {
 
     ghost view = { λ r. r.zone };
 
-    ghost invariant = { λ r. IsLawful r.zone × HasShape K.number K.blocks r.zone × K.keeps r.zone };
+    ghost invariant = { λ r. IsLawful r.zone × HasShape K.number K.blocks r.zone × K.keeps r.zone × (K.told r.zone.records ≡ r.stub) };
 }
 
 impl<K: Keeping, I: Ledger, M: Ledger, B: Ledger> Room<K, I, M, B> {
@@ -78,10 +82,21 @@ impl<K: Keeping, I: Ledger, M: Ledger, B: Ledger> KeptZone<K, I, M, B> {
     pub fn new(zone: Zone<I, M, B>) -> Self
         requires shape { HasShape K.number K.blocks zone }
         requires keeps { K.keeps zone }
+        requires told { K.told zone.records ≡ None }
+    {
+        Self::with_stub(zone, None)
+    }
+
+    /// Puts a zone under a lock, with the stub of its client's receipts where they are kept.
+    pub fn with_stub(zone: Zone<I, M, B>, stub: Option<Stub>) -> Self
+        requires shape { HasShape K.number K.blocks zone }
+        requires keeps { K.keeps zone }
+        requires told { K.told zone.records ≡ stub }
     {
         let blocks = zone.blocks();
         let room = Room {
             zone,
+            stub,
             is_awaited: false,
             of: PhantomData,
         };
@@ -98,7 +113,19 @@ impl<K: Keeping, I: Ledger, M: Ledger, B: Ledger> KeptZone<K, I, M, B> {
         ensures shape { HasShape K.number K.blocks result }
         ensures keeps { K.keeps result }
     {
-        self.room.into_inner().zone
+        let (zone, _) = self.into_parts();
+        zone
+    }
+
+    /// Takes the zone out with the stub, as the last holder of the lock left them.
+    pub fn into_parts(self) -> (Zone<I, M, B>, Option<Stub>)
+        ensures kept { IsKept result.0 }
+        ensures shape { HasShape K.number K.blocks result.0 }
+        ensures keeps { K.keeps result.0 }
+        ensures told { K.told result.0.records ≡ result.1 }
+    {
+        let Room { zone, stub, .. } = self.room.into_inner();
+        (zone, stub)
     }
 
     /// How many pageblocks the zone has, 1 to 8.

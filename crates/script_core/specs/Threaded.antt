@@ -30,7 +30,7 @@ use Rattle.text_core.specs.Pool.{pool_order, told_as}
 use Rattle.text_core.specs.declared.reply.Reply.{Reply}
 use Rattle.text_core.specs.declared.reply.Reply.TheVariants as reply
 use Rattle.text_core.specs.Grammar.{zone_of}
-use Rattle.client_core.specs.Receipts.{Agrees, Client}
+use Rattle.client_core.specs.Receipts.{IsToldBeside, Agrees, Client}
 use Rattle.script_core.specs.Clients.{AreClientAnswers}
 use Rattle.script_laws.specs.ByHand.{count_by_hand, pool_stopped_as, stopped_as}
 use Rattle.play_core.specs.Script.{Answer, ClientLine, Numbered, commands_of}
@@ -211,9 +211,9 @@ pub record IsSettledReply (zone : ZoneState) (client : Client) (result : Result 
 -- a round during which a client made calls: the answers to the client's lines, the reply to the round, and the machine after it
 pub record IsTurnBeside (w : WorldState) (places : ℕ) (client : Client) (lines : List ClientLine) (told : List Answer) (own : Reply) (new : Threaded) : Type 0 where
   pub over : IsRoundOver w
-  -- each record that the journal has more is of the round or of the client
-  pub added : IsAddedBeside client.number w.zone.records over.zone.records
   pub client_behind : Client
+  -- of the records that the journal has more, those of the client are its new receipts, in their order; all others are of the round
+  pub added : IsToldBeside client client_behind w.zone.records over.zone.records
   pub clients : AreClientAnswers client lines told client_behind
   pub settled : IsSettledReply over.zone client_behind over.result own
   pub left : new ≡ left_behind places client_behind over

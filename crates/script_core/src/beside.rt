@@ -1,13 +1,16 @@
 //! A round during which a client makes calls.
 
-ghost use Rattle.std.specs.Prelude.{◌≡◌, ◌≤◌, [], IfOk, IfSome, IfNone, vec_len, vec_capacity};
+ghost use Rattle.std.specs.Prelude.{◌≡◌, ◌≤◌, [], Some, IfOk, IfSome, IfNone, vec_len, vec_capacity};
+ghost use Rattle.client_core.specs.Receipts.{AreSince, IsToldBeside};
+ghost use Rattle.halves_core.specs.Told.{pair_of};
 ghost use Rattle.round_core.specs.Calls.{IsAddedBeside};
 ghost use Rattle.round_core.specs.Kept.{IsKept};
 ghost use Rattle.round_core.specs.Rounds.{IsRefusedEarly, IsRound};
 ghost use Rattle.zone_core.specs.Shape.{HasShape};
 ghost use Rattle.script_core.specs.Clients.{AreClientAnswers, IsClientReply, IsMade};
 
-use client_core::{Client, ClientError};
+use client_core::{Client, ClientError, Telling, Untold};
+use halves_core::{Slip, Stub};
 use machine_core::{Options, flags};
 use play_core::{Answer, ClientLine};
 use round_core::{Keeping, KeptZone, NoGate, Round, RoundError, compact};
@@ -23,22 +26,22 @@ use zone_core::{Seats, Zone};
 
 /// A client with the lines whose calls it makes, and an empty list with room for their answers.
 #[derive(Drop)]
-pub(crate) struct Turn {
-    pub(crate) client: Client,
+pub(crate) struct Turn<J: Telling = Untold> {
+    pub(crate) client: Client<J>,
     pub(crate) lines: Vec<ClientLine>,
     pub(crate) answers: Vec<Answer>,
 }
 
 /// The client after its calls, the answers to its lines, and what the round came to.
 #[derive(Drop)]
-pub(crate) struct Both {
-    pub(crate) client: Client,
+pub(crate) struct Both<J: Telling = Untold> {
+    pub(crate) client: Client<J>,
     pub(crate) answers: Vec<Answer>,
     pub(crate) round: Result<Round, RoundError>,
 }
 
-/// Runs one round over a zone while one client makes calls of it, and hands the zone back. None where the client's thread can't
-/// be started: then nothing ran.
+/// Runs one round over a zone while one client makes calls of it, and hands the zone back. The client's receipts are written on a
+/// stub and a slip, which are a new pair. None where the client's thread can't be started: then nothing ran.
 pub(crate) fn compact_beside<
     I: Ledger + Send + Sync,
     N: Ledger,
@@ -52,10 +55,14 @@ pub(crate) fn compact_beside<
     seats: &mut Seats<I, N, M, B>,
     options: Options,
     turn: Turn,
+    stub: Stub,
+    slip: Slip,
 ) -> (Zone<I, M, B>, Option<Both>)
     requires room { (turn.answers.items ≡ []) × (vec_len turn.lines ≤ vec_capacity turn.answers) }
-    // Each record that the journal has more is of the round or of the client.
+    requires pair { (slip ≡ stub) × (stub.records ≡ []) }
+    // Each record that the journal has more is of the round or of the client, and those of the client are its new receipts.
     ensures added { IsAddedBeside turn.client.number zone.records result.0.records }
+    ensures told { IfSome result.1 (λ both. IsToldBeside turn.client both.client zone.records result.0.records) }
     ensures kept { IsKept result.0 }
     ensures shape { HasShape zone.number zone.blocks result.0 }
     ensures played { IfSome result.1 (λ both. AreClientAnswers turn.client turn.lines.items both.answers.items both.client) }
@@ -63,12 +70,14 @@ pub(crate) fn compact_beside<
     ensures early { IfSome result.1 (λ both. IsRefusedEarly seats.old.scan seats.new.scan seats.old.ends seats.new.ends both.round) }
     ensures none { IfNone result.1 ((seats.new.scan ≡ seats.old.scan) × (seats.new.ends ≡ seats.old.ends)) }
 {
-    compact_shared::<Brand, I, N, M, B, R>(rt, alloc, zone, seats, options, turn)
+    compact_shared::<Brand, Brand, I, N, M, B, R>(rt, alloc, zone, seats, options, turn, stub, slip)
 }
 
-/// Runs both over a zone with the number and the pageblocks that the type names.
+/// Runs both over a zone with the number and the pageblocks that the type names. Where both ran, what the lock of the zone was told are
+/// the client's new receipts.
 fn compact_shared<
     K: Keeping + Send + Sync,
+    J: Telling + Send,
     I: Ledger + Send + Sync,
     N: Ledger,
     M: Ledger + Send + Sync,
@@ -81,13 +90,19 @@ fn compact_shared<
     seats: &mut Seats<I, N, M, B>,
     options: Options,
     turn: Turn,
+    stub: Stub,
+    slip: Slip,
 ) -> (Zone<I, M, B>, Option<Both>)
     requires shape { HasShape K.number K.blocks zone }
     requires keeps { K.keeps zone }
     requires begins { K.begins_at seats.old.scan.count }
-    requires allows { K.allows turn.client.number }
+    requires allows { K.allows turn.client.number J.pair }
+    requires told { K.told zone.records ≡ Some stub }
+    requires slip { (J.pair ≡ Some slip.pair) × (slip.records ≡ []) }
+    requires before { J.before ≡ turn.client.receipts }
     requires room { (turn.answers.items ≡ []) × (vec_len turn.lines ≤ vec_capacity turn.answers) }
     ensures keeps { K.keeps result.0 }
+    ensures told { IfSome result.1 (λ both. AreSince J.before (K.told result.0.records) both.client.receipts) }
     ensures kept { IsKept result.0 }
     ensures shape { HasShape K.number K.blocks result.0 }
     ensures played { IfSome result.1 (λ both. AreClientAnswers turn.client turn.lines.items both.answers.items both.client) }
@@ -95,14 +110,53 @@ fn compact_shared<
     ensures early { IfSome result.1 (λ both. IsRefusedEarly seats.old.scan seats.new.scan seats.old.ends seats.new.ends both.round) }
     ensures none { IfNone result.1 ((seats.new.scan ≡ seats.old.scan) × (seats.new.ends ≡ seats.old.ends)) }
 {
-    let shared = KeptZone::<K, I, M, B>::new(zone);
+    let Turn {
+        client,
+        lines,
+        answers,
+    } = turn;
+    let turn = Turn {
+        client: client.with_slip::<J>(slip),
+        lines,
+        answers,
+    };
+    let shared = KeptZone::<K, I, M, B>::with_stub(zone, Some(stub));
     let both = in_scope(rt, alloc, &shared, seats, options, turn);
-    (shared.into_zone(), both)
+    let (zone, stub) = shared.into_parts();
+    let Some(both) = both else {
+        return (zone, None);
+    };
+    (zone, Some(compared(both, stub)))
+}
+
+/// Puts the client's slip to the stub: what is on the stub are the client's new receipts.
+fn compared<J: Telling>(both: Both<J>, stub: Option<Stub>) -> Both
+    requires pair { pair_of stub ≡ J.pair }
+    ensures told { AreSince J.before stub both.client.receipts }
+    ensures client { result.client ≡ both.client }
+    ensures answers { result.answers.items ≡ both.answers.items }
+    ensures round { result.round ≡ both.round }
+{
+    let Both {
+        client,
+        answers,
+        round,
+    } = both;
+    let (client, slip) = client.into_parts();
+    if let (Some(stub), Some(slip)) = (stub, slip) {
+        stub.compare(slip);
+    }
+    Both {
+        client,
+        answers,
+        round,
+    }
 }
 
 /// Runs both in a scope of their own.
 fn in_scope<
     K: Keeping + Send + Sync,
+    J: Telling + Send,
     I: Ledger + Send + Sync,
     N: Ledger,
     M: Ledger + Send + Sync,
@@ -114,10 +168,10 @@ fn in_scope<
     shared: &KeptZone<K, I, M, B>,
     seats: &mut Seats<I, N, M, B>,
     options: Options,
-    turn: Turn,
-) -> Option<Both>
+    turn: Turn<J>,
+) -> Option<Both<J>>
     requires begins { K.begins_at seats.old.scan.count }
-    requires allows { K.allows turn.client.number }
+    requires allows { K.allows turn.client.number J.pair }
     requires room { (turn.answers.items ≡ []) × (vec_len turn.lines ≤ vec_capacity turn.answers) }
     ensures played { IfSome result (λ both. AreClientAnswers turn.client turn.lines.items both.answers.items both.client) }
     ensures round { IfSome result (λ both. IfOk both.round (λ r. IsRound seats.old.scan seats.new.scan seats.old.ends seats.new.ends r)) }
@@ -128,9 +182,9 @@ fn in_scope<
     let (lent, both) = thread::scope(
         thread::scope_env(),
         rt,
-        move |scope| -> (&mut Seats<I, N, M, B>, Option<Both>)
+        move |scope| -> (&mut Seats<I, N, M, B>, Option<Both<J>>)
             requires begins { K.begins_at lent.now.scan.count }
-            requires allows { K.allows turn.client.number }
+            requires allows { K.allows turn.client.number J.pair }
             requires room { (turn.answers.items ≡ []) × (vec_len turn.lines ≤ vec_capacity turn.answers) }
             ensures played { IfSome result.1 (λ both. AreClientAnswers turn.client turn.lines.items both.answers.items both.client) }
             ensures round { IfSome result.1 (λ both. IfOk both.round (λ r. IsRound lent.entry.now.scan result.0.now.scan lent.entry.now.ends result.0.now.ends r)) }
@@ -151,6 +205,7 @@ fn run_both<
     's,
     'e,
     K: Keeping + Send + Sync,
+    J: Telling + Send + 's,
     I: Ledger + Send + Sync,
     N: Ledger,
     M: Ledger + Send + Sync,
@@ -163,10 +218,10 @@ fn run_both<
     shared: &'e KeptZone<K, I, M, B>,
     seats: &mut Seats<I, N, M, B>,
     options: Options,
-    turn: Turn,
-) -> Option<Both>
+    turn: Turn<J>,
+) -> Option<Both<J>>
     requires begins { K.begins_at seats.old.scan.count }
-    requires allows { K.allows turn.client.number }
+    requires allows { K.allows turn.client.number J.pair }
     requires room { (turn.answers.items ≡ []) × (vec_len turn.lines ≤ vec_capacity turn.answers) }
     ensures played { IfSome result (λ both. AreClientAnswers turn.client turn.lines.items both.answers.items both.client) }
     ensures round { IfSome result (λ both. IfOk both.round (λ r. IsRound seats.old.scan seats.new.scan seats.old.ends seats.new.ends r)) }
@@ -197,11 +252,11 @@ fn run_both<
 
 /// A client hands back its answers and its receipts.
 #[derive(Drop)]
-struct Plays {
-    turn: Snapshot<Turn>,
+struct Plays<J: Telling> {
+    turn: Snapshot<Turn<J>>,
 }
 
-impl Promise<Turn> for Plays {
+impl<J: Telling> Promise<Turn<J>> for Plays<J> {
     ghost use Rattle.script_core.specs.Clients.{AreClientAnswers};
 
     ghost kept_by = { λ p r. AreClientAnswers p.turn.value.client p.turn.value.lines.items r.answers.items r.client };
@@ -212,6 +267,7 @@ fn start_client<
     's,
     'e,
     K: Keeping + Send + Sync,
+    J: Telling + Send + 's,
     I: Ledger + Send + Sync,
     M: Ledger + Send + Sync,
     B: Ledger + Send + Sync,
@@ -220,9 +276,9 @@ fn start_client<
     scope: &'s Scope<'s, &'e ()>,
     rt: &'e R,
     shared: &'e KeptZone<K, I, M, B>,
-    turn: Turn,
-) -> Option<PromisedHandle<Turn, Plays>>
-    requires allows { K.allows turn.client.number }
+    turn: Turn<J>,
+) -> Option<PromisedHandle<Turn<J>, Plays<J>>>
+    requires allows { K.allows turn.client.number J.pair }
     requires room { (turn.answers.items ≡ []) × (vec_len turn.lines ≤ vec_capacity turn.answers) }
     ensures { IfSome result (λ player. player.promise.turn.value ≡ turn) }
 {
@@ -231,8 +287,8 @@ fn start_client<
     };
     let started = scope.spawn_with(
         promise,
-        move || -> Turn
-            requires allows { K.allows turn.client.number }
+        move || -> Turn<J>
+            requires allows { K.allows turn.client.number J.pair }
             requires room { (turn.answers.items ≡ []) × (vec_len turn.lines ≤ vec_capacity turn.answers) }
             ensures { AreClientAnswers turn.client turn.lines.items result.answers.items result.client }
         { play_lines(rt, shared, turn) },
@@ -241,12 +297,12 @@ fn start_client<
 }
 
 /// Makes the calls of a client's lines, one after the other.
-fn play_lines<K: Keeping, I: Ledger, M: Ledger, B: Ledger, R: Wait>(
+fn play_lines<K: Keeping, J: Telling, I: Ledger, M: Ledger, B: Ledger, R: Wait>(
     rt: &R,
     shared: &KeptZone<K, I, M, B>,
-    turn: Turn,
-) -> Turn
-    requires allows { K.allows turn.client.number }
+    turn: Turn<J>,
+) -> Turn<J>
+    requires allows { K.allows turn.client.number J.pair }
     requires room { (turn.answers.items ≡ []) × (vec_len turn.lines ≤ vec_capacity turn.answers) }
     ensures { AreClientAnswers turn.client turn.lines.items result.answers.items result.client }
 {
@@ -267,13 +323,13 @@ fn play_lines<K: Keeping, I: Ledger, M: Ledger, B: Ledger, R: Wait>(
 }
 
 /// Answers a line of a client.
-fn reply_to<K: Keeping, I: Ledger, M: Ledger, B: Ledger, R: Wait>(
+fn reply_to<K: Keeping, J: Telling, I: Ledger, M: Ledger, B: Ledger, R: Wait>(
     rt: &R,
     shared: &KeptZone<K, I, M, B>,
-    client: &mut Client,
+    client: &mut Client<J>,
     call: Option<ClientCall>,
 ) -> Reply
-    requires { K.allows client.old.number }
+    requires { K.allows client.old.number J.pair }
     ensures { IsClientReply client.old call result client.new }
 {
     let Some(call) = call else {
@@ -285,13 +341,13 @@ fn reply_to<K: Keeping, I: Ledger, M: Ledger, B: Ledger, R: Wait>(
 }
 
 /// Makes a call of a client.
-fn make<K: Keeping, I: Ledger, M: Ledger, B: Ledger, R: Wait>(
+fn make<K: Keeping, J: Telling, I: Ledger, M: Ledger, B: Ledger, R: Wait>(
     rt: &R,
     shared: &KeptZone<K, I, M, B>,
-    client: &mut Client,
+    client: &mut Client<J>,
     call: ClientCall,
 ) -> Result<Reply, ClientError>
-    requires { K.allows client.old.number }
+    requires { K.allows client.old.number J.pair }
     ensures { IsMade client.old call result client.new }
 {
     match call {

@@ -14,6 +14,7 @@ use crate::beside::{Both, Turn, compact_beside};
 use arrayvec::ArrayVec;
 use client_core::{Client, settle_clients};
 use frame_core::{ClientNo, Order, ZoneNo};
+use halves_core::{Slip, Stub};
 use huge_core::{Collector, Huge, Report, Stop as PoolStop, reserve_alone};
 use machine_core::{Machine, Options};
 use play_core::{Answer, Answers, Block};
@@ -191,13 +192,14 @@ impl<I: Ledger + Send + Sync, N: Ledger, M: Ledger + Send + Sync, B: Ledger + Se
     {
         let client = self.client.try_clone()?;
         let line = block.line();
+        let (stub, slip) = Stub::pair(alloc)?;
         let (lines, answers) = block.into_parts();
         let turn = Turn {
             client,
             lines,
             answers,
         };
-        let Some((answers, own)) = self.run_turn(rt, alloc, world, turn) else {
+        let Some((answers, own)) = self.run_turn(rt, alloc, world, turn, stub, slip) else {
             let own = Answer::new(line, Reply::Refused(32));
             return Ok(Answers::new(Vec::new(alloc), own));
         };
@@ -212,17 +214,29 @@ impl<I: Ledger + Send + Sync, N: Ledger, M: Ledger + Send + Sync, B: Ledger + Se
         alloc: Global,
         world: World<I, N, M, B>,
         turn: Turn,
+        stub: Stub,
+        slip: Slip,
     ) -> Option<(Vec<Answer>, Reply)>
         requires given { self.old.single.world ≡ None }
         requires whole { self.old.broken ≡ None }
         requires closed { world.is_open ≡ false }
         requires client { turn.client ≡ self.old.client }
+        requires pair { (slip ≡ stub) × (stub.records ≡ []) }
         requires room { (turn.answers.items ≡ []) × (vec_len turn.lines ≤ vec_capacity turn.answers) }
         ensures played { IfSome result (λ told. IsTurnBeside world self.old.single.places turn.client turn.lines.items told.0.items told.1 self.new) }
         ensures none { IfNone result (IsNothingRun world self.old self.new) }
     {
         let (zone, mut seats, rest) = parts_of(world);
-        let (zone, both) = compact_beside(rt, alloc, zone, &mut seats, self.options, turn);
+        let (zone, both) = compact_beside(
+            rt,
+            alloc,
+            zone,
+            &mut seats,
+            self.options,
+            turn,
+            stub,
+            slip,
+        );
         let Some(both) = both else {
             self.take_back(zone, seats, rest);
             return None;

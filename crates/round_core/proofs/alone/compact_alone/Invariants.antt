@@ -1,4 +1,4 @@
-use Rattle.std.proofs.Common.{◌≡◌}
+use Rattle.std.proofs.Common.{◌≡◌, refl, None}
 use Rattle.journal_core.specs.Moves.{isolated}
 use Rattle.outcome_core.specs.Alone.{IsAtRest, KeepsAlone, KeepsScanning}
 use Rattle.outcome_core.proofs.Alone.{alone_begins, alone_lets_go, alone_scans, alone_unpinned, alone_commits, alone_puts_back}
@@ -18,7 +18,8 @@ ghosts-compact_shared-K-Keeping g a = record {
   begins_at = λ n. n ≡ isolated a.zone.records;
   stops_at = StopsAlone a.zone;
   unpinned = IsAtRest a.zone;
-  allows = λ client. ⊥;
+  allows = λ client pair. ⊥;
+  told = λ records. None;
   begins = alone_begins a.zone;
   goes_on = goes_on_alone a.zone;
   lets_go = alone_lets_go a.zone;
@@ -27,5 +28,8 @@ ghosts-compact_shared-K-Keeping g a = record {
   commits = alone_commits a.zone;
   puts_back = alone_puts_back a.zone;
   pins_none = λ z page serial source target rest law. alone_unpinned a.zone z page serial source target rest;
-  calls = λ z z_new client never law call keeps. absurd never;
+  calls = λ z z_new client pair never law call keeps. absurd never;
+  tells = λ z z_new client pair never call keeps. absurd never;
+  tells_none = λ entry records of_round. refl;
+  pairs = λ client pair records never. absurd never;
 }

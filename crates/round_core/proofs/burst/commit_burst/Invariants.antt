@@ -9,6 +9,7 @@ invariant-loop-copy g l = record {
   shape : HasShape l.fn.zone.number l.fn.zone.blocks l.zone;
   lawful : IsLawful l.zone;
   keeps : g.K.Keeping.keeps l.zone;
+  told : g.K.Keeping.told l.zone.records ≡ g.K.Keeping.told l.fn.zone.records;
   back : g.K.Keeping.unpinned → l.seat.back ≡ l.fn.seat.back;
 }
 

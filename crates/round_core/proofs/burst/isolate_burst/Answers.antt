@@ -13,6 +13,7 @@ use Rattle.hand_core.proofs.Serials.{serials-snoc}
 use Rattle.round_core.specs.Rounds.{stop_for}
 use Rattle.round_core.specs.declared.round.Stop.TheVariants as Stopped
 use Rattle.outcome_core.proofs.Steps.{stepped, met_none, met_stops}
+use Rattle.round_core.proofs.NoReceipt.{scan_tells_none}
 use Rattle.round_core.proofs.burst.isolate_burst.Goals as goal
 
 serial_is : (z : ZoneState) (pair : Option Pair) (p : OnItsWay) → Page p ≡ next_answer z pair → p.serial ≡ isolated z.records
@@ -44,6 +45,8 @@ loop-zone-preserved g c =
       shape = search rules;
       lawful = c.in-Ok-Page.ensures.lawful;
       keeps = subst g.K.Keeping.keeps_scanning (sym (c.in-Ok-Page.ensures.ok ∙ stepped zone c.in-Ok-Page.ensures.refused)) (g.K.Keeping.scans zone old.lawful old.keeps);
+      clients = ap (λ (z : ZoneState). g.K.Keeping.told z.records) (c.in-Ok-Page.ensures.ok ∙ stepped zone c.in-Ok-Page.ensures.refused)
+          ∙ scan_tells_none g.K.Keeping.told g.K.Keeping.tells_none zone old.lawful ∙ old.clients;
       told = ap (λ (z : ZoneState). isolated z.records) c.in-Ok-Page.ensures.ok ∙ grown zone (next_pair zone) p (sym c.in-Ok-Page.field-0-is ∙ c.in-Ok-Page.ensures.answer) ∙ ap (λ n. n + 1) old.told ∙ sym count;
       room = c.push_back_reserved.ensures.capacity ∙ old.room;
     }

@@ -14,6 +14,7 @@ invariant-loop-zone g l = record {
   shape : HasShape l.fn.zone.number l.fn.zone.blocks l.zone;
   lawful : IsLawful l.zone;
   keeps : g.K.Keeping.keeps_scanning l.zone;
+  clients : g.K.Keeping.told l.zone.records ≡ g.K.Keeping.told l.fn.zone.records;
   told : isolated l.zone.records ≡ l.scan.count;
   room : deque_capacity l.pages ≡ deque_capacity l.fn.pages;
 }

@@ -1,5 +1,6 @@
-use Rattle.std.proofs.Common.{◌≡◌}
+use Rattle.std.proofs.Common.{◌≡◌, Some}
 use Rattle.round_core.specs.Calls.{IsAddedBeside}
+use Rattle.client_core.proofs.Since.{told_newer, told_newer_call, told_newer_none}
 use Rattle.round_core.proofs.Beside.{added_back, added_call, added_commit, added_scan}
 use Rattle.script_core.proofs.beside.compact_beside.Given as goal
 
@@ -18,7 +19,8 @@ ghosts-compact_shared-K-Keeping g a =
       begins_at = λ n. Unit {0};
       stops_at = λ n stop. Unit {0};
       unpinned = ⊥;
-      allows = λ client. client ≡ number;
+      allows = λ client pair. (client ≡ number) × (Some a.stub.pair ≡ pair);
+      told = told_newer a.stub.pair number before;
       begins = λ z law at added. added;
       goes_on = λ z law begun added. added;
       lets_go = λ z added. added;
@@ -27,5 +29,12 @@ ghosts-compact_shared-K-Keeping g a =
       commits = λ z page serial source target law at. added_commit number before z page serial;
       puts_back = λ z page serial source target cause law has at. added_back number before z page serial cause;
       pins_none = λ z page serial source target never law added at. absurd never;
-      calls = λ z z_new client same law. added_call number before z z_new client same;
+      calls = λ z z_new client pair may law. added_call number before z z_new client may.0;
+      tells = λ z z_new client pair may call. told_newer_call a.stub.pair number before z z_new client may.0 call;
+      tells_none = told_newer_none a.stub.pair number before;
+      pairs = λ client pair records may. may.1;
     }
+
+-- and the slip of the client
+abbrev pub ghosts-compact_shared-J-Telling : goal.ghosts-compact_shared-J-Telling
+ghosts-compact_shared-J-Telling g a = record { pair = Some a.stub.pair; before = a.turn.client.receipts }

@@ -23,7 +23,7 @@ loop-line-preserved g c =
     let len = c.push_reserved.ensures.len in
     let count = c.loop-line.invariant.count in
     record {
-      allowed = still_allowed g.K.Keeping.allows mid new _ c.reply_to-reply.result c.reply_to-reply.ensures c.loop-line.invariant.allowed;
+      allowed = still_allowed (λ number. g.K.Keeping.allows number g.J.Telling.pair) mid new _ c.reply_to-reply.result c.reply_to-reply.ensures c.loop-line.invariant.allowed;
       played = subst (λ (ls : List ClientLine). AreClientAnswers old ls c.push_reserved.new.self.items new)
           (sym (take_more items i line c.loop-line-test.true ∙ ap (λ (d : ClientLine). take i items ++ d ∷ []) (sym c.line-item.is)))
           (subst (λ (told : List Answer). AreClientAnswers old (take i items ++ line ∷ []) told new) (sym c.push_reserved.ensures.items) more);

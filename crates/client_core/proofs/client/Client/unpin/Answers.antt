@@ -1,13 +1,21 @@
 use Rattle.std.proofs.Common.{◌≡◌, ℕ, subst, rules}
 use Rattle.state_core.specs.Pinning.{unpin_refusal, unpinned}
 use Rattle.client_core.specs.Calls.{IsAccepted, leaving}
+use Rattle.client_core.proofs.Calls.{holds_more}
 use Rattle.client_core.proofs.client.Client.unpin.Goals as goal
+
+pub invariant_of-self-2 : goal.invariant_of-self-2
+invariant_of-self-2 g c =
+    let client = c.self.inside in
+    holds_more g.J.Telling.pair g.J.Telling.before client.slip c.at_once.new.slip client.receipts.items c.push_reserved.new.self.items c.in_ok-receipt.receipt
+    c.self.invariant c.in_ok-receipt.ensures.slip (search rules)
 
 pub returns-clause-accepted : goal.returns-clause-accepted
 returns-clause-accepted g c =
     let is : c.self.inside.number ≡ c.args.self.now.number = search rules in
     subst (λ (number : ℕ). IsAccepted (λ zone. unpin_refusal zone c.args.address) (leaving (λ zone. unpinned zone number c.args.address)) tt) is
-    c.in_ok-at_once.ensures.accepted
+    c.in_ok-receipt.ensures.accepted.call
 
 pub returns-clause-ok : goal.returns-clause-ok
-returns-clause-ok g c = search rules
+returns-clause-ok g c =
+    search rules

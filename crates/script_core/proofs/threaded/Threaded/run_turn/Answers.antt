@@ -1,10 +1,12 @@
 use Rattle.std.proofs.Common.{List, ap, refl, subst, sym, ◌∙◌}
 use Rattle.std.proofs.lemmas.Option.{MatchOption-at_none, MatchOption-at_some}
+use Rattle.client_core.specs.Receipts.{IsToldBeside}
+use Rattle.state_core.specs.ZoneState.{ZoneState}
 use Rattle.zone_core.specs.Seats.{audit_refusal}
 use Rattle.play_core.specs.Script.{Answer}
 use Rattle.script_core.specs.Clients.{AreClientAnswers}
 use Rattle.script_core.specs.Threaded.{Threaded, left_by}
-use Rattle.script_core.proofs.Rounds.{added_to, nothing_ran, round_over}
+use Rattle.script_core.proofs.Rounds.{nothing_ran, round_over}
 use Rattle.script_core.proofs.threaded.Threaded.run_turn.Goals as goal
 
 pub returns-in_default-clause-none : goal.returns-in_default-clause-none
@@ -26,8 +28,9 @@ returns-clause-played g c =
           c.parts_of-zone.ensures.zone c.parts_of-zone.ensures.scan c.parts_of-zone.ensures.ends c.parts_of-zone.ensures.whole
           ran.ensures.kept ran.ensures.shape (MatchOption-at_some _ _ both c.in-Some.is ran.ensures.round) (MatchOption-at_some _ _ both c.in-Some.is ran.ensures.early)
           c.take_back-2.ensures.exact;
-      added = added_to c.args.world.zone c.parts_of-zone.result.0 ran.result.0 c.args.turn.client c.args.turn.client c.parts_of-zone.ensures.zone refl ran.ensures.added;
       client_behind = both.client;
+      added = subst (λ (z : ZoneState). IsToldBeside c.args.turn.client both.client z.records ran.result.0.records) c.parts_of-zone.ensures.zone
+          (MatchOption-at_some _ _ both c.in-Some.is ran.ensures.told);
       clients = subst (λ (told : List Answer). AreClientAnswers c.args.turn.client c.args.turn.lines.items told both.client) (sym c.settle-told.ensures.answers)
           (MatchOption-at_some _ _ both c.in-Some.is ran.ensures.played);
       settled = c.settle-told.ensures.reply;

@@ -1,0 +1,28 @@
+ghost use Rattle.std.specs.Prelude.{List, [], Option, None};
+ghost use Rattle.journal_core.specs.declared.record.Record.{Record};
+ghost use Rattle.halves_core.specs.Told.{Pair};
+
+use std::marker::Brand;
+
+/// Which slip a client has, if it has one, and the receipts that it had before. Only contracts know it.
+pub trait Telling {
+    ghost pair: { Option Pair };
+
+    ghost before: { List Record };
+}
+
+/// The client has no slip.
+pub struct Untold;
+
+impl Telling for Untold {
+    ghost pair = { None };
+
+    ghost before = { [] };
+}
+
+// Any slip: a call that passes `Brand` picks it.
+impl Telling for Brand {
+    ghost pair = { None };
+
+    ghost before = { [] };
+}

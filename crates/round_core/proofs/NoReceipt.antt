@@ -1,0 +1,30 @@
+-- The steps of a round are no receipts.
+use Rattle.std.proofs.Common.{◌≡◌, ℕ, Bool, true, false, if◌then◌else◌, List, ◌∷◌, refl, ap, ◌∙◌, nat_eq}
+use Rattle.journal_core.specs.declared.record.Cause.{Cause}
+use Rattle.journal_core.specs.declared.record.Cause.TheVariants.{Pinned}
+use Rattle.journal_core.specs.declared.record.Record.{Record}
+use Rattle.journal_core.specs.declared.record.Record.TheVariants.{Isolate, Moved, Back}
+use Rattle.journal_core.specs.History.{pins}
+use Rattle.journal_core.specs.Moves.{isolated}
+use Rattle.outcome_core.specs.ByHand.{scan_step}
+use Rattle.outcome_core.proofs.Scanning.{by_scan}
+use Rattle.state_core.specs.Ending.{committed, moved_to_target, put_back_to_source}
+use Rattle.state_core.specs.Lawful.{IsLawful}
+use Rattle.state_core.specs.ZoneState.{ZoneState}
+use Rattle.round_core.specs.Calls.{is_of_round}
+
+module _ {A : Type 0} (told : List Record → A) (none : (entry : Record) (records : List Record) → is_of_round entry ≡ true → told (entry ∷ records) ≡ told records) (z : ZoneState) where
+  -- the scanner isolates a page, or stops
+  pub scan_tells_none : IsLawful z → told (scan_step z).records ≡ told z.records
+  scan_tells_none law = by_scan z law (λ w. told w.records ≡ told z.records) (λ e. refl) (λ pair t. none (Isolate (isolated z.records) pair.page) z.records refl)
+
+  -- the move of a page ends
+  pub back_tells_none : (page serial : ℕ) (cause : Cause) → told (put_back_to_source z serial page cause).records ≡ told z.records
+  back_tells_none page serial cause = none (Back serial cause) z.records refl
+
+  pub commit_tells_none : (page serial : ℕ) → told (committed z serial page).records ≡ told z.records
+  commit_tells_none page serial = by_pins (nat_eq (pins z.records page) 0)
+    where
+      by_pins : (b : Bool) → told (if b then moved_to_target z serial page else put_back_to_source z serial page Pinned).records ≡ told z.records
+      by_pins true = none (Moved serial) z.records refl
+      by_pins false = back_tells_none page serial Pinned
