@@ -1,6 +1,6 @@
 -- What the answer of a zone under its lock tells of the zone.
 use Rattle.std.proofs.Common.{◌≡◌, ℕ, List, [], ◌∷◌, ◌++◌, refl, sym, ap, subst, ◌∙◌, append_assoc, Option, None, Some}
-use Rattle.std.specs.Prelude.{Result, Ok, Err, IsSome, IfOk, IfErr, slice_get}
+use Rattle.std.specs.Prelude.{Result, Ok, Err, IsSome, IfOk, IfErr, OnOk, slice_get}
 use Rattle.std.specs.Result.{result_err}
 use Rattle.halves_core.specs.Told.{Pair, Told, pair_of, written_if}
 use Rattle.journal_core.specs.declared.record.Record.{Record}
@@ -8,13 +8,25 @@ use Rattle.state_core.specs.declared.error.ZoneError.{ZoneError}
 use Rattle.state_core.specs.Lawful.{IsLawful}
 use Rattle.state_core.specs.ZoneState.{ZoneState}
 use Rattle.round_core.specs.Calls.{IsCall}
-use Rattle.client_core.specs.Calls.{IsReceipted, IsRefused}
+use Rattle.client_core.specs.Calls.{IsAccepted, IsReceipted, IsRefused}
 use Rattle.client_core.specs.Receipts.{AreSince}
 
 pub refused : {X : Type 0} (refusal : ZoneState → Option ZoneError) (zone : ZoneState)
     → IsLawful zone → (result : Result X ZoneError) → result_err result ≡ refusal zone → IfErr result (IsRefused refusal)
 refused refusal zone lawful (Ok answer) is = tt
 refused refusal zone lawful (Err error) is = record { zone = zone; lawful = lawful; refused = sym is }
+
+pub accepted : {X : Type 0} (refusal : ZoneState → Option ZoneError) (leaves : ZoneState → X → ZoneState → Type 0) (answer : X) (zone zone_new : ZoneState)
+    → IsLawful zone → (result : Result (Unit {0}) ZoneError) → result_err result ≡ refusal zone → OnOk result (leaves zone answer zone_new)
+    → OnOk result (IsAccepted refusal leaves answer)
+accepted refusal leaves answer zone zone_new lawful (Ok done) is left = record {
+  zone = zone;
+  lawful = lawful;
+  accepted = sym is;
+  zone_new = zone_new;
+  left = left;
+}
+accepted refusal leaves answer zone zone_new lawful (Err error) is left = tt
 
 -- the record that a call adds is the newest one
 module _ {client : ℕ} {z z_new : ZoneState} (call : IsCall client z z_new) where
@@ -59,7 +71,7 @@ receipt_is entry receipt records z_new left is more noted = first receipt entry 
     first x y l same = cc
 
 -- what a client holds: its slip is of this pair, and has the receipts since these
-abbrev Holds : Option Pair → List Record → Option Told → List Record → Type 0
+abbrev pub Holds : Option Pair → List Record → Option Told → List Record → Type 0
 Holds pair before slip receipts = (pair_of slip ≡ pair) × AreSince before slip receipts
 
 since_more : (before : List Record) (slip : Option Told) (receipts : List Record) (receipt : Record)
@@ -68,7 +80,7 @@ since_more before None receipts receipt since = tt
 since_more before (Some slip) receipts receipt since =
     ap (λ (l : List Record). l ++ receipt ∷ []) since ∙ append_assoc before slip.records (receipt ∷ [])
 
-pair_written : (slip : Option Told) (receipt : Record) → pair_of (written_if receipt slip) ≡ pair_of slip
+pub pair_written : (slip : Option Told) (receipt : Record) → pair_of (written_if receipt slip) ≡ pair_of slip
 pair_written None receipt = refl
 pair_written (Some slip) receipt = refl
 

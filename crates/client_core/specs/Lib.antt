@@ -1,3 +1,4 @@
+pub mod Bulk
 pub mod Calls
 pub mod Errors
 pub mod Noted

@@ -14,6 +14,10 @@ pub record Client : Type 0 where
 abbrev pub with_receipt : Client → Record → Client
 with_receipt client receipt = record client { receipts = client.receipts ++ receipt ∷ [] }
 
+-- the client with these receipts more
+abbrev pub with_receipts : Client → List Record → Client
+with_receipts client receipts = record client { receipts = client.receipts ++ receipts }
+
 -- the records of a client in a journal, the oldest first; the journal has the newest first
 abbrev pub records_of : ℕ → List Record → List Record
 records_of number journal = filter (is_of number) (reverse journal)

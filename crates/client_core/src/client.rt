@@ -11,6 +11,8 @@ ghost use Rattle.client_core.specs.Calls.{IsAccepted, IsFailed, leaving, loading
 ghost use Rattle.client_core.specs.Receipts.{AreSince, with_receipt};
 ghost use Rattle.halves_core.specs.Told.{pair_of};
 
+mod bulk;
+
 use crate::access;
 use crate::access::{at_once, map_at_kept, map_kept, once_there};
 use crate::error::ClientError;
@@ -27,7 +29,7 @@ use zone_core::ZoneError;
 
 /// Makes calls of a shared zone under one number, and keeps the record of each call that was accepted.
 ///
-/// Each call takes the memory for its receipt first, so the error `Memory` comes before any refusal of the zone. Each call says
+/// Each call takes the memory for its receipts first, so the error `Memory` comes before any refusal of the zone. Each call says
 /// what the zone may refuse it as. A call that isn't accepted leaves the client as it was. A call whose page is moving waits until
 /// the move has ended; `pin` and `unpin` never wait.
 ///

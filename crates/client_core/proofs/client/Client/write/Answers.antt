@@ -1,0 +1,21 @@
+use Rattle.std.proofs.Common.{◌≡◌, ℕ, length, subst, rules}
+use Rattle.state_core.specs.Bulk.{bulk_refusal, stored_all}
+use Rattle.client_core.specs.Bulk.{stores_of}
+use Rattle.client_core.specs.Calls.{IsAccepted, leaving}
+use Rattle.client_core.proofs.ManyCalls.{holds_all}
+use Rattle.client_core.proofs.client.Client.write.Goals as goal
+
+pub invariant_of-self-2 : goal.invariant_of-self-2
+invariant_of-self-2 g c =
+    let client = c.self.inside in
+    let made = c.in_ok-all_once_there.ensures in
+    holds_all g.J.Telling.pair g.J.Telling.before (stores_of client.number c.args.address c.args.from c.args.values.now)
+    client.slip c.all_once_there.new.slip client.receipts.items c.all_once_there.new.receipts.items
+    c.self.invariant made.slip (search rules)
+
+pub returns-clause-accepted : goal.returns-clause-accepted
+returns-clause-accepted g c =
+    let is : c.self.inside.number ≡ c.args.self.now.number = search rules in
+    let made = c.in_ok-all_once_there.ensures.accepted in
+    subst (λ (number : ℕ). IsAccepted (λ zone. bulk_refusal zone c.args.address c.args.from (length c.args.values.now)) (leaving (λ zone. stored_all zone number c.args.address c.args.from c.args.values.now)) tt) is
+    record { zone = made.zone; lawful = made.lawful; accepted = made.accepted; zone_new = made.zone_new; left = made.left }

@@ -1,0 +1,10 @@
+use Rattle.std.proofs.Common.{◌≡◌}
+use Rattle.client_core.proofs.client.bulk.all_once_there.Given as goal
+
+-- each call before was refused
+abbrev pub invariant-loop : goal.invariant-loop
+invariant-loop g l = record {
+  words : l.words ≡ l.fn.words;
+  slip : l.slip ≡ l.fn.slip;
+  receipts : l.receipts ≡ l.fn.receipts;
+}

@@ -1,0 +1,36 @@
+-- The receipts of a read or a write of several words in one call, and what such a read answers and leaves.
+use Rattle.std.specs.Prelude.{◌≡◌, ℕ, ◌+◌, true, List, [], ◌∷◌, Option}
+use Rattle.frame_core.specs.declared.place.Address.{Address}
+use Rattle.journal_core.specs.declared.record.Record.{Record}
+use Rattle.journal_core.specs.declared.record.Record.TheVariants.{Load, Store}
+use Rattle.halves_core.specs.Told.{Told, written_if}
+use Rattle.round_core.specs.Calls.{is_of}
+use Rattle.state_core.specs.Bulk.{values_at, loaded_all}
+use Rattle.state_core.specs.Lawful.{IsLawful}
+use Rattle.state_core.specs.ZoneState.{ZoneState}
+
+-- the records of a client's loads of the words from one on, which gave these values: the oldest first
+abbrev pub loads_of : ℕ → Address → ℕ → List ℕ → List Record
+loads_of client address from [] = []
+loads_of client address from (value ∷ values) = Load client address from value ∷ loads_of client address (from + 1) values
+
+-- the records of a client's stores of these values in the words from one on: the oldest first
+abbrev pub stores_of : ℕ → Address → ℕ → List ℕ → List Record
+stores_of client address from [] = []
+stores_of client address from (value ∷ values) = Store client address from value ∷ stores_of client address (from + 1) values
+
+-- a read answers the values of this many words, from one on, and leaves a load of each in the zone
+abbrev pub reading : ℕ → Address → ℕ → ℕ → ZoneState → List ℕ → ZoneState → Type 0
+reading client address from count zone values zone_new =
+    (values ≡ values_at zone address from count) × (zone_new ≡ loaded_all zone client address from count)
+
+-- one half of a pair with these records more, where there is a half
+abbrev pub written_all : List Record → Option Told → Option Told
+written_all [] told = told
+written_all (entry ∷ entries) told = written_all entries (written_if entry told)
+
+-- calls of a client, one after the other, each of a lawful zone: these are their records, the oldest first
+abbrev pub AreCalls : ℕ → List Record → ZoneState → ZoneState → Type 0
+AreCalls client [] z z_new = z_new ≡ z
+AreCalls client (entry ∷ entries) z z_new =
+    (left : ZoneState) × IsLawful z × (is_of client entry ≡ true) × (left.records ≡ entry ∷ z.records) × AreCalls client entries left z_new
