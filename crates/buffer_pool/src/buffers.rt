@@ -1,20 +1,24 @@
 //! The buffers: pages of one space, spread over the zone.
 
 use crate::trouble::Trouble;
-use bitflags::Flags;
-use client_core::Client;
-use frame_core::{Address, FrameNo, PageFlags, SpaceNo, VPage, WordNo};
-use round_core::{Shape, SharedZone};
-use std::sync::Wait;
-use std::sync::ledger::Ledger;
+use frame_core::{Address, FrameNo, SpaceNo, VPage, WordOf};
 
-pub const BUFFERS: u32 = 256;
+/// The words of a buffer: 4 KiB.
+pub const WORDS: usize = 512;
 
-/// What each word of a buffer holds at first.
-const AT_FIRST: u64 = 100;
+/// How many buffers there are at first. Each takes 512 places of the journal when it is written, and 512 when it is read.
+pub const BUFFERS: u32 = 80;
 
-/// Frames from one buffer to the next.
-const APART: u32 = 8;
+/// Frames from one buffer to the next at first.
+const APART: u32 = 25;
+
+/// The buffers in use, which are to stay where they are. All of them stand in one pageblock at first, and are kept.
+pub const IN_USE: [u32; 4] = [24, 26, 28, 30];
+
+/// Whether a buffer is kept when every other one is freed.
+pub fn is_kept(number: u32) -> bool {
+    number % 2 == 0
+}
 
 /// The address of a buffer.
 pub fn buffer(number: u32) -> Result<Address, Trouble> {
@@ -24,53 +28,21 @@ pub fn buffer(number: u32) -> Result<Address, Trouble> {
     })
 }
 
-/// A word of a buffer.
-pub fn word(number: u32) -> Result<WordNo, Trouble> {
-    WordNo::new(number).ok_or(Trouble::Range)
+/// The frame of a buffer at first.
+pub fn first_frame(number: u32) -> Result<FrameNo, Trouble> {
+    FrameNo::new(number.saturating_mul(APART)).ok_or(Trouble::Range)
 }
 
-/// Maps the buffers, each to a frame that leaves no pageblock whole.
-pub fn map_all<K: Shape, I: Ledger, M: Ledger, B: Ledger, R: Wait>(
-    rt: &R,
-    shared: &SharedZone<K, I, M, B>,
-    client: &mut Client,
-    words: u32,
-) -> Result<(), Trouble> {
-    for number in 0..BUFFERS {
-        let frame = FrameNo::new(number * APART).ok_or(Trouble::Range)?;
-        client.map_at(rt, shared, buffer(number)?, PageFlags::empty(), frame)?;
-        fill(rt, shared, client, number, words)?;
-    }
-    Ok(())
+/// The first word of a buffer.
+pub fn first_word() -> Result<WordOf<WORDS>, Trouble> {
+    WordOf::new(0).ok_or(Trouble::Range)
 }
 
-/// Stores the first amount in so many words of a buffer.
-fn fill<K: Shape, I: Ledger, M: Ledger, B: Ledger, R: Wait>(
-    rt: &R,
-    shared: &SharedZone<K, I, M, B>,
-    client: &mut Client,
-    number: u32,
-    words: u32,
-) -> Result<(), Trouble> {
-    for at in 0..words {
-        client.store(rt, shared, buffer(number)?, word(at)?, AT_FIRST)?;
+/// What is written to a buffer. No two words are alike, in one buffer or in two.
+pub fn content(number: u32) -> [u64; WORDS] {
+    let mut words = [0; WORDS];
+    for (at, word) in words.iter_mut().enumerate() {
+        *word = u64::from(number) * 512 + at as u64;
     }
-    Ok(())
-}
-
-/// The sum over so many words of all buffers.
-pub fn sum<K: Shape, I: Ledger, M: Ledger, B: Ledger, R: Wait>(
-    rt: &R,
-    shared: &SharedZone<K, I, M, B>,
-    client: &mut Client,
-    words: u32,
-) -> Result<u64, Trouble> {
-    let mut sum = 0u64;
-    for number in 0..BUFFERS {
-        for at in 0..words {
-            let value = client.load(rt, shared, buffer(number)?, word(at)?)?;
-            sum = sum.saturating_add(value);
-        }
-    }
-    Ok(sum)
+    words
 }

@@ -1,169 +1,147 @@
-//! The run: buffers are mapped, users and rounds go on beside one another, and all is settled.
+//! The pool: a zone whose pages are the buffers, and its seats.
 
-ghost use Rattle.std.specs.Prelude.{◌≡◌};
 ghost use Rattle.zone_core.specs.Books.{AreFor};
 
-use crate::buffers::{map_all, sum};
+use crate::buffers::{BUFFERS, IN_USE, WORDS, buffer, content, first_frame, first_word, is_kept};
 use crate::trouble::Trouble;
-use crate::user::User;
-use client_core::{Client, settle_clients};
-use frame_core::{ClientNo, ZoneNo};
-use round_core::{NoGate, Shape, SharedZone, compact};
+use bitflags::Flags;
+use frame_core::{BlockNo, ClientNo, PageFlags, ZoneNo};
+use solo_core::compact;
 use std::alloc::Global;
-use std::sync::Wait;
 use std::sync::ledger::Ledger;
-use std::thread::{Threads, join};
-use zone_core::{Blanks, Seats, Zone};
+use zone_core::{Blanks, Look, Seats, ZoneError, ZoneOf};
 
 const BLOCKS: u32 = 4;
 
 const PLACES: u32 = 65536;
 
-const USERS: u32 = 2;
-
-const ROUNDS: u32 = 20;
-
-/// What is seen of the buffers while nobody uses them.
+/// What is seen of the pool while no buffer is moving.
 #[derive(Clone, Copy)]
 pub struct Seen {
-    /// Over the words of the users in all buffers.
-    pub sum: u64,
+    /// How many times a buffer was moved so far.
+    pub moved: u32,
     /// How many pageblocks are whole.
     pub whole: u32,
+    /// The pageblock that is handed out as a large buffer, or why none is.
+    pub large: Result<BlockNo, ZoneError>,
 }
 
-/// What came of a run.
-#[derive(Clone, Copy)]
-pub struct Outcome {
-    pub before: Seen,
-    pub after: Seen,
-    /// How many calls of the users were accepted.
-    pub receipts: usize,
+#[derive(Drop)]
+pub struct Pool<I: Ledger, N: Ledger, M: Ledger, B: Ledger> {
+    zone: ZoneOf<WORDS, I, M, B>,
+    seats: Seats<I, N, M, B>,
+    client: ClientNo,
 }
 
-/// Opens a zone, runs users of its buffers beside rounds, and settles all clients.
-pub fn run<
-    K: Shape + Send + Sync,
-    I: Ledger + Send + Sync,
-    N: Ledger + Send,
-    M: Ledger + Send + Sync,
-    B: Ledger + Send + Sync,
-    R: Threads + Wait + Sync,
->(rt: &R, alloc: Global, blanks: Blanks) -> Result<Outcome, Trouble>
-    requires shape { (K.number ≡ 0) × (K.blocks ≡ 4) }
-    requires blanks { AreFor blanks I.name I.parts N.name N.parts M.name M.parts B.name B.parts }
-{
-    let number = ZoneNo::new(0).ok_or(Trouble::Range)?;
-    let (zone, scan, ends) = Zone::<I, M, B>::open::<N>(alloc, number, BLOCKS, PLACES, blanks)?;
-    let mut seats = Seats { scan, ends };
-    let shared = SharedZone::<K, I, M, B>::new(zone);
-    let (outcome, clients) = use_buffers(rt, alloc, &shared, &mut seats)?;
-    settle_clients(&shared.into_zone(), &clients)?;
-    Ok(outcome)
-}
-
-/// Maps the buffers, and runs their users beside rounds. Gives all clients back.
-fn use_buffers<
-    K: Shape + Send + Sync,
-    I: Ledger + Send + Sync,
-    N: Ledger + Send,
-    M: Ledger + Send + Sync,
-    B: Ledger + Send + Sync,
-    R: Threads + Wait + Sync,
->(
-    rt: &R,
-    alloc: Global,
-    shared: &SharedZone<K, I, M, B>,
-    seats: &mut Seats<I, N, M, B>,
-) -> Result<(Outcome, [Client; 3]), Trouble> {
-    let mut keeper = client(alloc, 0)?;
-    map_all(rt, shared, &mut keeper, USERS)?;
-    let before = look(rt, shared, &mut keeper)?;
-    let users = (user(alloc, 0)?, user(alloc, 1)?);
-    let (first, second) = use_beside_rounds(rt, alloc, shared, seats, users)?;
-    let _last = compact(rt, alloc, shared, seats, 2, 16, &NoGate)?;
-    let after = look(rt, shared, &mut keeper)?;
-    let (first, second) = (first.client, second.client);
-    let receipts = first
-        .receipts()
-        .len()
-        .saturating_add(second.receipts().len());
-    let outcome = Outcome {
-        before,
-        after,
-        receipts,
-    };
-    Ok((outcome, [keeper, first, second]))
-}
-
-/// A thread for each user, and rounds meanwhile.
-fn use_beside_rounds<
-    K: Shape + Send + Sync,
-    I: Ledger + Send + Sync,
-    N: Ledger + Send,
-    M: Ledger + Send + Sync,
-    B: Ledger + Send + Sync,
-    R: Threads + Wait + Sync,
->(
-    rt: &R,
-    alloc: Global,
-    shared: &SharedZone<K, I, M, B>,
-    seats: &mut Seats<I, N, M, B>,
-    users: (User, User),
-) -> Result<(User, User), Trouble> {
-    let (first, second) = users;
-    let ((first, second), compacted) = join(
-        rt,
-        move || -> (Result<User, Trouble>, Result<User, Trouble>) {
-            join(
-                rt,
-                move || -> Result<User, Trouble> { first.transfer_all(rt, shared) },
-                move || -> Result<User, Trouble> { second.transfer_all(rt, shared) },
-            )
-        },
-        move || -> Result<(), Trouble> { compact_on(rt, alloc, shared, seats) },
-    );
-    compacted?;
-    Ok((first?, second?))
-}
-
-/// Runs rounds, one after the other.
-fn compact_on<
-    K: Shape + Send + Sync,
-    I: Ledger + Send + Sync,
-    N: Ledger,
-    M: Ledger + Send + Sync,
-    B: Ledger + Send + Sync,
-    R: Threads + Wait + Sync,
->(
-    rt: &R,
-    alloc: Global,
-    shared: &SharedZone<K, I, M, B>,
-    seats: &mut Seats<I, N, M, B>,
-) -> Result<(), Trouble> {
-    for _round in 0..ROUNDS {
-        compact(rt, alloc, shared, seats, 2, 16, &NoGate)?;
+impl<I: Ledger, N: Ledger, M: Ledger, B: Ledger> Pool<I, N, M, B> {
+    /// A pool without buffers.
+    pub fn open(alloc: Global, blanks: Blanks) -> Result<Self, Trouble>
+        requires blanks { AreFor blanks I.name I.parts N.name N.parts M.name M.parts B.name B.parts }
+    {
+        let client = ClientNo::new(0).ok_or(Trouble::Range)?;
+        let number = ZoneNo::new(0).ok_or(Trouble::Range)?;
+        let opened = ZoneOf::<WORDS, I, M, B>::open::<N>(alloc, number, BLOCKS, PLACES, blanks);
+        let (zone, scan, ends) = opened?;
+        Ok(Pool {
+            zone,
+            seats: Seats { scan, ends },
+            client,
+        })
     }
-    Ok(())
-}
 
-/// The user of the word with this number.
-fn user(alloc: Global, column: u32) -> Result<User, Trouble> {
-    Ok(User::new(client(alloc, column.saturating_add(1))?, column))
-}
+    /// Maps and fills all buffers, so far from one another that no pageblock is whole.
+    pub fn fill_all(&mut self) -> Result<(), Trouble> {
+        for number in 0..BUFFERS {
+            self.fill(number)?;
+        }
+        Ok(())
+    }
 
-fn client(alloc: Global, number: u32) -> Result<Client, Trouble> {
-    let number = ClientNo::new(number).ok_or(Trouble::Range)?;
-    Ok(Client::new(alloc, number))
-}
+    fn fill(&mut self, number: u32) -> Result<(), Trouble> {
+        let (address, frame) = (buffer(number)?, first_frame(number)?);
+        self.zone
+            .map_at(self.client, address, PageFlags::empty(), frame)?;
+        self.zone
+            .write(self.client, address, first_word()?, &content(number))?;
+        Ok(())
+    }
 
-/// What is seen of the buffers now.
-fn look<K: Shape, I: Ledger, M: Ledger, B: Ledger, R: Wait>(
-    rt: &R,
-    shared: &SharedZone<K, I, M, B>,
-    keeper: &mut Client,
-) -> Result<Seen, Trouble> {
-    let sum = sum(rt, shared, keeper, USERS)?;
-    let whole = shared.lock(rt).zone().info().whole;
-    Ok(Seen { sum, whole })
+    /// Unmaps every other buffer.
+    pub fn free_half(&mut self) -> Result<(), Trouble> {
+        for number in 0..BUFFERS {
+            if !is_kept(number) {
+                self.zone.unmap(self.client, buffer(number)?)?;
+            }
+        }
+        Ok(())
+    }
+
+    /// Pins the buffers in use.
+    pub fn pin_used(&mut self) -> Result<(), Trouble> {
+        for number in IN_USE {
+            self.zone.pin(self.client, buffer(number)?)?;
+        }
+        Ok(())
+    }
+
+    /// Takes the pins of the buffers in use off.
+    pub fn unpin_used(&mut self) -> Result<(), Trouble> {
+        for number in IN_USE {
+            self.zone.unpin(self.client, buffer(number)?)?;
+        }
+        Ok(())
+    }
+
+    /// Runs a round on this thread.
+    pub fn compact(&mut self) -> Result<(), Trouble> {
+        compact(&mut self.zone, &mut self.seats)?;
+        Ok(())
+    }
+
+    /// Sees how the pool is, and asks for a large buffer of 2 MiB.
+    pub fn see(&mut self) -> Result<Seen, Trouble> {
+        let audit = self.zone.audit(&mut self.seats.scan, &mut self.seats.ends)?;
+        let whole = self.zone.info().whole;
+        Ok(Seen {
+            moved: audit.moved,
+            whole,
+            large: self.zone.take_huge(),
+        })
+    }
+
+    /// How many of the buffers in use are in the frames in which they were at first.
+    pub fn count_stayed(&self) -> Result<u32, Trouble> {
+        let mut count = 0u32;
+        for number in IN_USE {
+            if self.stayed(number)? {
+                count = count.saturating_add(1);
+            }
+        }
+        Ok(count)
+    }
+
+    fn stayed(&self, number: u32) -> Result<bool, Trouble> {
+        match self.zone.look(buffer(number)?)? {
+            Look::At { frame, .. } => Ok(frame == first_frame(number)?),
+            Look::Moving { .. } => Ok(false),
+        }
+    }
+
+    /// How many buffers hold what was written to them.
+    pub fn count_kept(&mut self) -> Result<u32, Trouble> {
+        let mut count = 0u32;
+        for number in 0..BUFFERS {
+            if is_kept(number) && self.holds_content(number)? {
+                count = count.saturating_add(1);
+            }
+        }
+        Ok(count)
+    }
+
+    fn holds_content(&mut self, number: u32) -> Result<bool, Trouble> {
+        let mut words = [0; WORDS];
+        self.zone
+            .read(self.client, buffer(number)?, first_word()?, &mut words)?;
+        Ok(words == content(number))
+    }
 }

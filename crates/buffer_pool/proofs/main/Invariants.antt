@@ -1,16 +1,13 @@
 use Rattle.buffer_pool.proofs.main.Given as goal
 
-abbrev pub ghosts-run-K-Shape : goal.ghosts-run-K-Shape
-ghosts-run-K-Shape g a = record { number = 0; blocks = 4 }
-
 abbrev pub ghosts-run-I-Ledger : goal.ghosts-run-I-Ledger
-ghosts-run-I-Ledger g a = record { name = a.blanks.isolated.name; parts = a.blanks.isolated.parts }
+ghosts-run-I-Ledger a = record { name = a.blanks.isolated.name; parts = a.blanks.isolated.parts }
 
 abbrev pub ghosts-run-N-Ledger : goal.ghosts-run-N-Ledger
-ghosts-run-N-Ledger g a = record { name = a.blanks.rounds.name; parts = a.blanks.rounds.parts }
+ghosts-run-N-Ledger a = record { name = a.blanks.rounds.name; parts = a.blanks.rounds.parts }
 
 abbrev pub ghosts-run-M-Ledger : goal.ghosts-run-M-Ledger
-ghosts-run-M-Ledger g a = record { name = a.blanks.moved.name; parts = a.blanks.moved.parts }
+ghosts-run-M-Ledger a = record { name = a.blanks.moved.name; parts = a.blanks.moved.parts }
 
 abbrev pub ghosts-run-B-Ledger : goal.ghosts-run-B-Ledger
-ghosts-run-B-Ledger g a = record { name = a.blanks.back.name; parts = a.blanks.back.parts }
+ghosts-run-B-Ledger a = record { name = a.blanks.back.name; parts = a.blanks.back.parts }
