@@ -50,6 +50,20 @@ fn word(rt: &impl Abort, number: u32) -> WordNo {
 /// What is tried with a zone that was just opened.
 #[derive(Clone, Copy)]
 enum Trial<'a> {
+    UsesAPageBesideAHeldOne,
+    PinsAHeldPage,
+    WaitsForAHeldPage(Call, Answer),
+    WakesBoth(Waiting, Waiting),
+    SharesAPage,
+    UsesOwnWords,
+    RefusesCalls,
+    RefusesCallsWithoutRoom,
+    Runs(Run<'a>),
+}
+
+/// What is tried with rounds and collectors that run beside no client.
+#[derive(Clone, Copy)]
+enum Run<'a> {
     /// With so many copiers.
     MovesTheLowerHalf(usize),
     /// With so many copiers, and each page of so many unmapped.
@@ -63,20 +77,39 @@ enum Trial<'a> {
     KeepsCopiersBack(usize),
     /// With so many copiers, and room for so many pages.
     LooksAtEachPoint(usize, usize),
-    UsesAPageBesideAHeldOne,
-    PinsAHeldPage,
-    WaitsForAHeldPage(Call, Answer),
-    WakesBoth(Waiting, Waiting),
-    SharesAPage,
-    UsesOwnWords,
-    RefusesCalls,
-    RefusesCallsWithoutRoom,
     Reserves(&'a Case),
     GivesBack,
     /// With so many copiers.
     CollectsWithEachCopier(usize),
     /// With room for so many pages. So many pages are isolated ahead.
     CollectsAhead(usize, u64),
+}
+
+impl<
+    K: Shape + Send + Sync,
+    I: Ledger + Send + Sync,
+    N: Ledger + Send,
+    M: Ledger + Send + Sync,
+    B: Ledger + Send + Sync,
+> Opening<K, I, N, M, B> {
+    fn undergoes<R: Threads + Wait + Abort + AllocGlobal + Sync>(&mut self, rt: &R, run: Run<'_>) {
+        match run {
+            Run::MovesTheLowerHalf(copiers) => self.moves_the_lower_half(rt, copiers),
+            Run::PacksWhatWasThinned(copiers, step) => {
+                self.packs_what_was_thinned(rt, copiers, step)
+            }
+            Run::MovesWhatThereIsRoomFor(places) => self.moves_what_there_is_room_for(rt, places),
+            Run::IsBroken => self.is_broken(rt),
+            Run::HoldsOneOfTwoCopiers => self.holds_one_of_two_copiers(rt),
+            Run::NotesEachPage => self.notes_each_page(rt),
+            Run::KeepsCopiersBack(copiers) => self.keeps_copiers_back(rt, copiers),
+            Run::LooksAtEachPoint(copiers, room) => self.looks_at_each_point(rt, copiers, room),
+            Run::Reserves(case) => self.reserves(rt, case),
+            Run::GivesBack => self.gives_back(rt),
+            Run::CollectsWithEachCopier(copiers) => self.collects_with_each_copier(rt, copiers),
+            Run::CollectsAhead(room, ahead) => self.collects_ahead(rt, room, ahead),
+        }
+    }
 }
 
 /// Opens zone 1, of so many pageblocks and with so many places in its journal, and tries something with it.
@@ -91,18 +124,8 @@ fn tries_in<
     requires shape { (K.number ≡ 1) × (K.blocks ≡ blocks) }
     requires blanks { AreFor blanks I.name I.parts N.name N.parts M.name M.parts B.name B.parts }
 {
-    let opening = Opening::<K, I, N, M, B>::of(rt, blocks, places, blanks);
+    let mut opening = Opening::<K, I, N, M, B>::of(rt, blocks, places, blanks);
     match trial {
-        Trial::MovesTheLowerHalf(copiers) => opening.moves_the_lower_half(rt, copiers),
-        Trial::PacksWhatWasThinned(copiers, step) => {
-            opening.packs_what_was_thinned(rt, copiers, step)
-        }
-        Trial::MovesWhatThereIsRoomFor(places) => opening.moves_what_there_is_room_for(rt, places),
-        Trial::IsBroken => opening.is_broken(rt),
-        Trial::HoldsOneOfTwoCopiers => opening.holds_one_of_two_copiers(rt),
-        Trial::NotesEachPage => opening.notes_each_page(rt),
-        Trial::KeepsCopiersBack(copiers) => opening.keeps_copiers_back(rt, copiers),
-        Trial::LooksAtEachPoint(copiers, room) => opening.looks_at_each_point(rt, copiers, room),
         Trial::UsesAPageBesideAHeldOne => opening.uses_a_page_beside_a_held_one(rt),
         Trial::PinsAHeldPage => opening.pins_a_held_page(rt),
         Trial::WaitsForAHeldPage(call, answer) => opening.waits_for_a_held_page(rt, call, answer),
@@ -111,10 +134,7 @@ fn tries_in<
         Trial::UsesOwnWords => opening.uses_own_words(rt),
         Trial::RefusesCalls => opening.refuses_calls(rt),
         Trial::RefusesCallsWithoutRoom => opening.refuses_calls_without_room(rt),
-        Trial::Reserves(case) => opening.reserves(rt, case),
-        Trial::GivesBack => opening.gives_back(rt),
-        Trial::CollectsWithEachCopier(copiers) => opening.collects_with_each_copier(rt, copiers),
-        Trial::CollectsAhead(room, ahead) => opening.collects_ahead(rt, room, ahead),
+        Trial::Runs(run) => opening.undergoes(rt, run),
     }
 }
 
@@ -126,4 +146,14 @@ fn tries<R: Threads + Wait + Abort + AllocGlobal + Sync>(
     trial: Trial<'_>,
 ) {
     tries_in::<Brand, Brand, Brand, Brand, Brand, R>(rt, blocks, places, trial, Blanks::new());
+}
+
+/// Tries rounds or a collector with a zone 1 of its own.
+fn runs<R: Threads + Wait + Abort + AllocGlobal + Sync>(
+    rt: &R,
+    blocks: u32,
+    places: u32,
+    run: Run<'_>,
+) {
+    tries(rt, blocks, places, Trial::Runs(run));
 }

@@ -1,6 +1,6 @@
 use super::gates::{comes_above, linger};
 use super::opening::Opening;
-use super::{Trial, tries};
+use super::{Run, runs};
 use round_core::{Gate, Point, Shape};
 use std::process::Abort;
 use std::sync::Wait;
@@ -57,7 +57,7 @@ impl<
     /// While the committer is held, pages are in five places of a round that has one copier: with the scanner, in the first queue,
     /// with the copier, in the second queue and with the committer. Up to eight, each has as many as there is room for.
     pub fn collects_ahead<R: Threads + Wait + Abort + AllocGlobal + Sync>(
-        mut self,
+        &mut self,
         rt: &R,
         room: usize,
         ahead: u64,
@@ -72,6 +72,6 @@ impl<
 #[test]
 fn a_collector_isolates_as_far_ahead_as_it_has_room(rt: HostRuntime) {
     for (room, ahead) in [(1, 5), (3, 15), (8, 40)] {
-        tries(&rt, 1, 999, Trial::CollectsAhead(room, ahead));
+        runs(&rt, 1, 999, Run::CollectsAhead(room, ahead));
     }
 }

@@ -1,5 +1,5 @@
 use super::opening::{Opening, counts_of, round_of};
-use super::{Trial, tries};
+use super::{Run, runs};
 use round_core::{Gate, Point, Shape};
 use std::process::Abort;
 use std::sync::Wait;
@@ -126,7 +126,7 @@ impl<
 > Opening<K, I, N, M, B> {
     /// The first copier that took a page is held until the other one's page has ended.
     pub fn holds_one_of_two_copiers<R: Threads + Wait + Abort + AllocGlobal + Sync>(
-        mut self,
+        &mut self,
         rt: &R,
     ) {
         self.fill(rt, 2);
@@ -137,7 +137,7 @@ impl<
     }
 
     /// The list of each copier has as many serials as it took pages.
-    pub fn notes_each_page<R: Threads + Wait + Abort + AllocGlobal + Sync>(mut self, rt: &R) {
+    pub fn notes_each_page<R: Threads + Wait + Abort + AllocGlobal + Sync>(&mut self, rt: &R) {
         self.fill(rt, 512);
         let gate = Notes::none();
         let Ok(round) = round_of(rt, &self.shared, &mut self.seats, 4, 8, &gate) else {
@@ -156,10 +156,10 @@ impl<
 
 #[test]
 fn gate_two_copiers(rt: HostRuntime) {
-    tries(&rt, 1, 65536, Trial::HoldsOneOfTwoCopiers);
+    runs(&rt, 1, 65536, Run::HoldsOneOfTwoCopiers);
 }
 
 #[test]
 fn each_list_has_what_its_copier_took(rt: HostRuntime) {
-    tries(&rt, 2, 65536, Trial::NotesEachPage);
+    runs(&rt, 2, 65536, Run::NotesEachPage);
 }

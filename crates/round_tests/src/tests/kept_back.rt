@@ -1,7 +1,7 @@
 use super::gates::{comes_above, linger};
 use super::opening::{Opening, round_of};
 use super::rounds::assert_shared;
-use super::{Trial, tries};
+use super::{Run, runs};
 use frame_core::Serial;
 use journal_core::Record;
 use round_core::{Gate, Point, Shape};
@@ -98,7 +98,7 @@ impl<
 
     /// A copier that is kept back has the page that ended in its turn alone, and so the last to come has all others.
     pub fn keeps_copiers_back<R: Threads + Wait + Abort + AllocGlobal + Sync>(
-        mut self,
+        &mut self,
         rt: &R,
         copiers: usize,
     ) {
@@ -123,7 +123,7 @@ impl<
 
     /// A collector runs its round with as many copiers as it was given.
     pub fn collects_with_each_copier<R: Threads + Wait + Abort + AllocGlobal + Sync>(
-        mut self,
+        &mut self,
         rt: &R,
         copiers: usize,
     ) {
@@ -137,13 +137,13 @@ impl<
 #[test]
 fn a_copier_that_is_kept_back_has_one_page(rt: HostRuntime) {
     for copiers in 1..5usize {
-        tries(&rt, 1, 999, Trial::KeepsCopiersBack(copiers));
+        runs(&rt, 1, 999, Run::KeepsCopiersBack(copiers));
     }
 }
 
 #[test]
 fn a_collector_uses_each_of_its_copiers(rt: HostRuntime) {
     for copiers in 1..5usize {
-        tries(&rt, 1, 999, Trial::CollectsWithEachCopier(copiers));
+        runs(&rt, 1, 999, Run::CollectsWithEachCopier(copiers));
     }
 }

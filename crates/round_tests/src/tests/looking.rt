@@ -1,6 +1,6 @@
 use super::gates::linger;
 use super::opening::{Opening, counts_of, round_of};
-use super::{Trial, tries};
+use super::{Run, runs};
 use journal_core::{Journal, Record};
 use round_core::{Gate, Keeping, Open, Point, Shape, SharedZone};
 use std::process::Abort;
@@ -144,7 +144,7 @@ impl<
 > Opening<K, I, N, M, B> {
     /// Each page comes by each point.
     pub fn looks_at_each_point<R: Threads + Wait + Abort + AllocGlobal + Sync>(
-        mut self,
+        &mut self,
         rt: &R,
         copiers: usize,
         room: usize,
@@ -163,7 +163,7 @@ impl<
 fn the_gate_stands_between_two_steps_with_the_lock_free(rt: HostRuntime) {
     for copiers in [1, 2, 4] {
         for room in [1, 8] {
-            tries(&rt, 1, 99, Trial::LooksAtEachPoint(copiers, room));
+            runs(&rt, 1, 99, Run::LooksAtEachPoint(copiers, room));
         }
     }
 }

@@ -1,6 +1,6 @@
 use super::calls::{Answer, Call};
 use super::opening::Opening;
-use super::{Trial, tries};
+use super::{Run, runs};
 use arrayvec::ArrayVec;
 use frame_core::Order;
 use huge_core::{Collector, Huge, Report, Stop, give};
@@ -212,7 +212,11 @@ impl<
     }
 
     /// A collector reports what the case says. Where the end seat isn't whole, a part of it is kept back meanwhile.
-    pub fn reserves<R: Threads + Wait + Abort + AllocGlobal + Sync>(mut self, rt: &R, case: &Case) {
+    pub fn reserves<R: Threads + Wait + Abort + AllocGlobal + Sync>(
+        &mut self,
+        rt: &R,
+        case: &Case,
+    ) {
         for frame in case.pages.iter() {
             self.keeps(rt, Call::MapAt(*frame, *frame), Answer::Done);
         }
@@ -232,7 +236,7 @@ impl<
 
     /// A block is told by its frame, its order and its pageblock. It is free again once it was given back, and one that the zone
     /// refuses is handed back.
-    pub fn gives_back<R: Threads + Wait + Abort + AllocGlobal + Sync>(mut self, rt: &R) {
+    pub fn gives_back<R: Threads + Wait + Abort + AllocGlobal + Sync>(&mut self, rt: &R) {
         self.fill(rt, 1);
         let huge = last_block(rt, self.reserved(rt, 16, 8, 2));
         assert!(rt; (huge.frame().get(), huge.order().get(), huge.block().get()) == (512, 8, 1));
@@ -255,11 +259,11 @@ impl<
 #[test]
 fn a_collector_reports_what_it_reserved(rt: HostRuntime) {
     for case in CASES.iter() {
-        tries(&rt, case.blocks, case.places, Trial::Reserves(case));
+        runs(&rt, case.blocks, case.places, Run::Reserves(case));
     }
 }
 
 #[test]
 fn a_block_is_given_back_or_handed_back(rt: HostRuntime) {
-    tries(&rt, 2, 5, Trial::GivesBack);
+    runs(&rt, 2, 5, Run::GivesBack);
 }

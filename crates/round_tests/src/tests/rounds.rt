@@ -1,6 +1,6 @@
 use super::calls::{Answer, Call, made};
 use super::opening::{Opening, counts_of, round_of};
-use super::{Trial, tries};
+use super::{Run, runs};
 use round_core::{NoGate, Round, RoundError, Shape, Stop};
 use std::process::Abort;
 use std::sync::Wait;
@@ -39,7 +39,7 @@ impl<
 > Opening<K, I, N, M, B> {
     /// The pages of the lower half move up, and a second round moves nothing.
     pub fn moves_the_lower_half<R: Threads + Wait + Abort + AllocGlobal + Sync>(
-        mut self,
+        &mut self,
         rt: &R,
         copiers: usize,
     ) {
@@ -57,14 +57,14 @@ impl<
         self.load_all(rt, 512);
         let round = round_of(rt, &self.shared, &mut self.seats, copiers, 3, &NoGate);
         assert!(rt; counts_of(rt, round) == (512, 0, 0, 0));
-        let info = self.shared.into_zone().info();
+        let (info, _records) = self.told(rt);
         assert!(rt; (info.pages, info.moving, info.whole) == (512, 0, 1));
     }
 
     /// Of 1,024 pages at the low end of four pageblocks 100 are unmapped, at steps of so many pages. A round makes two pageblocks
     /// whole.
     pub fn packs_what_was_thinned<R: Threads + Wait + Abort + AllocGlobal + Sync>(
-        mut self,
+        &mut self,
         rt: &R,
         copiers: usize,
         step: u32,
@@ -103,7 +103,7 @@ impl<
 
     /// Each page that a round moves takes two places of the journal, and mapping it took one.
     pub fn moves_what_there_is_room_for<R: Threads + Wait + Abort + AllocGlobal + Sync>(
-        mut self,
+        &mut self,
         rt: &R,
         places: u32,
     ) {
@@ -153,7 +153,7 @@ impl<
     }
 
     /// A round isn't begun while a page that was isolated by hand is out, or while a part of the end seat is missing.
-    pub fn is_broken<R: Threads + Wait + Abort + AllocGlobal + Sync>(mut self, rt: &R) {
+    pub fn is_broken<R: Threads + Wait + Abort + AllocGlobal + Sync>(&mut self, rt: &R) {
         self.fill(rt, 2);
         self.store_all(rt, 2);
         let page = self.isolated(rt);
@@ -171,7 +171,7 @@ impl<
 #[test]
 fn one_to_four_copiers_move_the_lower_half(rt: HostRuntime) {
     for copiers in 1..5usize {
-        tries(&rt, 2, 65536, Trial::MovesTheLowerHalf(copiers));
+        runs(&rt, 2, 65536, Run::MovesTheLowerHalf(copiers));
     }
 }
 
@@ -179,7 +179,7 @@ fn one_to_four_copiers_move_the_lower_half(rt: HostRuntime) {
 fn a_thinned_zone_is_packed(rt: HostRuntime) {
     for copiers in 1..5usize {
         for step in 2..10u32 {
-            tries(&rt, 4, 65536, Trial::PacksWhatWasThinned(copiers, step));
+            runs(&rt, 4, 65536, Run::PacksWhatWasThinned(copiers, step));
         }
     }
 }
@@ -187,11 +187,11 @@ fn a_thinned_zone_is_packed(rt: HostRuntime) {
 #[test]
 fn a_round_moves_what_the_journal_has_room_for(rt: HostRuntime) {
     for places in 1..41 {
-        tries(&rt, 1, places, Trial::MovesWhatThereIsRoomFor(places));
+        runs(&rt, 1, places, Run::MovesWhatThereIsRoomFor(places));
     }
 }
 
 #[test]
 fn a_round_is_broken_while_a_page_or_a_part_is_out(rt: HostRuntime) {
-    tries(&rt, 1, 65536, Trial::IsBroken);
+    runs(&rt, 1, 65536, Run::IsBroken);
 }

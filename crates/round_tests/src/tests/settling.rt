@@ -36,6 +36,23 @@ fn clients_of<K: Shape, I: Ledger, M: Ledger, B: Ledger, R: Wait + Abort + Alloc
 }
 
 /// The clients agree until another client makes a call under the number of one of them.
+fn clients_that_agree<K: Shape, I: Ledger, M: Ledger, B: Ledger, R: Wait + Abort + AllocGlobal>(
+    rt: &R,
+    shared: &SharedZone<K, I, M, B>,
+) -> [Client; 2] {
+    assert!(rt; settled(rt, shared, &[]) == Ok(()));
+    let clients = clients_of(rt, shared);
+    assert!(rt; settled(rt, shared, &clients) == Ok(()));
+    let idle = [client(rt, 3), client(rt, 1)];
+    assert!(rt; settled(rt, shared, &idle) == mismatch(rt, 1, 0));
+    let mut late = client(rt, 2);
+    play(rt, shared, &mut late, &[(Call::Unpin(0), Answer::Done)]);
+    assert!(rt; settled(rt, shared, &[late]) == mismatch(rt, 2, 0));
+    assert!(rt; settled(rt, shared, &clients) == mismatch(rt, 2, 3));
+    clients
+}
+
+/// Opens a zone for clients that agree.
 fn settles<K: Shape, I: Ledger, N: Ledger, M: Ledger, B: Ledger, R: Wait + Abort + AllocGlobal>(
     rt: &R,
     blanks: Blanks,
@@ -43,17 +60,8 @@ fn settles<K: Shape, I: Ledger, N: Ledger, M: Ledger, B: Ledger, R: Wait + Abort
     requires shape { (K.number ≡ 1) × (K.blocks ≡ 1) }
     requires blanks { AreFor blanks I.name I.parts N.name N.parts M.name M.parts B.name B.parts }
 {
-    let Opening { shared, .. } = Opening::<K, I, N, M, B>::of(rt, 1, 99, blanks);
-    assert!(rt; settled(rt, &shared, &[]) == Ok(()));
-    let clients = clients_of(rt, &shared);
-    assert!(rt; settled(rt, &shared, &clients) == Ok(()));
-    let idle = [client(rt, 3), client(rt, 1)];
-    assert!(rt; settled(rt, &shared, &idle) == mismatch(rt, 1, 0));
-    let mut late = client(rt, 2);
-    play(rt, &shared, &mut late, &[(Call::Unpin(0), Answer::Done)]);
-    assert!(rt; settled(rt, &shared, &[late]) == mismatch(rt, 2, 0));
-    assert!(rt; settled(rt, &shared, &clients) == mismatch(rt, 2, 3));
-    clients
+    let opening = Opening::<K, I, N, M, B>::of(rt, 1, 99, blanks);
+    clients_that_agree(rt, &opening.shared)
 }
 
 #[test]
@@ -63,6 +71,18 @@ fn settling_names_the_first_that_differs(rt: HostRuntime) {
 }
 
 /// Of two zones in which the same calls were made but for the last, the receipts of one are refused by the other.
+fn disagree<K: Shape, I: Ledger, M: Ledger, B: Ledger, R: Wait + Abort + AllocGlobal>(
+    rt: &R,
+    shared: &SharedZone<K, I, M, B>,
+    clients: &[Client],
+) {
+    assert!(rt; settled(rt, shared, clients) == mismatch(rt, 1, 0));
+    let mut first = client(rt, 1);
+    play(rt, shared, &mut first, &[(Call::Map(0), Answer::Frame(0))]);
+    assert!(rt; settled(rt, shared, clients) == mismatch(rt, 1, 1));
+}
+
+/// Opens another zone for clients that disagree with it.
 fn differs_from_another<
     K: Shape,
     I: Ledger,
@@ -74,11 +94,8 @@ fn differs_from_another<
     requires shape { (K.number ≡ 1) × (K.blocks ≡ 1) }
     requires blanks { AreFor blanks I.name I.parts N.name N.parts M.name M.parts B.name B.parts }
 {
-    let Opening { shared, .. } = Opening::<K, I, N, M, B>::of(rt, 1, 99, blanks);
-    assert!(rt; settled(rt, &shared, clients) == mismatch(rt, 1, 0));
-    let mut first = client(rt, 1);
-    play(rt, &shared, &mut first, &[(Call::Map(0), Answer::Frame(0))]);
-    assert!(rt; settled(rt, &shared, clients) == mismatch(rt, 1, 1));
+    let opening = Opening::<K, I, N, M, B>::of(rt, 1, 99, blanks);
+    disagree(rt, &opening.shared, clients);
 }
 
 #[test]

@@ -9,6 +9,7 @@ use std::sync::Wait;
 use std::sync::atomic::{AtomicU64, Ordering};
 use std::sync::ledger::Ledger;
 use std::thread::{Threads, join};
+use zone_core::Seats;
 
 /// How a thread waits for the end of a move.
 #[derive(Clone, Copy)]
@@ -105,6 +106,36 @@ fn both_wait<
     )
 }
 
+/// Both threads that wait for the page of a round are woken.
+fn woken_by_a_round<
+    K: Shape + Send + Sync,
+    I: Ledger + Send + Sync,
+    N: Ledger + Send,
+    M: Ledger + Send + Sync,
+    B: Ledger + Send + Sync,
+    R: Threads + Wait + Abort + AllocGlobal + Sync,
+>(
+    rt: &R,
+    shared: &SharedZone<K, I, M, B>,
+    seats: &mut Seats<I, N, M, B>,
+    first: (Client, Waiting),
+    second: (Client, Waiting),
+) -> (Client, Client) {
+    let lulls = Lulls::none();
+    let gate = &lulls;
+    let (clients, round) = join(
+        rt,
+        move || -> (Client, Client) { both_wait(rt, shared, gate, first, second) },
+        move || -> Result<Round, RoundError> {
+            let round = round_of(rt, shared, seats, 1, 8, gate);
+            assert!(rt; comes_above(&gate.woken, 1), "a thread still waits");
+            round
+        },
+    );
+    assert!(rt; counts_of(rt, round) == (0, 1, 1, 0));
+    clients
+}
+
 impl<
     K: Shape + Send + Sync,
     I: Ledger + Send + Sync,
@@ -112,7 +143,7 @@ impl<
     M: Ledger + Send + Sync,
     B: Ledger + Send + Sync,
 > Opening<K, I, N, M, B> {
-    /// Both threads that wait for the page of a round are woken.
+    /// Two threads wait for the page of a round, each with a client. The receipts of all clients stand in the journal.
     pub fn wakes_both<R: Threads + Wait + Abort + AllocGlobal + Sync>(
         mut self,
         rt: &R,
@@ -128,18 +159,7 @@ impl<
         } = self;
         let first = (Client::new(rt.alloc(), client_number(rt, 1)), first);
         let second = (Client::new(rt.alloc(), client_number(rt, 2)), second);
-        let lulls = Lulls::none();
-        let (lock, gate) = (&shared, &lulls);
-        let ((first, second), round) = join(
-            rt,
-            move || -> (Client, Client) { both_wait(rt, lock, gate, first, second) },
-            move || -> Result<Round, RoundError> {
-                let round = round_of(rt, lock, &mut seats, 1, 8, gate);
-                assert!(rt; comes_above(&gate.woken, 1), "a thread still waits");
-                round
-            },
-        );
-        assert!(rt; counts_of(rt, round) == (0, 1, 1, 0));
+        let (first, second) = woken_by_a_round(rt, &shared, &mut seats, first, second);
         assert!(rt; settled(rt, &shared, &[keeper, first, second]) == Ok(()));
     }
 }

@@ -23,6 +23,16 @@ struct Moving<I: Ledger, N: Ledger, M: Ledger, B: Ledger> {
     ends: EndSeat<M, B>,
 }
 
+/// What is tried with a zone that was just opened.
+#[derive(Clone, Copy)]
+enum Trial {
+    MovesItsWords,
+    RefusesStrangers,
+    SplitsItsSeat,
+    FillsItsJournal,
+    TakesPins,
+}
+
 /// What is told of a zone: its counts, the length of its journal, and what is known of its page.
 type Told = (Info, usize, Result<Look, ZoneError>);
 
@@ -188,16 +198,16 @@ impl<I: Ledger, N: Ledger, M: Ledger, B: Ledger> Moving<I, N, M, B> {
         }
         assert!(rt; self.zone.pin(client(rt), page(rt)) == Err(ZoneError::PinFull));
     }
-}
 
-/// What is tried with a zone that was just opened.
-#[derive(Clone, Copy)]
-enum Trial {
-    MovesItsWords,
-    RefusesStrangers,
-    SplitsItsSeat,
-    FillsItsJournal,
-    TakesPins,
+    fn undergoes(&mut self, rt: &(impl Abort + AllocGlobal), trial: Trial) {
+        match trial {
+            Trial::MovesItsWords => self.moves_its_words(rt),
+            Trial::RefusesStrangers => self.refuses_strangers(rt),
+            Trial::SplitsItsSeat => self.splits_its_seat(rt),
+            Trial::FillsItsJournal => self.fills_its_journal(rt),
+            Trial::TakesPins => self.takes_pins(rt),
+        }
+    }
 }
 
 /// Opens a zone with so many places in its journal, and tries something with it.
@@ -209,14 +219,7 @@ fn tries<I: Ledger, N: Ledger, M: Ledger, B: Ledger>(
 )
     requires blanks { AreFor blanks I.name I.parts N.name N.parts M.name M.parts B.name B.parts }
 {
-    let mut moving = Moving::<I, N, M, B>::of(rt, places, blanks);
-    match trial {
-        Trial::MovesItsWords => moving.moves_its_words(rt),
-        Trial::RefusesStrangers => moving.refuses_strangers(rt),
-        Trial::SplitsItsSeat => moving.splits_its_seat(rt),
-        Trial::FillsItsJournal => moving.fills_its_journal(rt),
-        Trial::TakesPins => moving.takes_pins(rt),
-    }
+    Moving::<I, N, M, B>::of(rt, places, blanks).undergoes(rt, trial);
 }
 
 #[test]

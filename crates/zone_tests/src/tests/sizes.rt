@@ -105,6 +105,17 @@ impl<const W: usize, I: Ledger, N: Ledger, M: Ledger, B: Ledger> Paged<W, I, N, 
         assert!(rt; self.write(rt, first, &words[1..]) == Ok(()));
         assert!(rt; self.zone.journal().len() == W);
     }
+
+    /// Whatever is tried but a move by hand.
+    fn undergoes(&mut self, rt: &impl Abort, trial: Trial)
+        requires { (0 < W) × (W ≤ 65536) }
+    {
+        match trial {
+            Trial::MovesItsWords => self.moves_its_words(rt),
+            Trial::RefusesWordsPastThePage => self.refuses_words_past_the_page(rt),
+            _ => self.needs_a_place_for_each_word(rt),
+        }
+    }
 }
 
 /// As many words as a page has, no two alike.
@@ -140,8 +151,68 @@ fn write_page<const W: usize, I: Ledger, N: Ledger, M: Ledger, B: Ledger>(
     world.write(client(rt), address(rt, (7, 9)), first, values)
 }
 
-/// A world of one pageblock with a page, which hand 1 moves: the page has each of its words afterwards.
+/// Hand 1 moves the page of a world. Meanwhile the page can't be read.
+fn moves_the_page<const W: usize, I: Ledger, N: Ledger, M: Ledger, B: Ledger>(
+    rt: &impl Abort,
+    world: &mut WorldOf<W, I, N, M, B>,
+)
+    requires { W ≤ 65536 }
+{
+    let hand = hand(rt, 1);
+    assert!(rt; world.scan() == Ok(Scanned::Serial(0)));
+    assert!(rt; world.take(hand) == Ok(0));
+    assert!(rt; read_page(rt, world, &mut [0; W]) == Err(ZoneError::Moving));
+    assert!(rt; world.copy(hand) == Ok(()));
+    let moved = Finished {
+        serial: 0,
+        ended: Ended::Moved,
+    };
+    assert!(rt; world.finish(hand) == Ok(moved));
+}
+
+/// A page that hand 1 moves has each of its words afterwards.
+fn keeps_its_words<const W: usize, I: Ledger, N: Ledger, M: Ledger, B: Ledger>(
+    rt: &impl Abort,
+    world: &mut WorldOf<W, I, N, M, B>,
+)
+    requires { W ≤ 65536 }
+{
+    let words = words_that_differ::<W>();
+    assert!(rt; write_page(rt, world, &words) == Ok(()));
+    moves_the_page(rt, world);
+    let mut read = [0; W];
+    assert!(rt; read_page(rt, world, &mut read) == Ok(()));
+    assert!(rt; read == words);
+}
+
+/// The last word of the page of a world takes another value.
+fn stores_to_the_last_word<const W: usize, I: Ledger, N: Ledger, M: Ledger, B: Ledger>(
+    rt: &impl Abort,
+    world: &mut WorldOf<W, I, N, M, B>,
+)
+    requires { (0 < W) × (W ≤ 65536) }
+{
+    let last = WordOf::new((W - 1) as u32).expect(rt, "a word");
+    assert!(rt; world.store(client(rt), address(rt, (7, 9)), last, 7) == Ok(()));
+    assert!(rt; world.load(client(rt), address(rt, (7, 9)), last) == Ok(7));
+}
+
+/// Maps a page in a world that was just opened, and has a hand move it.
 fn moves_by_hand<const W: usize, I: Ledger, N: Ledger, M: Ledger, B: Ledger>(
+    rt: &impl Abort,
+    world: &mut WorldOf<W, I, N, M, B>,
+)
+    requires { (0 < W) × (W ≤ 65536) }
+{
+    let mapped = world.map(client(rt), address(rt, (7, 9)), PageFlags::empty());
+    assert!(rt; mapped.is_ok());
+    keeps_its_words(rt, world);
+    stores_to_the_last_word(rt, world);
+    assert!(rt; world.shut() == Ok(0));
+}
+
+/// Opens a world of one pageblock for it.
+fn tries_by_hand<const W: usize, I: Ledger, N: Ledger, M: Ledger, B: Ledger>(
     rt: &(impl Abort + AllocGlobal),
     blanks: Blanks,
 )
@@ -150,31 +221,7 @@ fn moves_by_hand<const W: usize, I: Ledger, N: Ledger, M: Ledger, B: Ledger>(
 {
     let number = ZoneNo::new(3).expect(rt, "a zone");
     let opened = WorldOf::<W, I, N, M, B>::open(rt.alloc(), number, 1, 4096, blanks);
-    let mut world = opened.expect(rt, "a world");
-    assert!(rt;
-        world
-            .map(client(rt), address(rt, (7, 9)), PageFlags::empty())
-            .is_ok()
-    );
-    let words = words_that_differ::<W>();
-    assert!(rt; write_page(rt, &mut world, &words) == Ok(()));
-    let hand = hand(rt, 1);
-    assert!(rt; world.scan() == Ok(Scanned::Serial(0)));
-    assert!(rt; world.take(hand) == Ok(0));
-    let mut read = [0; W];
-    assert!(rt; read_page(rt, &mut world, &mut read) == Err(ZoneError::Moving));
-    assert!(rt; world.copy(hand) == Ok(()));
-    let moved = Finished {
-        serial: 0,
-        ended: Ended::Moved,
-    };
-    assert!(rt; world.finish(hand) == Ok(moved));
-    assert!(rt; read_page(rt, &mut world, &mut read) == Ok(()));
-    assert!(rt; read == words);
-    let last = WordOf::new((W - 1) as u32).expect(rt, "a word");
-    assert!(rt; world.store(client(rt), address(rt, (7, 9)), last, 7) == Ok(()));
-    assert!(rt; world.load(client(rt), address(rt, (7, 9)), last) == Ok(7));
-    assert!(rt; world.shut() == Ok(0));
+    moves_by_hand(rt, &mut opened.expect(rt, "a world"));
 }
 
 /// How many words the pages have.
@@ -220,18 +267,13 @@ fn tries_with<const W: usize, I: Ledger, N: Ledger, M: Ledger, B: Ledger>(
     requires size { (0 < W) × (W ≤ 65536) }
 {
     if let Trial::MovesByHand = trial {
-        return moves_by_hand::<W, I, N, M, B>(rt, blanks);
+        return tries_by_hand::<W, I, N, M, B>(rt, blanks);
     }
     let places = match trial {
         Trial::NeedsAPlaceForEachWord => W as u32,
         _ => 4096,
     };
-    let mut paged = Paged::<W, I, N, M, B>::of(rt, places, blanks);
-    match trial {
-        Trial::MovesItsWords => paged.moves_its_words(rt),
-        Trial::RefusesWordsPastThePage => paged.refuses_words_past_the_page(rt),
-        _ => paged.needs_a_place_for_each_word(rt),
-    }
+    Paged::<W, I, N, M, B>::of(rt, places, blanks).undergoes(rt, trial);
 }
 
 #[test]

@@ -115,14 +115,12 @@ const CASES: [Case; 4] = [
     },
 ];
 
-fn plays<I: Ledger, N: Ledger, M: Ledger, B: Ledger>(
+/// Makes the calls of a case.
+fn makes_calls<I: Ledger, N: Ledger, M: Ledger, B: Ledger>(
     rt: &(impl Abort + AllocGlobal),
+    world: &mut OpenWorld<I, N, M, B>,
     case: &Case,
-    blanks: Blanks,
-)
-    requires blanks { AreFor blanks I.name I.parts N.name N.parts M.name M.parts B.name B.parts }
-{
-    let mut world = OpenWorld::<I, N, M, B>::of(rt, 1, 64, blanks);
+) {
     for (number, row) in case.rows.iter().enumerate() {
         let (step, want) = *row;
         assert!(rt;
@@ -133,6 +131,18 @@ fn plays<I: Ledger, N: Ledger, M: Ledger, B: Ledger>(
         assert_kept(rt, world.zone());
         assert_walks(rt, world.zone());
     }
+}
+
+/// Opens a world for a case.
+fn plays<I: Ledger, N: Ledger, M: Ledger, B: Ledger>(
+    rt: &(impl Abort + AllocGlobal),
+    case: &Case,
+    blanks: Blanks,
+)
+    requires blanks { AreFor blanks I.name I.parts N.name N.parts M.name M.parts B.name B.parts }
+{
+    let mut world = OpenWorld::<I, N, M, B>::of(rt, 1, 64, blanks);
+    makes_calls(rt, &mut world, case);
 }
 
 /// The lists, counts and sets of a zone are what one walk over all its entries finds.
@@ -153,7 +163,20 @@ fn lists_are_what_walks_find(rt: HostRuntime) {
     }
 }
 
-/// Calls that are drawn, on eight pageblocks.
+/// Makes 2,000 calls that are drawn. More than a fifth of them is accepted, each with its record.
+fn makes_draws<I: Ledger, N: Ledger, M: Ledger, B: Ledger>(
+    rt: &(impl Abort + AllocGlobal),
+    world: &mut OpenWorld<I, N, M, B>,
+) {
+    let mut draws = Draws::new();
+    for _ in 0..2000 {
+        world.make(rt, draws.step());
+        assert_kept(rt, world.zone());
+    }
+    assert!(rt; world.zone().journal().len() > 400);
+}
+
+/// Opens a world of eight pageblocks for calls that are drawn.
 fn plays_draws<I: Ledger, N: Ledger, M: Ledger, B: Ledger>(
     rt: &(impl Abort + AllocGlobal),
     blanks: Blanks,
@@ -161,13 +184,7 @@ fn plays_draws<I: Ledger, N: Ledger, M: Ledger, B: Ledger>(
     requires blanks { AreFor blanks I.name I.parts N.name N.parts M.name M.parts B.name B.parts }
 {
     let mut world = OpenWorld::<I, N, M, B>::of(rt, 8, 4096, blanks);
-    let mut draws = Draws::new();
-    for _ in 0..2000 {
-        world.make(rt, draws.step());
-        assert_kept(rt, world.zone());
-    }
-    // More than a fifth of them is accepted, each with its record.
-    assert!(rt; world.zone().journal().len() > 400);
+    makes_draws(rt, &mut world);
 }
 
 #[test]
