@@ -12,18 +12,18 @@ import tempfile
 
 import runs
 
-ZONE = "frame_core word_core journal_core table_core scan_core state_core plain_core zone_core".split()
+ZONE = "frame_core told_core word_core journal_core table_core scan_core state_core plain_core zone_core".split()
 REACHES = "crates/frame_core/src/fixed_vec.rt"
 OWNERS = re.compile(r"\b(Vec|VecDeque|Box|String|Rc|Arc|HashMap|BTreeMap|HashSet|BTreeSet|BinaryHeap|LinkedList)\b")
 FIELDS = re.compile(r"^(?:pub )?(?:struct|enum|union) .*?^}", re.DOTALL | re.MULTILINE)
 
 FILE = "crates/journal_core/src/journal.rt"
-PUSH = "        self.records.push(entry);\n"
+PUSH = "            self.kept.push(entry);\n"
 ASKS = {
-    "let _copy = self.records.clone();": "the method `clone` exists for `FixedVec<Record>`, but its bounds are not met",
-    "let _more = self.records.reserve(1);": "no method named `reserve` found for type `FixedVec<Record>`",
-    "let _from = self.records.allocator();": "no method named `allocator` found for type `FixedVec<Record>`",
-    "let _list = &self.records.list;": "field `list` of struct `FixedVec` is private",
+    "let _copy = self.kept.clone();": "the method `clone` exists for `FixedVec<Record>`, but its bounds are not met",
+    "let _more = self.kept.reserve(1);": "no method named `reserve` found for type `FixedVec<Record>`",
+    "let _from = self.kept.allocator();": "no method named `allocator` found for type `FixedVec<Record>`",
+    "let _list = &self.kept.list;": "field `list` of struct `FixedVec` is private",
 }
 
 
@@ -48,7 +48,7 @@ def refused(asks):
         text = source.read_text()
         if text.count(PUSH) != 1:
             raise runs.Failed(f"{FILE} has no line to plant another before")
-        source.write_text(text.replace(PUSH, "".join(f"        {line}\n" for line in asks) + PUSH))
+        source.write_text(text.replace(PUSH, "".join(f"            {line}\n" for line in asks) + PUSH))
         checked = runs.finished([runs.rt(), "check"], cwd=source.parent.parent)
     log = (checked.output + checked.error).decode(errors="replace")
     if checked.status == 0:

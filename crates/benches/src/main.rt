@@ -1,9 +1,11 @@
-//! Measures rounds, clients beside rounds, and the hand-over of pages, each beside the same work done plainly. The first word says
-//! which: `rounds`, `clients` or `hands`. With no further word it prints what they did, which is the same in every run; with a number
+//! Measures rounds, clients beside rounds, the hand-over of pages, and calls of zones whose journals are told, each beside the same work
+//! done otherwise. The first word says which: `rounds`, `clients`, `hands` or `calls`. With no further word it prints what they did, which is the same in every run; with a number
 //! it prints how long they take. `rounds alone N` and `rounds filled N` do a part of the work N times, to be counted from outside.
-//! Without any word it prints what all three did.
+//! `calls told N` makes N stores and as many loads in a zone whose journal is told. Without any word it prints what rounds, clients and
+//! hands did, and a thousand such calls.
 #![tactic(auto)]
 
+mod calls;
 mod clients;
 mod hands;
 mod opening;
@@ -35,7 +37,8 @@ fn show_all<R: Threads + Wait + Print + Alloc + Clock + Sync>(
 ) -> io::Result<()> {
     rounds::show_moves(rt, alloc)?;
     clients::show_settled(rt, alloc)?;
-    hands::show_loads(rt, alloc)
+    hands::show_loads(rt, alloc)?;
+    calls::show_calls(rt, alloc, 1000)
 }
 
 fn show<R: Threads + Wait + Print + Alloc + Clock + Sync>(
@@ -55,9 +58,13 @@ fn show<R: Threads + Wait + Print + Alloc + Clock + Sync>(
         ("clients", Some(times), None) => {
             clients::show_times(rt, alloc, number_in(times.as_str())?)?
         }
+        ("calls", Some(turns), None) => calls::show_times(rt, alloc, number_in(turns.as_str())?)?,
+        ("calls", Some(_), Some(values)) => {
+            calls::show_calls(rt, alloc, number_in(values.as_str())?)?
+        }
         ("hands", None, _) => hands::show_loads(rt, alloc)?,
         ("hands", Some(pages), None) => hands::show_times(rt, alloc, number_in(pages.as_str())?)?,
-        _ => bail!("wanted: rounds, clients or hands, and then a number"),
+        _ => bail!("wanted: rounds, clients, hands or calls, and then a number"),
     }
     Ok(())
 }

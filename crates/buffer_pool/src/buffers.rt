@@ -1,48 +1,160 @@
-//! The buffers: pages of one space, spread over the zone.
+//! The buffers: pages of a zone, by the blocks that they hold. Each call of the zone is counted.
 
+ghost use Rattle.zone_core.specs.Books.{AreFor};
+
+use crate::file::WORDS;
 use crate::trouble::Trouble;
-use frame_core::{Address, FrameNo, SpaceNo, VPage, WordOf};
+use bitflags::Flags;
+use frame_core::{Address, BlockNo, ClientNo, FrameNo, PageFlags, SpaceNo, VPage, WordOf, ZoneNo};
+use solo_core::compact;
+use std::alloc::Global;
+use std::sync::ledger::Ledger;
+use zone_core::{Answered, Blanks, Look, Seats, ZoneError, ZoneOf};
 
-/// The words of a buffer: 4 KiB.
-pub const WORDS: usize = 512;
+const PAGEBLOCKS: u32 = 8;
 
-/// How many buffers there are at first. Each takes 512 places of the journal when it is written, and 512 when it is read.
-pub const BUFFERS: u32 = 80;
-
-/// Frames from one buffer to the next at first.
-const APART: u32 = 25;
-
-/// The buffers in use, which are to stay where they are. All of them stand in one pageblock at first, and are kept.
-pub const IN_USE: [u32; 4] = [24, 26, 28, 30];
-
-/// Whether a buffer is kept when every other one is freed.
-pub fn is_kept(number: u32) -> bool {
-    number % 2 == 0
+#[derive(Drop)]
+pub struct Buffers<I: Ledger, N: Ledger, M: Ledger, B: Ledger> {
+    zone: ZoneOf<WORDS, I, M, B>,
+    seats: Seats<I, N, M, B>,
+    client: ClientNo,
+    space: SpaceNo,
+    /// The word that is the header of a block.
+    first: WordOf<WORDS>,
+    calls: u64,
 }
 
-/// The address of a buffer.
-pub fn buffer(number: u32) -> Result<Address, Trouble> {
-    Ok(Address {
-        space: SpaceNo::new(0).ok_or(Trouble::Range)?,
-        vpage: VPage::new(number).ok_or(Trouble::Range)?,
-    })
-}
-
-/// The frame of a buffer at first.
-pub fn first_frame(number: u32) -> Result<FrameNo, Trouble> {
-    FrameNo::new(number.saturating_mul(APART)).ok_or(Trouble::Range)
-}
-
-/// The first word of a buffer.
-pub fn first_word() -> Result<WordOf<WORDS>, Trouble> {
-    WordOf::new(0).ok_or(Trouble::Range)
-}
-
-/// What is written to a buffer. No two words are alike, in one buffer or in two.
-pub fn content(number: u32) -> [u64; WORDS] {
-    let mut words = [0; WORDS];
-    for (at, word) in words.iter_mut().enumerate() {
-        *word = u64::from(number) * 512 + at as u64;
+impl<I: Ledger, N: Ledger, M: Ledger, B: Ledger> Buffers<I, N, M, B> {
+    /// No buffers, in a zone of 16 MiB whose journal is told.
+    pub fn open(alloc: Global, blanks: Blanks) -> Result<Self, Trouble>
+        requires blanks { AreFor blanks I.name I.parts N.name N.parts M.name M.parts B.name B.parts }
+    {
+        let client = ClientNo::new(0).ok_or(Trouble::Range)?;
+        let space = SpaceNo::new(0).ok_or(Trouble::Range)?;
+        let first = WordOf::new(0).ok_or(Trouble::Range)?;
+        let number = ZoneNo::new(0).ok_or(Trouble::Range)?;
+        let opened = ZoneOf::<WORDS, I, M, B>::open_told::<N>(alloc, number, PAGEBLOCKS, blanks);
+        let (zone, scan, ends) = opened?;
+        Ok(Buffers {
+            zone,
+            seats: Seats { scan, ends },
+            client,
+            space,
+            first,
+            calls: 0,
+        })
     }
-    words
+
+    /// Makes a fresh buffer for a block.
+    pub fn map(&mut self, block: VPage) -> Result<FrameNo, ZoneError> {
+        self.count();
+        self.zone.map(self.client, address(self.space, block), PageFlags::empty())
+    }
+
+    /// Gives the buffer of a block up.
+    pub fn unmap(&mut self, block: VPage) -> Result<(), ZoneError> {
+        self.count();
+        self.zone.unmap(self.client, address(self.space, block))
+    }
+
+    /// Pins the buffer of a block: no round moves it then.
+    pub fn pin(&mut self, block: VPage) -> Result<(), ZoneError> {
+        self.count();
+        self.zone.pin(self.client, address(self.space, block))
+    }
+
+    /// Takes a pin off the buffer of a block.
+    pub fn unpin(&mut self, block: VPage) -> Result<(), ZoneError> {
+        self.count();
+        self.zone.unpin(self.client, address(self.space, block))
+    }
+
+    /// Loads a word of a block.
+    pub fn load(&mut self, block: VPage, word: WordOf<WORDS>) -> Result<u64, ZoneError> {
+        self.count();
+        self.zone
+            .load(self.client, address(self.space, block), word)
+    }
+
+    /// Loads the header of a block.
+    pub fn load_header(&mut self, block: VPage) -> Result<u64, ZoneError> {
+        self.load(block, self.first)
+    }
+
+    /// Stores the header of a block.
+    pub fn store_header(&mut self, block: VPage, header: u64) -> Result<(), ZoneError> {
+        self.count();
+        self.zone.store(self.client, address(self.space, block), self.first, header)
+    }
+
+    /// Reads all words of a block by one call. Whether they are these.
+    pub fn holds(&mut self, block: VPage, content: &[u64; WORDS]) -> Result<bool, ZoneError> {
+        self.count();
+        let mut words = [0; WORDS];
+        self.zone.read(
+            self.client,
+            address(self.space, block),
+            self.first,
+            &mut words,
+        )?;
+        Ok(words == *content)
+    }
+
+    /// Writes all words of a block by one call.
+    pub fn write(&mut self, block: VPage, content: &[u64; WORDS]) -> Result<(), ZoneError> {
+        self.count();
+        self.zone.write(self.client, address(self.space, block), self.first, content)
+    }
+
+    /// Where the buffer of a block is.
+    pub fn look(&mut self, block: VPage) -> Result<Look, ZoneError> {
+        self.count();
+        self.zone.look(address(self.space, block))
+    }
+
+    /// Hands out a large buffer of 2 MiB: the lowest whole pageblock.
+    pub fn take_large(&mut self) -> Result<BlockNo, ZoneError> {
+        self.count();
+        self.zone.take_huge()
+    }
+
+    /// Takes a large buffer back.
+    pub fn give_large(&mut self, large: BlockNo) -> Result<(), ZoneError> {
+        self.count();
+        self.zone.give_huge(large)
+    }
+
+    /// Runs a round on this thread.
+    pub fn compact(&mut self) -> Result<Answered, ZoneError> {
+        compact(&mut self.zone, &mut self.seats)
+    }
+
+    /// How many times a buffer was moved so far.
+    pub fn moved(&mut self) -> Result<u32, ZoneError> {
+        self.count();
+        let audit = self.zone.audit(&mut self.seats.scan, &mut self.seats.ends)?;
+        Ok(audit.moved)
+    }
+
+    /// How many records the journal has.
+    pub fn records(&self) -> u64 {
+        self.zone.journal().len()
+    }
+
+    /// How many calls of the zone were made so far, without those of rounds.
+    pub fn calls(&self) -> u64 {
+        self.calls
+    }
+
+    fn count(&mut self) {
+        self.calls = self.calls.saturating_add(1);
+    }
+}
+
+/// The address under which a block is mapped.
+fn address(space: SpaceNo, block: VPage) -> Address {
+    Address {
+        space,
+        vpage: block,
+    }
 }

@@ -1,15 +1,18 @@
-//! The buffers of a database, pages of 4 KiB in a zone. They are filled, every other one is freed, and a large buffer of 2 MiB is
-//! asked for: it is refused, since no pageblock is whole. A round of compaction moves the buffers together, except those that are
-//! pinned, and then there is a large buffer. Prints what is seen before the rounds and after each, and how many buffers hold
-//! what was written to them.
+//! The buffers of a database, pages of 4 KiB in a zone. Ten million calls: transactions pin a buffer, load and store words of it, and
+//! unpin it; now and then a buffer is evicted, and another block of the file is brought in. At times a large buffer of 2 MiB is
+//! asked for, and a round of compaction makes room for it. Prints what was counted, and how many buffers held what was stored.
 #![tactic(auto)]
 
 mod buffers;
+mod draws;
+mod file;
+mod large;
 mod pool;
 mod run;
+mod tally;
+mod transactions;
 mod trouble;
 
-use pool::Seen;
 use run::{Outcome, run};
 use std::io;
 use std::marker::Brand;
@@ -24,32 +27,34 @@ fn main(rt: HostRuntime) -> io::Result<()> {
 }
 
 fn show<R: Print>(rt: &R, outcome: Result<Outcome, Trouble>) -> io::Result<()> {
-    let outcome = match outcome {
+    let Outcome {
+        tally,
+        calls,
+        records,
+        moved,
+    } = match outcome {
         Ok(outcome) => outcome,
         Err(trouble) => return println!(rt; "failed: {trouble}"),
     };
-    show_seen(rt, "before", outcome.before)?;
-    show_seen(rt, "with pins", outcome.pinned)?;
-    show_seen(rt, "without pins", outcome.unpinned)?;
+    println!(rt; "calls {calls}, records in the journal {records}")?;
     println!(rt;
-        "pinned buffers that stayed in their frames: {}",
-        outcome.stayed
+        "transactions that loaded what was stored: {}",
+        tally.transactions
     )?;
     println!(rt;
-        "buffers that hold what was written to them: {}",
-        outcome.kept
+        "evicted buffers that held what was stored: {}",
+        tally.evicted
+    )?;
+    println!(rt;
+        "buffers at the end that held what was stored: {}",
+        tally.left
+    )?;
+    println!(rt;
+        "large buffers that were got: {}, rounds {}, buffers moved {moved}",
+        tally.large, tally.rounds
+    )?;
+    println!(rt;
+        "pinned buffers that stayed in their frames: {}",
+        tally.pinned
     )
-}
-
-fn show_seen<R: Print>(rt: &R, when: &str, seen: Seen) -> io::Result<()> {
-    let Seen {
-        moved,
-        whole,
-        large,
-    } = seen;
-    print!(rt; "{when}: moved so far {moved}, whole pageblocks {whole}, a large buffer: ")?;
-    match large {
-        Ok(block) => println!(rt; "pageblock {}", block.get()),
-        Err(refused) => println!(rt; "{refused}"),
-    }
 }

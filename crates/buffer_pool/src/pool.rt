@@ -1,36 +1,29 @@
-//! The pool: a zone whose pages are the buffers, and its seats.
+//! The pool: which blocks of the file have a buffer.
 
 ghost use Rattle.zone_core.specs.Books.{AreFor};
 
-use crate::buffers::{BUFFERS, IN_USE, WORDS, buffer, content, first_frame, first_word, is_kept};
+use crate::buffers::Buffers;
+use crate::draws::Draws;
+use crate::file::{BLOCKS, File};
+use crate::tally::Tally;
 use crate::trouble::Trouble;
-use bitflags::Flags;
-use frame_core::{BlockNo, ClientNo, PageFlags, ZoneNo};
-use solo_core::compact;
+use frame_core::{BlockNo, VPage};
 use std::alloc::Global;
 use std::sync::ledger::Ledger;
-use zone_core::{Blanks, Look, Seats, ZoneError, ZoneOf};
+use zone_core::Blanks;
 
-const BLOCKS: u32 = 4;
-
-const PLACES: u32 = 65536;
-
-/// What is seen of the pool while no buffer is moving.
-#[derive(Clone, Copy)]
-pub struct Seen {
-    /// How many times a buffer was moved so far.
-    pub moved: u32,
-    /// How many pageblocks are whole.
-    pub whole: u32,
-    /// The pageblock that is handed out as a large buffer, or why none is.
-    pub large: Result<BlockNo, ZoneError>,
-}
+/// How many blocks have no buffer, once the pool is filled.
+const OUTSIDE: u32 = 100;
 
 #[derive(Drop)]
 pub struct Pool<I: Ledger, N: Ledger, M: Ledger, B: Ledger> {
-    zone: ZoneOf<WORDS, I, M, B>,
-    seats: Seats<I, N, M, B>,
-    client: ClientNo,
+    pub buffers: Buffers<I, N, M, B>,
+    pub file: File,
+    /// The blocks that have a buffer.
+    resident: Vec<VPage>,
+    pub draws: Draws,
+    pub large: Option<BlockNo>,
+    pub tally: Tally,
 }
 
 impl<I: Ledger, N: Ledger, M: Ledger, B: Ledger> Pool<I, N, M, B> {
@@ -38,110 +31,58 @@ impl<I: Ledger, N: Ledger, M: Ledger, B: Ledger> Pool<I, N, M, B> {
     pub fn open(alloc: Global, blanks: Blanks) -> Result<Self, Trouble>
         requires blanks { AreFor blanks I.name I.parts N.name N.parts M.name M.parts B.name B.parts }
     {
-        let client = ClientNo::new(0).ok_or(Trouble::Range)?;
-        let number = ZoneNo::new(0).ok_or(Trouble::Range)?;
-        let opened = ZoneOf::<WORDS, I, M, B>::open::<N>(alloc, number, BLOCKS, PLACES, blanks);
-        let (zone, scan, ends) = opened?;
+        let buffers = Buffers::open(alloc, blanks)?;
         Ok(Pool {
-            zone,
-            seats: Seats { scan, ends },
-            client,
+            buffers,
+            file: File::new(),
+            resident: Vec::new(alloc),
+            draws: Draws::new(),
+            large: None,
+            tally: Tally::default(),
         })
     }
 
-    /// Maps and fills all buffers, so far from one another that no pageblock is whole.
-    pub fn fill_all(&mut self) -> Result<(), Trouble> {
-        for number in 0..BUFFERS {
-            self.fill(number)?;
+    /// Brings the whole file in, and then evicts some of its blocks: free frames are left all over the zone.
+    pub fn fill(&mut self) -> Result<(), Trouble> {
+        for number in 0..BLOCKS {
+            self.bring_in(VPage::new(number).ok_or(Trouble::Range)?)?;
+        }
+        for _ in 0..OUTSIDE {
+            self.evict()?;
         }
         Ok(())
     }
 
-    fn fill(&mut self, number: u32) -> Result<(), Trouble> {
-        let (address, frame) = (buffer(number)?, first_frame(number)?);
-        self.zone
-            .map_at(self.client, address, PageFlags::empty(), frame)?;
-        self.zone
-            .write(self.client, address, first_word()?, &content(number))?;
+    /// Brings a block into a fresh buffer.
+    pub fn bring_in(&mut self, block: VPage) -> Result<(), Trouble> {
+        self.buffers.map(block)?;
+        self.buffers.write(block, &self.file.content(block))?;
+        self.resident.push(block)?;
         Ok(())
     }
 
-    /// Unmaps every other buffer.
-    pub fn free_half(&mut self) -> Result<(), Trouble> {
-        for number in 0..BUFFERS {
-            if !is_kept(number) {
-                self.zone.unmap(self.client, buffer(number)?)?;
-            }
-        }
+    /// Evicts a block that is drawn, and sees whether its buffer held what was stored.
+    pub fn evict(&mut self) -> Result<(), Trouble> {
+        let slot = self.draws.place(self.resident.len())?;
+        let block = self.resident.swap_remove(slot);
+        let holds = self.buffers.holds(block, &self.file.content(block))?;
+        self.tally.evicted.note(holds);
+        self.buffers.unmap(block)?;
         Ok(())
     }
 
-    /// Pins the buffers in use.
-    pub fn pin_used(&mut self) -> Result<(), Trouble> {
-        for number in IN_USE {
-            self.zone.pin(self.client, buffer(number)?)?;
+    /// A block that is drawn among those that have a buffer.
+    pub fn draw_resident(&mut self) -> Result<VPage, Trouble> {
+        let slot = self.draws.place(self.resident.len())?;
+        Ok(self.resident[slot])
+    }
+
+    /// Reads the buffers that are left, and sees how many hold what was stored.
+    pub fn see_left(&mut self) -> Result<(), Trouble> {
+        for block in &self.resident {
+            let holds = self.buffers.holds(*block, &self.file.content(*block))?;
+            self.tally.left.note(holds);
         }
         Ok(())
-    }
-
-    /// Takes the pins of the buffers in use off.
-    pub fn unpin_used(&mut self) -> Result<(), Trouble> {
-        for number in IN_USE {
-            self.zone.unpin(self.client, buffer(number)?)?;
-        }
-        Ok(())
-    }
-
-    /// Runs a round on this thread.
-    pub fn compact(&mut self) -> Result<(), Trouble> {
-        compact(&mut self.zone, &mut self.seats)?;
-        Ok(())
-    }
-
-    /// Sees how the pool is, and asks for a large buffer of 2 MiB.
-    pub fn see(&mut self) -> Result<Seen, Trouble> {
-        let audit = self.zone.audit(&mut self.seats.scan, &mut self.seats.ends)?;
-        let whole = self.zone.info().whole;
-        Ok(Seen {
-            moved: audit.moved,
-            whole,
-            large: self.zone.take_huge(),
-        })
-    }
-
-    /// How many of the buffers in use are in the frames in which they were at first.
-    pub fn count_stayed(&self) -> Result<u32, Trouble> {
-        let mut count = 0u32;
-        for number in IN_USE {
-            if self.stayed(number)? {
-                count = count.saturating_add(1);
-            }
-        }
-        Ok(count)
-    }
-
-    fn stayed(&self, number: u32) -> Result<bool, Trouble> {
-        match self.zone.look(buffer(number)?)? {
-            Look::At { frame, .. } => Ok(frame == first_frame(number)?),
-            Look::Moving { .. } => Ok(false),
-        }
-    }
-
-    /// How many buffers hold what was written to them.
-    pub fn count_kept(&mut self) -> Result<u32, Trouble> {
-        let mut count = 0u32;
-        for number in 0..BUFFERS {
-            if is_kept(number) && self.holds_content(number)? {
-                count = count.saturating_add(1);
-            }
-        }
-        Ok(count)
-    }
-
-    fn holds_content(&mut self, number: u32) -> Result<bool, Trouble> {
-        let mut words = [0; WORDS];
-        self.zone
-            .read(self.client, buffer(number)?, first_word()?, &mut words)?;
-        Ok(words == content(number))
     }
 }

@@ -1,27 +1,31 @@
 ghost use Rattle.zone_core.specs.Books.{AreFor};
 
-use crate::pool::{Pool, Seen};
+use crate::pool::Pool;
+use crate::tally::Tally;
 use crate::trouble::Trouble;
 use std::alloc::Global;
 use std::sync::ledger::Ledger;
 use zone_core::Blanks;
 
+/// How many times a large buffer is asked for.
+const TURNS: u32 = 100;
+
+/// Transactions while a large buffer is in use, and as many again before the next is asked for.
+const TRANSACTIONS: u32 = 10_000;
+
 /// What came of a run.
 #[derive(Clone, Copy)]
 pub struct Outcome {
-    /// Before the first round.
-    pub before: Seen,
-    /// After a round while some buffers were pinned.
-    pub pinned: Seen,
-    /// After a round while none was pinned.
-    pub unpinned: Seen,
-    /// How many buffers stayed in their frames while they were pinned.
-    pub stayed: u32,
-    /// How many buffers hold what was written to them, after the rounds.
-    pub kept: u32,
+    pub tally: Tally,
+    /// How many calls of the zone were made, without those of rounds.
+    pub calls: u64,
+    /// How many records the journal of the zone has.
+    pub records: u64,
+    /// How many times a buffer was moved.
+    pub moved: u32,
 }
 
-/// Opens a pool, and asks it for large buffers.
+/// Opens a pool, and uses it.
 pub fn run<I: Ledger, N: Ledger, M: Ledger, B: Ledger>(
     alloc: Global,
     blanks: Blanks,
@@ -32,34 +36,35 @@ pub fn run<I: Ledger, N: Ledger, M: Ledger, B: Ledger>(
     use_pool(&mut pool)
 }
 
-/// Fills the pool and frees half of it, and asks for large buffers before the rounds and after each.
+/// Fills a pool, takes all turns, and looks at the buffers that are left.
 fn use_pool<I: Ledger, N: Ledger, M: Ledger, B: Ledger>(
     pool: &mut Pool<I, N, M, B>,
 ) -> Result<Outcome, Trouble> {
-    pool.fill_all()?;
-    pool.free_half()?;
-    let before = pool.see()?;
-    let (pinned, stayed) = compact_pinned(pool)?;
-    pool.compact()?;
-    let unpinned = pool.see()?;
-    let kept = pool.count_kept()?;
-    Ok(Outcome {
-        before,
-        pinned,
-        unpinned,
-        stayed,
-        kept,
-    })
+    pool.fill()?;
+    for _ in 0..TURNS {
+        turn(pool)?;
+    }
+    pool.see_left()?;
+    count(pool)
 }
 
-/// Runs a round while the buffers in use are pinned. The answer is what is seen after it, and how many of them stayed.
-fn compact_pinned<I: Ledger, N: Ledger, M: Ledger, B: Ledger>(
+/// Transactions before and after a large buffer is given back, and the request for the next.
+fn turn<I: Ledger, N: Ledger, M: Ledger, B: Ledger>(
     pool: &mut Pool<I, N, M, B>,
-) -> Result<(Seen, u32), Trouble> {
-    pool.pin_used()?;
-    pool.compact()?;
-    let seen = pool.see()?;
-    let stayed = pool.count_stayed()?;
-    pool.unpin_used()?;
-    Ok((seen, stayed))
+) -> Result<(), Trouble> {
+    pool.serve(TRANSACTIONS)?;
+    pool.give_back()?;
+    pool.serve(TRANSACTIONS)?;
+    pool.ask_pinned()
+}
+
+fn count<I: Ledger, N: Ledger, M: Ledger, B: Ledger>(
+    pool: &mut Pool<I, N, M, B>,
+) -> Result<Outcome, Trouble> {
+    Ok(Outcome {
+        tally: pool.tally,
+        moved: pool.buffers.moved()?,
+        calls: pool.buffers.calls(),
+        records: pool.buffers.records(),
+    })
 }

@@ -1,8 +1,8 @@
 -- The items of a list that pass a test, compared with another list, and where the two first differ.
-use Rattle.std.proofs.Common.{◌≡◌, ◌≢◌, ℕ, zero, suc, refl, ◌+◌, ◌<◌, ◌≤◌, Bool, true, false, List, [], ◌∷◌, ◌++◌, length, take, drop, sym, ap, ◌∙◌, arith}
+use Rattle.std.proofs.Common.{◌≡◌, ◌≢◌, ℕ, zero, suc, refl, ◌+◌, ◌<◌, ◌≤◌, Bool, true, false, List, [], ◌∷◌, ◌++◌, length, get_or, take, drop, sym, ap, ◌∙◌, arith}
 use Rattle.std.specs.Prelude.{Some, None, slice_get}
 use Rattle.std.specs.List.{filter}
-use Rattle.std.proofs.lemmas.Option.{slice_get_within, get_or_from_slice_get, slice_get_past}
+use Rattle.std.proofs.lemmas.Option.{slice_get_within, get_or_from_slice_get, slice_get-get_or, slice_get_past}
 use Rattle.std.proofs.lemmas.List.{take_more, append-nil, length-take-le, take-append-drop, take_all}
 use Rattle.std.proofs.lemmas.List.Elements.{filter-append, filter_more}
 use Rattle.std.proofs.Math.Seq.{drop-cons, take-append_seam}
@@ -12,7 +12,7 @@ use Rattle.client_core.specs.Settling.{IsFirstDifference}
 take_next : {X : Type 0} (xs : List X) (i : ℕ) (x : X) → slice_get xs i ≡ Some x → take (i + 1) xs ≡ take i xs ++ x ∷ []
 take_next xs i x at = take_more xs i x (slice_get_within xs i x at) ∙ ap (λ y. take i xs ++ y ∷ []) (get_or_from_slice_get xs i x x at)
 
-pub drop_next : {X : Type 0} (xs : List X) (i : ℕ) (x : X) → slice_get xs i ≡ Some x → drop i xs ≡ x ∷ drop (i + 1) xs
+drop_next : {X : Type 0} (xs : List X) (i : ℕ) (x : X) → slice_get xs i ≡ Some x → drop i xs ≡ x ∷ drop (i + 1) xs
 drop_next xs i x at = grind (arith, drop-cons xs i x, slice_get_within xs i x at, get_or_from_slice_get xs i x x at)
 
 filter_kept : {X : Type 0} (p : X → Bool) (x : X) (xs : List X) → p x ≡ true → filter p (x ∷ xs) ≡ x ∷ filter p xs
@@ -24,6 +24,10 @@ slice_get-append [] rest x zero is = refl
 slice_get-append [] rest x (suc n) is = cc
 slice_get-append (y ∷ xs) rest x zero is = cc
 slice_get-append (y ∷ xs) rest x (suc n) is = slice_get-append xs rest x n (omega arith)
+
+-- the item that a loop is at
+pub item_at : {X : Type 0} (xs : List X) (i : ℕ) (x : X) → i < length xs → x ≡ get_or xs i x → slice_get xs i ≡ Some x
+item_at xs i x lt is = slice_get-get_or xs i x lt ∙ ap Some (sym is)
 
 -- a list has an item at each index below its length
 slice_get-Some : {X : Type 0} (xs : List X) (n : ℕ) → n < length xs → slice_get xs n ≢ None

@@ -1,14 +1,14 @@
 -- Calls of a client, one after the other: those of a read or a write of several words, and what they leave.
-use Rattle.std.proofs.Common.{◌≡◌, ℕ, zero, suc, ◌+◌, ◌≤◌, Bool, true, false, not, if◌then◌else◌, List, [], ◌∷◌, ◌++◌, length, drop, reverse, inl, inr, refl, sym, true≢false, ap, subst, ◌∙◌, append-nil, append_assoc, eq-eqb, Option, None, Some, arith}
-use Rattle.std.specs.Prelude.{Result, Ok, Err, OnOk}
+use Rattle.std.proofs.Common.{◌≡◌, ℕ, zero, suc, ◌+◌, ◌≤◌, Bool, true, false, not, if◌then◌else◌, List, [], ◌∷◌, ◌++◌, length, inl, inr, refl, sym, true≢false, ap, subst, ◌∙◌, append-nil, append_assoc, eq-eqb, Option, None, Some, arith}
+use Rattle.std.specs.Prelude.{Result, Ok, Err, OnOk, is_some}
 use Rattle.std.specs.Result.{result_err}
 use Rattle.std.proofs.lemmas.Bool.Decides.{leb_tells}
-use Rattle.std.proofs.lemmas.List.{drop_at, length-reverse, reverse-append}
 use Rattle.std.proofs.lemmas.List.FromFn.{length-map-range_with_len}
 use Rattle.frame_core.specs.declared.place.Address.{Address}
 use Rattle.journal_core.specs.declared.record.Record.{Record}
+use Rattle.journal_core.specs.declared.record.Record.TheVariants.{Load, Store}
 use Rattle.journal_core.specs.Moves.{out}
-use Rattle.halves_core.specs.Told.{Pair, Told, written_if}
+use Rattle.halves_core.specs.Told.{Pair, Told, pair_of, written_if}
 use Rattle.state_core.specs.declared.error.ZoneError.{ZoneError}
 use Rattle.state_core.specs.declared.placement.Placement.{Placement}
 use Rattle.state_core.specs.declared.placement.Placement.TheVariants.{At, Moving}
@@ -18,7 +18,7 @@ use Rattle.state_core.specs.Lawful.{IsLawful}
 use Rattle.state_core.specs.ZoneState.{ZoneState, placement_at}
 use Rattle.state_core.proofs.Accessed.{lawful_loaded, lawful_stored}
 use Rattle.round_core.specs.Calls.{IsCall}
-use Rattle.client_core.specs.Bulk.{AreCalls, loads_of, stores_of, written_all}
+use Rattle.client_core.specs.Bulk.{AreCalls, records_each, written_all}
 use Rattle.client_core.proofs.Calls.{Holds, holds_more, holds_same}
 
 -- a test that doesn't refuse
@@ -49,7 +49,7 @@ bulk_accepted z address from count accepted =
 -- a read is the loads of its words
 loads_are_calls : (z : ZoneState) (client : ℕ) (address : Address) (frame from count : ℕ) → IsLawful z
     → length (out z.records) + count ≤ z.room → placement_at z address ≡ Some (At frame)
-    → AreCalls client (loads_of client address from (values_at z address from count)) z (loaded_all z client address from count)
+    → AreCalls client (records_each (Load client address) from (values_at z address from count)) z (loaded_all z client address from count)
 loads_are_calls z client address frame from zero law spare at = refl
 loads_are_calls z client address frame from (suc count) law spare at =
     let left = loaded z client address from in (
@@ -62,7 +62,7 @@ loads_are_calls z client address frame from (suc count) law spare at =
 
 -- a write is the stores of its values
 stores_are_calls : (z : ZoneState) (client : ℕ) (address : Address) (from : ℕ) (values : List ℕ) → IsLawful z
-    → length (out z.records) + length values ≤ z.room → AreCalls client (stores_of client address from values) z (stored_all z client address from values)
+    → length (out z.records) + length values ≤ z.room → AreCalls client (records_each (Store client address) from values) z (stored_all z client address from values)
 stores_are_calls z client address from [] law spare = refl
 stores_are_calls z client address from (value ∷ values) law spare =
     let left = stored z client address from value in (
@@ -73,75 +73,41 @@ stores_are_calls z client address from (value ∷ values) law spare =
       stores_are_calls left client address (from + 1) values (lawful_stored z law (omega (arith, spare)) client address from value) (omega (arith, spare)),
     )
 
-length-loads : (client : ℕ) (address : Address) (from : ℕ) (values : List ℕ) → length (loads_of client address from values) ≡ length values
-length-loads client address from [] = refl
-length-loads client address from (value ∷ values) = ap suc (length-loads client address (from + 1) values)
-
-length-stores : (client : ℕ) (address : Address) (from : ℕ) (values : List ℕ) → length (stores_of client address from values) ≡ length values
-length-stores client address from [] = refl
-length-stores client address from (value ∷ values) = ap suc (length-stores client address (from + 1) values)
-
 -- an accepted read, and its records
 module _ (z z_new : ZoneState) (client : ℕ) (address : Address) (from count : ℕ) (words : List ℕ) where
   pub read_calls : IsLawful z → (result : Result (Unit {0}) ZoneError) → result_err result ≡ bulk_refusal z address from count
       → OnOk result (words ≡ values_at z address from count) → OnOk result (z_new ≡ loaded_all z client address from count)
-      → OnOk result (AreCalls client (loads_of client address from words) z z_new)
+      → OnOk result (AreCalls client (records_each (Load client address) from words) z z_new)
   read_calls law (Ok done) accepted values left =
       let known = bulk_accepted z address from count (sym accepted) in
-      subst (λ (w : ZoneState). AreCalls client (loads_of client address from words) z w) (sym left)
-      (subst (λ (l : List ℕ). AreCalls client (loads_of client address from l) z (loaded_all z client address from count)) (sym values)
+      subst (λ (w : ZoneState). AreCalls client (records_each (Load client address) from words) z w) (sym left)
+      (subst (λ (l : List ℕ). AreCalls client (records_each (Load client address) from l) z (loaded_all z client address from count)) (sym values)
       (loads_are_calls z client address known.1.0 from count law known.0 known.1.1))
   read_calls law (Err error) accepted values left = tt
 
-  pub read_count : (result : Result (Unit {0}) ZoneError) → OnOk result (words ≡ values_at z address from count) → OnOk result (length (loads_of client address from words) ≡ count)
-  read_count (Ok done) values =
-      length-loads client address from words ∙ ap length values ∙ length-map-range_with_len (value_at z address) from count
+  pub read_count : (result : Result (Unit {0}) ZoneError) → OnOk result (words ≡ values_at z address from count) → OnOk result (length words ≡ count)
+  read_count (Ok done) values = ap length values ∙ length-map-range_with_len (value_at z address) from count
   read_count (Err error) values = tt
 
 -- an accepted write, and its records
-module _ (z z_new : ZoneState) (client : ℕ) (address : Address) (from : ℕ) (values : List ℕ) where
-  pub write_calls : IsLawful z → (result : Result (Unit {0}) ZoneError) → result_err result ≡ bulk_refusal z address from (length values)
-      → OnOk result (z_new ≡ stored_all z client address from values) → OnOk result (AreCalls client (stores_of client address from values) z z_new)
-  write_calls law (Ok done) accepted left =
-      subst (λ (w : ZoneState). AreCalls client (stores_of client address from values) z w) (sym left)
-      (stores_are_calls z client address from values law (bulk_accepted z address from (length values) (sym accepted)).0)
-  write_calls law (Err error) accepted left = tt
-
-  pub write_count : (result : Result (Unit {0}) ZoneError) → OnOk result (length (stores_of client address from values) ≡ length values)
-  write_count (Ok done) = length-stores client address from values
-  write_count (Err error) = tt
-
--- their records are the newest of the journal
-records_then : (client : ℕ) (entries : List Record) (z z_new : ZoneState) → AreCalls client entries z z_new → reverse z_new.records ≡ reverse z.records ++ entries
-records_then client [] z z_new is = ap (λ (w : ZoneState). reverse w.records) is ∙ sym (append-nil (reverse z.records))
-records_then client (entry ∷ entries) z z_new (left, law, own, more, rest) =
-    records_then client entries left z_new rest
-    ∙ ap (λ (l : List Record). l ++ entries) (ap reverse more ∙ reverse-append (entry ∷ []) z.records)
-    ∙ append_assoc (reverse z.records) (entry ∷ []) entries
-
-pub records_since : (client : ℕ) (entries : List Record) (z z_new : ZoneState) → AreCalls client entries z z_new
-    → (before : ℕ) → before ≡ length z.records → (now : List Record) → now ≡ z_new.records → drop before (reverse now) ≡ entries
-records_since client entries z z_new calls before before_is now now_is =
-    (λ i. drop (before_is i) (reverse (now_is i)))
-    ∙ ap (drop (length z.records)) (records_then client entries z z_new calls)
-    ∙ drop_at (reverse z.records) entries (length z.records) (length-reverse z.records)
+pub write_calls : (z z_new : ZoneState) (client : ℕ) (address : Address) (from : ℕ) (values : List ℕ) → IsLawful z → (result : Result (Unit {0}) ZoneError)
+    → result_err result ≡ bulk_refusal z address from (length values) → OnOk result (z_new ≡ stored_all z client address from values)
+    → OnOk result (AreCalls client (records_each (Store client address) from values) z z_new)
+write_calls z z_new client address from values law (Ok done) accepted left =
+    subst (λ (w : ZoneState). AreCalls client (records_each (Store client address) from values) z w) (sym left)
+    (stores_are_calls z client address from values law (bulk_accepted z address from (length values) (sym accepted)).0)
+write_calls z z_new client address from values law (Err error) accepted left = tt
 
 -- what a lock keeps at each call, it keeps at all of them, and their records were told
 module _ (keeps : ZoneState → Type 0) (told : List Record → Option Told) (client : ℕ)
     (each_keeps : (z left : ZoneState) → IsLawful z → IsCall client z left → keeps z → keeps left)
     (each_tells : (z left : ZoneState) (call : IsCall client z left) → keeps z → told left.records ≡ written_if call.entry (told z.records)) where
-  kept_by : (entries : List Record) (z z_new : ZoneState) (stub : Option Told) → AreCalls client entries z z_new → keeps z → told z.records ≡ stub
+  pub kept_by : (entries : List Record) (z z_new : ZoneState) (stub : Option Told) → AreCalls client entries z z_new → keeps z → told z.records ≡ stub
       → keeps z_new × (told z_new.records ≡ written_all entries stub)
   kept_by [] z z_new stub is kept before = (subst keeps (sym is) kept, ap (λ (w : ZoneState). told w.records) is ∙ before)
   kept_by (entry ∷ entries) z z_new stub (left, law, own, more, rest) kept before =
       let call : IsCall client z left = record { entry = entry; own = own; more = more } in
       kept_by entries left z_new (written_if entry stub) rest (each_keeps z left law call kept) (each_tells z left call kept ∙ ap (written_if entry) before)
-
-  pub kept_with : (entries : List Record) (z z_new : ZoneState) (stub stub_new : Option Told) → AreCalls client entries z z_new → keeps z → told z.records ≡ stub
-      → (newest : List Record) → newest ≡ entries → stub_new ≡ written_all newest stub → keeps z_new × (told z_new.records ≡ stub_new)
-  kept_with entries z z_new stub stub_new calls kept before newest is written =
-      let after = kept_by entries z z_new stub calls kept before in
-      (after.0, after.1 ∙ sym (written ∙ ap (λ (l : List Record). written_all l stub) is))
 
 -- a client holds these receipts more
 pub holds_all : (pair : Option Pair) (before : List Record) (entries : List Record) (slip slip_new : Option Told) (receipts receipts_new : List Record)
@@ -152,3 +118,14 @@ holds_all pair before (entry ∷ entries) slip slip_new receipts receipts_new ho
     holds_all pair before entries (written_if entry slip) slip_new (receipts ++ entry ∷ []) receipts_new
     (holds_more pair before slip (written_if entry slip) receipts (receipts ++ entry ∷ []) entry holds refl refl) is
     (more ∙ sym (append_assoc receipts (entry ∷ []) entries))
+
+-- nothing is written where there is no pair
+pub none_written : (entries : List Record) (stub : Option Told) → is_some stub ≡ false → stub ≡ written_all entries stub
+none_written [] None is = refl
+none_written (entry ∷ entries) None is = none_written entries None is
+none_written entries (Some told) is = cc
+
+pub no_slip_written : (entries : List Record) (stub slip : Option Told) → pair_of slip ≡ pair_of stub → is_some stub ≡ false → slip ≡ written_all entries slip
+no_slip_written entries stub None same is = none_written entries None refl
+no_slip_written entries None (Some told) same is = cc
+no_slip_written entries (Some other) (Some told) same is = cc

@@ -2,22 +2,16 @@
 use Rattle.std.specs.Prelude.{◌≡◌, ℕ, ◌+◌, true, List, [], ◌∷◌, Option}
 use Rattle.frame_core.specs.declared.place.Address.{Address}
 use Rattle.journal_core.specs.declared.record.Record.{Record}
-use Rattle.journal_core.specs.declared.record.Record.TheVariants.{Load, Store}
 use Rattle.halves_core.specs.Told.{Told, written_if}
 use Rattle.round_core.specs.Calls.{is_of}
 use Rattle.state_core.specs.Bulk.{values_at, loaded_all}
 use Rattle.state_core.specs.Lawful.{IsLawful}
 use Rattle.state_core.specs.ZoneState.{ZoneState}
 
--- the records of a client's loads of the words from one on, which gave these values: the oldest first
-abbrev pub loads_of : ℕ → Address → ℕ → List ℕ → List Record
-loads_of client address from [] = []
-loads_of client address from (value ∷ values) = Load client address from value ∷ loads_of client address (from + 1) values
-
--- the records of a client's stores of these values in the words from one on: the oldest first
-abbrev pub stores_of : ℕ → Address → ℕ → List ℕ → List Record
-stores_of client address from [] = []
-stores_of client address from (value ∷ values) = Store client address from value ∷ stores_of client address (from + 1) values
+-- the records of a call for the words from one on, which have these values: the oldest first
+abbrev pub records_each : (ℕ → ℕ → Record) → ℕ → List ℕ → List Record
+records_each of word [] = []
+records_each of word (value ∷ values) = of word value ∷ records_each of (word + 1) values
 
 -- a read answers the values of this many words, from one on, and leaves a load of each in the zone
 abbrev pub reading : ℕ → Address → ℕ → ℕ → ZoneState → List ℕ → ZoneState → Type 0

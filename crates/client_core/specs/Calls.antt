@@ -30,10 +30,10 @@ pub record IsRefused (refusal : ZoneState → Option ZoneError) (error : ZoneErr
   pub lawful : IsLawful zone
   pub refused : refusal zone ≡ Some error
 
--- a call failed with this error: for want of memory, or because a zone refused it
-abbrev pub IsFailed : (ZoneState → Option ZoneError) → ClientError → Type 0
-IsFailed refusal Memory = Unit {0}
-IsFailed refusal (Zone error) = IsRefused refusal error
+-- a call failed with this error: for want of memory, where it takes any, or because a zone refused it
+abbrev pub IsFailed : Type 0 → (ZoneState → Option ZoneError) → ClientError → Type 0
+IsFailed takes_memory refusal Memory = takes_memory
+IsFailed takes_memory refusal (Zone error) = IsRefused refusal error
 
 -- the call answers nothing, and the zone afterwards is what `left` makes of the zone before
 abbrev pub leaving : (ZoneState → ZoneState) → ZoneState → Unit {0} → ZoneState → Type 0

@@ -16,6 +16,7 @@ mod bulk;
 use crate::access;
 use crate::access::{at_once, map_at_kept, map_kept, once_there};
 use crate::error::ClientError;
+use crate::receipts::Receipts;
 use crate::telling::{Telling, Untold};
 use frame_core::{Address, ClientNo, FrameNo, PageFlags, WordNo};
 use halves_core::Slip;
@@ -25,9 +26,13 @@ use std::alloc::{AllocError, Global};
 use std::marker::{Model, PhantomData};
 use std::sync::Wait;
 use std::sync::ledger::Ledger;
+use told_core::Told;
 use zone_core::ZoneError;
 
-/// Makes calls of a shared zone under one number, and keeps the record of each call that was accepted.
+/// Makes calls of a shared zone under one number, and has a receipt for each call that was accepted: its record.
+///
+/// `T` says where the receipts go. Those of a `Client` are kept in a list that grows with each call. Those of a `ToldClient` are
+/// told: contracts see the same list, and no memory has it, so such a client can make calls for ever.
 ///
 /// Each call takes the memory for its receipts first, so the error `Memory` comes before any refusal of the zone. Each call says
 /// what the zone may refuse it as. A call that isn't accepted leaves the client as it was. A call whose page is moving waits until
@@ -36,26 +41,29 @@ use zone_core::ZoneError;
 /// Where `J` says so, the client has the slip of a pair, and each receipt is written on it together with the stub, which is under the
 /// lock of the zone. So what is on the stub are the client's receipts since it has the slip, and nobody else can write on it.
 #[derive(Drop)]
-pub struct Client<J: Telling = Untold> {
+pub struct Client<J: Telling = Untold, T: Receipts = Vec<Record>> {
     number: ClientNo,
-    receipts: Vec<Record>,
+    receipts: T,
     slip: Option<Slip>,
     of: PhantomData<J>,
 }
 
-impl<J: Telling> Model for Client<J> {
+/// A client whose receipts are told.
+pub type ToldClient = Client<Untold, Told<Record>>;
+
+impl<J: Telling, T: Receipts> Model for Client<J, T> {
     ghost use Rattle.std.specs.Prelude.{◌≡◌};
     ghost use Rattle.halves_core.specs.Told.{pair_of};
     ghost use Rattle.client_core.specs.Receipts.{Client as Seen, AreSince};
 
     ghost Value = { Seen };
 
-    ghost view = { λ c. record { number = c.number; receipts = c.receipts.items } };
+    ghost view = { λ c. record { number = c.number; receipts = T.items c.receipts } };
 
-    ghost invariant = { λ c. (pair_of c.slip ≡ J.pair) × AreSince J.before c.slip c.receipts.items };
+    ghost invariant = { λ c. (pair_of c.slip ≡ J.pair) × AreSince J.before c.slip (T.items c.receipts) };
 }
 
-impl Client<Untold> {
+impl Client {
     /// A client that has made no call, and has no slip.
     pub fn new(alloc: Global, number: ClientNo) -> Client
         ensures { result ≡ record { number = number; receipts = [] } }
@@ -79,9 +87,25 @@ impl Client<Untold> {
             of: PhantomData,
         })
     }
+}
 
+impl ToldClient {
+    /// A client that has made no call, and has no slip. Its receipts are told. No call takes memory.
+    pub fn told(number: ClientNo) -> ToldClient
+        ensures { result ≡ record { number = number; receipts = [] } }
+    {
+        Client {
+            number,
+            receipts: Told::nothing(),
+            slip: None,
+            of: PhantomData,
+        }
+    }
+}
+
+impl<T: Receipts> Client<Untold, T> {
     /// Gives the client a slip with nothing on it.
-    pub fn with_slip<J: Telling>(self, slip: Slip) -> Client<J>
+    pub fn with_slip<J: Telling>(self, slip: Slip) -> Client<J, T>
         requires pair { J.pair ≡ Some slip.pair }
         requires before { J.before ≡ self.receipts }
         requires none { slip.records ≡ [] }
@@ -102,8 +126,17 @@ impl Client<Untold> {
 }
 
 impl<J: Telling> Client<J> {
+    /// The records of the accepted calls, the oldest first.
+    pub fn receipts(&self) -> &[Record]
+        ensures { result.now ≡ self.now.receipts }
+    {
+        &self.receipts
+    }
+}
+
+impl<J: Telling, T: Receipts> Client<J, T> {
     /// Takes the slip from the client, if it has one. What is on it are the receipts since the client has had it.
-    pub fn into_parts(self) -> (Client, Option<Slip>)
+    pub fn into_parts(self) -> (Client<Untold, T>, Option<Slip>)
         ensures client { result.0 ≡ self }
         ensures pair { pair_of result.1 ≡ J.pair }
         ensures since { AreSince J.before result.1 self.receipts }
@@ -130,13 +163,6 @@ impl<J: Telling> Client<J> {
         self.number
     }
 
-    /// The records of the accepted calls, the oldest first.
-    pub fn receipts(&self) -> &[Record]
-        ensures { result.now ≡ self.now.receipts }
-    {
-        &self.receipts
-    }
-
     /// Makes an address name a fresh page in the lowest free frame, and answers this frame. The receipt has the number of
     /// the page. The flags must not have DIRTY.
     ///
@@ -153,12 +179,12 @@ impl<J: Telling> Client<J> {
         ensures ok { IfOk result (λ frame. (page : ℕ) × (self.new ≡ with_receipt self.old (Map self.old.number address page))
             × IsAccepted (λ zone. map_refusal zone address) (mapping_lowest self.old.number address (is_unmovable flags) frame) page) }
         ensures err { OnErr result (self.new ≡ self.old) }
-        ensures refused { IfErr result (IsFailed (λ zone. map_refusal zone address)) }
+        ensures refused { IfErr result (IsFailed T.takes_memory (λ zone. map_refusal zone address)) }
     {
-        self.receipts.reserve(1)?;
+        self.receipts.make_room(1)?;
         let mut room = shared.lock(rt);
         let (frame, receipt) = map_kept(&mut room, &mut self.slip, self.number, address, flags)?;
-        self.receipts.push_reserved(receipt);
+        self.receipts.add(receipt);
         Ok(frame)
     }
 
@@ -178,9 +204,9 @@ impl<J: Telling> Client<J> {
         ensures ok { OnOk result ((page : ℕ) × (self.new ≡ with_receipt self.old (Map self.old.number address page))
             × IsAccepted (λ zone. map_at_refusal zone address frame) (mapping self.old.number address (is_unmovable flags) frame) page) }
         ensures err { OnErr result (self.new ≡ self.old) }
-        ensures refused { IfErr result (IsFailed (λ zone. map_at_refusal zone address frame)) }
+        ensures refused { IfErr result (IsFailed T.takes_memory (λ zone. map_at_refusal zone address frame)) }
     {
-        self.receipts.reserve(1)?;
+        self.receipts.make_room(1)?;
         let mut room = shared.lock(rt);
         let receipt = map_at_kept(
             &mut room,
@@ -190,7 +216,7 @@ impl<J: Telling> Client<J> {
             flags,
             frame,
         )?;
-        self.receipts.push_reserved(receipt);
+        self.receipts.add(receipt);
         Ok(())
     }
 
@@ -208,17 +234,17 @@ impl<J: Telling> Client<J> {
         ensures ok { OnOk result (self.new ≡ with_receipt self.old (Share self.old.number address alias)) }
         ensures accepted { IfOk result (IsAccepted (λ zone. share_refusal zone address alias) (leaving (λ zone. shared_by zone self.old.number address alias))) }
         ensures err { OnErr result (self.new ≡ self.old) }
-        ensures refused { IfErr result (IsFailed (λ zone. share_refusal zone address alias)) }
+        ensures refused { IfErr result (IsFailed T.takes_memory (λ zone. share_refusal zone address alias)) }
         ensures there { IfErr result (λ error. error ≢ ClientError.Zone ZoneError.Moving) }
     {
-        self.receipts.reserve(1)?;
+        self.receipts.make_room(1)?;
         let call = access::Share {
             client: self.number,
             address,
             alias,
         };
         let ((), receipt) = once_there(rt, shared, &call, &mut self.slip)?;
-        self.receipts.push_reserved(receipt);
+        self.receipts.add(receipt);
         Ok(())
     }
 
@@ -235,16 +261,16 @@ impl<J: Telling> Client<J> {
         ensures ok { OnOk result (self.new ≡ with_receipt self.old (Unmap self.old.number address)) }
         ensures accepted { IfOk result (IsAccepted (λ zone. unmap_refusal zone address) (leaving (λ zone. unmapped zone self.old.number address))) }
         ensures err { OnErr result (self.new ≡ self.old) }
-        ensures refused { IfErr result (IsFailed (λ zone. unmap_refusal zone address)) }
+        ensures refused { IfErr result (IsFailed T.takes_memory (λ zone. unmap_refusal zone address)) }
         ensures there { IfErr result (λ error. error ≢ ClientError.Zone ZoneError.Moving) }
     {
-        self.receipts.reserve(1)?;
+        self.receipts.make_room(1)?;
         let call = access::Unmap {
             client: self.number,
             address,
         };
         let ((), receipt) = once_there(rt, shared, &call, &mut self.slip)?;
-        self.receipts.push_reserved(receipt);
+        self.receipts.add(receipt);
         Ok(())
     }
 
@@ -262,17 +288,17 @@ impl<J: Telling> Client<J> {
         ensures ok { IfOk result (λ value. self.new ≡ with_receipt self.old (Load self.old.number address word value)) }
         ensures accepted { IfOk result (IsAccepted (λ zone. access_refusal zone address) (loading self.old.number address word)) }
         ensures err { OnErr result (self.new ≡ self.old) }
-        ensures refused { IfErr result (IsFailed (λ zone. access_refusal zone address)) }
+        ensures refused { IfErr result (IsFailed T.takes_memory (λ zone. access_refusal zone address)) }
         ensures there { IfErr result (λ error. error ≢ ClientError.Zone ZoneError.Moving) }
     {
-        self.receipts.reserve(1)?;
+        self.receipts.make_room(1)?;
         let call = access::Load {
             client: self.number,
             address,
             word,
         };
         let (value, receipt) = once_there(rt, shared, &call, &mut self.slip)?;
-        self.receipts.push_reserved(receipt);
+        self.receipts.add(receipt);
         Ok(value)
     }
 
@@ -291,10 +317,10 @@ impl<J: Telling> Client<J> {
         ensures ok { OnOk result (self.new ≡ with_receipt self.old (Store self.old.number address word value)) }
         ensures accepted { IfOk result (IsAccepted (λ zone. access_refusal zone address) (leaving (λ zone. stored zone self.old.number address word value))) }
         ensures err { OnErr result (self.new ≡ self.old) }
-        ensures refused { IfErr result (IsFailed (λ zone. access_refusal zone address)) }
+        ensures refused { IfErr result (IsFailed T.takes_memory (λ zone. access_refusal zone address)) }
         ensures there { IfErr result (λ error. error ≢ ClientError.Zone ZoneError.Moving) }
     {
-        self.receipts.reserve(1)?;
+        self.receipts.make_room(1)?;
         let call = access::Store {
             client: self.number,
             address,
@@ -302,7 +328,7 @@ impl<J: Telling> Client<J> {
             value,
         };
         let ((), receipt) = once_there(rt, shared, &call, &mut self.slip)?;
-        self.receipts.push_reserved(receipt);
+        self.receipts.add(receipt);
         Ok(())
     }
 
@@ -319,15 +345,15 @@ impl<J: Telling> Client<J> {
         ensures ok { OnOk result (self.new ≡ with_receipt self.old (Pin self.old.number address)) }
         ensures accepted { IfOk result (IsAccepted (λ zone. pin_refusal zone address) (leaving (λ zone. pinned zone self.old.number address))) }
         ensures err { OnErr result (self.new ≡ self.old) }
-        ensures refused { IfErr result (IsFailed (λ zone. pin_refusal zone address)) }
+        ensures refused { IfErr result (IsFailed T.takes_memory (λ zone. pin_refusal zone address)) }
     {
-        self.receipts.reserve(1)?;
+        self.receipts.make_room(1)?;
         let call = access::Pin {
             client: self.number,
             address,
         };
         let ((), receipt) = at_once(rt, shared, &call, &mut self.slip)?;
-        self.receipts.push_reserved(receipt);
+        self.receipts.add(receipt);
         Ok(())
     }
 
@@ -344,15 +370,15 @@ impl<J: Telling> Client<J> {
         ensures ok { OnOk result (self.new ≡ with_receipt self.old (Unpin self.old.number address)) }
         ensures accepted { IfOk result (IsAccepted (λ zone. unpin_refusal zone address) (leaving (λ zone. unpinned zone self.old.number address))) }
         ensures err { OnErr result (self.new ≡ self.old) }
-        ensures refused { IfErr result (IsFailed (λ zone. unpin_refusal zone address)) }
+        ensures refused { IfErr result (IsFailed T.takes_memory (λ zone. unpin_refusal zone address)) }
     {
-        self.receipts.reserve(1)?;
+        self.receipts.make_room(1)?;
         let call = access::Unpin {
             client: self.number,
             address,
         };
         let ((), receipt) = at_once(rt, shared, &call, &mut self.slip)?;
-        self.receipts.push_reserved(receipt);
+        self.receipts.add(receipt);
         Ok(())
     }
 }

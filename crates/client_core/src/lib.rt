@@ -1,15 +1,18 @@
 //! Clients of a shared zone, each with a receipt for every call that was accepted, and the comparison of receipts with a journal.
 //!
-//! A call whose page is moving waits until the move has ended. Contracts see a client as its number and its receipts.
+//! A call whose page is moving waits until the move has ended. Contracts see a client as its number and its receipts. The receipts of
+//! a told client are seen by contracts alone, and take no memory.
 #![tactic(auto)]
 
 mod access;
 mod client;
 mod error;
+mod receipts;
 mod settling;
 mod telling;
 
-pub use client::Client;
+pub use client::{Client, ToldClient};
 pub use error::ClientError;
-pub use settling::{Mismatch, settle_clients};
+pub use receipts::Receipts;
+pub use settling::{Mismatch, Unsettled, settle_clients};
 pub use telling::{Telling, Untold};

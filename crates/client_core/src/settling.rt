@@ -1,11 +1,13 @@
 ghost use Rattle.std.specs.Prelude.{◌≡◌, ◌↔◌, Some, slice_get, IsTrue, IsOk, IfErr, IfNone, IfSome, All};
+ghost use Rattle.std.specs.List.{filter};
 ghost use Rattle.round_core.specs.Calls.{is_of};
-ghost use Rattle.client_core.specs.Receipts.{records_of, Agrees};
-ghost use Rattle.client_core.specs.Settling.{IsFirstDifference, IsFirstMismatch};
+ghost use Rattle.client_core.specs.Receipts.{Agrees};
+ghost use Rattle.client_core.specs.Settling.{HasKeptJournal, IsFirstDifference, IsUnsettled};
+ghost use Rattle.client_core.specs.Errors.{number_of_unsettled};
 
 use crate::client::Client;
 use frame_core::ClientNo;
-use journal_core::{Journal, Record};
+use journal_core::Record;
 use std::sync::ledger::Ledger;
 use thiserror::Error;
 use zone_core::Zone;
@@ -25,6 +27,27 @@ impl Mismatch {
         ensures { result ≡ 35 }
     {
         35
+    }
+}
+
+/// Why clients aren't settled with a zone.
+#[derive(Clone, Copy, Debug, PartialEq, Eq, Error)]
+pub enum Unsettled {
+    #[error("the journal of the zone is not kept")]
+    NotKept,
+    #[error("{0}")]
+    Mismatch(Mismatch),
+}
+
+impl Unsettled {
+    /// The number of the error: 36 for NotKept, or that of the mismatch.
+    pub fn number(&self) -> u16
+        ensures { result ≡ number_of_unsettled self.now }
+    {
+        match self {
+            Unsettled::NotKept => 36,
+            Unsettled::Mismatch(mismatch) => mismatch.number(),
+        }
     }
 }
 
@@ -59,17 +82,14 @@ fn has_at(list: &[Record], index: usize, entry: &Record) -> bool
 }
 
 /// The first index at which the records of a client and its receipts differ, or at which only one of the two lists has
-/// ended; none where they are the same.
-fn first_difference(journal: &Journal, client: &Client) -> Option<usize>
-    ensures none { IfNone result (Agrees journal.now.records client.now) }
-    ensures some { IfSome result (IsFirstDifference (records_of client.now.number journal.now.records) client.now.receipts) }
+/// ended; none where they are the same. The records of all clients are given, the oldest first.
+fn first_difference(records: &[Record], client: &Client) -> Option<usize>
+    ensures none { IfNone result (filter (is_of client.now.number) records.now ≡ client.now.receipts) }
+    ensures some { IfSome result (IsFirstDifference (filter (is_of client.now.number) records.now) client.now.receipts) }
 {
     let receipts = client.receipts();
     let mut next = 0;
-    for i in 0..journal.len() {
-        let Some(entry) = journal.get(i) else {
-            unreachable!();
-        };
+    for entry in records {
         if is_of(client.number(), entry) {
             if !has_at(receipts, next, entry) {
                 return Some(next);
@@ -85,20 +105,25 @@ fn first_difference(journal: &Journal, client: &Client) -> Option<usize>
 }
 
 /// Compares the receipts of each client with its records in the zone's journal: both have to be the same, in the same order. It
-/// takes no memory, and walks over the journal once for each client.
+/// takes no memory, and walks over the journal once for each client. A journal that is told can't be compared with anything.
+///
+/// Refused as NotKept where the journal is told, else as the first mismatch.
 pub fn settle_clients<I: Ledger, M: Ledger, B: Ledger>(
     zone: &Zone<I, M, B>,
     clients: &[Client],
-) -> Result<(), Mismatch>
-    ensures ok { IsOk result ↔ All (Agrees zone.now.records) clients.now }
-    ensures mismatch { IfErr result (IsFirstMismatch zone.now.records clients.now) }
+) -> Result<(), Unsettled>
+    ensures ok { IsOk result ↔ (HasKeptJournal zone.now × All (Agrees zone.now.records) clients.now) }
+    ensures refused { IfErr result (IsUnsettled zone.now clients.now) }
 {
+    let Some(records) = zone.journal().kept() else {
+        return Err(Unsettled::NotKept);
+    };
     for client in clients {
-        if let Some(index) = first_difference(zone.journal(), client) {
-            return Err(Mismatch {
+        if let Some(index) = first_difference(records, client) {
+            return Err(Unsettled::Mismatch(Mismatch {
                 client: client.number(),
                 index,
-            });
+            }));
         }
     }
     Ok(())

@@ -1,10 +1,10 @@
 -- Reservations by hand over zones that are the same leave the same.
-use Rattle.std.proofs.Common.{◌≡◌, ℕ, zero, suc, ◌+◌, ◌-◌, ◌≤◌, Bool, true, false, cond, nat_lt, List, ◌∷◌, ◌++◌, length, refl, sym, ap, subst, ◌∙◌, arith, Option, Some, None, is_none, unwrap_or, if◌then◌else◌, not}
+use Rattle.std.proofs.Common.{◌≡◌, ℕ, zero, suc, ◌+◌, ◌-◌, ◌^◌, ◌≤◌, ◌&&◌, Bool, true, false, cond, nat_lt, List, ◌∷◌, ◌++◌, length, refl, sym, ap, subst, ◌∙◌, arith, Option, Some, None, is_none, unwrap_or, if◌then◌else◌, not}
 use Rattle.std.proofs.lemmas.Bool.Decides.{nat_tests}
 use Rattle.frame_core.proofs.Searches.{lowest_some}
-use Rattle.journal_core.specs.Moves.{out}
+use Rattle.journal_core.specs.Moves.{isolated, out}
 use Rattle.outcome_core.proofs.ByHand.{moving_isolated, moving_all, none_by_hand, outcome_all}
-use Rattle.outcome_core.proofs.Records.{isolated_same}
+use Rattle.outcome_core.proofs.Records.{isolated_same, isolated-without_ends}
 use Rattle.outcome_core.specs.Alone.{IsAtRest}
 use Rattle.outcome_core.specs.ByHand.{all_isolated, by_hand}
 use Rattle.outcome_core.specs.Outcome.{Outcome, IsSame}
@@ -33,6 +33,7 @@ same_refl z = record {
   unmovable = refl;
   marked = refl;
   handed_out = refl;
+  contents = refl;
   records = refl;
   length_is = refl;
   back = refl;
@@ -49,6 +50,7 @@ same_sym z w same = record {
   unmovable = sym same.unmovable;
   marked = sym same.marked;
   handed_out = sym same.handed_out;
+  contents = sym same.contents;
   records = sym same.records;
   length_is = sym same.length_is;
   back = sym same.back;
@@ -65,6 +67,7 @@ same_trans z w v a b = record {
   unmovable = a.unmovable ∙ b.unmovable;
   marked = a.marked ∙ b.marked;
   handed_out = a.handed_out ∙ b.handed_out;
+  contents = a.contents ∙ b.contents;
   records = a.records ∙ b.records;
   length_is = a.length_is ∙ b.length_is;
   back = a.back ∙ b.back;
@@ -149,6 +152,13 @@ room_by_hand z rest =
     let none : length (out (by_hand z).records) ≡ 0 = ap length (none_by_hand z rest) in
     omega (arith, same, none)
 
+-- ending a move isolates no page
+isolated_by_hand : (z : ZoneState) → IsAtRest z → isolated (by_hand z).records ≡ isolated (all_isolated z).records
+isolated_by_hand z rest =
+    sym (isolated-without_ends (by_hand z).records)
+    ∙ ap (λ (o : Outcome). isolated o.records) (outcome_all (frame_count z) (all_isolated z) (moving_isolated z rest))
+    ∙ isolated-without_ends (all_isolated z).records
+
 two_left : (room out room' out' : ℕ) → room - out ≡ room' - out' → nat_lt (out + 1) room ≡ nat_lt (out' + 1) room'
 two_left room out room' out' e = grind (arith, nat_tests)
 
@@ -164,8 +174,9 @@ module _ (z w : ZoneState) (rest_z : IsAtRest z) (rest_w : IsAtRest w) (same : I
       let left = sym (room_by_hand z rest_z) ∙ by_hand_same.room ∙ room_by_hand w rest_w in
       let of_z = all_isolated z in
       let of_w = all_isolated w in
-      ap (λ (b : Bool). stop_for (if b then None else Some JournalIsFull))
-      (two_left of_z.room (length (out of_z.records)) of_w.room (length (out of_w.records)) left)
+      let two = two_left of_z.room (length (out of_z.records)) of_w.room (length (out of_w.records)) left in
+      let count = sym (isolated_by_hand z rest_z) ∙ isolated_same (by_hand z) (by_hand w) by_hand_same ∙ isolated_by_hand w rest_w in
+      λ i. stop_for (if two i && nat_lt (count i) (2 ^ 32 - 1) then None else Some JournalIsFull)
 
 -- a block that is taken
 

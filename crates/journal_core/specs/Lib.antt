@@ -1,4 +1,6 @@
 pub mod Journal
+pub mod JournalInside
+pub mod Access
 pub mod History
 pub mod Moves
 pub mod Ends

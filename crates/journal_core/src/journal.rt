@@ -1,70 +1,118 @@
-ghost use Rattle.std.specs.Prelude.{◌≡◌, ◌+◌, ◌<◌, [], ◌∷◌, length, slice_get, reverse, IfOk, IsTrue, ◌↔◌, option_copied};
+ghost use Rattle.std.specs.Prelude.{◌≡◌, ◌+◌, ◌<◌, ◌≤◌, ◌^◌, [], ◌∷◌, length, slice_get, reverse, IfOk, IfSome, IsSome, IsTrue, ◌↔◌, option_copied};
+ghost use Rattle.journal_core.specs.Journal.{told_places};
+ghost use Rattle.journal_core.specs.Access.{access_record, with_each};
 
+use crate::access::Access;
 use crate::record::Record;
 use frame_core::FixedVec;
 use std::alloc::{AllocError, Global};
 use std::marker::Model;
+use told_core::Told;
 
-/// Records in the order in which they were appended. The memory for all of them is taken once, when the journal is opened.
+/// The most places of a journal that is kept.
+const MOST_KEPT: u64 = 65_536;
+
+/// Records in the order in which they were appended.
+///
+/// A journal is opened in one of two kinds. One that is kept has memory for all its records, which is taken once, when it is opened.
+/// One that is told keeps the newest record and the number of them: contracts see all records, and no memory has them, so it has room
+/// for 2^53 records, more than a machine makes in a hundred years.
 #[derive(Drop)]
 pub struct Journal {
-    records: FixedVec<Record>,
-    places: u32,
+    told: Told<Record>,
+    /// All records, or the newest alone where there are more places than `MOST_KEPT`.
+    kept: FixedVec<Record>,
+    count: u64,
+    places: u64,
 }
 
 impl Model for Journal {
-    ghost use Rattle.std.specs.Prelude.{◌≡◌, ◌+◌, length, reverse};
+    ghost use Rattle.std.specs.Prelude.{◌-◌};
     ghost use Rattle.journal_core.specs.Journal.{Journal as Seen};
 
     ghost Value = { Seen };
 
-    ghost view = { λ j. record { records = reverse j.records.items; room = j.records.room } };
+    ghost view = { λ j. record { records = j.told; room = j.places - j.count } };
 
-    ghost invariant = { λ j. length j.records.items + j.records.room ≡ j.places };
+    ghost use Rattle.journal_core.specs.JournalInside.{IsInOrder};
+
+    ghost invariant = { IsInOrder };
 }
 
 impl Journal {
-    /// An empty journal with this many places, or an error where there is no memory for them. No later call takes memory.
+    /// An empty journal with this many places, whose records are kept, or an error where there is no memory for them. No later call
+    /// takes memory.
     pub fn open(alloc: Global, places: u32) -> Result<Journal, AllocError>
+        requires { places ≤ 65536 }
         ensures { IfOk result (λ j. j ≡ record { records = []; room = places }) }
     {
-        let records = FixedVec::with_room(alloc, places as usize)?;
-        Ok(Journal { records, places })
+        let kept = FixedVec::with_room(alloc, places as usize)?;
+        Ok(Journal {
+            told: Told::nothing(),
+            kept,
+            count: 0,
+            places: u64::from(places),
+        })
+    }
+
+    /// An empty journal with room for 2^53 records, which are told, or an error where there is no memory for the newest of them. No
+    /// later call takes memory.
+    pub fn told(alloc: Global) -> Result<Journal, AllocError>
+        ensures { IfOk result (λ j. j ≡ record { records = []; room = told_places }) }
+    {
+        let kept = FixedVec::with_room(alloc, 1)?;
+        Ok(Journal {
+            told: Told::nothing(),
+            kept,
+            count: 0,
+            places: 1 << 53,
+        })
     }
 
     /// The number of records.
-    pub fn len(&self) -> usize
+    pub fn len(&self) -> u64
         ensures { result ≡ length self.now.records }
     {
-        self.records.len()
+        self.count
     }
 
     /// Whether it has no record.
     pub fn is_empty(&self) -> bool
         ensures { IsTrue result ↔ (self.now.records ≡ []) }
     {
-        self.records.is_empty()
+        self.count == 0
     }
 
     /// The number of places that are left for records.
-    pub fn room(&self) -> u32
+    pub fn room(&self) -> u64
         ensures { result ≡ self.now.room }
     {
-        self.places - self.records.len() as u32
+        self.places - self.count
     }
 
-    /// The record at a place, the oldest at 0, or none where no record has this place.
-    pub fn get(&self, index: usize) -> Option<&Record>
-        ensures { option_copied result ≡ slice_get (reverse self.now.records) index }
+    /// The records, the oldest first, where they are kept. A journal of at most 65,536 places keeps them.
+    pub fn kept(&self) -> Option<&[Record]>
+        ensures records { IfSome result (λ records. records.now ≡ reverse self.now.records) }
+        ensures some { IsSome result ↔ (length self.now.records + self.now.room ≤ 65536) }
     {
-        self.records.get(index)
+        if self.is_told() {
+            return None;
+        }
+        Some(&self.kept)
     }
 
     /// The newest record, if there is one.
     pub fn last(&self) -> Option<&Record>
         ensures { option_copied result ≡ slice_get self.now.records 0 }
     {
-        self.records.last()
+        self.kept.last()
+    }
+
+    /// Whether the journal keeps its newest record alone.
+    fn is_told(&self) -> bool
+        ensures { IsTrue result ↔ (65536 < length self.now.records + self.now.room) }
+    {
+        self.places > MOST_KEPT
     }
 
     /// Appends a record, and takes no memory. There has to be a place left.
@@ -73,6 +121,79 @@ impl Journal {
         ensures records { self.new.records ≡ entry ∷ self.old.records }
         ensures room { self.new.room + 1 ≡ self.old.room }
     {
-        self.records.push(entry);
+        self.told.push(&entry);
+        self.count += 1;
+        if self.places > MOST_KEPT {
+            keep_newest(&mut self.kept, entry);
+        } else {
+            self.kept.push(entry);
+        }
+    }
+
+    /// Appends a record of each of these values, of an access to the words from one on, and takes no memory. There has to be a
+    /// place for each. A journal that is told does nothing for each of them.
+    pub fn push_each(&mut self, access: &Access, from: u16, values: &[u64])
+        requires room { length values.now ≤ self.old.room }
+        requires words { from + length values.now ≤ 65536 }
+        ensures records { self.new.records ≡ with_each (access_record access.now) from values.now self.old.records }
+        ensures room { self.new.room + length values.now ≡ self.old.room }
+    {
+        if self.is_told() {
+            self.tell_each(access, from, values);
+        } else {
+            self.keep_each(access, from, values);
+        }
+    }
+
+    /// Appends the records one after the other.
+    fn keep_each(&mut self, access: &Access, from: u16, values: &[u64])
+        requires room { length values.now ≤ self.old.room }
+        requires words { from + length values.now ≤ 65536 }
+        ensures records { self.new.records ≡ with_each (access_record access.now) from values.now self.old.records }
+        ensures room { self.new.room + length values.now ≡ self.old.room }
+    {
+        for offset in 0..values.len() {
+            self.push(access.record(from + offset as u16, values[offset]));
+        }
+    }
+
+    /// Appends the records at once, where only the newest is kept.
+    fn tell_each(&mut self, access: &Access, from: u16, values: &[u64])
+        requires room { length values.now ≤ self.old.room }
+        requires words { from + length values.now ≤ 65536 }
+        requires told { 65536 < length self.old.records + self.old.room }
+        ensures records { self.new.records ≡ with_each (access_record access.now) from values.now self.old.records }
+        ensures room { self.new.room + length values.now ≡ self.old.room }
+    {
+        let Some((newest, others)) = values.split_last() else {
+            return;
+        };
+        tell_all(&mut self.told, access, from, values);
+        self.count += values.len() as u64;
+        let word = from + others.len() as u16;
+        keep_newest(&mut self.kept, access.record(word, *newest));
+    }
+}
+
+/// Puts the newest record in the place of the one before, in a list with one place.
+fn keep_newest(kept: &mut FixedVec<Record>, newest: Record)
+    requires { length kept.old.items + kept.old.room ≡ 1 }
+    ensures items { kept.new.items ≡ newest ∷ [] }
+    ensures room { kept.new.room ≡ 0 }
+{
+    if kept.is_empty() {
+        kept.push(newest);
+    } else {
+        kept[0] = newest;
+    }
+}
+
+/// Tells the records of an access to these words.
+fn tell_all(told: &mut Told<Record>, access: &Access, from: u16, values: &[u64])
+    requires words { from + length values.now ≤ 65536 }
+    ensures { told.new ≡ with_each (access_record access.now) from values.now told.old }
+{
+    for offset in 0..values.len() {
+        told.push(&access.record(from + offset as u16, values[offset]));
     }
 }

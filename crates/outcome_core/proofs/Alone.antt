@@ -33,6 +33,7 @@ same_begun v z same = record {
   unmovable = same.unmovable;
   marked = same.marked;
   handed_out = same.handed_out;
+  contents = same.contents;
   records = same.records;
   length_is = same.length_is;
   back = same.back;
@@ -42,7 +43,7 @@ same_begun v z same = record {
 
 -- a zone whose round has just begun is the same
 begun_same : (z : ZoneState) → IsSame z (round_begun z)
-begun_same z = record { number = refl; blocks = refl; page_size = refl; placement = refl; unmovable = refl; marked = refl; handed_out = refl; records = refl; length_is = refl; back = refl; out_is = refl; room = refl }
+begun_same z = record { number = refl; blocks = refl; page_size = refl; placement = refl; unmovable = refl; marked = refl; handed_out = refl; contents = refl; records = refl; length_is = refl; back = refl; out_is = refl; room = refl }
 
 module _ (start : ZoneState) where
   -- the round begins where no page of it was isolated, and its scanner goes on where one was

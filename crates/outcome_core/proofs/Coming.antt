@@ -74,13 +74,13 @@ stopped_seen start z keeps e = subst (λ (w : ZoneState). IsSeenAs w (all_isolat
 rising : (n : ℕ) (z : ZoneState) → IsLawful z → isolated z.records ≤ isolated (scan_steps n z).records
 rising zero z law = omega arith
 rising (suc n) z law = by_scan z law (λ w. isolated z.records ≤ isolated (scan_steps n w).records) (λ e. rising n z law)
-    (λ pair t. omega (arith, rising n (isolated_next z pair) (lawful_isolated z pair law t.is t.room)))
+    (λ pair t. omega (arith, rising n (isolated_next z pair) (lawful_isolated z pair law t.is t.accepted)))
 
 pub counted_stopped : (start z : ZoneState) → IsLawful z → ComesTo start z → isolated z.records ≡ isolated (all_isolated start).records → scan_pair z ≡ None
 counted_stopped start z law keeps count = none_if (scan_pair z) (λ pair e.
     let t = found z law pair e in
     let step : scan_step z ≡ isolated_next z pair = ap (next_state z) e in
-    let more = rising (frame_count z) (isolated_next z pair) (lawful_isolated z pair law t.is t.room) in
+    let more = rising (frame_count z) (isolated_next z pair) (lawful_isolated z pair law t.is t.accepted) in
     let total : isolated (scan_steps (frame_count z) (isolated_next z pair)).records ≡ isolated (all_isolated start).records =
     ap (λ w. isolated (scan_steps (frame_count z) w).records) (sym step)
     ∙ ap (λ (w : ZoneState). isolated w.records) (further (frame_count z) z law (within_frames z law))

@@ -1,5 +1,5 @@
 -- What the scanner doesn't see: which of the moving pages have been moved already.
-use Rattle.std.proofs.Common.{◌≡◌, ℕ, zero, suc, ◌+◌, ◌*◌, ◌/◌, ◌<◌, ◌≤◌, Bool, not, cond, ◌&&◌, ◌||◌, length, inl, inr, refl, sym, ap, ◌∙◌, arith, nat_eq, nat_le, nat_lt, Option, Some, None, is_none, ne_eqb}
+use Rattle.std.proofs.Common.{◌≡◌, ℕ, zero, suc, ◌+◌, ◌-◌, ◌*◌, ◌/◌, ◌^◌, ◌<◌, ◌≤◌, Bool, not, cond, ◌&&◌, ◌||◌, length, inl, inr, refl, sym, ap, ◌∙◌, arith, nat_eq, nat_le, nat_lt, Option, Some, None, is_none, ne_eqb}
 use Rattle.std.specs.FinMap as map
 use Rattle.std.specs.FinSet as set
 use Rattle.std.proofs.lemmas.Bool.{and_parts, leb-true}
@@ -11,7 +11,7 @@ use Rattle.journal_core.specs.Moves.{isolated, out}
 use Rattle.state_core.specs.declared.placement.Placement.{Placement}
 use Rattle.state_core.specs.declared.placement.Placement.TheVariants.{At, Moving}
 use Rattle.state_core.specs.declared.error.ZoneError.TheVariants.{JournalFull}
-use Rattle.state_core.specs.Isolating.{isolate_refusal}
+use Rattle.state_core.specs.Isolating.{has_room_for_two, isolate_refusal}
 use Rattle.state_core.specs.Packed.{is_place}
 use Rattle.state_core.specs.Pairs.{is_marked, can_move, can_move_if_some, stands_in, holder, holds_movable, is_free_unmarked, next_source, next_target, pair_from, pair_at, next_pair}
 use Rattle.state_core.specs.ZoneState.{ZoneState, frame_count, takes_up, covers, is_used, is_held}
@@ -131,7 +131,7 @@ module _ (z w : ZoneState) (seen : IsSeenAs z w) where
   pub pair_same : next_pair z ≡ next_pair w
   pair_same = at_same (next_source z) refl ∙ ap (pair_at w) source_same
 
-  pub room_for_two : nat_lt (length (out z.records) + 1) z.room ≡ nat_lt (length (out w.records) + 1) w.room
+  room_for_two : has_room_for_two z ≡ has_room_for_two w
   room_for_two =
       let spare = seen.spare in
       elim (leb_tells (suc (length (out z.records) + 1)) z.room) [
@@ -140,7 +140,7 @@ module _ (z w : ZoneState) (seen : IsSeenAs z w) where
       ]
 
   pub refusal_same : isolate_refusal z ≡ isolate_refusal w
-  refusal_same = λ i. cond (room_for_two i) None (Some JournalFull)
+  refusal_same = λ i. cond (room_for_two i && nat_lt (seen.count i) (2 ^ 32 - 1)) None (Some JournalFull)
 
   pub pair_seen : scan_pair z ≡ scan_pair w
   pair_seen = λ i. cond (is_none (refusal_same i)) (pair_same i) None

@@ -1,19 +1,20 @@
 -- Steps of the scanner.
-use Rattle.std.proofs.Common.{◌≡◌, ℕ, zero, suc, ◌+◌, ◌-◌, ◌<◌, ◌≤◌, Bool, true, false, cond, ◌∷◌, length, inl, inr, refl, sym, ap, subst, ◌∙◌, arith, nat_lt, Option, Some, None, is_none, ltb-true}
+use Rattle.std.proofs.Common.{◌≡◌, ℕ, zero, suc, ◌+◌, ◌-◌, ◌<◌, ◌≤◌, cond, ◌∷◌, length, inl, inr, refl, sym, ap, subst, ◌∙◌, arith, Option, Some, None, is_none}
 use Rattle.std.specs.FinMap as map
 use Rattle.std.proofs.lemmas.Bool.{and_parts, eqb-true}
 use Rattle.std.proofs.lemmas.Bool.Decides.{eqb_tells}
 use Rattle.journal_core.specs.declared.record.Record.TheVariants.{Isolate}
 use Rattle.journal_core.specs.History.{pins}
 use Rattle.journal_core.specs.Moves.{isolated, out, put_back}
-use Rattle.state_core.specs.declared.error.ZoneError.TheVariants.{JournalFull}
+use Rattle.state_core.specs.declared.error.ZoneError.{ZoneError}
 use Rattle.state_core.specs.declared.placement.Placement.TheVariants.{At, Moving}
 use Rattle.state_core.specs.declared.round.Pair.{Pair}
-use Rattle.state_core.specs.Isolating.{isolated_next, next_state}
+use Rattle.state_core.specs.Isolating.{isolate_refusal, isolated_next, next_state}
 use Rattle.state_core.specs.Lawful.{IsLawful}
 use Rattle.state_core.specs.Pairs.{IsPair, next_pair, can_move, stands_in}
 use Rattle.state_core.specs.ZoneState.{ZoneState, frame_count, takes_up}
 use Rattle.state_core.proofs.Entries.{get_insert_same, get_insert_other}
+use Rattle.state_core.proofs.Facts.{room_and_serial}
 use Rattle.state_core.proofs.Pairing.{pair_found}
 use Rattle.state_core.proofs.Settled.{lawful_isolated}
 use Rattle.outcome_core.specs.Alone.{AreCarriedUp, IsSeenAs}
@@ -26,16 +27,16 @@ use Rattle.outcome_core.proofs.Scanner.{pair_seen, pair_of_outcome}
 
 pub record IsScanned (z : ZoneState) (pair : Pair) : Type 0 where
   pub is : IsPair z pair.page pair.source pair.target
-  pub room : length (out z.records) + 1 < z.room
+  pub accepted : isolate_refusal z ≡ None
 
-if_room : (b : Bool) (o : Option Pair) (pair : Pair) → cond (is_none (cond b None (Some JournalFull))) o None ≡ Some pair → (b ≡ true) × (o ≡ Some pair)
-if_room true o pair e = (refl, e)
-if_room false o pair e = cc
+if_accepted : (refusal : Option ZoneError) (o : Option Pair) (pair : Pair) → cond (is_none refusal) o None ≡ Some pair → (refusal ≡ None) × (o ≡ Some pair)
+if_accepted None o pair e = (refl, e)
+if_accepted (Some error) o pair e = cc
 
 pub found : (z : ZoneState) → IsLawful z → (pair : Pair) → scan_pair z ≡ Some pair → IsScanned z pair
 found z law pair e =
-    let parts = if_room (nat_lt (length (out z.records) + 1) z.room) (next_pair z) pair e in
-    record { is = pair_found z law pair parts.1; room = ltb-true _ _ parts.0 }
+    let parts = if_accepted (isolate_refusal z) (next_pair z) pair e in
+    record { is = pair_found z law pair parts.1; accepted = parts.0 }
 
 pub none_if : (o : Option Pair) → ((pair : Pair) → o ≡ Some pair → ⊥) → o ≡ None
 none_if None never = refl
@@ -50,7 +51,7 @@ by_scan z law P none some = by (scan_pair z) refl where
 -- a step leaves a lawful zone lawful, and moving pages go up
 
 pub lawful_scan : (z : ZoneState) → IsLawful z → IsLawful (scan_step z)
-lawful_scan z law = by_scan z law IsLawful (λ e. law) (λ pair t. lawful_isolated z pair law t.is t.room)
+lawful_scan z law = by_scan z law IsLawful (λ e. law) (λ pair t. lawful_isolated z pair law t.is t.accepted)
 
 two_ways : (a s t b source target : ℕ) → Some (Moving a s t) ≡ Some (Moving b source target) → (s ≡ source) × (t ≡ target)
 two_ways a s t b source target e = (cc, cc)
@@ -119,8 +120,8 @@ outcome_scan z w carried_z carried_w same =
       by : (o : Option Pair) → scan_pair z ≡ o → scan_pair w ≡ o → outcome_of (next_state z o) ≡ outcome_of (next_state w o)
       by None e f = same
       by (Some pair) e f =
-          let room_z = ltb-true _ _ (if_room _ (next_pair z) pair e).0 in
-          let room_w = ltb-true _ _ (if_room _ (next_pair w) pair f).0 in
+          let room_z = (room_and_serial z (if_accepted _ (next_pair z) pair e).0).0 in
+          let room_w = (room_and_serial w (if_accepted _ (next_pair w) pair f).0).0 in
           outcome_isolated z w pair (omega arith) (omega arith) same
 
 -- so many steps
@@ -157,7 +158,7 @@ settled zero z law within = none_if (scan_pair z) (λ pair e.
     omega arith)
 settled (suc n) z law within = by_scan z law (λ w. scan_pair (scan_steps n w) ≡ None)
     (λ e. ap scan_pair (stuck n z e) ∙ e)
-    (λ pair t. let low = t.is.from.low in let up = t.is.to.low in let high = t.is.to.high in settled n (isolated_next z pair) (lawful_isolated z pair law t.is t.room) (omega arith))
+    (λ pair t. let low = t.is.from.low in let up = t.is.to.low in let high = t.is.to.high in settled n (isolated_next z pair) (lawful_isolated z pair law t.is t.accepted) (omega arith))
 
 in_turn : (n : ℕ) (z : ZoneState) → scan_steps n (scan_step z) ≡ scan_step (scan_steps n z)
 in_turn zero z = refl

@@ -16,7 +16,7 @@ pub met_none : (z : ZoneState) (o : Option Pair) → next.Met ≡ next_answer z 
 met_none z None e = refl
 met_none z (Some pair) e = cc
 
--- the scanner stops where the scanners met, and where the journal has no place
+-- the scanner stops where the scanners met, and where the isolation is refused
 pub met_stops : (z : ZoneState) → None ≡ isolate_refusal z → next.Met ≡ next_answer z (next_pair z) → scan_pair z ≡ None
 met_stops z e met = ap (λ refusal. cond (is_none refusal) (next_pair z) None) (sym e) ∙ met_none z (next_pair z) met
 

@@ -10,7 +10,7 @@ use Rattle.state_core.specs.Pairs.{next_pair}
 use Rattle.state_core.specs.Rounds.{round_begun}
 use Rattle.state_core.specs.ZoneState.{ZoneState, frame_count}
 
--- the pair that the scanner takes next: none where the journal has no place for it, or where the scanners met
+-- the pair that the scanner takes next: none where the isolation is refused, or where the scanners met
 abbrev pub scan_pair : ZoneState → Option Pair
 scan_pair z = if is_none (isolate_refusal z) then next_pair z else None
 

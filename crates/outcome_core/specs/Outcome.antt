@@ -37,6 +37,7 @@ pub record Outcome : Type 0 where
   pub unmovable : set.FinSet nat_cmp
   pub marked : set.FinSet nat_cmp
   pub handed_out : map.FinMap nat_cmp ℕ
+  pub contents : map.FinMap nat_cmp (List ℕ)
   pub frame : ℕ → Option ℕ
   pub migrate : ℕ
   pub free : ℕ
@@ -54,6 +55,7 @@ outcome_of z = record {
   unmovable = z.unmovable;
   marked = z.marked;
   handed_out = z.handed_out;
+  contents = z.contents;
   frame = λ page. final_frame (map.get z.placement page);
   migrate = z.migrate;
   free = z.free;
@@ -71,6 +73,7 @@ pub record IsSame (z w : ZoneState) : Type 0 where
   pub unmovable : z.unmovable ≡ w.unmovable
   pub marked : z.marked ≡ w.marked
   pub handed_out : z.handed_out ≡ w.handed_out
+  pub contents : z.contents ≡ w.contents
   -- the same calls in the same order, and as many moves that ended either way
   pub records : without_ends z.records ≡ without_ends w.records
   pub length_is : length z.records ≡ length w.records

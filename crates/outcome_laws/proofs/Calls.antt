@@ -1,5 +1,5 @@
 -- Two zones that are the same answer each call alike, and are the same after it.
-use Rattle.std.proofs.Common.{◌≡◌, ℕ, Bool, true, false, not, cond, ◌&&◌, length, refl, ap, ◌∙◌, nat_eq, nat_le, nat_lt, Option, Some, None, is_some, is_none, unwrap_or}
+use Rattle.std.proofs.Common.{◌≡◌, ℕ, ◌*◌, ◌^◌, Bool, List, replicate, true, false, not, cond, ◌&&◌, length, refl, ap, ◌∙◌, nat_eq, nat_le, nat_lt, Option, Some, None, is_some, is_none, unwrap_or}
 use Rattle.std.specs.FinMap as map
 use Rattle.std.specs.FinSet as set
 use Rattle.std.specs.Option.{option_and_then, option_or}
@@ -14,6 +14,7 @@ use Rattle.state_core.specs.declared.information.Look.TheVariants as look
 use Rattle.state_core.specs.declared.placement.Placement.{Placement}
 use Rattle.state_core.specs.declared.placement.Placement.TheVariants.{At, Moving}
 use Rattle.state_core.specs.Access.{placement_refusal, access_refusal, value_at, loaded, stored}
+use Rattle.state_core.specs.Contents.{contents_refusal, contents_from, contents_written}
 use Rattle.state_core.specs.HandingOut.{has_block, is_order, lowest_run, take_order_refusal, give_order_refusal, block_taken, block_given}
 use Rattle.state_core.specs.Looking.{look_by, look_of, info_of}
 use Rattle.state_core.specs.Mapping.{map_refusal, map_at_refusal, mapped}
@@ -72,6 +73,7 @@ module _ (z w : ZoneState) (same : IsSame z w) where
         unmovable = λ i. cond unmovable (set.insert (same.unmovable i) (page_agrees i)) (same.unmovable i);
         marked = next.marked;
         handed_out = next.handed_out;
+        contents = next.contents;
         records = next.records;
         length_is = next.length_is;
         back = next.back;
@@ -136,6 +138,7 @@ module _ (z w : ZoneState) (same : IsSame z w) where
         unmovable = λ i. set.remove (same.unmovable i) (page i);
         marked = next.marked;
         handed_out = next.handed_out;
+        contents = next.contents;
         records = next.records;
         length_is = next.length_is;
         back = next.back;
@@ -179,6 +182,7 @@ module _ (z w : ZoneState) (same : IsSame z w) where
         unmovable = next.unmovable;
         marked = next.marked;
         handed_out = ap (λ m. map.insert m first order) same.handed_out;
+        contents = λ i. map.insert (same.contents i) first (replicate (2 ^ order * same.page_size i) 0);
         records = next.records;
         length_is = next.length_is;
         back = next.back;
@@ -197,12 +201,36 @@ module _ (z w : ZoneState) (same : IsSame z w) where
         unmovable = next.unmovable;
         marked = next.marked;
         handed_out = ap (λ m. map.remove m first) same.handed_out;
+        contents = ap (λ m. map.remove m first) same.contents;
         records = next.records;
         length_is = next.length_is;
         back = next.back;
         out_is = next.out_is;
         room = next.room;
       }
+
+  pub contents_refusal_agrees : (first order from count : ℕ) → contents_refusal z first order from count ≡ contents_refusal w first order from count
+  contents_refusal_agrees first order from count = λ i. contents_refusal (line z w same i) first order from count
+
+  pub contents_from_agrees : (first from count : ℕ) → contents_from z first from count ≡ contents_from w first from count
+  contents_from_agrees first from count = λ i. contents_from (line z w same i) first from count
+
+  pub written_agrees : (first from : ℕ) (values : List ℕ) → IsSame (contents_written z first from values) (contents_written w first from values)
+  written_agrees first from values = record {
+    number = same.number;
+    blocks = same.blocks;
+    page_size = same.page_size;
+    placement = same.placement;
+    unmovable = same.unmovable;
+    marked = same.marked;
+    handed_out = same.handed_out;
+    contents = λ i. (contents_written (line z w same i) first from values).contents;
+    records = same.records;
+    length_is = same.length_is;
+    back = same.back;
+    out_is = same.out_is;
+    room = same.room;
+  }
 
   -- marks
 
@@ -228,6 +256,7 @@ module _ (z w : ZoneState) (same : IsSame z w) where
     unmovable = next.unmovable;
     marked = ap f same.marked;
     handed_out = next.handed_out;
+    contents = next.contents;
     records = next.records;
     length_is = next.length_is;
     back = next.back;

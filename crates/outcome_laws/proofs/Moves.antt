@@ -1,5 +1,5 @@
 -- A round over two zones that are the same goes alike: it begins, isolates pages, and ends their moves.
-use Rattle.std.proofs.Common.{◌≡◌, ℕ, suc, ◌+◌, ◌-◌, ◌*◌, Bool, true, false, not, cond, ◌&&◌, List, [], ◌∷◌, length, refl, sym, ap, subst, ◌∙◌, nat_eq, nat_le, nat_lt, Option, Some, None}
+use Rattle.std.proofs.Common.{◌≡◌, ℕ, suc, ◌+◌, ◌-◌, ◌*◌, ◌^◌, Bool, true, false, not, cond, ◌&&◌, List, [], ◌∷◌, length, refl, sym, ap, subst, ◌∙◌, nat_eq, nat_le, nat_lt, Option, Some, None}
 use Rattle.std.specs.FinMap as map
 use Rattle.frame_core.specs.Below.{lowest, highest}
 use Rattle.journal_core.specs.declared.record.Cause.{Cause}
@@ -57,6 +57,7 @@ module _ (z w : ZoneState) (same : IsSame z w) where
       unmovable = same.unmovable;
       marked = same.marked;
       handed_out = same.handed_out;
+      contents = same.contents;
       records = same.records;
       length_is = same.length_is;
       back = same.back;
@@ -68,7 +69,7 @@ module _ (z w : ZoneState) (same : IsSame z w) where
   }
 
   pub isolate_agrees : isolate_refusal z ≡ isolate_refusal w
-  isolate_agrees = λ i. cond (nat_lt (length (same.out_is i) + 1) (same.room i)) None (Some JournalFull)
+  isolate_agrees = λ i. cond (nat_lt (length (same.out_is i) + 1) (same.room i) && nat_lt (isolated_same z w same i) (2 ^ 32 - 1)) None (Some JournalFull)
 
   pub ended_agrees : (page : ℕ) → ended_as z page ≡ ended_as w page
   ended_agrees page = λ i. cond (nat_eq (pins_same z w same page i) 0) ended.Moved ended.Back
@@ -84,6 +85,7 @@ module _ (z w : ZoneState) (same : IsSame z w) where
     unmovable = same.unmovable;
     marked = same.marked;
     handed_out = same.handed_out;
+    contents = same.contents;
     records = rs;
     length_is = ap suc same.length_is;
     back = back;
@@ -179,6 +181,7 @@ module _ (z w : ZoneState) (alike : IsSameInRound z w) where
           unmovable = there.unmovable;
           marked = there.marked;
           handed_out = there.handed_out;
+          contents = there.contents;
           records = there.records;
           length_is = there.length_is;
           back = there.back;

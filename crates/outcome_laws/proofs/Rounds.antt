@@ -24,6 +24,7 @@ module _ (z w : ZoneState) (rest_z : IsAtRest z) (rest_w : IsAtRest w) (same : I
     unmovable = same.unmovable i;
     marked = same.marked i;
     handed_out = same.handed_out i;
+    contents = same.contents i;
     frame = λ page. final_frame (map.get (same.placement i) page);
     migrate = 0;
     free = 512 * same.blocks i;

@@ -16,10 +16,10 @@ use Rattle.outcome_core.proofs.Records.{page_at-without_ends, pins-without_ends,
 module _ (z w : ZoneState) (same : IsSame z w) where
   -- all but the records, the fingers, and how the latest round began
   abbrev pub there : ZoneState
-  there = record z { number = w.number; blocks = w.blocks; page_size = w.page_size; room = w.room; unmovable = w.unmovable; marked = w.marked; handed_out = w.handed_out; placement = w.placement }
+  there = record z { number = w.number; blocks = w.blocks; page_size = w.page_size; room = w.room; unmovable = w.unmovable; marked = w.marked; handed_out = w.handed_out; contents = w.contents; placement = w.placement }
 
   pub line : z ≡ there
-  line = λ i. record z { number = same.number i; blocks = same.blocks i; page_size = same.page_size i; room = same.room i; unmovable = same.unmovable i; marked = same.marked i; handed_out = same.handed_out i; placement = same.placement i }
+  line = λ i. record z { number = same.number i; blocks = same.blocks i; page_size = same.page_size i; room = same.room i; unmovable = same.unmovable i; marked = same.marked i; handed_out = same.handed_out i; contents = same.contents i; placement = same.placement i }
 
   -- what the records say
   pub page_same : (a : Address) → page_at z.records a ≡ page_at w.records a
@@ -74,6 +74,7 @@ module _ (z w : ZoneState) (same : IsSame z w) where
     unmovable = same.unmovable;
     marked = same.marked;
     handed_out = same.handed_out;
+    contents = same.contents;
     records = cz ∙ (λ i. e i ∷ same.records i) ∙ sym cw;
     length_is = ap suc same.length_is;
     back = bz ∙ same.back ∙ sym bw;

@@ -1,4 +1,4 @@
-ghost use Rattle.std.specs.Prelude.{◌≡◌, ℕ, Bool};
+ghost use Rattle.std.specs.Prelude.{◌≡◌, ℕ, Bool, List};
 ghost use Rattle.frame_core.specs.declared.place.Address.{Address};
 ghost use Rattle.journal_core.specs.declared.record.Cause.{Cause};
 ghost use Rattle.outcome_core.specs.Alone.{IsAtRest};
@@ -6,6 +6,7 @@ ghost use Rattle.outcome_core.specs.ByHand.{by_hand};
 ghost use Rattle.outcome_core.specs.Outcome.{IsSame};
 ghost use Rattle.outcome_laws.specs.Fingers.{IsSameInRound};
 ghost use Rattle.state_core.specs.Access.{access_refusal, value_at, loaded, stored};
+ghost use Rattle.state_core.specs.Contents.{contents_refusal, contents_from, contents_written};
 ghost use Rattle.state_core.specs.Ending.{ended_as, committed, put_back_to_source};
 ghost use Rattle.state_core.specs.HandingOut.{lowest_run, take_order_refusal, give_order_refusal, block_taken, block_given};
 ghost use Rattle.state_core.specs.Isolating.{isolate_refusal, next_state};
@@ -62,6 +63,13 @@ pub fn blocks_agree()
     ensures taken { (z w : ZoneState) → IsSame z w → (first order : ℕ) → IsSame (block_taken z first order) (block_taken w first order) }
     ensures refused_back { (z w : ZoneState) → IsSame z w → (first order : ℕ) → give_order_refusal z first order ≡ give_order_refusal w first order }
     ensures given { (z w : ZoneState) → IsSame z w → (first order : ℕ) → IsSame (block_given z first order) (block_given w first order) }
+{}
+
+/// A read and a write of the words of a block that is handed out.
+pub fn contents_agree()
+    ensures refused { (z w : ZoneState) → IsSame z w → (first order from count : ℕ) → contents_refusal z first order from count ≡ contents_refusal w first order from count }
+    ensures words { (z w : ZoneState) → IsSame z w → (first from count : ℕ) → contents_from z first from count ≡ contents_from w first from count }
+    ensures written { (z w : ZoneState) → IsSame z w → (first from : ℕ) (values : List ℕ) → IsSame (contents_written z first from values) (contents_written w first from values) }
 {}
 
 /// A mark, and taking it off.

@@ -4,7 +4,7 @@ use Rattle.std.specs.Prelude.{Option, Some, None, slice_get, slice_set, nat_eq, 
 use Rattle.std.specs.FinMap as map
 use Rattle.std.proofs.Math.Bool.{or-false}
 use Rattle.std.proofs.lemmas.Bool.{and_parts, both_ways, cases_Bool, eq-eqb, eqb-true, leb-true, or_left}
-use Rattle.std.proofs.lemmas.Bool.Decides.{eqb_tells, leb_tells}
+use Rattle.std.proofs.lemmas.Bool.Decides.{eqb_tells}
 use Rattle.std.proofs.lemmas.List.{length-set}
 use Rattle.std.proofs.lemmas.Nat.{pow_pos}
 use Rattle.frame_core.proofs.Lists.{slice_get_set_same, slice_get_set_other}
@@ -34,7 +34,7 @@ use Rattle.plain_core.specs.History.{History, told}
 use Rattle.plain_core.specs.Tabulated.{tabulated}
 use Rattle.plain_core.specs.Sound.{IsSound, state_of}
 use Rattle.plain_core.proofs.BlockOrders.{order_here, order_there}
-use Rattle.plain_core.proofs.OutAndEnded.{moves_kept}
+use Rattle.plain_core.proofs.HeldWords.{off_block, contents_taken, contents_given}
 use Rattle.plain_core.proofs.SearchesAndCounts.{free_seen, order_past, orders_seen}
 use Rattle.plain_core.proofs.Tabulating.{tabulated_insert, tabulated_remove}
 
@@ -58,13 +58,6 @@ off_run states first zero state k away = refl
 off_run states first (suc n) state k away =
     let other : k ≢ first + n = elim away [ inl under ↦ omega arith | inr above ↦ omega arith ] in
     slice_get_set_other (with_run states first n state) (first + n) k state other ∙ off_run states first n state k (elim away [ inl under ↦ inl under | inr above ↦ inr (omega arith) ])
-
--- a frame outside a block is below its first frame or above its last
-off_block : (first order frame : ℕ) → in_block first order frame ≡ false → (frame < first) ⊎ (first + 2 ^ order ≤ frame)
-off_block first order frame e = elim (leb_tells first frame) [
-  | inl low ↦ elim (leb_tells (first + 2 ^ order) frame) [ inl above ↦ inr above.1 | inr under ↦ absurd (both_ways _ e (in_block_from first order frame low.1 under.1)) ]
-  | inr under ↦ inl under.1
-]
 
 -- the state that a page puts a frame in says that the page takes it up
 state_takes : (page : ℕ) (o : Option Placement) (frame : ℕ) (state : FrameState) → state_by page o frame ≡ Some state → takes_up o frame ≡ true
@@ -140,18 +133,20 @@ module _ {W : ℕ} (z : Inside W) (v : ZoneState) (sound : IsSound z v) (view : 
 
   -- the fields after the block was handed out
   abbrev pub after_take : History → Inside W
-  after_take history = record z { frames = record z.frames { states = with_run z.frames.states first (2 ^ order) Huge }; handed_out = slice_set z.handed_out first (Some order); history = history }
+  after_take history = record z { frames = record z.frames { states = with_run z.frames.states first (2 ^ order) Huge }; handed_out = slice_set z.handed_out first (Some order); cleared = slice_set z.cleared first false; history = history }
 
   pub take_sound : length (out v.records) < v.room → 3 ≤ order → order ≤ 9 → (history : History) → IsSound (after_take history) (block_taken v first order)
   take_sound spare low high history = record {
     lawful = blocks.lawful_block_taken v first order run sound.lawful spare low high;
     orders = length-set z.handed_out first (Some order) ∙ sound.orders;
+    cleared = length-set z.cleared first false ∙ sound.cleared;
     frames = held_states;
     tables = sound.tables;
     entries = record { each = sound.entries.each };
     words = record { count = sound.words.count; sized = sound.words.sized; each = sound.words.each };
     notes = record { count = sound.notes.count; each = λ page note e used. (let fit = sound.notes.each page note e used in record { dirty = fit.dirty; pins = fit.pins; maps = fit.maps }) };
-    moves = moves_kept z.moves v.records v.room sound.moves (TakeHuge first order) refl (λ serial. refl) refl refl (omega arith);
+    moves = record { isolated = sound.moves.isolated; moved = sound.moves.moved; back = sound.moves.back };
+    sources = sound.sources;
     movable = record { count = sound.movable.count; each = sound.movable.each };
   }
 
@@ -164,7 +159,7 @@ module _ {W : ℕ} (z : Inside W) (v : ZoneState) (sound : IsSound z v) (view : 
       let same = length-set z.handed_out first (Some order) in
       let table = ap (tabulated (order_of orders)) same ∙ tabulated_insert (order_of z.handed_out) (order_of orders) (length z.handed_out) first order (order_past z.handed_out) (λ q h. order_past orders q (omega (arith, h, same))) (order_here z.handed_out first (Some order) take_first) (order_there z.handed_out first (Some order) take_first) in
       let here : state_of (after_take history) ≡ block_taken (state_of z) first order =
-      λ i. record (state_of z) { records = (is i).records; room = (is i).room; round = (is i).round; handed_out = table i } in
+      λ i. record (state_of z) { records = (is i).records; room = (is i).room; round = (is i).round; handed_out = table i; contents = contents_taken z first take_first order (omega (arith, take_first, sound.orders, sound.cleared)) i } in
       here ∙ ap (λ (s : ZoneState). block_taken s first order) view
 
 -- a block is taken back
@@ -226,12 +221,14 @@ module _ {W : ℕ} (z : Inside W) (v : ZoneState) (sound : IsSound z v) (view : 
   give_sound spare history = record {
     lawful = blocks.lawful_block_given v sound.lawful first order at spare;
     orders = length-set z.handed_out first None ∙ sound.orders;
+    cleared = sound.cleared;
     frames = freed_states;
     tables = sound.tables;
     entries = record { each = sound.entries.each };
     words = record { count = sound.words.count; sized = sound.words.sized; each = sound.words.each };
     notes = record { count = sound.notes.count; each = λ page note e used. (let fit = sound.notes.each page note e used in record { dirty = fit.dirty; pins = fit.pins; maps = fit.maps }) };
-    moves = moves_kept z.moves v.records v.room sound.moves (GiveHuge first order) refl (λ serial. refl) refl refl (omega arith);
+    moves = record { isolated = sound.moves.isolated; moved = sound.moves.moved; back = sound.moves.back };
+    sources = sound.sources;
     movable = record { count = sound.movable.count; each = sound.movable.each };
   }
 
@@ -241,5 +238,5 @@ module _ {W : ℕ} (z : Inside W) (v : ZoneState) (sound : IsSound z v) (view : 
       let same = length-set z.handed_out first None in
       let table = ap (tabulated (order_of orders)) same ∙ tabulated_remove (order_of z.handed_out) (order_of orders) (length z.handed_out) first (order_past z.handed_out) (λ q h. order_past orders q (omega (arith, h, same))) (order_here z.handed_out first None give_first) (order_there z.handed_out first None give_first) in
       let here : state_of (after_give history) ≡ block_given (state_of z) first order =
-      λ i. record (state_of z) { records = (is i).records; room = (is i).room; round = (is i).round; handed_out = table i } in
+      λ i. record (state_of z) { records = (is i).records; room = (is i).room; round = (is i).round; handed_out = table i; contents = contents_given z first give_first i } in
       here ∙ ap (λ (s : ZoneState). block_given s first order) view

@@ -27,19 +27,20 @@ use Rattle.state_core.specs.declared.placement.Placement.TheVariants.{At}
 use Rattle.plain_core.specs.Fits.{entry_for, FramesFit, EntriesFit, WordsFit, NotesFit, MovableFit}
 use Rattle.state_core.specs.ZoneState.{words_frame, ZoneState, placement_at}
 use Rattle.state_core.specs.Pairs.{can_move}
+use Rattle.state_core.proofs.Places.{unheld_frame}
 use Rattle.state_core.proofs.Entries.{contains_insert_same, contains_insert_other}
 use Rattle.plain_core.specs.Notes.{placement_of, is_unmovable_of, says_unmovable}
 use Rattle.plain_core.specs.Sound.{state_of, IsSound}
 use Rattle.state_core.specs.Mapping.{placed}
 use Rattle.scan_core.specs.NumberSet.{gathered}
+use Rattle.plain_core.proofs.HeldWords.{contents_kept}
 use Rattle.plain_core.proofs.LoadsAndStores.{words_set_same, words_set_other}
 use Rattle.state_core.proofs.Facts.{chosen, taken, skipped}
 use Rattle.plain_core.proofs.SearchesAndCounts.{get_placements}
 use Rattle.state_core.proofs.Placed.{CanPlace, untrue, clash, placed_lawful, at_page, at_other, named_here, named_there, maps_one, maps_others, pins_none, pins_others}
 use Rattle.plain_core.proofs.Entries.{entries_changed}
-use Rattle.plain_core.proofs.OutAndEnded.{moves_kept}
 use Rattle.plain_core.proofs.NotedPages.{placements_set, unmovable_set, unmovable_kept}
-use Rattle.plain_core.proofs.Placement.{GetsPlace, LeavesOthers, frames_fit, movable_fit, words_fit, notes_fit}
+use Rattle.plain_core.proofs.Placement.{GetsPlace, LeavesOthers, frames_fit, movable_fit, words_fit, notes_fit, sources_fit}
 
 -- the note of the fresh page
 abbrev pub fresh_note : Bool → ℕ → Note
@@ -184,12 +185,14 @@ module _ {W : ℕ} (z : Inside W) (v : ZoneState) (client : ℕ) (address : Addr
       record {
         lawful = placed_lawful v client address unmovable page frame can;
         orders = sound.orders;
+        cleared = sound.cleared;
         tables = known.frames_same ∙ sound.tables;
         frames = frames_placed v client address unmovable page frame can z.frames.states sound.frames;
         entries = entries_placed v client address unmovable page frame can z.tables.entries tables.entries sound.entries known.tables_new;
         words = words_placed v client address unmovable page frame can W (ap (λ (u : ZoneState). u.page_size) known.view) z.words sound.words;
         notes = notes_placed v client address unmovable page frame can z.notes sound.notes;
-        moves = (let spare = can.spare in moves_kept z.moves v.records v.room sound.moves (Map client address page) refl (λ serial. refl) refl refl (omega arith));
+        moves = record { isolated = sound.moves.isolated; moved = sound.moves.moved; back = sound.moves.back };
+        sources = sources_fit v (placed v client address unmovable page frame) page None (Some (At frame)) (gets v client address unmovable page frame can) z.moves.pages z.moves.pages sound.sources (record { count = refl; here = λ s a b e. cc; kept = λ g off. refl });
         movable = movable_placed v client address unmovable page frame can z.frames.movable sound.movable;
       }
 
@@ -208,6 +211,7 @@ module _ {W : ℕ} (z : Inside W) (v : ZoneState) (client : ℕ) (address : Addr
   place_view =
       let u = unmovable_new unmovable refl in
       let placed_there = placements_set z.notes page (fresh_note unmovable frame) note_within (At frame) refl in
+      let c = contents_kept z v known.sound known.view frame (blank_words W) (unheld_frame v frame known.can.free) in
       let here : state_of (after_place z unmovable page frame tables history) ≡ placed (state_of z) client address unmovable page frame =
-      λ i. record (state_of z) { records = (known.history_is i).records; room = (known.history_is i).room; round = (known.history_is i).round; placement = placed_there i; unmovable = u i } in
+      λ i. record (state_of z) { records = (known.history_is i).records; room = (known.history_is i).room; round = (known.history_is i).round; placement = placed_there i; unmovable = u i; contents = c i } in
       here ∙ ap (λ (s : ZoneState). placed s client address unmovable page frame) known.view

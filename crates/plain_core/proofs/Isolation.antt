@@ -11,6 +11,7 @@ use Rattle.state_core.specs.declared.placement.Placement.TheVariants.{At, Moving
 use Rattle.plain_core.specs.Fits.{state_by, WordsFit}
 use Rattle.state_core.specs.ZoneState.{ZoneState, frame_count}
 use Rattle.state_core.proofs.Placed.{untrue}
+use Rattle.plain_core.proofs.Placement.{SourcesPlaced}
 use Rattle.plain_core.proofs.Relocation.{FramesSettled, MovableSettled, WordsSettled}
 
 module _ (frames : List FrameState) (page source target serial : ℕ) (apart : source ≢ target) (source_in : source < length frames) (target_in : target < length frames) where
@@ -67,6 +68,13 @@ isolated_words rows v fit serial source target source_in target_in = record {
       | inr t ↦ (let bad : false ≡ true = sym (λ i. s.0 i || t.0 i) ∙ has in absurd (cc))
     ]
   ]);
+}
+
+pub isolated_sources : (pages : List ℕ) (page serial source target : ℕ) → source < length pages → SourcesPlaced pages (slice_set pages source page) page (Some (Moving serial source target))
+isolated_sources pages page serial source target within = record {
+  count = length-set pages source page;
+  here = λ s from to e. (let at : source ≡ from = cc in slice_get_set_same pages source from page (sym at) within);
+  kept = λ g gone. slice_get_set_other pages source g page (λ is. untrue _ gone (ap (λ b. b || nat_eq g target) (eq-eqb g source is)));
 }
 
 pub isolated_movable : (movable : List Bool) (can : Bool) (serial source target : ℕ) → MovableSettled movable movable can (Moving serial source target)

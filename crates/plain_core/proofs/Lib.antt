@@ -1,9 +1,11 @@
 pub mod BlockFrames
 pub mod BlockOrders
+pub mod BlockWords
 pub mod Copies
 pub mod Entries
 pub mod Facts
 pub mod FreshPage
+pub mod HeldWords
 pub mod InUse
 pub mod Isolation
 pub mod ListedAddresses
@@ -11,6 +13,7 @@ pub mod LoadsAndStores
 pub mod Marks
 pub mod MoveEnds
 pub mod NotedPages
+pub mod NotedEach
 pub mod Noting
 pub mod Opened
 pub mod OutAndEnded
@@ -19,6 +22,7 @@ pub mod Placement
 pub mod Relocation
 pub mod Rounds
 pub mod Scanning
+pub mod Sent
 pub mod SearchesAndCounts
 pub mod Shared
 pub mod Tables

@@ -11,7 +11,7 @@ use Rattle.frame_core.proofs.Lists.{slice_get_set_same, slice_get_set_other}
 use Rattle.frame_core.specs.declared.place.Address.{Address}
 use Rattle.frame_core.specs.declared.state.FrameState.TheVariants.{Holds}
 use Rattle.journal_core.proofs.Maps.{no_test}
-use Rattle.journal_core.specs.declared.record.Record.TheVariants.{Load, Store}
+use Rattle.journal_core.specs.declared.record.Record.TheVariants.{Store}
 use Rattle.journal_core.specs.History.{page_at, is_page, last, dirty, pins, maps}
 use Rattle.plain_core.specs.History.{History, told}
 use Rattle.journal_core.specs.Moves.{out}
@@ -28,10 +28,11 @@ use Rattle.plain_core.specs.Fits.{entry_for, WordsFit, NoteFits, NotesFit}
 use Rattle.state_core.specs.ZoneState.{words_frame, ZoneState, placement_at}
 use Rattle.plain_core.specs.Sound.{IsSound, state_of}
 use Rattle.plain_core.specs.Notes.{says_unmovable}
-use Rattle.plain_core.proofs.OutAndEnded.{moves_kept}
+use Rattle.plain_core.proofs.HeldWords.{contents_kept}
 use Rattle.plain_core.proofs.NotedPages.{placements_kept, unmovable_kept}
 use Rattle.state_core.proofs.Facts.{taken, skipped, page_named, frame_within, frames_differ, not_none}
 use Rattle.plain_core.proofs.Facts.{noted_view, held_by}
+use Rattle.state_core.proofs.Holding.{at_takes}
 use Rattle.state_core.proofs.Accessed.{lawful_stored, lawful_loaded}
 
 -- what the entry of an address says of the placement of its page
@@ -54,12 +55,14 @@ pub loaded_sound : {W : ℕ} (z : Inside W) (v : ZoneState) → IsSound z v → 
 loaded_sound z v sound history client address frame word at spare = record {
   lawful = lawful_loaded v sound.lawful spare client address frame word at;
   orders = sound.orders;
+  cleared = sound.cleared;
   tables = sound.tables;
   frames = record { count = sound.frames.count; of_page = sound.frames.of_page; of_block = sound.frames.of_block; of_none = sound.frames.of_none };
   entries = record { each = sound.entries.each };
   words = record { count = sound.words.count; sized = sound.words.sized; each = sound.words.each };
   notes = record { count = sound.notes.count; each = λ page note e used. (let fit = sound.notes.each page note e used in record { dirty = fit.dirty; pins = fit.pins; maps = fit.maps }) };
-  moves = moves_kept z.moves v.records v.room sound.moves (Load client address word (value_at v address word)) refl (λ serial. refl) refl refl (omega arith);
+  moves = record { isolated = sound.moves.isolated; moved = sound.moves.moved; back = sound.moves.back };
+  sources = sound.sources;
   movable = record { count = sound.movable.count; each = sound.movable.each };
 }
 
@@ -207,7 +210,9 @@ store_view z v client address page frame word value note history known =
     let within = slice_get_within z.notes page note known.note_is in
     let p = placements_kept z.notes page dirty_note within (sym (ap (option_and_then (λ (n : Note). n.placement)) known.note_is)) in
     let u = unmovable_kept z.notes page dirty_note within (sym (ap says_unmovable known.note_is)) in
-    let here : state_of (after_store z page frame word value note history) ≡ state_of (record z { history = history }) = λ i. record (state_of (record z { history = history })) { placement = p i; unmovable = u i } in
+    let free = known.sound.lawful.clear page frame (at_takes (map.get v.placement page) frame known.at) in
+    let c = contents_kept z v known.sound known.view frame (slice_set (words_of z.words frame) word value) free in
+    let here : state_of (after_store z page frame word value note history) ≡ state_of (record z { history = history }) = λ i. record (state_of (record z { history = history })) { placement = p i; unmovable = u i; contents = c i } in
     here ∙ noted_view z v history (Store client address word value) known.view known.history_is
 
 pub store_sound : {W : ℕ} (z : Inside W) (v : ZoneState) (client : ℕ) (address : Address) (page frame word value : ℕ) (note : Note) (history : History) → Storing z v client address page frame word value note history → IsSound (after_store z page frame word value note history) (stored v client address word value)
@@ -217,11 +222,13 @@ store_sound z v client address page frame word value note history known =
     record {
       lawful = lawful_stored v sound.lawful known.spare client address word value;
       orders = sound.orders;
+      cleared = sound.cleared;
       tables = sound.tables;
       frames = record { count = sound.frames.count; of_page = sound.frames.of_page; of_block = sound.frames.of_block; of_none = sound.frames.of_none };
       entries = record { each = sound.entries.each };
       words = stored_words z.words v sound.lawful sound.words client address page frame word value known.named known.at known.small;
       notes = stored_notes z.words v sound.lawful sound.words client address page frame word value known.named known.at known.small z.notes note sound.notes known.note_is;
-      moves = moves_kept z.moves v.records v.room sound.moves (Store client address word value) refl (λ serial. refl) refl refl (omega arith);
+      moves = record { isolated = sound.moves.isolated; moved = sound.moves.moved; back = sound.moves.back };
+      sources = sound.sources;
       movable = record { count = sound.movable.count; each = sound.movable.each };
     }

@@ -13,7 +13,6 @@ use Rattle.scan_core.specs.Frames.{true_at}
 use Rattle.state_core.specs.Marking.{block_marked, block_unmarked}
 use Rattle.state_core.specs.ZoneState.{ZoneState}
 use Rattle.state_core.proofs.Marking.{lawful_marked, lawful_unmarked}
-use Rattle.plain_core.proofs.OutAndEnded.{moves_kept}
 use Rattle.plain_core.proofs.Tabulating.{gathered_insert, gathered_remove}
 
 module _ (marks : List Bool) (block : ℕ) (mark : Bool) (eight : length marks ≡ 8) (small : block < 8) where
@@ -38,12 +37,14 @@ module _ {W : ℕ} (z : Inside W) (v : ZoneState) (sound : IsSound z v) (view : 
   mark_sound = record {
     lawful = lawful_marked v sound.lawful spare block;
     orders = sound.orders;
+    cleared = sound.cleared;
     tables = sound.tables;
     frames = record { count = sound.frames.count; of_page = sound.frames.of_page; of_block = sound.frames.of_block; of_none = sound.frames.of_none };
     entries = record { each = sound.entries.each };
     words = record { count = sound.words.count; sized = sound.words.sized; each = sound.words.each };
     notes = record { count = sound.notes.count; each = λ page note e used. (let fit = sound.notes.each page note e used in record { dirty = fit.dirty; pins = fit.pins; maps = fit.maps }) };
-    moves = moves_kept z.moves v.records v.room sound.moves (Mark block) refl (λ serial. refl) refl refl (omega arith);
+    moves = record { isolated = sound.moves.isolated; moved = sound.moves.moved; back = sound.moves.back };
+    sources = sound.sources;
     movable = record { count = sound.movable.count; each = sound.movable.each };
   }
 
@@ -51,12 +52,14 @@ module _ {W : ℕ} (z : Inside W) (v : ZoneState) (sound : IsSound z v) (view : 
   unmark_sound = record {
     lawful = lawful_unmarked v sound.lawful spare block;
     orders = sound.orders;
+    cleared = sound.cleared;
     tables = sound.tables;
     frames = record { count = sound.frames.count; of_page = sound.frames.of_page; of_block = sound.frames.of_block; of_none = sound.frames.of_none };
     entries = record { each = sound.entries.each };
     words = record { count = sound.words.count; sized = sound.words.sized; each = sound.words.each };
     notes = record { count = sound.notes.count; each = λ page note e used. (let fit = sound.notes.each page note e used in record { dirty = fit.dirty; pins = fit.pins; maps = fit.maps }) };
-    moves = moves_kept z.moves v.records v.room sound.moves (Unmark block) refl (λ serial. refl) refl refl (omega arith);
+    moves = record { isolated = sound.moves.isolated; moved = sound.moves.moved; back = sound.moves.back };
+    sources = sound.sources;
     movable = record { count = sound.movable.count; each = sound.movable.each };
   }
 

@@ -1,5 +1,5 @@
 -- The note of a page in use changes, and the page stays where it is: the tables still stand for the zone.
-use Rattle.std.proofs.Common.{◌≡◌, ◌≢◌, ℕ, ◌-◌, ◌<◌, List, ◌∷◌, length, refl, sym, ap, subst, ◌∙◌}
+use Rattle.std.proofs.Common.{◌≡◌, ◌≢◌, ℕ, ◌<◌, List, ◌∷◌, length, refl, sym, ap, subst, ◌∙◌}
 use Rattle.std.specs.Prelude.{Some, is_some, slice_get, slice_set, ◌&&◌}
 use Rattle.std.specs.Option.{option_and_then}
 use Rattle.std.specs.FinMap as map
@@ -34,7 +34,7 @@ pub record Noting {W : ℕ} (z : Inside W) (v : ZoneState) (page : ℕ) (entry :
   pub view : state_of z ≡ v
   pub lawful : IsLawful (noted v entry)
   pub only : NotesOnly v entry page
-  pub moves : MovesFit z.moves (entry ∷ v.records) (v.room - 1)
+  pub moves : MovesFit z.moves (entry ∷ v.records)
   pub note_is : slice_get z.notes page ≡ Some note
   pub placed : changed.placement ≡ note.placement
   pub unmovable : changed.unmovable ≡ note.unmovable
@@ -75,6 +75,7 @@ module _ {W : ℕ} (z : Inside W) (v : ZoneState) (page : ℕ) (entry : Record) 
       record {
         lawful = known.lawful;
         orders = sound.orders;
+        cleared = sound.cleared;
         tables = known.frames_same ∙ sound.tables;
         frames = subst (λ (states : List FrameState). FramesFit states (noted v entry)) (sym known.states)
             (record { count = sound.frames.count; of_page = sound.frames.of_page; of_block = sound.frames.of_block; of_none = sound.frames.of_none });
@@ -83,6 +84,7 @@ module _ {W : ℕ} (z : Inside W) (v : ZoneState) (page : ℕ) (entry : Record) 
         words = record { count = sound.words.count; sized = sound.words.sized; each = λ q placement w at small. sound.words.each q placement w at small ∙ ap Some (sym (known.only.last q w)) };
         notes = notes_fit v (noted v entry) page _ _ (stays v (noted v entry) page sound.lawful known.lawful refl refl refl refl) z.notes changed within sound.notes (λ used. known.fits) leaves;
         moves = known.moves;
+        sources = sound.sources;
       }
 
   pub noting_view : state_of (after_noting z page changed frames tables history) ≡ noted v entry

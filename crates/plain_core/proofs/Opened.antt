@@ -1,8 +1,9 @@
 -- A zone that was just opened.
-use Rattle.std.proofs.Common.{◌≡◌, ℕ, ◌*◌, Bool, true, false, List, [], length, replicate, inl, inr, refl, sym, ap, subst, ◌∙◌, arith}
+use Rattle.std.proofs.Common.{◌≡◌, ℕ, ◌*◌, ◌≤◌, Bool, true, false, List, [], length, replicate, inl, inr, sym, ap, ◌∙◌}
 use Rattle.std.specs.Prelude.{Option, Some, None, IsSome, is_some, slice_get, unwrap_or}
 use Rattle.std.specs.FinSet as set
 use Rattle.std.specs.FinMap as map
+use Rattle.std.specs.Option.{option_map}
 use Rattle.std.specs.Ordering.{nat_cmp}
 use Rattle.std.proofs.lemmas.List.{length-replicate}
 use Rattle.frame_core.proofs.Lists.{slice_get_replicate}
@@ -16,11 +17,13 @@ use Rattle.plain_core.specs.Moves.{Moves}
 use Rattle.plain_core.proofs.Copies.{copies, no_placement, all_movable, no_order}
 use Rattle.plain_core.specs.declared.plain.PlainZone.TheInside.{Inside}
 use Rattle.state_core.specs.declared.placement.Placement.{Placement}
-use Rattle.state_core.specs.declared.placement.Placement.TheVariants.{At}
-use Rattle.state_core.specs.Opening.{opened_with, IsOpenable}
-use Rattle.plain_core.specs.Fits.{state_by, MovesFit}
+use Rattle.state_core.specs.declared.placement.Placement.TheVariants.{At, Moving}
+use Rattle.state_core.specs.Opening.{opened_with, IsSize}
+use Rattle.journal_core.specs.Journal.{told_places}
+use Rattle.plain_core.specs.Fits.{state_by}
 use Rattle.plain_core.specs.Sound.{state_of, IsSound}
 use Rattle.scan_core.specs.Frames.{Frames, all_free, true_at}
+use Rattle.plain_core.specs.Contents.{words_held, contents_at}
 use Rattle.plain_core.specs.HandedOut.{order_of}
 use Rattle.plain_core.specs.Notes.{unused_note, placement_of, is_unmovable_of}
 use Rattle.scan_core.specs.NumberSet.{gathered}
@@ -30,7 +33,8 @@ use Rattle.state_core.proofs.Opened.{unheld, opened_lawful}
 
 -- the fields of a zone that was just opened
 pub record IsFresh {W : ℕ} (z : Inside W) (number blocks places : ℕ) : Type 0 where
-  pub openable : IsOpenable blocks places
+  pub size : IsSize blocks
+  pub few : places ≤ told_places
   pub number_is : z.number ≡ number
   pub blocks_is : z.blocks ≡ blocks
   pub frames : z.frames ≡ all_free blocks
@@ -39,9 +43,10 @@ pub record IsFresh {W : ℕ} (z : Inside W) (number blocks places : ℕ) : Type 
   pub words : z.words ≡ replicate (512 * blocks) (blank_words W)
   pub notes : z.notes ≡ replicate (512 * blocks) unused_note
   pub handed_out : z.handed_out ≡ replicate (512 * blocks) None
+  pub cleared : z.cleared ≡ replicate (512 * blocks) false
   pub marked : z.marked ≡ replicate 8 false
   pub fingers : z.fingers ≡ record { migrate = 0; free = 0 }
-  pub moves : z.moves ≡ record { pages = []; places = places; moved = 0; back = 0 }
+  pub moves : z.moves ≡ record { pages = replicate (512 * blocks) 0; isolated = 0; moved = 0; back = 0 }
   pub history : z.history ≡ record { records = []; room = places; round = None }
 
 pub opened_view : {W : ℕ} (z : Inside W) (number blocks places : ℕ) → IsFresh z number blocks places → state_of z ≡ opened_with W number blocks places
@@ -51,6 +56,9 @@ opened_view {W} z number blocks places fresh =
     let m : gathered (true_at z.marked) 8 ≡ set.empty = ap (λ (bs : List Bool). gathered (true_at bs) 8) fresh.marked in
     let h : tabulated (order_of z.handed_out) (length z.handed_out) ≡ map.empty =
     tabulated_none (order_of z.handed_out) (length z.handed_out) (λ first. ap (λ (os : List (Option ℕ)). order_of os first) fresh.handed_out ∙ no_order (512 * blocks) first) in
+    let c : tabulated (contents_at W z.words z.cleared z.handed_out) (length z.handed_out) ≡ map.empty =
+    tabulated_none (contents_at W z.words z.cleared z.handed_out) (length z.handed_out)
+    (λ first. ap (option_map (words_held W z.words (true_at z.cleared first) first)) (ap (λ (os : List (Option ℕ)). order_of os first) fresh.handed_out ∙ no_order (512 * blocks) first)) in
     let p : tabulated (placement_of z.notes) (length z.notes) ≡ map.empty =
     tabulated_none (placement_of z.notes) (length z.notes) (λ page. ap (λ (ns : List Note). placement_of ns page) fresh.notes ∙ no_placement (512 * blocks) page) in
     λ i. record {
@@ -62,6 +70,7 @@ opened_view {W} z number blocks places fresh =
       unmovable = u i;
       marked = m i;
       handed_out = h i;
+      contents = c i;
       placement = p i;
       migrate = (fresh.fingers i).migrate;
       free = (fresh.fingers i).free;
@@ -84,8 +93,9 @@ state_clash size number blocks places page frame state e =
 
 pub opened_sound : {W : ℕ} (z : Inside W) (number blocks places : ℕ) → IsFresh z number blocks places → IsSound z (opened_with W number blocks places)
 opened_sound {W} z number blocks places fresh = record {
-  lawful = opened_lawful W number blocks places fresh.openable;
+  lawful = opened_lawful W number blocks places fresh.size fresh.few;
   orders = ap length fresh.handed_out ∙ length-replicate (512 * blocks) None;
+  cleared = ap length fresh.cleared ∙ length-replicate (512 * blocks) false;
   tables = fresh.tables_frames;
   frames = record {
     count = ap (λ (fs : Frames). length fs.states) fresh.frames ∙ length-replicate (512 * blocks) Free;
@@ -103,7 +113,11 @@ opened_sound {W} z number blocks places fresh = record {
     count = ap length fresh.notes ∙ length-replicate (512 * blocks) unused_note;
     each = λ page note e used. absurd (note_clash (512 * blocks) page note (ap (λ (ns : List Note). slice_get ns page) (sym fresh.notes) ∙ e) used);
   };
-  moves = subst (λ (moves : Moves). MovesFit moves [] places) (sym fresh.moves) (record { count = refl; each = λ serial. refl; moved = refl; back = refl; places = omega arith });
+  moves = record { isolated = ap (λ (m : Moves). m.isolated) fresh.moves; moved = ap (λ (m : Moves). m.moved) fresh.moves; back = ap (λ (m : Moves). m.back) fresh.moves };
+  sources = record {
+    count = ap (λ (m : Moves). length m.pages) fresh.moves ∙ length-replicate (512 * blocks) 0;
+    each = λ page serial source target e. (let bad : None ≡ Some (Moving serial source target) = sym (map.get-empty nat_cmp page) ∙ e in cc);
+  };
   movable = record {
     count = ap (λ (fs : Frames). length fs.movable) fresh.frames ∙ length-replicate (512 * blocks) false;
     each = λ page frame e. (let bad : None ≡ Some (At frame) = sym (map.get-empty nat_cmp page) ∙ e in cc);

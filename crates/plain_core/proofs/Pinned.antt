@@ -20,7 +20,6 @@ use Rattle.plain_core.specs.History.{History, told}
 use Rattle.plain_core.specs.Notes.{can_move_by, movable_at, movable_by}
 use Rattle.plain_core.specs.Sound.{state_of, IsSound}
 use Rattle.plain_core.proofs.Noting.{Noting, stays}
-use Rattle.plain_core.proofs.OutAndEnded.{moves_kept}
 use Rattle.plain_core.proofs.Placement.{movable_said}
 use Rattle.plain_core.proofs.Tables.{note_seen}
 
@@ -48,7 +47,7 @@ module _ {W : ℕ} (z : Inside W) (v : ZoneState) (sound : IsSound z v) (view : 
           view = view;
           lawful = lawful;
           only = record { last = λ q w. refl; dirty = λ q. refl; pins = others; maps = λ q ne. refl };
-          moves = moves_kept z.moves v.records v.room sound.moves (Pin client address) refl (λ serial. refl) refl refl (omega arith);
+          moves = record { isolated = sound.moves.isolated; moved = sound.moves.moved; back = sound.moves.back };
           note_is = note_is;
           placed = refl;
           unmovable = refl;
@@ -71,7 +70,7 @@ module _ {W : ℕ} (z : Inside W) (v : ZoneState) (sound : IsSound z v) (view : 
           view = view;
           lawful = lawful;
           only = record { last = λ q w. refl; dirty = λ q. refl; pins = others; maps = λ q ne. refl };
-          moves = moves_kept z.moves v.records v.room sound.moves (Unpin client address) refl (λ serial. refl) refl refl (omega arith);
+          moves = record { isolated = sound.moves.isolated; moved = sound.moves.moved; back = sound.moves.back };
           note_is = note_is;
           placed = refl;
           unmovable = refl;

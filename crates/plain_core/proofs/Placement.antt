@@ -21,7 +21,7 @@ use Rattle.state_core.specs.Pairs.{can_move}
 use Rattle.state_core.specs.ZoneState.{ZoneState, words_frame, frame_count, takes_up, covers, is_held, is_free}
 use Rattle.plain_core.specs.declared.note.Note.{Note}
 use Rattle.plain_core.specs.Notes.{movable_at}
-use Rattle.plain_core.specs.Fits.{state_by, FramesFit, MovableFit, WordsFit, NoteFits, NotesFit}
+use Rattle.plain_core.specs.Fits.{state_by, FramesFit, MovableFit, WordsFit, NoteFits, NotesFit, SourcesFit}
 
 -- the states before and after a page got another place
 pub record GetsPlace (v w : ZoneState) (page : ℕ) (old new : Option Placement) : Type 0 where
@@ -46,6 +46,12 @@ pub record MovablePlaced (movable changed : List Bool) (can : Bool) (new : Optio
   pub count : length changed ≡ length movable
   pub here : (frame : ℕ) → new ≡ Some (At frame) → slice_get changed frame ≡ Some can
   pub kept : (frame : ℕ) → takes_up new frame ≡ false → slice_get changed frame ≡ slice_get movable frame
+
+-- the page is noted under its source, where it is moving
+pub record SourcesPlaced (pages changed : List ℕ) (page : ℕ) (new : Option Placement) : Type 0 where
+  pub count : length changed ≡ length pages
+  pub here : (serial source target : ℕ) → new ≡ Some (Moving serial source target) → slice_get changed source ≡ Some page
+  pub kept : (frame : ℕ) → takes_up new frame ≡ false → slice_get changed frame ≡ slice_get pages frame
 
 -- the frame of the page has the words of the page
 pub record WordsPlaced (rows changed : List (List ℕ)) (w : ZoneState) (page : ℕ) (new : Option Placement) : Type 0 where
@@ -151,6 +157,17 @@ module _ (v w : ZoneState) (page : ℕ) (old new : Option Placement) (gets : Get
       | inr other ↦
           (let was : map.get v.placement q ≡ Some (At g) = sym (gets.others q other.1) ∙ e in
           change.kept g (not_new q g other.1 (takes _ _ g was ∙ eq-eqb g g refl)) ∙ fit.each q g was ∙ ap Some (sym (still q other.1)))
+    ];
+  }
+
+  pub sources_fit : (pages changed : List ℕ) → SourcesFit pages (frame_count v) v.placement → SourcesPlaced pages changed page new → SourcesFit changed (frame_count w) w.placement
+  sources_fit pages changed fit change = record {
+    count = change.count ∙ fit.count ∙ sym frames_same;
+    each = λ q serial source target e. elim (eqb_tells q page) [
+      | inl same ↦ change.here serial source target (sym gets.now ∙ ap (map.get w.placement) (sym same.1) ∙ e) ∙ ap Some (sym same.1)
+      | inr other ↦
+          (let was : map.get v.placement q ≡ Some (Moving serial source target) = sym (gets.others q other.1) ∙ e in
+          change.kept source (not_new q source other.1 (takes _ _ source was ∙ takes_own (Moving serial source target))) ∙ fit.each q serial source target was)
     ];
   }
 

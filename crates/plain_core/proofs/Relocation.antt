@@ -1,5 +1,5 @@
 -- A page in use gets another place: the tables still stand for the zone.
-use Rattle.std.proofs.Common.{◌≡◌, ◌≢◌, ℕ, ◌-◌, ◌<◌, ◌≤◌, Bool, true, false, not, List, ◌∷◌, length, inl, inr, refl, sym, ap, subst, ◌∙◌}
+use Rattle.std.proofs.Common.{◌≡◌, ◌≢◌, ℕ, ◌<◌, ◌≤◌, Bool, true, false, not, List, ◌∷◌, length, inl, inr, refl, sym, ap, subst, ◌∙◌}
 use Rattle.std.specs.Prelude.{Option, Some, None, is_some, slice_get, slice_set, nat_eq, ◌&&◌}
 use Rattle.std.specs.Option.{option_and_then}
 use Rattle.std.specs.FinMap as map
@@ -33,10 +33,11 @@ use Rattle.plain_core.specs.Sound.{state_of, IsSound}
 use Rattle.scan_core.specs.Frames.{true_at}
 use Rattle.scan_core.specs.NumberSet.{gathered}
 use Rattle.plain_core.specs.Tabulated.{tabulated}
+use Rattle.plain_core.proofs.HeldWords.{held_contents}
 use Rattle.plain_core.proofs.SearchesAndCounts.{get_placements}
 use Rattle.state_core.proofs.Placed.{clash}
 use Rattle.plain_core.proofs.NotedPages.{placements_set, unmovable_kept}
-use Rattle.plain_core.proofs.Placement.{GetsPlace, LeavesOthers, FramesPlaced, MovablePlaced, WordsPlaced, frames_fit, movable_fit, words_fit, notes_fit}
+use Rattle.plain_core.proofs.Placement.{GetsPlace, LeavesOthers, FramesPlaced, MovablePlaced, WordsPlaced, SourcesPlaced, frames_fit, movable_fit, words_fit, notes_fit, sources_fit}
 use Rattle.state_core.proofs.Settled.{CanSettle, IsRecorded, at_page, at_other, not_old, lawful_settled}
 
 -- how the states of frames change with the place of a page in use, and what is noted of whether it may be taken
@@ -111,7 +112,8 @@ pub record Settling {W : ℕ} (z changed : Inside W) (v : ZoneState) (page : ℕ
   pub tables : Replaces z.tables.entries changed.tables.entries (entry_for (Some old)) (entry_for (Some new))
   pub words : WordsSettled v.page_size z.words changed.words old new
   pub notes : changed.notes ≡ slice_set z.notes page (record note { placement = Some new })
-  pub moves : MovesFit changed.moves (entry ∷ v.records) (v.room - 1)
+  pub moves : MovesFit changed.moves (entry ∷ v.records)
+  pub sources : SourcesPlaced z.moves.pages changed.moves.pages page (Some new)
   pub movable : MovableSettled z.frames.movable changed.frames.movable (can_move v page) new
   pub fingers_are : changed.fingers ≡ record { migrate = migrate_new; free = free_new }
   pub fingers : (migrate_new ≤ free_new) × (free_new ≤ frame_count v)
@@ -123,6 +125,8 @@ pub record Settling {W : ℕ} (z changed : Inside W) (v : ZoneState) (page : ℕ
   pub blocks_same : changed.blocks ≡ z.blocks
   pub marked_same : changed.marked ≡ z.marked
   pub handed_out_same : changed.handed_out ≡ z.handed_out
+  pub cleared_same : changed.cleared ≡ z.cleared
+  pub contents_same : held_contents changed ≡ held_contents z
 
 module _ {W : ℕ} (z changed : Inside W) (v : ZoneState) (page : ℕ) (old new : Placement) (entry : Record) (note : Note) (migrate free : ℕ) (known : Settling z changed v page old new entry note migrate free) where
   abbrev after : ZoneState
@@ -181,6 +185,7 @@ module _ {W : ℕ} (z changed : Inside W) (v : ZoneState) (page : ℕ) (old new 
       record {
         lawful = gets.after;
         orders = ap length known.handed_out_same ∙ sound.orders;
+        cleared = ap length known.cleared_same ∙ sound.cleared;
         tables = known.frames_same ∙ sound.tables;
         frames = frames_fit v after page (Some old) (Some new) gets z.frames.states changed.frames.states sound.frames known.frames;
         movable = movable_fit v after page (Some old) (Some new) gets z.frames.movable changed.frames.movable (can_move v page) sound.movable known.movable (sym (can_still page)) (λ q ne. can_still q);
@@ -189,6 +194,7 @@ module _ {W : ℕ} (z changed : Inside W) (v : ZoneState) (page : ℕ) (old new 
         notes = subst (λ (ns : List Note). NotesFit ns after) (sym known.notes)
             (notes_fit v after page (Some old) (Some new) gets z.notes settled_note (slice_get_within z.notes page note known.note_is) sound.notes (λ used. note_fits) leaves);
         moves = known.moves;
+        sources = sources_fit v after page (Some old) (Some new) gets z.moves.pages changed.moves.pages sound.sources known.sources;
       }
 
   note_within : page < length z.notes
@@ -214,6 +220,7 @@ module _ {W : ℕ} (z changed : Inside W) (v : ZoneState) (page : ℕ) (old new 
         unmovable = unmovable_new i;
         marked = gathered (true_at (known.marked_same i)) 8;
         handed_out = tabulated (order_of (known.handed_out_same i)) (length (known.handed_out_same i));
+        contents = known.contents_same i;
         placement = placement_new i;
         migrate = (known.fingers_are i).migrate;
         free = (known.fingers_are i).free;

@@ -20,6 +20,7 @@ pub begun_sound : {W : ℕ} (z : Inside W) (v : ZoneState) → IsSound z v → (
 begun_sound z v sound start here as_calm = record {
   lawful = lawful_from v sound.lawful start here as_calm;
   orders = sound.orders;
+  cleared = sound.cleared;
   tables = sound.tables;
   frames = record { count = sound.frames.count; of_page = sound.frames.of_page; of_block = sound.frames.of_block; of_none = sound.frames.of_none };
   entries = record { each = sound.entries.each };
@@ -29,6 +30,7 @@ begun_sound z v sound start here as_calm = record {
     each = λ page note at used. (let fit = sound.notes.each page note at used in record { dirty = fit.dirty; pins = fit.pins; maps = fit.maps });
   };
   moves = sound.moves;
+  sources = sound.sources;
   movable = record { count = sound.movable.count; each = sound.movable.each };
 }
 

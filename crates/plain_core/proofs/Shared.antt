@@ -19,7 +19,6 @@ use Rattle.plain_core.specs.History.{History, told}
 use Rattle.plain_core.specs.Sound.{state_of, IsSound}
 use Rattle.plain_core.proofs.Entries.{entries_changed}
 use Rattle.plain_core.proofs.Noting.{Noting}
-use Rattle.plain_core.proofs.OutAndEnded.{moves_kept}
 use Rattle.plain_core.proofs.Tables.{note_seen}
 
 pub sharing : {W : ℕ} (z : Inside W) (v : ZoneState) → IsSound z v → state_of z ≡ v → (client : ℕ) (address alias : Address) (page frame : ℕ) → CanShare v address alias page frame → (note : Note) (tables : Tables) (history : History) → slice_get z.notes page ≡ Some note → ChangesOnly z.tables.entries tables.entries alias (Present frame) → tables.frames ≡ z.tables.frames → history ≡ told z.history (Share client address alias) → Noting z v page (Share client address alias) note (record note { maps = note.maps + 1 }) z.frames tables history
@@ -32,7 +31,7 @@ sharing z v sound view client address alias page frame can note tables history n
       view = view;
       lawful = lawful_shared v client address alias page frame can;
       only = record { last = λ q w. refl; dirty = λ q. refl; pins = λ q ne. refl; maps = maps_others v client address alias page frame can };
-      moves = moves_kept z.moves v.records v.room sound.moves (Share client address alias) refl (λ serial. refl) refl refl (omega arith);
+      moves = record { isolated = sound.moves.isolated; moved = sound.moves.moved; back = sound.moves.back };
       note_is = note_is;
       placed = refl;
       unmovable = refl;

@@ -14,7 +14,6 @@ use Rattle.frame_core.specs.declared.flags.PageFlags.{PageFlags}
 use Rattle.frame_core.specs.declared.state.FrameState.{FrameState}
 use Rattle.frame_core.specs.declared.state.FrameState.TheVariants.{Free, Holds, Source, Target, Huge}
 use Rattle.journal_core.specs.History.{page_at, last, pins, maps}
-use Rattle.journal_core.specs.Moves.{page_of}
 use Rattle.table_core.specs.declared.entry.Entry.TheVariants.{Migration}
 use Rattle.word_core.specs.Words.{words_of}
 use Rattle.state_core.specs.declared.information.Look.TheVariants as look
@@ -221,7 +220,7 @@ no_huge_seen frames v fit frame state within at ne =
     (let two : Some state ≡ Some Huge = sym at ∙ fit.of_block frame within held in let same : state ≡ Huge = cc in
     ne same))
 
--- a moving page is found by its entry, or by its serial
+-- a migration entry is that of a moving page
 pub migration_is : (o : Option Placement) (serial source : ℕ) → entry_for o ≡ Migration serial source →
     (target : ℕ) × (o ≡ Some (Moving serial source target))
 migration_is None serial source e = cc
@@ -230,11 +229,6 @@ migration_is (Some (Moving s from target)) serial source e =
     let same : s ≡ serial = cc in
     let left : from ≡ source = cc in
     (target, λ i. Some (Moving (same i) (left i) target))
-
-pub moving_page : (v : ZoneState) → IsLawful v → (page serial source target : ℕ) →
-    map.get v.placement page ≡ Some (Moving serial source target) → page_of v.records serial ≡ Some page
-moving_page v law page serial source target at =
-    ((law.under_way page serial).0 (ap (λ (o : Option Placement). is_under o serial) at ∙ eq-eqb serial serial refl)).1
 
 -- what is known of the page that an address names
 pub look_resident : (v : ZoneState) (address : Address) (page q frame : ℕ) (flags : PageFlags) (n m : ℕ) →

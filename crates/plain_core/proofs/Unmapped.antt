@@ -29,8 +29,7 @@ use Rattle.plain_core.specs.Sound.{state_of, IsSound}
 use Rattle.plain_core.proofs.Entries.{entries_changed}
 use Rattle.plain_core.proofs.NotedPages.{placements_removed, unmovable_removed}
 use Rattle.plain_core.proofs.Noting.{Noting}
-use Rattle.plain_core.proofs.OutAndEnded.{moves_kept}
-use Rattle.plain_core.proofs.Placement.{GetsPlace, LeavesOthers, frames_fit, movable_fit, words_fit, notes_fit}
+use Rattle.plain_core.proofs.Placement.{GetsPlace, LeavesOthers, frames_fit, movable_fit, words_fit, notes_fit, sources_fit}
 use Rattle.plain_core.proofs.Tables.{note_seen}
 
 -- what is known when an address names its page no more
@@ -69,7 +68,7 @@ module _ {W : ℕ} (z : Inside W) (v : ZoneState) (client : ℕ) (address : Addr
         view = known.view;
         lawful = lawful_still v client address page frame can more;
         only = record { last = λ q w. refl; dirty = λ q. refl; pins = λ q ne. refl; maps = maps_others v client address page frame can };
-        moves = moves_kept z.moves v.records v.room sound.moves (Unmap client address) refl (λ serial. refl) refl refl (omega arith);
+        moves = record { isolated = sound.moves.isolated; moved = sound.moves.moved; back = sound.moves.back };
         note_is = note_is;
         placed = refl;
         unmovable = refl;
@@ -122,6 +121,7 @@ module _ {W : ℕ} (z : Inside W) (v : ZoneState) (client : ℕ) (address : Addr
         record {
           lawful = gets.after;
           orders = sound.orders;
+          cleared = sound.cleared;
           tables = known.frames_same ∙ sound.tables;
           frames = frames_fit v gone page (Some (At frame)) None gets z.frames.states (slice_set z.frames.states frame Free) sound.frames (record {
             count = length-set z.frames.states frame Free;
@@ -136,7 +136,8 @@ module _ {W : ℕ} (z : Inside W) (v : ZoneState) (client : ℕ) (address : Addr
               placement_there;
           words = words_fit v gone page (Some (At frame)) None gets z.words z.words sound.words (record { count = refl; mine = λ p w e small. cc; kept = λ g off. refl; sized = λ g has. cc }) leaves;
           notes = notes_fit v gone page (Some (At frame)) None gets z.notes unused_note note_within sound.notes (λ used. cc) leaves;
-          moves = moves_kept z.moves v.records v.room sound.moves (Unmap client address) refl (λ serial. refl) refl refl (omega arith);
+          moves = record { isolated = sound.moves.isolated; moved = sound.moves.moved; back = sound.moves.back };
+          sources = sources_fit v gone page (Some (At frame)) None gets z.moves.pages z.moves.pages sound.sources (record { count = refl; here = λ s a b e. cc; kept = λ g off. refl });
         }
 
     pub last_view : state_of (after_last z page frame tables history) ≡ gone

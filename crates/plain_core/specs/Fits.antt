@@ -1,13 +1,14 @@
 -- How the tables of a zone stand for its state.
-use Rattle.std.specs.Prelude.{◌≡◌, ℕ, ◌+◌, ◌<◌, Bool, true, List, length, nat_eq, if◌then◌else◌, slice_get, Option, Some, None, IsSome}
+use Rattle.std.specs.Prelude.{◌≡◌, ℕ, ◌<◌, Bool, true, List, length, nat_eq, if◌then◌else◌, slice_get, Option, Some, None, IsSome}
 use Rattle.std.specs.FinMap as map
+use Rattle.std.specs.Ordering.{nat_cmp}
 use Rattle.frame_core.specs.Address.{InRange}
 use Rattle.frame_core.specs.declared.place.Address.{Address}
 use Rattle.frame_core.specs.declared.state.FrameState.{FrameState}
 use Rattle.frame_core.specs.declared.state.FrameState.TheVariants.{Free, Holds, Source, Target, Huge}
 use Rattle.journal_core.specs.declared.record.Record.{Record}
 use Rattle.journal_core.specs.History.{last, dirty, pins, maps}
-use Rattle.journal_core.specs.Moves.{page_of, isolated, moved, put_back}
+use Rattle.journal_core.specs.Moves.{isolated, moved, put_back}
 use Rattle.table_core.specs.declared.entry.Entry.{Entry}
 use Rattle.table_core.specs.declared.entry.Entry.TheVariants.{Absent, Present, Migration}
 use Rattle.table_core.specs.Tables.{entry_at}
@@ -65,11 +66,13 @@ pub record MovableFit (movable : List Bool) (v : ZoneState) : Type 0 where
   pub count : length movable ≡ frame_count v
   pub each : (page frame : ℕ) → map.get v.placement page ≡ Some (At frame) → slice_get movable frame ≡ Some (can_move v page)
 
--- the table of moves has the page of each serial, counts the pages moved and put back, and has room for as many serials
--- as the journal for records
-pub record MovesFit (moves : Moves) (records : List Record) (room : ℕ) : Type 0 where
-  pub count : length moves.pages ≡ isolated records
-  pub each : (serial : ℕ) → slice_get moves.pages serial ≡ page_of records serial
+-- the moves are counted as the journal tells of them
+pub record MovesFit (moves : Moves) (records : List Record) : Type 0 where
+  pub isolated : moves.isolated ≡ isolated records
   pub moved : moves.moved ≡ moved records
   pub back : moves.back ≡ put_back records
-  pub places : moves.places ≡ length records + room
+
+-- each frame has a page in the list, and the frame that a moving page left has this page
+pub record SourcesFit (pages : List ℕ) (frames : ℕ) (placement : map.FinMap nat_cmp Placement) : Type 0 where
+  pub count : length pages ≡ frames
+  pub each : (page serial source target : ℕ) → map.get placement page ≡ Some (Moving serial source target) → slice_get pages source ≡ Some page

@@ -17,12 +17,15 @@ pub record History : Type 0 where
 abbrev pub told : History → Record → History
 told h entry = record h { records = entry ∷ h.records; room = h.room - 1 }
 
+-- a history with a record of each of these values, in the words from one on
+abbrev pub told_each : (ℕ → ℕ → Record) → History → ℕ → List ℕ → History
+told_each of h word [] = h
+told_each of h word (value ∷ values) = told_each of (told h (of word value)) (word + 1) values
+
 -- a history with a load of each of these values, in the words from one on
 abbrev pub told_loads : History → ℕ → Address → ℕ → List ℕ → History
-told_loads h client address from [] = h
-told_loads h client address from (value ∷ values) = told_loads (told h (Load client address from value)) client address (from + 1) values
+told_loads h client address from values = told_each (Load client address) h from values
 
 -- a history with a store of each of these values, in the words from one on
 abbrev pub told_stores : History → ℕ → Address → ℕ → List ℕ → History
-told_stores h client address from [] = h
-told_stores h client address from (value ∷ values) = told_stores (told h (Store client address from value)) client address (from + 1) values
+told_stores h client address from values = told_each (Store client address) h from values

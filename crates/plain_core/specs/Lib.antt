@@ -1,10 +1,10 @@
+pub mod Contents
 pub mod Fits
 pub mod HandedOut
 pub mod HandedOutInside
 pub mod History
 pub mod HistoryInside
 pub mod Moves
-pub mod MovesInside
 pub mod Notes
 pub mod NotesInside
 pub mod Sound

@@ -1,11 +1,10 @@
--- The pages that were isolated, and how many were moved and put back.
+-- The page of each move, by the frame that it left, and how many pages were isolated, moved and put back.
 use Rattle.std.specs.Prelude.{ℕ, List}
 
--- the pages that were isolated, and how many were moved and put back
+-- the moves of a zone
 pub record Moves : Type 0 where
-  -- the page of each serial
+  -- for each frame the page that was isolated from it last
   pub pages : List ℕ
-  -- the number of pages that there is room for
-  pub places : ℕ
+  pub isolated : ℕ
   pub moved : ℕ
   pub back : ℕ

@@ -3,7 +3,8 @@ use Rattle.std.specs.Prelude.{◌≡◌, ℕ, length}
 use Rattle.plain_core.specs.declared.plain.PlainZone.TheInside.{Inside}
 use Rattle.state_core.specs.ZoneState.{ZoneState, frame_count}
 use Rattle.state_core.specs.Lawful.{IsLawful}
-use Rattle.plain_core.specs.Fits.{FramesFit, EntriesFit, WordsFit, NotesFit, MovesFit, MovableFit}
+use Rattle.plain_core.specs.Contents.{contents_at}
+use Rattle.plain_core.specs.Fits.{FramesFit, EntriesFit, WordsFit, NotesFit, MovesFit, MovableFit, SourcesFit}
 use Rattle.plain_core.specs.HandedOut.{order_of}
 use Rattle.plain_core.specs.Notes.{placement_of, is_unmovable_of}
 use Rattle.scan_core.specs.Frames.{true_at}
@@ -21,6 +22,7 @@ state_of {W} z = record {
   unmovable = gathered (is_unmovable_of z.notes) (length z.notes);
   marked = gathered (true_at z.marked) 8;
   handed_out = tabulated (order_of z.handed_out) (length z.handed_out);
+  contents = tabulated (contents_at W z.words z.cleared z.handed_out) (length z.handed_out);
   placement = tabulated (placement_of z.notes) (length z.notes);
   migrate = z.fingers.migrate;
   free = z.fingers.free;
@@ -31,10 +33,12 @@ state_of {W} z = record {
 pub record IsSound {W : ℕ} (z : Inside W) (v : ZoneState) : Type 0 where
   pub lawful : IsLawful v
   pub orders : length z.handed_out ≡ frame_count v
+  pub cleared : length z.cleared ≡ frame_count v
   pub frames : FramesFit z.frames.states v
   pub movable : MovableFit z.frames.movable v
   pub tables : z.tables.frames ≡ frame_count v
   pub entries : EntriesFit z.tables.entries v
   pub words : WordsFit z.words v
   pub notes : NotesFit z.notes v
-  pub moves : MovesFit z.moves v.records v.room
+  pub moves : MovesFit z.moves v.records
+  pub sources : SourcesFit z.moves.pages (frame_count v) v.placement

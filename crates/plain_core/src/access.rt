@@ -1,10 +1,10 @@
 //! Reading and writing the words of pages.
 
-ghost use Rattle.std.specs.Prelude.{◌≡◌, ◌+◌, length, nat_lt, Some, IsSome, IsTrue, IfOk};
+ghost use Rattle.std.specs.Prelude.{◌≡◌, Some, IsSome, IsTrue, IfOk};
 ghost use Rattle.journal_core.specs.History.{page_at};
-ghost use Rattle.journal_core.specs.Moves.{out};
 ghost use Rattle.state_core.specs.Lawful.{IsLawful};
 ghost use Rattle.state_core.specs.Access.{placement_refusal, value_at, loaded, stored};
+ghost use Rattle.state_core.specs.Isolating.{has_room_for_two, has_serial};
 ghost use Rattle.std.specs.Result.{result_err};
 ghost use Rattle.state_core.specs.ZoneState.{has_room, placement_at};
 ghost use Rattle.state_core.specs.declared.placement.Placement.TheVariants.{At};
@@ -20,14 +20,21 @@ impl<const W: usize> PlainZone<W> {
     pub fn has_room(&self) -> bool
         ensures { result ≡ has_room self.now }
     {
-        self.moves.out() < self.history.room()
+        u64::from(self.moves.out()) < self.history.room()
     }
 
     /// Whether the journal has room for an isolation and for its end.
     pub fn has_room_for_two(&self) -> bool
-        ensures { result ≡ nat_lt (length (out self.now.records) + 1) self.now.room }
+        ensures { result ≡ has_room_for_two self.now }
     {
-        self.moves.out() + 1 < self.history.room()
+        u64::from(self.moves.out()) + 1 < self.history.room()
+    }
+
+    /// Whether a serial is left for an isolation.
+    pub fn has_serial(&self) -> bool
+        ensures { result ≡ has_serial self.now }
+    {
+        self.moves.isolated() < u32::MAX
     }
 
     /// The frame of the page that an address names. An address that names no page is refused as Unmapped, and one whose

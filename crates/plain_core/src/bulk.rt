@@ -9,6 +9,7 @@ ghost use Rattle.state_core.specs.declared.placement.Placement.TheVariants.{At};
 
 use crate::plain::PlainZone;
 use frame_core::{Address, ClientNo, FrameNo, WordOf};
+use journal_core::{Access, AccessKind};
 use state_core::ZoneError;
 
 impl<const W: usize> PlainZone<W> {
@@ -25,11 +26,11 @@ impl<const W: usize> PlainZone<W> {
         ensures room { OnOk result (IsTrue (has_room_for self.now count)) }
         ensures frame { IfOk result (λ frame. placement_at self.now address.now ≡ Some (At frame)) }
     {
-        let places = (self.history.room() - self.moves.out()) as usize;
+        let places = self.history.room() - u64::from(self.moves.out());
         if count > W - from.get() as usize {
             return Err(ZoneError::Range);
         }
-        if count > places {
+        if count as u64 > places {
             return Err(ZoneError::JournalFull);
         }
         self.frame_of(address)
@@ -52,8 +53,12 @@ impl<const W: usize> PlainZone<W> {
         ensures lawful { IsLawful self.new }
     {
         self.words.load_words(frame, from.get() as usize, values);
-        self.history
-            .note_loads(client, &address, from.noted(), values);
+        let loads = Access {
+            kind: AccessKind::Load,
+            client,
+            address,
+        };
+        self.history.note_each(&loads, from.noted(), values);
     }
 
     /// Writes words of the page that an address names, from one on.
@@ -81,7 +86,11 @@ impl<const W: usize> PlainZone<W> {
         self.words.store_words(frame, from.get() as usize, values);
         let note = self.notes.get(page);
         self.notes.revise(page, note.stored());
-        self.history
-            .note_stores(client, &address, from.noted(), values);
+        let stores = Access {
+            kind: AccessKind::Store,
+            client,
+            address,
+        };
+        self.history.note_each(&stores, from.noted(), values);
     }
 }

@@ -47,6 +47,7 @@ impl<const W: usize> PlainZone<W> {
     {
         self.frames.hold(first, order);
         self.handed_out.take(first, order);
+        self.cleared.hand_out(first);
         self.history.note(Record::TakeHuge {
             frame: first,
             order,

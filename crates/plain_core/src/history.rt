@@ -1,11 +1,12 @@
 //! The journal of a zone, and whether its latest round is quiet.
 
 ghost use Rattle.std.specs.Prelude.{◌≡◌, ◌+◌, ◌<◌, ◌≤◌, [], length, None, Some, IfOk};
-ghost use Rattle.plain_core.specs.History.{told, told_loads, told_stores};
+ghost use Rattle.journal_core.specs.Access.{access_record};
+ghost use Rattle.journal_core.specs.Journal.{told_places};
+ghost use Rattle.plain_core.specs.History.{told, told_each};
 ghost use Rattle.state_core.specs.ZoneState.{keeps_quiet, is_quiet_since};
 
-use frame_core::{Address, ClientNo};
-use journal_core::{Journal, Record};
+use journal_core::{Access, Journal, Record};
 use state_core::RoundStart;
 use std::alloc::{AllocError, Global};
 use std::marker::Model;
@@ -31,17 +32,34 @@ impl Model for History {
 }
 
 impl History {
-    /// A history with no record and no round, with room for this many records, or an error where there is no memory for
+    /// A history with no record and no round, whose journal keeps this many records, or an error where there is no memory for
     /// them. No other call takes memory.
     pub fn open(alloc: Global, places: u32) -> Result<Self, AllocError>
+        requires { places ≤ 65536 }
         ensures { IfOk result (λ history. history ≡ record { records = []; room = places; round = None }) }
     {
         let journal = Journal::open(alloc, places)?;
-        Ok(History {
+        Ok(Self::begun(journal))
+    }
+
+    /// A history with no record and no round, whose journal is told, or an error where there is no memory for its newest record. No
+    /// other call takes memory.
+    pub fn told(alloc: Global) -> Result<Self, AllocError>
+        ensures { IfOk result (λ history. history ≡ record { records = []; room = told_places; round = None }) }
+    {
+        let journal = Journal::told(alloc)?;
+        Ok(Self::begun(journal))
+    }
+
+    /// A history with no round, whose records are those of a journal.
+    fn begun(journal: Journal) -> Self
+        ensures { result ≡ record { records = journal.records; room = journal.room; round = None } }
+    {
+        History {
             journal,
             round: None,
             quiet: false,
-        })
+        }
     }
 
     /// The journal with the records.
@@ -53,7 +71,7 @@ impl History {
     }
 
     /// The number of places that are left in the journal.
-    pub fn room(&self) -> u32
+    pub fn room(&self) -> u64
         ensures { result ≡ self.now.room }
     {
         self.journal.room()
@@ -75,45 +93,23 @@ impl History {
         self.journal.push(entry);
     }
 
-    /// Notes a load of each of these values, in the words from one on.
-    pub fn note_loads(&mut self, client: ClientNo, address: &Address, from: u16, values: &[u64])
+    /// Notes an access to words: a record of each of these values, in the words from one on.
+    pub fn note_each(&mut self, access: &Access, from: u16, values: &[u64])
         requires room { length values.now ≤ self.old.room }
         requires words { from + length values.now ≤ 65536 }
-        ensures { self.new ≡ told_loads self.old client address.now from values.now }
+        ensures { self.new ≡ told_each (access_record access.now) self.old from values.now }
     {
-        for offset in 0..values.len() {
-            self.note(Record::Load {
-                client,
-                address: *address,
-                word: from + offset as u16,
-                value: values[offset],
-            });
-        }
-    }
-
-    /// Notes a store of each of these values, in the words from one on.
-    pub fn note_stores(&mut self, client: ClientNo, address: &Address, from: u16, values: &[u64])
-        requires room { length values.now ≤ self.old.room }
-        requires words { from + length values.now ≤ 65536 }
-        ensures { self.new ≡ told_stores self.old client address.now from values.now }
-    {
-        for offset in 0..values.len() {
-            self.note(Record::Store {
-                client,
-                address: *address,
-                word: from + offset as u16,
-                value: values[offset],
-            });
-        }
+        self.journal.push_each(access, from, values);
     }
 
     /// Notes that a round begins, calm or not.
     pub fn begin_round(&mut self, calm: bool)
-        requires { length self.old.records ≤ 65536 }
         ensures { self.new ≡ record self.old { round = Some (record { records = length self.old.records; calm = calm }) } }
     {
-        let records = self.journal.len() as u32;
-        self.round = Some(RoundStart { records, calm });
+        self.round = Some(RoundStart {
+            records: self.journal.len(),
+            calm,
+        });
         self.quiet = calm;
     }
 }

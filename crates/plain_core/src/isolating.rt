@@ -1,12 +1,12 @@
 //! Rounds, and the page that a round isolates next.
 
-ghost use Rattle.std.specs.Prelude.{◌≡◌, ◌+◌, ◌<◌, ℕ, length, IsSome, IfSome, IfNone, Some, true};
+ghost use Rattle.std.specs.Prelude.{◌≡◌, ◌+◌, ◌<◌, ℕ, length, IsSome, IfSome, IfNone, None, Some, true};
 ghost use Rattle.std.specs.FinMap as map;
 ghost use Rattle.journal_core.specs.Moves.{isolated, out};
 ghost use Rattle.state_core.specs.Lawful.{IsLawful};
 ghost use Rattle.state_core.specs.Rounds.{round_begun};
 ghost use Rattle.state_core.specs.Carrying.{flags_of, page_now};
-ghost use Rattle.state_core.specs.Isolating.{isolated_next};
+ghost use Rattle.state_core.specs.Isolating.{isolate_refusal, isolated_next};
 ghost use Rattle.state_core.specs.Pairs.{IsPair, is_calm, holder, next_pair};
 ghost use Rattle.state_core.specs.Swept.{IsSwept};
 ghost use Rattle.state_core.specs.ZoneState.{frame_count};
@@ -64,7 +64,7 @@ impl<const W: usize> PlainZone<W> {
     #[inline(always)]
     pub fn isolate(&mut self, pair: Pair) -> IsolatedOf<W>
         requires pair { IsPair self.old pair.page pair.source pair.target }
-        requires room { length (out self.old.records) + 1 < self.old.room }
+        requires accepted { isolate_refusal self.old ≡ None }
         ensures page { result ≡ record { serial = isolated self.old.records; page = page_now self.old pair.page } }
         ensures step { self.new ≡ isolated_next self.old pair }
         ensures lawful { IsLawful self.new }
@@ -75,7 +75,7 @@ impl<const W: usize> PlainZone<W> {
             target,
         } = pair;
         let flags = self.flags_of(page);
-        let serial = self.moves.isolate(page);
+        let serial = self.moves.isolate(page, source);
         self.frames.to_source(source, serial);
         self.frames.to_target(target, serial);
         self.tables.to_migration(source, serial);

@@ -7,6 +7,8 @@
 
 mod access;
 mod bulk;
+mod cleared;
+mod contents;
 mod ending;
 mod handed_out;
 mod handing_out;

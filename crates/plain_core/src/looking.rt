@@ -3,13 +3,12 @@
 ghost use Rattle.std.specs.Prelude.{◌≡◌, Some, IsSome, IfSome};
 ghost use Rattle.std.specs.FinMap as map;
 ghost use Rattle.journal_core.specs.History.{page_at, pins, maps};
-ghost use Rattle.journal_core.specs.Moves.{page_of};
 ghost use Rattle.state_core.specs.Looking.{look_by, look_of};
 ghost use Rattle.state_core.specs.Pinning.{pins_at};
 ghost use Rattle.state_core.specs.Sharing.{maps_at};
 
 use crate::plain::PlainZone;
-use frame_core::{Address, PageNo, Serial};
+use frame_core::{Address, PageNo};
 use state_core::{Look, Placement};
 use table_core::Entry;
 
@@ -30,7 +29,7 @@ impl<const W: usize> PlainZone<W> {
         match self.tables.entry(*address) {
             Entry::Absent => None,
             Entry::Present(frame) => self.holder(frame),
-            Entry::Migration { serial, .. } => self.page_under(serial),
+            Entry::Migration { source, .. } => Some(self.moves.page_from(source)),
         }
     }
 
@@ -78,13 +77,6 @@ impl<const W: usize> PlainZone<W> {
             }),
             Placement::Moving { serial, .. } => Some(Look::Moving { serial, pins, maps }),
         }
-    }
-
-    /// The page that was isolated under a serial, if one was.
-    fn page_under(&self, serial: Serial) -> Option<PageNo>
-        ensures { result ≡ page_of self.now.records serial }
-    {
-        self.moves.page(serial)
     }
 
     /// How a page in use is used.

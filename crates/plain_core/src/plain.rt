@@ -1,5 +1,6 @@
 ghost use Rattle.std.specs.Prelude.{◌≡◌};
 
+use crate::cleared::Cleared;
 use crate::handed_out::HandedOut;
 use crate::history::History;
 use crate::moves::Moves;
@@ -21,6 +22,7 @@ pub struct PlainZone<const W: usize> {
     pub(crate) notes: Notes,
     pub(crate) moves: Moves,
     pub(crate) handed_out: HandedOut,
+    pub(crate) cleared: Cleared,
     pub(crate) marked: [bool; 8],
     pub(crate) fingers: Fingers,
     pub(crate) history: History,

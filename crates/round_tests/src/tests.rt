@@ -13,6 +13,7 @@ mod refused_calls;
 mod reserving;
 mod rounds;
 mod settling;
+mod told;
 mod waking;
 
 use calls::{Answer, Call};
@@ -56,6 +57,7 @@ enum Trial<'a> {
     WakesBoth(Waiting, Waiting),
     SharesAPage,
     UsesOwnWords,
+    UsesWholePages,
     RefusesCalls,
     RefusesCallsWithoutRoom,
     Runs(Run<'a>),
@@ -132,6 +134,7 @@ fn tries_in<
         Trial::WakesBoth(first, second) => opening.wakes_both(rt, first, second),
         Trial::SharesAPage => opening.shares_a_page(rt),
         Trial::UsesOwnWords => opening.uses_own_words(rt),
+        Trial::UsesWholePages => opening.uses_whole_pages(rt),
         Trial::RefusesCalls => opening.refuses_calls(rt),
         Trial::RefusesCallsWithoutRoom => opening.refuses_calls_without_room(rt),
         Trial::Runs(run) => opening.undergoes(rt, run),

@@ -1,6 +1,6 @@
 -- How a call of a client went, from what the client's own call says.
 use Rattle.std.proofs.Common.{◌≡◌, ◌≢◌, ℕ, refl, sym, ap, subst, ◌∙◌, Bool, Result, Ok, Err}
-use Rattle.std.specs.Prelude.{IfErr, IfOk, OnErr, OnOk, unwrap_or}
+use Rattle.std.specs.Prelude.{⊤, IfErr, IfOk, OnErr, OnOk, unwrap_or}
 use Rattle.std.specs.Result.{MatchResult}
 use Rattle.frame_core.specs.declared.place.Address.{Address}
 use Rattle.journal_core.specs.declared.record.Record.{Record}
@@ -22,7 +22,7 @@ module _ (old : Client) (call : ClientCall) (new : Client) (result : Result Repl
   -- a call that waits while its page is moving
   pub made : (r : Result X ClientError) → MatchResult r (λ x. result ≡ Ok (told x)) (λ e. result ≡ Err e)
       → IfOk r (λ x. IsAcceptedCall old call (told x) new)
-      → OnErr r (new ≡ old) → IfErr r (IsFailed (client_refusal call)) → IfErr r (λ e. e ≢ Zone Moving) → IsMade old call result new
+      → OnErr r (new ≡ old) → IfErr r (IsFailed ⊤ (client_refusal call)) → IfErr r (λ e. e ≢ Zone Moving) → IsMade old call result new
   made (Ok x) is accepted same failed there = subst (λ (r : Result Reply ClientError). IsMade old call r new) (sym is) accepted
   made (Err e) is accepted same failed there =
       subst (λ (r : Result Reply ClientError). IsMade old call r new) (sym is) (record { failed = failed; there = λ waits. there; same = same })
@@ -30,7 +30,7 @@ module _ (old : Client) (call : ClientCall) (new : Client) (result : Result Repl
   -- a call that never waits
   pub made_at_once : (r : Result X ClientError) → MatchResult r (λ x. result ≡ Ok (told x)) (λ e. result ≡ Err e)
       → IfOk r (λ x. IsAcceptedCall old call (told x) new)
-      → OnErr r (new ≡ old) → IfErr r (IsFailed (client_refusal call)) → (Waits call → ⊥) → IsMade old call result new
+      → OnErr r (new ≡ old) → IfErr r (IsFailed ⊤ (client_refusal call)) → (Waits call → ⊥) → IsMade old call result new
   made_at_once (Ok x) is accepted same failed never = subst (λ (r : Result Reply ClientError). IsMade old call r new) (sym is) accepted
   made_at_once (Err e) is accepted same failed never =
       subst (λ (r : Result Reply ClientError). IsMade old call r new) (sym is) (record { failed = failed; there = λ waits. absurd (never waits); same = same })

@@ -67,7 +67,7 @@ pub record IsAcceptedCall (old : Client) (call : ClientCall) (answer : Reply) (n
 
 -- a call failed for want of memory, or because a zone refused it, and the client has no receipt of it
 pub record IsRefusedCall (old : Client) (call : ClientCall) (error : ClientError) (new : Client) : Type 0 where
-  pub failed : IsFailed (client_refusal call) error
+  pub failed : IsFailed ⊤ (client_refusal call) error
   pub there : Waits call → error ≢ Zone Moving
   pub same : new ≡ old
 

@@ -31,6 +31,7 @@ use Rattle.text_core.specs.declared.reply.Reply.{Reply}
 use Rattle.text_core.specs.declared.reply.Reply.TheVariants as reply
 use Rattle.text_core.specs.Grammar.{zone_of}
 use Rattle.client_core.specs.Receipts.{IsToldBeside, Agrees, Client}
+use Rattle.client_core.specs.Settling.{HasKeptJournal}
 use Rattle.script_core.specs.Clients.{AreClientAnswers}
 use Rattle.script_laws.specs.ByHand.{count_by_hand, pool_stopped_as, stopped_as}
 use Rattle.play_core.specs.Script.{Answer, ClientLine, Numbered, commands_of}
@@ -203,10 +204,12 @@ pub record IsOneReply (old : Threaded) (c : Numbered) (answers : List Answer) (n
   pub one : answers ≡ record { line = c.line; reply = reply } ∷ []
   pub step : IsReplyStep old c.command reply new
 
--- the reply to a round during which a client made calls: 35 where the client's receipts aren't its records in the zone's journal
+-- the reply to a round during which a client made calls: 36 where the zone's journal isn't kept, and 35 where it is and the client's
+-- receipts aren't its records there
 pub record IsSettledReply (zone : ZoneState) (client : Client) (result : Result Round RoundError) (answer : Reply) : Type 0 where
-  pub agrees : Agrees zone.records client → answer ≡ round_reply result
-  pub differs : (Agrees zone.records client → ⊥) → answer ≡ reply.Refused 35
+  pub not_kept : (HasKeptJournal zone → ⊥) → answer ≡ reply.Refused 36
+  pub agrees : HasKeptJournal zone → Agrees zone.records client → answer ≡ round_reply result
+  pub differs : HasKeptJournal zone → (Agrees zone.records client → ⊥) → answer ≡ reply.Refused 35
 
 -- a round during which a client made calls: the answers to the client's lines, the reply to the round, and the machine after it
 pub record IsTurnBeside (w : WorldState) (places : ℕ) (client : Client) (lines : List ClientLine) (told : List Answer) (own : Reply) (new : Threaded) : Type 0 where

@@ -359,7 +359,8 @@ fn block_client() -> ClientNo
     ClientNo::new(1).unwrap()
 }
 
-/// The reply to a round during which a client made calls: 35 where the client's receipts aren't its records in the zone's journal.
+/// The reply to a round during which a client made calls: 36 where the zone's journal isn't kept, and 35 where it is and the
+/// client's receipts aren't its records there.
 fn settled_reply<I: Ledger, M: Ledger, B: Ledger>(
     zone: &Zone<I, M, B>,
     client: &Client,
@@ -369,7 +370,7 @@ fn settled_reply<I: Ledger, M: Ledger, B: Ledger>(
 {
     match settle_clients(zone, slice::from_ref(client)) {
         Ok(()) => reply_to(round),
-        Err(mismatch) => Reply::Refused(mismatch.number()),
+        Err(unsettled) => Reply::Refused(unsettled.number()),
     }
 }
 

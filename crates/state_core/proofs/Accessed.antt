@@ -23,6 +23,7 @@ module _ (v : ZoneState) (law : IsLawful v) (spare : length (out v.records) < v.
       lawful_noted v law (Load client address word (value_at v address word)) spare (record {
         truthful = (subst T (sym page.1) refl, law.truthful);
         well_ended = law.well_ended;
+        serials = law.serials;
         named = law.named;
         in_use = law.in_use;
         out = refl;
@@ -36,6 +37,7 @@ module _ (v : ZoneState) (law : IsLawful v) (spare : length (out v.records) < v.
   lawful_stored word value = lawful_noted v law (Store client address word value) spare (record {
     truthful = law.truthful;
     well_ended = law.well_ended;
+    serials = law.serials;
     named = law.named;
     in_use = law.in_use;
     out = refl;

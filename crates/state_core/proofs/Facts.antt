@@ -1,7 +1,8 @@
 -- What is known of a lawful zone.
-use Rattle.std.proofs.Common.{◌≡◌, ◌≢◌, ℕ, ◌<◌, ◌≤◌, true, false, List, [], ◌∷◌, length, arith, refl, sym, ap, ◌∙◌, Option, Some, None, IsSome, is_some, nat_eq, ◌||◌, if◌then◌else◌, eq-eqb, ltb-true}
+use Rattle.std.proofs.Common.{◌≡◌, ◌≢◌, ℕ, ◌+◌, ◌-◌, ◌^◌, ◌<◌, ◌≤◌, Bool, true, false, cond, List, [], ◌∷◌, length, arith, refl, sym, ap, ◌∙◌, Option, Some, None, IsSome, is_some, nat_eq, ◌||◌, if◌then◌else◌, eq-eqb, ltb-true}
 use Rattle.std.specs.FinMap as map
 pub use Rattle.std.proofs.lemmas.Bool.{cond-true as taken, cond-false as skipped}
+use Rattle.std.proofs.lemmas.Bool.{and_parts}
 use Rattle.std.specs.Option.{option_and_then}
 use Rattle.std.proofs.lemmas.Option.{option_and_then_some}
 use Rattle.frame_core.specs.declared.place.Address.{Address}
@@ -9,8 +10,10 @@ use Rattle.journal_core.specs.History.{page_at}
 use Rattle.journal_core.specs.declared.record.Record.{Record}
 use Rattle.journal_core.specs.declared.record.Record.TheVariants.{Isolate}
 use Rattle.journal_core.specs.Moves.{out, isolated}
+use Rattle.state_core.specs.declared.error.ZoneError.TheVariants.{JournalFull}
 use Rattle.state_core.specs.declared.placement.Placement.{Placement}
 use Rattle.state_core.specs.declared.placement.Placement.TheVariants.{At, Moving}
+use Rattle.state_core.specs.Isolating.{isolate_refusal}
 use Rattle.state_core.specs.Lawful.{IsLawful}
 use Rattle.state_core.specs.ZoneState.{words_frame, ZoneState, frame_count, takes_up, has_room, placement_at}
 
@@ -31,6 +34,14 @@ none_is (Some x) e = cc
 -- where there is room for a call, the journal has more places than pages are out
 pub spare : (v : ZoneState) → has_room v ≡ true → length (out v.records) < v.room
 spare v room = ltb-true _ _ room
+
+not_full : (b : Bool) → cond b None (Some JournalFull) ≡ None → b ≡ true
+not_full true e = refl
+not_full false e = cc
+
+-- where an isolation isn't refused, the journal has its two places, and its serial is left
+pub room_and_serial : (v : ZoneState) → isolate_refusal v ≡ None → (length (out v.records) + 1 < v.room) × (isolated v.records < 2 ^ 32 - 1)
+room_and_serial v accepted = let both = and_parts _ _ (not_full _ accepted) in (ltb-true _ _ both.0, ltb-true _ _ both.1)
 
 -- an address that names a page in a frame
 pub page_named : (v : ZoneState) (address : Address) (placement : Placement) → placement_at v address ≡ Some placement → (page : ℕ) × (page_at v.records address ≡ Some page) × (map.get v.placement page ≡ Some placement)

@@ -1,10 +1,12 @@
 -- A block of free frames is handed out or taken back: the zone stays lawful, and the blocks are clear.
 use Rattle.std.proofs.Common.{◌≡◌, ◌≢◌, ℕ, ◌+◌, ◌*◌, ◌/◌, ◌^◌, ◌<◌, ◌≤◌, Bool, true, false, not, ◌∷◌, length, inl, inr, refl, sym, ap, ◌∙◌, arith, Option, Some, None, nat_eq, nat_le, nat_lt, ◌⊎◌, subst, ◌&&◌, ◌||◌}
 use Rattle.std.specs.FinMap as map
+use Rattle.std.specs.Option.{option_map}
 use Rattle.std.proofs.Math.Bool.{or-false}
 use Rattle.std.proofs.Math.Nat.{mul-div_cancel}
 use Rattle.std.proofs.lemmas.Bool.{and_parts, and_from, and_right, both_ways, cases_Bool, cond-true, cond-false, eq-eqb, eqb-true, false_from_ne_true, leb-true, le-leb, ltb-true, lt-ltb, ne_eqb, or_from, or_parts, or_right}
 use Rattle.std.proofs.lemmas.Bool.Decides.{eqb_tells}
+use Rattle.std.proofs.lemmas.List.{length-replicate}
 use Rattle.std.proofs.lemmas.Nat.{pow_pos}
 use Rattle.std.proofs.lemmas.Option.{none-some, same_Some}
 use Rattle.frame_core.proofs.Searches.{count_from_all, count_from_full, lowest_is, lowest_none, lowest_some, lowest_before, no_lowest, none_some, some_at, some_more, some_one}
@@ -158,10 +160,21 @@ module _ (v : ZoneState) (first order : ℕ) (run : is_run v order first ≡ tru
       | inr other ↦ get_insert_other v.handed_out first f order other.1 ∙ law.handed f ∙ sym (cond-false (nat_eq first f) (Some order) (handed_out_by v.records f) (ne_eqb first f (λ e. other.1 (sym e))))
     ]
 
+    contents_taken : (f : ℕ) → option_map length (map.get taken.contents f) ≡ option_map (λ o. 2 ^ o * v.page_size) (map.get taken.handed_out f)
+    contents_taken f = elim (eqb_tells f first) [
+      | inl same ↦
+          (ap (option_map length) (get_insert_same v.contents first f _ same.1) ∙ ap Some (length-replicate (2 ^ order * v.page_size) 0)
+          ∙ sym (ap (option_map (λ o. 2 ^ o * v.page_size)) (get_insert_same v.handed_out first f order same.1)))
+      | inr other ↦
+          (ap (option_map length) (get_insert_other v.contents first f _ other.1) ∙ law.contents f
+          ∙ sym (ap (option_map (λ o. 2 ^ o * v.page_size)) (get_insert_other v.handed_out first f order other.1)))
+    ]
+
     pub lawful_block_taken : IsLawful (block_taken v first order)
     lawful_block_taken = record {
       size = law.size;
       places = (let before = law.places in omega arith);
+      serials = law.serials;
       truthful = law.truthful;
       well_ended = law.well_ended;
       room_left = omega arith;
@@ -175,6 +188,7 @@ module _ (v : ZoneState) (first order : ℕ) (run : is_run v order first ≡ tru
       clear = clear_taken;
       blocks = blocks_taken;
       disjoint = disjoint_taken;
+      contents = contents_taken;
       handed = handed_taken;
       marks = law.marks;
       unmovable = law.unmovable;
@@ -258,10 +272,21 @@ module _ (v : ZoneState) (law : IsLawful v) (first order : ℕ) (at : map.get v.
     | inr other ↦ law.blocks f o (sym (get_remove_other v.handed_out first f other.1) ∙ e)
   ]
 
+  contents_given : (f : ℕ) → option_map length (map.get given.contents f) ≡ option_map (λ o. 2 ^ o * v.page_size) (map.get given.handed_out f)
+  contents_given f = elim (eqb_tells f first) [
+    | inl same ↦
+        (ap (option_map length) (get_remove_same v.contents first f same.1)
+        ∙ sym (ap (option_map (λ o. 2 ^ o * v.page_size)) (get_remove_same v.handed_out first f same.1)))
+    | inr other ↦
+        (ap (option_map length) (get_remove_other v.contents first f other.1) ∙ law.contents f
+        ∙ sym (ap (option_map (λ o. 2 ^ o * v.page_size)) (get_remove_other v.handed_out first f other.1)))
+  ]
+
   pub lawful_block_given : length (out v.records) < v.room → IsLawful (block_given v first order)
   lawful_block_given spare = record {
     size = law.size;
     places = (let before = law.places in omega arith);
+    serials = law.serials;
     truthful = law.truthful;
     well_ended = law.well_ended;
     room_left = omega arith;
@@ -275,6 +300,7 @@ module _ (v : ZoneState) (law : IsLawful v) (first order : ℕ) (at : map.get v.
     clear = λ page frame e. (or_parts _ _ (sym (held_given frame) ∙ law.clear page frame e)).0;
     blocks = blocks_given;
     disjoint = λ a b frame e f. law.disjoint a b frame (covers_given a frame e).1 (covers_given b frame f).1;
+    contents = contents_given;
     handed = handed_fewer;
     marks = law.marks;
     unmovable = law.unmovable;

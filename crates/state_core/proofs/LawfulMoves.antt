@@ -1,20 +1,21 @@
 -- A page is isolated, and its move ends: the zone stays lawful, and swept while its latest round is quiet.
-use Rattle.std.proofs.Common.{◌≡◌, ℕ, ◌+◌, ◌<◌, subst, length, sym, ap, refl, arith, Some}
+use Rattle.std.proofs.Common.{◌≡◌, ℕ, ◌+◌, subst, sym, ap, refl, arith, Some, None}
 use Rattle.std.specs.FinMap as map
 use Rattle.journal_core.specs.declared.record.Cause.{Cause}
 use Rattle.journal_core.specs.declared.record.Record.TheVariants.{Isolate, Moved, Back}
 use Rattle.journal_core.specs.History.{pins}
-use Rattle.journal_core.specs.Moves.{isolated, out}
+use Rattle.journal_core.specs.Moves.{isolated}
 use Rattle.state_core.specs.declared.placement.Placement.TheVariants.{At, Moving}
 use Rattle.state_core.specs.declared.round.Pair.{Pair}
 use Rattle.state_core.specs.Carrying.{relocated}
 use Rattle.state_core.specs.Ending.{moved_to_target, put_back_to_source, source_of, target_of, HasCause}
-use Rattle.state_core.specs.Isolating.{isolated_next}
+use Rattle.state_core.specs.Isolating.{isolate_refusal, isolated_next}
 use Rattle.state_core.specs.Lawful.{IsLawful}
 use Rattle.state_core.specs.Pairs.{IsPair}
 use Rattle.state_core.specs.Swept.{SweptIfQuiet}
 use Rattle.state_core.specs.ZoneState.{ZoneState}
 use Rattle.state_core.proofs.Ending.{can_move_on, moved_recorded, can_go_back, back_recorded}
+use Rattle.state_core.proofs.Facts.{room_and_serial}
 use Rattle.state_core.proofs.Isolating.{can_isolate, isolate_recorded}
 use Rattle.state_core.proofs.Moving.{lawful_settled}
 use Rattle.state_core.proofs.Quiet.{quiet_before, swept_ended}
@@ -23,9 +24,10 @@ use Rattle.state_core.proofs.Sweeping.{swept_isolated, swept_arrived}
 pub swept_if_isolated : (v : ZoneState) (pair : Pair) → IsLawful v → IsPair v pair.page pair.source pair.target → SweptIfQuiet (isolated_next v pair)
 swept_if_isolated v pair law is quiet = swept_isolated v pair law (law.swept (quiet_before v (Isolate (isolated v.records) pair.page) law refl quiet)) is
 
-pub lawful_isolated : (v : ZoneState) (pair : Pair) → IsLawful v → IsPair v pair.page pair.source pair.target → length (out v.records) + 1 < v.room → IsLawful (isolated_next v pair)
-lawful_isolated v pair law is room =
-    lawful_settled (can_isolate v pair law is) (Isolate (isolated v.records) pair.page) (isolate_recorded v pair law is room) (pair.source + 1) pair.target
+pub lawful_isolated : (v : ZoneState) (pair : Pair) → IsLawful v → IsPair v pair.page pair.source pair.target → isolate_refusal v ≡ None → IsLawful (isolated_next v pair)
+lawful_isolated v pair law is accepted =
+    let left = room_and_serial v accepted in
+    lawful_settled (can_isolate v pair law is) (Isolate (isolated v.records) pair.page) (isolate_recorded v pair law is left.0 left.1) (pair.source + 1) pair.target
     (let low = is.to.low in let high = is.to.high in let fingers = law.fingers.1 in (omega arith, omega arith))
     (swept_if_isolated v pair law is)
 

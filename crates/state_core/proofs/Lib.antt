@@ -1,6 +1,7 @@
 pub mod Accessed
 pub mod Bulk
 pub mod Carried
+pub mod Contents
 pub mod Ending
 pub mod Entries
 pub mod Facts

@@ -133,6 +133,7 @@ module _ (v : ZoneState) (client : ℕ) (address : Address) (unmovable : Bool) (
       record {
         truthful = law.truthful;
         well_ended = law.well_ended;
+        serials = law.serials;
         spare = omega arith;
         room_left = omega arith;
         named = λ b q is. elim (cases_Bool (same_address b address)) [

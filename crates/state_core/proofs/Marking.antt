@@ -29,6 +29,7 @@ module _ (v : ZoneState) (law : IsLawful v) (spare : length (out v.records) < v.
   lawful_marked = record {
     size = law.size;
     places = (let before = law.places in omega arith);
+    serials = law.serials;
     truthful = law.truthful;
     well_ended = law.well_ended;
     room_left = omega arith;
@@ -42,6 +43,7 @@ module _ (v : ZoneState) (law : IsLawful v) (spare : length (out v.records) < v.
     clear = law.clear;
     blocks = law.blocks;
     disjoint = law.disjoint;
+    contents = law.contents;
     handed = law.handed;
     marks = marks_more;
     unmovable = law.unmovable;
@@ -55,6 +57,7 @@ module _ (v : ZoneState) (law : IsLawful v) (spare : length (out v.records) < v.
   lawful_unmarked = record {
     size = law.size;
     places = (let before = law.places in omega arith);
+    serials = law.serials;
     truthful = law.truthful;
     well_ended = law.well_ended;
     room_left = omega arith;
@@ -68,6 +71,7 @@ module _ (v : ZoneState) (law : IsLawful v) (spare : length (out v.records) < v.
     clear = law.clear;
     blocks = law.blocks;
     disjoint = law.disjoint;
+    contents = law.contents;
     handed = law.handed;
     marks = marks_fewer;
     unmovable = law.unmovable;

@@ -1,5 +1,5 @@
 -- One more record leaves a zone lawful where each page stays in its place.
-use Rattle.std.proofs.Common.{◌≡◌, ℕ, ◌<◌, ◌≤◌, ◌∷◌, length, arith, Some, IsSome, sym, ◌∙◌}
+use Rattle.std.proofs.Common.{◌≡◌, ℕ, ◌<◌, ◌≤◌, ◌^◌, ◌∷◌, length, arith, Some, IsSome, sym, ◌∙◌}
 use Rattle.std.specs.Prelude.{◌↔◌}
 use Rattle.std.specs.FinMap as map
 use Rattle.frame_core.specs.Address.{InRange}
@@ -7,7 +7,7 @@ use Rattle.frame_core.specs.declared.place.Address.{Address}
 use Rattle.journal_core.specs.declared.record.Record.{Record}
 use Rattle.journal_core.specs.Blocks.{handed_out_by, is_marked_by}
 use Rattle.journal_core.specs.History.{page_at, maps, pins}
-use Rattle.journal_core.specs.Moves.{out, IsWellEnded}
+use Rattle.journal_core.specs.Moves.{isolated, out, IsWellEnded}
 use Rattle.journal_core.specs.Truth.{IsTruthful}
 use Rattle.state_core.specs.Lawful.{IsLawful}
 use Rattle.state_core.specs.Swept.{SweptIfQuiet}
@@ -19,6 +19,7 @@ use Rattle.state_core.proofs.Quiet.{begun_more}
 pub record IsNoted (v : ZoneState) (entry : Record) : Type 0 where
   pub truthful : IsTruthful (entry ∷ v.records)
   pub well_ended : IsWellEnded (entry ∷ v.records)
+  pub serials : isolated (entry ∷ v.records) < 2 ^ 32
   pub named : (address : Address) (page : ℕ) → page_at (entry ∷ v.records) address ≡ Some page → InRange address × IsSome (map.get v.placement page)
   pub in_use : (page : ℕ) → IsSome (map.get v.placement page) → (0 < maps (entry ∷ v.records) page) × (maps (entry ∷ v.records) page ≤ 4) × (pins (entry ∷ v.records) page ≤ 255)
   pub out : out (entry ∷ v.records) ≡ out v.records
@@ -33,6 +34,7 @@ lawful_noted v law entry spare told =
     record {
       size = law.size;
       places = (let before = law.places in omega arith);
+      serials = told.serials;
       truthful = told.truthful;
       well_ended = told.well_ended;
       room_left = omega arith;
@@ -46,6 +48,7 @@ lawful_noted v law entry spare told =
       clear = law.clear;
       blocks = law.blocks;
       disjoint = law.disjoint;
+      contents = law.contents;
       handed = λ first. law.handed first ∙ sym (told.handed first);
       marks = λ block. law.marks block ∙ sym (told.marks block);
       unmovable = law.unmovable;

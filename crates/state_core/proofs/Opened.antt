@@ -1,14 +1,15 @@
 -- A zone that was just opened.
-use Rattle.std.proofs.Common.{◌≡◌, ℕ, ◌*◌, true, false, not, refl, sym, ap, ◌∙◌, arith, Option, None, is_some}
+use Rattle.std.proofs.Common.{◌≡◌, ℕ, ◌*◌, ◌^◌, ◌≤◌, true, false, not, refl, sym, ap, ◌∙◌, arith, Option, None, is_some, length}
 use Rattle.std.specs.FinSet as set
 use Rattle.std.specs.FinMap as map
+use Rattle.std.specs.Option.{option_map}
 use Rattle.std.specs.Ordering.{nat_cmp}
 use Rattle.std.proofs.lemmas.Bool.{and_from, both_ways}
 use Rattle.std.proofs.lemmas.Option.{none-some}
 use Rattle.frame_core.proofs.Searches.{count_all, count_none, none_some}
 use Rattle.frame_core.specs.Below.{count_below}
 use Rattle.state_core.specs.declared.placement.Placement.{Placement}
-use Rattle.state_core.specs.Opening.{opened_with, IsOpenable}
+use Rattle.state_core.specs.Opening.{opened_with, IsSize}
 use Rattle.state_core.specs.Lawful.{IsLawful, is_under}
 use Rattle.state_core.specs.ZoneState.{ZoneState, frame_count, takes_up, covers, is_held, is_free}
 
@@ -46,10 +47,11 @@ module _ (words number blocks places : ℕ) where
   pub huge_count : count_below (λ first. is_some (map.get new_zone.handed_out first)) (frame_count new_zone) ≡ 0
   huge_count = count_none (λ first. is_some (map.get new_zone.handed_out first)) (frame_count new_zone) (λ first h. ap is_some (no_block first))
 
-  pub opened_lawful : IsOpenable blocks places → IsLawful new_zone
-  opened_lawful openable = record {
-    size = (openable.0, openable.1);
-    places = omega (arith, openable.3);
+  pub opened_lawful : IsSize blocks → places ≤ 2 ^ 53 → IsLawful new_zone
+  opened_lawful size few = record {
+    size = size;
+    places = omega arith;
+    serials = omega arith;
     truthful = tt;
     well_ended = tt;
     room_left = omega arith;
@@ -63,6 +65,7 @@ module _ (words number blocks places : ℕ) where
     clear = λ page frame h. absurd (both_ways _ (untaken page frame) h);
     blocks = λ first order e. absurd (none-some _ (sym (no_block first) ∙ e));
     disjoint = λ a b frame h k. absurd (both_ways _ (uncovered a frame) h);
+    contents = λ first. ap (option_map length) (map.get-empty nat_cmp first) ∙ sym (ap (option_map (λ order. 2 ^ order * words)) (no_block first));
     handed = no_block;
     marks = set.contains-empty nat_cmp;
     unmovable = λ page e. absurd (both_ways _ (set.contains-empty nat_cmp page) e);

@@ -37,6 +37,7 @@ module _ (v : ZoneState) (client : ℕ) (address : Address) (page : ℕ) (named 
     lawful_pinned few = lawful_noted v law (Pin client address) spare (record {
       truthful = law.truthful;
       well_ended = law.well_ended;
+      serials = law.serials;
       named = law.named;
       in_use = λ q used.
           let before = law.in_use q used in
@@ -55,6 +56,7 @@ module _ (v : ZoneState) (client : ℕ) (address : Address) (page : ℕ) (named 
     lawful_unpinned = lawful_noted v law (Unpin client address) spare (record {
       truthful = law.truthful;
       well_ended = law.well_ended;
+      serials = law.serials;
       named = law.named;
       in_use = λ q used. (let before = law.in_use q used in (before.0, before.1, omega (arith, before.2)));
       out = refl;

@@ -25,6 +25,7 @@ pub lawful_from : (v : ZoneState) → IsLawful v → (start : RoundStart) → st
 lawful_from v law start here as_calm = record {
   size = law.size;
   places = law.places;
+  serials = law.serials;
   truthful = law.truthful;
   well_ended = law.well_ended;
   room_left = law.room_left;
@@ -38,6 +39,7 @@ lawful_from v law start here as_calm = record {
   clear = law.clear;
   blocks = law.blocks;
   disjoint = law.disjoint;
+  contents = law.contents;
   handed = law.handed;
   marks = law.marks;
   unmovable = law.unmovable;

@@ -58,6 +58,7 @@ module _ (v : ZoneState) (client : ℕ) (address alias : Address) (page frame : 
       lawful_noted v law (Share client address alias) can.spare (record {
         truthful = law.truthful;
         well_ended = law.well_ended;
+        serials = law.serials;
         named = λ a q is. elim (cases_Bool (same_address a alias)) [
           | inl here ↦ (subst InRange (sym (one_address a alias here)) can.range, (law.named address q (can.named ∙ sym (named_here a here) ∙ is)).1)
           | inr there ↦ law.named a q (sym (named_there a there) ∙ is)

@@ -67,6 +67,7 @@ module _ (v : ZoneState) (client : ℕ) (address : Address) (page frame : ℕ) (
       lawful_noted v law (Unmap client address) can.spare (record {
         truthful = law.truthful;
         well_ended = law.well_ended;
+        serials = law.serials;
         named = λ a q is. law.named a q (named_before a q is);
         in_use = λ q used.
             let before = law.in_use q used in
@@ -130,6 +131,7 @@ module _ (v : ZoneState) (client : ℕ) (address : Address) (page frame : ℕ) (
       record {
         truthful = law.truthful;
         well_ended = law.well_ended;
+        serials = law.serials;
         spare = omega arith;
         room_left = omega arith;
         named = λ a q is. (let before = law.named a q (named_before a q is) in (before.0, still_used q (none_left one a q is) before.1));

@@ -1,5 +1,5 @@
 -- The calls that hand out a block of free frames and take it back: when they are refused, and what they leave.
-use Rattle.std.specs.Prelude.{ℕ, ◌+◌, ◌^◌, Bool, false, not, ◌&&◌, nat_eq, nat_le, if◌then◌else◌, Option, Some, None, is_none}
+use Rattle.std.specs.Prelude.{ℕ, ◌+◌, ◌*◌, ◌^◌, Bool, false, not, ◌&&◌, nat_eq, nat_le, if◌then◌else◌, Option, Some, None, is_none, replicate}
 use Rattle.std.specs.FinMap as map
 use Rattle.frame_core.specs.Below.{lowest, count_from}
 use Rattle.frame_core.specs.Order.{is_aligned}
@@ -40,10 +40,16 @@ give_order_refusal z first order =
     else if not (is_order (map.get z.handed_out first) order) then Some NotHuge
     else None
 
--- the zone after the block of this order, from this first frame on, was handed out
+-- the zone after the block of this order, from this first frame on, was handed out: each word of a fresh block is 0
 abbrev pub block_taken : ZoneState → ℕ → ℕ → ZoneState
-block_taken z first order = record (noted z (TakeHuge first order)) { handed_out = map.insert z.handed_out first order }
+block_taken z first order = record (noted z (TakeHuge first order)) {
+  handed_out = map.insert z.handed_out first order;
+  contents = map.insert z.contents first (replicate (2 ^ order * z.page_size) 0);
+}
 
 -- the zone after the block of this order, from this first frame on, was given back
 abbrev pub block_given : ZoneState → ℕ → ℕ → ZoneState
-block_given z first order = record (noted z (GiveHuge first order)) { handed_out = map.remove z.handed_out first }
+block_given z first order = record (noted z (GiveHuge first order)) {
+  handed_out = map.remove z.handed_out first;
+  contents = map.remove z.contents first;
+}

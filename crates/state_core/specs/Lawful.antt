@@ -2,12 +2,13 @@
 use Rattle.std.specs.Prelude.{◌≡◌, ℕ, ◌+◌, ◌*◌, ◌^◌, ◌<◌, ◌≤◌, ◌↔◌, Bool, true, false, length, nat_eq, Option, Some, None, is_some, IsSome, IsTrue}
 use Rattle.std.specs.FinMap as map
 use Rattle.std.specs.FinSet as set
+use Rattle.std.specs.Option.{option_map}
 use Rattle.frame_core.specs.Below.{count_below}
 use Rattle.frame_core.specs.Address.{InRange}
 use Rattle.frame_core.specs.declared.place.Address.{Address}
 use Rattle.journal_core.specs.Blocks.{handed_out_by, is_marked_by}
 use Rattle.journal_core.specs.History.{page_at, maps, pins}
-use Rattle.journal_core.specs.Moves.{out, is_out, page_of, IsWellEnded}
+use Rattle.journal_core.specs.Moves.{isolated, out, is_out, page_of, IsWellEnded}
 use Rattle.journal_core.specs.Truth.{IsTruthful}
 use Rattle.state_core.specs.declared.placement.Placement.{Placement}
 use Rattle.state_core.specs.declared.placement.Placement.TheVariants.{At, Moving}
@@ -30,9 +31,11 @@ pub record IsBlock (frames first order : ℕ) : Type 0 where
 
 -- what is true of every zone
 pub record IsLawful (z : ZoneState) : Type 0 where
-  -- a zone has 1 to 8 pageblocks, and its journal at most 65,536 places
+  -- a zone has 1 to 8 pageblocks, and its journal at most 2^53 places
   pub size : (0 < z.blocks) × (z.blocks ≤ 8)
-  pub places : length z.records + z.room ≤ 65536
+  pub places : length z.records + z.room ≤ 2 ^ 53
+  -- a serial has 32 bits, and the next one has too, so that a zone isolates at most 2^32 - 1 pages in its life
+  pub serials : isolated z.records < 2 ^ 32
   -- each load gave the last value stored, and each page that was isolated ended at most once
   pub truthful : IsTruthful z.records
   pub well_ended : IsWellEnded z.records
@@ -53,6 +56,8 @@ pub record IsLawful (z : ZoneState) : Type 0 where
   -- the blocks that are handed out are blocks of the zone, and no two of them overlap
   pub blocks : (first order : ℕ) → map.get z.handed_out first ≡ Some order → IsBlock (frame_count z) first order
   pub disjoint : (a b frame : ℕ) → covers (map.get z.handed_out a) a frame ≡ true → covers (map.get z.handed_out b) b frame ≡ true → a ≡ b
+  -- each of them has as many words as a page has for each of its frames, and there are no other words
+  pub contents : (first : ℕ) → option_map length (map.get z.contents first) ≡ option_map (λ order. 2 ^ order * z.page_size) (map.get z.handed_out first)
   -- the blocks handed out and the marks are those that the journal tells of, and a page that is noted as unmovable is in use
   pub handed : (first : ℕ) → map.get z.handed_out first ≡ handed_out_by z.records first
   pub marks : (block : ℕ) → set.contains z.marked block ≡ is_marked_by z.records block

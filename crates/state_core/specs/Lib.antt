@@ -2,6 +2,7 @@ pub mod Access
 pub mod Bulk
 pub mod Carrying
 pub mod Clear
+pub mod Contents
 pub mod Ending
 pub mod ErrorNumber
 pub mod HandingOut

@@ -1,10 +1,15 @@
--- The call that opens a zone.
+-- The calls that open a zone: with a journal that is kept, or with one that only contracts are told.
 use Rattle.std.specs.Prelude.{ℕ, ◌<◌, ◌≤◌, None, []}
+use Rattle.journal_core.specs.Journal.{told_places}
 use Rattle.state_core.specs.ZoneState.{ZoneState}
 use Rattle.std.specs.FinMap as map
 use Rattle.std.specs.FinSet as set
 
--- a zone may be opened with this many pageblocks and places in its journal: 1 to 8, and 1 to 65,536
+-- a zone may have this many pageblocks: 1 to 8
+abbrev pub IsSize : ℕ → Type 0
+IsSize blocks = (0 < blocks) × (blocks ≤ 8)
+
+-- a zone may be opened with this many pageblocks and places in a journal that is kept: 1 to 8, and 1 to 65,536
 abbrev pub IsOpenable : ℕ → ℕ → Type 0
 IsOpenable blocks places = (0 < blocks) × (blocks ≤ 8) × (0 < places) × (places ≤ 65536)
 
@@ -19,6 +24,7 @@ opened_with size number blocks places = record {
   unmovable = set.empty;
   marked = set.empty;
   handed_out = map.empty;
+  contents = map.empty;
   placement = map.empty;
   migrate = 0;
   free = 0;
@@ -28,3 +34,7 @@ opened_with size number blocks places = record {
 -- a zone that was just opened, with eight words in a page
 abbrev pub opened : ℕ → ℕ → ℕ → ZoneState
 opened number blocks places = opened_with 8 number blocks places
+
+-- a zone that was just opened with a journal that is told
+abbrev pub opened_told : ℕ → ℕ → ℕ → ZoneState
+opened_told size number blocks = opened_with size number blocks told_places

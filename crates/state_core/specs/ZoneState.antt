@@ -33,6 +33,8 @@ pub record ZoneState : Type 0 where
   pub marked : set.FinSet nat_cmp
   -- the order of each block that is handed out, by its first frame
   pub handed_out : map.FinMap nat_cmp ℕ
+  -- the words of each block that is handed out, those of its frames one after the other, by its first frame
+  pub contents : map.FinMap nat_cmp (List ℕ)
   -- where each page in use is
   pub placement : map.FinMap nat_cmp Placement
   -- the migrate finger and the free finger of the two scanners: frames, from 0 to the number of frames

@@ -11,7 +11,8 @@ use std::fmt::{Display, Formatter};
 pub enum ZoneError {
     /// An argument is out of its range.
     Range,
-    /// The journal has no place left, besides those that the moving pages need for their ends.
+    /// The journal has no place left, besides those that the moving pages need for their ends, or no serial is left for
+    /// an isolation.
     JournalFull,
     /// The address names no page.
     Unmapped,

@@ -4,7 +4,7 @@ use frame_core::{FrameNo, PageNo};
 #[derive(Clone, Copy, Debug, PartialEq, Eq)]
 pub struct RoundStart {
     /// The number of records in the journal when it began.
-    pub records: u32,
+    pub records: u64,
     /// Whether no page was out and, in unmarked pageblocks, no page was pinned or unmovable and no frame was handed out.
     pub calm: bool,
 }

@@ -1,6 +1,6 @@
 //! A host: a shared zone, its collector, and the guests that are there.
 
-ghost use Rattle.std.specs.Prelude.{◌≡◌, ◌<◌, ◌≤◌};
+ghost use Rattle.std.specs.Prelude.{◌≡◌, ◌≤◌};
 ghost use Rattle.zone_core.specs.Books.{AreFor};
 
 use crate::small_pages::{SmallPages, count_kept};
@@ -18,9 +18,10 @@ use zone_core::{Blanks, Seats, Zone};
 
 const BLOCKS: u32 = 8;
 
-const PLACES: u32 = 65536;
+/// How many days are seen.
+const DAYS: u32 = 165;
 
-/// The guests that come.
+/// The guests that come each day.
 const GUESTS: u32 = 40;
 
 /// What comes of the guests, and of the host's own pages.
@@ -32,6 +33,8 @@ pub struct Tally {
     pub served: u32,
     /// The rounds that were run for them.
     pub rounds: u32,
+    /// The calls of the zone that were made for small pages.
+    pub calls: u32,
     /// The small pages at the end.
     pub pages: u32,
     /// Those that hold what was stored in them.
@@ -56,10 +59,13 @@ where
     collector: Collector,
     pages: SmallPages,
     guests: ArrayVec<Guest, 8>,
+    draws: Pcg32,
+    /// The turns that are over. In each of them a guest comes.
+    turns: u32,
     tally: Tally,
 }
 
-/// Opens a zone, fragments it, and lets guests come and go.
+/// Opens a zone whose journal takes no memory, and lets guests come and go day by day.
 pub fn serve<
     K: Shape + Send + Sync,
     I: Ledger + Send + Sync,
@@ -73,7 +79,7 @@ pub fn serve<
     requires blanks { AreFor blanks I.name I.parts N.name N.parts M.name M.parts B.name B.parts }
 {
     let number = ZoneNo::new(0)?;
-    let opened = Zone::<I, M, B>::open::<N>(alloc, number, BLOCKS, PLACES, blanks);
+    let opened = Zone::<I, M, B>::open_told::<N>(alloc, number, BLOCKS, blanks);
     let (zone, scan, ends) = opened.ok()?;
     let mut host = Host::<K, I, N, M, B> {
         shared: SharedZone::new(zone),
@@ -86,24 +92,23 @@ pub fn serve<
         },
         pages: SmallPages::new(),
         guests: ArrayVec::new(),
+        draws: Pcg32::new(2, 7),
+        turns: 0,
         tally: Tally {
             guests: 0,
             served: 0,
             rounds: 0,
+            calls: 0,
             pages: 0,
             kept: 0,
         },
     };
-    host.pages.churn(rt, &host.shared, 3000);
-    let mut draws = Pcg32::new(2, 7);
-    for turn in 0..GUESTS {
-        host.pages.churn(rt, &host.shared, 200);
-        host.let_leave(rt, turn);
-        let (size, stays) = (1 + draws.next_u32() % 4, 1 + draws.next_u32() % 4);
-        host.receive(rt, alloc, size as usize, turn + stays);
+    for _day in 0..DAYS {
+        host.pass_day(rt, alloc);
     }
     let (pages, kept) = count_kept(rt, &host.shared);
     Some(Tally {
+        calls: host.pages.calls(),
         pages,
         kept,
         ..host.tally
@@ -117,18 +122,33 @@ impl<
     M: Ledger + Send + Sync,
     B: Ledger + Send + Sync,
 > Host<K, I, N, M, B> {
+    /// Fragments the zone, and lets the guests of a day come and go.
+    fn pass_day<R: Threads + Wait + Sync>(&mut self, rt: &R, alloc: Global) {
+        self.pages.churn(rt, &self.shared, 3000);
+        for _guest in 0..GUESTS {
+            self.pages.churn(rt, &self.shared, 200);
+            self.let_leave(rt);
+            self.receive(rt, alloc);
+            self.turns = self.turns.saturating_add(1);
+        }
+    }
+
     /// Reserves the blocks of a guest. One that gets fewer than it wants goes without.
-    fn receive<R: Threads + Wait + Sync>(&mut self, rt: &R, alloc: Global, size: usize, leaves: u32)
-        requires { (0 < size) × (size ≤ 8) }
-    {
-        let report = self
-            .collector
-            .reserve(rt, alloc, &self.shared, &mut self.seats, size, &NoGate);
+    fn receive<R: Threads + Wait + Sync>(&mut self, rt: &R, alloc: Global) {
+        let (size, stays) = (1 + self.draws.next_u32() % 4, 1 + self.draws.next_u32() % 4);
+        let report = self.collector.reserve(
+            rt,
+            alloc,
+            &self.shared,
+            &mut self.seats,
+            size as usize,
+            &NoGate,
+        );
         self.tally.guests = self.tally.guests.saturating_add(1);
         self.tally.rounds = self.tally.rounds.saturating_add(report.rounds);
         let guest = Guest {
             blocks: report.got,
-            leaves,
+            leaves: self.turns.saturating_add(stays),
         };
         if report.stop != Stop::Enough {
             return self.see_off(rt, guest);
@@ -138,9 +158,9 @@ impl<
     }
 
     /// Each guest whose turn it is leaves.
-    fn let_leave<R: Wait>(&mut self, rt: &R, turn: u32) {
+    fn let_leave<R: Wait>(&mut self, rt: &R) {
         for guest in self.guests.take() {
-            if guest.leaves <= turn {
+            if guest.leaves <= self.turns {
                 self.see_off(rt, guest);
             } else {
                 self.keep(rt, guest);

@@ -35,9 +35,11 @@ fn show<R: Print>(rt: &R, how: &str, tally: Option<Tally>) -> io::Result<()> {
         guests,
         served,
         rounds,
+        calls,
         pages,
         kept,
     } = tally;
     println!(rt; "{how}: {served} of {guests} guests got their huge pages, {rounds} rounds")?;
+    println!(rt; "{how}: {calls} calls of the zone were made for small pages")?;
     println!(rt; "{how}: {kept} of {pages} small pages hold what was stored in them")
 }

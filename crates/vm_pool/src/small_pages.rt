@@ -16,6 +16,7 @@ const VPAGES: u32 = 4096;
 pub struct SmallPages {
     draws: Pcg32,
     next: u32,
+    calls: u32,
 }
 
 impl SmallPages {
@@ -23,7 +24,13 @@ impl SmallPages {
         SmallPages {
             draws: Pcg32::new(1, 5),
             next: 0,
+            calls: 0,
         }
+    }
+
+    /// How many calls of the zone were made.
+    pub fn calls(&self) -> u32 {
+        self.calls
     }
 
     /// Maps so many pages, and unmaps all of them but about one in sixteen.
@@ -35,14 +42,20 @@ impl SmallPages {
     ) {
         let first = self.next;
         for page in 0..count {
-            let _ = map(rt, shared, first.saturating_add(page) % VPAGES);
+            let mapped = map(rt, shared, first.saturating_add(page) % VPAGES);
+            self.count(1 + u32::from(mapped.is_some()));
         }
         for page in 0..count {
             if self.draws.next_u32() % 16 != 0 {
                 let _ = unmap(rt, shared, first.saturating_add(page) % VPAGES);
+                self.count(1);
             }
         }
         self.next = first.saturating_add(count) % VPAGES;
+    }
+
+    fn count(&mut self, calls: u32) {
+        self.calls = self.calls.saturating_add(calls);
     }
 }
 

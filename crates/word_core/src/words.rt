@@ -1,6 +1,7 @@
-ghost use Rattle.std.specs.Prelude.{◌≡◌, ◌<◌, ◌≤◌, ◌+◌, ◌↔◌, length, replicate, IfOk, IsTrue};
+ghost use Rattle.std.specs.Prelude.{◌≡◌, ◌<◌, ◌≤◌, ◌+◌, ◌*◌, ◌↔◌, length, replicate, IfOk, IsTrue};
+ghost use Rattle.std.specs.List.{All};
 ghost use Rattle.word_core.specs.Page.{blank_words};
-ghost use Rattle.word_core.specs.Words.{words_of, word_of, words_from, with_words, with_word, put_from};
+ghost use Rattle.word_core.specs.Words.{words_of, word_of, words_from, with_words, with_word, put_from, joined, block_words, HasBlock};
 
 use crate::page::Page;
 use frame_core::{FixedVec, FrameNo, PageFlags, PageNo, WordOf, ZoneNo};
@@ -85,6 +86,38 @@ impl<const W: usize> Words<W> {
         self.rows[frame.get() as usize] = [0; W];
     }
 
+    /// The words of so many frames, from a first one on, one after the other.
+    pub fn block(&self, first: FrameNo, frames: u32) -> &[u64]
+        requires { first + frames ≤ length self.now }
+        ensures words { result.now ≡ block_words self.now first frames }
+        ensures count { length result.now ≡ frames * W }
+    {
+        let first = first.get() as usize;
+        self.rows[first..first + frames as usize].as_flattened()
+    }
+
+    /// Gives the words of so many frames, one after the other, from one on these values.
+    pub fn store_block(&mut self, first: FrameNo, frames: u32, from: usize, values: &[u64])
+        requires frames { first + frames ≤ length self.old }
+        requires within { from + length values.now ≤ frames * W }
+        ensures stored { HasBlock self.old self.new first frames (put_from (block_words self.old first frames) from values.now) }
+        ensures sized { All (λ row. length row ≡ W) self.new }
+    {
+        let first = first.get() as usize;
+        let rows = &mut self.rows[first..first + frames as usize];
+        copy_over(rows, from, values);
+    }
+
+    /// Sets all words of so many frames to 0.
+    pub fn blank_block(&mut self, first: FrameNo, frames: u32)
+        requires { first + frames ≤ length self.old }
+        ensures blank { HasBlock self.old self.new first frames (replicate (frames * W) 0) }
+        ensures sized { All (λ row. length row ≡ W) self.new }
+    {
+        let first = first.get() as usize;
+        clear(&mut self.rows[first..first + frames as usize]);
+    }
+
     /// The page in a frame: its words with this zone, number and flags.
     #[inline(always)]
     pub fn read_out(
@@ -141,4 +174,27 @@ fn copy_into<const W: usize>(row: &mut [u64; W], from: usize, values: &[u64])
     ensures size { length row.old ≡ W }
 {
     row[..][from..from + values.len()].copy_from_slice(values);
+}
+
+// Gives the words of rows, one after the other, from one on these values.
+fn copy_over<const W: usize>(rows: &mut [[u64; W]], from: usize, values: &[u64])
+    requires within { from + length values.now ≤ length rows.old * W }
+    requires sized { All (λ row. length row ≡ W) rows.old }
+    ensures words { joined rows.new ≡ put_from (joined rows.old) from values.now }
+    ensures rows { length rows.new ≡ length rows.old }
+    ensures sized { All (λ row. length row ≡ W) rows.new }
+{
+    for (place, value) in values.iter().enumerate() {
+        let word = from + place;
+        rows[word / W][word % W] = *value;
+    }
+}
+
+// Sets all words of rows to 0.
+fn clear<const W: usize>(rows: &mut [[u64; W]])
+    ensures { rows.new ≡ replicate (length rows.old) (blank_words W) }
+{
+    for place in 0..rows.len() {
+        rows[place] = [0; W];
+    }
 }

@@ -194,7 +194,7 @@ module _ (zone next : ZoneState) (scan : ScanSeat) (ends : EndSeat) (is_open : B
   at_source : map.get zone.placement take.pair.page ≡ Some (At scans.source)
   at_source = ap (λ (q : OnItsWay). map.get zone.placement q.page.number) (sym take.page) ∙ scans.pair.from.here
 
-  world_is : isolated_by scanning (next_pair zone) ≡ world_of next seat_counted ends is_open (list ++ p ∷ []) held
+  pub world_is : isolated_by scanning (next_pair zone) ≡ world_of next seat_counted ends is_open (list ++ p ∷ []) held
   world_is =
       ap (isolated_by scanning) take.is
       ∙ (λ i. record { zone = sym take.state i; scan = seat_counted; ends = ends; is_open = is_open; waiting = serials_of list ++ sym (ap (λ (q : OnItsWay). q.serial) take.page) i ∷ []; hands = each hand_as held })

@@ -2,11 +2,10 @@
 use Rattle.std.proofs.Common.{◌≡◌, ℕ, ◌+◌, ◌<◌, ◌≤◌, Bool, true, false, List, [], ◌∷◌, ◌++◌, length, ◌⊎◌, inl, inr, refl, sym, subst, ◌∙◌, arith}
 use Rattle.std.specs.Prelude.{Option, Some, None, nat_eq, ◌||◌, if◌then◌else◌}
 use Rattle.std.specs.List.{list_any}
-use Rattle.std.proofs.lemmas.Bool.{eq-eqb, eqb-true, ltb-true, or_cases, or_left, or_right, false_from_ne_true, both_ways}
+use Rattle.std.proofs.lemmas.Bool.{eq-eqb, eqb-true, or_cases, or_left, or_right, false_from_ne_true, both_ways}
 use Rattle.std.proofs.lemmas.List.{length-append}
 use Rattle.journal_core.proofs.OnTheWay.{out_below}
 use Rattle.journal_core.specs.Moves.{isolated, is_out}
-use Rattle.state_core.specs.declared.error.ZoneError.TheVariants.{JournalFull}
 use Rattle.state_core.specs.declared.moves.Next.TheVariants as next
 use Rattle.state_core.specs.declared.round.Pair.{Pair}
 use Rattle.state_core.specs.Lawful.{IsLawful}
@@ -114,10 +113,6 @@ rising_more (x ∷ waiting) n rising below =
       rising_more waiting n rising.1 (λ s h. below s (or_right (nat_eq s x) _ h)),
     )
 
-not_refused : (b : Bool) → (if b then None else Some JournalFull) ≡ None → b ≡ true
-not_refused true e = refl
-not_refused false e = cc
-
 module _ (w : WorldState) (o : IsOrderly w) (is_open : w.is_open ≡ true) (pair : Pair) (law : IsLawful (isolated_next w.zone pair)) (is_pair : IsPair w.zone pair.page pair.source pair.target) where
   abbrev next_serial : ℕ
   next_serial = isolated w.zone.records
@@ -169,4 +164,4 @@ orderly_isolated w o is_open room = by_pair (next_pair w.zone) refl where
   by_pair None e = orderly_noted w (seat_noted w.scan next.Met) o
   by_pair (Some pair) e =
       let is_pair = pair_found w.zone o.lawful pair e in
-      orderly_with_pair w o is_open pair (lawful_isolated w.zone pair o.lawful is_pair (ltb-true _ _ (not_refused _ room))) is_pair
+      orderly_with_pair w o is_open pair (lawful_isolated w.zone pair o.lawful is_pair room) is_pair

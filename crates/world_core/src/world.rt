@@ -5,9 +5,11 @@ ghost use Rattle.std.specs.Int.RustNames.{bit_and};
 ghost use Rattle.zone_core.specs.Books.{AreFor};
 ghost use Rattle.world_core.specs.ErrorNumber.{world_number_of};
 ghost use Rattle.state_core.specs.Isolating.{isolate_refusal};
-ghost use Rattle.zone_core.specs.Seats.{seat_full, audit_refusal};
+ghost use Rattle.zone_core.specs.Seats.{seat_full, audit_refusal, fresh_scan_seat, fresh_end_seat};
 ghost use Rattle.state_core.specs.Pairs.{next_pair};
-ghost use Rattle.state_core.specs.Opening.{IsOpenable};
+ghost use Rattle.journal_core.specs.Journal.{told_places};
+ghost use Rattle.state_core.specs.Lawful.{IsLawful};
+ghost use Rattle.state_core.specs.Opening.{IsOpenable, IsSize, opened_with};
 ghost use Rattle.std.specs.Result.{result_err};
 ghost use Rattle.state_core.specs.Mapping.{map_refusal, map_at_refusal, mapped};
 ghost use Rattle.state_core.specs.Access.{access_refusal, value_at, loaded, stored};
@@ -100,6 +102,45 @@ impl<const W: usize, I: Ledger, N: Ledger, M: Ledger, B: Ledger> World<W, I, N, 
         ensures orderly { IfOk result (λ world. IsOrderly world) }
     {
         let (zone, scan, ends) = ZoneOf::open(alloc, number, blocks, places, blanks)?;
+        Self::around(alloc, blocks, zone, scan, ends)
+    }
+
+    /// A world with an empty zone whose journal is told: no memory has its records, and it has room for 2^53 of them.
+    ///
+    /// Refused as Range unless there are 1 to 8 pageblocks, else as Memory where there isn't enough.
+    pub fn open_told(
+        alloc: Global,
+        number: ZoneNo,
+        blocks: u32,
+        blanks: Blanks,
+    ) -> Result<World<W, I, N, M, B>, ZoneError>
+        requires blanks { AreFor blanks I.name I.parts N.name N.parts M.name M.parts B.name B.parts }
+        requires size { W ≤ 65536 }
+        ensures range { ¬ (IsSize blocks) → result ≡ Err ZoneError.Range }
+        ensures memory { IsSize blocks → IfErr result (λ error. error ≡ ZoneError.Memory) }
+        ensures ok { IfOk result (λ world. world ≡ world_opened_with W number blocks told_places) }
+        ensures orderly { IfOk result (λ world. IsOrderly world) }
+    {
+        let (zone, scan, ends) = ZoneOf::open_told(alloc, number, blocks, blanks)?;
+        Self::around(alloc, blocks, zone, scan, ends)
+    }
+
+    /// A world around a zone that was just opened.
+    fn around(
+        alloc: Global,
+        blocks: u32,
+        zone: ZoneOf<W, I, M, B>,
+        scan: ScanSeat<I, N>,
+        ends: EndSeat<M, B>,
+    ) -> Result<World<W, I, N, M, B>, ZoneError>
+        requires zone { (number places : ℕ) × (zone ≡ opened_with W number blocks places) }
+        requires lawful { IsLawful zone }
+        requires scan { scan ≡ fresh_scan_seat }
+        requires ends { ends ≡ fresh_end_seat }
+        ensures memory { IfErr result (λ error. error ≡ ZoneError.Memory) }
+        ensures ok { IfOk result (λ world. world ≡ world_closed zone fresh_scan_seat fresh_end_seat) }
+        ensures orderly { IfOk result (λ world. IsOrderly world) }
+    {
         let Ok(waiting) = VecDeque::with_capacity(alloc, 256 * blocks as usize) else {
             return Err(ZoneError::Memory);
         };

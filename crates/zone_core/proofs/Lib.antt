@@ -1,3 +1,4 @@
 pub mod ScannersMet
 pub mod Seated
 mod WordsAtOnce
+pub mod Sent

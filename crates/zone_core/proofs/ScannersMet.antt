@@ -10,9 +10,11 @@ use Rattle.journal_core.specs.Moves.{isolated}
 use Rattle.state_core.specs.declared.round.RoundStart.{RoundStart}
 use Rattle.state_core.specs.Access.{loaded, stored, value_at}
 use Rattle.state_core.specs.Bulk.{loaded_all, stored_all}
+use Rattle.state_core.specs.Contents.{contents_written}
 use Rattle.state_core.specs.Pairs.{HaveMet}
 use Rattle.state_core.specs.Unmapping.{is_last, unmapped, without_page}
 use Rattle.state_core.specs.ZoneState.{ZoneState, is_quiet, is_quiet_since, keeps_quiet, noted}
+use Rattle.state_core.proofs.Contents.{met_contents_written}
 use Rattle.state_core.proofs.Quiet.{begun_more, quiet_ended, quiet_kept}
 use Rattle.state_core.proofs.StaysMet.{met_loaded, met_stored}
 use Rattle.zone_core.specs.Books.{IsScanned}
@@ -94,6 +96,14 @@ module _ (total : ℕ) (v w : ZoneState) (client : ℕ) (address : Address) (beg
   scanned_unmapped =
       let page = unwrap_or (page_at v.records address) 0 in
       scanned_loud total v (unmapped v client address) w (Unmap client address) begun scanned step (same_records (is_last v address) page) (same_round (is_last v address) page) refl refl
+
+-- words that are written into a block that is handed out
+pub scanned_written : (total : ℕ) (v : ZoneState) (first from : ℕ) (values : List ℕ) → IsScanned total v → IsScanned total (contents_written v first from values)
+scanned_written total v first from values scanned = record {
+  last = scanned.last;
+  counted = scanned.counted;
+  met = λ met quiet. met_contents_written v first from values (scanned.met met quiet);
+}
 
 -- words that are loaded and stored, one after the other
 module _ (total client : ℕ) (address : Address) where

@@ -1,6 +1,6 @@
 //! Reading and writing several words of a page in one call.
 
-ghost use Rattle.std.specs.Prelude.{◌≡◌, length, OnOk, OnErr};
+ghost use Rattle.std.specs.Prelude.{◌≡◌, ◌+◌, ◌≤◌, length, OnOk, OnErr};
 ghost use Rattle.std.specs.Result.{result_err};
 ghost use Rattle.state_core.specs.Bulk.{bulk_refusal, values_at, loaded_all, stored_all};
 ghost use Rattle.state_core.specs.Lawful.{IsLawful};
@@ -27,6 +27,7 @@ impl<const W: usize, I: Ledger, M: Ledger, B: Ledger> Zone<W, I, M, B> {
     ) -> Result<(), ZoneError>
         ensures refused { result_err result ≡ bulk_refusal self.old address from.entry (length values.old) }
         ensures err { OnErr result ((self.new ≡ self.old) × (values.new ≡ values.old)) }
+        ensures within { OnOk result (from.entry + length values.old ≤ W) }
         ensures values { OnOk result (values.new ≡ values_at self.old address from.entry (length values.old)) }
         ensures ok { OnOk result (self.new ≡ loaded_all self.old client address from.entry (length values.old)) }
         ensures met { OnOk result (HaveMet self.old → HaveMet self.new) }
@@ -51,6 +52,7 @@ impl<const W: usize, I: Ledger, M: Ledger, B: Ledger> Zone<W, I, M, B> {
     ) -> Result<(), ZoneError>
         ensures refused { result_err result ≡ bulk_refusal self.old address from.entry (length values.now) }
         ensures err { OnErr result (self.new ≡ self.old) }
+        ensures within { OnOk result (from.entry + length values.now ≤ W) }
         ensures ok { OnOk result (self.new ≡ stored_all self.old client address from.entry values.now) }
         ensures met { OnOk result (HaveMet self.old → HaveMet self.new) }
         ensures shape { HasShape self.old.number self.old.blocks self.new }

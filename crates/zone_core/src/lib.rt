@@ -12,6 +12,7 @@
 
 mod blocks;
 mod bulk;
+mod contents;
 mod seats;
 mod sharing;
 mod tables;

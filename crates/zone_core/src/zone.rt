@@ -14,7 +14,7 @@ ghost use Rattle.zone_core.specs.Seats.{IsFollowed, seat_begun, seat_full, seat_
 ghost use Rattle.state_core.specs.Packed.{IsPacked, IsPlacement, unmarked_free, marked_whole, free_runs, left_whole, left_runs, places_now};
 ghost use Rattle.state_core.specs.Pairs.{HaveMet, is_calm, next_pair};
 ghost use Rattle.state_core.specs.Swept.{IsSwept};
-ghost use Rattle.state_core.specs.Opening.{IsOpenable, opened_with};
+ghost use Rattle.state_core.specs.Opening.{IsOpenable, IsSize, opened_told, opened_with};
 ghost use Rattle.std.specs.Result.{result_err};
 ghost use Rattle.state_core.specs.Mapping.{map_refusal, map_at_refusal, mapped};
 ghost use Rattle.state_core.specs.Access.{access_refusal, value_at, loaded, stored};
@@ -37,6 +37,9 @@ use word_core::{CopiedOf, IsolatedOf};
 ///
 /// Each call says what it may be refused as, in the order of the tests. A refused call leaves the zone as it was. JournalFull
 /// means that the journal has no more places left than pages are moving, since the end of each move needs a place.
+///
+/// A zone is opened in one of two kinds, and every clause is for both. `open` keeps each record of the journal, in 65,536 places at
+/// most. `open_told` keeps none of them: they exist for contracts alone, and there is room for 2^53.
 #[derive(Drop)]
 pub struct Zone<const W: usize, I: Ledger, M: Ledger, B: Ledger> {
     pub(crate) plain: PlainZone<W>,
@@ -85,6 +88,32 @@ impl<const W: usize, I: Ledger, M: Ledger, B: Ledger> Zone<W, I, M, B> {
             return Err(ZoneError::Range);
         }
         let plain = PlainZone::open(alloc, number, blocks, places)?;
+        Ok(Self::seated(plain, blanks))
+    }
+
+    /// An empty zone whose journal is told, as `open` gives one whose journal is kept. Contracts see each record, and no memory has
+    /// them: the journal has room for 2^53. A zone isolates at most 2^32 - 1 pages in its life.
+    ///
+    /// Refused as Range unless there are 1 to 8 pageblocks, else as Memory where there isn't enough.
+    pub fn open_told<N: Ledger>(
+        alloc: Global,
+        number: ZoneNo,
+        blocks: u32,
+        blanks: Blanks,
+    ) -> Result<(Zone<W, I, M, B>, ScanSeat<I, N>, EndSeat<M, B>), ZoneError>
+        requires blanks { AreFor blanks I.name I.parts N.name N.parts M.name M.parts B.name B.parts }
+        requires size { W ≤ 65536 }
+        ensures range { ¬ (IsSize blocks) → result ≡ Err ZoneError.Range }
+        ensures memory { IsSize blocks → IfErr result (λ error. error ≡ ZoneError.Memory) }
+        ensures zone { IfOk result (λ opening. opening.0 ≡ opened_told W number blocks) }
+        ensures scan { IfOk result (λ opening. opening.1 ≡ fresh_scan_seat) }
+        ensures ends { IfOk result (λ opening. opening.2 ≡ fresh_end_seat) }
+        ensures lawful { IfOk result (λ opening. IsLawful opening.0) }
+    {
+        if blocks < 1 || blocks > 8 {
+            return Err(ZoneError::Range);
+        }
+        let plain = PlainZone::open_told(alloc, number, blocks)?;
         Ok(Self::seated(plain, blanks))
     }
 
@@ -264,7 +293,8 @@ impl<const W: usize, I: Ledger, M: Ledger, B: Ledger> Zone<W, I, M, B> {
     /// Isolates the page of the lowest source and notes the highest free frame above it as its target, both in unmarked pageblocks
     /// between the fingers. The page is moving from here on. The seat counts it, and notes each answer.
     ///
-    /// Refused as JournalFull unless the journal has at least two places more than pages are moving. The seat notes this too.
+    /// Refused as JournalFull unless the journal has at least two places more than pages are moving, and a serial is left: the
+    /// last one is 2^32 - 2. The seat notes this too.
     #[inline(always)]
     pub fn isolate_next<N: Ledger>(
         &mut self,
@@ -279,7 +309,7 @@ impl<const W: usize, I: Ledger, M: Ledger, B: Ledger> Zone<W, I, M, B> {
         // Where the scanners of a quiet round meet and no page is out, the zone is packed.
         ensures packed { result ≡ Ok Next.Met → is_quiet self.new ≡ true → length (out self.new.records) ≡ 0 → IsPacked self.new }
         ensures serial { seat.old.count ≡ isolated self.old.records }
-        // A page is never given the highest serial, since a journal has fewer places than there are serials.
+        // A page is never given the highest serial.
         ensures followed { IfOk result IsFollowed }
         ensures seat { IfOk result (λ next. seat.new ≡ seat_noted seat.old next) }
         ensures full { OnErr result (seat.new ≡ seat_full seat.old) }
@@ -287,7 +317,7 @@ impl<const W: usize, I: Ledger, M: Ledger, B: Ledger> Zone<W, I, M, B> {
         ensures lawful { IsLawful self.new }
     {
         seat.tell(&mut self.isolated);
-        if !self.plain.has_room_for_two() {
+        if !self.plain.has_room_for_two() || !self.plain.has_serial() {
             seat.note(&mut self.isolated, Answered::JournalFull);
             return Err(ZoneError::JournalFull);
         }

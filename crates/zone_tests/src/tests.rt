@@ -1,5 +1,6 @@
 ghost use Rattle.std.specs.Prelude.{◌≡◌};
 
+mod contents;
 mod counts;
 mod draws;
 mod lists;

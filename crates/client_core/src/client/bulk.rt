@@ -1,30 +1,34 @@
 //! Reading and writing several words of a page in one call of a client.
 
-ghost use Rattle.std.specs.Prelude.{◌≡◌, ◌≢◌, ℕ, ◌+◌, ◌≤◌, List, ◌++◌, Option, length, drop, reverse, vec_len, vec_capacity, IfOk, IfErr, OnOk, OnErr};
+ghost use Rattle.std.specs.Prelude.{◌≡◌, ◌≢◌, ℕ, ◌+◌, ◌≤◌, List, ◌++◌, Option, length, IfOk, IfErr, OnOk, OnErr};
 ghost use Rattle.std.specs.Result.{result_err};
-ghost use Rattle.journal_core.specs.declared.record.Record.{Record};
+ghost use Rattle.journal_core.specs.Access.{access_record};
+ghost use Rattle.journal_core.specs.declared.access.Access.{Access};
+ghost use Rattle.journal_core.specs.declared.access.AccessKind.TheVariants as kind;
+ghost use Rattle.journal_core.specs.declared.record.Record.TheVariants.{Load, Store};
 ghost use Rattle.halves_core.specs.Told.{pair_of};
 ghost use Rattle.state_core.specs.declared.error.ZoneError.{ZoneError};
 ghost use Rattle.state_core.specs.Bulk.{bulk_refusal, stored_all};
 ghost use Rattle.state_core.specs.Lawful.{IsLawful};
 ghost use Rattle.state_core.specs.ZoneState.{ZoneState};
 ghost use Rattle.zone_core.specs.Shape.{HasShape};
-ghost use Rattle.client_core.specs.Bulk.{AreCalls, loads_of, reading, stores_of, written_all};
+ghost use Rattle.client_core.specs.Bulk.{AreCalls, reading, records_each, written_all};
 ghost use Rattle.client_core.specs.Calls.{IsAccepted, IsFailed, IsRefused, leaving};
 ghost use Rattle.client_core.specs.Receipts.{with_receipts};
 
 use crate::client::Client;
 use crate::error::ClientError;
+use crate::receipts::Receipts;
 use crate::telling::Telling;
 use frame_core::{Address, ClientNo, WordNo};
 use halves_core::{Slip, Stub, write_both};
-use journal_core::{Journal, Record};
+use journal_core::{Access, AccessKind};
 use round_core::{Keeping, KeptZone, Room};
 use std::sync::Wait;
 use std::sync::ledger::Ledger;
 use zone_core::{Zone, ZoneError};
 
-impl<J: Telling> Client<J> {
+impl<J: Telling, T: Receipts> Client<J, T> {
     /// Reads words of the page that an address names, from one on, into `values`, in one call. It has a receipt for each word, as
     /// loads of these words have, one after the other.
     ///
@@ -39,13 +43,13 @@ impl<J: Telling> Client<J> {
         values: &mut [u64],
     ) -> Result<(), ClientError>
         requires allows { K.allows self.old.number J.pair }
-        ensures ok { OnOk result (self.new ≡ with_receipts self.old (loads_of self.old.number address from values.new)) }
+        ensures ok { OnOk result (self.new ≡ with_receipts self.old (records_each (Load self.old.number address) from values.new)) }
         ensures accepted { OnOk result (IsAccepted (λ zone. bulk_refusal zone address from (length values.old)) (reading self.old.number address from (length values.old)) values.new) }
         ensures err { OnErr result ((self.new ≡ self.old) × (values.new ≡ values.old)) }
-        ensures refused { IfErr result (IsFailed (λ zone. bulk_refusal zone address from (length values.old))) }
+        ensures refused { IfErr result (IsFailed T.takes_memory (λ zone. bulk_refusal zone address from (length values.old))) }
         ensures there { IfErr result (λ error. error ≢ ClientError.Zone ZoneError.Moving) }
     {
-        self.receipts.reserve(values.len())?;
+        self.receipts.make_room(values.len())?;
         let call = Read {
             client: self.number,
             address,
@@ -76,13 +80,13 @@ impl<J: Telling> Client<J> {
         values: &[u64],
     ) -> Result<(), ClientError>
         requires allows { K.allows self.old.number J.pair }
-        ensures ok { OnOk result (self.new ≡ with_receipts self.old (stores_of self.old.number address from values.now)) }
+        ensures ok { OnOk result (self.new ≡ with_receipts self.old (records_each (Store self.old.number address) from values.now)) }
         ensures accepted { IfOk result (IsAccepted (λ zone. bulk_refusal zone address from (length values.now)) (leaving (λ zone. stored_all zone self.old.number address from values.now))) }
         ensures err { OnErr result (self.new ≡ self.old) }
-        ensures refused { IfErr result (IsFailed (λ zone. bulk_refusal zone address from (length values.now))) }
+        ensures refused { IfErr result (IsFailed T.takes_memory (λ zone. bulk_refusal zone address from (length values.now))) }
         ensures there { IfErr result (λ error. error ≢ ClientError.Zone ZoneError.Moving) }
     {
-        self.receipts.reserve(values.len())?;
+        self.receipts.make_room(values.len())?;
         let call = Write {
             client: self.number,
             address,
@@ -101,22 +105,29 @@ impl<J: Telling> Client<J> {
     }
 }
 
-/// A call of a client that reads or writes several words, and may be made of any zone.
+/// A call of a client that accesses words of a page, from one on, and may be made of any zone.
 trait Bulk {
-    /// The number of the client that makes the call.
-    ghost caller: { Self → ℕ };
+    ghost access: { Self → Access };
 
-    /// How many words it reads or writes, where there is room to read so many.
-    ghost count: { Self → ℕ → ℕ };
+    ghost from: { Self → ℕ };
 
-    /// Why a zone refuses the call, if it does, where there is room to read so many words.
-    ghost refusal: { Self → ℕ → ZoneState → Option ZoneError };
+    /// The values of the words that the call accesses, where these are the words that it reads.
+    ghost values: { Self → List ℕ → List ℕ };
 
     /// What a zone that accepts the call makes of the words, and what the zone is afterwards.
     ghost leaves: { Self → List ℕ → ZoneState → List ℕ → ZoneState → Type 0 };
 
-    /// The receipts of the call, the oldest first, where these are the words afterwards.
-    ghost receipts: { Self → List ℕ → List Record };
+    /// How the words are accessed.
+    fn access(&self) -> Access
+        ensures { result ≡ access self.now };
+
+    /// The first of the words.
+    fn from(&self) -> u16
+        ensures { result ≡ from self.now };
+
+    /// The values of the words, where these are the words that were read.
+    fn values<'a>(&'a self, words: &'a [u64]) -> &'a [u64]
+        ensures { result.now ≡ values self.now words.now };
 
     /// Makes the call, and puts what it reads into `words`.
     fn make<I: Ledger, M: Ledger, B: Ledger>(
@@ -125,11 +136,12 @@ trait Bulk {
         words: &mut [u64],
     ) -> Result<(), ZoneError>
         requires lawful { IsLawful zone.old }
-        ensures refused { result_err result ≡ refusal self.now (length words.old) zone.old }
+        ensures refused { result_err result ≡ bulk_refusal zone.old (access self.now).address (from self.now) (length (values self.now words.old)) }
         ensures err { OnErr result ((zone.new ≡ zone.old) × (words.new ≡ words.old)) }
         ensures accepted { OnOk result (leaves self.now words.old zone.old words.new zone.new) }
-        ensures calls { OnOk result (AreCalls (caller self.now) (receipts self.now words.new) zone.old zone.new) }
-        ensures count { OnOk result (length (receipts self.now words.new) ≡ count self.now (length words.old)) }
+        ensures calls { OnOk result (AreCalls (access self.now).client (records_each (access_record (access self.now)) (from self.now) (values self.now words.new)) zone.old zone.new) }
+        ensures within { OnOk result (from self.now + length (values self.now words.new) ≤ 65536) }
+        ensures count { OnOk result (length (values self.now words.new) ≡ length (values self.now words.old)) }
         ensures shape { HasShape zone.old.number zone.old.blocks zone.new }
         ensures lawful { IsLawful zone.new };
 }
@@ -142,15 +154,29 @@ struct Read {
 }
 
 impl Bulk for Read {
-    ghost caller = { λ call. call.client };
+    ghost access = { λ call. record { kind = kind.Load; client = call.client; address = call.address } };
 
-    ghost count = { λ call room. room };
+    ghost from = { λ call. call.from };
 
-    ghost refusal = { λ call room zone. bulk_refusal zone call.address call.from room };
+    ghost values = { λ call words. words };
 
     ghost leaves = { λ call words. reading call.client call.address call.from (length words) };
 
-    ghost receipts = { λ call words. loads_of call.client call.address call.from words };
+    fn access(&self) -> Access {
+        Access {
+            kind: AccessKind::Load,
+            client: self.client,
+            address: self.address,
+        }
+    }
+
+    fn from(&self) -> u16 {
+        self.from.noted()
+    }
+
+    fn values<'a>(&'a self, words: &'a [u64]) -> &'a [u64] {
+        words
+    }
 
     fn make<I: Ledger, M: Ledger, B: Ledger>(
         &self,
@@ -162,23 +188,37 @@ impl Bulk for Read {
 }
 
 #[derive(Clone, Copy)]
-struct Write<'a> {
+struct Write<'w> {
     client: ClientNo,
     address: Address,
     from: WordNo,
-    values: &'a [u64],
+    values: &'w [u64],
 }
 
 impl Bulk for Write<'_> {
-    ghost caller = { λ call. call.client };
+    ghost access = { λ call. record { kind = kind.Store; client = call.client; address = call.address } };
 
-    ghost count = { λ call room. length call.values.now };
+    ghost from = { λ call. call.from };
 
-    ghost refusal = { λ call room zone. bulk_refusal zone call.address call.from (length call.values.now) };
+    ghost values = { λ call words. call.values.now };
 
     ghost leaves = { λ call words zone words_new zone_new. zone_new ≡ stored_all zone call.client call.address call.from call.values.now };
 
-    ghost receipts = { λ call words. stores_of call.client call.address call.from call.values.now };
+    fn access(&self) -> Access {
+        Access {
+            kind: AccessKind::Store,
+            client: self.client,
+            address: self.address,
+        }
+    }
+
+    fn from(&self) -> u16 {
+        self.from.noted()
+    }
+
+    fn values<'a>(&'a self, _words: &'a [u64]) -> &'a [u64] {
+        self.values
+    }
 
     fn make<I: Ledger, M: Ledger, B: Ledger>(
         &self,
@@ -191,26 +231,26 @@ impl Bulk for Write<'_> {
 
 /// Makes a call under the lock of a zone. While its page is moving, it waits until a move has ended and makes the call again. The
 /// receipts of an accepted call are added, and written on the client's slip too.
-fn all_once_there<C: Bulk, K: Keeping, I: Ledger, M: Ledger, B: Ledger, R: Wait>(
+fn all_once_there<C: Bulk, T: Receipts, K: Keeping, I: Ledger, M: Ledger, B: Ledger, R: Wait>(
     rt: &R,
     shared: &KeptZone<K, I, M, B>,
     call: &C,
     words: &mut [u64],
     slip: &mut Option<Slip>,
-    receipts: &mut Vec<Record>,
+    receipts: &mut T,
 ) -> Result<(), ZoneError>
-    requires allows { K.allows (C.caller call.now) (pair_of slip.old) }
-    requires places { vec_len receipts.old + C.count call.now (length words.old) ≤ vec_capacity receipts.old }
-    ensures accepted { OnOk result (IsAccepted (C.refusal call.now (length words.old)) (C.leaves call.now words.old) words.new) }
-    ensures receipts { OnOk result (receipts.new.items ≡ receipts.old.items ++ C.receipts call.now words.new) }
-    ensures slip { OnOk result (slip.new ≡ written_all (C.receipts call.now words.new) slip.old) }
-    ensures err { OnErr result ((words.new ≡ words.old) × (slip.new ≡ slip.old) × (receipts.new.items ≡ receipts.old.items)) }
-    ensures refused { IfErr result (IsRefused (C.refusal call.now (length words.old))) }
+    requires allows { K.allows (C.access call.now).client (pair_of slip.old) }
+    requires places { T.has_room receipts.old (length (C.values call.now words.old)) }
+    ensures accepted { OnOk result (IsAccepted (λ zone. bulk_refusal zone (C.access call.now).address (C.from call.now) (length (C.values call.now words.old))) (C.leaves call.now words.old) words.new) }
+    ensures receipts { OnOk result (T.items receipts.new ≡ T.items receipts.old ++ records_each (access_record (C.access call.now)) (C.from call.now) (C.values call.now words.new)) }
+    ensures slip { OnOk result (slip.new ≡ written_all (records_each (access_record (C.access call.now)) (C.from call.now) (C.values call.now words.new)) slip.old) }
+    ensures err { OnErr result ((words.new ≡ words.old) × (slip.new ≡ slip.old) × (T.items receipts.new ≡ T.items receipts.old)) }
+    ensures refused { IfErr result (IsRefused (λ zone. bulk_refusal zone (C.access call.now).address (C.from call.now) (length (C.values call.now words.old)))) }
     ensures there { IfErr result (λ refusal. refusal ≢ ZoneError.Moving) }
 {
     let mut room = shared.lock(rt);
     for _ in rt.forever() {
-        match make_all::<C, K, I, M, B>(call, &mut room, words, slip, receipts) {
+        match make_all::<C, T, K, I, M, B>(call, &mut room, words, slip, receipts) {
             Err(ZoneError::Moving) => room = shared.wait_for_end(rt, room),
             answer => return answer,
         }
@@ -219,47 +259,47 @@ fn all_once_there<C: Bulk, K: Keeping, I: Ledger, M: Ledger, B: Ledger, R: Wait>
 }
 
 /// Makes a call while the lock of a zone is held. The receipts of an accepted call are added, and written on the client's slip too.
-fn make_all<C: Bulk, K: Keeping, I: Ledger, M: Ledger, B: Ledger>(
+fn make_all<C: Bulk, T: Receipts, K: Keeping, I: Ledger, M: Ledger, B: Ledger>(
     call: &C,
     room: &mut Room<K, I, M, B>,
     words: &mut [u64],
     slip: &mut Option<Slip>,
-    receipts: &mut Vec<Record>,
+    receipts: &mut T,
 ) -> Result<(), ZoneError>
-    requires allows { K.allows (C.caller call.now) (pair_of slip.old) }
-    requires places { vec_len receipts.old + C.count call.now (length words.old) ≤ vec_capacity receipts.old }
+    requires allows { K.allows (C.access call.now).client (pair_of slip.old) }
+    requires places { T.has_room receipts.old (length (C.values call.now words.old)) }
     ensures lawful { IsLawful room.old }
-    ensures refused { result_err result ≡ C.refusal call.now (length words.old) room.old }
+    ensures refused { result_err result ≡ bulk_refusal room.old (C.access call.now).address (C.from call.now) (length (C.values call.now words.old)) }
     ensures accepted { OnOk result (C.leaves call.now words.old room.old words.new room.new) }
-    ensures receipts { OnOk result (receipts.new.items ≡ receipts.old.items ++ C.receipts call.now words.new) }
-    ensures slip { OnOk result (slip.new ≡ written_all (C.receipts call.now words.new) slip.old) }
+    ensures receipts { OnOk result (T.items receipts.new ≡ T.items receipts.old ++ records_each (access_record (C.access call.now)) (C.from call.now) (C.values call.now words.new)) }
+    ensures slip { OnOk result (slip.new ≡ written_all (records_each (access_record (C.access call.now)) (C.from call.now) (C.values call.now words.new)) slip.old) }
     ensures err { OnErr result ((words.new ≡ words.old) × (slip.new ≡ slip.old) × (receipts.new ≡ receipts.old)) }
 {
-    let before = room.zone.journal().len();
     call.make(&mut room.zone, words)?;
-    keep_records(room.zone.journal(), before, &mut room.stub, slip, receipts);
+    let (access, from, values) = (call.access(), call.from(), call.values(words));
+    write_each(&access, from, values, &mut room.stub, slip);
+    receipts.add_each(&access, from, values);
     Ok(())
 }
 
-/// Adds the records that a journal has from a place on to the receipts, and writes them on both halves of a pair, where there is one.
-fn keep_records(
-    journal: &Journal,
-    from: usize,
+/// Writes the records of an access to the words from one on, with these values, on both halves of a pair, where there is one.
+fn write_each(
+    access: &Access,
+    from: u16,
+    values: &[u64],
     stub: &mut Option<Stub>,
     slip: &mut Option<Slip>,
-    receipts: &mut Vec<Record>,
 )
+    requires words { from + length values.now ≤ 65536 }
     requires pair { pair_of slip.old ≡ pair_of stub.old }
-    requires places { vec_len receipts.old + length (drop from (reverse journal.now.records)) ≤ vec_capacity receipts.old }
-    ensures receipts { receipts.new.items ≡ receipts.old.items ++ drop from (reverse journal.now.records) }
-    ensures stub { stub.new ≡ written_all (drop from (reverse journal.now.records)) stub.old }
-    ensures slip { slip.new ≡ written_all (drop from (reverse journal.now.records)) slip.old }
+    ensures stub { stub.new ≡ written_all (records_each (access_record access.now) from values.now) stub.old }
+    ensures slip { slip.new ≡ written_all (records_each (access_record access.now) from values.now) slip.old }
 {
-    for place in from..journal.len() {
-        let Some(entry) = journal.get(place) else {
-            unreachable!();
-        };
-        write_both(stub, slip, entry);
-        receipts.push_reserved(*entry);
+    if stub.is_none() {
+        return;
+    }
+    for offset in 0..values.len() {
+        let receipt = access.record(from + offset as u16, values[offset]);
+        write_both(stub, slip, &receipt);
     }
 }

@@ -11,7 +11,7 @@ use crate::shape::Shape;
 use crate::shared_zone::SharedZone;
 use frame_core::{Address, ClientNo, PageFlags, SpaceNo, VPage, ZoneNo};
 use hand_core::{Taker, Took, open_in_handfuls};
-use journal_core::{Cause, Journal, Record};
+use journal_core::{Cause, Record};
 use std::collections::VecDeque;
 use std::marker::Brand;
 use std::process::Abort;
@@ -104,16 +104,16 @@ fn scan_for_nobody<
 }
 
 /// The pages of the second burst were put back first, in their order, and then those of the first.
-fn assert_put_back(rt: &impl Abort, journal: &Journal) {
+fn assert_put_back(rt: &impl Abort, records: &[Record]) {
     for number in 0..2 * BURST {
         let back = Record::Back {
             serial: (BURST + number) % (2 * BURST),
             cause: Cause::NotCopied,
         };
         let place = (PAGES + 2 * BURST + number) as usize;
-        assert!(rt; journal.get(place) == Some(&back));
+        assert!(rt; records.get(place) == Some(&back));
     }
-    assert!(rt; journal.len() == (PAGES + 4 * BURST) as usize);
+    assert!(rt; records.len() == (PAGES + 4 * BURST) as usize);
 }
 
 fn puts_back<K: Shape, I: Ledger, N: Ledger, M: Ledger, B: Ledger, R: Wait + Abort + AllocGlobal>(
@@ -135,7 +135,7 @@ fn puts_back<K: Shape, I: Ledger, N: Ledger, M: Ledger, B: Ledger, R: Wait + Abo
         back: 2 * BURST,
     };
     assert!(rt; zone.audit(&mut scan, &mut ends) == Ok(all));
-    assert_put_back(rt, zone.journal());
+    assert_put_back(rt, zone.journal().kept().expect(rt, "a kept journal"));
 }
 
 #[test]

@@ -20,8 +20,22 @@ pub enum Call {
     Unmap(u32),
     Load(u32, u32),
     Store(u32, u32, u64),
+    /// Eight words, from one on.
+    Read(u32, u32),
+    /// The same value in eight words, from one on.
+    Write(u32, u32, u64),
     Pin(u32),
     Unpin(u32),
+}
+
+impl Call {
+    /// How many receipts it has where it is accepted.
+    pub fn receipts(&self) -> usize {
+        match self {
+            Call::Read(..) | Call::Write(..) => 8,
+            _ => 1,
+        }
+    }
 }
 
 /// What a call of a client answers.
@@ -30,6 +44,7 @@ pub enum Answer {
     Done,
     Frame(u32),
     Value(u64),
+    Values([u64; 8]),
     Refused(ZoneError),
     NoMemory,
 }
@@ -62,6 +77,25 @@ fn valued(answer: Result<u64, ClientError>) -> Answer {
     }
 }
 
+/// Reads eight words, from one on.
+fn read<K: Shape, I: Ledger, M: Ledger, B: Ledger, R: Wait + Abort>(
+    rt: &R,
+    shared: &SharedZone<K, I, M, B>,
+    client: &mut Client,
+    at: u32,
+    from: u32,
+) -> Answer {
+    let mut values = [9; 8];
+    let answer = client.read(rt, shared, address(rt, at), word(rt, from), &mut values);
+    match answer {
+        Ok(()) => Answer::Values(values),
+        Err(error) => {
+            assert!(rt; values == [9; 8]);
+            refusal(error)
+        }
+    }
+}
+
 /// Makes a call.
 pub fn made<K: Shape, I: Ledger, M: Ledger, B: Ledger, R: Wait + Abort>(
     rt: &R,
@@ -87,6 +121,11 @@ pub fn made<K: Shape, I: Ledger, M: Ledger, B: Ledger, R: Wait + Abort>(
         }
         Call::Store(at, number, value) => {
             done(client.store(rt, shared, address(rt, at), word(rt, number), value))
+        }
+        Call::Read(at, from) => read(rt, shared, client, at, from),
+        Call::Write(at, from, value) => {
+            let values = [value; 8];
+            done(client.write(rt, shared, address(rt, at), word(rt, from), &values))
         }
         Call::Pin(at) => done(client.pin(rt, shared, address(rt, at))),
         Call::Unpin(at) => done(client.unpin(rt, shared, address(rt, at))),

@@ -1,4 +1,4 @@
-use super::calls::{Answer, Call, play};
+use super::calls::{Answer, Call, made, play};
 use super::gates::{Holds, comes_above};
 use super::opening::{Opening, counts_of, mismatch, round_of, settled};
 use super::{Trial, client_number, tries};
@@ -47,6 +47,25 @@ fn uses<K: Shape, I: Ledger, M: Ledger, B: Ledger, R: Wait + Abort>(
             (Call::Load(at, word), Answer::Value(value)),
         ];
         play(rt, shared, &mut client, &table);
+    }
+    client
+}
+
+/// Writes all words of a page and reads them, 100 times. A read finds the words of one write.
+fn uses_whole_pages<K: Shape, I: Ledger, M: Ledger, B: Ledger, R: Wait + Abort>(
+    rt: &R,
+    shared: &SharedZone<K, I, M, B>,
+    mut client: Client,
+    at: u32,
+    own: u32,
+) -> Client {
+    for turn in 0..100 {
+        let write = (Call::Write(at, 0, u64::from(own) + turn), Answer::Done);
+        play(rt, shared, &mut client, &[write]);
+        let Answer::Values(words) = made(rt, shared, &mut client, Call::Read(at, 0)) else {
+            panic!(rt; "the words can be read");
+        };
+        assert!(rt; words == [words[0]; 8]);
     }
     client
 }
@@ -147,7 +166,7 @@ impl<
                 round_of(rt, lock, &mut seats, copiers, 8, gate)
             },
         );
-        assert!(rt; user.receipts().len() == 1);
+        assert!(rt; user.receipts().len() == calling.0.receipts());
         assert!(rt; settled(rt, &shared, &[keeper, user]) == Ok(()));
         gate.assert_let_go(rt);
         let (_base, count, moved, back) = counts_of(rt, round);
@@ -226,6 +245,33 @@ impl<
         assert!(rt; settled(rt, &shared, &fresh) == mismatch(rt, 1, 0));
     }
 
+    /// Two clients write and read all words of one page, while rounds move it with 63 others.
+    pub fn uses_whole_pages<R: Threads + Wait + Abort + AllocGlobal + Sync>(mut self, rt: &R) {
+        self.fill(rt, 64);
+        let Opening {
+            shared,
+            mut seats,
+            keeper,
+        } = self;
+        let (first, second) = (client(rt, 1), client(rt, 2));
+        let lock = &shared;
+        let ((first, second), counts) = join(
+            rt,
+            move || -> (Client, Client) {
+                join(
+                    rt,
+                    move || -> Client { uses_whole_pages(rt, lock, first, 0, 1000) },
+                    move || -> Client { uses_whole_pages(rt, lock, second, 0, 2000) },
+                )
+            },
+            move || -> [(u32, u32, u32, u32); 3] { three_rounds(rt, lock, &mut seats) },
+        );
+        assert!(rt; counts == [(0, 64, 64, 0), (64, 0, 0, 0), (64, 0, 0, 0)]);
+        assert!(rt; (first.receipts().len(), second.receipts().len()) == (1600, 1600));
+        let clients = [keeper, first, second];
+        assert!(rt; settled(rt, &shared, &clients) == Ok(()));
+    }
+
     /// Four clients share 64 pages, with two words each in a page, while a round of four copiers moves the pages.
     pub fn uses_own_words<R: Threads + Wait + Abort + AllocGlobal + Sync>(mut self, rt: &R) {
         self.fill(rt, 64);
@@ -277,6 +323,8 @@ fn a_client_waits_for_a_page_on_its_way(rt: HostRuntime) {
     for (call, answer) in [
         (Call::Load(0, 7), Answer::Value(5)),
         (Call::Store(0, 7, 6), Answer::Done),
+        (Call::Read(0, 0), Answer::Values([0, 0, 0, 0, 0, 0, 0, 5])),
+        (Call::Write(0, 0, 6), Answer::Done),
         (Call::Share(0, 1), Answer::Done),
         (Call::Unmap(0), Answer::Done),
     ] {
@@ -287,6 +335,11 @@ fn a_client_waits_for_a_page_on_its_way(rt: HostRuntime) {
 #[test]
 fn two_clients_share_a_page_that_moves(rt: HostRuntime) {
     tries(&rt, 1, 65536, Trial::SharesAPage);
+}
+
+#[test]
+fn two_clients_use_all_words_of_a_page_that_moves(rt: HostRuntime) {
+    tries(&rt, 1, 65536, Trial::UsesWholePages);
 }
 
 #[test]

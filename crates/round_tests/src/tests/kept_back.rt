@@ -89,8 +89,8 @@ impl<
     /// The serial that the record at this place from the end of the journal says was moved.
     fn moved_at<R: Wait>(&self, rt: &R, place: usize) -> Option<Serial> {
         let room = self.shared.lock(rt);
-        let journal = room.zone().journal();
-        match journal.get(journal.len().wrapping_sub(place)) {
+        let records = room.zone().journal().kept()?;
+        match records.get(records.len().wrapping_sub(place)) {
             Some(Record::Moved { serial }) => Some(*serial),
             _ => None,
         }

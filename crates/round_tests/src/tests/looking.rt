@@ -1,7 +1,7 @@
 use super::gates::linger;
 use super::opening::{Opening, counts_of, round_of};
 use super::{Run, runs};
-use journal_core::{Journal, Record};
+use journal_core::Record;
 use round_core::{Gate, Keeping, Open, Point, Shape, SharedZone};
 use std::process::Abort;
 use std::sync::Wait;
@@ -48,14 +48,14 @@ impl Tally {
     }
 }
 
-/// How many isolations and how many ends a journal has.
-fn recorded(journal: &Journal) -> (u64, u64) {
+/// How many isolations and how many ends these records are of.
+fn recorded(records: &[Record]) -> (u64, u64) {
     let mut isolated = 0u64;
     let mut ended = 0u64;
-    for index in 0..journal.len() {
-        match journal.get(index) {
-            Some(Record::Isolate { .. }) => isolated = isolated.saturating_add(1),
-            Some(Record::Moved { .. } | Record::Back { .. }) => ended = ended.saturating_add(1),
+    for entry in records {
+        match entry {
+            Record::Isolate { .. } => isolated = isolated.saturating_add(1),
+            Record::Moved { .. } | Record::Back { .. } => ended = ended.saturating_add(1),
             _ => {}
         }
     }
@@ -88,7 +88,12 @@ impl<'a, K: Shape, I: Ledger, M: Ledger, B: Ledger, R: Wait + Abort> Looks<'a, K
     /// What the journal says, once the lock was free.
     fn look(&self) -> (u64, u64) {
         let room = self.shared.lock(self.rt);
-        recorded(room.zone().journal())
+        recorded(
+            room.zone()
+                .journal()
+                .kept()
+                .expect(self.rt, "a kept journal"),
+        )
     }
 
     /// No page has made a step before it was let go at the point before it.

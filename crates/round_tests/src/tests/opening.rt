@@ -3,7 +3,7 @@ ghost use Rattle.zone_core.specs.Books.{AreFor};
 
 use super::calls::{Answer, Call, play};
 use super::client_number;
-use client_core::{Client, Mismatch, settle_clients};
+use client_core::{Client, Mismatch, Unsettled, settle_clients};
 use frame_core::ZoneNo;
 use round_core::{Gate, Keeping, Open, Round, RoundError, Shape, SharedZone, compact};
 use std::process::Abort;
@@ -74,7 +74,7 @@ impl<K: Shape, I: Ledger, N: Ledger, M: Ledger, B: Ledger> Opening<K, I, N, M, B
     }
 
     /// What is told of the zone: its counts, and the length of its journal.
-    pub fn told<R: Wait>(&self, rt: &R) -> (Info, usize) {
+    pub fn told<R: Wait>(&self, rt: &R) -> (Info, u64) {
         let room = self.shared.lock(rt);
         (room.zone().info(), room.zone().journal().len())
     }
@@ -114,14 +114,14 @@ pub fn settled<K: Shape, I: Ledger, M: Ledger, B: Ledger, R: Wait>(
     rt: &R,
     shared: &SharedZone<K, I, M, B>,
     clients: &[Client],
-) -> Result<(), Mismatch> {
+) -> Result<(), Unsettled> {
     settle_clients(shared.lock(rt).zone(), clients)
 }
 
 /// The first client that differs from the journal, and the first of its receipts that does.
-pub fn mismatch(rt: &impl Abort, number: u32, index: usize) -> Result<(), Mismatch> {
-    Err(Mismatch {
+pub fn mismatch(rt: &impl Abort, number: u32, index: usize) -> Result<(), Unsettled> {
+    Err(Unsettled::Mismatch(Mismatch {
         client: client_number(rt, number),
         index,
-    })
+    }))
 }

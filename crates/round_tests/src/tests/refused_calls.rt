@@ -20,6 +20,8 @@ fn maps_and_accesses<K: Shape, I: Ledger, M: Ledger, B: Ledger, R: Wait + Abort>
     let table = [
         (Call::Load(0, 7), unmapped),
         (Call::Store(0, 7, 5), unmapped),
+        (Call::Read(0, 0), unmapped),
+        (Call::Write(0, 0, 5), unmapped),
         (Call::Share(0, 1), unmapped),
         (Call::Unmap(0), unmapped),
         (Call::Pin(0), unmapped),
@@ -29,6 +31,8 @@ fn maps_and_accesses<K: Shape, I: Ledger, M: Ledger, B: Ledger, R: Wait + Abort>
         (Call::MapAt(0, 9), Answer::Refused(ZoneError::Occupied)),
         (Call::MapAt(1, 0), Answer::Refused(ZoneError::NoFrame)),
         (Call::MapAt(1, 512), Answer::Refused(ZoneError::Range)),
+        (Call::Read(0, 1), Answer::Refused(ZoneError::Range)),
+        (Call::Write(0, 1, 5), Answer::Refused(ZoneError::Range)),
         (Call::Store(0, 7, 5), Answer::Done),
         (Call::Load(0, 7), Answer::Value(5)),
     ];
@@ -112,6 +116,8 @@ impl<K: Shape, I: Ledger, N: Ledger, M: Ledger, B: Ledger> Opening<K, I, N, M, B
             (Call::Unmap(0), full),
             (Call::Load(0, 7), full),
             (Call::Store(0, 7, 5), full),
+            (Call::Read(0, 0), full),
+            (Call::Write(0, 0, 5), full),
             (Call::Pin(0), full),
             (Call::Unpin(0), full),
         ];

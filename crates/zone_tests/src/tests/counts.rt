@@ -6,7 +6,7 @@ use super::lists::Listed;
 use super::steps::{Answer, looked};
 use super::{frame, order};
 use frame_core::{FrameNo, FrameState, PageNo, Serial};
-use journal_core::{Journal, Record};
+use journal_core::Record;
 use scan_core::Frames;
 use std::process::Abort;
 use std::sync::ledger::Ledger;
@@ -20,15 +20,16 @@ pub fn assert_counts<I: Ledger, M: Ledger, B: Ledger>(
 ) {
     let frames = zone.frames();
     let states = states(rt, frames);
+    let records = zone.journal().kept().expect(rt, "a kept journal");
     let told = zone.info();
     assert_told(rt, told, &states);
-    assert!(rt; told.huge as usize == blocks_out(zone.journal()));
+    assert!(rt; told.huge as usize == blocks_out(records));
     assert!(rt; (frames.free(), frames.whole_blocks()) == (told.free, told.whole));
     assert_free(rt, frames, &states);
     for number in 3..10 {
         assert_run(rt, frames, &states, number);
     }
-    assert_newest(rt, zone.journal(), &states);
+    assert_newest(rt, records, &states);
 }
 
 /// What each frame is used for.
@@ -82,13 +83,13 @@ fn is_free(state: &FrameState) -> bool {
     *state == FrameState::Free
 }
 
-/// How many blocks a journal tells of that are handed out.
-fn blocks_out(journal: &Journal) -> usize {
+/// How many blocks are handed out, as the records of a journal tell.
+fn blocks_out(records: &[Record]) -> usize {
     let mut count = 0_usize;
-    for index in 0..journal.len() {
-        match journal.get(index) {
-            Some(Record::TakeHuge { .. }) => count = count.saturating_add(1),
-            Some(Record::GiveHuge { .. }) => count = count.saturating_sub(1),
+    for entry in records {
+        match entry {
+            Record::TakeHuge { .. } => count = count.saturating_add(1),
+            Record::GiveHuge { .. } => count = count.saturating_sub(1),
             _ => {}
         }
     }
@@ -116,30 +117,30 @@ fn assert_run(rt: &impl Abort, frames: &Frames, states: &[FrameState], number: u
 }
 
 /// The number of a page that was just mapped is the lowest that no other page has.
-fn assert_newest(rt: &impl Abort, journal: &Journal, states: &[FrameState]) {
-    let Some(Record::Map { page, .. }) = journal.last() else {
+fn assert_newest(rt: &impl Abort, records: &[Record], states: &[FrameState]) {
+    let Some(Record::Map { page, .. }) = records.last() else {
         return;
     };
     let newest = *page;
     let lower = states
         .iter()
-        .filter_map(|state| page_in(journal, state))
+        .filter_map(|state| page_in(records, state))
         .filter(|page| *page < newest);
     assert!(rt; lower.count() == newest.get() as usize);
 }
 
 /// The page that a frame holds, or that left it.
-fn page_in(journal: &Journal, state: &FrameState) -> Option<PageNo> {
+fn page_in(records: &[Record], state: &FrameState) -> Option<PageNo> {
     match *state {
         FrameState::Holds(page) => Some(page),
-        FrameState::Source(serial) => isolated_page(journal, serial),
+        FrameState::Source(serial) => isolated_page(records, serial),
         _ => None,
     }
 }
 
-fn isolated_page(journal: &Journal, under: Serial) -> Option<PageNo> {
-    for index in 0..journal.len() {
-        if let Some(Record::Isolate { serial, page }) = journal.get(index) {
+fn isolated_page(records: &[Record], under: Serial) -> Option<PageNo> {
+    for entry in records {
+        if let Record::Isolate { serial, page } = entry {
             if *serial == under {
                 return Some(*page);
             }

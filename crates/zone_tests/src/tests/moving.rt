@@ -34,7 +34,7 @@ enum Trial {
 }
 
 /// What is told of a zone: its counts, the length of its journal, and what is known of its page.
-type Told = (Info, usize, Result<Look, ZoneError>);
+type Told = (Info, u64, Result<Look, ZoneError>);
 
 fn page(rt: &impl Abort) -> Address {
     address(rt, (7, 9))

@@ -103,7 +103,7 @@ impl<const W: usize, I: Ledger, N: Ledger, M: Ledger, B: Ledger> Paged<W, I, N, 
         assert!(rt; self.write(rt, first, words) == Err(ZoneError::JournalFull));
         assert!(rt; self.zone.journal().len() == 1);
         assert!(rt; self.write(rt, first, &words[1..]) == Ok(()));
-        assert!(rt; self.zone.journal().len() == W);
+        assert!(rt; self.zone.journal().len() == W as u64);
     }
 
     /// Whatever is tried but a move by hand.

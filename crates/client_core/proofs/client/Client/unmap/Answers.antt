@@ -7,7 +7,7 @@ use Rattle.client_core.proofs.client.Client.unmap.Goals as goal
 pub invariant_of-self-2 : goal.invariant_of-self-2
 invariant_of-self-2 g c =
     let client = c.self.inside in
-    holds_more g.J.Telling.pair g.J.Telling.before client.slip c.once_there.new.slip client.receipts.items c.push_reserved.new.self.items c.in_ok-receipt.receipt
+    holds_more g.J.Telling.pair g.J.Telling.before client.slip c.once_there.new.slip (g.T.Receipts.items client.receipts) (g.T.Receipts.items c.add.new.self) c.in_ok-receipt.receipt
     c.self.invariant c.in_ok-receipt.ensures.slip (search rules)
 
 pub returns-clause-accepted : goal.returns-clause-accepted

@@ -1,6 +1,7 @@
 use Rattle.std.proofs.Common.{◌≡◌, ℕ, length, subst, rules}
+use Rattle.journal_core.specs.declared.record.Record.TheVariants.{Store}
 use Rattle.state_core.specs.Bulk.{bulk_refusal, stored_all}
-use Rattle.client_core.specs.Bulk.{stores_of}
+use Rattle.client_core.specs.Bulk.{records_each}
 use Rattle.client_core.specs.Calls.{IsAccepted, leaving}
 use Rattle.client_core.proofs.ManyCalls.{holds_all}
 use Rattle.client_core.proofs.client.Client.write.Goals as goal
@@ -9,8 +10,8 @@ pub invariant_of-self-2 : goal.invariant_of-self-2
 invariant_of-self-2 g c =
     let client = c.self.inside in
     let made = c.in_ok-all_once_there.ensures in
-    holds_all g.J.Telling.pair g.J.Telling.before (stores_of client.number c.args.address c.args.from c.args.values.now)
-    client.slip c.all_once_there.new.slip client.receipts.items c.all_once_there.new.receipts.items
+    holds_all g.J.Telling.pair g.J.Telling.before (records_each (Store client.number c.args.address) c.args.from c.args.values.now)
+    client.slip c.all_once_there.new.slip (g.T.Receipts.items client.receipts) (g.T.Receipts.items c.all_once_there.new.receipts)
     c.self.invariant made.slip (search rules)
 
 pub returns-clause-accepted : goal.returns-clause-accepted

@@ -1,5 +1,7 @@
 use Rattle.std.proofs.Common.{ℕ, List, length, subst, rules}
 use Rattle.std.specs.Prelude.{IfErr, OnOk}
+use Rattle.state_core.specs.Bulk.{bulk_refusal}
+use Rattle.state_core.specs.ZoneState.{ZoneState}
 use Rattle.client_core.specs.Calls.{IsAccepted, IsRefused}
 use Rattle.client_core.proofs.Calls.{accepted, refused}
 use Rattle.client_core.proofs.client.bulk.all_once_there.Goals as goal
@@ -7,17 +9,19 @@ use Rattle.client_core.proofs.client.bulk.all_once_there.Goals as goal
 pub returns-in_default-clause-accepted : goal.returns-in_default-clause-accepted
 returns-in_default-clause-accepted g c =
     let made = c.make_all in
-    let refusal = g.C.Bulk.refusal c.args.call.now in
+    let call = c.args.call.now in
+    let refusal = λ (words : List ℕ) (zone : ZoneState). bulk_refusal zone (g.C.Bulk.access call).address (g.C.Bulk.from call) (length (g.C.Bulk.values call words)) in
     let leaves = g.C.Bulk.leaves c.args.call.now in
-    let is = subst (λ (words : List ℕ). OnOk made.result (IsAccepted (refusal (length words)) (leaves words) made.new.words)) c.loop.invariant.words
-    (accepted (refusal (length c.loop.words)) (leaves c.loop.words) made.new.words c.deref_mut.result.now made.new.room
+    let is = subst (λ (words : List ℕ). OnOk made.result (IsAccepted (refusal words) (leaves words) made.new.words)) c.loop.invariant.words
+    (accepted (refusal c.loop.words) (leaves c.loop.words) made.new.words c.deref_mut.result.now made.new.room
     made.ensures.lawful made.result made.ensures.refused made.ensures.accepted) in
     search (rules, is)
 
 pub returns-in_default-clause-refused : goal.returns-in_default-clause-refused
 returns-in_default-clause-refused g c =
     let made = c.make_all in
-    let refusal = g.C.Bulk.refusal c.args.call.now in
-    let is = subst (λ (words : List ℕ). IfErr made.result (IsRefused (refusal (length words)))) c.loop.invariant.words
-    (refused (refusal (length c.loop.words)) c.deref_mut.result.now made.ensures.lawful made.result made.ensures.refused) in
+    let call = c.args.call.now in
+    let refusal = λ (words : List ℕ) (zone : ZoneState). bulk_refusal zone (g.C.Bulk.access call).address (g.C.Bulk.from call) (length (g.C.Bulk.values call words)) in
+    let is = subst (λ (words : List ℕ). IfErr made.result (IsRefused (refusal words))) c.loop.invariant.words
+    (refused (refusal c.loop.words) c.deref_mut.result.now made.ensures.lawful made.result made.ensures.refused) in
     search (rules, is)

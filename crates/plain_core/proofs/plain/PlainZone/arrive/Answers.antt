@@ -1,5 +1,7 @@
-use Rattle.std.proofs.Common.{◌≡◌, ◌∙◌, ◌-◌, ◌∷◌, ℕ, List, refl, ap, subst, sym, arith}
-use Rattle.std.specs.Prelude.{is_some, slice_set}
+use Rattle.std.proofs.Common.{◌≡◌, ◌∙◌, ◌+◌, ◌∷◌, ℕ, List, refl, ap, subst, sym, arith}
+use Rattle.std.specs.Prelude.{Some, is_some, length, nat_eq, slice_set, false}
+use Rattle.std.specs.FinMap as map
+use Rattle.std.proofs.lemmas.Bool.{eq-eqb, or_right}
 use Rattle.frame_core.specs.declared.state.FrameState.TheVariants.{Free, Holds}
 use Rattle.journal_core.specs.declared.record.Record.TheVariants.{Moved}
 use Rattle.scan_core.specs.Frames.{Frames}
@@ -8,16 +10,21 @@ use Rattle.plain_core.proofs.Tables.{placement_seen, words_seen, note_seen, mova
 use Rattle.plain_core.proofs.ListedAddresses.{all_left, target_unnamed}
 use Rattle.plain_core.specs.Fits.{MovesFit}
 use Rattle.plain_core.specs.Moves.{Moves}
-use Rattle.plain_core.proofs.OutAndEnded.{some_out, moves_arrived}
+use Rattle.plain_core.proofs.HeldWords.{contents_kept}
+use Rattle.plain_core.proofs.OutAndEnded.{some_out}
 use Rattle.plain_core.specs.declared.plain.PlainZone.TheInside.{Inside}
 use Rattle.state_core.specs.declared.placement.Placement.TheVariants.{At, Moving}
 use Rattle.state_core.specs.Carrying.{relocated}
 use Rattle.state_core.specs.Ending.{IsSettled, target_of, moved_to_target}
+use Rattle.plain_core.specs.Contents.{contents_at}
 use Rattle.plain_core.specs.Sound.{IsSound, state_of}
-use Rattle.state_core.specs.ZoneState.{ZoneState}
+use Rattle.plain_core.specs.Tabulated.{tabulated}
+use Rattle.state_core.specs.Lawful.{IsLawful}
+use Rattle.state_core.specs.ZoneState.{ZoneState, takes_up, is_held}
 use Rattle.state_core.proofs.Facts.{not_none}
 use Rattle.state_core.proofs.Settled.{can_move_on, moved_recorded, frames_apart, source_within, target_in, swept_if_moved}
 use Rattle.plain_core.proofs.MoveEnds.{moved_frames, moved_words, kept_movable, left_settled, still_on_way, source_on_way, target_on_way, moved_settled, some_on_the_way, ending_room}
+use Rattle.plain_core.proofs.Placement.{SourcesPlaced}
 use Rattle.plain_core.proofs.Relocation.{Settling, FramesSettled, MovableSettled, WordsSettled, settle_sound, settle_view}
 use Rattle.plain_core.proofs.plain.PlainZone.arrive.Given.{Over}
 use Rattle.plain_core.proofs.plain.PlainZone.arrive.Goals as goal
@@ -26,7 +33,7 @@ use Rattle.plain_core.proofs.plain.PlainZone.arrive.Goals.{After-note}
 pub arrive-requires : goal.arrive-requires
 arrive-requires g c =
     let sound : IsSound c.self.inside c.args.self.now = subst (IsSound c.self.inside) c.self.view_is c.self.invariant in
-    some_out c.self.inside.moves c.args.self.now.records c.args.self.now.room sound.moves sound.lawful.well_ended
+    some_out c.self.inside.moves c.args.self.now.records sound.moves sound.lawful.well_ended
     (some_on_the_way c.args.self.now c.args.way.now.page c.args.way.now.serial c.args.way.now.source c.args.way.now.target sound.lawful c.requires.placed)
 
 pub leave-requires : goal.leave-requires
@@ -69,8 +76,12 @@ after c = record c.self.inside {
 frames_are : {g : Over} (c : After-note g) → c.settle.new.self ≡ record { states = slice_set (slice_set c.self.inside.frames.states c.args.way.now.source Free) c.args.way.now.target (Holds c.args.way.now.page); movable = slice_set c.self.inside.frames.movable c.args.way.now.target c.can_move.result }
 frames_are c = left_settled c.self.inside.frames c.leave.new.self c.settle.new.self _ _ _ _ c.leave.ensures.state c.settle.ensures.page
 
+target_unheld : (v : ZoneState) (page serial source target : ℕ) → IsLawful v → map.get v.placement page ≡ Some (Moving serial source target) → is_held v target ≡ false
+target_unheld v page serial source target law at =
+    law.clear page target (ap (λ o. takes_up o target) at ∙ or_right (nat_eq target source) (nat_eq target target) (eq-eqb target target refl))
+
 settling : {g : Over} (c : After-note g) → Settling c.self.inside (after c) c.args.self.now c.args.way.now.page (Moving c.args.way.now.serial c.args.way.now.source c.args.way.now.target) (At c.args.way.now.target) (Moved c.args.way.now.serial) c.get-note.result c.args.self.now.migrate c.args.self.now.free
-settling c =
+settling {g = g} c =
     let z = c.self.inside in
     let v = c.args.self.now in
     let way = c.args.way.now in
@@ -95,8 +106,9 @@ settling c =
       words = subst (λ (rows : List (List ℕ)). WordsSettled v.page_size z.words rows (Moving way.serial way.source way.target) (At way.target)) (sym c.write_in.ensures.written)
           (moved_words z.words c.args.copy.now.words way.serial way.source way.target (omega (arith, target_here, sound.words.count)) (c.requires.words ∙ sym (words_seen z.words v sound.words law way.page (Moving way.serial way.source way.target) at)) (c.write_in.ensures.size ∙ ap (λ (u : ZoneState). u.page_size) c.self.view_is));
       notes = c.place.ensures c.get-note.result c.get-note.ensures;
-      moves = subst (λ (moves : Moves). MovesFit moves (Moved way.serial ∷ v.records) (v.room - 1)) (sym c.arrive.ensures)
-          (moves_arrived z.moves v.records v.room sound.moves way.serial (ending_room v way.page way.serial way.source way.target law at));
+      moves = subst (λ (moves : Moves). MovesFit moves (Moved way.serial ∷ v.records)) (sym c.arrive.ensures)
+          (record { isolated = sound.moves.isolated; moved = ap (λ n. n + 1) sound.moves.moved; back = sound.moves.back });
+      sources = subst (λ (moves : Moves). SourcesPlaced z.moves.pages moves.pages way.page (Some (At way.target))) (sym c.arrive.ensures) (record { count = refl; here = λ s a b e. cc; kept = λ g off. refl });
       fingers_are = ap (λ (u : ZoneState). record { migrate = u.migrate; free = u.free }) c.self.view_is;
       fingers = law.fingers;
       swept = swept_if_moved v way.page way.serial way.source way.target law at;
@@ -106,6 +118,9 @@ settling c =
       blocks_same = refl;
       marked_same = refl;
       handed_out_same = refl;
+      cleared_same = refl;
+      contents_same = ap (λ (rows : List (List ℕ)). tabulated (contents_at g.row.W rows z.cleared z.handed_out) (length z.handed_out)) c.write_in.ensures.written
+          ∙ contents_kept z v sound c.self.view_is way.target c.args.copy.now.words (target_unheld v way.page way.serial way.source way.target law at);
     }
 
 view : {g : Over} (c : After-note g) → state_of (after c) ≡ moved_to_target c.args.self.now c.args.way.now.serial c.args.way.now.page

@@ -19,12 +19,12 @@ record Places (W : ℕ) (v : ZoneState) (left out_now : ℕ) : Type 0 where
   pub size : W ≡ v.page_size
   pub enough : length (out v.records) ≤ v.room
 
-places : {W : ℕ} (z : Inside W) (v : ZoneState) → state_of z ≡ v → IsSound z (state_of z) → (left out_now : ℕ) → left ≡ z.history.room → out_now + z.moves.moved + z.moves.back ≡ length z.moves.pages → Places W v left out_now
+places : {W : ℕ} (z : Inside W) (v : ZoneState) → state_of z ≡ v → IsSound z (state_of z) → (left out_now : ℕ) → left ≡ z.history.room → out_now + z.moves.moved + z.moves.back ≡ z.moves.isolated → Places W v left out_now
 places z v view invariant left out_now is counted =
     let sound : IsSound z v = subst (IsSound z) view invariant in
     record {
       left_is = is ∙ ap (λ (u : ZoneState). u.room) view;
-      out_is = out_is z.moves v.records v.room sound.moves sound.lawful.well_ended out_now counted;
+      out_is = out_is z.moves v.records sound.moves sound.lawful.well_ended out_now counted;
       size = ap (λ (u : ZoneState). u.page_size) view;
       enough = sound.lawful.room_left;
     }

@@ -1,5 +1,5 @@
-use Rattle.std.proofs.Common.{◌≡◌, ◌∙◌, ◌-◌, ◌∷◌, ℕ, refl, ap, subst, sym, arith}
-use Rattle.std.specs.Prelude.{is_some, slice_set}
+use Rattle.std.proofs.Common.{◌≡◌, ◌∙◌, ◌+◌, ◌∷◌, ℕ, refl, ap, subst, sym, arith}
+use Rattle.std.specs.Prelude.{Some, is_some, slice_set}
 use Rattle.frame_core.specs.declared.state.FrameState.TheVariants.{Free, Holds}
 use Rattle.journal_core.specs.declared.record.Record.TheVariants.{Back}
 use Rattle.scan_core.specs.Frames.{Frames}
@@ -8,7 +8,7 @@ use Rattle.plain_core.proofs.Tables.{placement_seen, note_seen, movable_seen}
 use Rattle.plain_core.proofs.ListedAddresses.{all_left}
 use Rattle.plain_core.specs.Fits.{MovesFit}
 use Rattle.plain_core.specs.Moves.{Moves}
-use Rattle.plain_core.proofs.OutAndEnded.{some_out, moves_back}
+use Rattle.plain_core.proofs.OutAndEnded.{some_out}
 use Rattle.plain_core.specs.declared.plain.PlainZone.TheInside.{Inside}
 use Rattle.state_core.specs.declared.placement.Placement.TheVariants.{At, Moving}
 use Rattle.state_core.specs.Carrying.{relocated}
@@ -18,6 +18,7 @@ use Rattle.state_core.specs.ZoneState.{ZoneState}
 use Rattle.state_core.proofs.Facts.{not_none}
 use Rattle.state_core.proofs.Settled.{can_go_back, back_recorded, frames_apart, source_within, target_in, swept_if_put_back}
 use Rattle.plain_core.proofs.MoveEnds.{back_frames, back_words, kept_movable, left_settled, still_on_way, source_on_way, target_on_way, back_settled, some_on_the_way, ending_room}
+use Rattle.plain_core.proofs.Placement.{SourcesPlaced}
 use Rattle.plain_core.proofs.Relocation.{Settling, FramesSettled, MovableSettled, settle_sound, settle_view}
 use Rattle.plain_core.proofs.plain.PlainZone.go_back.Given.{Over}
 use Rattle.plain_core.proofs.plain.PlainZone.go_back.Goals as goal
@@ -26,7 +27,7 @@ use Rattle.plain_core.proofs.plain.PlainZone.go_back.Goals.{After-note}
 pub go_back-requires : goal.go_back-requires
 go_back-requires g c =
     let sound : IsSound c.self.inside c.args.self.now = subst (IsSound c.self.inside) c.self.view_is c.self.invariant in
-    some_out c.self.inside.moves c.args.self.now.records c.args.self.now.room sound.moves sound.lawful.well_ended
+    some_out c.self.inside.moves c.args.self.now.records sound.moves sound.lawful.well_ended
     (some_on_the_way c.args.self.now c.args.way.now.page c.args.way.now.serial c.args.way.now.source c.args.way.now.target sound.lawful c.requires.placed)
 
 pub leave-requires : goal.leave-requires
@@ -87,8 +88,9 @@ settling c =
       tables = c.to_present.ensures.replaced;
       words = back_words z.words v sound.words way.serial way.source way.target source_in;
       notes = c.place.ensures c.get-note.result c.get-note.ensures;
-      moves = subst (λ (moves : Moves). MovesFit moves (Back way.serial c.args.cause ∷ v.records) (v.room - 1)) (sym c.go_back.ensures)
-          (moves_back z.moves v.records v.room sound.moves way.serial c.args.cause (ending_room v way.page way.serial way.source way.target law at));
+      moves = subst (λ (moves : Moves). MovesFit moves (Back way.serial c.args.cause ∷ v.records)) (sym c.go_back.ensures)
+          (record { isolated = sound.moves.isolated; moved = sound.moves.moved; back = ap (λ n. n + 1) sound.moves.back });
+      sources = subst (λ (moves : Moves). SourcesPlaced z.moves.pages moves.pages way.page (Some (At way.source))) (sym c.go_back.ensures) (record { count = refl; here = λ s a b e. cc; kept = λ g off. refl });
       fingers_are = ap (λ (u : ZoneState). record { migrate = u.migrate; free = u.free }) c.self.view_is;
       fingers = law.fingers;
       swept = swept_if_put_back v way.page way.serial way.source way.target law at c.args.cause;
@@ -98,6 +100,8 @@ settling c =
       blocks_same = refl;
       marked_same = refl;
       handed_out_same = refl;
+      cleared_same = refl;
+      contents_same = refl;
     }
 
 view : {g : Over} (c : After-note g) → state_of (after c) ≡ put_back_to_source c.args.self.now c.args.way.now.serial c.args.way.now.page c.args.cause

@@ -1,4 +1,4 @@
-use Rattle.std.proofs.Common.{get_or, ◌≡◌, ◌∙◌, ◌+◌, ◌-◌, ◌∷◌, ℕ, refl, ap, subst, sym, arith}
+use Rattle.std.proofs.Common.{get_or, ◌≡◌, ◌∙◌, ◌+◌, ◌∷◌, ℕ, refl, ap, subst, sym, arith}
 use Rattle.std.specs.Prelude.{Some, false, is_some, slice_get, slice_set, unwrap_or}
 use Rattle.std.proofs.lemmas.Option.{slice_get-get_or}
 use Rattle.frame_core.specs.declared.state.FrameState.TheVariants.{Source, Target}
@@ -18,14 +18,14 @@ use Rattle.plain_core.proofs.ListedAddresses.{fresh_serial, page_rests}
 use Rattle.plain_core.specs.Fits.{MovesFit}
 use Rattle.plain_core.specs.History.{told}
 use Rattle.plain_core.specs.Moves.{Moves}
-use Rattle.state_core.proofs.Facts.{frame_within, isolated_most, not_none}
+use Rattle.state_core.proofs.Facts.{frame_within, not_none, room_and_serial}
 use Rattle.plain_core.proofs.Tables.{placement_seen, note_within, words_seen}
 use Rattle.plain_core.specs.Notes.{unused_note}
 use Rattle.plain_core.specs.declared.note.Note.{Note}
-use Rattle.plain_core.proofs.OutAndEnded.{moves_more}
 use Rattle.plain_core.specs.Sound.{IsSound}
-use Rattle.plain_core.proofs.Isolation.{isolated_frames, isolated_words, isolated_movable}
+use Rattle.plain_core.proofs.Isolation.{isolated_frames, isolated_words, isolated_movable, isolated_sources}
 use Rattle.state_core.proofs.Settled.{can_isolate, isolate_recorded, target_within, swept_if_isolated}
+use Rattle.plain_core.proofs.Placement.{SourcesPlaced}
 use Rattle.plain_core.proofs.Relocation.{Settling, FramesSettled, MovableSettled, settle_sound, settle_view}
 use Rattle.plain_core.proofs.plain.PlainZone.isolate.Given.{Over}
 use Rattle.plain_core.proofs.plain.PlainZone.isolate.Goals as goal
@@ -48,11 +48,16 @@ to_target-requires g c =
     still_free c.self.inside.frames c.to_source.new.self c.args.pair.target c.args.pair.source (Source c.isolate-serial.result) (λ e. absurd (omega arith)) c.to_source.ensures.state
     (free_seen c.self.inside.frames.states c.args.self.now sound.frames c.args.pair.target (target_within c.args.self.now c.args.pair sound.lawful c.requires.pair) ∙ to.free)
 
-pub isolate-serial-requires : goal.isolate-serial-requires
-isolate-serial-requires g c =
+pub isolate-serial-requires-clause-within : goal.isolate-serial-requires-clause-within
+isolate-serial-requires-clause-within g c =
     let sound : IsSound c.self.inside c.args.self.now = subst (IsSound c.self.inside) c.self.view_is c.self.invariant in
-    let room = c.requires.room in
-    omega (arith, sound.moves.count, sound.moves.places, isolated_most c.args.self.now.records)
+    let at = (can_isolate c.args.self.now c.args.pair sound.lawful c.requires.pair).at in
+    omega (arith, frame_within c.args.self.now sound.lawful c.args.pair.page (At c.args.pair.source) at, sound.sources.count)
+
+pub isolate-serial-requires-clause-serial_left : goal.isolate-serial-requires-clause-serial_left
+isolate-serial-requires-clause-serial_left g c =
+    let sound : IsSound c.self.inside c.args.self.now = subst (IsSound c.self.inside) c.self.view_is c.self.invariant in
+    omega (arith, (room_and_serial c.args.self.now c.requires.accepted).1, sound.moves.isolated)
 
 pub place-requires : goal.place-requires
 place-requires g c =
@@ -88,8 +93,9 @@ settling c =
     let sound : IsSound z v = subst (IsSound z) c.self.view_is c.self.invariant in
     let law = sound.lawful in
     let is = c.requires.pair in
-    let room = c.requires.room in
-    let serial : c.isolate-serial.result ≡ isolated v.records = c.isolate-serial.ensures.serial ∙ sound.moves.count in
+    let left = room_and_serial v c.requires.accepted in
+    let room = left.0 in
+    let serial : c.isolate-serial.result ≡ isolated v.records = c.isolate-serial.ensures.serial ∙ sound.moves.isolated in
     let target_in = target_within v pair law is in
     let low = is.to.low in
     let high = is.to.high in
@@ -99,7 +105,7 @@ settling c =
       sound = sound;
       view = c.self.view_is;
       can = can_isolate v pair law is;
-      recorded = isolate_recorded v pair law is c.requires.room;
+      recorded = isolate_recorded v pair law is left.0 left.1;
       spare = omega arith;
       note_is = note_is c;
       frames = subst (λ (fs : Frames). FramesSettled z.frames.states fs.states pair.page (At pair.source) (Moving (isolated v.records) pair.source pair.target)) (sym frames_are)
@@ -110,8 +116,10 @@ settling c =
       tables = subst (λ (n : ℕ). Replaces z.tables.entries c.to_migration.new.self.entries (Present pair.source) (Migration n pair.source)) serial c.to_migration.ensures.replaced;
       words = isolated_words z.words v sound.words (isolated v.records) pair.source pair.target (omega arith) target_in;
       notes = c.place.ensures (noted c) (note_is c) ∙ ap (λ (n : ℕ). slice_set z.notes pair.page (record (noted c) { placement = Some (Moving n pair.source pair.target) })) serial;
-      moves = subst (λ (moves : Moves). MovesFit moves (Isolate (isolated v.records) pair.page ∷ v.records) (v.room - 1)) (sym c.isolate-serial.ensures.pages)
-          (moves_more z.moves v.records v.room sound.moves pair.page (omega arith));
+      moves = subst (λ (moves : Moves). MovesFit moves (Isolate (isolated v.records) pair.page ∷ v.records)) (sym c.isolate-serial.ensures.noted)
+          (record { isolated = ap (λ n. n + 1) sound.moves.isolated; moved = sound.moves.moved; back = sound.moves.back });
+      sources = subst (λ (moves : Moves). SourcesPlaced z.moves.pages moves.pages pair.page (Some (Moving (isolated v.records) pair.source pair.target))) (sym c.isolate-serial.ensures.noted)
+          (isolated_sources z.moves.pages pair.page (isolated v.records) pair.source pair.target (omega (arith, target_in, sound.sources.count)));
       fingers_are = λ i. record { migrate = c.get.ensures.value i + 1; free = c.get-self-inside.ensures.value i };
       fingers = (omega arith, omega arith);
       swept = swept_if_isolated v pair law is;
@@ -121,6 +129,8 @@ settling c =
       blocks_same = refl;
       marked_same = refl;
       handed_out_same = refl;
+      cleared_same = refl;
+      contents_same = refl;
     }
 
 pub invariant_of-self : goal.invariant_of-self
@@ -144,7 +154,7 @@ to_migration-requires-clause-within g c =
 pub to_migration-requires-clause-fresh : goal.to_migration-requires-clause-fresh
 to_migration-requires-clause-fresh g c =
     let sound : IsSound c.self.inside c.args.self.now = subst (IsSound c.self.inside) c.self.view_is c.self.invariant in
-    let serial : c.isolate-serial.result ≡ isolated c.args.self.now.records = c.isolate-serial.ensures.serial ∙ sound.moves.count in
+    let serial : c.isolate-serial.result ≡ isolated c.args.self.now.records = c.isolate-serial.ensures.serial ∙ sound.moves.isolated in
     λ a source range e. fresh_serial c.self.inside.tables.entries c.args.self.now sound.entries sound.lawful a source range (e ∙ ap (λ (n : ℕ). Migration n source) serial)
 
 pub to_migration-requires-clause-resting : goal.to_migration-requires-clause-resting
@@ -163,7 +173,7 @@ pub returns-clause-page : goal.returns-clause-page
 returns-clause-page g c =
     let sound : IsSound c.self.inside c.args.self.now = subst (IsSound c.self.inside) c.self.view_is c.self.invariant in
     let at = (can_isolate c.args.self.now c.args.pair sound.lawful c.requires.pair).at in
-    let serial = c.isolate-serial.ensures.serial ∙ sound.moves.count in
+    let serial = c.isolate-serial.ensures.serial ∙ sound.moves.isolated in
     let zone = ap (λ (u : ZoneState). u.number) c.self.view_is in
     let words = words_seen c.self.inside.words c.args.self.now sound.words sound.lawful c.args.pair.page (At c.args.pair.source) at in
     let page = c.read_out-carried.ensures ∙ (λ i. record { zone = zone i; number = c.args.pair.page; flags = c.flags_of-flags.ensures i; words = words i }) in

@@ -1,12 +1,13 @@
-use Rattle.std.proofs.Common.{◌≡◌, ◌∙◌, ℕ, subst, sym, arith}
+use Rattle.std.proofs.Common.{◌≡◌, ◌∙◌, ℕ, ap, subst, sym, arith}
 use Rattle.std.specs.Prelude.{Option, Some, IfSome}
+use Rattle.std.specs.FinMap as map
 use Rattle.state_core.specs.declared.placement.Placement.TheVariants.{At, Moving}
 use Rattle.plain_core.specs.Sound.{IsSound}
 use Rattle.state_core.specs.ZoneState.{placement_at}
 use Rattle.plain_core.proofs.LoadsAndStores.{present_is}
 use Rattle.state_core.proofs.Facts.{page_named, frame_within, not_none}
 use Rattle.state_core.proofs.Holding.{holder_at}
-use Rattle.plain_core.proofs.Tables.{migration_is, moving_page}
+use Rattle.plain_core.proofs.Tables.{migration_is}
 use Rattle.plain_core.proofs.plain.PlainZone.page_named.Goals as goal
 
 named_so : (o : Option ℕ) (P : ℕ → Type 0) (page : ℕ) → o ≡ Some page → P page → IfSome o P
@@ -29,11 +30,22 @@ returns-in-Present g c =
     let is = c.holder.ensures.holder ∙ holder_at c.args.self.now sound.lawful page.0 c.in-Present.frame page.2 in
     record { page = is ∙ sym page.1; in_use = named_so c.holder.result _ page.0 is (not_none _ (At c.in-Present.frame) page.2) }
 
+pub page_from-requires : goal.page_from-requires
+page_from-requires g c =
+    let sound : IsSound c.self.inside c.args.self.now = subst (IsSound c.self.inside) c.self.view_is c.self.invariant in
+    let at = migration_is (placement_at c.args.self.now c.args.address.now) c.in-Migration.serial c.in-Migration.source
+    (sym (sound.entries.each c.args.address.now c.entry.ensures.range) ∙ sym c.entry.ensures.value ∙ c.in-Migration.is) in
+    let way = Moving c.in-Migration.serial c.in-Migration.source at.0 in
+    let page = page_named c.args.self.now c.args.address.now way at.1 in
+    omega (arith, frame_within c.args.self.now sound.lawful page.0 way page.2, sound.sources.count)
+
 pub returns-in-Migration : goal.returns-in-Migration
 returns-in-Migration g c =
     let sound : IsSound c.self.inside c.args.self.now = subst (IsSound c.self.inside) c.self.view_is c.self.invariant in
     let at = migration_is (placement_at c.args.self.now c.args.address.now) c.in-Migration.serial c.in-Migration.source
     (sym (sound.entries.each c.args.address.now c.entry.ensures.range) ∙ sym c.entry.ensures.value ∙ c.in-Migration.is) in
-    let page = page_named c.args.self.now c.args.address.now (Moving c.in-Migration.serial c.in-Migration.source at.0) at.1 in
-    let is = c.page_under.ensures ∙ moving_page c.args.self.now sound.lawful page.0 c.in-Migration.serial c.in-Migration.source at.0 page.2 in
-    record { page = is ∙ sym page.1; in_use = named_so c.page_under.result _ page.0 is (not_none _ (Moving c.in-Migration.serial c.in-Migration.source at.0) page.2) }
+    let way = Moving c.in-Migration.serial c.in-Migration.source at.0 in
+    let page = page_named c.args.self.now c.args.address.now way at.1 in
+    let is : Some c.page_from.result ≡ Some page.0 = sym c.page_from.ensures ∙ sound.sources.each page.0 c.in-Migration.serial c.in-Migration.source at.0 page.2 in
+    let same : c.page_from.result ≡ page.0 = cc in
+    record { page = is ∙ sym page.1; in_use = not_none _ way (ap (map.get c.args.self.now.placement) same ∙ page.2) }

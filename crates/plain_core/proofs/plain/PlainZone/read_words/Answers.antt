@@ -8,14 +8,14 @@ use Rattle.plain_core.proofs.LoadsAndStores.{resident}
 use Rattle.plain_core.proofs.WordsAtOnce.{Reading, loads_sound, loads_view, words_read}
 use Rattle.plain_core.proofs.plain.PlainZone.read_words.Given.{Over}
 use Rattle.plain_core.proofs.plain.PlainZone.read_words.Goals as goal
-use Rattle.plain_core.proofs.plain.PlainZone.read_words.Goals.{After-note_loads}
+use Rattle.plain_core.proofs.plain.PlainZone.read_words.Goals.{After-note_each}
 
 pub load_words-requires : goal.load_words-requires
 load_words-requires g c =
     let is = resident c.self.inside c.args.self.now (subst (IsSound c.self.inside) c.self.view_is c.self.invariant) c.args.address c.args.frame c.requires.frame in
     (omega arith, (is.row_within, omega (arith, c.get.ensures.value, c.requires.within)))
 
-module _ {g : Over} (c : After-note_loads g) where
+module _ {g : Over} (c : After-note_each g) where
   abbrev count : ℕ
   count = length c.args.values.now
 
@@ -34,16 +34,16 @@ module _ {g : Over} (c : After-note_loads g) where
       ∙ words_read c.self.inside c.args.self.now reading.sound c.args.address c.args.frame c.args.from count c.requires.frame
       (omega (arith, c.requires.within, ap (λ (v : ZoneState). v.page_size) c.self.view_is))
 
-  told_is : c.note_loads.new.self ≡ told_loads c.self.inside.history c.args.client c.args.address c.args.from (values_at c.args.self.now c.args.address c.args.from count)
-  told_is = c.note_loads.ensures ∙ (λ i. told_loads c.self.inside.history c.args.client c.args.address (c.noted.ensures.value i) (values_are i))
+  told_is : c.note_each.new.self ≡ told_loads c.self.inside.history c.args.client c.args.address c.args.from (values_at c.args.self.now c.args.address c.args.from count)
+  told_is = c.note_each.ensures ∙ (λ i. told_loads c.self.inside.history c.args.client c.args.address (c.noted.ensures.value i) (values_are i))
 
-  view : state_of (record c.self.inside { history = c.note_loads.new.self }) ≡ loaded_all c.args.self.now c.args.client c.args.address c.args.from count
+  view : state_of (record c.self.inside { history = c.note_each.new.self }) ≡ loaded_all c.args.self.now c.args.client c.args.address c.args.from count
   view = ap (λ (h : History). state_of (record c.self.inside { history = h })) told_is
       ∙ loads_view c.self.inside c.args.self.now c.args.client c.args.address c.args.frame c.args.from count reading
 
-  sound : IsSound (record c.self.inside { history = c.note_loads.new.self }) (state_of (record c.self.inside { history = c.note_loads.new.self }))
+  sound : IsSound (record c.self.inside { history = c.note_each.new.self }) (state_of (record c.self.inside { history = c.note_each.new.self }))
   sound =
-      subst (IsSound (record c.self.inside { history = c.note_loads.new.self })) (sym view)
+      subst (IsSound (record c.self.inside { history = c.note_each.new.self })) (sym view)
       (subst (λ (h : History). IsSound (record c.self.inside { history = h }) (loaded_all c.args.self.now c.args.client c.args.address c.args.from count)) (sym told_is)
       (loads_sound c.self.inside c.args.self.now c.args.client c.args.address c.args.frame c.args.from count reading))
 

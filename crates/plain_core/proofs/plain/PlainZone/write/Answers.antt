@@ -68,6 +68,7 @@ notes_are c = c.revise.ensures ∙ ap (slice_set c.self.inside.notes c.in-Some.p
 
 view : {g : Over} (c : After-note g) → state_of (after c c.store.new.self c.revise.new.self) ≡ stored c.args.self.now c.args.client c.args.address c.args.word c.args.value
 view c = ap (λ (notes : List Note). state_of (after c c.store.new.self notes)) (notes_are c)
+    ∙ ap (λ (rows : List (List ℕ)). state_of (after c rows (slice_set c.self.inside.notes c.in-Some.page (record c.get-note.result { dirty = true })))) c.store.ensures.stored
     ∙ store_view c.self.inside c.args.self.now c.args.client c.args.address c.in-Some.page c.args.frame c.args.word c.args.value c.get-note.result c.note.new.self (storing c)
 
 pub invariant_of-self : goal.invariant_of-self

@@ -17,7 +17,7 @@ use Rattle.plain_core.proofs.Tables.{placement_seen, note_seen}
 use Rattle.plain_core.proofs.WordsAtOnce.{Writing, after_stores, stores_sound, stores_view}
 use Rattle.plain_core.proofs.plain.PlainZone.write_words.Given.{Over}
 use Rattle.plain_core.proofs.plain.PlainZone.write_words.Goals as goal
-use Rattle.plain_core.proofs.plain.PlainZone.write_words.Goals.{After-note_stores}
+use Rattle.plain_core.proofs.plain.PlainZone.write_words.Goals.{After-note_each}
 
 same_page : (o : Option ℕ) (p q : ℕ) → o ≡ Some p → o ≡ Some q → p ≡ q
 same_page o p q e f = cc
@@ -66,7 +66,7 @@ revise-requires-clause-stays g c =
     let seen = note_seen c.self.inside c.args.self.now c.self.view_is sound c.in-Some.page used c.get-note.result c.get-note.ensures in
     ap (λ (n : Note). is_some n.placement) c.stored.ensures ∙ ap is_some seen.placement ∙ used
 
-module _ {g : Over} (c : After-note_stores g) where
+module _ {g : Over} (c : After-note_each g) where
   writing : Writing c.self.inside c.args.self.now c.args.address c.in-Some.page c.args.frame c.args.from c.get-note.result (length c.args.values.now)
   writing =
       let sound : IsSound c.self.inside c.args.self.now = subst (IsSound c.self.inside) c.self.view_is c.self.invariant in
@@ -93,13 +93,13 @@ module _ {g : Over} (c : After-note_stores g) where
   after rows notes history = record c.self.inside { words = rows; notes = notes; history = history }
 
   abbrev ended : Inside g.row.W
-  ended = after c.store_words.new.self c.revise.new.self c.note_stores.new.self
+  ended = after c.store_words.new.self c.revise.new.self c.note_each.new.self
 
   ended_is : ended ≡ after_stores c.self.inside c.args.client c.args.address c.in-Some.page c.args.frame c.args.from c.get-note.result c.args.values.now
   ended_is =
       let rows = c.store_words.ensures.stored ∙ ap (λ (from : ℕ). with_words c.self.inside.words c.args.frame (put_from (words_of c.self.inside.words c.args.frame) from c.args.values.now)) c.get.ensures.value in
       let notes = c.revise.ensures ∙ ap (slice_set c.self.inside.notes c.in-Some.page) c.stored.ensures in
-      let history = c.note_stores.ensures ∙ ap (λ (from : ℕ). told_stores c.self.inside.history c.args.client c.args.address from c.args.values.now) c.noted.ensures.value in
+      let history = c.note_each.ensures ∙ ap (λ (from : ℕ). told_stores c.self.inside.history c.args.client c.args.address from c.args.values.now) c.noted.ensures.value in
       λ i. after (rows i) (notes i) (history i)
 
   view : state_of ended ≡ stored_all c.args.self.now c.args.client c.args.address c.args.from c.args.values.now

@@ -1,13 +1,14 @@
-use Rattle.std.proofs.Common.{rules, ◌∙◌, ◌<◌, ◌^◌, ℕ, ap, subst, sym, arith, lit<}
+use Rattle.std.proofs.Common.{rules, ◌∙◌, ℕ, ap, subst, sym, arith}
 use Rattle.std.specs.Prelude.{Some}
 use Rattle.std.specs.FinMap as map
 use Rattle.journal_core.specs.History.{page_at}
 use Rattle.word_core.specs.Page.{OnItsWay}
 use Rattle.state_core.specs.declared.placement.Placement.TheVariants.{Moving}
+use Rattle.state_core.specs.Isolating.{isolated_next}
+use Rattle.state_core.specs.Lawful.{IsLawful}
 use Rattle.state_core.specs.Pairs.{IsPair}
 use Rattle.state_core.specs.ZoneState.{ZoneState}
 use Rattle.state_core.proofs.Entries.{get_insert_same, get_insert_other}
-use Rattle.state_core.proofs.Facts.{isolated_most}
 use Rattle.state_core.proofs.Packing.{packed_quiet}
 use Rattle.zone_core.specs.Books.{IsScanned}
 use Rattle.zone_core.specs.Seats.{ScanSeat, scan_amount}
@@ -18,8 +19,8 @@ use Rattle.zone_core.proofs.zone.Zone.isolate_next.Goals as goal
 pub returns-clause-followed : goal.returns-clause-followed
 returns-clause-followed g c =
     let serial = ap (λ (p : OnItsWay). p.serial) c.isolate-page.ensures.page in
-    let few : 65537 < 2 ^ 32 = lit< tt in
-    omega (arith, isolated_most c.self.inside.plain.records, c.self.invariant.2.places)
+    let law : IsLawful (isolated_next c.self.inside.plain c.in-Some.pair) = subst IsLawful c.isolate-page.ensures.step c.isolate-page.ensures.lawful in
+    omega (arith, serial, law.serials)
 
 pub returns-clause-pair : goal.returns-clause-pair
 returns-clause-pair g c =

@@ -1,12 +1,7 @@
-use Rattle.client_core.proofs.ManyCalls.{write_calls, write_count}
+use Rattle.client_core.proofs.ManyCalls.{write_calls}
 use Rattle.client_core.proofs.client.bulk.WriteBulk.make.Goals as goal
 
 pub returns-clause-calls : goal.returns-clause-calls
 returns-clause-calls g c =
     let call = c.args.self.now in
     write_calls c.args.zone.now c.write.new.self call.client call.address call.from call.values.now c.requires.lawful c.write.result c.write.ensures.refused c.write.ensures.ok
-
-pub returns-clause-count : goal.returns-clause-count
-returns-clause-count g c =
-    let call = c.args.self.now in
-    write_count c.args.zone.now c.write.new.self call.client call.address call.from call.values.now c.write.result

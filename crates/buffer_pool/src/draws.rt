@@ -1,0 +1,41 @@
+//! Draws from a fixed seed.
+
+ghost use Rattle.std.specs.Prelude.{◌<◌, IfOk};
+
+use crate::file::{BLOCKS, WORDS};
+use crate::trouble::Trouble;
+use frame_core::{VPage, WordOf};
+use rand_core::Rng;
+use rand_pcg::Pcg32;
+
+#[derive(Drop)]
+pub struct Draws {
+    words: Pcg32,
+}
+
+impl Draws {
+    pub fn new() -> Self {
+        Draws {
+            words: Pcg32::new(2, 7),
+        }
+    }
+
+    /// A block of the file.
+    pub fn block(&mut self) -> Result<VPage, Trouble> {
+        VPage::new(self.words.next_u32() % BLOCKS).ok_or(Trouble::Range)
+    }
+
+    /// A word of a block that isn't its header.
+    pub fn word(&mut self) -> Result<WordOf<WORDS>, Trouble> {
+        let at = 1 + self.words.next_u32() % (WORDS as u32 - 1);
+        WordOf::new(at).ok_or(Trouble::Range)
+    }
+
+    /// A place in a list of this length, which must have an item.
+    pub fn place(&mut self, length: usize) -> Result<usize, Trouble>
+        ensures { IfOk result (λ place. place < length) }
+    {
+        let draw = self.words.next_u32() as usize;
+        draw.checked_rem(length).ok_or(Trouble::Range)
+    }
+}

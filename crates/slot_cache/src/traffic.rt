@@ -1,0 +1,127 @@
+//! The traffic: requests of readers, and pageblocks that are asked for and given back between them.
+
+ghost use Rattle.zone_core.specs.Books.{AreFor};
+
+use crate::blocks::Rounds;
+use crate::cache::Cache;
+use crate::keys::Keys;
+use crate::trouble::Trouble;
+use frame_core::BlockNo;
+use std::alloc::Global;
+use std::sync::ledger::Ledger;
+use zone_core::Blanks;
+
+/// How often a pageblock is asked for.
+const ASKED: u32 = 1000;
+
+/// The requests before a pageblock is asked for, and as many again before it is given back.
+const REQUESTS: u32 = 5000;
+
+/// How many requests a slow reader has an object pinned for.
+const PINNED_FOR: u32 = 64;
+
+/// What became of the requests.
+#[derive(Clone, Copy)]
+pub struct Outcome {
+    pub requests: u32,
+    /// Requests of objects that were there.
+    pub hits: u32,
+    pub evictions: u32,
+    /// The pages that rounds moved.
+    pub moves: u32,
+    /// The pageblocks that were asked for.
+    pub asked: u32,
+    /// Those that were handed out.
+    pub got: u32,
+    /// The objects at the end.
+    pub objects: u32,
+}
+
+/// A cache and who uses it.
+#[derive(Drop)]
+struct Traffic<I: Ledger, N: Ledger, M: Ledger, B: Ledger> {
+    cache: Cache<I, N, M, B>,
+    keys: Keys,
+    /// The key of the object that a slow reader has pinned.
+    pinned: Option<u32>,
+    requests: u32,
+    got: u32,
+}
+
+/// Opens a cache, and lets readers use it while pageblocks are asked for and given back.
+pub fn run<I: Ledger, N: Ledger, M: Ledger, B: Ledger>(
+    alloc: Global,
+    rounds: Rounds,
+    blanks: Blanks,
+) -> Result<Outcome, Trouble>
+    requires blanks { AreFor blanks I.name I.parts N.name N.parts M.name M.parts B.name B.parts }
+{
+    let mut traffic = Traffic::<I, N, M, B>::new(Cache::open(alloc, blanks)?);
+    traffic.pass_all(rounds)
+}
+
+impl<I: Ledger, N: Ledger, M: Ledger, B: Ledger> Traffic<I, N, M, B> {
+    fn new(cache: Cache<I, N, M, B>) -> Self {
+        Traffic {
+            cache,
+            keys: Keys::new(),
+            pinned: None,
+            requests: 0,
+            got: 0,
+        }
+    }
+
+    /// Makes all requests, and asks for all pageblocks.
+    fn pass_all(&mut self, rounds: Rounds) -> Result<Outcome, Trouble> {
+        for _asked in 0..ASKED {
+            self.request_all()?;
+            let block = self.cache.take_pageblock(rounds)?;
+            self.request_all()?;
+            self.give_back(block)?;
+        }
+        self.outcome()
+    }
+
+    /// Requests objects, and lets a slow reader pin one now and then.
+    fn request_all(&mut self) -> Result<(), Trouble> {
+        for number in 0..REQUESTS {
+            let key = self.keys.draw();
+            self.cache.request(key)?;
+            if number % PINNED_FOR == 0 {
+                self.pin(key)?;
+            }
+        }
+        self.requests = self.requests.saturating_add(REQUESTS);
+        Ok(())
+    }
+
+    /// Pins the object that the slow reader reads now, and unpins the one before.
+    fn pin(&mut self, key: u32) -> Result<(), Trouble> {
+        self.cache.pin(key)?;
+        if let Some(before) = self.pinned.replace(key) {
+            self.cache.unpin(before)?;
+        }
+        Ok(())
+    }
+
+    /// Counts a pageblock that was handed out, and gives it back.
+    fn give_back(&mut self, block: Option<BlockNo>) -> Result<(), Trouble> {
+        if let Some(block) = block {
+            self.got = self.got.saturating_add(1);
+            self.cache.give_pageblock(block)?;
+        }
+        Ok(())
+    }
+
+    fn outcome(&mut self) -> Result<Outcome, Trouble> {
+        Ok(Outcome {
+            requests: self.requests,
+            hits: self.cache.hits,
+            evictions: self.cache.evictions,
+            moves: self.cache.moves()?,
+            asked: ASKED,
+            got: self.got,
+            objects: self.cache.count()?,
+        })
+    }
+}

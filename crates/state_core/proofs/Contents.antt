@@ -1,0 +1,89 @@
+-- Words are written into a block that is handed out: the zone stays lawful, and no pair comes of it.
+use Rattle.std.proofs.Common.{◌≡◌, ℕ, ◌+◌, ◌*◌, ◌^◌, ◌≤◌, List, length, take, drop, [], ◌++◌, inl, inr, refl, sym, ap, ◌∙◌, arith, Option, Some, None, unwrap_or}
+use Rattle.std.specs.FinMap as map
+use Rattle.std.specs.Option.{option_map}
+use Rattle.std.proofs.lemmas.Bool.Decides.{eqb_tells}
+use Rattle.std.proofs.lemmas.List.{length-append, length-drop, length-take-le}
+use Rattle.std.proofs.lemmas.Option.{none-some, same_Some}
+use Rattle.state_core.specs.Contents.{contents_of, contents_written}
+use Rattle.state_core.specs.Lawful.{IsLawful}
+use Rattle.state_core.specs.Pairs.{HaveMet}
+use Rattle.state_core.specs.Swept.{IsSwept}
+use Rattle.state_core.specs.ZoneState.{ZoneState}
+use Rattle.state_core.proofs.Entries.{get_insert_same, get_insert_other}
+use Rattle.word_core.specs.Words.{put_from}
+
+-- values that are put among the words leave as many words
+pub length_put_from : (words : List ℕ) (from : ℕ) (values : List ℕ) → from + length values ≤ length words → length (put_from words from values) ≡ length words
+length_put_from words from values within =
+    length-append (take from words ++ values) (drop (from + length values) words)
+    ∙ omega (arith, length-append (take from words) values, length-take-le from words (omega arith), length-drop (from + length values) words)
+
+module _ (v : ZoneState) (law : IsLawful v) (first order : ℕ) (at : map.get v.handed_out first ≡ Some order) where
+  -- a block that is handed out has its words
+  pub has_contents : map.get v.contents first ≡ Some (contents_of v first)
+  has_contents = by_entry (map.get v.contents first) (law.contents first ∙ ap (option_map (λ o. 2 ^ o * v.page_size)) at) where
+    by_entry : (o : Option (List ℕ)) → option_map length o ≡ Some (2 ^ order * v.page_size) → o ≡ Some (unwrap_or o [])
+    by_entry None e = absurd (none-some _ e)
+    by_entry (Some words) e = refl
+
+  pub length_contents : length (contents_of v first) ≡ 2 ^ order * v.page_size
+  length_contents = same_Some _ _ (sym (ap (option_map length) has_contents) ∙ law.contents first ∙ ap (option_map (λ o. 2 ^ o * v.page_size)) at)
+
+  module _ (from : ℕ) (values : List ℕ) (within : from + length values ≤ 2 ^ order * v.page_size) where
+    abbrev written : ZoneState
+    written = contents_written v first from values
+
+    contents_after : (f : ℕ) → option_map length (map.get written.contents f) ≡ option_map (λ o. 2 ^ o * v.page_size) (map.get v.handed_out f)
+    contents_after f = elim (eqb_tells f first) [
+      | inl same ↦
+          (ap (option_map length) (get_insert_same v.contents first f _ same.1)
+          ∙ ap Some (length_put_from (contents_of v first) from values (omega (arith, length_contents)) ∙ length_contents)
+          ∙ sym (ap (option_map (λ o. 2 ^ o * v.page_size)) (ap (map.get v.handed_out) same.1 ∙ at)))
+      | inr other ↦ ap (option_map length) (get_insert_other v.contents first f _ other.1) ∙ law.contents f
+    ]
+
+    swept_written : IsSwept v → IsSwept written
+    swept_written swept = record {
+      below = swept.below;
+      above = swept.above;
+      unheld = swept.unheld;
+      movable = swept.movable;
+      ways = λ page serial source target e. (let way = swept.ways page serial source target e in record { low = way.low; high = way.high; movable = way.movable });
+    }
+
+    pub lawful_contents_written : IsLawful (contents_written v first from values)
+    lawful_contents_written = record {
+      size = law.size;
+      places = law.places;
+      serials = law.serials;
+      truthful = law.truthful;
+      well_ended = law.well_ended;
+      room_left = law.room_left;
+      named = law.named;
+      in_use = law.in_use;
+      numbered = law.numbered;
+      under_way = law.under_way;
+      upward = law.upward;
+      apart = law.apart;
+      within = law.within;
+      clear = law.clear;
+      blocks = law.blocks;
+      disjoint = law.disjoint;
+      contents = contents_after;
+      handed = law.handed;
+      marks = law.marks;
+      unmovable = law.unmovable;
+      fingers = law.fingers;
+      begun = law.begun;
+      swept = λ quiet. swept_written (law.swept quiet);
+      sum = law.sum;
+    }
+
+pub met_contents_written : (v : ZoneState) (first from : ℕ) (values : List ℕ) → HaveMet v → HaveMet (contents_written v first from values)
+met_contents_written v first from values met page source target is = met page source target (record {
+  from = record { here = is.from.here; movable = is.from.movable; unmarked = is.from.unmarked; low = is.from.low; high = is.from.high };
+  lowest = λ q frame s. is.lowest q frame (record { here = s.here; movable = s.movable; unmarked = s.unmarked; low = s.low; high = s.high });
+  to = record { free = is.to.free; unmarked = is.to.unmarked; low = is.to.low; high = is.to.high };
+  highest = λ frame t. is.highest frame (record { free = t.free; unmarked = t.unmarked; low = t.low; high = t.high });
+})

@@ -1,0 +1,91 @@
+//! Reading and writing the words of blocks that are handed out.
+
+ghost use Rattle.std.specs.Prelude.{◌≡◌, ◌+◌, ◌*◌, ◌^◌, ◌≤◌, length, IsTrue, OnOk, OnErr};
+ghost use Rattle.std.specs.FinMap as map;
+ghost use Rattle.std.specs.Result.{result_err};
+ghost use Rattle.state_core.specs.Contents.{contents_refusal, contents_from, contents_written};
+ghost use Rattle.state_core.specs.HandingOut.{is_order};
+ghost use Rattle.state_core.specs.Lawful.{IsLawful};
+ghost use Rattle.state_core.specs.Pairs.{HaveMet};
+ghost use Rattle.zone_core.specs.Shape.{HasShape};
+
+use crate::zone::Zone;
+use frame_core::{FrameNo, Order};
+use state_core::ZoneError;
+use std::sync::ledger::Ledger;
+
+impl<const W: usize, I: Ledger, M: Ledger, B: Ledger> Zone<W, I, M, B> {
+    /// Reads words of a block that is handed out, from one on, into `values`. The block is named by its first frame and its
+    /// order.
+    ///
+    /// A word has 64 bits. A block of an order has the words of its 2^order frames, one frame after the other: the words 0 to
+    /// 2^order * W - 1. What was written there stays until the block is given back, and a fresh block reads as zeros. That is
+    /// this project's own rule: the kernel clears a huge page before it is handed out. No record is written, and a full journal
+    /// refuses nothing.
+    ///
+    /// Refused as NotHuge where no block of this order is handed out from this frame on, or as Range where the words go past
+    /// its last one.
+    pub fn read_block(
+        &mut self,
+        first: FrameNo,
+        order: Order,
+        from: usize,
+        values: &mut [u64],
+    ) -> Result<(), ZoneError>
+        ensures refused { result_err result ≡ contents_refusal self.old first order from (length values.old) }
+        ensures err { OnErr result ((self.new ≡ self.old) × (values.new ≡ values.old)) }
+        ensures values { OnOk result (values.new ≡ contents_from self.old first from (length values.old)) }
+        ensures ok { OnOk result (self.new ≡ self.old) }
+        ensures met { OnOk result (HaveMet self.old → HaveMet self.new) }
+        ensures shape { HasShape self.old.number self.old.blocks self.new }
+        ensures lawful { IsLawful self.new }
+    {
+        self.can_reach(first, order, from, values.len())?;
+        self.plain.read_block(first, order, from, values);
+        Ok(())
+    }
+
+    /// Writes words of a block that is handed out, from one on. No page and no other block changes.
+    ///
+    /// Refused as NotHuge where no block of this order is handed out from this frame on, or as Range where the words go past
+    /// its last one.
+    pub fn write_block(
+        &mut self,
+        first: FrameNo,
+        order: Order,
+        from: usize,
+        values: &[u64],
+    ) -> Result<(), ZoneError>
+        ensures refused { result_err result ≡ contents_refusal self.old first order from (length values.now) }
+        ensures err { OnErr result (self.new ≡ self.old) }
+        ensures ok { OnOk result (self.new ≡ contents_written self.old first from values.now) }
+        ensures met { OnOk result (HaveMet self.old → HaveMet self.new) }
+        ensures shape { HasShape self.old.number self.old.blocks self.new }
+        ensures lawful { IsLawful self.new }
+    {
+        self.can_reach(first, order, from, values.len())?;
+        self.plain.write_block(first, order, from, values);
+        Ok(())
+    }
+
+    // Whether this many words of a block, from one on, can be read or written.
+    fn can_reach(
+        &self,
+        first: FrameNo,
+        order: Order,
+        from: usize,
+        count: usize,
+    ) -> Result<(), ZoneError>
+        ensures refused { result_err result ≡ contents_refusal self.now first order from count }
+        ensures held { OnOk result (IsTrue (is_order (map.get self.now.handed_out first) order)) }
+        ensures within { OnOk result (from + count ≤ 2 ^ order * W) }
+    {
+        if !self.plain.is_handed_out(first, order) {
+            return Err(ZoneError::NotHuge);
+        }
+        if !self.plain.has_words_from(first, order, from, count) {
+            return Err(ZoneError::Range);
+        }
+        Ok(())
+    }
+}
