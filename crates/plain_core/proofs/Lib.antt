@@ -22,7 +22,6 @@ pub mod Placement
 pub mod Relocation
 pub mod Rounds
 pub mod Scanning
-pub mod Sent
 pub mod SearchesAndCounts
 pub mod Shared
 pub mod Tables

@@ -3,6 +3,7 @@
 //! A history that exists in proofs alone takes no memory, and so it never fills it.
 #![tactic(auto)]
 
+mod seen;
 mod told;
 
 pub use told::Told;

@@ -1,12 +1,12 @@
 use std::marker::Model;
-use std::snapshot::Snapshot;
+use crate::seen::Seen;
 
 /// How a list came to be. A value of it lives only until a snapshot of it was made.
 #[derive(Drop)]
 enum Past<T> {
     Nothing,
-    After(Snapshot<T>, Snapshot<Past<T>>),
-    Same(Snapshot<Snapshot<Past<T>>>),
+    After(Seen<T>, Seen<Past<T>>),
+    Same(Seen<Seen<Past<T>>>),
 }
 
 /// A list of items, the newest first, that only contracts see. It has no bytes.
@@ -16,7 +16,7 @@ enum Past<T> {
 /// compare the list with anything: only a proof can.
 #[derive(Drop)]
 pub struct Told<T> {
-    past: Snapshot<Past<T>>,
+    past: Seen<Past<T>>,
 }
 
 impl<T> Model for Told<T> {
@@ -36,7 +36,7 @@ impl<T> Told<T> {
         ensures { result ≡ [] }
     {
         Told {
-            past: Snapshot::of(&Past::Nothing),
+            past: Seen::of(&Past::Nothing),
         }
     }
 
@@ -45,7 +45,7 @@ impl<T> Told<T> {
         ensures { self.new ≡ item.now ∷ self.old }
     {
         let Told { past } = self.again();
-        self.past = Snapshot::of(&Past::After(Snapshot::of(item), past));
+        self.past = Seen::of(&Past::After(Seen::of(item), past));
     }
 
     /// The same list once more.
@@ -53,13 +53,8 @@ impl<T> Told<T> {
         ensures { result ≡ self.now }
     {
         Told {
-            past: Snapshot::of(&Past::Same(Snapshot::of(&self.past))),
+            past: Seen::of(&Past::Same(Seen::of(&self.past))),
         }
     }
 }
 
-// A list has no bytes, so any thread may have it. This is proved like any other statement; with it a zone that has a list is found to be
-// fit for threads in a step.
-unsafe impl<T> Send for Told<T> {}
-
-unsafe impl<T> Sync for Told<T> {}

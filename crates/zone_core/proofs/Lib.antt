@@ -1,4 +1,3 @@
 pub mod ScannersMet
 pub mod Seated
 mod WordsAtOnce
-pub mod Sent
