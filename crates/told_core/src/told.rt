@@ -1,7 +1,7 @@
-use std::marker::Model;
 use crate::seen::Seen;
+use std::marker::Model;
 
-/// How a list came to be. A value of it lives only until a snapshot of it was made.
+/// How a list came to be. A value of it lives only until it is seen.
 #[derive(Drop)]
 enum Past<T> {
     Nothing,
@@ -57,4 +57,3 @@ impl<T> Told<T> {
         }
     }
 }
-
