@@ -6,6 +6,7 @@ ghost use Rattle.outcome_core.specs.ByHand.{by_hand};
 ghost use Rattle.outcome_core.specs.Outcome.{IsSame};
 ghost use Rattle.outcome_laws.specs.Fingers.{IsSameInRound};
 ghost use Rattle.state_core.specs.Access.{access_refusal, value_at, loaded, stored};
+ghost use Rattle.state_core.specs.Calls.{refusal_of, answer_of, after};
 ghost use Rattle.state_core.specs.Contents.{contents_refusal, contents_from, contents_written};
 ghost use Rattle.state_core.specs.Ending.{ended_as, committed, put_back_to_source};
 ghost use Rattle.state_core.specs.HandingOut.{lowest_run, take_order_refusal, give_order_refusal, block_taken, block_given};
@@ -19,6 +20,14 @@ ghost use Rattle.state_core.specs.Rounds.{round_begun};
 ghost use Rattle.state_core.specs.Sharing.{share_refusal, shared};
 ghost use Rattle.state_core.specs.Unmapping.{unmap_refusal, unmapped};
 ghost use Rattle.state_core.specs.ZoneState.{ZoneState, lowest_free_frame};
+ghost use Rattle.state_core.specs.declared.call.ZoneCall.{ZoneCall};
+
+/// Any call that a client makes.
+pub fn calls_agree()
+    ensures refused { (z w : ZoneState) → IsSame z w → (W : ℕ) (call : ZoneCall W) → refusal_of call z ≡ refusal_of call w }
+    ensures answer { (z w : ZoneState) → IsSame z w → (W : ℕ) (call : ZoneCall W) → answer_of call z ≡ answer_of call w }
+    ensures after { (z w : ZoneState) → IsSame z w → (W : ℕ) (call : ZoneCall W) (client : ℕ) → IsSame (after call client z) (after call client w) }
+{}
 
 /// A load and a store.
 pub fn loads_and_stores_agree()

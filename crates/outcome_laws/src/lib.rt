@@ -7,6 +7,6 @@
 mod law;
 
 pub use law::{
-    blocks_agree, contents_agree, loads_and_stores_agree, looks_agree, maps_agree, marks_agree,
-    moves_agree, pins_agree, rounds_agree, shares_agree, unmaps_agree,
+    blocks_agree, calls_agree, contents_agree, loads_and_stores_agree, looks_agree, maps_agree,
+    marks_agree, moves_agree, pins_agree, rounds_agree, shares_agree, unmaps_agree,
 };

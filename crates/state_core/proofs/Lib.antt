@@ -1,5 +1,6 @@
 pub mod Accessed
 pub mod Bulk
+pub mod Calls
 pub mod Carried
 pub mod Contents
 pub mod Ending

@@ -1,5 +1,6 @@
 pub mod Access
 pub mod Bulk
+pub mod Calls
 pub mod Carrying
 pub mod Clear
 pub mod Contents

@@ -1,18 +1,26 @@
 //! The state of a zone as contracts see it, and how each call changes that state.
 //!
 //! `specs/ZoneState.antt` is the state, one record: a machine without frame tables, words or counters. A file of `specs/` for
-//! each kind of call says when it is refused, what it answers and what it leaves. `specs/Lawful.antt` says what is true
-//! whatever calls are made. `proofs/` has the laws: each step keeps a lawful state lawful.
+//! each kind of call says when it is refused, what it answers and what it leaves. `specs/Calls.antt` is three tables of the calls
+//! that a client makes, each of which is a value. `specs/Lawful.antt` says what is true whatever calls are made. `proofs/` has the
+//! laws: each step keeps a lawful state lawful.
 #![tactic(auto)]
 
+mod call;
 mod error;
 mod information;
+mod law;
 mod moves;
 mod placement;
 mod round;
 
+pub use call::{ZoneAnswer, ZoneCall as ZoneCallOf};
 pub use error::ZoneError;
 pub use information::{Audit, Info, Look};
+pub use law::calls_keep_the_law;
 pub use moves::{Ended, Next, Stranger};
 pub use placement::Placement;
 pub use round::{Pair, RoundStart};
+
+/// A call on a zone with pages of eight words.
+pub type ZoneCall = ZoneCallOf<8>;

@@ -13,13 +13,17 @@
 mod blocks;
 mod bulk;
 mod contents;
+mod making;
 mod seats;
 mod sharing;
 mod tables;
 mod zone;
 
 pub use seats::{Answered, Blanks, EndSeat, ScanSeat, Seats};
-pub use state_core::{Audit, Ended, Info, Look, Next, Placement, RoundStart, Stranger, ZoneError};
+pub use state_core::{
+    Audit, Ended, Info, Look, Next, Placement, RoundStart, Stranger, ZoneAnswer, ZoneCall,
+    ZoneCallOf, ZoneError,
+};
 pub use zone::Zone as ZoneOf;
 
 /// A zone with pages of eight words.

@@ -8,6 +8,7 @@ mod moving;
 mod refusals;
 mod sizes;
 mod steps;
+mod values;
 mod walks;
 mod world;
 

@@ -1,0 +1,228 @@
+-- Each call that isn't refused leaves a lawful zone lawful.
+use Rattle.std.proofs.Common.{◌≡◌, ℕ, ◌+◌, ◌<◌, ◌≤◌, Bool, true, false, cond, length, refl, sym, ap, subst, arith, ◌-◌, not, is_some, Option, Some, None, IsSome}
+use Rattle.std.specs.Prelude.{unwrap_or}
+use Rattle.std.specs.Option.{option_or}
+use Rattle.std.proofs.lemmas.Bool.{not-false, ltb-true, leb-false, eqb-true}
+use Rattle.frame_core.proofs.Searches.{lowest_some}
+use Rattle.frame_core.specs.Address.{InRange}
+use Rattle.frame_core.specs.declared.place.Address.{Address}
+use Rattle.journal_core.specs.History.{page_at, maps}
+use Rattle.journal_core.specs.Moves.{out}
+use Rattle.state_core.specs.declared.call.ZoneCall.{ZoneCall}
+use Rattle.state_core.specs.declared.call.ZoneCall.TheVariants.{Map, MapAt, Load, Store, Share, Unmap, Pin, Unpin, TakeOrder, GiveOrder, Mark, Unmark}
+use Rattle.state_core.specs.declared.error.ZoneError.{ZoneError}
+use Rattle.state_core.specs.declared.placement.Placement.{Placement}
+use Rattle.state_core.specs.declared.placement.Placement.TheVariants.{At, Moving}
+use Rattle.state_core.specs.Access.{placement_refusal, access_refusal, loaded, stored}
+use Rattle.state_core.specs.Calls.{refusal_of, after, IsInRange}
+use Rattle.state_core.specs.HandingOut.{is_order, is_run, lowest_run, take_order_refusal, give_order_refusal, block_taken, block_given}
+use Rattle.state_core.specs.Lawful.{IsLawful}
+use Rattle.state_core.specs.Mapping.{map_refusal, map_at_refusal, mapped}
+use Rattle.state_core.specs.Pinning.{pin_refusal, unpin_refusal, pinned, unpinned}
+use Rattle.state_core.specs.Sharing.{share_refusal, shared}
+use Rattle.state_core.specs.Unmapping.{is_last, unmap_refusal, unmapped}
+use Rattle.state_core.specs.ZoneState.{ZoneState, frame_count, has_room, is_free, lowest_free_frame, lowest_unused_page}
+use Rattle.state_core.proofs.Accessed.{lawful_loaded, lawful_stored}
+use Rattle.state_core.proofs.Facts.{none_is, spare, page_named}
+use Rattle.state_core.proofs.Finding.{some_lowest, unused_is, unused_left}
+use Rattle.state_core.proofs.HandingOut.{lawful_block_taken, lawful_block_given}
+use Rattle.state_core.proofs.Mapping.{CanPlace, placed_lawful}
+use Rattle.state_core.proofs.Marking.{lawful_marked, lawful_unmarked}
+use Rattle.state_core.proofs.Pinning.{lawful_pinned, lawful_unpinned}
+use Rattle.state_core.proofs.Sharing.{lawful_shared}
+use Rattle.state_core.proofs.Unmapping.{lawful_unmapped}
+
+-- a call that isn't refused passed each test
+passed : (b : Bool) (error : ZoneError) (o : Option ZoneError) → cond b (Some error) o ≡ None → (b ≡ false) × (o ≡ None)
+passed true error o e = cc
+passed false error o e = (refl, e)
+
+both_passed : (a b : Option ZoneError) → option_or a b ≡ None → (a ≡ None) × (b ≡ None)
+both_passed None b e = (refl, e)
+both_passed (Some error) b e = cc
+
+in_a_frame : (o : Option Placement) → placement_refusal o ≡ None → (frame : ℕ) × (o ≡ Some (At frame))
+in_a_frame None e = cc
+in_a_frame (Some (At frame)) e = (frame, refl)
+in_a_frame (Some (Moving serial source target)) e = cc
+
+of_this_order : (o : Option ℕ) (order : ℕ) → is_order o order ≡ true → o ≡ Some order
+of_this_order None order e = cc
+of_this_order (Some held) order e = ap Some (eqb-true held order e)
+
+module _ (z : ZoneState) where
+  room_passed : not (has_room z) ≡ false → length (out z.records) < z.room
+  room_passed e = spare z (not-false _ e)
+
+  found : (o : Option ℕ) → is_some o ≡ true → o ≡ Some (unwrap_or o 0)
+  found None e = cc
+  found (Some n) e = refl
+
+  module _ (law : IsLawful z) (client : ℕ) where
+    unused : IsSome (lowest_free_frame z) → (page : ℕ) × (lowest_unused_page z ≡ Some page)
+    unused some = by (lowest_unused_page z) refl where
+      by : (o : Option ℕ) → lowest_unused_page z ≡ o → (page : ℕ) × (lowest_unused_page z ≡ Some page)
+      by None e = absurd (unused_left z law some e)
+      by (Some page) e = (page, e)
+
+    kept_placed : (address : Address) (unmovable : Bool) (frame : ℕ) → InRange address → length (out z.records) < z.room → page_at z.records address ≡ None
+        → is_free z frame ≡ true → frame < frame_count z → IsLawful (mapped z client address unmovable frame)
+    kept_placed address unmovable frame range room vacant free within =
+        let page = unused (some_lowest z frame free within) in
+        let is = unused_is z page.0 page.1 in
+        let named : unwrap_or (lowest_unused_page z) 0 ≡ page.0 = ap (λ (o : Option ℕ). unwrap_or o 0) page.1 in
+        placed_lawful z client address unmovable _ frame (subst (λ (p : ℕ). CanPlace z address p frame) (sym named) (record {
+          lawful = law;
+          spare = room;
+          range = range;
+          vacant = vacant;
+          unused = is.1;
+          numbered = is.0;
+          free = free;
+          within = within;
+        }))
+
+    kept_map : (address : Address) (unmovable : Bool) → InRange address → map_refusal z address ≡ None → IsLawful (mapped z client address unmovable (unwrap_or (lowest_free_frame z) 0))
+    kept_map address unmovable range accepted =
+        let room = passed _ _ _ accepted in
+        let vacant = passed _ _ _ room.1 in
+        let some = passed _ _ _ vacant.1 in
+        let free = lowest_some (is_free z) (frame_count z) _ (found (lowest_free_frame z) (not-false _ some.0)) in
+        kept_placed address unmovable _ range (room_passed room.0) (none_is _ vacant.0) free.1 free.0
+
+    kept_map_at : (address : Address) (unmovable : Bool) (frame : ℕ) → InRange address → map_at_refusal z address frame ≡ None → IsLawful (mapped z client address unmovable frame)
+    kept_map_at address unmovable frame range accepted =
+        let within = passed _ _ _ accepted in
+        let room = passed _ _ _ within.1 in
+        let vacant = passed _ _ _ room.1 in
+        let free = passed _ _ _ vacant.1 in
+        kept_placed address unmovable frame range (room_passed room.0) (none_is _ vacant.0) (not-false _ free.0) (ltb-true _ _ (not-false _ within.0))
+
+    kept_load : (address : Address) (word : ℕ) → access_refusal z address ≡ None → IsLawful (loaded z client address word)
+    kept_load address word accepted =
+        let room = passed _ _ _ accepted in
+        let at = in_a_frame _ room.1 in
+        lawful_loaded z law (room_passed room.0) client address at.0 word at.1
+
+    kept_store : (address : Address) (word value : ℕ) → access_refusal z address ≡ None → IsLawful (stored z client address word value)
+    kept_store address word value accepted = lawful_stored z law (room_passed (passed _ _ _ accepted).0) client address word value
+
+    kept_share : (address alias : Address) → InRange alias → share_refusal z address alias ≡ None → IsLawful (shared z client address alias)
+    kept_share address alias range accepted =
+        let room = passed _ _ _ accepted in
+        let both = both_passed _ _ room.1 in
+        let at = in_a_frame _ both.0 in
+        let vacant = passed _ _ _ both.1 in
+        let few = passed _ _ _ vacant.1 in
+        let page = page_named z address (At at.0) at.1 in
+        lawful_shared z client address alias page.0 at.0 (record {
+          lawful = law;
+          spare = room_passed room.0;
+          named = page.1;
+          at = page.2;
+          range = range;
+          vacant = none_is _ vacant.0;
+          few = subst (λ (o : Option ℕ). maps z.records (unwrap_or o 0) < 4) page.1 (leb-false _ _ few.0);
+        })
+
+    kept_unmap : (address : Address) → unmap_refusal z address ≡ None → IsLawful (unmapped z client address)
+    kept_unmap address accepted =
+        let room = passed _ _ _ accepted in
+        let at = in_a_frame _ (both_passed _ _ room.1).0 in
+        let page = page_named z address (At at.0) at.1 in
+        lawful_unmapped z client address page.0 at.0 (record { lawful = law; spare = room_passed room.0; named = page.1; at = page.2 })
+
+    kept_pin : (address : Address) → pin_refusal z address ≡ None → IsLawful (pinned z client address)
+    kept_pin address accepted =
+        let room = passed _ _ _ accepted in
+        let named = passed _ _ _ room.1 in
+        let few = passed _ _ _ named.1 in
+        lawful_pinned z client address _ (found (page_at z.records address) (not-false _ named.0)) law (room_passed room.0) (leb-false _ _ few.0)
+
+    kept_unpin : (address : Address) → unpin_refusal z address ≡ None → IsLawful (unpinned z client address)
+    kept_unpin address accepted =
+        let room = passed _ _ _ accepted in
+        let named = passed _ _ _ room.1 in
+        lawful_unpinned z client address _ (found (page_at z.records address) (not-false _ named.0)) law (room_passed room.0)
+
+    kept_take : (order : ℕ) → 3 ≤ order → order ≤ 9 → take_order_refusal z order ≡ None → IsLawful (block_taken z (unwrap_or (lowest_run z order) 0) order)
+    kept_take order low high accepted =
+        let room = passed _ _ _ accepted in
+        let some = passed _ _ _ room.1 in
+        let run = lowest_some (is_run z order) (frame_count z) _ (found (lowest_run z order) (not-false _ some.0)) in
+        lawful_block_taken z _ order run.1 law (room_passed room.0) low high
+
+    kept_give : (first order : ℕ) → give_order_refusal z first order ≡ None → IsLawful (block_given z first order)
+    kept_give first order accepted =
+        let room = passed _ _ _ (passed _ _ _ accepted).1 in
+        let held = passed _ _ _ room.1 in
+        lawful_block_given z law first order (of_this_order _ order (not-false _ held.0)) (room_passed room.0)
+
+-- each call that isn't refused leaves a lawful zone lawful
+pub call_lawful : (W : ℕ) (call : ZoneCall W) (client : ℕ) (z : ZoneState) → IsLawful z → IsInRange call → refusal_of call z ≡ None → IsLawful (after call client z)
+call_lawful W (Map address unmovable) client z law range accepted = kept_map z law client address unmovable range accepted
+call_lawful W (MapAt address unmovable frame) client z law range accepted = kept_map_at z law client address unmovable frame range accepted
+call_lawful W (Load address word) client z law range accepted = kept_load z law client address word accepted
+call_lawful W (Store address word value) client z law range accepted = kept_store z law client address word value accepted
+call_lawful W (Share address alias) client z law range accepted = kept_share z law client address alias range accepted
+call_lawful W (Unmap address) client z law range accepted = kept_unmap z law client address accepted
+call_lawful W (Pin address) client z law range accepted = kept_pin z law client address accepted
+call_lawful W (Unpin address) client z law range accepted = kept_unpin z law client address accepted
+call_lawful W (TakeOrder order) client z law range accepted = kept_take z law client order range.0 range.1 accepted
+call_lawful W (GiveOrder first order) client z law range accepted = kept_give z law client first order accepted
+call_lawful W (Mark block) client z law range accepted = lawful_marked z law (room_passed z (passed _ _ _ (passed _ _ _ accepted).1).0) block
+call_lawful W (Unmark block) client z law range accepted = lawful_unmarked z law (room_passed z (passed _ _ _ (passed _ _ _ accepted).1).0) block
+
+-- an unmap keeps what it keeps whether or not the address was the page's last
+by_last : (P : ZoneState → Type 0) (b : Bool) (gone still : ZoneState) → P gone → P still → P (cond b gone still)
+by_last P true gone still last more = last
+by_last P false gone still last more = more
+
+pub call_shape : (W : ℕ) (call : ZoneCall W) (client : ℕ) (z : ZoneState) → ((after call client z).number ≡ z.number) × ((after call client z).blocks ≡ z.blocks) × ((after call client z).page_size ≡ z.page_size)
+call_shape W (Unmap address) client z = by_last (λ v. (v.number ≡ z.number) × (v.blocks ≡ z.blocks) × (v.page_size ≡ z.page_size)) (is_last z address) _ _ (refl, refl, refl) (refl, refl, refl)
+call_shape W (Map address unmovable) client z = (refl, refl, refl)
+call_shape W (MapAt address unmovable frame) client z = (refl, refl, refl)
+call_shape W (Load address word) client z = (refl, refl, refl)
+call_shape W (Store address word value) client z = (refl, refl, refl)
+call_shape W (Share address alias) client z = (refl, refl, refl)
+call_shape W (Pin address) client z = (refl, refl, refl)
+call_shape W (Unpin address) client z = (refl, refl, refl)
+call_shape W (TakeOrder order) client z = (refl, refl, refl)
+call_shape W (GiveOrder first order) client z = (refl, refl, refl)
+call_shape W (Mark block) client z = (refl, refl, refl)
+call_shape W (Unmark block) client z = (refl, refl, refl)
+
+-- the room that a call finds which isn't refused
+call_room : (W : ℕ) (call : ZoneCall W) (z : ZoneState) → refusal_of call z ≡ None → length (out z.records) < z.room
+call_room W (Map address unmovable) z accepted = room_passed z (passed _ _ _ accepted).0
+call_room W (MapAt address unmovable frame) z accepted = room_passed z (passed _ _ _ (passed _ _ _ accepted).1).0
+call_room W (Load address word) z accepted = room_passed z (passed _ _ _ accepted).0
+call_room W (Store address word value) z accepted = room_passed z (passed _ _ _ accepted).0
+call_room W (Share address alias) z accepted = room_passed z (passed _ _ _ accepted).0
+call_room W (Unmap address) z accepted = room_passed z (passed _ _ _ accepted).0
+call_room W (Pin address) z accepted = room_passed z (passed _ _ _ accepted).0
+call_room W (Unpin address) z accepted = room_passed z (passed _ _ _ accepted).0
+call_room W (TakeOrder order) z accepted = room_passed z (passed _ _ _ accepted).0
+call_room W (GiveOrder first order) z accepted = room_passed z (passed _ _ _ (passed _ _ _ accepted).1).0
+call_room W (Mark block) z accepted = room_passed z (passed _ _ _ (passed _ _ _ accepted).1).0
+call_room W (Unmark block) z accepted = room_passed z (passed _ _ _ (passed _ _ _ accepted).1).0
+
+one_record : (W : ℕ) (call : ZoneCall W) (client : ℕ) (z : ZoneState) → (length (after call client z).records ≡ length z.records + 1) × ((after call client z).room ≡ z.room - 1)
+one_record W (Unmap address) client z = by_last (λ v. (length v.records ≡ length z.records + 1) × (v.room ≡ z.room - 1)) (is_last z address) _ _ (omega arith, refl) (omega arith, refl)
+one_record W (Map address unmovable) client z = (omega arith, refl)
+one_record W (MapAt address unmovable frame) client z = (omega arith, refl)
+one_record W (Load address word) client z = (omega arith, refl)
+one_record W (Store address word value) client z = (omega arith, refl)
+one_record W (Share address alias) client z = (omega arith, refl)
+one_record W (Pin address) client z = (omega arith, refl)
+one_record W (Unpin address) client z = (omega arith, refl)
+one_record W (TakeOrder order) client z = (omega arith, refl)
+one_record W (GiveOrder first order) client z = (omega arith, refl)
+one_record W (Mark block) client z = (omega arith, refl)
+one_record W (Unmark block) client z = (omega arith, refl)
+
+pub call_recorded : (W : ℕ) (call : ZoneCall W) (client : ℕ) (z : ZoneState) → refusal_of call z ≡ None → (length (after call client z).records ≡ length z.records + 1) × ((after call client z).room + 1 ≡ z.room)
+call_recorded W call client z accepted =
+    let one = one_record W call client z in
+    let room = call_room W call z accepted in
+    (one.0, omega (arith, one.1, room))

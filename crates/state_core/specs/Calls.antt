@@ -1,0 +1,76 @@
+-- The calls of a zone in three tables, with a row for each call: why it is refused, what it answers, and what it leaves.
+use Rattle.std.specs.Prelude.{ℕ, ◌≤◌, ⊤, Bool, true, false, Option, unwrap_or}
+use Rattle.frame_core.specs.Address.{InRange}
+use Rattle.state_core.specs.declared.call.ZoneAnswer.{ZoneAnswer}
+use Rattle.state_core.specs.declared.call.ZoneAnswer.TheVariants.{Done, Frame, Value}
+use Rattle.state_core.specs.declared.call.ZoneCall.{ZoneCall}
+use Rattle.state_core.specs.declared.call.ZoneCall.TheVariants.{Map, MapAt, Load, Store, Share, Unmap, Pin, Unpin, TakeOrder, GiveOrder, Mark, Unmark}
+use Rattle.state_core.specs.declared.error.ZoneError.{ZoneError}
+use Rattle.state_core.specs.Access.{access_refusal, value_at, loaded, stored}
+use Rattle.state_core.specs.HandingOut.{lowest_run, take_order_refusal, give_order_refusal, block_taken, block_given}
+use Rattle.state_core.specs.Mapping.{map_refusal, map_at_refusal, mapped}
+use Rattle.state_core.specs.Marking.{mark_refusal, unmark_refusal, block_marked, block_unmarked}
+use Rattle.state_core.specs.Pinning.{pin_refusal, unpin_refusal, pinned, unpinned}
+use Rattle.state_core.specs.Sharing.{share_refusal, shared}
+use Rattle.state_core.specs.Unmapping.{unmap_refusal, unmapped}
+use Rattle.state_core.specs.ZoneState.{ZoneState, lowest_free_frame}
+
+-- why a call is refused, if it is
+abbrev pub refusal_of : {W : ℕ} → ZoneCall W → ZoneState → Option ZoneError
+refusal_of (Map address unmovable) z = map_refusal z address
+refusal_of (MapAt address unmovable frame) z = map_at_refusal z address frame
+refusal_of (Load address word) z = access_refusal z address
+refusal_of (Store address word value) z = access_refusal z address
+refusal_of (Share address alias) z = share_refusal z address alias
+refusal_of (Unmap address) z = unmap_refusal z address
+refusal_of (Pin address) z = pin_refusal z address
+refusal_of (Unpin address) z = unpin_refusal z address
+refusal_of (TakeOrder order) z = take_order_refusal z order
+refusal_of (GiveOrder first order) z = give_order_refusal z first order
+refusal_of (Mark block) z = mark_refusal z block
+refusal_of (Unmark block) z = unmark_refusal z block
+
+-- what a call answers that isn't refused
+abbrev pub answer_of : {W : ℕ} → ZoneCall W → ZoneState → ZoneAnswer
+answer_of (Map address unmovable) z = Frame (unwrap_or (lowest_free_frame z) 0)
+answer_of (MapAt address unmovable frame) z = Done
+answer_of (Load address word) z = Value (value_at z address word)
+answer_of (Store address word value) z = Done
+answer_of (Share address alias) z = Done
+answer_of (Unmap address) z = Done
+answer_of (Pin address) z = Done
+answer_of (Unpin address) z = Done
+answer_of (TakeOrder order) z = Frame (unwrap_or (lowest_run z order) 0)
+answer_of (GiveOrder first order) z = Done
+answer_of (Mark block) z = Done
+answer_of (Unmark block) z = Done
+
+-- the zone after a call of a client that isn't refused
+abbrev pub after : {W : ℕ} → ZoneCall W → ℕ → ZoneState → ZoneState
+after (Map address unmovable) client z = mapped z client address unmovable (unwrap_or (lowest_free_frame z) 0)
+after (MapAt address unmovable frame) client z = mapped z client address unmovable frame
+after (Load address word) client z = loaded z client address word
+after (Store address word value) client z = stored z client address word value
+after (Share address alias) client z = shared z client address alias
+after (Unmap address) client z = unmapped z client address
+after (Pin address) client z = pinned z client address
+after (Unpin address) client z = unpinned z client address
+after (TakeOrder order) client z = block_taken z (unwrap_or (lowest_run z order) 0) order
+after (GiveOrder first order) client z = block_given z first order
+after (Mark block) client z = block_marked z block
+after (Unmark block) client z = block_unmarked z block
+
+-- whether a call reads or writes a word
+abbrev pub is_access : {W : ℕ} → ZoneCall W → Bool
+is_access (Load address word) = true
+is_access (Store address word value) = true
+is_access _ = false
+
+-- the arguments of a call are in range that a lawful zone rests on: an address that is to name a page, and the order of a block that
+-- is to be handed out
+abbrev pub IsInRange : {W : ℕ} → ZoneCall W → Type 0
+IsInRange (Map address unmovable) = InRange address
+IsInRange (MapAt address unmovable frame) = InRange address
+IsInRange (Share address alias) = InRange alias
+IsInRange (TakeOrder order) = (3 ≤ order) × (order ≤ 9)
+IsInRange _ = ⊤
