@@ -60,6 +60,14 @@ after (GiveOrder first order) client z = block_given z first order
 after (Mark block) client z = block_marked z block
 after (Unmark block) client z = block_unmarked z block
 
+-- whether a client may make the call beside a round: it names an address
+abbrev pub is_of_client : {W : ℕ} → ZoneCall W → Bool
+is_of_client (TakeOrder order) = false
+is_of_client (GiveOrder first order) = false
+is_of_client (Mark block) = false
+is_of_client (Unmark block) = false
+is_of_client _ = true
+
 -- whether a call reads or writes a word
 abbrev pub is_access : {W : ℕ} → ZoneCall W → Bool
 is_access (Load address word) = true

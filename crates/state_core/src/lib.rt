@@ -7,6 +7,7 @@
 #![tactic(auto)]
 
 mod call;
+mod client_call;
 mod error;
 mod information;
 mod law;
@@ -15,6 +16,7 @@ mod placement;
 mod round;
 
 pub use call::{ZoneAnswer, ZoneCall as ZoneCallOf};
+pub use client_call::ClientCall as ClientCallOf;
 pub use error::ZoneError;
 pub use information::{Audit, Info, Look};
 pub use law::calls_keep_the_law;
@@ -24,3 +26,6 @@ pub use round::{Pair, RoundStart};
 
 /// A call on a zone with pages of eight words.
 pub type ZoneCall = ZoneCallOf<8>;
+
+/// A call that a client may make on a zone with pages of eight words.
+pub type ClientCall = ClientCallOf<8>;
