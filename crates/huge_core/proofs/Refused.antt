@@ -1,13 +1,14 @@
 -- What the answer of a zone under its lock tells of the zone.
-use Rattle.std.proofs.Common.{◌≡◌, ℕ, Bool, true, false, not, sym, subst, Some, None}
+use Rattle.std.proofs.Common.{◌≡◌, ℕ, List, length, Bool, true, false, not, sym, subst, Some, None}
 use Rattle.std.specs.Prelude.{Result, Ok, Err, IfErr, OnOk, IfSome, is_none, if◌then◌else◌}
 use Rattle.std.specs.Result.{result_err}
 use Rattle.state_core.specs.declared.error.ZoneError.{ZoneError}
 use Rattle.state_core.specs.declared.error.ZoneError.TheVariants.{JournalFull, NoBlock}
+use Rattle.state_core.specs.Contents.{contents_refusal, contents_from, contents_written}
 use Rattle.state_core.specs.HandingOut.{lowest_run, take_order_refusal, give_order_refusal, block_given}
 use Rattle.state_core.specs.Lawful.{IsLawful}
 use Rattle.state_core.specs.ZoneState.{ZoneState, has_room}
-use Rattle.huge_core.specs.Huge.{Huge, IsRefused, IsTakenBack}
+use Rattle.huge_core.specs.Huge.{Huge, IsRefused, IsTakenBack, IsRead, IsWritten, IsRefusedWords}
 
 pub refused : (zone : ZoneState) (order : ℕ) → IsLawful zone → (result : Result Huge ZoneError)
     → result_err result ≡ take_order_refusal zone order → IfErr result (IsRefused order)
@@ -46,3 +47,31 @@ taken_back zone zone_new huge lawful (Ok done) accepted given = record {
   lawful = lawful;
 }
 taken_back zone zone_new huge lawful (Err back) accepted given = tt
+
+pub read : (zone : ZoneState) (huge : Huge) (from count : ℕ) (values : List ℕ) → IsLawful zone → (result : Result Unit ZoneError)
+    → result_err result ≡ contents_refusal zone huge.frame huge.order from count
+    → OnOk result (values ≡ contents_from zone huge.frame from count) → OnOk result (IsRead huge from count values)
+read zone huge from count values lawful (Ok done) accepted are = record {
+  zone = zone;
+  lawful = lawful;
+  accepted = sym {a = None} accepted;
+  read = are;
+}
+read zone huge from count values lawful (Err error) accepted are = tt
+
+pub written : (zone zone_new : ZoneState) (huge : Huge) (from : ℕ) (values : List ℕ) → IsLawful zone_new
+    → (result : Result Unit ZoneError) → result_err result ≡ contents_refusal zone huge.frame huge.order from (length values)
+    → OnOk result (zone_new ≡ contents_written zone huge.frame from values) → OnOk result (IsWritten huge from values)
+written zone zone_new huge from values lawful (Ok done) accepted is = record {
+  zone = zone;
+  zone_new = zone_new;
+  accepted = sym {a = None} accepted;
+  written = is;
+  lawful = lawful;
+}
+written zone zone_new huge from values lawful (Err error) accepted is = tt
+
+pub refused_words : (zone : ZoneState) (huge : Huge) (from count : ℕ) → IsLawful zone → (result : Result Unit ZoneError)
+    → result_err result ≡ contents_refusal zone huge.frame huge.order from count → IfErr result (IsRefusedWords huge from count)
+refused_words zone huge from count lawful (Ok done) is = tt
+refused_words zone huge from count lawful (Err error) is = record { zone = zone; lawful = lawful; refused = sym is }

@@ -1,7 +1,8 @@
 -- A block of frames that a zone handed out.
-use Rattle.std.specs.Prelude.{◌≡◌, ℕ, ◌^◌, Some, None}
+use Rattle.std.specs.Prelude.{◌≡◌, ℕ, ◌^◌, List, length, Some, None}
 use Rattle.state_core.specs.declared.error.ZoneError.{ZoneError}
 use Rattle.state_core.specs.Clear.{IsClear}
+use Rattle.state_core.specs.Contents.{contents_refusal, contents_from, contents_written}
 use Rattle.state_core.specs.HandingOut.{lowest_run, take_order_refusal, give_order_refusal, block_taken, block_given}
 use Rattle.state_core.specs.Lawful.{IsLawful}
 use Rattle.state_core.specs.ZoneState.{ZoneState}
@@ -42,3 +43,25 @@ pub record IsRefusedBack (block : Huge) (error : ZoneError) : Type 0 where
   pub zone : ZoneState
   pub lawful : IsLawful zone
   pub refused : give_order_refusal zone block.frame block.order ≡ Some error
+
+-- this many words of a block, from one on, were read from a zone: what the zone was when the call was made; it stayed so
+pub record IsRead (block : Huge) (from count : ℕ) (values : List ℕ) : Type 0 where
+  pub zone : ZoneState
+  pub lawful : IsLawful zone
+  pub accepted : contents_refusal zone block.frame block.order from count ≡ None
+  pub read : values ≡ contents_from zone block.frame from count
+
+-- these values were written into a block of a zone, from one word on: what the zone was when the call was made, and what it was
+-- afterwards
+pub record IsWritten (block : Huge) (from : ℕ) (values : List ℕ) : Type 0 where
+  pub zone : ZoneState
+  pub zone_new : ZoneState
+  pub accepted : contents_refusal zone block.frame block.order from (length values) ≡ None
+  pub written : zone_new ≡ contents_written zone block.frame from values
+  pub lawful : IsLawful zone_new
+
+-- a zone refused to read or write this many words of a block, from one on: what the zone was when the call was made
+pub record IsRefusedWords (block : Huge) (from count : ℕ) (error : ZoneError) : Type 0 where
+  pub zone : ZoneState
+  pub lawful : IsLawful zone
+  pub refused : contents_refusal zone block.frame block.order from count ≡ Some error

@@ -1,10 +1,10 @@
-ghost use Rattle.std.specs.Prelude.{◌≡◌, ◌/◌, Some, None, IsTrue, IfOk, IfErr, OnOk, OnErr};
+ghost use Rattle.std.specs.Prelude.{◌≡◌, ◌/◌, length, Some, None, IsTrue, IfOk, IfErr, OnOk, OnErr};
 ghost use Rattle.std.specs.Result.{result_err};
 ghost use Rattle.frame_core.specs.Order.{is_aligned};
 ghost use Rattle.state_core.specs.HandingOut.{lowest_run, take_order_refusal, give_order_refusal, block_taken, block_given};
 ghost use Rattle.state_core.specs.Lawful.{IsLawful};
 ghost use Rattle.zone_core.specs.Shape.{HasShape};
-ghost use Rattle.huge_core.specs.Huge.{IsHandedOut, IsTakenBack, IsRefusedBack};
+ghost use Rattle.huge_core.specs.Huge.{IsHandedOut, IsTakenBack, IsRefusedBack, IsRead, IsWritten, IsRefusedWords};
 
 use frame_core::{BlockNo, FrameNo, Order, block_of};
 use round_core::{Shape, SharedZone};
@@ -69,6 +69,49 @@ impl Huge {
             Ok(()) => Ok(()),
             Err(error) => Err((error, self)),
         }
+    }
+
+    /// Reads words of the block, from one on, into `values`.
+    ///
+    /// A word has 64 bits. A block has the words of its frames, one frame after the other: the words 0 to 2^order * 8 - 1. A
+    /// fresh block reads as zeros: what was written is gone once the block is given back. It waits for nothing but the lock. A
+    /// user who has the zone alone calls `Zone::read_block`, by `frame()` and `order()`.
+    ///
+    /// Refused as NotHuge where the zone hasn't handed the block out, or took it back by its number, or as Range where the words
+    /// go past its last one. Then `values` are as they were.
+    pub fn read<K: Shape, I: Ledger, M: Ledger, B: Ledger, R: Wait>(
+        &self,
+        rt: &R,
+        shared: &SharedZone<K, I, M, B>,
+        from: usize,
+        values: &mut [u64],
+    ) -> Result<(), ZoneError>
+        ensures refused { IfErr result (IsRefusedWords self.now from (length values.old)) }
+        ensures err { OnErr result (values.new ≡ values.old) }
+        ensures ok { OnOk result (IsRead self.now from (length values.old) values.new) }
+    {
+        let mut room = shared.lock(rt);
+        room.zone.read_block(self.frame, self.order, from, values)
+    }
+
+    /// Writes words of the block, from one on. No other word of the zone changes. It waits for nothing but the lock. A user who has
+    /// the zone alone calls `Zone::write_block`, by `frame()` and `order()`.
+    ///
+    /// Refused as NotHuge where the zone hasn't handed the block out, or took it back by its number, or as Range where the words
+    /// go past its last one. Then the zone is as it was.
+    pub fn write<K: Shape, I: Ledger, M: Ledger, B: Ledger, R: Wait>(
+        &mut self,
+        rt: &R,
+        shared: &SharedZone<K, I, M, B>,
+        from: usize,
+        values: &[u64],
+    ) -> Result<(), ZoneError>
+        ensures refused { IfErr result (IsRefusedWords self.old from (length values.now)) }
+        ensures ok { OnOk result (IsWritten self.old from values.now) }
+        ensures block { self.new ≡ self.old }
+    {
+        let mut room = shared.lock(rt);
+        room.zone.write_block(self.frame, self.order, from, values)
     }
 
     /// The first frame of the block, which has 2^order frames from there on.

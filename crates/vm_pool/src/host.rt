@@ -3,10 +3,11 @@
 ghost use Rattle.std.specs.Prelude.{◌≡◌, ◌≤◌};
 ghost use Rattle.zone_core.specs.Books.{AreFor};
 
+use crate::guest::Guest;
 use crate::small_pages::{SmallPages, count_kept};
 use arrayvec::ArrayVec;
 use frame_core::{Order, ZoneNo};
-use huge_core::{Collector, Huge, Stop, give};
+use huge_core::{Collector, Stop, give};
 use rand_core::Rng;
 use rand_pcg::Pcg32;
 use round_core::{Keeping, NoGate, Open, Shape, SharedZone};
@@ -25,7 +26,7 @@ const DAYS: u32 = 165;
 const GUESTS: u32 = 40;
 
 /// What comes of the guests, and of the host's own pages.
-#[derive(Clone, Copy)]
+#[derive(Clone, Copy, Default)]
 pub struct Tally {
     /// The guests that came.
     pub guests: u32,
@@ -33,20 +34,16 @@ pub struct Tally {
     pub served: u32,
     /// The rounds that were run for them.
     pub rounds: u32,
+    /// The words that guests wrote into their huge pages.
+    pub written: usize,
+    /// Those that they found again when they left.
+    pub right: usize,
     /// The calls of the zone that were made for small pages.
     pub calls: u32,
     /// The small pages at the end.
     pub pages: u32,
     /// Those that hold what was stored in them.
     pub kept: u32,
-}
-
-/// A guest that is there.
-#[derive(Default, Drop)]
-struct Guest {
-    blocks: ArrayVec<Option<Huge>, 8>,
-    /// The turn at which it leaves.
-    leaves: u32,
 }
 
 #[derive(Drop)]
@@ -79,6 +76,7 @@ pub fn serve<
     requires blanks { AreFor blanks I.name I.parts N.name N.parts M.name M.parts B.name B.parts }
 {
     let number = ZoneNo::new(0)?;
+    let order = Order::new(9)?;
     let opened = Zone::<I, M, B>::open_told::<N>(alloc, number, BLOCKS, blanks);
     let (zone, scan, ends) = opened.ok()?;
     let mut host = Host::<K, I, N, M, B> {
@@ -88,31 +86,15 @@ pub fn serve<
             copiers: 2,
             cap: 16,
             rounds,
-            order: Order::new(9)?,
+            order,
         },
         pages: SmallPages::new(),
         guests: ArrayVec::new(),
         draws: Pcg32::new(2, 7),
         turns: 0,
-        tally: Tally {
-            guests: 0,
-            served: 0,
-            rounds: 0,
-            calls: 0,
-            pages: 0,
-            kept: 0,
-        },
+        tally: Tally::default(),
     };
-    for _day in 0..DAYS {
-        host.pass_day(rt, alloc);
-    }
-    let (pages, kept) = count_kept(rt, &host.shared);
-    Some(Tally {
-        calls: host.pages.calls(),
-        pages,
-        kept,
-        ..host.tally
-    })
+    Some(host.pass_days(rt, alloc))
 }
 
 impl<
@@ -122,6 +104,23 @@ impl<
     M: Ledger + Send + Sync,
     B: Ledger + Send + Sync,
 > Host<K, I, N, M, B> {
+    /// Passes all days. At the end no guest is left.
+    fn pass_days<R: Threads + Wait + Sync>(&mut self, rt: &R, alloc: Global) -> Tally {
+        for _day in 0..DAYS {
+            self.pass_day(rt, alloc);
+        }
+        for guest in self.guests.take() {
+            self.let_go(rt, guest);
+        }
+        let (pages, kept) = count_kept(rt, &self.shared);
+        Tally {
+            calls: self.pages.calls(),
+            pages,
+            kept,
+            ..self.tally
+        }
+    }
+
     /// Fragments the zone, and lets the guests of a day come and go.
     fn pass_day<R: Threads + Wait + Sync>(&mut self, rt: &R, alloc: Global) {
         self.pages.churn(rt, &self.shared, 3000);
@@ -133,7 +132,7 @@ impl<
         }
     }
 
-    /// Reserves the blocks of a guest. One that gets fewer than it wants goes without.
+    /// Reserves the blocks of a guest, which fills them. One that gets fewer than it wants goes without.
     fn receive<R: Threads + Wait + Sync>(&mut self, rt: &R, alloc: Global) {
         let (size, stays) = (1 + self.draws.next_u32() % 4, 1 + self.draws.next_u32() % 4);
         let report = self.collector.reserve(
@@ -146,14 +145,17 @@ impl<
         );
         self.tally.guests = self.tally.guests.saturating_add(1);
         self.tally.rounds = self.tally.rounds.saturating_add(report.rounds);
-        let guest = Guest {
+        let mut guest = Guest {
+            number: self.tally.guests,
             blocks: report.got,
             leaves: self.turns.saturating_add(stays),
         };
         if report.stop != Stop::Enough {
-            return self.see_off(rt, guest);
+            return self.take_back(rt, guest);
         }
         self.tally.served = self.tally.served.saturating_add(1);
+        let written = guest.fill(rt, &self.shared);
+        self.tally.written = self.tally.written.saturating_add(written);
         self.keep(rt, guest);
     }
 
@@ -161,7 +163,7 @@ impl<
     fn let_leave<R: Wait>(&mut self, rt: &R) {
         for guest in self.guests.take() {
             if guest.leaves <= self.turns {
-                self.see_off(rt, guest);
+                self.let_go(rt, guest);
             } else {
                 self.keep(rt, guest);
             }
@@ -171,12 +173,19 @@ impl<
     /// Lets a guest stay, where there is a place for it.
     fn keep<R: Wait>(&mut self, rt: &R, guest: Guest) {
         if let Err(full) = self.guests.try_push(guest) {
-            self.see_off(rt, full.element());
+            self.let_go(rt, full.element());
         }
     }
 
-    /// Gives the blocks of a guest back.
-    fn see_off<R: Wait>(&self, rt: &R, guest: Guest) {
+    /// Lets a guest see whether its words are there, and takes its blocks back.
+    fn let_go<R: Wait>(&mut self, rt: &R, guest: Guest) {
+        let right = guest.count_right(rt, &self.shared);
+        self.tally.right = self.tally.right.saturating_add(right);
+        self.take_back(rt, guest);
+    }
+
+    /// Gives the blocks of a guest back to the zone.
+    fn take_back<R: Wait>(&self, rt: &R, guest: Guest) {
         for huge in guest.blocks.into_iter().flatten() {
             let _ = give(rt, &self.shared, huge);
         }

@@ -4,6 +4,7 @@
 
 ghost use Rattle.std.specs.Prelude.{◌≤◌};
 
+mod guest;
 mod host;
 mod small_pages;
 
@@ -35,11 +36,16 @@ fn show<R: Print>(rt: &R, how: &str, tally: Option<Tally>) -> io::Result<()> {
         guests,
         served,
         rounds,
+        written,
+        right,
         calls,
         pages,
         kept,
     } = tally;
     println!(rt; "{how}: {served} of {guests} guests got their huge pages, {rounds} rounds")?;
+    println!(rt;
+        "{how}: {right} of {written} words of huge pages were there when their guests left"
+    )?;
     println!(rt; "{how}: {calls} calls of the zone were made for small pages")?;
     println!(rt; "{how}: {kept} of {pages} small pages hold what was stored in them")
 }
