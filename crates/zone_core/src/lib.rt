@@ -21,8 +21,8 @@ mod zone;
 
 pub use seats::{Answered, Blanks, EndSeat, ScanSeat, Seats};
 pub use state_core::{
-    Audit, Ended, Info, Look, Next, Placement, RoundStart, Stranger, ZoneAnswer, ZoneCall,
-    ZoneCallOf, ZoneError,
+    Audit, ClientCall, ClientCallOf, Ended, Info, Look, Next, Placement, RoundStart, Stranger,
+    ZoneAnswer, ZoneCall, ZoneCallOf, ZoneError,
 };
 pub use zone::Zone as ZoneOf;
 
