@@ -1,10 +1,10 @@
 -- The words of a block are read or written: the tables still stand for the zone.
-use Rattle.std.proofs.Common.{◌≡◌, ℕ, ◌+◌, ◌*◌, ◌^◌, ◌≤◌, Bool, true, List, [], length, sym, ap, subst, ◌∙◌, arith}
+use Rattle.std.proofs.Common.{◌≡◌, ℕ, ◌+◌, ◌*◌, ◌^◌, ◌≤◌, Bool, true, List, [], ◌++◌, length, sym, ap, subst, ◌∙◌, arith}
 use Rattle.std.specs.Prelude.{Some, slice_set}
 use Rattle.std.specs.FinMap as map
 use Rattle.std.specs.List.{All}
 use Rattle.std.specs.Ordering.{nat_cmp}
-use Rattle.std.proofs.lemmas.List.{get_or_default}
+use Rattle.std.proofs.lemmas.List.{append-nil, drop_all, get_or_default}
 use Rattle.std.proofs.lemmas.Option.{unwrap_or-slice_get}
 use Rattle.scan_core.specs.Frames.{true_at}
 use Rattle.state_core.specs.Contents.{contents_of, contents_written}
@@ -22,6 +22,11 @@ use Rattle.plain_core.proofs.HeldWords.{block_view, block_sound, held_is, put_ag
 pub rows_sized : (rows : List (List ℕ)) (v : ZoneState) (size : ℕ) → WordsFit rows v → v.page_size ≡ size → All (λ row. length row ≡ size) rows
 rows_sized rows v size fit same k d h =
     ap length (get_or_default rows k d [] h ∙ sym (unwrap_or-slice_get rows k [])) ∙ fit.sized k (omega (arith, h, fit.count)) ∙ same
+
+-- as many values as there are words take the place of all
+pub put_whole : (words values : List ℕ) → length values ≡ length words → put_from words 0 values ≡ values
+put_whole words values same =
+    ap (λ (ws : List ℕ). values ++ ws) (drop_all (0 + length values) words (omega (arith, same))) ∙ append-nil values
 
 module _ {W : ℕ} (z : Inside W) (v : ZoneState) (sound : IsSound z v) (view : state_of z ≡ v) (first order : ℕ) (at : map.get v.handed_out first ≡ Some order) (flags : List Bool) (noted : flags ≡ slice_set z.cleared first true) (rows : List (List ℕ)) where
   -- the fields after the block was read or written

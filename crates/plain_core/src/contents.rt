@@ -1,8 +1,9 @@
 //! Reading and writing the words of blocks that are handed out.
 
-ghost use Rattle.std.specs.Prelude.{◌≡◌, ◌+◌, ◌*◌, ◌^◌, ◌≤◌, length, nat_le, IsTrue};
+ghost use Rattle.std.specs.Prelude.{◌≡◌, ◌+◌, ◌*◌, ◌^◌, ◌≤◌, ℕ, List, length, nat_le, IsTrue};
 ghost use Rattle.std.specs.FinMap as map;
-ghost use Rattle.state_core.specs.Contents.{contents_from, contents_written};
+ghost use Rattle.std.specs.Fn.{FnOnceTakesAtMut, FnOnceReturnsAtMut};
+ghost use Rattle.state_core.specs.Contents.{contents_of, contents_from, contents_written};
 ghost use Rattle.state_core.specs.HandingOut.{is_order};
 ghost use Rattle.state_core.specs.Lawful.{IsLawful};
 
@@ -31,6 +32,22 @@ impl<const W: usize> PlainZone<W> {
         self.cleared.clear(&mut self.words, first, order);
         let block = self.words.block(first, order.frames());
         values.copy_from_slice(&block[from..from + values.len()]);
+    }
+
+    /// Lends the words of a block that is handed out to `change`, and gives what it answers.
+    pub fn with_block<R, F: FnOnce(&mut [u64]) -> R>(
+        &mut self,
+        first: FrameNo,
+        order: Order,
+        change: F,
+    ) -> R
+        requires held { IsTrue (is_order (map.get self.old.handed_out first) order) }
+        requires callable { FnOnceTakesAtMut F.FnOnce change (contents_of self.old first) }
+        ensures changed { (words : List ℕ) × (length words ≡ 2 ^ order * self.old.page_size) × FnOnceReturnsAtMut F.FnOnce change (contents_of self.old first) result words × (self.new ≡ contents_written self.old first 0 words) }
+        ensures lawful { IsLawful self.new }
+    {
+        self.cleared.clear(&mut self.words, first, order);
+        self.words.with_block(first, order.frames(), change)
     }
 
     /// Writes words of a block that is handed out, from one on.

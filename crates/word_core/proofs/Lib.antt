@@ -1,2 +1,1 @@
-mod Blocks
-mod Rows
+mod FlatRows

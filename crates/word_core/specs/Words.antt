@@ -1,5 +1,5 @@
 -- The words of the frames: a row for each frame.
-use Rattle.std.specs.Prelude.{◌≡◌, ℕ, List, [], ◌+◌, ◌++◌, take, drop, length, slice_get, slice_index, slice_set, unwrap_or}
+use Rattle.std.specs.Prelude.{◌≡◌, ℕ, zero, suc, List, [], ◌∷◌, ◌+◌, ◌++◌, take, drop, length, slice_get, slice_index, slice_set, unwrap_or}
 use Rattle.std.specs.List.{flat_map}
 
 -- the words of a frame
@@ -29,6 +29,11 @@ with_word rows frame word value = with_words rows frame (slice_set (words_of row
 -- the words of rows, one after the other
 abbrev pub joined : List (List ℕ) → List ℕ
 joined rows = flat_map (λ (row : List ℕ). row) rows
+
+-- the rows of so many frames, of this many words each, whose words these are, one row after the other
+abbrev pub rows_of : ℕ → ℕ → List ℕ → List (List ℕ)
+rows_of size zero words = []
+rows_of size (suc frames) words = take size words ∷ rows_of size frames (drop size words)
 
 -- the words of so many frames, from a first one on, one after the other
 abbrev pub block_words : List (List ℕ) → ℕ → ℕ → List ℕ

@@ -1,4 +1,5 @@
-ghost use Rattle.std.specs.Prelude.{◌≡◌, ◌<◌, ◌≤◌, ◌+◌, ◌*◌, ◌↔◌, length, replicate, IfOk, IsTrue};
+ghost use Rattle.std.specs.Prelude.{◌≡◌, ◌<◌, ◌≤◌, ◌+◌, ◌*◌, ◌↔◌, ℕ, List, length, replicate, IfOk, IsTrue};
+ghost use Rattle.std.specs.Fn.{FnOnceTakesAtMut, FnOnceReturnsAtMut};
 ghost use Rattle.std.specs.List.{All};
 ghost use Rattle.word_core.specs.Page.{blank_words};
 ghost use Rattle.word_core.specs.Words.{words_of, word_of, words_from, with_words, with_word, put_from, joined, block_words, HasBlock};
@@ -8,21 +9,22 @@ use frame_core::{FixedVec, FrameNo, PageFlags, PageNo, WordOf, ZoneNo};
 use std::alloc::{AllocError, Global};
 use std::marker::Model;
 
-/// The words of a zone's frames: a row for each frame.
+/// The words of a zone's frames: first those of frame 0, then those of frame 1, and so on.
 #[derive(Drop)]
 pub struct Words<const W: usize> {
-    rows: FixedVec<[u64; W]>,
+    frames: u32,
+    words: FixedVec<u64>,
 }
 
 impl<const W: usize> Model for Words<W> {
-    ghost use Rattle.std.specs.Prelude.{◌≡◌, ◌≤◌, ℕ, List, length};
-    ghost use Rattle.std.specs.List.{All};
+    ghost use Rattle.std.specs.Prelude.{◌≡◌, ◌*◌, ◌≤◌, ℕ, List, length};
+    ghost use Rattle.word_core.specs.Words.{rows_of};
 
     ghost Value = { List (List ℕ) };
 
-    ghost view = { λ w. w.rows.items };
+    ghost view = { λ w. rows_of W w.frames w.words.items };
 
-    ghost invariant = { λ w. (W ≤ 65536) × All (λ row. length row ≡ W) w.rows.items };
+    ghost invariant = { λ w. (W ≤ 65536) × (length w.words.items ≡ w.frames * W) };
 }
 
 impl<const W: usize> Words<W> {
@@ -32,8 +34,8 @@ impl<const W: usize> Words<W> {
         ensures blank { IfOk result (λ rows. rows ≡ replicate frames (blank_words W)) }
         ensures frames { IfOk result (λ rows. length rows ≡ frames) }
     {
-        let rows = FixedVec::filled(alloc, [0; W], frames as usize)?;
-        Ok(Words { rows })
+        let words = FixedVec::filled(alloc, 0, frames as usize * W)?;
+        Ok(Words { frames, words })
     }
 
     /// The value of a word of a frame. The frame has to be one of those that the memory was taken for, here and in each call below.
@@ -42,7 +44,7 @@ impl<const W: usize> Words<W> {
         ensures value { result ≡ word_of self.now frame word.entry }
         ensures in_range { word.entry < W }
     {
-        self.rows[frame.get() as usize][word.get() as usize]
+        self.row(frame)[word.get() as usize]
     }
 
     /// Gives a word of a frame another value.
@@ -52,7 +54,7 @@ impl<const W: usize> Words<W> {
         ensures in_range { word.entry < W }
         ensures frames { length self.new ≡ length self.old }
     {
-        self.rows[frame.get() as usize][word.get() as usize] = value;
+        self.store_block(frame, 1, word.get() as usize, &[value]);
     }
 
     /// The values of the words of a frame from one on, as many as there is room for.
@@ -62,8 +64,7 @@ impl<const W: usize> Words<W> {
         ensures values { values.new ≡ words_from self.now frame from (length values.old) }
         ensures most { W ≤ 65536 }
     {
-        let row = &self.rows[frame.get() as usize][..];
-        values.copy_from_slice(&row[from..from + values.len()]);
+        values.copy_from_slice(&self.row(frame)[from..from + values.len()]);
     }
 
     /// Gives the words of a frame from one on these values.
@@ -74,7 +75,7 @@ impl<const W: usize> Words<W> {
         ensures most { W ≤ 65536 }
         ensures frames { length self.new ≡ length self.old }
     {
-        copy_into(&mut self.rows[frame.get() as usize], from, values);
+        self.store_block(frame, 1, from, values);
     }
 
     /// Sets all words of the frame to 0.
@@ -83,7 +84,7 @@ impl<const W: usize> Words<W> {
         ensures blank { self.new ≡ with_words self.old frame (blank_words W) }
         ensures frames { length self.new ≡ length self.old }
     {
-        self.rows[frame.get() as usize] = [0; W];
+        self.blank_block(frame, 1);
     }
 
     /// The words of so many frames, from a first one on, one after the other.
@@ -91,9 +92,28 @@ impl<const W: usize> Words<W> {
         requires { first + frames ≤ length self.now }
         ensures words { result.now ≡ block_words self.now first frames }
         ensures count { length result.now ≡ frames * W }
+        ensures most { W ≤ 65536 }
     {
-        let first = first.get() as usize;
-        self.rows[first..first + frames as usize].as_flattened()
+        let words = &self.words;
+        let from = first.get() as usize * W;
+        &words[from..from + frames as usize * W]
+    }
+
+    /// Lends the words of so many frames, one after the other, to `change`, and gives what it answers.
+    pub fn with_block<R, F: FnOnce(&mut [u64]) -> R>(
+        &mut self,
+        first: FrameNo,
+        frames: u32,
+        change: F,
+    ) -> R
+        requires frames { first + frames ≤ length self.old }
+        requires callable { FnOnceTakesAtMut F.FnOnce change (block_words self.old first frames) }
+        ensures changed { (words : List ℕ) × (length words ≡ frames * W) × FnOnceReturnsAtMut F.FnOnce change (block_words self.old first frames) result words × HasBlock self.old self.new first frames words }
+        ensures sized { All (λ row. length row ≡ W) self.new }
+    {
+        let words = &mut self.words;
+        let from = first.get() as usize * W;
+        change(&mut words[from..from + frames as usize * W])
     }
 
     /// Gives the words of so many frames, one after the other, from one on these values.
@@ -101,11 +121,13 @@ impl<const W: usize> Words<W> {
         requires frames { first + frames ≤ length self.old }
         requires within { from + length values.now ≤ frames * W }
         ensures stored { HasBlock self.old self.new first frames (put_from (block_words self.old first frames) from values.now) }
+        ensures count { length (block_words self.old first frames) ≡ frames * W }
+        ensures most { W ≤ 65536 }
         ensures sized { All (λ row. length row ≡ W) self.new }
     {
-        let first = first.get() as usize;
-        let rows = &mut self.rows[first..first + frames as usize];
-        copy_over(rows, from, values);
+        let words = &mut self.words;
+        let from = first.get() as usize * W + from;
+        words[from..from + values.len()].copy_from_slice(values);
     }
 
     /// Sets all words of so many frames to 0.
@@ -114,8 +136,9 @@ impl<const W: usize> Words<W> {
         ensures blank { HasBlock self.old self.new first frames (replicate (frames * W) 0) }
         ensures sized { All (λ row. length row ≡ W) self.new }
     {
-        let first = first.get() as usize;
-        clear(&mut self.rows[first..first + frames as usize]);
+        let words = &mut self.words;
+        let from = first.get() as usize * W;
+        words[from..from + frames as usize * W].fill(0);
     }
 
     /// The page in a frame: its words with this zone, number and flags.
@@ -130,7 +153,9 @@ impl<const W: usize> Words<W> {
         requires { frame < length self.now }
         ensures { result ≡ record { zone = zone; number = number; flags = flags; words = words_of self.now frame } }
     {
-        Page::carrying(zone, number, flags, *self.row(frame))
+        let mut words = [0; W];
+        words.copy_from_slice(self.row(frame));
+        Page::carrying(zone, number, flags, words)
     }
 
     /// Whether the frame holds the page's words.
@@ -155,46 +180,15 @@ impl<const W: usize> Words<W> {
         ensures frames { length self.new ≡ length self.old }
         ensures size { length page.now.words ≡ W }
     {
-        self.rows[frame.get() as usize] = *page.words();
+        self.store_block(frame, 1, 0, page.words());
     }
 
-    fn row(&self, frame: FrameNo) -> &[u64; W]
+    fn row(&self, frame: FrameNo) -> &[u64]
         requires { frame < length self.now }
         ensures value { result.now ≡ words_of self.now frame }
         ensures size { length result.now ≡ W }
+        ensures most { W ≤ 65536 }
     {
-        &self.rows[frame.get() as usize]
-    }
-}
-
-// Gives the words of a row from one on these values.
-fn copy_into<const W: usize>(row: &mut [u64; W], from: usize, values: &[u64])
-    requires { from + length values.now ≤ W }
-    ensures row { row.new ≡ put_from row.old from values.now }
-    ensures size { length row.old ≡ W }
-{
-    row[..][from..from + values.len()].copy_from_slice(values);
-}
-
-// Gives the words of rows, one after the other, from one on these values.
-fn copy_over<const W: usize>(rows: &mut [[u64; W]], from: usize, values: &[u64])
-    requires within { from + length values.now ≤ length rows.old * W }
-    requires sized { All (λ row. length row ≡ W) rows.old }
-    ensures words { joined rows.new ≡ put_from (joined rows.old) from values.now }
-    ensures rows { length rows.new ≡ length rows.old }
-    ensures sized { All (λ row. length row ≡ W) rows.new }
-{
-    for (place, value) in values.iter().enumerate() {
-        let word = from + place;
-        rows[word / W][word % W] = *value;
-    }
-}
-
-// Sets all words of rows to 0.
-fn clear<const W: usize>(rows: &mut [[u64; W]])
-    ensures { rows.new ≡ replicate (length rows.old) (blank_words W) }
-{
-    for place in 0..rows.len() {
-        rows[place] = [0; W];
+        self.block(frame, 1)
     }
 }

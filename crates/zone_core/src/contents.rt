@@ -1,9 +1,10 @@
 //! Reading and writing the words of blocks that are handed out.
 
-ghost use Rattle.std.specs.Prelude.{◌≡◌, ◌+◌, ◌*◌, ◌^◌, ◌≤◌, length, IsTrue, OnOk, OnErr};
+ghost use Rattle.std.specs.Prelude.{◌≡◌, ◌+◌, ◌*◌, ◌^◌, ◌≤◌, ℕ, List, length, IsTrue, IfOk, OnOk, OnErr};
 ghost use Rattle.std.specs.FinMap as map;
+ghost use Rattle.std.specs.Fn.{FnOnceTakesAtMut, FnOnceReturnsAtMut};
 ghost use Rattle.std.specs.Result.{result_err};
-ghost use Rattle.state_core.specs.Contents.{contents_refusal, contents_from, contents_written};
+ghost use Rattle.state_core.specs.Contents.{contents_refusal, contents_of, contents_from, contents_written};
 ghost use Rattle.state_core.specs.HandingOut.{is_order};
 ghost use Rattle.state_core.specs.Lawful.{IsLawful};
 ghost use Rattle.state_core.specs.Pairs.{HaveMet};
@@ -66,6 +67,28 @@ impl<const W: usize, I: Ledger, M: Ledger, B: Ledger> Zone<W, I, M, B> {
         self.can_reach(first, order, from, values.len())?;
         self.plain.write_block(first, order, from, values);
         Ok(())
+    }
+
+    /// Lends all words of a block that is handed out to `change`, as one slice, and gives what it answers. The slice has the
+    /// words that `read_block` reads, and what `change` leaves there is written as by `write_block`.
+    ///
+    /// Refused as NotHuge where no block of this order is handed out from this frame on. Then `change` isn't called.
+    pub fn with_block<R, F: FnOnce(&mut [u64]) -> R>(
+        &mut self,
+        first: FrameNo,
+        order: Order,
+        change: F,
+    ) -> Result<R, ZoneError>
+        requires { IsTrue (is_order (map.get self.old.handed_out first) order) → length (contents_of self.old first) ≡ 2 ^ order * self.old.page_size → FnOnceTakesAtMut F.FnOnce change (contents_of self.old first) }
+        ensures refused { result_err result ≡ contents_refusal self.old first order 0 0 }
+        ensures err { OnErr result (self.new ≡ self.old) }
+        ensures ok { IfOk result (λ answer. (words : List ℕ) × (length words ≡ 2 ^ order * self.old.page_size) × FnOnceReturnsAtMut F.FnOnce change (contents_of self.old first) answer words × (self.new ≡ contents_written self.old first 0 words)) }
+        ensures met { OnOk result (HaveMet self.old → HaveMet self.new) }
+        ensures shape { HasShape self.old.number self.old.blocks self.new }
+        ensures lawful { IsLawful self.new }
+    {
+        self.can_reach(first, order, 0, 0)?;
+        Ok(self.plain.with_block(first, order, change))
     }
 
     // Whether this many words of a block, from one on, can be read or written.

@@ -48,6 +48,17 @@ impl<I: Ledger, N: Ledger, M: Ledger, B: Ledger> Held<I, N, M, B> {
         self.zone.read_block(self.first, order(rt, 3), from, values)
     }
 
+    /// Each word of the block is given this value where it stands, and the last one another. Gives how many there are.
+    fn fill(&mut self, rt: &impl Abort, value: u64, last: u64) -> Result<usize, ZoneError> {
+        self.zone.with_block(self.first, order(rt, 3), |words| {
+            words.fill(value);
+            if let Some(word) = words.last_mut() {
+                *word = last;
+            }
+            words.len()
+        })
+    }
+
     /// All 64 words of the block.
     fn words(&mut self, rt: &impl Abort) -> [u64; 64] {
         let mut words = [1; 64];
@@ -95,6 +106,27 @@ fn keeps_its_words<I: Ledger, N: Ledger, M: Ledger, B: Ledger>(
     assert!(rt; held.words(rt) == [0; 64]);
 }
 
+/// A block's words are lent as one slice. What is left there stays, and the next block has none of it.
+fn lends_its_words<I: Ledger, N: Ledger, M: Ledger, B: Ledger>(
+    rt: &(impl Abort + AllocGlobal),
+    blanks: Blanks,
+)
+    requires blanks { AreFor blanks I.name I.parts N.name N.parts M.name M.parts B.name B.parts }
+{
+    let mut held = Held::<I, N, M, B>::of(rt, 64, blanks);
+    let first = held.first;
+    assert!(rt; held.fill(rt, 7, 5) == Ok(64));
+    held.first = held.zone.take_order(order(rt, 3)).expect(rt, "a block");
+    assert!(rt; held.words(rt) == [0; 64]);
+    assert!(rt; held.fill(rt, 2, 3) == Ok(64));
+    held.first = first;
+    let words = held.words(rt);
+    assert!(rt; words[..63] == [7; 63]);
+    assert!(rt; words[63] == 5);
+    assert!(rt; held.zone.give_order(first, order(rt, 3)) == Ok(()));
+    assert!(rt; held.fill(rt, 9, 9) == Err(ZoneError::NotHuge));
+}
+
 /// Each refusal, after which the block is as it was. A full journal refuses nothing.
 fn refuses<I: Ledger, N: Ledger, M: Ledger, B: Ledger>(
     rt: &(impl Abort + AllocGlobal),
@@ -122,5 +154,6 @@ fn refuses<I: Ledger, N: Ledger, M: Ledger, B: Ledger>(
 #[test]
 fn blocks_keep_their_words(rt: HostRuntime) {
     keeps_its_words::<Brand, Brand, Brand, Brand>(&rt, Blanks::new());
+    lends_its_words::<Brand, Brand, Brand, Brand>(&rt, Blanks::new());
     refuses::<Brand, Brand, Brand, Brand>(&rt, Blanks::new());
 }
