@@ -1,5 +1,5 @@
-//! Guests of one to four huge pages come to a host and leave it, while the host's own small pages lie between them. Prints how many
-//! guests got their huge pages, without rounds of compaction and with them.
+//! Guests of one to four huge pages come to a host, fill them, and leave, while the host's own small pages lie between them. Prints
+//! how many guests got their huge pages and how much of what they wrote was still there, without rounds of compaction and with them.
 #![tactic(auto)]
 
 ghost use Rattle.std.specs.Prelude.{◌≤◌};
