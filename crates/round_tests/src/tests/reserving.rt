@@ -238,7 +238,8 @@ impl<
     /// refuses is handed back.
     pub fn gives_back<R: Threads + Wait + Abort + AllocGlobal + Sync>(&mut self, rt: &R) {
         self.fill(rt, 1);
-        let huge = last_block(rt, self.reserved(rt, 16, 8, 2));
+        let mut huge = last_block(rt, self.reserved(rt, 16, 8, 2));
+        self.keeps_words(rt, &mut huge);
         assert!(rt; (huge.frame().get(), huge.order().get(), huge.block().get()) == (512, 8, 1));
         assert!(rt; give(rt, &self.shared, huge).is_ok());
         let (before, _records) = self.told(rt);
@@ -253,6 +254,18 @@ impl<
         assert!(rt; self.told(rt) == held);
         let (frame, order) = huge.into_parts();
         assert!(rt; (frame.get(), order.get()) == (512, 8));
+    }
+
+    /// The words of a fresh block of 256 frames are kept. Those past its last one are refused, and nothing is read or written then.
+    fn keeps_words<R: Wait + Abort>(&self, rt: &R, huge: &mut Huge) {
+        let last = 256 * 8 - 1;
+        let mut words = [9; 3];
+        assert!(rt; huge.write(rt, &self.shared, last - 1, &[5, 6]) == Ok(()));
+        assert!(rt; huge.write(rt, &self.shared, last, &[7, 8]) == Err(ZoneError::Range));
+        assert!(rt; huge.read(rt, &self.shared, last - 1, &mut words) == Err(ZoneError::Range));
+        assert!(rt; words == [9; 3]);
+        assert!(rt; huge.read(rt, &self.shared, last - 2, &mut words) == Ok(()));
+        assert!(rt; words == [0, 5, 6]);
     }
 }
 
