@@ -259,13 +259,22 @@ impl<
     /// The words of a fresh block of 256 frames are kept. Those past its last one are refused, and nothing is read or written then.
     fn keeps_words<R: Wait + Abort>(&self, rt: &R, huge: &mut Huge) {
         let last = 256 * 8 - 1;
-        let mut words = [9; 3];
         assert!(rt; huge.write(rt, &self.shared, last - 1, &[5, 6]) == Ok(()));
         assert!(rt; huge.write(rt, &self.shared, last, &[7, 8]) == Err(ZoneError::Range));
-        assert!(rt; huge.read(rt, &self.shared, last - 1, &mut words) == Err(ZoneError::Range));
-        assert!(rt; words == [9; 3]);
-        assert!(rt; huge.read(rt, &self.shared, last - 2, &mut words) == Ok(()));
-        assert!(rt; words == [0, 5, 6]);
+        assert!(rt; self.words(rt, huge, last - 1) == (Err(ZoneError::Range), [9; 3]));
+        assert!(rt; self.words(rt, huge, last - 2) == (Ok(()), [0, 5, 6]));
+    }
+
+    /// What a read of three words of a block answers, and the words, which were 9 before.
+    fn words<R: Wait>(
+        &self,
+        rt: &R,
+        huge: &Huge,
+        from: usize,
+    ) -> (Result<(), ZoneError>, [u64; 3]) {
+        let mut words = [9; 3];
+        let read = huge.read(rt, &self.shared, from, &mut words);
+        (read, words)
     }
 }
 

@@ -7,7 +7,7 @@ use super::opening::{counts_of, round_of};
 use super::{address, client_number, frame, word};
 use bitflags::Flags;
 use client_core::{Client, ToldClient, Unsettled, settle_clients};
-use frame_core::{PageFlags, ZoneNo};
+use frame_core::{Address, PageFlags, ZoneNo};
 use round_core::{NoGate, Round, RoundError, Shape, SharedZone};
 use std::marker::Brand;
 use std::process::Abort;
@@ -31,6 +31,19 @@ fn with_pages<K: Shape, I: Ledger, M: Ledger, B: Ledger, R: Wait + Abort>(
     client
 }
 
+/// The words of a page.
+fn words_at<K: Shape, I: Ledger, M: Ledger, B: Ledger, R: Wait + Abort>(
+    rt: &R,
+    shared: &SharedZone<K, I, M, B>,
+    client: &mut ToldClient,
+    at: Address,
+) -> [u64; 8] {
+    let mut words = [0; 8];
+    let read = client.read(rt, shared, at, word(rt, 0), &mut words);
+    assert!(rt; read == Ok(()));
+    words
+}
+
 /// Stores to each page and loads what was stored, and does so with all words of the page, 50 times.
 fn uses_pages<K: Shape, I: Ledger, M: Ledger, B: Ledger, R: Wait + Abort>(
     rt: &R,
@@ -42,10 +55,8 @@ fn uses_pages<K: Shape, I: Ledger, M: Ledger, B: Ledger, R: Wait + Abort>(
             let at = address(rt, number);
             assert!(rt; client.store(rt, shared, at, word(rt, 3), value) == Ok(()));
             assert!(rt; client.load(rt, shared, at, word(rt, 3)) == Ok(value));
-            let mut words = [0; 8];
             assert!(rt; client.write(rt, shared, at, word(rt, 0), &[value; 8]) == Ok(()));
-            assert!(rt; client.read(rt, shared, at, word(rt, 0), &mut words) == Ok(()));
-            assert!(rt; words == [value; 8]);
+            assert!(rt; words_at(rt, shared, &mut client, at) == [value; 8]);
         }
     }
     client
