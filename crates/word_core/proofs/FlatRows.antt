@@ -1,5 +1,5 @@
 -- The rows of frames whose words stand one after the other.
-use Rattle.std.proofs.Common.{◌≡◌, ℕ, zero, suc, ◌+◌, ◌-◌, ◌*◌, ◌<◌, ◌≤◌, ◌^◌, List, [], ◌∷◌, ◌++◌, length, take, drop, get_or, replicate, refl, sym, ap, subst, ◌∙◌, arith}
+use Rattle.std.proofs.Common.{◌≡◌, ℕ, zero, suc, ◌+◌, ◌-◌, ◌*◌, ◌<◌, ◌≤◌, List, [], ◌∷◌, ◌++◌, length, take, drop, get_or, replicate, refl, sym, ap, subst, ◌∙◌, arith}
 use Rattle.std.specs.Prelude.{slice_set}
 use Rattle.std.specs.List.{All, refill}
 use Rattle.std.proofs.lemmas.List.{append_assoc, append-nil, drop_all, drop_at, drop-append-le, drop-drop, length-append, length-drop, length-replicate, length-take-le, replicate-append-replicate, take_all, take_at, take-append-drop, take-append-le, take-set-le}

@@ -2,7 +2,7 @@ ghost use Rattle.std.specs.Prelude.{◌≡◌, ◌<◌, ◌≤◌, ◌+◌, ◌*
 ghost use Rattle.std.specs.Fn.{FnOnceTakesAtMut, FnOnceReturnsAtMut};
 ghost use Rattle.std.specs.List.{All};
 ghost use Rattle.word_core.specs.Page.{blank_words};
-ghost use Rattle.word_core.specs.Words.{words_of, word_of, words_from, with_words, with_word, put_from, joined, block_words, HasBlock};
+ghost use Rattle.word_core.specs.Words.{words_of, word_of, words_from, with_words, with_word, put_from, block_words, HasBlock};
 
 use crate::page::Page;
 use frame_core::{FixedVec, FrameNo, PageFlags, PageNo, WordOf, ZoneNo};

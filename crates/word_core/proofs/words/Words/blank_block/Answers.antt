@@ -1,6 +1,5 @@
 use Rattle.std.proofs.Common.{ℕ, length, replicate, refl, sym, ap, subst, ◌∙◌}
 use Rattle.std.specs.List.{length_refill}
-use Rattle.std.proofs.lemmas.List.{length-replicate}
 use Rattle.word_core.specs.Words.{HasBlock}
 use Rattle.word_core.proofs.FlatRows.{came_back, ends, lent_count, rows_sized}
 use Rattle.word_core.proofs.words.Words.blank_block.Goals as goal

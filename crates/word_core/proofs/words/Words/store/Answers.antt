@@ -1,4 +1,4 @@
-use Rattle.std.proofs.Common.{◌≡◌, ℕ, ◌∷◌, [], List, length, sym, ap, ◌∙◌, arith}
+use Rattle.std.proofs.Common.{ℕ, ◌∷◌, [], length, ap, ◌∙◌, arith}
 use Rattle.word_core.specs.Words.{words_of, with_words, put_from}
 use Rattle.word_core.proofs.FlatRows.{one_row, one_stored, put_one}
 use Rattle.word_core.proofs.words.Words.store.Goals as goal

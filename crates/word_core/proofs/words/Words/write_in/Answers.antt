@@ -1,4 +1,4 @@
-use Rattle.std.proofs.Common.{◌≡◌, length, sym, ap, ◌∙◌, arith}
+use Rattle.std.proofs.Common.{length, ap, ◌∙◌, arith}
 use Rattle.word_core.specs.Words.{words_of, with_words}
 use Rattle.word_core.proofs.FlatRows.{one_row, one_stored, put_all}
 use Rattle.word_core.proofs.words.Words.write_in.Goals as goal
