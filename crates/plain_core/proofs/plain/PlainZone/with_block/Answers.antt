@@ -55,8 +55,8 @@ invariant_of-self g c =
 pub returns-clause-changed : goal.returns-clause-changed
 returns-clause-changed g c =
     let shown =
-      ap (block_words c.clear.new.words c.args.first) c.frames.ensures.value
-      ∙ words_read c.self.inside c.args.self.now (sound g c) c.self.view_is c.args.first c.args.order (at g c) _ c.clear.ensures.noted _ c.clear.ensures.words in (
+    ap (block_words c.clear.new.words c.args.first) c.frames.ensures.value
+    ∙ words_read c.self.inside c.args.self.now (sound g c) c.self.view_is c.args.first c.args.order (at g c) _ c.clear.ensures.noted _ c.clear.ensures.words in (
       left g c,
       many g c,
       subst (λ (words : List ℕ). FnOnceReturnsAtMut g.F.FnOnce c.args.change words c.with_block.result (left g c)) shown c.with_block.ensures.changed.2,
