@@ -1,7 +1,8 @@
 //! Laws over zones that are the same but for the order of moves, as two rounds over one zone leave them: they answer each call alike,
 //! refusals too, and are still the same after it.
 //!
-//! Each function has the laws of one kind of call for its contract, and does nothing.
+//! Each function has laws for its contract, and does nothing: `calls_agree` those of any call that a client makes, and each other one
+//! those of one kind of call.
 #![tactic(auto)]
 
 mod law;

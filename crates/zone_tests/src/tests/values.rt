@@ -100,10 +100,16 @@ fn shorter_call_of(rt: &impl Abort, step: Step) -> ZoneCall {
 
 fn told(answer: Result<ZoneAnswer, ZoneError>) -> Answer {
     match answer {
-        Ok(ZoneAnswer::Done) => Answer::Done,
-        Ok(ZoneAnswer::Frame(frame)) => Answer::Frame(frame.get()),
-        Ok(ZoneAnswer::Value(value)) => Answer::Value(value),
+        Ok(answer) => accepted(answer),
         Err(error) => Answer::Refused(error),
+    }
+}
+
+fn accepted(answer: ZoneAnswer) -> Answer {
+    match answer {
+        ZoneAnswer::Done => Answer::Done,
+        ZoneAnswer::Frame(frame) => Answer::Frame(frame.get()),
+        ZoneAnswer::Value(value) => Answer::Value(value),
     }
 }
 
