@@ -4,11 +4,14 @@ use Rattle.std.specs.Prelude.{Result, Ok, Err, IsSome, IfOk, IfErr, OnOk, slice_
 use Rattle.std.specs.Result.{result_err}
 use Rattle.halves_core.specs.Told.{Pair, Told, pair_of, written_if}
 use Rattle.journal_core.specs.declared.record.Record.{Record}
+use Rattle.state_core.specs.declared.call.ZoneAnswer.{ZoneAnswer}
+use Rattle.state_core.specs.declared.call.ZoneCall.{ZoneCall}
 use Rattle.state_core.specs.declared.error.ZoneError.{ZoneError}
+use Rattle.state_core.specs.Calls.{refusal_of, answer_of, after}
 use Rattle.state_core.specs.Lawful.{IsLawful}
 use Rattle.state_core.specs.ZoneState.{ZoneState}
 use Rattle.round_core.specs.Calls.{IsCall}
-use Rattle.client_core.specs.Calls.{IsAccepted, IsReceipted, IsRefused}
+use Rattle.client_core.specs.Calls.{IsAccepted, IsMade, IsRefused}
 use Rattle.client_core.specs.Receipts.{AreSince}
 
 pub refused : {X : Type 0} (refusal : ZoneState → Option ZoneError) (zone : ZoneState)
@@ -47,28 +50,18 @@ module _ {client : ℕ} {z z_new : ZoneState} (call : IsCall client z z_new) whe
       → (stub : Option Told) → told z.records ≡ stub → (receipt : Record) → slice_get z_new.records 0 ≡ Some receipt → told z_new.records ≡ written_if receipt stub
   told_by told tells stub before receipt is = tells ∙ (λ i. written_if (newest_is receipt is i) (before i))
 
--- the receipt of an accepted call
-pub receipted : {X : Type 0} (refusal : ZoneState → Option ZoneError) (leaves : ZoneState → X → ZoneState → Type 0) (zone zone_new : ZoneState)
-    → IsLawful zone → (result : Result (X × Record) ZoneError) → result_err result ≡ refusal zone
-    → IfOk result (λ made. leaves zone made.0 zone_new) → IfOk result (λ made. zone_new.records ≡ made.1 ∷ zone.records) → IfOk result (IsReceipted refusal leaves)
-receipted refusal leaves zone zone_new lawful (Ok made) is left receipt = record {
-  call = record {
-    zone = zone;
-    lawful = lawful;
-    accepted = sym is;
-    zone_new = zone_new;
-    left = left;
-  };
-  receipt = receipt;
+-- a call was made, and it has this receipt
+pub made : {W : ℕ} (call : ZoneCall W) (client : ℕ) (zone zone_new : ZoneState) → IsLawful zone → (result : Result (ZoneAnswer × Record) ZoneError)
+    → result_err result ≡ refusal_of call zone → IfOk result (λ m. m.0 ≡ answer_of call zone) → OnOk result (zone_new ≡ after call client zone)
+    → IfOk result (λ m. zone_new.records ≡ m.1 ∷ zone.records) → IfOk result (λ m. IsMade client call m.0 m.1)
+made call client zone zone_new lawful (Ok m) is answer left receipt = record {
+  zone = zone;
+  lawful = lawful;
+  accepted = sym is;
+  answer_is = answer;
+  receipt_is = ap (λ (z : ZoneState). z.records) (sym left) ∙ receipt;
 }
-receipted refusal leaves zone zone_new lawful (Err error) is left receipt = tt
-
--- the receipt of a call is the record that the call left
-pub receipt_is : (entry receipt : Record) (records : List Record) (z_new left : ZoneState) → z_new ≡ left → left.records ≡ entry ∷ records → z_new.records ≡ receipt ∷ records → receipt ≡ entry
-receipt_is entry receipt records z_new left is more noted = first receipt entry records (sym noted ∙ ap (λ (z : ZoneState). z.records) is ∙ more)
-  where
-    first : (x y : Record) (l : List Record) → x ∷ l ≡ y ∷ l → x ≡ y
-    first x y l same = cc
+made call client zone zone_new lawful (Err error) is answer left receipt = tt
 
 -- what a client holds: its slip is of this pair, and has the receipts since these
 abbrev pub Holds : Option Pair → List Record → Option Told → List Record → Type 0

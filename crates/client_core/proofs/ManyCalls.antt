@@ -22,7 +22,7 @@ use Rattle.client_core.specs.Bulk.{AreCalls, records_each, written_all}
 use Rattle.client_core.proofs.Calls.{Holds, holds_more, holds_same}
 
 -- a test that doesn't refuse
-passes : (b : Bool) (first : ZoneError) (o : Option ZoneError) → (if b then Some first else o) ≡ None → (b ≡ false) × (o ≡ None)
+pub passes : (b : Bool) (first : ZoneError) (o : Option ZoneError) → (if b then Some first else o) ≡ None → (b ≡ false) × (o ≡ None)
 passes false first o e = (refl, e)
 passes true first o e = cc
 

@@ -2,13 +2,17 @@
 use Rattle.std.specs.Prelude.{◌≡◌, ℕ, Bool, ◌∷◌, Option, Some, None, unwrap_or}
 use Rattle.frame_core.specs.declared.place.Address.{Address}
 use Rattle.journal_core.specs.declared.record.Record.{Record}
+use Rattle.state_core.specs.declared.call.ZoneAnswer.{ZoneAnswer}
+use Rattle.state_core.specs.declared.call.ZoneCall.{ZoneCall}
 use Rattle.state_core.specs.declared.error.ZoneError.{ZoneError}
 use Rattle.state_core.specs.Access.{value_at, loaded}
+use Rattle.state_core.specs.Calls.{refusal_of, answer_of, after}
 use Rattle.state_core.specs.Lawful.{IsLawful}
 use Rattle.state_core.specs.Mapping.{mapped}
 use Rattle.state_core.specs.ZoneState.{ZoneState, lowest_free_frame, lowest_unused_page}
 use Rattle.client_core.specs.declared.error.ClientError.{ClientError}
 use Rattle.client_core.specs.declared.error.ClientError.TheVariants.{Memory, Zone}
+use Rattle.client_core.specs.Receipts.{Client, with_receipt}
 
 -- a call was accepted: some lawful zone didn't refuse it (`refusal` says when a zone would), and `leaves` holds of this zone, the
 -- answer, and the zone afterwards
@@ -19,10 +23,18 @@ pub record IsAccepted {X : Type 0} (refusal : ZoneState → Option ZoneError) (l
   pub zone_new : ZoneState
   pub left : leaves zone answer zone_new
 
--- a call was accepted, as above, and its receipt is the record that it left in the journal
-pub record IsReceipted {X : Type 0} (refusal : ZoneState → Option ZoneError) (leaves : ZoneState → X → ZoneState → Type 0) (made : X × Record) : Type 0 where
-  pub call : IsAccepted refusal leaves made.0
-  pub receipt : call.zone_new.records ≡ made.1 ∷ call.zone.records
+-- a client's call was made: some lawful zone didn't refuse it and gave this answer, and the receipt is the record that it left in the
+-- journal
+pub record IsMade {W : ℕ} (client : ℕ) (call : ZoneCall W) (answer : ZoneAnswer) (receipt : Record) : Type 0 where
+  pub zone : ZoneState
+  pub lawful : IsLawful zone
+  pub accepted : refusal_of call zone ≡ None
+  pub answer_is : answer ≡ answer_of call zone
+  pub receipt_is : (after call client zone).records ≡ receipt ∷ zone.records
+
+-- a client's call was made, and its receipt is the newest that the client has
+abbrev pub HasMade : {W : ℕ} → Client → ZoneCall W → ZoneAnswer → Client → Type 0
+HasMade old call answer new = (receipt : Record) × IsMade old.number call answer receipt × (new ≡ with_receipt old receipt)
 
 -- a call was refused: some lawful zone refused it with this error
 pub record IsRefused (refusal : ZoneState → Option ZoneError) (error : ZoneError) : Type 0 where

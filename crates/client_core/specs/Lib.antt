@@ -1,6 +1,5 @@
 pub mod Bulk
 pub mod Calls
 pub mod Errors
-pub mod Noted
 pub mod Receipts
 pub mod Settling

@@ -3,19 +3,19 @@ ghost use Rattle.std.specs.Int.RustNames.{bit_and};
 ghost use Rattle.journal_core.specs.declared.record.Record.TheVariants.{Map, Share, Unmap, Store, Load, Pin, Unpin};
 ghost use Rattle.frame_core.specs.PageFlags.{is_unmovable};
 ghost use Rattle.state_core.specs.Access.{access_refusal, stored};
+ghost use Rattle.state_core.specs.Calls.{refusal_of};
 ghost use Rattle.state_core.specs.Mapping.{map_refusal, map_at_refusal};
 ghost use Rattle.state_core.specs.Pinning.{pin_refusal, unpin_refusal, pinned, unpinned};
 ghost use Rattle.state_core.specs.Sharing.{share_refusal, shared as shared_by};
 ghost use Rattle.state_core.specs.Unmapping.{unmap_refusal, unmapped};
-ghost use Rattle.client_core.specs.Calls.{IsAccepted, IsFailed, leaving, loading, mapping, mapping_lowest};
+ghost use Rattle.client_core.specs.Calls.{HasMade, IsAccepted, IsFailed, leaving, loading, mapping, mapping_lowest};
 ghost use Rattle.client_core.specs.Receipts.{AreSince, with_receipt};
 ghost use Rattle.halves_core.specs.Told.{pair_of};
 
 mod bulk;
 
-use crate::access;
-use crate::access::{at_once, map_at_kept, map_kept, once_there};
 use crate::error::ClientError;
+use crate::making::{of_client, once_there};
 use crate::receipts::Receipts;
 use crate::telling::{Telling, Untold};
 use frame_core::{Address, ClientNo, FrameNo, PageFlags, WordNo};
@@ -27,7 +27,7 @@ use std::marker::{Model, PhantomData};
 use std::sync::Wait;
 use std::sync::ledger::Ledger;
 use told_core::Told;
-use zone_core::ZoneError;
+use zone_core::{ClientCall, ZoneAnswer, ZoneCall, ZoneError};
 
 /// Makes calls of a shared zone under one number, and has a receipt for each call that was accepted: its record.
 ///
@@ -163,6 +163,27 @@ impl<J: Telling, T: Receipts> Client<J, T> {
         self.number
     }
 
+    /// Makes a call, and answers what the zone does. The receipt is the record that the call leaves.
+    ///
+    /// The zone refuses as the method of the call's name says.
+    pub fn make<K: Keeping, I: Ledger, M: Ledger, B: Ledger, R: Wait>(
+        &mut self,
+        rt: &R,
+        shared: &KeptZone<K, I, M, B>,
+        call: ClientCall,
+    ) -> Result<ZoneAnswer, ClientError>
+        requires allows { K.allows self.old.number J.pair }
+        ensures ok { IfOk result (λ answer. HasMade self.old call answer self.new) }
+        ensures err { OnErr result (self.new ≡ self.old) }
+        ensures refused { IfErr result (IsFailed T.takes_memory (refusal_of call)) }
+        ensures there { IfErr result (λ error. error ≢ ClientError.Zone ZoneError.Moving) }
+    {
+        self.receipts.make_room(1)?;
+        let (answer, receipt) = once_there(rt, shared, &mut self.slip, self.number, call)?;
+        self.receipts.add(receipt);
+        Ok(answer)
+    }
+
     /// Makes an address name a fresh page in the lowest free frame, and answers this frame. The receipt has the number of
     /// the page. The flags must not have DIRTY.
     ///
@@ -181,10 +202,11 @@ impl<J: Telling, T: Receipts> Client<J, T> {
         ensures err { OnErr result (self.new ≡ self.old) }
         ensures refused { IfErr result (IsFailed T.takes_memory (λ zone. map_refusal zone address)) }
     {
-        self.receipts.make_room(1)?;
-        let mut room = shared.lock(rt);
-        let (frame, receipt) = map_kept(&mut room, &mut self.slip, self.number, address, flags)?;
-        self.receipts.add(receipt);
+        let unmovable = flags.is_unmovable();
+        let call = of_client(ZoneCall::Map { address, unmovable });
+        let ZoneAnswer::Frame(frame) = self.make(rt, shared, call)? else {
+            unreachable!()
+        };
         Ok(frame)
     }
 
@@ -206,17 +228,12 @@ impl<J: Telling, T: Receipts> Client<J, T> {
         ensures err { OnErr result (self.new ≡ self.old) }
         ensures refused { IfErr result (IsFailed T.takes_memory (λ zone. map_at_refusal zone address frame)) }
     {
-        self.receipts.make_room(1)?;
-        let mut room = shared.lock(rt);
-        let receipt = map_at_kept(
-            &mut room,
-            &mut self.slip,
-            self.number,
+        let call = ZoneCall::MapAt {
             address,
-            flags,
+            unmovable: flags.is_unmovable(),
             frame,
-        )?;
-        self.receipts.add(receipt);
+        };
+        self.make(rt, shared, of_client(call))?;
         Ok(())
     }
 
@@ -237,14 +254,8 @@ impl<J: Telling, T: Receipts> Client<J, T> {
         ensures refused { IfErr result (IsFailed T.takes_memory (λ zone. share_refusal zone address alias)) }
         ensures there { IfErr result (λ error. error ≢ ClientError.Zone ZoneError.Moving) }
     {
-        self.receipts.make_room(1)?;
-        let call = access::Share {
-            client: self.number,
-            address,
-            alias,
-        };
-        let ((), receipt) = once_there(rt, shared, &call, &mut self.slip)?;
-        self.receipts.add(receipt);
+        let call = of_client(ZoneCall::Share { address, alias });
+        self.make(rt, shared, call)?;
         Ok(())
     }
 
@@ -264,13 +275,8 @@ impl<J: Telling, T: Receipts> Client<J, T> {
         ensures refused { IfErr result (IsFailed T.takes_memory (λ zone. unmap_refusal zone address)) }
         ensures there { IfErr result (λ error. error ≢ ClientError.Zone ZoneError.Moving) }
     {
-        self.receipts.make_room(1)?;
-        let call = access::Unmap {
-            client: self.number,
-            address,
-        };
-        let ((), receipt) = once_there(rt, shared, &call, &mut self.slip)?;
-        self.receipts.add(receipt);
+        let call = of_client(ZoneCall::Unmap { address });
+        self.make(rt, shared, call)?;
         Ok(())
     }
 
@@ -291,14 +297,10 @@ impl<J: Telling, T: Receipts> Client<J, T> {
         ensures refused { IfErr result (IsFailed T.takes_memory (λ zone. access_refusal zone address)) }
         ensures there { IfErr result (λ error. error ≢ ClientError.Zone ZoneError.Moving) }
     {
-        self.receipts.make_room(1)?;
-        let call = access::Load {
-            client: self.number,
-            address,
-            word,
+        let call = of_client(ZoneCall::Load { address, word });
+        let ZoneAnswer::Value(value) = self.make(rt, shared, call)? else {
+            unreachable!()
         };
-        let (value, receipt) = once_there(rt, shared, &call, &mut self.slip)?;
-        self.receipts.add(receipt);
         Ok(value)
     }
 
@@ -320,15 +322,12 @@ impl<J: Telling, T: Receipts> Client<J, T> {
         ensures refused { IfErr result (IsFailed T.takes_memory (λ zone. access_refusal zone address)) }
         ensures there { IfErr result (λ error. error ≢ ClientError.Zone ZoneError.Moving) }
     {
-        self.receipts.make_room(1)?;
-        let call = access::Store {
-            client: self.number,
+        let call = ZoneCall::Store {
             address,
             word,
             value,
         };
-        let ((), receipt) = once_there(rt, shared, &call, &mut self.slip)?;
-        self.receipts.add(receipt);
+        self.make(rt, shared, of_client(call))?;
         Ok(())
     }
 
@@ -347,13 +346,8 @@ impl<J: Telling, T: Receipts> Client<J, T> {
         ensures err { OnErr result (self.new ≡ self.old) }
         ensures refused { IfErr result (IsFailed T.takes_memory (λ zone. pin_refusal zone address)) }
     {
-        self.receipts.make_room(1)?;
-        let call = access::Pin {
-            client: self.number,
-            address,
-        };
-        let ((), receipt) = at_once(rt, shared, &call, &mut self.slip)?;
-        self.receipts.add(receipt);
+        let call = of_client(ZoneCall::Pin { address });
+        self.make(rt, shared, call)?;
         Ok(())
     }
 
@@ -372,13 +366,8 @@ impl<J: Telling, T: Receipts> Client<J, T> {
         ensures err { OnErr result (self.new ≡ self.old) }
         ensures refused { IfErr result (IsFailed T.takes_memory (λ zone. unpin_refusal zone address)) }
     {
-        self.receipts.make_room(1)?;
-        let call = access::Unpin {
-            client: self.number,
-            address,
-        };
-        let ((), receipt) = at_once(rt, shared, &call, &mut self.slip)?;
-        self.receipts.add(receipt);
+        let call = of_client(ZoneCall::Unpin { address });
+        self.make(rt, shared, call)?;
         Ok(())
     }
 }

@@ -4,9 +4,9 @@
 //! a told client are seen by contracts alone, and take no memory.
 #![tactic(auto)]
 
-mod access;
 mod client;
 mod error;
+mod making;
 mod receipts;
 mod settling;
 mod telling;

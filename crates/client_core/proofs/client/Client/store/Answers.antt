@@ -1,21 +1,21 @@
-use Rattle.std.proofs.Common.{◌≡◌, ℕ, subst, rules}
-use Rattle.state_core.specs.Access.{access_refusal, stored}
-use Rattle.client_core.specs.Calls.{IsAccepted, leaving}
-use Rattle.client_core.proofs.Calls.{holds_more}
+use Rattle.std.proofs.Common.{refl, rules}
+use Rattle.state_core.specs.declared.call.ZoneCall.TheVariants.{Store}
+use Rattle.client_core.proofs.Made.{accepted, failed_as, made_as, receipt_more}
 use Rattle.client_core.proofs.client.Client.store.Goals as goal
 
-pub invariant_of-self-2 : goal.invariant_of-self-2
-invariant_of-self-2 g c =
-    let client = c.self.inside in
-    holds_more g.J.Telling.pair g.J.Telling.before client.slip c.once_there.new.slip (g.T.Receipts.items client.receipts) (g.T.Receipts.items c.add.new.self) c.in_ok-receipt.receipt
-    c.self.invariant c.in_ok-receipt.ensures.slip (search rules)
-
-pub returns-clause-accepted : goal.returns-clause-accepted
-returns-clause-accepted g c =
-    let is : c.self.inside.number ≡ c.args.self.now.number = search rules in
-    subst (λ (number : ℕ). IsAccepted (λ zone. access_refusal zone c.args.address) (leaving (λ zone. stored zone number c.args.address c.args.word c.args.value)) tt) is
-    c.in_ok-receipt.ensures.accepted.call
+pub returns-in_err-make-clause-refused : goal.returns-in_err-make-clause-refused
+returns-in_err-make-clause-refused g c =
+    let is = failed_as g.T.Receipts.takes_memory c.of_client.result (Store c.args.address c.args.word c.args.value) c.of_client.ensures c.make.result c.make.ensures.refused in
+    search (rules, is)
 
 pub returns-clause-ok : goal.returns-clause-ok
 returns-clause-ok g c =
-    search rules
+    let call = Store c.args.address c.args.word c.args.value in
+    let made = made_as c.args.self.now c.make.new.self c.in_ok-make.field-0 c.of_client.result call c.of_client.ensures c.in_ok-make.ensures.ok in
+    receipt_more c.args.self.now c.make.new.self c.in_ok-make.field-0 call refl made
+
+pub returns-clause-accepted : goal.returns-clause-accepted
+returns-clause-accepted g c =
+    let call = Store c.args.address c.args.word c.args.value in
+    let made = made_as c.args.self.now c.make.new.self c.in_ok-make.field-0 c.of_client.result call c.of_client.ensures c.in_ok-make.ensures.ok in
+    accepted c.args.self.now c.make.new.self c.in_ok-make.field-0 call made

@@ -1,0 +1,19 @@
+use Rattle.std.proofs.Common.{◌≡◌, ℕ, subst, rules}
+use Rattle.client_core.specs.Calls.{IsMade}
+use Rattle.client_core.proofs.Calls.{holds_more}
+use Rattle.client_core.proofs.client.Client.make.Goals as goal
+
+pub invariant_of-self-2 : goal.invariant_of-self-2
+invariant_of-self-2 g c =
+    let client = c.self.inside in
+    holds_more g.J.Telling.pair g.J.Telling.before client.slip c.once_there.new.slip (g.T.Receipts.items client.receipts) (g.T.Receipts.items c.add.new.self) c.in_ok-answer.receipt
+    c.self.invariant c.in_ok-answer.ensures.slip (search rules)
+
+pub returns-clause-ok : goal.returns-clause-ok
+returns-clause-ok g c =
+    let receipt = c.in_ok-answer.receipt in
+    let is : c.self.inside.number ≡ c.args.self.now.number = search rules in (
+      receipt,
+      subst (λ (number : ℕ). IsMade number c.args.call c.in_ok-answer.answer receipt) is c.in_ok-answer.ensures.made,
+      search rules,
+    )

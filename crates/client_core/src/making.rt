@@ -1,0 +1,87 @@
+//! A call of a client under the lock of its zone, and how it waits for its page.
+
+ghost use Rattle.std.specs.Prelude.{◌≡◌, ◌≢◌, ◌∷◌, Some, slice_get, IsSome, IsTrue, IfOk, IfErr, OnOk, OnErr};
+ghost use Rattle.std.specs.Result.{result_err};
+ghost use Rattle.halves_core.specs.Told.{pair_of, written_if};
+ghost use Rattle.state_core.specs.declared.error.ZoneError.{ZoneError};
+ghost use Rattle.state_core.specs.Calls.{refusal_of, answer_of, after, is_of_client};
+ghost use Rattle.state_core.specs.Lawful.{IsLawful};
+ghost use Rattle.client_core.specs.Calls.{IsMade, IsRefused};
+
+use frame_core::ClientNo;
+use halves_core::{Slip, write_both};
+use journal_core::{Journal, Record};
+use round_core::{Keeping, KeptZone, Room};
+use std::sync::Wait;
+use std::sync::ledger::Ledger;
+use zone_core::{ClientCall, ZoneAnswer, ZoneCall, ZoneError};
+
+/// A call of a zone that a client may make, as one of a client.
+pub(crate) fn of_client(call: ZoneCall) -> ClientCall
+    requires { IsTrue (is_of_client call) }
+    ensures { result ≡ call }
+{
+    let Some(call) = ClientCall::new(call) else {
+        unreachable!();
+    };
+    call
+}
+
+/// Makes a call under the lock of a zone. While its page is moving, it waits until a move has ended and makes the call again. An
+/// accepted call gives its receipt, which is written on the client's slip too.
+pub(crate) fn once_there<K: Keeping, I: Ledger, M: Ledger, B: Ledger, R: Wait>(
+    rt: &R,
+    shared: &KeptZone<K, I, M, B>,
+    slip: &mut Option<Slip>,
+    client: ClientNo,
+    call: ClientCall,
+) -> Result<(ZoneAnswer, Record), ZoneError>
+    requires allows { K.allows client (pair_of slip.old) }
+    ensures made { IfOk result (λ made. IsMade client call made.0 made.1) }
+    ensures slip { IfOk result (λ made. slip.new ≡ written_if made.1 slip.old) }
+    ensures err { OnErr result (slip.new ≡ slip.old) }
+    ensures refused { IfErr result (IsRefused (refusal_of call)) }
+    ensures there { IfErr result (λ refusal. refusal ≢ ZoneError.Moving) }
+{
+    let mut room = shared.lock(rt);
+    for _ in rt.forever() {
+        match make_kept(&mut room, slip, client, call) {
+            Err(ZoneError::Moving) => room = shared.wait_for_end(rt, room),
+            made => return made,
+        }
+    }
+    unreachable!()
+}
+
+/// Makes a call while the lock of a zone is held. An accepted call gives its receipt, which is written on the client's slip too.
+fn make_kept<K: Keeping, I: Ledger, M: Ledger, B: Ledger>(
+    room: &mut Room<K, I, M, B>,
+    slip: &mut Option<Slip>,
+    client: ClientNo,
+    call: ClientCall,
+) -> Result<(ZoneAnswer, Record), ZoneError>
+    requires allows { K.allows client (pair_of slip.old) }
+    ensures lawful { IsLawful room.old }
+    ensures refused { result_err result ≡ refusal_of call room.old }
+    ensures answer { IfOk result (λ made. made.0 ≡ answer_of call room.old) }
+    ensures ok { OnOk result (room.new ≡ after call client room.old) }
+    ensures receipt { IfOk result (λ made. room.new.records ≡ made.1 ∷ room.old.records) }
+    ensures slip { IfOk result (λ made. slip.new ≡ written_if made.1 slip.old) }
+    ensures err { OnErr result ((room.new ≡ room.old) × (slip.new ≡ slip.old)) }
+{
+    let answer = room.zone.make(client, call.get())?;
+    let receipt = newest(room.zone.journal());
+    write_both(&mut room.stub, slip, &receipt);
+    Ok((answer, receipt))
+}
+
+/// The newest record of a journal.
+fn newest(journal: &Journal) -> Record
+    requires { IsSome (slice_get journal.now.records 0) }
+    ensures { slice_get journal.now.records 0 ≡ Some result }
+{
+    let Some(entry) = journal.last() else {
+        unreachable!();
+    };
+    *entry
+}
