@@ -44,7 +44,24 @@ fn words_at<K: Shape, I: Ledger, M: Ledger, B: Ledger, R: Wait + Abort>(
     words
 }
 
-/// Stores to each page and loads what was stored, and does so with all words of the page, 50 times.
+/// Stores to a page and loads what was stored, and does so with all words of the page.
+fn uses_page<K: Shape, I: Ledger, M: Ledger, B: Ledger, R: Wait + Abort>(
+    rt: &R,
+    shared: &SharedZone<K, I, M, B>,
+    client: &mut ToldClient,
+    at: Address,
+    value: u64,
+) {
+    let stored = client.store(rt, shared, at, word(rt, 3), value);
+    assert!(rt; stored == Ok(()));
+    let loaded = client.load(rt, shared, at, word(rt, 3));
+    assert!(rt; loaded == Ok(value));
+    let written = client.write(rt, shared, at, word(rt, 0), &[value; 8]);
+    assert!(rt; written == Ok(()));
+    assert!(rt; words_at(rt, shared, client, at) == [value; 8]);
+}
+
+/// Uses each page 50 times.
 fn uses_pages<K: Shape, I: Ledger, M: Ledger, B: Ledger, R: Wait + Abort>(
     rt: &R,
     shared: &SharedZone<K, I, M, B>,
@@ -52,11 +69,7 @@ fn uses_pages<K: Shape, I: Ledger, M: Ledger, B: Ledger, R: Wait + Abort>(
 ) -> ToldClient {
     for value in 0..50 {
         for number in 0..PAGES {
-            let at = address(rt, number);
-            assert!(rt; client.store(rt, shared, at, word(rt, 3), value) == Ok(()));
-            assert!(rt; client.load(rt, shared, at, word(rt, 3)) == Ok(value));
-            assert!(rt; client.write(rt, shared, at, word(rt, 0), &[value; 8]) == Ok(()));
-            assert!(rt; words_at(rt, shared, &mut client, at) == [value; 8]);
+            uses_page(rt, shared, &mut client, address(rt, number), value);
         }
     }
     client
