@@ -7,7 +7,7 @@ use super::opening::{counts_of, round_of};
 use super::{address, client_number, frame, word};
 use bitflags::Flags;
 use client_core::{Client, ToldClient, Unsettled, settle_clients};
-use frame_core::{Address, PageFlags, ZoneNo};
+use frame_core::{PageFlags, ZoneNo};
 use round_core::{NoGate, Round, RoundError, Shape, SharedZone};
 use std::marker::Brand;
 use std::process::Abort;
@@ -32,14 +32,14 @@ fn with_pages<K: Shape, I: Ledger, M: Ledger, B: Ledger, R: Wait + Abort>(
 }
 
 /// The words of a page.
-fn words_at<K: Shape, I: Ledger, M: Ledger, B: Ledger, R: Wait + Abort>(
+fn words_of<K: Shape, I: Ledger, M: Ledger, B: Ledger, R: Wait + Abort>(
     rt: &R,
     shared: &SharedZone<K, I, M, B>,
     client: &mut ToldClient,
-    at: Address,
+    page: u32,
 ) -> [u64; 8] {
     let mut words = [0; 8];
-    let read = client.read(rt, shared, at, word(rt, 0), &mut words);
+    let read = client.read(rt, shared, address(rt, page), word(rt, 0), &mut words);
     assert!(rt; read == Ok(()));
     words
 }
@@ -49,16 +49,17 @@ fn uses_page<K: Shape, I: Ledger, M: Ledger, B: Ledger, R: Wait + Abort>(
     rt: &R,
     shared: &SharedZone<K, I, M, B>,
     client: &mut ToldClient,
-    at: Address,
+    page: u32,
     value: u64,
 ) {
-    let stored = client.store(rt, shared, at, word(rt, 3), value);
+    let stored = client.store(rt, shared, address(rt, page), word(rt, 3), value);
     assert!(rt; stored == Ok(()));
-    let loaded = client.load(rt, shared, at, word(rt, 3));
+    let loaded = client.load(rt, shared, address(rt, page), word(rt, 3));
     assert!(rt; loaded == Ok(value));
-    let written = client.write(rt, shared, at, word(rt, 0), &[value; 8]);
+    let values = [value; 8];
+    let written = client.write(rt, shared, address(rt, page), word(rt, 0), &values);
     assert!(rt; written == Ok(()));
-    assert!(rt; words_at(rt, shared, client, at) == [value; 8]);
+    assert!(rt; words_of(rt, shared, client, page) == [value; 8]);
 }
 
 /// Uses each page 50 times.
@@ -69,7 +70,7 @@ fn uses_pages<K: Shape, I: Ledger, M: Ledger, B: Ledger, R: Wait + Abort>(
 ) -> ToldClient {
     for value in 0..50 {
         for number in 0..PAGES {
-            uses_page(rt, shared, &mut client, address(rt, number), value);
+            uses_page(rt, shared, &mut client, number, value);
         }
     }
     client
