@@ -1,8 +1,12 @@
 -- The machine of a script on one thread: it has no zone yet, or one in a world.
 use Rattle.std.specs.Prelude.{ℕ, zero, suc, ◌+◌, ◌*◌, ◌/◌, Bool, true, false, nat_eq, if◌then◌else◌, List, [], ◌∷◌, ◌++◌, Option, Some, None, unwrap_or}
 use Rattle.frame_core.specs.declared.place.Address.{Address}
+use Rattle.state_core.specs.declared.call.ZoneAnswer.{ZoneAnswer}
+use Rattle.state_core.specs.declared.call.ZoneAnswer.TheVariants as zone_answer
+use Rattle.state_core.specs.declared.call.ZoneCall.{ZoneCall}
+use Rattle.state_core.specs.declared.call.ZoneCall.TheVariants.{Map, Unmap, TakeOrder, GiveOrder}
 use Rattle.state_core.specs.declared.error.ZoneError.{ZoneError}
-use Rattle.state_core.specs.declared.error.ZoneError.TheVariants.{JournalFull, Unmapped, NoFrame, NoBlock}
+use Rattle.state_core.specs.declared.error.ZoneError.TheVariants.{JournalFull, Unmapped}
 use Rattle.world_core.specs.declared.hand.Finished.{Finished}
 use Rattle.world_core.specs.declared.hand.Scanned.{Scanned}
 use Rattle.world_core.specs.declared.hand.Scanned.TheVariants as scan
@@ -11,19 +15,13 @@ use Rattle.state_core.specs.declared.moves.Ended.TheVariants as ended
 use Rattle.state_core.specs.declared.information.Look.{Look as Known}
 use Rattle.state_core.specs.ErrorNumber.{number_of}
 use Rattle.state_core.specs.Looking.{look_of, info_of}
-use Rattle.state_core.specs.Mapping.{map_refusal, map_at_refusal, mapped}
-use Rattle.state_core.specs.Access.{access_refusal, stored, loaded, value_at}
-use Rattle.state_core.specs.Sharing.{share_refusal, shared}
-use Rattle.state_core.specs.Unmapping.{unmap_refusal, unmapped}
-use Rattle.state_core.specs.Pinning.{pin_refusal, unpin_refusal, pinned, unpinned}
-use Rattle.state_core.specs.HandingOut.{take_order_refusal, give_order_refusal, lowest_run, block_taken, block_given}
-use Rattle.state_core.specs.Marking.{mark_refusal, unmark_refusal, block_marked, block_unmarked}
-use Rattle.state_core.specs.ZoneState.{ZoneState, lowest_free_frame}
+use Rattle.state_core.specs.Calls.{refusal_of, answer_of, after}
+use Rattle.state_core.specs.HandingOut.{take_order_refusal, lowest_run, block_taken}
 use Rattle.world_core.specs.World.{WorldState, world_opened, with_zone, scan_refusal, scan_stopped, scan_answer, scanned, take_step, copy_step, finish_step, shut_step}
 use Rattle.text_core.specs.declared.command.Call.{Call}
-use Rattle.text_core.specs.declared.command.Call.TheVariants.{Map, MapAt, Store, Load, Info, Scan, Take, Copy, Finish, Shut, Look, Share, Unmap, Pin, Unpin, Huge, Give, InfoWithHeld, TakeOrder, GiveOrder, Mark, Unmark}
+use Rattle.text_core.specs.declared.command.Call.TheVariants.{Info, InfoWithHeld, Scan, Take, Copy, Finish, Shut, Look, Huge, Give}
 use Rattle.text_core.specs.declared.command.Calls.{Calls}
-use Rattle.text_core.specs.declared.command.Calls.TheVariants.{One, Series as SeriesOf}
+use Rattle.text_core.specs.declared.command.Calls.TheVariants.{Zone, One, Series as SeriesOf}
 use Rattle.text_core.specs.declared.command.Series.{Series}
 use Rattle.text_core.specs.declared.command.Repeated.{Repeated}
 use Rattle.text_core.specs.declared.command.Repeated.TheVariants as repeated
@@ -50,10 +48,6 @@ says reply after = record { reply = reply; world = after }
 abbrev pub refused : ℕ → WorldState → Answered
 refused number w = says (reply.Refused number) w
 
--- the reply `ok`, and the world with this zone
-abbrev pub done : WorldState → ZoneState → Answered
-done w zone = says reply.Done (with_zone w zone)
-
 -- the refusal of the zone, which leaves this world, and where there is none the given answer
 abbrev pub unless : Option ZoneError → WorldState → Answered → Answered
 unless None world answered = answered
@@ -68,11 +62,6 @@ by_hand told world (Some (answer, after)) = says (told answer) after
 abbrev pub copied : WorldState → Option WorldState → Answered
 copied world None = refused 45 world
 copied world (Some after) = says reply.Done after
-
--- the answer to a map: a fresh page in this frame, or the refusal that there is no frame
-abbrev pub fresh_page : WorldState → Address → Bool → Option ℕ → Answered
-fresh_page w a unmovable None = refused (number_of NoFrame) w
-fresh_page w a unmovable (Some frame) = done w (mapped w.zone 0 a unmovable frame)
 
 -- the reply for what a scan found
 abbrev pub found : Scanned → Reply
@@ -89,52 +78,48 @@ abbrev pub looked : WorldState → Option Known → Answered
 looked world None = refused (number_of Unmapped) world
 looked world (Some known) = says (reply.Looked known) world
 
--- the answer to `huge`: the pageblock that begins at this frame is handed out, or the refusal that there is no block
-abbrev pub handed_out : WorldState → Option ℕ → Answered
-handed_out w None = refused (number_of NoBlock) w
-handed_out w (Some first) = says (reply.Block (first / 512)) (with_zone w (block_taken w.zone first 9))
+-- the reply for what the zone answered to a call: the value of a load, and the block that was handed out; the frame of a map isn't told
+abbrev pub reply_for : ZoneCall 8 → ZoneAnswer → Reply
+reply_for call zone_answer.Done = reply.Done
+reply_for call (zone_answer.Value x) = reply.Value x
+reply_for (TakeOrder order) (zone_answer.Frame first) = reply.HandedOut first order
+reply_for call (zone_answer.Frame first) = reply.Done
 
--- the answer to `huge` with an order: the block of this order that begins at this frame is handed out, or the refusal
--- that there is no block
-abbrev pub order_handed_out : WorldState → ℕ → Option ℕ → Answered
-order_handed_out w order None = refused (number_of NoBlock) w
-order_handed_out w order (Some first) = says (reply.HandedOut first order) (with_zone w (block_taken w.zone first order))
+-- the reply to `huge`: the pageblock that begins at the frame that the zone answered
+abbrev pub reply_for_huge : ZoneAnswer → Reply
+reply_for_huge (zone_answer.Frame first) = reply.Block (first / 512)
+reply_for_huge answer = reply.Done
 
--- the reply to a call on the open zone, made as client 0, and the world after it
+-- a call of the zone, made as client 0: its refusal, or the reply for its answer and the zone after it
+abbrev pub zone_step : WorldState → ZoneCall 8 → (ZoneAnswer → Reply) → Answered
+zone_step w call told = unless (refusal_of call w.zone) w (says (told (answer_of call w.zone)) (with_zone w (after call 0 w.zone)))
+
+-- the reply to a call that the zone answers by itself, and the world after it
+abbrev pub make_step : WorldState → ZoneCall 8 → Answered
+make_step w call = zone_step w call (reply_for call)
+
+-- the reply to another call on the open zone, and the world after it
 abbrev pub call_step : WorldState → Call → Answered
-call_step w (Map a unmovable) = unless (map_refusal w.zone a) w (fresh_page w a unmovable (lowest_free_frame w.zone))
-call_step w (MapAt a frame unmovable) = unless (map_at_refusal w.zone a frame) w (fresh_page w a unmovable (Some frame))
-call_step w (Store a word value) = unless (access_refusal w.zone a) w (done w (stored w.zone 0 a word value))
-call_step w (Load a word) =
-    unless (access_refusal w.zone a) w (says (reply.Value (value_at w.zone a word)) (with_zone w (loaded w.zone 0 a word)))
 call_step w Info = says (reply.Info (info_of w.zone)) w
+call_step w InfoWithHeld = says (reply.InfoWithHeld (info_of w.zone)) w
 call_step w Scan = unless (scan_refusal w) (scan_stopped w) (says (found (scan_answer w)) (scanned w))
 call_step w (Take hand) = by_hand (λ serial. reply.Serial serial) w (take_step w hand)
 call_step w (Copy hand) = copied w (copy_step w hand)
 call_step w (Finish hand) = by_hand (λ (f : Finished). ending f.serial f.ended) w (finish_step w hand)
 call_step w Shut = by_hand (λ count. reply.Shut count) w (shut_step w)
 call_step w (Look a) = looked w (look_of w.zone a)
-call_step w (Share a alias) = unless (share_refusal w.zone a alias) w (done w (shared w.zone 0 a alias))
-call_step w (Unmap a) = unless (unmap_refusal w.zone a) w (done w (unmapped w.zone 0 a))
-call_step w (Pin a) = unless (pin_refusal w.zone a) w (done w (pinned w.zone 0 a))
-call_step w (Unpin a) = unless (unpin_refusal w.zone a) w (done w (unpinned w.zone 0 a))
-call_step w Huge = unless (take_order_refusal w.zone 9) w (handed_out w (lowest_run w.zone 9))
-call_step w (Give block) = unless (give_order_refusal w.zone (512 * block) 9) w (done w (block_given w.zone (512 * block) 9))
-call_step w InfoWithHeld = says (reply.InfoWithHeld (info_of w.zone)) w
-call_step w (TakeOrder order) = unless (take_order_refusal w.zone order) w (order_handed_out w order (lowest_run w.zone order))
-call_step w (GiveOrder first order) = unless (give_order_refusal w.zone first order) w (done w (block_given w.zone first order))
-call_step w (Mark block) = unless (mark_refusal w.zone block) w (done w (block_marked w.zone block))
-call_step w (Unmark block) = unless (unmark_refusal w.zone block) w (done w (block_unmarked w.zone block))
+call_step w Huge = zone_step w (TakeOrder 9) reply_for_huge
+call_step w (Give block) = zone_step w (GiveOrder (512 * block) 9) (λ _. reply.Done)
 
 -- the call that a series makes at an address
-abbrev pub call_at : Repeated → Address → Call
+abbrev pub call_at : Repeated → Address → ZoneCall 8
 call_at repeated.Map a = Map a false
 call_at repeated.Unmap a = Unmap a
 
 -- the answer to the call of a series at this address, or refusal 1 where the space has no such page
 abbrev pub page_step : Repeated → WorldState → Option Address → Answered
 page_step c w None = refused 1 w
-page_step c w (Some a) = call_step w (call_at c a)
+page_step c w (Some a) = make_step w (call_at c a)
 
 -- a series ends where a call was refused after `done` others, and goes on where it wasn't
 abbrev pub unless_refused : ℕ → Reply → WorldState → Answered → Answered
@@ -154,6 +139,7 @@ series_step w s = series_from s.call s.space s.first s.step 0 s.count w
 
 -- the answer to the calls of a command
 abbrev pub calls_step : WorldState → Calls → Answered
+calls_step w (Zone call) = make_step w call
 calls_step w (One call) = call_step w call
 calls_step w (SeriesOf series) = series_step w series
 

@@ -8,6 +8,6 @@ mod machine;
 mod options;
 mod script;
 
-pub use machine::{Machine, flags};
+pub use machine::{Machine, reply_for};
 pub use options::Options;
 pub use script::{run, run_text};

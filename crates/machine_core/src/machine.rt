@@ -1,5 +1,5 @@
-ghost use Rattle.std.specs.Prelude.{◌≡◌, ◌<◌, ◌≤◌, [], bit_and, true, false, ⊤, Some, None, IfErr, IfNone, IfOk, IfSome, OnErr, OnOk};
-ghost use Rattle.machine_core.specs.Machine.{call_at, call_step, calls_step, compact_on, ending, found, open_step, page_step, pool_from, pool_on, pool_step, series_step, step_on, stopped_by, during_on};
+ghost use Rattle.std.specs.Prelude.{◌≡◌, ◌<◌, ◌≤◌, [], true, false, ⊤, Some, None, IfErr, IfNone, IfOk, IfSome, OnErr, OnOk};
+ghost use Rattle.machine_core.specs.Machine.{call_at, call_step, calls_step, compact_on, ending, found, make_step, open_step, page_step, pool_from, pool_on, pool_step, reply_for, series_step, step_on, stopped_by, during_on};
 ghost use Rattle.machine_core.specs.Single.{IsSingleStep, IsStep, Opens, single_at_first};
 ghost use Rattle.machine_core.specs.Single.{is_at_rest};
 ghost use Rattle.text_core.specs.Grammar.{address_of, zone_of};
@@ -7,15 +7,11 @@ ghost use Rattle.text_core.specs.declared.reply.Reply.TheVariants as reply;
 ghost use Rattle.zone_core.specs.Books.{AreFor};
 ghost use Rattle.world_core.specs.ErrorNumber.{world_number_of};
 ghost use Rattle.state_core.specs.ErrorNumber.{number_of};
-ghost use Rattle.frame_core.specs.PageFlags.{is_unmovable};
 
 use arrayvec::ArrayVec;
-use bitflags::Flags;
-use frame_core::{
-    Address, BlockNo, ClientNo, FrameNo, Order, PageFlags, Serial, SpaceNo, VPage, ZoneNo,
-};
+use frame_core::{Address, BlockNo, ClientNo, PageFlags, Serial, SpaceNo, VPage, ZoneNo};
 use play_core::{Answers, Block, Respond};
-use state_core::{Ended, Look, ZoneError};
+use state_core::{Ended, Look, ZoneAnswer, ZoneCall, ZoneError};
 use std::alloc::{AllocError, Global};
 use std::marker::Model;
 use std::sync::ledger::Ledger;
@@ -275,6 +271,7 @@ fn answer_all<I: Ledger, N: Ledger, M: Ledger, B: Ledger>(
     ensures { record { reply = reply.new; world = world.new } ≡ calls_step world.old calls }
 {
     match calls {
+        Calls::Zone(call) => make(world, &call, reply),
         Calls::One(call) => answer(world, call, reply),
         Calls::Series(series) => *reply = answer_series(world, series),
     }
@@ -325,38 +322,17 @@ fn repeat<I: Ledger, N: Ledger, M: Ledger, B: Ledger>(
     repeated: Repeated,
     address: Address,
 ) -> Reply
-    ensures { record { reply = result; world = world.new } ≡ call_step world.old (call_at repeated address) }
+    ensures { record { reply = result; world = world.new } ≡ make_step world.old (call_at repeated address) }
 {
-    let mut reply = Reply::Done;
+    let client = script_client();
     match repeated {
-        Repeated::Map => map_page(world, address, false, &mut reply),
-        Repeated::Unmap => unmap_page(world, address, &mut reply),
+        Repeated::Map => world
+            .map(client, address, PageFlags::of(false, false))
+            .map_or_else(by_zone, |_| Reply::Done),
+        Repeated::Unmap => world
+            .unmap(client, address)
+            .map_or_else(by_zone, |()| Reply::Done),
     }
-    reply
-}
-
-/// Maps a page.
-fn map_page<I: Ledger, N: Ledger, M: Ledger, B: Ledger>(
-    world: &mut World<I, N, M, B>,
-    address: Address,
-    unmovable: bool,
-    reply: &mut Reply,
-)
-    ensures { record { reply = reply.new; world = world.new } ≡ call_step world.old (Call.Map address unmovable) }
-{
-    let mapped = world.map(script_client(), address, flags(unmovable));
-    *reply = mapped.map_or_else(by_zone, |_| Reply::Done);
-}
-
-/// Takes an address from a page.
-fn unmap_page<I: Ledger, N: Ledger, M: Ledger, B: Ledger>(
-    world: &mut World<I, N, M, B>,
-    address: Address,
-    reply: &mut Reply,
-)
-    ensures { record { reply = reply.new; world = world.new } ≡ call_step world.old (Call.Unmap address) }
-{
-    tell_done(world.unmap(script_client(), address), reply);
 }
 
 /// The address of a page in a space, if the space has such a page.
@@ -367,7 +343,7 @@ fn address(space: SpaceNo, page: u128) -> Option<Address>
     Some(Address { space, vpage })
 }
 
-/// Answers a call on the zone of a world.
+/// Answers another call on the zone of a world.
 fn answer<I: Ledger, N: Ledger, M: Ledger, B: Ledger>(
     world: &mut World<I, N, M, B>,
     call: Call,
@@ -375,41 +351,48 @@ fn answer<I: Ledger, N: Ledger, M: Ledger, B: Ledger>(
 )
     ensures { record { reply = reply.new; world = world.new } ≡ call_step world.old call }
 {
-    let client = script_client();
     match call {
-        Call::Map { address, unmovable } => map_page(world, address, unmovable, reply),
-        Call::MapAt {
-            address,
-            frame,
-            unmovable,
-        } => {
-            let mapped = world.map_at(client, address, flags(unmovable), frame);
-            tell_done(mapped, reply);
-        }
-        Call::Store {
-            address,
-            word,
-            value,
-        } => tell_done(world.store(client, address, word, value), reply),
-        Call::Load { address, word } => tell_value(world.load(client, address, word), reply),
         Call::Info => *reply = Reply::Info(world.zone().info()),
+        Call::InfoWithHeld => *reply = Reply::InfoWithHeld(world.zone().info()),
         Call::Scan => tell_scan(world.scan(), reply),
         Call::Take(hand) => tell_serial(world.take(hand), reply),
         Call::Copy(hand) => tell_copy(world.copy(hand), reply),
         Call::Finish(hand) => tell_end(world.finish(hand), reply),
         Call::Shut => tell_shut(world.shut(), reply),
         Call::Look(address) => tell_look(world.zone().look(address), reply),
-        Call::Share { address, alias } => tell_done(world.share(client, address, alias), reply),
-        Call::Unmap(address) => unmap_page(world, address, reply),
-        Call::Pin(address) => tell_done(world.pin(client, address), reply),
-        Call::Unpin(address) => tell_done(world.unpin(client, address), reply),
         Call::Huge => tell_block(world.take_huge(), reply),
         Call::Give(block) => tell_done(world.give_huge(block), reply),
-        Call::InfoWithHeld => *reply = Reply::InfoWithHeld(world.zone().info()),
-        Call::TakeOrder(order) => tell_handed_out(world.take_order(order), order, reply),
-        Call::GiveOrder { first, order } => tell_done(world.give_order(first, order), reply),
-        Call::Mark(block) => tell_done(world.mark(block), reply),
-        Call::Unmark(block) => tell_done(world.unmark(block), reply),
+    }
+}
+
+/// Makes a call of the zone of a world.
+fn make<I: Ledger, N: Ledger, M: Ledger, B: Ledger>(
+    world: &mut World<I, N, M, B>,
+    call: &ZoneCall,
+    reply: &mut Reply,
+)
+    ensures { record { reply = reply.new; world = world.new } ≡ make_step world.old call.now }
+{
+    match world.make(script_client(), *call) {
+        Ok(answer) => *reply = reply_for(call, answer),
+        Err(error) => *reply = by_zone(error),
+    }
+}
+
+/// The reply for what a zone answered to a call. The frame of a map isn't told.
+pub fn reply_for(call: &ZoneCall, answer: ZoneAnswer) -> Reply
+    ensures { result ≡ reply_for call.now answer }
+{
+    match answer {
+        ZoneAnswer::Done => Reply::Done,
+        ZoneAnswer::Value(value) => Reply::Value(value),
+        ZoneAnswer::Frame(first) => match call {
+            ZoneCall::TakeOrder { order } => Reply::HandedOut {
+                first,
+                order: *order,
+            },
+            _ => Reply::Done,
+        },
     }
 }
 
@@ -419,14 +402,6 @@ fn tell_done(outcome: Result<(), ZoneError>, reply: &mut Reply)
     ensures err { IfErr outcome (λ error. reply.new ≡ Reply.Refused (number_of error)) }
 {
     *reply = outcome.map_or_else(by_zone, |()| Reply::Done);
-}
-
-/// Writes the reply with the value of a word, or a refusal.
-fn tell_value(outcome: Result<u64, ZoneError>, reply: &mut Reply)
-    ensures ok { IfOk outcome (λ value. reply.new ≡ Reply.Value value) }
-    ensures err { IfErr outcome (λ error. reply.new ≡ Reply.Refused (number_of error)) }
-{
-    *reply = outcome.map_or_else(by_zone, Reply::Value);
 }
 
 /// Writes the reply with what is known of a page, or a refusal.
@@ -443,14 +418,6 @@ fn tell_block(outcome: Result<BlockNo, ZoneError>, reply: &mut Reply)
     ensures err { IfErr outcome (λ error. reply.new ≡ Reply.Refused (number_of error)) }
 {
     *reply = outcome.map_or_else(by_zone, Reply::Block);
-}
-
-/// Writes the reply with the block of this order that was handed out, or a refusal.
-fn tell_handed_out(outcome: Result<FrameNo, ZoneError>, order: Order, reply: &mut Reply)
-    ensures ok { IfOk outcome (λ first. reply.new ≡ Reply.HandedOut first order) }
-    ensures err { IfErr outcome (λ error. reply.new ≡ Reply.Refused (number_of error)) }
-{
-    *reply = outcome.map_or_else(by_zone, |first| Reply::HandedOut { first, order });
 }
 
 /// Writes the reply with what a scan found, or a refusal.
@@ -525,18 +492,6 @@ fn end_reply(finished: Finished) -> Reply
     match ended {
         Ended::Moved => Reply::Moved(serial),
         Ended::Back => Reply::PutBack(serial),
-    }
-}
-
-/// The flags for mapping a page.
-pub fn flags(unmovable: bool) -> PageFlags
-    ensures clean { bit_and result.0 2 ≡ 0 }
-    ensures unmovable { is_unmovable result ≡ unmovable }
-{
-    if unmovable {
-        PageFlags::UNMOVABLE
-    } else {
-        PageFlags::empty()
     }
 }
 

@@ -1,7 +1,7 @@
 -- What contracts see of a script that is being read.
 use Rattle.std.specs.Prelude.{◌≡◌, ◌≢◌, ℕ, ◌+◌, ◌≤◌, ◌⊎◌, List, [], ◌∷◌, ◌++◌, length, Option, Some}
 use Rattle.std.specs.Io.KnownBytes.{Consumes}
-use Rattle.text_core.specs.declared.command.ClientCall.{ClientCall}
+use Rattle.state_core.specs.declared.call.ZoneCall.{ZoneCall}
 use Rattle.text_core.specs.declared.profile.Profile.TheVariants.{Untold}
 use Rattle.text_core.specs.Reply.{newlines}
 use Rattle.play_core.specs.declared.error.Fault.{Fault}
@@ -34,7 +34,7 @@ abbrev pub block_begun : {S : Type 0} → ℕ → Player S → Player S
 block_begun zone s = record (in_block (record { line = s.line; zone = zone; clients = [] }) s) { line = s.line + 1 }
 
 -- the script after its line was one more client line of a block
-abbrev pub noted : {S : Type 0} → Block → Option ClientCall → Player S → Player S
+abbrev pub noted : {S : Type 0} → Block → Option (ZoneCall 8) → Player S → Player S
 noted block call s =
     record (in_block (record block { clients = block.clients ++ record { line = s.line; call = call } ∷ [] }) s) { line = s.line + 1 }
 

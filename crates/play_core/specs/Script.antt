@@ -3,9 +3,9 @@ use Rattle.std.specs.Prelude.{◌≡◌, ℕ, ◌+◌, ◌<◌, ◌⊎◌, ⊤, 
 use Rattle.std.specs.List.{slice_split}
 use Rattle.std.specs.Option.{option_or}
 use Rattle.std.specs.Io.KnownBytes.{Appends}
+use Rattle.state_core.specs.declared.call.ZoneCall.{ZoneCall}
 use Rattle.text_core.specs.declared.command.BlockLine.{BlockLine}
 use Rattle.text_core.specs.declared.command.BlockLine.TheVariants.{Client, End}
-use Rattle.text_core.specs.declared.command.ClientCall.{ClientCall}
 use Rattle.text_core.specs.declared.command.Command.{Command}
 use Rattle.text_core.specs.declared.command.Command.TheVariants.{During}
 use Rattle.text_core.specs.declared.error.ScriptError.{ScriptError}
@@ -23,7 +23,7 @@ use Rattle.text_core.specs.Reply.{newlines, text_of}
 -- a line of a client: its number, and the call, or None where an argument is out of its range
 pub record ClientLine : Type 0 where
   pub line : ℕ
-  pub call : Option ClientCall
+  pub call : Option (ZoneCall 8)
 
 -- a command with the number of its line, and the client lines of its block; only `during` has such lines
 pub record Numbered : Type 0 where

@@ -1,9 +1,10 @@
 ghost use Rattle.std.specs.Prelude.{◌≡◌, ◌+◌, ◌<◌, ◌≤◌, ◌++◌, ◌↔◌, [], ◌∷◌, IsTrue, IfOk, length, vec_len, vec_capacity};
 
 use crate::answer::{Answer, Answers};
+use state_core::ClientCall;
 use std::alloc::{AllocError, Global};
 use std::marker::Model;
-use text_core::{ClientCall, Reply};
+use text_core::Reply;
 
 /// How many client lines a block may have.
 const MOST: usize = 1000;

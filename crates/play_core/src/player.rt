@@ -17,12 +17,11 @@ use crate::respond::Respond;
 use crate::totals::Totals;
 use arrayvec::ArrayVec;
 use memchr::memchr;
+use state_core::ClientCall;
 use std::alloc::Global;
 use std::marker::Model;
 use std::mem;
-use text_core::{
-    BlockLine, ClientCall, Command, Profile, Reply, ScriptError, read_block_line, read_line,
-};
+use text_core::{BlockLine, Command, Profile, Reply, ScriptError, read_block_line, read_line};
 
 /// A script that is being played: its machine, the block and the line that have begun, and the replies that wait.
 #[derive(Drop)]

@@ -5,5 +5,4 @@ pub mod Following
 pub mod ThreadedRuns
 mod Whole
 pub mod ClientAnswers
-pub mod ClientCalls
 mod Endings

@@ -7,11 +7,11 @@ ghost use Rattle.round_core.specs.Calls.{IsAddedBeside};
 ghost use Rattle.round_core.specs.Kept.{IsKept};
 ghost use Rattle.round_core.specs.Rounds.{IsRefusedEarly, IsRound};
 ghost use Rattle.zone_core.specs.Shape.{HasShape};
-ghost use Rattle.script_core.specs.Clients.{AreClientAnswers, IsClientReply, IsMade};
+ghost use Rattle.script_core.specs.Clients.{AreClientAnswers, IsClientReply};
 
-use client_core::{Client, ClientError, Telling, Untold};
+use client_core::{Client, Telling, Untold};
 use halves_core::{Slip, Stub};
-use machine_core::{Options, flags};
+use machine_core::{Options, reply_for};
 use play_core::{Answer, ClientLine};
 use round_core::{Keeping, KeptZone, NoGate, Round, RoundError, compact};
 use std::alloc::Global;
@@ -21,8 +21,8 @@ use std::sync::Wait;
 use std::sync::ledger::Ledger;
 use std::thread;
 use std::thread::{Promise, PromisedHandle, Scope, Threads};
-use text_core::{ClientCall, Reply};
-use zone_core::{Seats, Zone};
+use text_core::Reply;
+use zone_core::{ClientCall, Seats, Zone};
 
 /// A client with the lines whose calls it makes, and an empty list with room for their answers.
 #[derive(Drop)]
@@ -335,47 +335,9 @@ fn reply_to<K: Keeping, J: Telling, I: Ledger, M: Ledger, B: Ledger, R: Wait>(
     let Some(call) = call else {
         return Reply::Refused(1);
     };
-    make(rt, shared, client, call).unwrap_or_else(|error: ClientError| Reply::Refused(
-        error.number(),
-    ))
-}
-
-/// Makes a call of a client.
-fn make<K: Keeping, J: Telling, I: Ledger, M: Ledger, B: Ledger, R: Wait>(
-    rt: &R,
-    shared: &KeptZone<K, I, M, B>,
-    client: &mut Client<J>,
-    call: ClientCall,
-) -> Result<Reply, ClientError>
-    requires { K.allows client.old.number J.pair }
-    ensures { IsMade client.old call result client.new }
-{
-    match call {
-        ClientCall::Map { address, unmovable } => client
-            .map(rt, shared, address, flags(unmovable))
-            .map(|_| Reply::Done),
-        ClientCall::MapAt {
-            address,
-            frame,
-            unmovable,
-        } => client
-            .map_at(rt, shared, address, flags(unmovable), frame)
-            .map(|()| Reply::Done),
-        ClientCall::Store {
-            address,
-            word,
-            value,
-        } => client
-            .store(rt, shared, address, word, value)
-            .map(|()| Reply::Done),
-        ClientCall::Load { address, word } => {
-            client.load(rt, shared, address, word).map(Reply::Value)
-        }
-        ClientCall::Share { address, alias } => client
-            .share(rt, shared, address, alias)
-            .map(|()| Reply::Done),
-        ClientCall::Unmap(address) => client.unmap(rt, shared, address).map(|()| Reply::Done),
-        ClientCall::Pin(address) => client.pin(rt, shared, address).map(|()| Reply::Done),
-        ClientCall::Unpin(address) => client.unpin(rt, shared, address).map(|()| Reply::Done),
+    let made = call.get();
+    match client.make(rt, shared, call) {
+        Ok(answer) => reply_for(&made, answer),
+        Err(error) => Reply::Refused(error.number()),
     }
 }

@@ -22,8 +22,9 @@ pub use machine_core::{Options, run, run_text};
 pub use on_threads::{run_on_threads, run_watched};
 pub use play_core::{Fault, Input, Output, RunError, Sink, Source, Text, Totals, write_out};
 pub use process::program;
+pub use state_core::{ClientCall, ZoneCall};
 pub use text_core::{
-    BlockCount, Call, Calls, ClientCall, Command, PageCount, PoolBlocks, PoolStopped, Repeated,
-    Reply, ScriptError, Series, Stopped, read_line, reply_text,
+    BlockCount, Call, Calls, Command, PageCount, PoolBlocks, PoolStopped, Repeated, Reply,
+    ScriptError, Series, Stopped, read_line, reply_text,
 };
 pub use watched::Watch;

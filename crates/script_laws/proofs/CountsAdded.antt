@@ -7,7 +7,7 @@ use Rattle.world_core.specs.World.{IsOrderly, WorldState, world_opened}
 use Rattle.text_core.specs.declared.command.Call.{Call}
 use Rattle.text_core.specs.declared.command.Call.TheVariants.{Info, InfoWithHeld}
 use Rattle.text_core.specs.declared.command.Calls.{Calls}
-use Rattle.text_core.specs.declared.command.Calls.TheVariants.{One, Series as SeriesOf}
+use Rattle.text_core.specs.declared.command.Calls.TheVariants.{Zone, One, Series as SeriesOf}
 use Rattle.text_core.specs.declared.command.Command.{Command}
 use Rattle.text_core.specs.declared.command.Command.TheVariants.{Open, On, Compact, Pool, Profile2, OutOfRange, During}
 use Rattle.text_core.specs.declared.reply.Reply.{Reply}
@@ -22,7 +22,7 @@ use Rattle.text_core.specs.Grammar.{zone_of}
 use Rattle.script_laws.proofs.ByHand.{machine_by_hand}
 use Rattle.script_laws.proofs.CommandsInRange.{AreInRange, commands_ranged}
 use Rattle.script_laws.proofs.Machines.{Goes, IsMachine, answers_by, answers_to, is_of_rounds, runs_rounds}
-use Rattle.script_laws.proofs.Replies.{has_counts, plain_call, plain_series}
+use Rattle.script_laws.proofs.Replies.{has_counts, plain_call, plain_make, plain_series}
 use Rattle.script_laws.proofs.Runs.{goes_by, one_thread, opened_orderly}
 use Rattle.text_core.specs.declared.profile.Profile.TheVariants.{Untold}
 
@@ -37,6 +37,7 @@ adds_call w o InfoWithHeld = ap Some (sym o.lawful.sum)
 adds_call w o c = adds_plain (Some (512 * w.zone.blocks)) _ (plain_call w c refl)
 
 adds_calls : (w : WorldState) → IsOrderly w → (c : Calls) → AddsUpTo (Some (512 * w.zone.blocks)) (calls_step w c).reply
+adds_calls w o (Zone c) = adds_plain (Some (512 * w.zone.blocks)) _ (plain_make w c)
 adds_calls w o (One c) = adds_call w o c
 adds_calls w o (SeriesOf s) = adds_plain (Some (512 * w.zone.blocks)) _ (plain_series s.call s.space s.first s.step 0 s.count w)
 

@@ -3,13 +3,14 @@ use Rattle.std.proofs.Common.{◌≡◌, ℕ, ◌+◌, Bool, true, false, List, 
 use Rattle.std.specs.Prelude.{codes, map, nat_eq, nat_lt, option_map, ⊤, if◌then◌else◌}
 use Rattle.std.proofs.lemmas.List.{length-map, map-append}
 use Rattle.std.specs.Option.{option_or}
+use Rattle.state_core.specs.declared.call.ZoneCall.{ZoneCall}
 use Rattle.world_core.specs.World.{WorldState}
 use Rattle.text_core.specs.declared.command.Call.{Call}
 use Rattle.text_core.specs.declared.command.Call.TheVariants as call
-use Rattle.text_core.specs.declared.command.Calls.TheVariants.{One, Series as SeriesOf}
+use Rattle.text_core.specs.declared.command.Calls.{Calls}
+use Rattle.text_core.specs.declared.command.Calls.TheVariants.{Zone, One, Series as SeriesOf}
 use Rattle.text_core.specs.declared.command.BlockLine.{BlockLine}
 use Rattle.text_core.specs.declared.command.BlockLine.TheVariants.{Client, End}
-use Rattle.text_core.specs.declared.command.ClientCall.{ClientCall}
 use Rattle.text_core.specs.declared.command.Command.{Command}
 use Rattle.text_core.specs.declared.command.Command.TheVariants.{Open, On, Compact, Pool, Profile2, OutOfRange, During}
 use Rattle.text_core.specs.declared.error.ScriptError.{ScriptError}
@@ -22,7 +23,7 @@ use Rattle.text_core.specs.Line.{line_within, line_of}
 use Rattle.text_core.specs.Profile.{profile_told}
 use Rattle.text_core.proofs.Profiles as rows
 use Rattle.text_core.proofs.Profiles.{SayAlike, call_in_profile_2, lines_alike}
-use Rattle.machine_core.specs.Machine.{Step, answered, call_step, calls_step, declined, step, during_on}
+use Rattle.machine_core.specs.Machine.{Step, answered, call_step, calls_step, declined, step, step_on, during_on}
 use Rattle.play_core.specs.Script.{Answer, Numbered, commands_from, cut_fault, fault_from, fault_of, line_fault, onto_commands, parts_of, Block, Came, ClientLine, Reading, by, client_comes, command_comes, command_in_block, comes_in, comes_outside, comes_within, commands_of, line_comes, onto, open_fault, reading_behind, within}
 use Rattle.machine_core.specs.Replies.{answers_of}
 use Rattle.play_core.specs.declared.error.Fault.{Fault}
@@ -33,7 +34,7 @@ use Rattle.script_laws.specs.ByHand.{answers_by_hand, step_by_hand}
 use Rattle.script_laws.specs.Profile2.{IsSameInProfile2, behind_profile_2, fault_in_profile_1, with_held}
 use Rattle.script_laws.proofs.ByHand.{machine_by_hand}
 use Rattle.script_laws.proofs.Machines.{IsMachine, answers_by, answers_to, by_rounds, is_of_rounds, runs_rounds}
-use Rattle.script_laws.proofs.Replies.{has_counts, plain_call, plain_series}
+use Rattle.script_laws.proofs.Replies.{has_counts, plain_call, plain_make, plain_series}
 use Rattle.script_laws.proofs.Runs.{one_thread}
 
 abbrev further : Answer → Answer
@@ -64,6 +65,12 @@ call_told w call.Info = refl
 call_told w call.InfoWithHeld = refl
 call_told w c = told_plain (answered (call_step w c)) (plain_call w c refl)
 
+plain_on : (zone : ℕ) (w : WorldState) (c : Calls) → has_counts (calls_step w c).reply ≡ false → step_on zone c (Some w) ≡ told (step_on zone c (Some w))
+plain_on zone w c h = by_number (nat_eq zone w.zone.number) where
+  by_number : (b : Bool) → (if b then answered (calls_step w c) else declined 43 (Some w)) ≡ told (if b then answered (calls_step w c) else declined 43 (Some w))
+  by_number true = told_plain (answered (calls_step w c)) h
+  by_number false = refl
+
 other_told : (places : ℕ) (w : Option WorldState) (c : Command) → runs_rounds c ≡ false → step places w (rows.in_profile_2 c) ≡ told (step places w c)
 other_told places w OutOfRange h = refl
 other_told places w Profile2 h = refl
@@ -76,16 +83,15 @@ other_told places w (During number) h = by_zone (zone_of number) w where
   by_zone None v = refl
   by_zone (Some zone) None = refl
   by_zone (Some zone) (Some v) = refl
+other_told places None (On zone (Zone c)) h = refl
 other_told places None (On zone (One c)) h = refl
 other_told places None (On zone (SeriesOf s)) h = refl
+other_told places (Some w) (On zone (Zone c)) h = plain_on zone w (Zone c) (plain_make w c)
 other_told places (Some w) (On zone (One c)) h = by_number (nat_eq zone w.zone.number) where
   by_number : (b : Bool) → (if b then answered (call_step w (call_in_profile_2 c)) else declined 43 (Some w)) ≡ told (if b then answered (call_step w c) else declined 43 (Some w))
   by_number true = call_told w c
   by_number false = refl
-other_told places (Some w) (On zone (SeriesOf s)) h = by_number (nat_eq zone w.zone.number) where
-  by_number : (b : Bool) → (if b then answered (calls_step w (SeriesOf s)) else declined 43 (Some w)) ≡ told (if b then answered (calls_step w (SeriesOf s)) else declined 43 (Some w))
-  by_number true = told_plain (answered (calls_step w (SeriesOf s))) (plain_series s.call s.space s.first s.step 0 s.count w)
-  by_number false = refl
+other_told places (Some w) (On zone (SeriesOf s)) h = plain_on zone w (SeriesOf s) (plain_series s.call s.space s.first s.step 0 s.count w)
 
 -- a round and a pool are the same in profile 2, and their replies have no counts
 held_of_rounds : (r : Reply) → is_of_rounds r ≡ true → r ≡ with_held r
@@ -157,6 +163,7 @@ IsOver (Err fault) = ⊥
 begun_lower : (n : ℕ) (c : Command) → ComesLower (Ok (command_comes Profile1 n c)) (Ok (command_comes Two (n + 1) (rows.in_profile_2 c))) (command_comes Profile1 n c)
 begun_lower n (During zone) = record { one_is = refl; two_is = refl; profile = refl }
 begun_lower n (Open zone blocks) = record { one_is = refl; two_is = refl; profile = refl }
+begun_lower n (On zone (Zone c)) = record { one_is = refl; two_is = refl; profile = refl }
 begun_lower n (On zone (One c)) = record { one_is = refl; two_is = refl; profile = refl }
 begun_lower n (On zone (SeriesOf s)) = record { one_is = refl; two_is = refl; profile = refl }
 begun_lower n (Pool zone count blocks) = record { one_is = refl; two_is = refl; profile = refl }
@@ -180,7 +187,7 @@ outside_lower n (Ok (Some c)) untold two say over =
     )
 
 -- a client line, one line further down
-module _ (n : ℕ) (block : Block) (call : Option ClientCall) where
+module _ (n : ℕ) (block : Block) (call : Option (ZoneCall 8)) where
   abbrev more : Block
   more = record block { clients = block.clients ++ record { line = n; call = call } ∷ [] }
 

@@ -1,6 +1,7 @@
 -- A pool on one thread keeps a world orderly, and changes no address and no word. Its reply is that of a pool, or a refusal.
-use Rattle.std.proofs.Common.{◌≡◌, ℕ, zero, suc, Bool, true, false, List, [], ◌∷◌, ◌++◌, refl, sym, ap, subst, Option, Some, None}
-use Rattle.std.specs.Prelude.{if◌then◌else◌, unwrap_or}
+use Rattle.std.proofs.Common.{◌≡◌, ℕ, zero, suc, Bool, true, false, List, [], ◌∷◌, ◌++◌, refl, Option, Some, None}
+use Rattle.std.specs.Prelude.{if◌then◌else◌}
+use Rattle.state_core.specs.declared.call.ZoneCall.TheVariants.{TakeOrder}
 use Rattle.state_core.specs.declared.error.ZoneError.{ZoneError}
 use Rattle.state_core.specs.HandingOut.{take_order_refusal, block_taken}
 use Rattle.world_core.specs.World.{IsOrderly, WorldState, with_zone}
@@ -8,10 +9,9 @@ use Rattle.text_core.specs.declared.pool.PoolBlocks.{PoolBlocks}
 use Rattle.text_core.specs.Pool.{pool_order, told_as}
 use Rattle.text_core.proofs.Ranges.{HasOrder}
 use Rattle.machine_core.specs.Machine.{Answered, next_first, pool_from, pool_step, refused, unless_stopped}
-use Rattle.script_laws.proofs.CallsAccepted.{some_run, take_order_lawful}
 use Rattle.script_laws.proofs.Machines.{is_of_rounds}
 use Rattle.script_laws.proofs.PagesMoved.{LeavesCells, leaves_all, leaves_then}
-use Rattle.script_laws.proofs.Steps.{Keeps, keeps_all, keeps_taken, keeps_then}
+use Rattle.script_laws.proofs.Steps.{Keeps, keeps_all, keeps_then, keeps_zone}
 
 module _ (blocks : PoolBlocks) where
   abbrev order : ℕ
@@ -30,17 +30,11 @@ module _ (blocks : PoolBlocks) where
   either P None got w rest ends goes = goes refl
   either P (Some error) got w rest ends goes = ends error
 
-  keeps_next : HasOrder blocks → (w : WorldState) → IsOrderly w → take_order_refusal w.zone order ≡ None → Keeps w (taken w)
-  keeps_next range w o accepted =
-      let run = some_run w.zone order accepted in
-      let law = take_order_lawful w.zone order run.0 o.lawful range.0 range.1 accepted run.1 in
-      subst (λ (first : ℕ). Keeps w (with_zone w (block_taken w.zone first order))) (sym (ap (λ (p : Option ℕ). unwrap_or p 0) run.1)) (keeps_taken w run.0 order o law)
-
   keeps_from : HasOrder blocks → (got : List ℕ) (n : ℕ) (w : WorldState) → IsOrderly w → Keeps w (pool_from blocks got n w).world
   keeps_from range got zero w o = keeps_all w o
   keeps_from range got (suc n) w o =
       either (λ a. Keeps w a.world) (take_order_refusal w.zone order) got w (pool_from blocks (more got w) n (taken w)) (λ error. keeps_all w o)
-      (λ accepted. (let next = keeps_next range w o accepted in keeps_then w (taken w) (pool_from blocks (more got w) n (taken w)).world next (keeps_from range (more got w) n (taken w) next.orderly)))
+      (λ accepted. (let next = keeps_zone w (TakeOrder order) o range accepted in keeps_then w (taken w) (pool_from blocks (more got w) n (taken w)).world next (keeps_from range (more got w) n (taken w) next.orderly)))
 
   pub keeps_pool : HasOrder blocks → (w : WorldState) (count : ℕ) → IsOrderly w → Keeps w (pool_step w count blocks).world
   keeps_pool range w count o = by_open w.is_open where

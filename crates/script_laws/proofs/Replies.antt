@@ -1,30 +1,26 @@
 -- Only the reply to a call for the counts of a zone has counts.
 use Rattle.std.proofs.Common.{◌≡◌, ℕ, zero, suc, ◌+◌, ◌*◌, Bool, true, false, refl, Option, Some, None}
-use Rattle.frame_core.specs.declared.place.Address.{Address}
+use Rattle.state_core.specs.declared.call.ZoneAnswer.{ZoneAnswer}
+use Rattle.state_core.specs.declared.call.ZoneAnswer.TheVariants as zone_answer
+use Rattle.state_core.specs.declared.call.ZoneCall.{ZoneCall}
+use Rattle.state_core.specs.declared.call.ZoneCall.TheVariants.{TakeOrder, GiveOrder}
 use Rattle.state_core.specs.declared.error.ZoneError.{ZoneError}
 use Rattle.state_core.specs.declared.information.Look.{Look}
 use Rattle.state_core.specs.declared.moves.Ended.{Ended}
 use Rattle.state_core.specs.declared.moves.Ended.TheVariants as ended
 use Rattle.state_core.specs.Looking.{look_of}
-use Rattle.state_core.specs.ZoneState.{lowest_free_frame}
-use Rattle.state_core.specs.Access.{access_refusal}
-use Rattle.state_core.specs.HandingOut.{take_order_refusal, give_order_refusal, lowest_run}
-use Rattle.state_core.specs.Mapping.{map_refusal, map_at_refusal}
-use Rattle.state_core.specs.Marking.{mark_refusal, unmark_refusal}
-use Rattle.state_core.specs.Pinning.{pin_refusal, unpin_refusal}
-use Rattle.state_core.specs.Sharing.{share_refusal}
-use Rattle.state_core.specs.Unmapping.{unmap_refusal}
+use Rattle.state_core.specs.Calls.{refusal_of, answer_of}
 use Rattle.world_core.specs.declared.hand.Finished.{Finished}
 use Rattle.world_core.specs.declared.hand.Scanned.{Scanned}
 use Rattle.world_core.specs.declared.hand.Scanned.TheVariants as scan
 use Rattle.world_core.specs.World.{WorldState, copy_step, finish_step, scan_answer, scan_refusal, scan_stopped, scanned, shut_step, take_step}
 use Rattle.text_core.specs.declared.command.Call.{Call}
-use Rattle.text_core.specs.declared.command.Call.TheVariants.{Map, MapAt, Store, Load, Info, Scan, Take, Copy, Finish, Shut, Look as LookAt, Share, Unmap, Pin, Unpin, Huge, Give, InfoWithHeld, TakeOrder, GiveOrder, Mark, Unmark}
+use Rattle.text_core.specs.declared.command.Call.TheVariants.{Info, InfoWithHeld, Scan, Take, Copy, Finish, Shut, Look as LookAt, Huge, Give}
 use Rattle.text_core.specs.declared.command.Repeated.{Repeated}
 use Rattle.text_core.specs.declared.reply.Reply.{Reply}
 use Rattle.text_core.specs.declared.reply.Reply.TheVariants as reply
 use Rattle.text_core.specs.Grammar.{address_of}
-use Rattle.machine_core.specs.Machine.{Answered, by_hand, call_step, copied, ending, found, fresh_page, handed_out, looked, order_handed_out, page_step, says, series_from, unless, unless_refused}
+use Rattle.machine_core.specs.Machine.{Answered, by_hand, call_step, copied, ending, found, looked, make_step, page_step, reply_for, says, series_from, unless, unless_refused}
 
 -- whether a reply has counts
 abbrev pub has_counts : Reply → Bool
@@ -45,9 +41,11 @@ plain_unless : (o : Option ZoneError) (w : WorldState) (a : Answered) → HasNon
 plain_unless None w a h = h
 plain_unless (Some e) w a h = refl
 
-plain_page : (w : WorldState) (a : Address) (unmovable : Bool) (o : Option ℕ) → HasNone (fresh_page w a unmovable o)
-plain_page w a unmovable None = refl
-plain_page w a unmovable (Some frame) = refl
+plain_answer : (call : ZoneCall 8) (a : ZoneAnswer) → has_counts (reply_for call a) ≡ false
+plain_answer call zone_answer.Done = refl
+plain_answer call (zone_answer.Value x) = refl
+plain_answer (TakeOrder order) (zone_answer.Frame first) = refl
+plain_answer call (zone_answer.Frame first) = refl
 
 plain_hand : {A : Type 0} (told : A → Reply) → ((x : A) → has_counts (told x) ≡ false) → (w : WorldState) (o : Option (A × WorldState)) → HasNone (by_hand told w o)
 plain_hand told h w None = refl
@@ -69,19 +67,10 @@ plain_looked : (w : WorldState) (o : Option Look) → HasNone (looked w o)
 plain_looked w None = refl
 plain_looked w (Some known) = refl
 
-plain_huge : (w : WorldState) (o : Option ℕ) → HasNone (handed_out w o)
-plain_huge w None = refl
-plain_huge w (Some first) = refl
-
-plain_order : (w : WorldState) (order : ℕ) (o : Option ℕ) → HasNone (order_handed_out w order o)
-plain_order w order None = refl
-plain_order w order (Some first) = refl
+pub plain_make : (w : WorldState) (call : ZoneCall 8) → has_counts (make_step w call).reply ≡ false
+plain_make w call = plain_unless (refusal_of call w.zone) w _ (plain_answer call (answer_of call w.zone))
 
 pub plain_call : (w : WorldState) (c : Call) → asks_counts c ≡ false → has_counts (call_step w c).reply ≡ false
-plain_call w (Map a unmovable) h = plain_unless (map_refusal w.zone a) w _ (plain_page w a unmovable (lowest_free_frame w.zone))
-plain_call w (MapAt a frame unmovable) h = plain_unless (map_at_refusal w.zone a frame) w _ refl
-plain_call w (Store a word value) h = plain_unless (access_refusal w.zone a) w _ refl
-plain_call w (Load a word) h = plain_unless (access_refusal w.zone a) w _ refl
 plain_call w Info h = cc
 plain_call w Scan h = plain_unless (scan_refusal w) (scan_stopped w) (says (found (scan_answer w)) (scanned w)) (plain_found (scan_answer w))
 plain_call w (Take hand) h = plain_hand (λ serial. reply.Serial serial) (λ serial. refl) w (take_step w hand)
@@ -89,17 +78,9 @@ plain_call w (Copy hand) h = plain_copied w (copy_step w hand)
 plain_call w (Finish hand) h = plain_hand (λ (f : Finished). ending f.serial f.ended) (λ f. plain_ending f.serial f.ended) w (finish_step w hand)
 plain_call w Shut h = plain_hand (λ count. reply.Shut count) (λ count. refl) w (shut_step w)
 plain_call w (LookAt a) h = plain_looked w (look_of w.zone a)
-plain_call w (Share a alias) h = plain_unless (share_refusal w.zone a alias) w _ refl
-plain_call w (Unmap a) h = plain_unless (unmap_refusal w.zone a) w _ refl
-plain_call w (Pin a) h = plain_unless (pin_refusal w.zone a) w _ refl
-plain_call w (Unpin a) h = plain_unless (unpin_refusal w.zone a) w _ refl
-plain_call w Huge h = plain_unless (take_order_refusal w.zone 9) w _ (plain_huge w (lowest_run w.zone 9))
-plain_call w (Give block) h = plain_unless (give_order_refusal w.zone (512 * block) 9) w _ refl
+plain_call w Huge h = plain_unless (refusal_of {W = 8} (TakeOrder 9) w.zone) w _ refl
+plain_call w (Give block) h = plain_unless (refusal_of {W = 8} (GiveOrder (512 * block) 9) w.zone) w _ refl
 plain_call w InfoWithHeld h = cc
-plain_call w (TakeOrder order) h = plain_unless (take_order_refusal w.zone order) w _ (plain_order w order (lowest_run w.zone order))
-plain_call w (GiveOrder first order) h = plain_unless (give_order_refusal w.zone first order) w _ refl
-plain_call w (Mark block) h = plain_unless (mark_refusal w.zone block) w _ refl
-plain_call w (Unmark block) h = plain_unless (unmark_refusal w.zone block) w _ refl
 
 plain_refused : (done : ℕ) (r : Reply) (w : WorldState) (rest : Answered) → HasNone rest → HasNone (unless_refused done r w rest)
 plain_refused done (reply.Refused number) w rest h = refl

@@ -7,19 +7,20 @@ use Rattle.zone_core.specs.Seats.{fresh_end_seat, fresh_scan_seat}
 use Rattle.world_core.specs.World.{IsOrderly, WorldState, world_opened}
 use Rattle.world_core.proofs.Closing.{carried_closed}
 use Rattle.text_core.specs.declared.command.Calls.{Calls}
-use Rattle.text_core.specs.declared.command.Calls.TheVariants.{One, Series as SeriesOf}
+use Rattle.text_core.specs.declared.command.Calls.TheVariants.{Zone, One, Series as SeriesOf}
 use Rattle.text_core.specs.declared.command.Command.{Command}
 use Rattle.text_core.specs.declared.command.Command.TheVariants.{Open, On, Compact, Pool, Profile2, OutOfRange, During}
 use Rattle.text_core.specs.declared.pool.PoolBlocks.{PoolBlocks}
 use Rattle.text_core.proofs.Ranges.{HasOrder, IsInRange}
-use Rattle.machine_core.specs.Machine.{Step, answered, calls_step, declined, pool_step, step, during_on}
+use Rattle.machine_core.specs.Machine.{Step, answered, calls_step, declined, pool_step, reply_for, step, during_on}
 use Rattle.script_laws.proofs.Machines.{Goes, GoesOn, IsMachine, by_rounds, is_of_rounds, runs_rounds}
 use Rattle.script_laws.proofs.PagesMoved.{leaves_all}
 use Rattle.script_laws.proofs.Pools.{keeps_pool, pool_leaves, pool_replies}
 use Rattle.text_core.specs.Grammar.{zone_of}
-use Rattle.script_laws.proofs.Steps.{Keeps, keeps_all, keeps_call, keeps_series}
+use Rattle.script_laws.proofs.Steps.{Keeps, keeps_all, keeps_call, keeps_series, keeps_zone_step}
 
 pub keeps_calls : (w : WorldState) → IsOrderly w → (zone : ℕ) (c : Calls) → IsInRange (On zone c) → Keeps w (calls_step w c).world
+keeps_calls w o zone (Zone call) r = keeps_zone_step w o call (reply_for call) r
 keeps_calls w o zone (One c) r = keeps_call w o c r
 keeps_calls w o zone (SeriesOf s) r = keeps_series s.call s.space s.first s.step 0 s.count w o
 

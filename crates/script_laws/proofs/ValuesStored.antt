@@ -1,35 +1,35 @@
 -- The values that a machine answers are those of its history.
 use Rattle.std.proofs.Common.{◌≡◌, ℕ, zero, suc, ◌+◌, ◌*◌, ◌<◌, ◌≤◌, Bool, true, false, List, [], ◌∷◌, length, refl, sym, ap, subst, ◌∙◌, arith, Option, Some, None, IsSomeAnd}
-use Rattle.std.specs.Prelude.{◌&&◌, nat_eq, nat_lt, if◌then◌else◌, unwrap_or}
+use Rattle.std.specs.Prelude.{◌&&◌, nat_eq, nat_lt, if◌then◌else◌, unwrap_or, IsSome}
 use Rattle.std.proofs.lemmas.Option.{same_Some}
 use Rattle.frame_core.specs.declared.place.Address.{Address}
 use Rattle.journal_core.specs.declared.record.Record.{Record}
 use Rattle.journal_core.specs.declared.record.Record.TheVariants as record_of
 use Rattle.journal_core.specs.History.{last, page_at}
+use Rattle.state_core.specs.declared.call.ZoneCall.{ZoneCall}
+use Rattle.state_core.specs.declared.call.ZoneCall.TheVariants.{Map, MapAt, Load, Store, Share, Unmap, Pin, Unpin, TakeOrder, GiveOrder, Mark, Unmark}
 use Rattle.state_core.specs.declared.error.ZoneError.{ZoneError}
 use Rattle.state_core.specs.declared.information.Look.{Look}
-use Rattle.state_core.specs.Access.{access_refusal, value_at}
+use Rattle.state_core.specs.Access.{value_at}
+use Rattle.state_core.specs.Calls.{refusal_of, answer_of, after}
 use Rattle.state_core.specs.ErrorNumber.{number_of}
-use Rattle.state_core.specs.HandingOut.{take_order_refusal, give_order_refusal, lowest_run}
 use Rattle.state_core.specs.Lawful.{IsLawful}
 use Rattle.state_core.specs.Looking.{look_of}
-use Rattle.state_core.specs.Mapping.{map_refusal, map_at_refusal, mapped}
-use Rattle.state_core.specs.Marking.{mark_refusal, unmark_refusal}
-use Rattle.state_core.specs.Pinning.{pin_refusal, unpin_refusal}
-use Rattle.state_core.specs.Sharing.{share_refusal}
-use Rattle.state_core.specs.Unmapping.{is_last, unmap_refusal, unmapped, without_page}
+use Rattle.state_core.specs.Mapping.{mapped}
+use Rattle.state_core.specs.Unmapping.{is_last, unmapped, without_page}
 use Rattle.state_core.specs.ZoneState.{ZoneState, lowest_free_frame, noted}
 use Rattle.state_core.proofs.Placed.{clash}
+use Rattle.world_core.proofs.Carrying.{frame_left, frame_left_at}
 use Rattle.world_core.specs.declared.hand.Finished.{Finished}
 use Rattle.world_core.specs.declared.hand.Scanned.{Scanned}
 use Rattle.world_core.specs.declared.hand.Scanned.TheVariants as scan
 use Rattle.state_core.specs.declared.moves.Ended.{Ended}
 use Rattle.state_core.specs.declared.moves.Ended.TheVariants as ended
-use Rattle.world_core.specs.World.{IsOrderly, WorldState, copy_step, finish_step, scan_answer, scan_refusal, scan_stopped, scanned, shut_step, take_step, world_opened}
+use Rattle.world_core.specs.World.{IsOrderly, WorldState, copy_step, finish_step, scan_answer, scan_refusal, scan_stopped, scanned, shut_step, take_step, with_zone, world_opened}
 use Rattle.text_core.specs.declared.command.Call.{Call}
-use Rattle.text_core.specs.declared.command.Call.TheVariants.{Map, MapAt, Store, Load, Info, Scan, Take, Copy, Finish, Shut, Look as LookAt, Share, Unmap, Pin, Unpin, Huge, Give, InfoWithHeld, TakeOrder, GiveOrder, Mark, Unmark}
+use Rattle.text_core.specs.declared.command.Call.TheVariants.{Info, InfoWithHeld, Scan, Take, Copy, Finish, Shut, Look as LookAt, Huge, Give}
 use Rattle.text_core.specs.declared.command.Calls.{Calls}
-use Rattle.text_core.specs.declared.command.Calls.TheVariants.{One, Series as SeriesOf}
+use Rattle.text_core.specs.declared.command.Calls.TheVariants.{Zone, One, Series as SeriesOf}
 use Rattle.text_core.specs.declared.command.Repeated.{Repeated}
 use Rattle.text_core.specs.declared.command.Command.{Command}
 use Rattle.text_core.specs.declared.command.Command.TheVariants.{Open, On, Compact, Pool, Profile2, OutOfRange, During}
@@ -38,13 +38,13 @@ use Rattle.text_core.specs.declared.reply.Reply.{Reply}
 use Rattle.text_core.specs.declared.reply.Reply.TheVariants as reply
 use Rattle.text_core.specs.Grammar.{address_of, zone_of}
 use Rattle.text_core.proofs.Ranges.{IsInRange}
-use Rattle.machine_core.specs.Machine.{Answered, Step, answered, by_hand, call_at, call_step, calls_step, copied, declined, ending, found, fresh_page, handed_out, looked, order_handed_out, page_step, says, series_from, step, unless, unless_refused, during_on}
+use Rattle.machine_core.specs.Machine.{Answered, Step, answered, by_hand, call_at, call_step, calls_step, copied, declined, ending, found, looked, make_step, page_step, reply_for, says, series_from, step, unless, unless_refused, during_on}
 use Rattle.play_core.specs.Script.{Numbered, commands_of, parts_of, by}
 use Rattle.machine_core.specs.Replies.{answers_of}
 use Rattle.script_laws.specs.ByHand.{answers_by_hand, step_by_hand}
 use Rattle.script_laws.specs.Values.{IsLastStored, ValuesAreStored, accepted, accepted_count, called, repeated, told}
 use Rattle.script_laws.proofs.ByHand.{machine_by_hand}
-use Rattle.script_laws.proofs.CallsAccepted.{CanMap, can_map, can_map_at, fresh_number, mapped_is, rests_for_access}
+use Rattle.script_laws.proofs.CallsAccepted.{accessed_page, fresh_number, mapped_is}
 use Rattle.script_laws.proofs.CommandsInRange.{AreInRange, commands_ranged}
 use Rattle.script_laws.proofs.Machines.{Goes, IsMachine, answers_by, answers_to, by_rounds, is_of_rounds, runs_rounds}
 use Rattle.script_laws.proofs.Matching.{Match, match_empty, match_mapped, match_same, match_shared, match_stored, match_unmapped}
@@ -53,43 +53,25 @@ use Rattle.script_laws.proofs.Runs.{goes_by, one_thread, opened_orderly}
 use Rattle.script_laws.proofs.Steps.{keeps_page_step}
 
 -- an answer to a call made after this history has the value of the history, and the world after it matches the history after it
-record Tells (older : List Record) (c : Call) (a : Answered) : Type 0 where
+record Tells (older : List Record) (c : Calls) (a : Answered) : Type 0 where
   match : Match a.world.zone.records (called older c a.reply)
-  value : (zone : ℕ) → IsLastStored older (On zone (One c)) a.reply
+  value : (zone : ℕ) → IsLastStored older (On zone c) a.reply
+
+refused_adds : (older : List Record) (c : Calls) (number : ℕ) → called older c (reply.Refused number) ≡ older
+refused_adds older (Zone c) number = refl
+refused_adds older (One c) number = refl
+refused_adds older (SeriesOf s) number = refl
 
 -- a refusal, which changes no address and no value
-refuses : (older : List Record) (c : Call) (number : ℕ) (w : WorldState) → Match w.zone.records older → Tells older c (says (reply.Refused number) w)
-refuses older c number w m = record { match = m; value = λ zone. tt }
+refuses : (older : List Record) (c : Calls) (number : ℕ) (w : WorldState) → Match w.zone.records older → Tells older c (says (reply.Refused number) w)
+refuses older c number w m = record { match = subst (Match w.zone.records) (sym (refused_adds older c number)) m; value = λ zone. tt }
 
-tells_unless : (older : List Record) (c : Call) (o : Option ZoneError) (stopped : WorldState) (a : Answered) → Match stopped.zone.records older → (o ≡ None → Tells older c a) → Tells older c (unless o stopped a)
+tells_unless : (older : List Record) (c : Calls) (o : Option ZoneError) (stopped : WorldState) (a : Answered) → Match stopped.zone.records older → (o ≡ None → Tells older c a) → Tells older c (unless o stopped a)
 tells_unless older c None stopped a m go = go refl
 tells_unless older c (Some e) stopped a m go = refuses older c (number_of e) stopped m
 
 leaves : (older : List Record) (z after : ZoneState) → LeavesCells z after → Match z.records older → Match after.records older
 leaves older z after l m = match_same z.records after.records older l.names l.words m
-
--- a call that makes no address name another page, and stores nothing
-abbrev binds_nothing : Call → Bool
-binds_nothing (Map a unmovable) = false
-binds_nothing (MapAt a frame unmovable) = false
-binds_nothing (Store a word value) = false
-binds_nothing (Load a word) = false
-binds_nothing (Share a alias) = false
-binds_nothing (Unmap a) = false
-binds_nothing _ = true
-
-nothing_added : (older : List Record) (c : Call) → binds_nothing c ≡ true → accepted older c ≡ older
-nothing_added older (Map a unmovable) h = cc
-nothing_added older (MapAt a frame unmovable) h = cc
-nothing_added older (Store a word value) h = cc
-nothing_added older (Load a word) h = refl
-nothing_added older (Share a alias) h = cc
-nothing_added older (Unmap a) h = cc
-nothing_added older _ h = refl
-
-nothing_called : (older : List Record) (c : Call) (r : Reply) → binds_nothing c ≡ true → called older c r ≡ older
-nothing_called older c (reply.Refused number) h = refl
-nothing_called older c _ h = nothing_added older c h
 
 -- whether a reply has a value
 abbrev has_value : Reply → Bool
@@ -100,32 +82,24 @@ no_value : (older : List Record) (c : Command) (r : Reply) → has_value r ≡ f
 no_value older c (reply.Value x) h = cc
 no_value older c _ h = tt
 
--- a call that changes no address and no value, whose reply has no value
-quiet : (older : List Record) (c : Call) (z : ZoneState) (a : Answered) → binds_nothing c ≡ true → has_value a.reply ≡ false → Match z.records older → LeavesCells z a.world.zone → Tells older c a
-quiet older c z a h none m l = record {
-  match = subst (Match a.world.zone.records) (sym (nothing_called older c a.reply h)) (leaves older z a.world.zone l m);
+-- a call that isn't of the zone adds nothing to a history; nor has its reply a value
+quiet : (older : List Record) (c : Call) (z : ZoneState) (a : Answered) → has_value a.reply ≡ false → Match z.records older → LeavesCells z a.world.zone → Tells older (One c) a
+quiet older c z a none m l = record {
+  match = leaves older z a.world.zone l m;
   value = λ zone. no_value older (On zone (One c)) a.reply none;
 }
 
-quiet_hand : {A : Type 0} (older : List Record) (c : Call) (w : WorldState) (to : A → Reply) (o : Option (A × WorldState)) → binds_nothing c ≡ true → ((x : A) → has_value (to x) ≡ false) → Match w.zone.records older → ((x : A) (after : WorldState) → o ≡ Some (x, after) → LeavesCells w.zone after.zone) → Tells older c (by_hand to w o)
-quiet_hand older c w to None h none m l = refuses older c 45 w m
-quiet_hand older c w to (Some (x, after)) h none m l = quiet older c w.zone (says (to x) after) h (none x) m (l x after refl)
+quiet_hand : {A : Type 0} (older : List Record) (c : Call) (w : WorldState) (to : A → Reply) (o : Option (A × WorldState)) → ((x : A) → has_value (to x) ≡ false) → Match w.zone.records older → ((x : A) (after : WorldState) → o ≡ Some (x, after) → LeavesCells w.zone after.zone) → Tells older (One c) (by_hand to w o)
+quiet_hand older c w to None none m l = refuses older (One c) 45 w m
+quiet_hand older c w to (Some (x, after)) none m l = quiet older c w.zone (says (to x) after) (none x) m (l x after refl)
 
-quiet_copied : (older : List Record) (c : Call) (w : WorldState) (o : Option WorldState) → binds_nothing c ≡ true → Match w.zone.records older → ((after : WorldState) → o ≡ Some after → LeavesCells w.zone after.zone) → Tells older c (copied w o)
-quiet_copied older c w None h m l = refuses older c 45 w m
-quiet_copied older c w (Some after) h m l = quiet older c w.zone (says reply.Done after) h refl m (l after refl)
+quiet_copied : (older : List Record) (c : Call) (w : WorldState) (o : Option WorldState) → Match w.zone.records older → ((after : WorldState) → o ≡ Some after → LeavesCells w.zone after.zone) → Tells older (One c) (copied w o)
+quiet_copied older c w None m l = refuses older (One c) 45 w m
+quiet_copied older c w (Some after) m l = quiet older c w.zone (says reply.Done after) refl m (l after refl)
 
-quiet_looked : (older : List Record) (c : Call) (w : WorldState) (o : Option Look) → binds_nothing c ≡ true → Match w.zone.records older → Tells older c (looked w o)
-quiet_looked older c w None h m = refuses older c 3 w m
-quiet_looked older c w (Some known) h m = quiet older c w.zone (says (reply.Looked known) w) h refl m (leaves_all w.zone)
-
-quiet_huge : (older : List Record) (w : WorldState) (o : Option ℕ) → Match w.zone.records older → Tells older Huge (handed_out w o)
-quiet_huge older w None m = refuses older Huge 11 w m
-quiet_huge older w (Some first) m = quiet older Huge w.zone (handed_out w (Some first)) refl refl m (record { blocks = refl; names = λ a. refl; words = λ page word. refl })
-
-quiet_order : (older : List Record) (w : WorldState) (order : ℕ) (o : Option ℕ) → Match w.zone.records older → Tells older (TakeOrder order) (order_handed_out w order o)
-quiet_order older w order None m = refuses older (TakeOrder order) 11 w m
-quiet_order older w order (Some first) m = quiet older (TakeOrder order) w.zone (order_handed_out w order (Some first)) refl refl m (record { blocks = refl; names = λ a. refl; words = λ page word. refl })
+quiet_looked : (older : List Record) (c : Call) (w : WorldState) (o : Option Look) → Match w.zone.records older → Tells older (One c) (looked w o)
+quiet_looked older c w None m = refuses older (One c) 3 w m
+quiet_looked older c w (Some known) m = quiet older c w.zone (says (reply.Looked known) w) refl m (leaves_all w.zone)
 
 no_value_found : (s : Scanned) → has_value (found s) ≡ false
 no_value_found (scan.Serial serial) = refl
@@ -136,15 +110,11 @@ no_value_ending serial ended.Moved = refl
 no_value_ending serial ended.Back = refl
 
 -- a fresh page, which no address names before
-maps_fresh : (older : List Record) (z : ZoneState) (a : Address) (unmovable : Bool) (frame : ℕ) → IsLawful z → CanMap z a frame → Match z.records older → Match (mapped z 0 a unmovable frame).records (record_of.Map 0 a (length older) ∷ older)
-maps_fresh older z a unmovable frame law can m =
-    let fresh = fresh_number z a frame law can in
+maps_fresh : (older : List Record) (z : ZoneState) (a : Address) (unmovable : Bool) (frame : ℕ) → IsLawful z → IsSome (lowest_free_frame z) → Match z.records older → Match (mapped z 0 a unmovable frame).records (record_of.Map 0 a (length older) ∷ older)
+maps_fresh older z a unmovable frame law free m =
+    let fresh = fresh_number z law free in
     subst (λ (next : ZoneState). Match next.records (record_of.Map 0 a (length older) ∷ older)) (sym (mapped_is z a unmovable frame fresh.0 fresh.1))
     (match_mapped z.records older a fresh.0 (λ b e. clash _ fresh.1.unused (law.named b fresh.0 e).1) m)
-
-tells_page : (older : List Record) (w : WorldState) (a : Address) (unmovable : Bool) (o : Option ℕ) → IsLawful w.zone → Match w.zone.records older → ((frame : ℕ) → o ≡ Some frame → CanMap w.zone a frame) → Tells older (Map a unmovable) (fresh_page w a unmovable o)
-tells_page older w a unmovable None law m can = refuses older (Map a unmovable) 6 w m
-tells_page older w a unmovable (Some frame) law m can = record { match = maps_fresh older w.zone a unmovable frame law (can frame refl) m; value = λ zone. tt }
 
 unmapped_records : (z : ZoneState) (a : Address) → record_of.Unmap 0 a ∷ z.records ≡ (unmapped z 0 a).records
 unmapped_records z a = by_last (is_last z a) where
@@ -159,36 +129,48 @@ loaded_value older z a word page named m =
     subst (λ (o : Option ℕ). IsSomeAnd o (λ p. value_at z a word ≡ last older p word)) (sym at.1)
     (ap (λ (o : Option ℕ). last z.records (unwrap_or o 0) word) named ∙ m.words a page at.0 word named at.1)
 
-tells_call : (older : List Record) (w : WorldState) → IsOrderly w → Match w.zone.records older → (c : Call) → Tells older c (call_step w c)
-tells_call older w o m (Map a unmovable) = tells_unless older (Map a unmovable) (map_refusal w.zone a) w (fresh_page w a unmovable (lowest_free_frame w.zone)) m
-    (λ e. tells_page older w a unmovable (lowest_free_frame w.zone) o.lawful m (λ frame lowest. can_map w.zone a frame e lowest))
-tells_call older w o m (MapAt a frame unmovable) = tells_unless older (MapAt a frame unmovable) (map_at_refusal w.zone a frame) w (fresh_page w a unmovable (Some frame)) m
-    (λ e. record { match = maps_fresh older w.zone a unmovable frame o.lawful (can_map_at w.zone a frame e) m; value = λ zone. tt })
-tells_call older w o m (Store a word value) = tells_unless older (Store a word value) (access_refusal w.zone a) w _ m
-    (λ e. record { match = match_stored w.zone.records older a word value m; value = λ zone. tt })
-tells_call older w o m (Load a word) = tells_unless older (Load a word) (access_refusal w.zone a) w _ m
-    (λ e. (let rest = rests_for_access w.zone a e in record { match = match_same w.zone.records _ older (λ b. refl) (λ p v. refl) m; value = λ zone. loaded_value older w.zone a word rest.page rest.named m }))
-tells_call older w o m Info = quiet older Info w.zone (call_step w Info) refl refl m (leaves_all w.zone)
-tells_call older w o m Scan = tells_unless older Scan (scan_refusal w) (scan_stopped w) (says (found (scan_answer w)) (scanned w)) (leaves older w.zone (scan_stopped w).zone (opened_leaves w) m)
-    (λ e. quiet older Scan w.zone (says (found (scan_answer w)) (scanned w)) refl (no_value_found (scan_answer w)) m (scanned_leaves w))
-tells_call older w o m (Take hand) = quiet_hand older (Take hand) w (λ serial. reply.Serial serial) (take_step w hand) refl (λ serial. refl) m (λ serial after e. taken_leaves w hand serial after e)
-tells_call older w o m (Copy hand) = quiet_copied older (Copy hand) w (copy_step w hand) refl m (λ after e. copied_leaves w hand after e)
-tells_call older w o m (Finish hand) = quiet_hand older (Finish hand) w (λ (f : Finished). ending f.serial f.ended) (finish_step w hand) refl (λ f. no_value_ending f.serial f.ended) m (λ f after e. finished_leaves w hand f after e)
-tells_call older w o m Shut = quiet_hand older Shut w (λ count. reply.Shut count) (shut_step w) refl (λ count. refl) m (λ count after e. shut_leaves w count after e)
-tells_call older w o m (LookAt a) = quiet_looked older (LookAt a) w (look_of w.zone a) refl m
-tells_call older w o m (Share a alias) = tells_unless older (Share a alias) (share_refusal w.zone a alias) w _ m
-    (λ e. record { match = match_shared w.zone.records older a alias m; value = λ zone. tt })
-tells_call older w o m (Unmap a) = tells_unless older (Unmap a) (unmap_refusal w.zone a) w _ m
-    (λ e. record { match = subst (λ (records : List Record). Match records (record_of.Unmap 0 a ∷ older)) (unmapped_records w.zone a) (match_unmapped w.zone.records older a m); value = λ zone. tt })
-tells_call older w o m (Pin a) = tells_unless older (Pin a) (pin_refusal w.zone a) w _ m (λ e. quiet older (Pin a) w.zone _ refl refl m (record { blocks = refl; names = λ b. refl; words = λ page word. refl }))
-tells_call older w o m (Unpin a) = tells_unless older (Unpin a) (unpin_refusal w.zone a) w _ m (λ e. quiet older (Unpin a) w.zone _ refl refl m (record { blocks = refl; names = λ b. refl; words = λ page word. refl }))
-tells_call older w o m Huge = tells_unless older Huge (take_order_refusal w.zone 9) w (handed_out w (lowest_run w.zone 9)) m (λ e. quiet_huge older w (lowest_run w.zone 9) m)
-tells_call older w o m (Give block) = tells_unless older (Give block) (give_order_refusal w.zone (512 * block) 9) w _ m (λ e. quiet older (Give block) w.zone _ refl refl m (record { blocks = refl; names = λ b. refl; words = λ page word. refl }))
-tells_call older w o m InfoWithHeld = quiet older InfoWithHeld w.zone (call_step w InfoWithHeld) refl refl m (leaves_all w.zone)
-tells_call older w o m (TakeOrder order) = tells_unless older (TakeOrder order) (take_order_refusal w.zone order) w (order_handed_out w order (lowest_run w.zone order)) m (λ e. quiet_order older w order (lowest_run w.zone order) m)
-tells_call older w o m (GiveOrder first order) = tells_unless older (GiveOrder first order) (give_order_refusal w.zone first order) w _ m (λ e. quiet older (GiveOrder first order) w.zone _ refl refl m (record { blocks = refl; names = λ b. refl; words = λ page word. refl }))
-tells_call older w o m (Mark block) = tells_unless older (Mark block) (mark_refusal w.zone block) w _ m (λ e. quiet older (Mark block) w.zone _ refl refl m (record { blocks = refl; names = λ b. refl; words = λ page word. refl }))
-tells_call older w o m (Unmark block) = tells_unless older (Unmark block) (unmark_refusal w.zone block) w _ m (λ e. quiet older (Unmark block) w.zone _ refl refl m (record { blocks = refl; names = λ b. refl; words = λ page word. refl }))
+-- an accepted call of the zone
+module _ (older : List Record) (w : WorldState) (o : IsOrderly w) (m : Match w.zone.records older) where
+  -- one that makes no address name another page, and stores nothing
+  kept : (journal : ZoneState) → ((a : Address) → page_at journal.records a ≡ page_at w.zone.records a) → ((page word : ℕ) → last journal.records page word ≡ last w.zone.records page word) → Match journal.records older
+  kept journal names words = match_same w.zone.records journal.records older names words m
+
+  tells_accepted : (c : ZoneCall 8) → refusal_of c w.zone ≡ None → Tells older (Zone c) (says (reply_for c (answer_of c w.zone)) (with_zone w (after c 0 w.zone)))
+  tells_accepted (Map a unmovable) e = record { match = maps_fresh older w.zone a unmovable (unwrap_or (lowest_free_frame w.zone) 0) o.lawful (frame_left w.zone a e) m; value = λ zone. tt }
+  tells_accepted (MapAt a unmovable frame) e = record { match = maps_fresh older w.zone a unmovable frame o.lawful (frame_left_at w.zone a frame e) m; value = λ zone. tt }
+  tells_accepted (Store a word value) e = record { match = match_stored w.zone.records older a word value m; value = λ zone. tt }
+  tells_accepted (Load a word) e =
+      let page = accessed_page w.zone a e in
+      record { match = kept (after {W = 8} (Load a word) 0 w.zone) (λ b. refl) (λ p v. refl); value = λ zone. loaded_value older w.zone a word page.0 page.1 m }
+  tells_accepted (Share a alias) e = record { match = match_shared w.zone.records older a alias m; value = λ zone. tt }
+  tells_accepted (Unmap a) e = record {
+    match = subst (λ (records : List Record). Match records (record_of.Unmap 0 a ∷ older)) (unmapped_records w.zone a) (match_unmapped w.zone.records older a m);
+    value = λ zone. tt;
+  }
+  tells_accepted (Pin a) e = record { match = kept (after {W = 8} (Pin a) 0 w.zone) (λ b. refl) (λ p v. refl); value = λ zone. tt }
+  tells_accepted (Unpin a) e = record { match = kept (after {W = 8} (Unpin a) 0 w.zone) (λ b. refl) (λ p v. refl); value = λ zone. tt }
+  tells_accepted (TakeOrder order) e = record { match = kept (after {W = 8} (TakeOrder order) 0 w.zone) (λ b. refl) (λ p v. refl); value = λ zone. tt }
+  tells_accepted (GiveOrder first order) e = record { match = kept (after {W = 8} (GiveOrder first order) 0 w.zone) (λ b. refl) (λ p v. refl); value = λ zone. tt }
+  tells_accepted (Mark block) e = record { match = kept (after {W = 8} (Mark block) 0 w.zone) (λ b. refl) (λ p v. refl); value = λ zone. tt }
+  tells_accepted (Unmark block) e = record { match = kept (after {W = 8} (Unmark block) 0 w.zone) (λ b. refl) (λ p v. refl); value = λ zone. tt }
+
+tells_make : (older : List Record) (w : WorldState) → IsOrderly w → Match w.zone.records older → (c : ZoneCall 8) → Tells older (Zone c) (make_step w c)
+tells_make older w o m c = tells_unless older (Zone c) (refusal_of c w.zone) w _ m (λ e. tells_accepted older w o m c e)
+
+tells_call : (older : List Record) (w : WorldState) → IsOrderly w → Match w.zone.records older → (c : Call) → Tells older (One c) (call_step w c)
+tells_call older w o m Info = quiet older Info w.zone (call_step w Info) refl m (leaves_all w.zone)
+tells_call older w o m InfoWithHeld = quiet older InfoWithHeld w.zone (call_step w InfoWithHeld) refl m (leaves_all w.zone)
+tells_call older w o m Scan = tells_unless older (One Scan) (scan_refusal w) (scan_stopped w) (says (found (scan_answer w)) (scanned w)) (leaves older w.zone (scan_stopped w).zone (opened_leaves w) m)
+    (λ e. quiet older Scan w.zone (says (found (scan_answer w)) (scanned w)) (no_value_found (scan_answer w)) m (scanned_leaves w))
+tells_call older w o m (Take hand) = quiet_hand older (Take hand) w (λ serial. reply.Serial serial) (take_step w hand) (λ serial. refl) m (λ serial after e. taken_leaves w hand serial after e)
+tells_call older w o m (Copy hand) = quiet_copied older (Copy hand) w (copy_step w hand) m (λ after e. copied_leaves w hand after e)
+tells_call older w o m (Finish hand) = quiet_hand older (Finish hand) w (λ (f : Finished). ending f.serial f.ended) (finish_step w hand) (λ f. no_value_ending f.serial f.ended) m (λ f after e. finished_leaves w hand f after e)
+tells_call older w o m Shut = quiet_hand older Shut w (λ count. reply.Shut count) (shut_step w) (λ count. refl) m (λ count after e. shut_leaves w count after e)
+tells_call older w o m (LookAt a) = quiet_looked older (LookAt a) w (look_of w.zone a) m
+tells_call older w o m Huge = tells_unless older (One Huge) (refusal_of {W = 8} (TakeOrder 9) w.zone) w _ m
+    (λ e. record { match = kept older w o m (after {W = 8} (TakeOrder 9) 0 w.zone) (λ b. refl) (λ p v. refl); value = λ zone. tt })
+tells_call older w o m (Give block) = tells_unless older (One (Give block)) (refusal_of {W = 8} (GiveOrder (512 * block) 9) w.zone) w _ m
+    (λ e. record { match = kept older w o m (after {W = 8} (GiveOrder (512 * block) 9) 0 w.zone) (λ b. refl) (λ p v. refl); value = λ zone. tt })
 
 -- the calls of a series
 address_is : (s v : ℕ) (a : Address) → address_of s v ≡ Some a → record { space = s; vpage = v } ≡ a
@@ -197,11 +179,11 @@ address_is s v a e = by_test (nat_lt s 8 && nat_lt v 4096) e where
   by_test true e = same_Some _ a e
   by_test false e = cc
 
-tells_at : (older : List Record) (w : WorldState) → IsOrderly w → Match w.zone.records older → (c : Repeated) (s v : ℕ) (o : Option Address) → address_of s v ≡ o → Match (page_step c w o).world.zone.records (called older (call_at c (record { space = s; vpage = v })) (page_step c w o).reply)
+tells_at : (older : List Record) (w : WorldState) → IsOrderly w → Match w.zone.records older → (c : Repeated) (s v : ℕ) (o : Option Address) → address_of s v ≡ o → Match (page_step c w o).world.zone.records (called older (Zone (call_at c (record { space = s; vpage = v }))) (page_step c w o).reply)
 tells_at older w o m c s v None e = m
 tells_at older w o m c s v (Some a) e =
-    subst (λ (b : Address). Match (call_step w (call_at c a)).world.zone.records (called older (call_at c b) (call_step w (call_at c a)).reply)) (sym (address_is s v a e))
-    (tells_call older w o m (call_at c a)).match
+    subst (λ (b : Address). Match (make_step w (call_at c a)).world.zone.records (called older (Zone (call_at c b)) (make_step w (call_at c a)).reply)) (sym (address_is s v a e))
+    (tells_make older w o m (call_at c a)).match
 
 -- what a part of a series does, after `done` of its calls
 record SeriesTold (c : Repeated) (s v further done : ℕ) (older : List Record) (a : Answered) : Type 0 where
@@ -210,7 +192,7 @@ record SeriesTold (c : Repeated) (s v further done : ℕ) (older : List Record) 
   match : Match a.world.zone.records (repeated c s v further more older)
   none : has_value a.reply ≡ false
 
-told_on : (c : Repeated) (s v further done : ℕ) (older : List Record) (r : Reply) (after : WorldState) (rest : Answered) → Match after.zone.records (called older (call_at c (record { space = s; vpage = v })) r)
+told_on : (c : Repeated) (s v further done : ℕ) (older : List Record) (r : Reply) (after : WorldState) (rest : Answered) → Match after.zone.records (called older (Zone (call_at c (record { space = s; vpage = v }))) r)
     → (Match after.zone.records (accepted older (call_at c (record { space = s; vpage = v }))) → SeriesTold c s (v + further) further (done + 1) (accepted older (call_at c (record { space = s; vpage = v }))) rest)
     → SeriesTold c s v further done older (unless_refused done r after rest)
 told_on c s v further done older (reply.Refused number) after rest m go = record { more = 0; count = omega arith; match = m; none = refl }
@@ -233,8 +215,7 @@ refused_nothing : (older : List Record) (c : Command) (number : ℕ) → told ol
 refused_nothing older OutOfRange number = refl
 refused_nothing older Profile2 number = refl
 refused_nothing older (Open zone blocks) number = refl
-refused_nothing older (On zone (One c)) number = refl
-refused_nothing older (On zone (SeriesOf s)) number = refl
+refused_nothing older (On zone c) number = refused_adds older c number
 refused_nothing older (Compact zone) number = refl
 refused_nothing older (Pool zone count blocks) number = refl
 refused_nothing older (During zone) number = refl
@@ -242,14 +223,16 @@ refused_nothing older (During zone) number = refl
 moved_to : (v after : WorldState) (history : List Record) → Some v ≡ Some after → Match v.zone.records history → Match after.zone.records history
 moved_to v after history e m = subst (λ (x : WorldState). Match x.zone.records history) (same_Some v after e) m
 
-tells_calls : (older : List Record) (w : WorldState) → IsOrderly w → Match w.zone.records older → (zone : ℕ) (c : Calls) → Match (calls_step w c).world.zone.records (told older (On zone c) (calls_step w c).reply) × IsLastStored older (On zone c) (calls_step w c).reply
-tells_calls older w o m zone (One c) = let t = tells_call older w o m c in (t.match, t.value zone)
-tells_calls older w o m zone (SeriesOf s) =
+tells_calls : (older : List Record) (w : WorldState) → IsOrderly w → Match w.zone.records older → (c : Calls) → Tells older c (calls_step w c)
+tells_calls older w o m (Zone c) = tells_make older w o m c
+tells_calls older w o m (One c) = tells_call older w o m c
+tells_calls older w o m (SeriesOf s) =
     let t = tells_series s.call s.space s.first s.step 0 s.count older w o m in
-    let count : t.more ≡ accepted_count (calls_step w (SeriesOf s)).reply = omega (arith, t.count) in (
-      subst (λ n. Match (calls_step w (SeriesOf s)).world.zone.records (repeated s.call s.space s.first s.step n older)) count t.match,
-      no_value older (On zone (SeriesOf s)) (calls_step w (SeriesOf s)).reply t.none,
-    )
+    let count : t.more ≡ accepted_count (calls_step w (SeriesOf s)).reply = omega (arith, t.count) in
+    record {
+      match = subst (λ n. Match (calls_step w (SeriesOf s)).world.zone.records (repeated s.call s.space s.first s.step n older)) count t.match;
+      value = λ zone. no_value older (On zone (SeriesOf s)) (calls_step w (SeriesOf s)).reply t.none;
+    }
 
 tells_other : (places : ℕ) (older : List Record) (w : WorldState) → IsOrderly w → Match w.zone.records older → (c : Command) → runs_rounds c ≡ false → StepTold older c (step places (Some w) c)
 tells_other places older w o m OutOfRange h = record { match = λ after e. moved_to w after older e m; value = tt }
@@ -263,7 +246,7 @@ tells_other places older w o m (During number) h = by_zone (zone_of number) wher
   by_zone (Some zone) = record { match = λ after e. moved_to w after older e m; value = tt }
 tells_other places older w o m (On zone calls) h = by_number (nat_eq zone w.zone.number) where
   by_number : (b : Bool) → StepTold older (On zone calls) (if b then answered (calls_step w calls) else declined 43 (Some w))
-  by_number true = let t = tells_calls older w o m zone calls in record { match = λ after e. moved_to (calls_step w calls).world after _ e t.0; value = t.1 }
+  by_number true = let t = tells_calls older w o m calls in record { match = λ after e. moved_to (calls_step w calls).world after _ e t.match; value = t.value zone }
   by_number false = record {
     match = λ after e. moved_to w after _ e (subst (Match w.zone.records) (sym (refused_nothing older (On zone calls) 43)) m);
     value = no_value older (On zone calls) (reply.Refused 43) refl;

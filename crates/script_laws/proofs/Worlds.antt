@@ -4,41 +4,40 @@ use Rattle.std.specs.Prelude.{slice_get, slice_set, unwrap_or}
 use Rattle.std.specs.List.{list_all}
 use Rattle.frame_core.specs.declared.place.Address.{Address}
 use Rattle.journal_core.specs.declared.record.Cause.TheVariants.{NotCopied}
-use Rattle.journal_core.specs.declared.record.Record.TheVariants.{Unmap as WasUnmapped}
-use Rattle.journal_core.specs.History.{page_at}
 use Rattle.journal_core.specs.Moves.{page_of}
+use Rattle.state_core.specs.declared.call.ZoneAnswer.{ZoneAnswer}
+use Rattle.state_core.specs.declared.call.ZoneCall.{ZoneCall}
+use Rattle.state_core.specs.declared.call.ZoneCall.TheVariants.{TakeOrder, GiveOrder}
 use Rattle.state_core.specs.declared.error.ZoneError.{ZoneError}
 use Rattle.state_core.specs.declared.information.Look.{Look}
 use Rattle.state_core.specs.declared.round.Pair.{Pair}
 use Rattle.state_core.specs.Ending.{ended_as, committed, put_back_to_source}
-use Rattle.state_core.specs.HandingOut.{block_taken}
+use Rattle.state_core.specs.Calls.{after}
 use Rattle.state_core.specs.Rounds.{round_begun}
-use Rattle.state_core.specs.Unmapping.{is_last, unmapped, without_page}
-use Rattle.state_core.specs.ZoneState.{ZoneState, noted}
+use Rattle.state_core.specs.ZoneState.{ZoneState}
 use Rattle.outcome_core.specs.Outcome.{IsSame}
 use Rattle.outcome_core.proofs.Records.{isolated_same}
 use Rattle.outcome_laws.specs.Fingers.{IsSameInRound}
-use Rattle.outcome_laws.proofs.Calls.{access_agrees, value_agrees, loaded_agrees, stored_agrees, map_agrees, map_at_agrees, frame_agrees, mapped_agrees, share_agrees, shared_agrees}
-use Rattle.outcome_laws.proofs.Calls.{unmap_agrees, unmapped_agrees, pin_agrees, unpin_agrees, pinned_agrees, unpinned_agrees, run_agrees, take_agrees, give_agrees, taken_agrees}
-use Rattle.outcome_laws.proofs.Calls.{given_agrees, mark_agrees, unmark_agrees, marked_agrees, unmarked_agrees, look_agrees, info_agrees}
+use Rattle.outcome_laws.proofs.Calls.{look_agrees, info_agrees}
+use Rattle.outcome_laws.proofs.EachCall.{answers_agree, refusals_agree, same_after}
 use Rattle.outcome_laws.proofs.Moves.{LeavesFingers, begun_agrees, committed_agrees, committed_leaves, ended_agrees, isolate_agrees}
 use Rattle.outcome_laws.proofs.Moves.{next_agrees, page_of_agrees, pair_agrees, put_back_agrees, stays_in_round}
 use Rattle.world_core.specs.declared.hand.Finished.{Finished}
 use Rattle.world_core.specs.declared.hand.Hand.{Hand}
 use Rattle.world_core.specs.declared.hand.Hand.TheVariants.{Empty, Page, Copy as CopyOf}
 use Rattle.world_core.specs.World.{WorldState, all_put_back, copy_in, finished_as, finished_by, finished_in, hand_of, is_empty, isolated_by}
+use Rattle.world_core.proofs.Carrying.{call_leaves}
 use Rattle.world_core.specs.World.{page_in, round_opened, scan_refusal, scan_stopped, scanned_by, shut, taken_by, with_hand, with_zone}
 use Rattle.text_core.specs.declared.command.Call.{Call}
-use Rattle.text_core.specs.declared.command.Call.TheVariants.{Map, MapAt, Store, Load, Info, Scan, Take, Copy, Finish, Shut, Look as LookAt}
-use Rattle.text_core.specs.declared.command.Call.TheVariants.{Share, Unmap, Pin, Unpin, Huge, Give, InfoWithHeld, TakeOrder, GiveOrder, Mark, Unmark}
+use Rattle.text_core.specs.declared.command.Call.TheVariants.{Info, InfoWithHeld, Scan, Take, Copy, Finish, Shut, Look as LookAt, Huge, Give}
 use Rattle.text_core.specs.declared.command.Calls.{Calls}
-use Rattle.text_core.specs.declared.command.Calls.TheVariants.{One, Series as SeriesOf}
+use Rattle.text_core.specs.declared.command.Calls.TheVariants.{Zone, One, Series as SeriesOf}
 use Rattle.text_core.specs.declared.command.Repeated.{Repeated}
 use Rattle.text_core.specs.declared.reply.Reply.{Reply}
 use Rattle.text_core.specs.declared.reply.Reply.TheVariants as reply
 use Rattle.text_core.specs.Grammar.{address_of}
-use Rattle.machine_core.specs.Machine.{Answered, by_hand, call_at, call_step, calls_step, copied, done, ending, found}
-use Rattle.machine_core.specs.Machine.{fresh_page, handed_out, looked, order_handed_out, page_step, says, series_from, unless, unless_refused}
+use Rattle.machine_core.specs.Machine.{Answered, by_hand, call_at, call_step, calls_step, copied, ending, found}
+use Rattle.machine_core.specs.Machine.{looked, page_step, reply_for, reply_for_huge, says, series_from, unless, unless_refused, zone_step}
 use Rattle.script_laws.specs.Worlds.{IsSameWorld}
 
 -- the same reply, and worlds that are the same
@@ -61,11 +60,8 @@ all_back_alike (serial ∷ more) y z same =
     (put_back_agrees y z same serial (unwrap_or (page_of y.records serial) 0) NotCopied) in
     all_back_alike more _ _ back
 
-unmapped_leaves : (z : ZoneState) (address : Address) → LeavesFingers z (unmapped z 0 address)
-unmapped_leaves z address = by (is_last z address) where
-  by : (b : Bool) → LeavesFingers z (cond b (without_page (noted z (WasUnmapped 0 address)) (unwrap_or (page_at z.records address) 0)) (noted z (WasUnmapped 0 address)))
-  by true = record { migrate = refl; free = refl }
-  by false = record { migrate = refl; free = refl }
+fingers_left : (call : ZoneCall 8) (z : ZoneState) → LeavesFingers z (after call 0 z)
+fingers_left call z = let leaves = call_leaves call 0 z in record { migrate = leaves.migrate; free = leaves.free }
 
 -- an accepted scan with this next pair, or none
 abbrev finds : WorldState → Option Pair → Answered
@@ -99,30 +95,11 @@ module _ (v w : WorldState) (same : IsSameWorld v w) where
     hands = same.hands;
   }
 
-  done_alike : (y z : ZoneState) → IsSame y z → LeavesFingers v.zone y → LeavesFingers w.zone z → Alike (done v y) (done w z)
-  done_alike y z after left right = record { reply = refl; world = zone_alike y z after left right }
-
-  page_alike : (a : Address) (unmovable : Bool) (p q : Option ℕ) → p ≡ q → Alike (fresh_page v a unmovable p) (fresh_page w a unmovable q)
-  page_alike a unmovable p q e = subst (λ o. Alike (fresh_page v a unmovable p) (fresh_page w a unmovable o)) e (by p) where
-    by : (o : Option ℕ) → Alike (fresh_page v a unmovable o) (fresh_page w a unmovable o)
-    by None = record { reply = refl; world = same }
-    by (Some frame) = done_alike _ _ (mapped_agrees v.zone w.zone same.zone 0 a unmovable frame) (record { migrate = refl; free = refl }) (record { migrate = refl; free = refl })
-
-  taken_alike : (r : Reply) (first order : ℕ) → Alike (says r (with_zone v (block_taken v.zone first order))) (says r (with_zone w (block_taken w.zone first order)))
-  taken_alike r first order =
-      record { reply = refl; world = zone_alike _ _ (taken_agrees v.zone w.zone same.zone first order) (record { migrate = refl; free = refl }) (record { migrate = refl; free = refl }) }
-
-  huge_alike : (p q : Option ℕ) → p ≡ q → Alike (handed_out v p) (handed_out w q)
-  huge_alike p q e = subst (λ o. Alike (handed_out v p) (handed_out w o)) e (by p) where
-    by : (o : Option ℕ) → Alike (handed_out v o) (handed_out w o)
-    by None = record { reply = refl; world = same }
-    by (Some first) = taken_alike _ first 9
-
-  order_alike : (order : ℕ) (p q : Option ℕ) → p ≡ q → Alike (order_handed_out v order p) (order_handed_out w order q)
-  order_alike order p q e = subst (λ o. Alike (order_handed_out v order p) (order_handed_out w order o)) e (by p) where
-    by : (o : Option ℕ) → Alike (order_handed_out v order o) (order_handed_out w order o)
-    by None = record { reply = refl; world = same }
-    by (Some first) = taken_alike _ first order
+  step_alike : (call : ZoneCall 8) (told : ZoneAnswer → Reply) → Alike (zone_step v call told) (zone_step w call told)
+  step_alike call told = alike_unless v w _ _ _ _ (refusals_agree v.zone w.zone same.zone 8 call) same (record {
+    reply = ap told (answers_agree v.zone w.zone same.zone 8 call);
+    world = zone_alike _ _ (same_after v.zone w.zone same.zone 8 call 0) (fingers_left call v.zone) (fingers_left call w.zone);
+  })
 
   looked_alike : (p q : Option Look) → p ≡ q → Alike (looked v p) (looked w q)
   looked_alike p q e = subst (λ o. Alike (looked v p) (looked w o)) e (by p) where
@@ -220,16 +197,8 @@ module _ (v w : WorldState) (same : IsSameWorld v w) where
       };
     }
 
--- each call of the zone, in the order of `call_step`
-pub call_alike : (v w : WorldState) → IsSameWorld v w → (c : Call) → Alike (call_step v c) (call_step w c)
-call_alike v w s (Map a unmovable) = alike_unless v w _ _ _ _ (map_agrees v.zone w.zone s.zone a) s (page_alike v w s a unmovable _ _ (frame_agrees v.zone w.zone s.zone))
-call_alike v w s (MapAt a frame unmovable) = alike_unless v w _ _ _ _ (map_at_agrees v.zone w.zone s.zone a frame) s (page_alike v w s a unmovable (Some frame) (Some frame) refl)
-call_alike v w s (Store a word value) = alike_unless v w _ _ _ _ (access_agrees v.zone w.zone s.zone a) s
-    (done_alike v w s _ _ (stored_agrees v.zone w.zone s.zone 0 a word value) (record { migrate = refl; free = refl }) (record { migrate = refl; free = refl }))
-call_alike v w s (Load a word) = alike_unless v w _ _ _ _ (access_agrees v.zone w.zone s.zone a) s (record {
-  reply = ap reply.Value (value_agrees v.zone w.zone s.zone a word);
-  world = zone_alike v w s _ _ (loaded_agrees v.zone w.zone s.zone 0 a word) (record { migrate = refl; free = refl }) (record { migrate = refl; free = refl });
-})
+-- each other call, in the order of `call_step`
+call_alike : (v w : WorldState) → IsSameWorld v w → (c : Call) → Alike (call_step v c) (call_step w c)
 call_alike v w s Info = record { reply = ap reply.Info (info_agrees v.zone w.zone s.zone); world = s }
 call_alike v w s Scan = scan_alike v w s
 call_alike v w s (Take hand) = take_alike v w s hand
@@ -237,31 +206,15 @@ call_alike v w s (Copy hand) = copy_alike v w s hand
 call_alike v w s (Finish hand) = finish_alike v w s hand
 call_alike v w s Shut = shut_alike v w s
 call_alike v w s (LookAt a) = looked_alike v w s _ _ (look_agrees v.zone w.zone s.zone a)
-call_alike v w s (Share a alias) = alike_unless v w _ _ _ _ (share_agrees v.zone w.zone s.zone a alias) s
-    (done_alike v w s _ _ (shared_agrees v.zone w.zone s.zone 0 a alias) (record { migrate = refl; free = refl }) (record { migrate = refl; free = refl }))
-call_alike v w s (Unmap a) = alike_unless v w _ _ _ _ (unmap_agrees v.zone w.zone s.zone a) s
-    (done_alike v w s _ _ (unmapped_agrees v.zone w.zone s.zone 0 a) (unmapped_leaves v.zone a) (unmapped_leaves w.zone a))
-call_alike v w s (Pin a) = alike_unless v w _ _ _ _ (pin_agrees v.zone w.zone s.zone a) s
-    (done_alike v w s _ _ (pinned_agrees v.zone w.zone s.zone 0 a) (record { migrate = refl; free = refl }) (record { migrate = refl; free = refl }))
-call_alike v w s (Unpin a) = alike_unless v w _ _ _ _ (unpin_agrees v.zone w.zone s.zone a) s
-    (done_alike v w s _ _ (unpinned_agrees v.zone w.zone s.zone 0 a) (record { migrate = refl; free = refl }) (record { migrate = refl; free = refl }))
-call_alike v w s Huge = alike_unless v w _ _ _ _ (take_agrees v.zone w.zone s.zone 9) s (huge_alike v w s _ _ (run_agrees v.zone w.zone s.zone 9))
-call_alike v w s (Give block) = alike_unless v w _ _ _ _ (give_agrees v.zone w.zone s.zone (512 * block) 9) s
-    (done_alike v w s _ _ (given_agrees v.zone w.zone s.zone (512 * block) 9) (record { migrate = refl; free = refl }) (record { migrate = refl; free = refl }))
+call_alike v w s Huge = step_alike v w s (TakeOrder 9) reply_for_huge
+call_alike v w s (Give block) = step_alike v w s (GiveOrder (512 * block) 9) (λ _. reply.Done)
 call_alike v w s InfoWithHeld = record { reply = ap reply.InfoWithHeld (info_agrees v.zone w.zone s.zone); world = s }
-call_alike v w s (TakeOrder order) = alike_unless v w _ _ _ _ (take_agrees v.zone w.zone s.zone order) s (order_alike v w s order _ _ (run_agrees v.zone w.zone s.zone order))
-call_alike v w s (GiveOrder first order) = alike_unless v w _ _ _ _ (give_agrees v.zone w.zone s.zone first order) s
-    (done_alike v w s _ _ (given_agrees v.zone w.zone s.zone first order) (record { migrate = refl; free = refl }) (record { migrate = refl; free = refl }))
-call_alike v w s (Mark block) = alike_unless v w _ _ _ _ (mark_agrees v.zone w.zone s.zone block) s
-    (done_alike v w s _ _ (marked_agrees v.zone w.zone s.zone block) (record { migrate = refl; free = refl }) (record { migrate = refl; free = refl }))
-call_alike v w s (Unmark block) = alike_unless v w _ _ _ _ (unmark_agrees v.zone w.zone s.zone block) s
-    (done_alike v w s _ _ (unmarked_agrees v.zone w.zone s.zone block) (record { migrate = refl; free = refl }) (record { migrate = refl; free = refl }))
 
 -- a series of calls
 
 at_alike : (v w : WorldState) → IsSameWorld v w → (c : Repeated) (p : Option Address) → Alike (page_step c v p) (page_step c w p)
 at_alike v w s c None = record { reply = refl; world = s }
-at_alike v w s c (Some a) = call_alike v w s (call_at c a)
+at_alike v w s c (Some a) = step_alike v w s (call_at c a) (reply_for (call_at c a))
 
 alike_on : (v w : WorldState) (done : ℕ) (p q : Reply) (a b : Answered) → p ≡ q → IsSameWorld v w → Alike a b → Alike (unless_refused done p v a) (unless_refused done q w b)
 alike_on v w done p q a b e same rest = subst (λ r. Alike (unless_refused done p v a) (unless_refused done r w b)) e (by p) where
@@ -278,5 +231,6 @@ series_alike c s p further done (suc n) v w same =
     alike_on a.world b.world done a.reply b.reply _ _ first.reply first.world (series_alike c s (p + further) further (done + 1) n a.world b.world first.world)
 
 pub calls_alike : (v w : WorldState) → IsSameWorld v w → (c : Calls) → Alike (calls_step v c) (calls_step w c)
+calls_alike v w same (Zone call) = step_alike v w same call (reply_for call)
 calls_alike v w same (One call) = call_alike v w same call
 calls_alike v w same (SeriesOf s) = series_alike s.call s.space s.first s.step 0 s.count v w same

@@ -3,9 +3,10 @@ use Rattle.std.specs.Prelude.{◌≡◌, ℕ, zero, suc, ◌+◌, List, [], ◌�
 use Rattle.journal_core.specs.declared.record.Record.{Record}
 use Rattle.journal_core.specs.declared.record.Record.TheVariants as record_of
 use Rattle.journal_core.specs.History.{page_at, last}
-use Rattle.text_core.specs.declared.command.Call.{Call}
-use Rattle.text_core.specs.declared.command.Call.TheVariants.{Map, MapAt, Store, Load, Share, Unmap}
-use Rattle.text_core.specs.declared.command.Calls.TheVariants.{One, Series as SeriesOf}
+use Rattle.state_core.specs.declared.call.ZoneCall.{ZoneCall}
+use Rattle.state_core.specs.declared.call.ZoneCall.TheVariants.{Map, MapAt, Store, Load, Share, Unmap}
+use Rattle.text_core.specs.declared.command.Calls.{Calls}
+use Rattle.text_core.specs.declared.command.Calls.TheVariants.{Zone, One, Series as SeriesOf}
 use Rattle.text_core.specs.declared.command.Repeated.{Repeated}
 use Rattle.text_core.specs.declared.command.Command.{Command}
 use Rattle.text_core.specs.declared.command.Command.TheVariants.{On}
@@ -16,18 +17,13 @@ use Rattle.play_core.specs.Script.{Answer, Numbered}
 
 -- a history with what an accepted call adds to it, the newest record first: a page for an address, or a stored value. A fresh
 -- page is named by the number of records before it.
-abbrev pub accepted : List Record → Call → List Record
+abbrev pub accepted : List Record → ZoneCall 8 → List Record
 accepted older (Map a unmovable) = record_of.Map 0 a (length older) ∷ older
-accepted older (MapAt a frame unmovable) = record_of.Map 0 a (length older) ∷ older
+accepted older (MapAt a unmovable frame) = record_of.Map 0 a (length older) ∷ older
 accepted older (Share a alias) = record_of.Share 0 a alias ∷ older
 accepted older (Unmap a) = record_of.Unmap 0 a ∷ older
 accepted older (Store a word value) = record_of.Store 0 a word value ∷ older
 accepted older _ = older
-
--- a history with what an answered call adds to it: a refused call adds nothing
-abbrev pub called : List Record → Call → Reply → List Record
-called older c (reply.Refused number) = older
-called older c _ = accepted older c
 
 -- a history with what n accepted calls of a series add to it, from page v of space s on
 abbrev pub repeated : Repeated → (s v further n : ℕ) → List Record → List Record
@@ -40,16 +36,22 @@ accepted_count (reply.AllDone n) = n
 accepted_count (reply.DoneUntil n refusal) = n
 accepted_count _ = 0
 
+-- a history with what answered calls add to it: a refused call adds nothing, and only calls of the zone add something
+abbrev pub called : List Record → Calls → Reply → List Record
+called older (Zone c) (reply.Refused number) = older
+called older (Zone c) _ = accepted older c
+called older (One c) r = older
+called older (SeriesOf s) r = repeated s.call s.space s.first s.step (accepted_count r) older
+
 -- a history with what an answered command adds to it
 abbrev pub told : List Record → Command → Reply → List Record
-told older (On zone (One c)) r = called older c r
-told older (On zone (SeriesOf s)) r = repeated s.call s.space s.first s.step (accepted_count r) older
+told older (On zone c) r = called older c r
 told older _ r = older
 
 -- a load gives the value that was stored last in that word of the page that its address names, since the page was
 -- mapped, through whatever address, or 0 before the first store; no other command gives a value
 abbrev pub IsLast : List Record → Command → ℕ → Type 0
-IsLast older (On zone (One (Load a word))) x = IsSomeAnd (page_at older a) (λ page. x ≡ last older page word)
+IsLast older (On zone (Zone (Load a word))) x = IsSomeAnd (page_at older a) (λ page. x ≡ last older page word)
 IsLast older c x = ⊥
 
 -- the value in a reply, if it has one, is the one stored last

@@ -1,5 +1,5 @@
 ghost use Rattle.std.specs.Prelude.{◌≡◌, ℕ, ◌<◌, ◌≤◌, [], List, None};
-ghost use Rattle.machine_core.specs.Machine.{call_step};
+ghost use Rattle.machine_core.specs.Machine.{calls_step};
 ghost use Rattle.machine_core.specs.Replies.{answers_of};
 ghost use Rattle.play_core.specs.Script.{commands_of};
 ghost use Rattle.script_laws.specs.ByHand.{answers_by_hand};
@@ -7,7 +7,7 @@ ghost use Rattle.script_laws.specs.Counts.{CountsAddUp};
 ghost use Rattle.script_laws.specs.Profile2.{IsSameInProfile2, fault_in_profile_1};
 ghost use Rattle.script_laws.specs.Values.{ValuesAreStored};
 ghost use Rattle.script_laws.specs.Worlds.{IsSameWorld};
-ghost use Rattle.text_core.specs.declared.command.Call.{Call};
+ghost use Rattle.text_core.specs.declared.command.Calls.{Calls};
 ghost use Rattle.world_core.specs.World.{WorldState};
 
 /// Each value in a reply is the last one that was stored before it, through whatever address, in that word of that page
@@ -30,7 +30,7 @@ pub fn profile_2_keeps_replies()
     ensures by_hand { (places : ℕ) (input : List ℕ) → fault_in_profile_1 input ≡ None → IsSameInProfile2 (answers_by_hand places) input }
 {}
 
-/// Worlds that are the same but for the order in which moves ended answer each call alike, refusals too, and are still the same after it.
+/// Worlds that are the same but for the order in which moves ended answer calls alike, refusals too, and are still the same after them.
 pub fn worlds_agree()
-    ensures { (v w : WorldState) → IsSameWorld v w → (c : Call) → ((call_step v c).reply ≡ (call_step w c).reply) × IsSameWorld (call_step v c).world (call_step w c).world }
+    ensures { (v w : WorldState) → IsSameWorld v w → (c : Calls) → ((calls_step v c).reply ≡ (calls_step w c).reply) × IsSameWorld (calls_step v c).world (calls_step w c).world }
 {}

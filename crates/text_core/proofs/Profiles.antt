@@ -6,7 +6,7 @@ use Rattle.std.specs.Option.{option_or}
 use Rattle.std.proofs.lemmas.Bool.{and_parts}
 use Rattle.std.proofs.lemmas.Option.{same_Some}
 use Rattle.std.proofs.lemmas.Slice.Eq.{bytes_eq-Decides}
-use Rattle.frame_core.specs.declared.place.Address.{Address}
+use Rattle.state_core.specs.declared.call.ZoneCall.{ZoneCall}
 use Rattle.text_core.specs.declared.token.Token.{Token}
 use Rattle.text_core.specs.declared.token.Token.TheVariants.{Number, Zone, Map, MapAt, Store, Load, Info, Unmovable, Scan, Take, Copy, Finish, Shut, Look, Share, Unmap, Pin, Unpin, Huge, Give, Fill, Thin, Compact, Pool, During}
 use Rattle.text_core.specs.declared.command.Call.{Call}
@@ -20,7 +20,7 @@ use Rattle.text_core.specs.declared.error.ScriptError.TheVariants.{LongLine}
 use Rattle.text_core.specs.declared.pool.PoolBlocks.{PoolBlocks}
 use Rattle.text_core.specs.declared.pool.PoolBlocks.TheVariants.{Pageblocks}
 use Rattle.text_core.specs.declared.profile.Profile.TheVariants.{Untold, One as Profile1, Two}
-use Rattle.text_core.specs.Grammar.{address_of, blocks_of, call_on, command_of, compacting, frame_of, hand_of, load_call, map_at_call, map_call, opening, pageblock_of, pooling, row_of, row_of_profile_2, series_on, share_call, store_call, word_of, zone_of, during_row, row_in}
+use Rattle.text_core.specs.Grammar.{address_of, blocks_of, call_on, command_of, compacting, hand_of, opening, pageblock_of, pooling, row_of, row_of_profile_2, series_on, zone_call_on, zone_of, during_row, row_in}
 use Rattle.text_core.specs.Line.{command_in, said_or_fault, is_comment, lexemes_say, line_of}
 use Rattle.text_core.specs.Profile.{is_profile_2}
 use Rattle.text_core.specs.Token.{lexemes, token_of}
@@ -68,29 +68,11 @@ kept_series (Some z) None = (refl, λ e. cc)
 kept_series None (Some s) = (refl, λ e. cc)
 kept_series None None = (refl, λ e. cc)
 
-kept_map : (o : Option Address) (unmovable : Bool) → IfSome (map_call o unmovable) IsKeptCall
-kept_map (Some a) unmovable = refl
-kept_map None unmovable = tt
-
-kept_map_at : (o : Option Address) (f : Option ℕ) (unmovable : Bool) → IfSome (map_at_call o f unmovable) IsKeptCall
-kept_map_at (Some a) (Some f) unmovable = refl
-kept_map_at (Some a) None unmovable = tt
-kept_map_at None f unmovable = tt
-
-kept_share : (o alias : Option Address) → IfSome (share_call o alias) IsKeptCall
-kept_share (Some a) (Some alias) = refl
-kept_share (Some a) None = tt
-kept_share None alias = tt
-
-kept_store : (o : Option Address) (w : Option ℕ) (x : ℕ) → IfSome (store_call o w x) IsKeptCall
-kept_store (Some a) (Some w) x = refl
-kept_store (Some a) None x = tt
-kept_store None w x = tt
-
-kept_load : (o : Option Address) (w : Option ℕ) → IfSome (load_call o w) IsKeptCall
-kept_load (Some a) (Some w) = refl
-kept_load (Some a) None = tt
-kept_load None w = tt
+kept_zone_call : (z : Option ℕ) (o : Option (ZoneCall 8)) → IsKept (zone_call_on z o)
+kept_zone_call (Some z) (Some c) = (refl, λ e. cc)
+kept_zone_call (Some z) None = (refl, λ e. cc)
+kept_zone_call None (Some c) = (refl, λ e. cc)
+kept_zone_call None None = (refl, λ e. cc)
 
 kept_with : {A : Type 0} (f : A → Call) → ((x : A) → IsKeptCall (f x)) → (o : Option A) → IfSome (option_map f o) IsKeptCall
 kept_with f g (Some x) = g x
@@ -110,12 +92,12 @@ alike_info None = (refl, refl, λ e. cc)
 
 alike_row : (keyword : Token) (z : Option ℕ) (arguments : List Token) → AreAlike (row_of keyword z arguments) (row_of keyword z arguments) (option_or (row_of_profile_2 keyword z arguments) (row_of keyword z arguments))
 alike_row Zone z (Number b ∷ []) = alike _ (kept_opening z (blocks_of b))
-alike_row Map z (Number s ∷ Number v ∷ []) = alike _ (kept_call z _ (kept_map (address_of s v) false))
-alike_row Map z (Number s ∷ Number v ∷ Unmovable ∷ []) = alike _ (kept_call z _ (kept_map (address_of s v) true))
-alike_row MapAt z (Number s ∷ Number v ∷ Number f ∷ []) = alike _ (kept_call z _ (kept_map_at (address_of s v) (frame_of f) false))
-alike_row MapAt z (Number s ∷ Number v ∷ Number f ∷ Unmovable ∷ []) = alike _ (kept_call z _ (kept_map_at (address_of s v) (frame_of f) true))
-alike_row Store z (Number s ∷ Number v ∷ Number w ∷ Number x ∷ []) = alike _ (kept_call z _ (kept_store (address_of s v) (word_of w) x))
-alike_row Load z (Number s ∷ Number v ∷ Number w ∷ []) = alike _ (kept_call z _ (kept_load (address_of s v) (word_of w)))
+alike_row Map z (Number s ∷ Number v ∷ []) = alike _ (kept_zone_call z _)
+alike_row Map z (Number s ∷ Number v ∷ Unmovable ∷ []) = alike _ (kept_zone_call z _)
+alike_row MapAt z (Number s ∷ Number v ∷ Number f ∷ []) = alike _ (kept_zone_call z _)
+alike_row MapAt z (Number s ∷ Number v ∷ Number f ∷ Unmovable ∷ []) = alike _ (kept_zone_call z _)
+alike_row Store z (Number s ∷ Number v ∷ Number w ∷ Number x ∷ []) = alike _ (kept_zone_call z _)
+alike_row Load z (Number s ∷ Number v ∷ Number w ∷ []) = alike _ (kept_zone_call z _)
 alike_row Info z [] = alike_info z
 alike_row Scan z [] = alike _ (kept_call z (Some call.Scan) refl)
 alike_row Take z (Number k ∷ []) = alike _ (kept_call z _ (kept_with call.Take (λ n. refl) (hand_of k)))
@@ -123,10 +105,10 @@ alike_row Copy z (Number k ∷ []) = alike _ (kept_call z _ (kept_with call.Copy
 alike_row Finish z (Number k ∷ []) = alike _ (kept_call z _ (kept_with call.Finish (λ n. refl) (hand_of k)))
 alike_row Shut z [] = alike _ (kept_call z (Some call.Shut) refl)
 alike_row Look z (Number s ∷ Number v ∷ []) = alike _ (kept_call z _ (kept_with call.Look (λ a. refl) (address_of s v)))
-alike_row Share z (Number s ∷ Number v ∷ Number s2 ∷ Number v2 ∷ []) = alike _ (kept_call z _ (kept_share (address_of s v) (address_of s2 v2)))
-alike_row Unmap z (Number s ∷ Number v ∷ []) = alike _ (kept_call z _ (kept_with call.Unmap (λ a. refl) (address_of s v)))
-alike_row Pin z (Number s ∷ Number v ∷ []) = alike _ (kept_call z _ (kept_with call.Pin (λ a. refl) (address_of s v)))
-alike_row Unpin z (Number s ∷ Number v ∷ []) = alike _ (kept_call z _ (kept_with call.Unpin (λ a. refl) (address_of s v)))
+alike_row Share z (Number s ∷ Number v ∷ Number s2 ∷ Number v2 ∷ []) = alike _ (kept_zone_call z _)
+alike_row Unmap z (Number s ∷ Number v ∷ []) = alike _ (kept_zone_call z _)
+alike_row Pin z (Number s ∷ Number v ∷ []) = alike _ (kept_zone_call z _)
+alike_row Unpin z (Number s ∷ Number v ∷ []) = alike _ (kept_zone_call z _)
 alike_row Huge z [] = alike _ (kept_call z (Some call.Huge) refl)
 alike_row Give z (Number b ∷ []) = alike _ (kept_call z _ (kept_with call.Give (λ n. refl) (pageblock_of b)))
 alike_row Fill z (Number s ∷ Number v ∷ Number n ∷ []) = alike _ (kept_series z _)

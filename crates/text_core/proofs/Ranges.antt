@@ -5,11 +5,14 @@ use Rattle.std.specs.Option.{option_or}
 use Rattle.std.proofs.lemmas.Bool.{and_parts, leb-true, ltb-true}
 use Rattle.frame_core.specs.Address.{InRange}
 use Rattle.frame_core.specs.declared.place.Address.{Address}
+use Rattle.state_core.specs.declared.call.ZoneCall.{ZoneCall}
+use Rattle.state_core.specs.declared.call.ZoneCall.TheVariants as zone_call
+use Rattle.state_core.specs.Calls.{IsInRange as IsZoneCallInRange}
 use Rattle.text_core.specs.declared.token.Token.{Token}
 use Rattle.text_core.specs.declared.token.Token.TheVariants.{Number, Zone, Map, MapAt, Store, Load, Info, Unmovable, Scan, Take, Copy, Finish, Shut, Look, Share, Unmap, Pin, Unpin, Huge, Give, Fill, Thin, Mark, Unmark, Compact, Pool, During}
 use Rattle.text_core.specs.declared.command.Call.{Call}
 use Rattle.text_core.specs.declared.command.Call.TheVariants as call
-use Rattle.text_core.specs.declared.command.Calls.TheVariants.{One}
+use Rattle.text_core.specs.declared.command.Calls.TheVariants.{Zone as OfZone, One}
 use Rattle.text_core.specs.declared.command.Series.{Series}
 use Rattle.text_core.specs.declared.command.Command.{Command}
 use Rattle.text_core.specs.declared.command.Command.TheVariants.{Open, On, Pool as PoolOn, Profile2, During as RoundBeside}
@@ -19,7 +22,7 @@ use Rattle.text_core.specs.declared.error.ScriptError.{ScriptError}
 use Rattle.text_core.specs.declared.error.ScriptError.TheVariants.{LongLine}
 use Rattle.text_core.specs.declared.profile.Profile.{Profile}
 use Rattle.text_core.specs.declared.profile.Profile.TheVariants.{Untold, One as Profile1, Two}
-use Rattle.text_core.specs.Grammar.{address_of, blocks_of, call_on, command_of, compacting, frame_of, give_order_call, hand_of, load_call, map_at_call, map_call, opening, order_of, own_row, pageblock_of, pooling, row_in, row_of, row_of_profile_2, series_on, share_call, store_call, word_of, zone_of, during_row}
+use Rattle.text_core.specs.Grammar.{address_of, blocks_of, call_on, zone_call_on, command_of, compacting, frame_of, give_order_call, hand_of, load_call, map_at_call, map_call, opening, order_of, own_row, pageblock_of, pooling, row_in, row_of, row_of_profile_2, series_on, share_call, store_call, word_of, zone_of, during_row}
 use Rattle.text_core.specs.Line.{command_in, said_or_fault, is_comment, lexemes_say, line_of}
 use Rattle.text_core.specs.Pool.{pool_order}
 use Rattle.text_core.specs.Profile.{is_profile_2}
@@ -27,13 +30,9 @@ use Rattle.text_core.specs.Token.{lexemes, token_of}
 
 -- the arguments of a call are in their ranges
 abbrev pub IsCallInRange : Call → Type 0
-IsCallInRange (call.Map a unmovable) = InRange a
-IsCallInRange (call.MapAt a frame unmovable) = InRange a
-IsCallInRange (call.Share a alias) = InRange alias
 IsCallInRange (call.Take hand) = (0 < hand) × (hand ≤ 4)
 IsCallInRange (call.Copy hand) = (0 < hand) × (hand ≤ 4)
 IsCallInRange (call.Finish hand) = (0 < hand) × (hand ≤ 4)
-IsCallInRange (call.TakeOrder order) = (3 ≤ order) × (order ≤ 9)
 IsCallInRange _ = ⊤
 
 -- where a pool reserves blocks of an order, the order is in its range
@@ -43,6 +42,7 @@ HasOrder blocks = (3 ≤ pool_order blocks) × (pool_order blocks ≤ 9)
 -- the arguments of a command are in their ranges
 abbrev pub IsInRange : Command → Type 0
 IsInRange (Open zone blocks) = (0 < blocks) × (blocks ≤ 8)
+IsInRange (On zone (OfZone c)) = IsZoneCallInRange c
 IsInRange (On zone (One c)) = IsCallInRange c
 IsInRange (PoolOn zone count blocks) = HasOrder blocks
 IsInRange _ = ⊤
@@ -87,78 +87,84 @@ call_ranged (Some z) None r = tt
 call_ranged None (Some c) r = tt
 call_ranged None None r = tt
 
+zone_call_ranged : (z : Option ℕ) (c : Option (ZoneCall 8)) → IfSome c IsZoneCallInRange → IsInRange (zone_call_on z c)
+zone_call_ranged (Some z) (Some c) r = r
+zone_call_ranged (Some z) None r = tt
+zone_call_ranged None (Some c) r = tt
+zone_call_ranged None None r = tt
+
 series_ranged : (z : Option ℕ) (s : Option Series) → IsInRange (series_on z s)
 series_ranged (Some z) (Some s) = tt
 series_ranged (Some z) None = tt
 series_ranged None (Some s) = tt
 series_ranged None None = tt
 
-map_ranged : (o : Option Address) (unmovable : Bool) → IfSome o InRange → IfSome (map_call o unmovable) IsCallInRange
+map_ranged : (o : Option Address) (unmovable : Bool) → IfSome o InRange → IfSome (map_call o unmovable) IsZoneCallInRange
 map_ranged (Some a) unmovable r = r
 map_ranged None unmovable r = tt
 
-map_at_ranged : (o : Option Address) (f : Option ℕ) (unmovable : Bool) → IfSome o InRange → IfSome (map_at_call o f unmovable) IsCallInRange
+map_at_ranged : (o : Option Address) (f : Option ℕ) (unmovable : Bool) → IfSome o InRange → IfSome (map_at_call o f unmovable) IsZoneCallInRange
 map_at_ranged (Some a) (Some f) unmovable r = r
 map_at_ranged (Some a) None unmovable r = tt
 map_at_ranged None f unmovable r = tt
 
-share_ranged : (o alias : Option Address) → IfSome alias InRange → IfSome (share_call o alias) IsCallInRange
+share_ranged : (o alias : Option Address) → IfSome alias InRange → IfSome (share_call o alias) IsZoneCallInRange
 share_ranged (Some a) (Some alias) r = r
 share_ranged (Some a) None r = tt
 share_ranged None alias r = tt
 
-store_ranged : (o : Option Address) (w : Option ℕ) (x : ℕ) → IfSome (store_call o w x) IsCallInRange
+store_ranged : (o : Option Address) (w : Option ℕ) (x : ℕ) → IfSome (store_call o w x) IsZoneCallInRange
 store_ranged (Some a) (Some w) x = tt
 store_ranged (Some a) None x = tt
 store_ranged None w x = tt
 
-load_ranged : (o : Option Address) (w : Option ℕ) → IfSome (load_call o w) IsCallInRange
+load_ranged : (o : Option Address) (w : Option ℕ) → IfSome (load_call o w) IsZoneCallInRange
 load_ranged (Some a) (Some w) = tt
 load_ranged (Some a) None = tt
 load_ranged None w = tt
 
-give_ranged : (f k : Option ℕ) → IfSome (give_order_call f k) IsCallInRange
+give_ranged : (f k : Option ℕ) → IfSome (give_order_call f k) IsZoneCallInRange
 give_ranged (Some f) (Some k) = tt
 give_ranged (Some f) None = tt
 give_ranged None k = tt
 
 -- a call with one argument, which is in its range
-mapped_ranged : {A : Type 0} (P : A → Type 0) (f : A → Call) → ((x : A) → P x → IsCallInRange (f x)) → (o : Option A) → IfSome o P → IfSome (option_map f o) IsCallInRange
-mapped_ranged P f g (Some x) r = g x r
-mapped_ranged P f g None r = tt
+mapped_ranged : {A B : Type 0} (P : A → Type 0) (Q : B → Type 0) (f : A → B) → ((x : A) → P x → Q (f x)) → (o : Option A) → IfSome o P → IfSome (option_map f o) Q
+mapped_ranged P Q f g (Some x) r = g x r
+mapped_ranged P Q f g None r = tt
 
 any : {A : Type 0} (o : Option A) → IfSome o (λ x. ⊤)
 any (Some x) = tt
 any None = tt
 
 hand_ranged : (f : ℕ → Call) → ((k : ℕ) → (1 ≤ k) × (k ≤ 4) → IsCallInRange (f k)) → (k : ℕ) → IfSome (option_map f (hand_of k)) IsCallInRange
-hand_ranged f g k = mapped_ranged (λ n. (1 ≤ n) × (n ≤ 4)) f g (hand_of k) (between 1 4 k (nat_le 1 k && nat_le k 4) refl)
+hand_ranged f g k = mapped_ranged (λ n. (1 ≤ n) × (n ≤ 4)) IsCallInRange f g (hand_of k) (between 1 4 k (nat_le 1 k && nat_le k 4) refl)
 
-at_ranged : (f : Address → Call) → ((a : Address) → IsCallInRange (f a)) → (s v : ℕ) → IfSome (option_map f (address_of s v)) IsCallInRange
-at_ranged f g s v = mapped_ranged (λ a. ⊤) f (λ a r. g a) (address_of s v) (any (address_of s v))
+at_ranged : {B : Type 0} (Q : B → Type 0) (f : Address → B) → ((a : Address) → Q (f a)) → (s v : ℕ) → IfSome (option_map f (address_of s v)) Q
+at_ranged Q f g s v = mapped_ranged (λ a. ⊤) Q f (λ a r. g a) (address_of s v) (any (address_of s v))
 
 -- the commands of the rows that both profiles have are in range
 row_ranged : (keyword : Token) (z : Option ℕ) (arguments : List Token) → IfSome (row_of keyword z arguments) IsInRange
 row_ranged Zone z (Number b ∷ []) = opening_ranged z (blocks_of b) (between 1 8 b (nat_le 1 b && nat_le b 8) refl)
-row_ranged Map z (Number s ∷ Number v ∷ []) = call_ranged z _ (map_ranged (address_of s v) false (in_space s v))
-row_ranged Map z (Number s ∷ Number v ∷ Unmovable ∷ []) = call_ranged z _ (map_ranged (address_of s v) true (in_space s v))
-row_ranged MapAt z (Number s ∷ Number v ∷ Number f ∷ []) = call_ranged z _ (map_at_ranged (address_of s v) (frame_of f) false (in_space s v))
-row_ranged MapAt z (Number s ∷ Number v ∷ Number f ∷ Unmovable ∷ []) = call_ranged z _ (map_at_ranged (address_of s v) (frame_of f) true (in_space s v))
-row_ranged Store z (Number s ∷ Number v ∷ Number w ∷ Number x ∷ []) = call_ranged z _ (store_ranged (address_of s v) (word_of w) x)
-row_ranged Load z (Number s ∷ Number v ∷ Number w ∷ []) = call_ranged z _ (load_ranged (address_of s v) (word_of w))
+row_ranged Map z (Number s ∷ Number v ∷ []) = zone_call_ranged z _ (map_ranged (address_of s v) false (in_space s v))
+row_ranged Map z (Number s ∷ Number v ∷ Unmovable ∷ []) = zone_call_ranged z _ (map_ranged (address_of s v) true (in_space s v))
+row_ranged MapAt z (Number s ∷ Number v ∷ Number f ∷ []) = zone_call_ranged z _ (map_at_ranged (address_of s v) (frame_of f) false (in_space s v))
+row_ranged MapAt z (Number s ∷ Number v ∷ Number f ∷ Unmovable ∷ []) = zone_call_ranged z _ (map_at_ranged (address_of s v) (frame_of f) true (in_space s v))
+row_ranged Store z (Number s ∷ Number v ∷ Number w ∷ Number x ∷ []) = zone_call_ranged z _ (store_ranged (address_of s v) (word_of w) x)
+row_ranged Load z (Number s ∷ Number v ∷ Number w ∷ []) = zone_call_ranged z _ (load_ranged (address_of s v) (word_of w))
 row_ranged Info z [] = call_ranged z (Some call.Info) tt
 row_ranged Scan z [] = call_ranged z (Some call.Scan) tt
 row_ranged Take z (Number k ∷ []) = call_ranged z _ (hand_ranged call.Take (λ n r. r) k)
 row_ranged Copy z (Number k ∷ []) = call_ranged z _ (hand_ranged call.Copy (λ n r. r) k)
 row_ranged Finish z (Number k ∷ []) = call_ranged z _ (hand_ranged call.Finish (λ n r. r) k)
 row_ranged Shut z [] = call_ranged z (Some call.Shut) tt
-row_ranged Look z (Number s ∷ Number v ∷ []) = call_ranged z _ (at_ranged call.Look (λ a. tt) s v)
-row_ranged Share z (Number s ∷ Number v ∷ Number s2 ∷ Number v2 ∷ []) = call_ranged z _ (share_ranged (address_of s v) (address_of s2 v2) (in_space s2 v2))
-row_ranged Unmap z (Number s ∷ Number v ∷ []) = call_ranged z _ (at_ranged call.Unmap (λ a. tt) s v)
-row_ranged Pin z (Number s ∷ Number v ∷ []) = call_ranged z _ (at_ranged call.Pin (λ a. tt) s v)
-row_ranged Unpin z (Number s ∷ Number v ∷ []) = call_ranged z _ (at_ranged call.Unpin (λ a. tt) s v)
+row_ranged Look z (Number s ∷ Number v ∷ []) = call_ranged z _ (at_ranged IsCallInRange call.Look (λ a. tt) s v)
+row_ranged Share z (Number s ∷ Number v ∷ Number s2 ∷ Number v2 ∷ []) = zone_call_ranged z _ (share_ranged (address_of s v) (address_of s2 v2) (in_space s2 v2))
+row_ranged Unmap z (Number s ∷ Number v ∷ []) = zone_call_ranged z _ (at_ranged IsZoneCallInRange zone_call.Unmap (λ a. tt) s v)
+row_ranged Pin z (Number s ∷ Number v ∷ []) = zone_call_ranged z _ (at_ranged IsZoneCallInRange zone_call.Pin (λ a. tt) s v)
+row_ranged Unpin z (Number s ∷ Number v ∷ []) = zone_call_ranged z _ (at_ranged IsZoneCallInRange zone_call.Unpin (λ a. tt) s v)
 row_ranged Huge z [] = call_ranged z (Some call.Huge) tt
-row_ranged Give z (Number b ∷ []) = call_ranged z _ (mapped_ranged (λ n. ⊤) call.Give (λ n r. tt) (pageblock_of b) (any (pageblock_of b)))
+row_ranged Give z (Number b ∷ []) = call_ranged z _ (mapped_ranged (λ n. ⊤) IsCallInRange call.Give (λ n r. tt) (pageblock_of b) (any (pageblock_of b)))
 row_ranged Fill z (Number s ∷ Number v ∷ Number n ∷ []) = series_ranged z _
 row_ranged Thin z (Number s ∷ Number v ∷ Number n ∷ Number step ∷ []) = series_ranged z _
 row_ranged Compact z [] = compacting_ranged z
@@ -168,10 +174,10 @@ row_ranged _ z _ = tt
 -- the commands of the rows that only one profile has are in range
 row_of_profile_2_ranged : (keyword : Token) (z : Option ℕ) (arguments : List Token) → IfSome (row_of_profile_2 keyword z arguments) IsInRange
 row_of_profile_2_ranged Info z [] = call_ranged z (Some call.InfoWithHeld) tt
-row_of_profile_2_ranged Huge z (Number k ∷ []) = call_ranged z _ (mapped_ranged (λ n. (3 ≤ n) × (n ≤ 9)) call.TakeOrder (λ n r. r) (order_of k) (between 3 9 k (nat_le 3 k && nat_le k 9) refl))
-row_of_profile_2_ranged Give z (Number f ∷ Number k ∷ []) = call_ranged z _ (give_ranged (frame_of f) (order_of k))
-row_of_profile_2_ranged Mark z (Number b ∷ []) = call_ranged z _ (mapped_ranged (λ n. ⊤) call.Mark (λ n r. tt) (pageblock_of b) (any (pageblock_of b)))
-row_of_profile_2_ranged Unmark z (Number b ∷ []) = call_ranged z _ (mapped_ranged (λ n. ⊤) call.Unmark (λ n r. tt) (pageblock_of b) (any (pageblock_of b)))
+row_of_profile_2_ranged Huge z (Number k ∷ []) = zone_call_ranged z _ (mapped_ranged (λ n. (3 ≤ n) × (n ≤ 9)) IsZoneCallInRange zone_call.TakeOrder (λ n r. r) (order_of k) (between 3 9 k (nat_le 3 k && nat_le k 9) refl))
+row_of_profile_2_ranged Give z (Number f ∷ Number k ∷ []) = zone_call_ranged z _ (give_ranged (frame_of f) (order_of k))
+row_of_profile_2_ranged Mark z (Number b ∷ []) = zone_call_ranged z _ (mapped_ranged (λ n. ⊤) IsZoneCallInRange zone_call.Mark (λ n r. tt) (pageblock_of b) (any (pageblock_of b)))
+row_of_profile_2_ranged Unmark z (Number b ∷ []) = zone_call_ranged z _ (mapped_ranged (λ n. ⊤) IsZoneCallInRange zone_call.Unmark (λ n r. tt) (pageblock_of b) (any (pageblock_of b)))
 row_of_profile_2_ranged Pool z (Number n ∷ Number k ∷ []) = pooling_ranged z (blocks_of n) _ (of_order_ranged (order_of k) (between 3 9 k (nat_le 3 k && nat_le k 9) refl))
 row_of_profile_2_ranged _ z _ = tt
 

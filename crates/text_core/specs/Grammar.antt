@@ -2,6 +2,8 @@
 use Rattle.std.specs.Prelude.{ℕ, Bool, true, false, ◌&&◌, List, [], ◌∷◌, nat_lt, nat_le, Option, Some, None, option_map, if◌then◌else◌, nat_eq}
 use Rattle.std.specs.Option.{option_or}
 use Rattle.frame_core.specs.declared.place.Address.{Address}
+use Rattle.state_core.specs.declared.call.ZoneCall.{ZoneCall}
+use Rattle.state_core.specs.declared.call.ZoneCall.TheVariants as zone_call
 use Rattle.text_core.specs.declared.token.Token.{Token}
 use Rattle.text_core.specs.declared.token.Token.TheVariants.{Number, Zone, Map, MapAt, Store, Load, Info, Unmovable, Scan, Take, Copy, Finish, Shut, Look, Share, Unmap, Pin, Unpin, Huge, Give, Fill, Thin, Mark, Unmark, Compact, Pool, During, End}
 use Rattle.text_core.specs.declared.command.Call.{Call}
@@ -9,9 +11,7 @@ use Rattle.text_core.specs.declared.command.Call.TheVariants as call
 use Rattle.text_core.specs.declared.command.BlockLine.{BlockLine}
 use Rattle.text_core.specs.declared.command.BlockLine.TheVariants as block_line
 use Rattle.text_core.specs.declared.command.Calls.{Calls}
-use Rattle.text_core.specs.declared.command.Calls.TheVariants.{One, Series as SeriesOf}
-use Rattle.text_core.specs.declared.command.ClientCall.{ClientCall}
-use Rattle.text_core.specs.declared.command.ClientCall.TheVariants as client
+use Rattle.text_core.specs.declared.command.Calls.TheVariants.{Zone as OfZone, One, Series as SeriesOf}
 use Rattle.text_core.specs.declared.command.Series.{Series}
 use Rattle.text_core.specs.declared.command.Repeated.{Repeated}
 use Rattle.text_core.specs.declared.command.Repeated.TheVariants as repeated
@@ -71,33 +71,33 @@ abbrev pub address_of : ℕ → ℕ → Option Address
 address_of s v = if nat_lt s 8 && nat_lt v 4096 then Some (record { space = s; vpage = v }) else None
 
 -- a map, where its address is in range
-abbrev pub map_call : Option Address → Bool → Option Call
-map_call (Some a) unmovable = Some (call.Map a unmovable)
+abbrev pub map_call : Option Address → Bool → Option (ZoneCall 8)
+map_call (Some a) unmovable = Some (zone_call.Map a unmovable)
 map_call None unmovable = None
 
 -- a map into a frame, where its address and its frame are in range
-abbrev pub map_at_call : Option Address → Option ℕ → Bool → Option Call
-map_at_call (Some a) (Some f) unmovable = Some (call.MapAt a f unmovable)
+abbrev pub map_at_call : Option Address → Option ℕ → Bool → Option (ZoneCall 8)
+map_at_call (Some a) (Some f) unmovable = Some (zone_call.MapAt a unmovable f)
 map_at_call _ _ unmovable = None
 
 -- a store, where its address and its word are in range
-abbrev pub store_call : Option Address → Option ℕ → ℕ → Option Call
-store_call (Some a) (Some w) value = Some (call.Store a w value)
+abbrev pub store_call : Option Address → Option ℕ → ℕ → Option (ZoneCall 8)
+store_call (Some a) (Some w) value = Some (zone_call.Store a w value)
 store_call _ _ value = None
 
 -- a load, where its address and its word are in range
-abbrev pub load_call : Option Address → Option ℕ → Option Call
-load_call (Some a) (Some w) = Some (call.Load a w)
+abbrev pub load_call : Option Address → Option ℕ → Option (ZoneCall 8)
+load_call (Some a) (Some w) = Some (zone_call.Load a w)
 load_call _ _ = None
 
 -- a share, where both of its addresses are in range
-abbrev pub share_call : Option Address → Option Address → Option Call
-share_call (Some a) (Some alias) = Some (call.Share a alias)
+abbrev pub share_call : Option Address → Option Address → Option (ZoneCall 8)
+share_call (Some a) (Some alias) = Some (zone_call.Share a alias)
 share_call _ _ = None
 
 -- the giving back of a block, where its first frame and its order are in range
-abbrev pub give_order_call : Option ℕ → Option ℕ → Option Call
-give_order_call (Some first) (Some order) = Some (call.GiveOrder first order)
+abbrev pub give_order_call : Option ℕ → Option ℕ → Option (ZoneCall 8)
+give_order_call (Some first) (Some order) = Some (zone_call.GiveOrder first order)
 give_order_call _ _ = None
 
 -- a series of calls, where its space and its number of pages are in range; its first page and its step may be any numbers
@@ -129,12 +129,16 @@ calls_on _ _ = OutOfRange
 abbrev pub call_on : Option ℕ → Option Call → Command
 call_on z c = calls_on z (option_map One c)
 
+-- one call that a zone answers by itself, or OutOfRange where an argument is out of its range
+abbrev pub zone_call_on : Option ℕ → Option (ZoneCall 8) → Command
+zone_call_on z c = calls_on z (option_map OfZone c)
+
 -- a series of calls on a zone, or OutOfRange where an argument is out of its range
 abbrev pub series_on : Option ℕ → Option Series → Command
 series_on z s = calls_on z (option_map SeriesOf s)
 
 -- the calls that a client may make: None where there is no such row, Some None where an argument is out of its range
-abbrev pub client_row : Token → List Token → Option (Option Call)
+abbrev pub client_row : Token → List Token → Option (Option (ZoneCall 8))
 client_row Map (Number s ∷ Number v ∷ []) = Some (map_call (address_of s v) false)
 client_row Map (Number s ∷ Number v ∷ Unmovable ∷ []) = Some (map_call (address_of s v) true)
 client_row MapAt (Number s ∷ Number v ∷ Number f ∷ []) = Some (map_at_call (address_of s v) (frame_of f) false)
@@ -142,9 +146,9 @@ client_row MapAt (Number s ∷ Number v ∷ Number f ∷ Unmovable ∷ []) = Som
 client_row Store (Number s ∷ Number v ∷ Number w ∷ Number x ∷ []) = Some (store_call (address_of s v) (word_of w) x)
 client_row Load (Number s ∷ Number v ∷ Number w ∷ []) = Some (load_call (address_of s v) (word_of w))
 client_row Share (Number s ∷ Number v ∷ Number s2 ∷ Number v2 ∷ []) = Some (share_call (address_of s v) (address_of s2 v2))
-client_row Unmap (Number s ∷ Number v ∷ []) = Some (option_map call.Unmap (address_of s v))
-client_row Pin (Number s ∷ Number v ∷ []) = Some (option_map call.Pin (address_of s v))
-client_row Unpin (Number s ∷ Number v ∷ []) = Some (option_map call.Unpin (address_of s v))
+client_row Unmap (Number s ∷ Number v ∷ []) = Some (option_map zone_call.Unmap (address_of s v))
+client_row Pin (Number s ∷ Number v ∷ []) = Some (option_map zone_call.Pin (address_of s v))
+client_row Unpin (Number s ∷ Number v ∷ []) = Some (option_map zone_call.Unpin (address_of s v))
 client_row _ _ = None
 
 -- the command that a keyword, a zone and the arguments after it make by the rows that both profiles have, if there is such a row
@@ -165,15 +169,15 @@ row_of Thin z (Number s ∷ Number v ∷ Number n ∷ Number step ∷ []) =
     Some (series_on z (series_of repeated.Unmap (space_of s) v (page_count_of n) step))
 row_of Compact z [] = Some (compacting z)
 row_of Pool z (Number n ∷ []) = Some (pooling z (blocks_of n) (Some Pageblocks))
-row_of keyword z arguments = option_map (λ c. call_on z c) (client_row keyword arguments)
+row_of keyword z arguments = option_map (λ c. zone_call_on z c) (client_row keyword arguments)
 
 -- the command that they make by the rows that only profile 2 has, if there is such a row
 abbrev pub row_of_profile_2 : Token → Option ℕ → List Token → Option Command
 row_of_profile_2 Info z [] = Some (call_on z (Some call.InfoWithHeld))
-row_of_profile_2 Huge z (Number k ∷ []) = Some (call_on z (option_map call.TakeOrder (order_of k)))
-row_of_profile_2 Give z (Number f ∷ Number k ∷ []) = Some (call_on z (give_order_call (frame_of f) (order_of k)))
-row_of_profile_2 Mark z (Number b ∷ []) = Some (call_on z (option_map call.Mark (pageblock_of b)))
-row_of_profile_2 Unmark z (Number b ∷ []) = Some (call_on z (option_map call.Unmark (pageblock_of b)))
+row_of_profile_2 Huge z (Number k ∷ []) = Some (zone_call_on z (option_map zone_call.TakeOrder (order_of k)))
+row_of_profile_2 Give z (Number f ∷ Number k ∷ []) = Some (zone_call_on z (give_order_call (frame_of f) (order_of k)))
+row_of_profile_2 Mark z (Number b ∷ []) = Some (zone_call_on z (option_map zone_call.Mark (pageblock_of b)))
+row_of_profile_2 Unmark z (Number b ∷ []) = Some (zone_call_on z (option_map zone_call.Unmark (pageblock_of b)))
 row_of_profile_2 Pool z (Number n ∷ Number k ∷ []) = Some (pooling z (blocks_of n) (option_map OfOrder (order_of k)))
 row_of_profile_2 _ z _ = None
 
@@ -196,26 +200,9 @@ abbrev pub command_of : Profile → List Token → Option Command
 command_of profile (keyword ∷ Number z ∷ arguments) = option_or (row_in profile keyword (zone_of z) arguments) (during_row keyword z arguments)
 command_of profile _ = None
 
--- the same call of a client, if a client may make it
-abbrev pub as_client : Call → Option ClientCall
-as_client (call.Map a unmovable) = Some (client.Map a unmovable)
-as_client (call.MapAt a frame unmovable) = Some (client.MapAt a frame unmovable)
-as_client (call.Store a word value) = Some (client.Store a word value)
-as_client (call.Load a word) = Some (client.Load a word)
-as_client (call.Share a alias) = Some (client.Share a alias)
-as_client (call.Unmap a) = Some (client.Unmap a)
-as_client (call.Pin a) = Some (client.Pin a)
-as_client (call.Unpin a) = Some (client.Unpin a)
-as_client _ = None
-
--- the same call of a client, if there is a call and a client may make it
-abbrev pub client_of : Option Call → Option ClientCall
-client_of (Some c) = as_client c
-client_of None = None
-
 -- what tokens say in a block for the zone with this number, if they say something there: its end, or a client's call on that zone
 abbrev pub block_line_of : ℕ → List Token → Option BlockLine
 block_line_of zone (End ∷ []) = Some block_line.End
 block_line_of zone (keyword ∷ Number z ∷ arguments) =
-    if nat_eq z zone then option_map block_line.Client (option_map client_of (client_row keyword arguments)) else None
+    if nat_eq z zone then option_map block_line.Client (client_row keyword arguments) else None
 block_line_of zone _ = None

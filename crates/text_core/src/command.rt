@@ -1,10 +1,8 @@
-ghost use Rattle.std.specs.Prelude.{◌≡◌};
-ghost use Rattle.text_core.specs.Grammar.{as_client};
-
 use crate::blocks::BlockCount;
 use crate::pages::PageCount;
 use crate::pool::PoolBlocks;
-use frame_core::{Address, BlockNo, FrameNo, HandNo, Order, SpaceNo, WordNo, ZoneNo};
+use frame_core::{Address, BlockNo, HandNo, SpaceNo, ZoneNo};
+use state_core::{ClientCall, ZoneCall};
 
 /// A command of a script.
 #[derive(Clone, Copy, Debug, PartialEq, Eq)]
@@ -42,6 +40,9 @@ pub enum Command {
 /// The calls of one command.
 #[derive(Clone, Copy, Debug, PartialEq, Eq)]
 pub enum Calls {
+    /// A call that the zone answers by itself.
+    Zone(ZoneCall),
+    /// Another call.
     One(Call),
     Series(Series),
 }
@@ -65,117 +66,22 @@ pub enum Repeated {
     Unmap,
 }
 
-/// A call on a zone.
+/// A call on a zone that isn't a `ZoneCall`.
 #[derive(Clone, Copy, Debug, PartialEq, Eq)]
 pub enum Call {
-    Map {
-        address: Address,
-        unmovable: bool,
-    },
-    MapAt {
-        address: Address,
-        frame: FrameNo,
-        unmovable: bool,
-    },
-    Store {
-        address: Address,
-        word: WordNo,
-        value: u64,
-    },
-    Load {
-        address: Address,
-        word: WordNo,
-    },
     Info,
+    /// As `Info`, with the number of frames that are handed out.
+    InfoWithHeld,
     Scan,
     Take(HandNo),
     Copy(HandNo),
     Finish(HandNo),
     Shut,
     Look(Address),
-    Share {
-        address: Address,
-        alias: Address,
-    },
-    Unmap(Address),
-    Pin(Address),
-    Unpin(Address),
+    /// Hands out a pageblock, which the reply names by its number.
     Huge,
+    /// Takes a pageblock back, by its number.
     Give(BlockNo),
-    /// As `Info`, with the number of frames that are handed out.
-    InfoWithHeld,
-    TakeOrder(Order),
-    GiveOrder {
-        first: FrameNo,
-        order: Order,
-    },
-    Mark(BlockNo),
-    Unmark(BlockNo),
-}
-
-impl Call {
-    /// The same call of a client, if a client may make it.
-    pub(crate) fn as_client(self) -> Option<ClientCall>
-        ensures { result ≡ as_client self }
-    {
-        Some(match self {
-            Call::Map { address, unmovable } => ClientCall::Map { address, unmovable },
-            Call::MapAt {
-                address,
-                frame,
-                unmovable,
-            } => ClientCall::MapAt {
-                address,
-                frame,
-                unmovable,
-            },
-            Call::Store {
-                address,
-                word,
-                value,
-            } => ClientCall::Store {
-                address,
-                word,
-                value,
-            },
-            Call::Load { address, word } => ClientCall::Load { address, word },
-            Call::Share { address, alias } => ClientCall::Share { address, alias },
-            Call::Unmap(address) => ClientCall::Unmap(address),
-            Call::Pin(address) => ClientCall::Pin(address),
-            Call::Unpin(address) => ClientCall::Unpin(address),
-            _ => return None,
-        })
-    }
-}
-
-/// A call that a client makes while a round runs.
-#[derive(Clone, Copy, Debug, PartialEq, Eq)]
-pub enum ClientCall {
-    Map {
-        address: Address,
-        unmovable: bool,
-    },
-    MapAt {
-        address: Address,
-        frame: FrameNo,
-        unmovable: bool,
-    },
-    Store {
-        address: Address,
-        word: WordNo,
-        value: u64,
-    },
-    Load {
-        address: Address,
-        word: WordNo,
-    },
-    Share {
-        address: Address,
-        alias: Address,
-    },
-    Unmap(Address),
-    Pin(Address),
-    Unpin(Address),
 }
 
 /// What a line of a block says.

@@ -3,16 +3,18 @@
 
 ghost use Rattle.std.specs.Prelude.{◌≡◌, option_map};
 ghost use Rattle.text_core.specs.Token.{tokens};
-ghost use Rattle.text_core.specs.Grammar.{client_of, client_row, address_of, blocks_of, command_of, compacting, frame_of, give_order_call, order_of, row_in, row_of_profile_2, own_row, hand_of, load_call, map_at_call, map_call, call_on, calls_on, opening, page_count_of, pageblock_of, pooling, row_of, series_of, series_on, share_call, space_of, store_call, word_of, zone_of, block_line_of, during_row};
+ghost use Rattle.state_core.specs.declared.call.ZoneCall.TheVariants as zone_call;
+ghost use Rattle.text_core.specs.Grammar.{client_row, address_of, blocks_of, command_of, compacting, frame_of, give_order_call, order_of, row_in, row_of_profile_2, own_row, hand_of, load_call, map_at_call, map_call, call_on, zone_call_on, opening, page_count_of, pageblock_of, pooling, row_of, series_of, series_on, share_call, space_of, store_call, word_of, zone_of, block_line_of, during_row};
 
 use crate::arguments::{four, one, three, three_and_flag, two, two_and_flag};
 use crate::blocks::BlockCount;
-use crate::command::{BlockLine, Call, Calls, ClientCall, Command, Repeated, Series};
+use crate::command::{BlockLine, Call, Calls, Command, Repeated, Series};
 use crate::pages::PageCount;
 use crate::pool::PoolBlocks;
 use crate::profile::Profile;
 use crate::token::{Token, first_number, is_end, leading_token};
 use frame_core::{Address, BlockNo, FrameNo, HandNo, Order, SpaceNo, VPage, WordNo, ZoneNo};
+use state_core::{ClientCall, ZoneCall};
 
 /// The command that a text is, or begins, if it is one.
 pub(crate) fn command(profile: Profile, text: &[u8]) -> Option<Command>
@@ -47,19 +49,10 @@ pub(crate) fn block_line(zone: u64, text: &[u8]) -> Option<BlockLine>
     }
     let (number, arguments) = first_number(behind)?;
     if number == zone {
-        client_row(keyword, arguments)
-            .map(client_of)
-            .map(BlockLine::Client)
+        client_row(keyword, arguments).map(BlockLine::Client)
     } else {
         None
     }
-}
-
-/// The same call of a client, if there is a call and a client may make it.
-fn client_of(call: Option<Call>) -> Option<ClientCall>
-    ensures { result ≡ client_of call }
-{
-    call?.as_client()
 }
 
 /// The command that a keyword, the number of a zone and the arguments after it make, if the profile has such a row.
@@ -89,13 +82,13 @@ fn row_of_profile_2(keyword: Token, zone: Option<ZoneNo>, arguments: &[u8]) -> O
     use Token::{Give, Huge, Info, Mark, Pool, Unmark};
     match keyword {
         Info if is_end(arguments) => Some(on(zone, Some(Call::InfoWithHeld))),
-        Huge => Some(on(zone, order(one(arguments)?).map(Call::TakeOrder))),
+        Huge => Some(zone_on(zone, take_order(order(one(arguments)?)))),
         Give => {
             let (f, k) = two(arguments)?;
-            Some(on(zone, give_order(frame(f), order(k))))
+            Some(zone_on(zone, give_order(frame(f), order(k))))
         }
-        Mark => Some(on(zone, pageblock(one(arguments)?).map(Call::Mark))),
-        Unmark => Some(on(zone, pageblock(one(arguments)?).map(Call::Unmark))),
+        Mark => Some(zone_on(zone, mark(pageblock(one(arguments)?)))),
+        Unmark => Some(zone_on(zone, unmark(pageblock(one(arguments)?)))),
         Pool => {
             let (n, k) = two(arguments)?;
             Some(pool(zone, blocks(n), order(k).map(PoolBlocks::OfOrder)))
@@ -139,18 +132,25 @@ fn row(keyword: Token, zone: Option<ZoneNo>, arguments: &[u8]) -> Option<Command
     }
 }
 
-/// A call on a zone, made from a row, if there is a row.
+/// A client's call on a zone, made from a row, if there is a row.
 #[inline(always)]
-fn on_row(zone: Option<ZoneNo>, row: Option<Option<Call>>) -> Option<Command>
-    ensures { result ≡ option_map (λ c. call_on zone c) row }
+fn on_row(zone: Option<ZoneNo>, row: Option<Option<ClientCall>>) -> Option<Command>
+    ensures { result ≡ option_map (λ c. zone_call_on zone c) row }
 {
-    Some(on(zone, row?))
+    Some(zone_on(zone, zone_call(row?)))
+}
+
+/// A client's call as a call of a zone.
+fn zone_call(call: Option<ClientCall>) -> Option<ZoneCall>
+    ensures { result ≡ call }
+{
+    Some(call?.get())
 }
 
 /// The call that a client's keyword and the arguments after its zone make, if there is such a row; it has no call where
 /// an argument is out of its range.
 #[inline(always)]
-fn client_row(keyword: Token, arguments: &[u8]) -> Option<Option<Call>>
+fn client_row(keyword: Token, arguments: &[u8]) -> Option<Option<ClientCall>>
     ensures { result ≡ client_row keyword (tokens arguments.now) }
 {
     use Token::{Load, Map, MapAt, Pin, Share, Store, Unmap, Unpin};
@@ -177,15 +177,15 @@ fn client_row(keyword: Token, arguments: &[u8]) -> Option<Option<Call>>
         }
         Unmap => {
             let (s, v) = two(arguments)?;
-            Some(address(s, v).map(Call::Unmap))
+            Some(unmap(address(s, v)))
         }
         Pin => {
             let (s, v) = two(arguments)?;
-            Some(address(s, v).map(Call::Pin))
+            Some(pin(address(s, v)))
         }
         Unpin => {
             let (s, v) = two(arguments)?;
-            Some(address(s, v).map(Call::Unpin))
+            Some(unpin(address(s, v)))
         }
         _ => None,
     }
@@ -314,7 +314,27 @@ fn pool(zone: Option<ZoneNo>, count: Option<BlockCount>, blocks: Option<PoolBloc
 fn on(zone: Option<ZoneNo>, call: Option<Call>) -> Command
     ensures { result ≡ call_on zone call }
 {
-    all_on(zone, call.map(Calls::One))
+    match (zone, call) {
+        (Some(zone), Some(call)) => Command::On {
+            zone,
+            calls: Calls::One(call),
+        },
+        _ => Command::OutOfRange,
+    }
+}
+
+/// A call that a zone answers by itself, or `OutOfRange` where an argument is out of its range.
+#[inline(always)]
+fn zone_on(zone: Option<ZoneNo>, call: Option<ZoneCall>) -> Command
+    ensures { result ≡ zone_call_on zone call }
+{
+    match (zone, call) {
+        (Some(zone), Some(call)) => Command::On {
+            zone,
+            calls: Calls::Zone(call),
+        },
+        _ => Command::OutOfRange,
+    }
 }
 
 /// A series of calls on a zone, or `OutOfRange` where an argument that is tested before the first call is out of its range.
@@ -322,73 +342,105 @@ fn on(zone: Option<ZoneNo>, call: Option<Call>) -> Command
 fn series_on(zone: Option<ZoneNo>, series: Option<Series>) -> Command
     ensures { result ≡ series_on zone series }
 {
-    all_on(zone, series.map(Calls::Series))
-}
-
-#[inline(always)]
-fn all_on(zone: Option<ZoneNo>, calls: Option<Calls>) -> Command
-    ensures { result ≡ calls_on zone calls }
-{
-    match (zone, calls) {
-        (Some(zone), Some(calls)) => Command::On { zone, calls },
+    match (zone, series) {
+        (Some(zone), Some(series)) => Command::On {
+            zone,
+            calls: Calls::Series(series),
+        },
         _ => Command::OutOfRange,
     }
 }
 
-fn map(address: Option<Address>, unmovable: bool) -> Option<Call>
+fn map(address: Option<Address>, unmovable: bool) -> Option<ClientCall>
     ensures { result ≡ map_call address unmovable }
 {
-    Some(Call::Map {
+    ClientCall::new(ZoneCall::Map {
         address: address?,
         unmovable,
     })
 }
 
-fn map_at(address: Option<Address>, frame: Option<FrameNo>, unmovable: bool) -> Option<Call>
+fn map_at(address: Option<Address>, frame: Option<FrameNo>, unmovable: bool) -> Option<ClientCall>
     ensures { result ≡ map_at_call address frame unmovable }
 {
-    Some(Call::MapAt {
+    ClientCall::new(ZoneCall::MapAt {
         address: address?,
-        frame: frame?,
         unmovable,
+        frame: frame?,
     })
 }
 
-fn store(address: Option<Address>, word: Option<WordNo>, value: u64) -> Option<Call>
+fn store(address: Option<Address>, word: Option<WordNo>, value: u64) -> Option<ClientCall>
     ensures { result ≡ store_call address word value }
 {
-    Some(Call::Store {
+    ClientCall::new(ZoneCall::Store {
         address: address?,
         word: word?,
         value,
     })
 }
 
-fn load(address: Option<Address>, word: Option<WordNo>) -> Option<Call>
+fn load(address: Option<Address>, word: Option<WordNo>) -> Option<ClientCall>
     ensures { result ≡ load_call address word }
 {
-    Some(Call::Load {
+    ClientCall::new(ZoneCall::Load {
         address: address?,
         word: word?,
     })
 }
 
-fn share(address: Option<Address>, alias: Option<Address>) -> Option<Call>
+fn share(address: Option<Address>, alias: Option<Address>) -> Option<ClientCall>
     ensures { result ≡ share_call address alias }
 {
-    Some(Call::Share {
+    ClientCall::new(ZoneCall::Share {
         address: address?,
         alias: alias?,
     })
 }
 
-fn give_order(first: Option<FrameNo>, order: Option<Order>) -> Option<Call>
+fn unmap(address: Option<Address>) -> Option<ClientCall>
+    ensures { result ≡ option_map zone_call.Unmap address }
+{
+    ClientCall::new(ZoneCall::Unmap { address: address? })
+}
+
+fn pin(address: Option<Address>) -> Option<ClientCall>
+    ensures { result ≡ option_map zone_call.Pin address }
+{
+    ClientCall::new(ZoneCall::Pin { address: address? })
+}
+
+fn unpin(address: Option<Address>) -> Option<ClientCall>
+    ensures { result ≡ option_map zone_call.Unpin address }
+{
+    ClientCall::new(ZoneCall::Unpin { address: address? })
+}
+
+fn take_order(order: Option<Order>) -> Option<ZoneCall>
+    ensures { result ≡ option_map zone_call.TakeOrder order }
+{
+    Some(ZoneCall::TakeOrder { order: order? })
+}
+
+fn give_order(first: Option<FrameNo>, order: Option<Order>) -> Option<ZoneCall>
     ensures { result ≡ give_order_call first order }
 {
-    Some(Call::GiveOrder {
+    Some(ZoneCall::GiveOrder {
         first: first?,
         order: order?,
     })
+}
+
+fn mark(block: Option<BlockNo>) -> Option<ZoneCall>
+    ensures { result ≡ option_map zone_call.Mark block }
+{
+    Some(ZoneCall::Mark { block: block? })
+}
+
+fn unmark(block: Option<BlockNo>) -> Option<ZoneCall>
+    ensures { result ≡ option_map zone_call.Unmark block }
+{
+    Some(ZoneCall::Unmark { block: block? })
 }
 
 fn series(

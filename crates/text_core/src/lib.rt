@@ -17,7 +17,7 @@ mod reply;
 mod token;
 
 pub use blocks::BlockCount;
-pub use command::{BlockLine, Call, Calls, ClientCall, Command, Repeated, Series};
+pub use command::{BlockLine, Call, Calls, Command, Repeated, Series};
 pub use error::ScriptError;
 pub use grammar::zone as zone_of;
 pub use line::{read_block_line, read_line};

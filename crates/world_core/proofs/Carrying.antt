@@ -1,20 +1,21 @@
 -- What a world carries stays its own when its zone changes.
-use Rattle.std.proofs.Common.{◌≡◌, ◌≢◌, ℕ, zero, suc, ◌+◌, ◌*◌, ◌<◌, Bool, true, false, not, List, [], ◌∷◌, ◌++◌, length, ◌⊎◌, inl, inr, refl, sym, ap, subst, ◌∙◌, arith}
-use Rattle.std.specs.Prelude.{Option, Some, None, IsSome, Result, Ok, Err, IfOk, OnOk, OnErr, map as each, replicate, slice_get, slice_set, unwrap_or, nat_eq, nat_lt, is_some, if◌then◌else◌}
+use Rattle.std.proofs.Common.{◌≡◌, ◌≢◌, ℕ, zero, suc, ◌+◌, ◌*◌, ◌<◌, Bool, true, false, cond, not, List, [], ◌∷◌, ◌++◌, length, ◌⊎◌, inl, inr, refl, sym, ap, subst, ◌∙◌, arith}
+use Rattle.std.specs.Prelude.{Option, Some, None, IsSome, is_none, Result, Ok, Err, IfOk, OnOk, OnErr, map as each, replicate, slice_get, slice_set, unwrap_or, nat_eq, nat_lt, is_some, if◌then◌else◌}
 use Rattle.std.specs.FinMap as map
 use Rattle.std.specs.List.{list_any}
 use Rattle.std.specs.Option.{option_or}
-use Rattle.std.proofs.lemmas.Bool.{eq-eqb, ltb-true, or_left, or_right}
+use Rattle.std.proofs.lemmas.Bool.{eq-eqb, ltb-true, not-false, or_left, or_right}
 use Rattle.std.proofs.lemmas.Bool.Decides.{eqb_tells}
 use Rattle.std.proofs.lemmas.List.{length-set, map-set, length-map}
 use Rattle.std.proofs.lemmas.Option.{slice_get_within}
 use Rattle.frame_core.proofs.Lists.{slice_get_set_same, slice_get_set_other}
 use Rattle.frame_core.specs.declared.place.Address.{Address}
 use Rattle.journal_core.specs.History.{page_at}
-use Rattle.journal_core.specs.declared.record.Record.TheVariants.{Unmap}
 use Rattle.journal_core.specs.Moves.{isolated, out}
 use Rattle.word_core.specs.Page.{OnItsWay}
 use Rattle.word_core.specs.Serials.{serials_of}
+use Rattle.state_core.specs.declared.call.ZoneCall.{ZoneCall}
+use Rattle.state_core.specs.declared.call.ZoneCall.TheVariants.{Map, MapAt, Load, Store, Share, Unmap, Pin, Unpin, TakeOrder, GiveOrder, Mark, Unmark}
 use Rattle.state_core.specs.declared.error.ZoneError.{ZoneError}
 use Rattle.state_core.specs.declared.error.ZoneError.TheVariants.{Range, JournalFull, Occupied, NoFrame}
 use Rattle.world_core.specs.declared.hand.Hand.TheVariants as hand
@@ -32,22 +33,17 @@ use Rattle.state_core.specs.Rounds.{round_begun}
 use Rattle.state_core.specs.Isolating.{isolate_refusal, isolated_next, next_answer, next_state, Scans}
 use Rattle.zone_core.specs.Seats.{ScanSeat, EndSeat, seat_begun, seat_noted}
 use Rattle.std.specs.Result.{result_err}
-use Rattle.state_core.specs.Access.{placement_refusal, access_refusal}
+use Rattle.state_core.specs.Access.{placement_refusal, access_refusal, loaded, stored}
+use Rattle.state_core.specs.Calls.{refusal_of, after}
 use Rattle.state_core.specs.Bulk.{has_room_for, bulk_refusal, loaded_all, stored_all}
-use Rattle.state_core.specs.Mapping.{map_at_refusal}
-use Rattle.state_core.specs.Mapping.{mapped, placed}
-use Rattle.state_core.specs.Access.{loaded, stored}
-use Rattle.state_core.specs.Sharing.{shared}
-use Rattle.state_core.specs.Unmapping.{is_last, unmap_refusal, unmapped, without_page}
-use Rattle.state_core.specs.Pinning.{pinned, unpinned}
-use Rattle.state_core.specs.HandingOut.{block_taken, block_given}
-use Rattle.state_core.specs.Marking.{block_marked, block_unmarked}
+use Rattle.state_core.specs.Mapping.{map_refusal, map_at_refusal, mapped, placed}
+use Rattle.state_core.specs.Unmapping.{is_last}
+use Rattle.state_core.specs.HandingOut.{block_taken}
 use Rattle.world_core.specs.World.{WorldState, IsOrderly, isolated_by}
-use Rattle.state_core.specs.ZoneState.{ZoneState, frame_count, has_room, is_free, placement_at, lowest_free_frame, lowest_unused_page, noted}
-use Rattle.state_core.proofs.Accessed.{lawful_loaded, lawful_stored}
+use Rattle.state_core.specs.ZoneState.{ZoneState, frame_count, has_room, is_free, placement_at, lowest_free_frame, lowest_unused_page}
 use Rattle.state_core.proofs.Finding.{some_lowest, unused_left, unused_is}
 use Rattle.state_core.proofs.Carried.{own_begun, own_loaded, own_stored, own_placed, own_isolated, own_fresh, own_shared, own_unmapped, own_pinned, own_unpinned, own_block_taken, own_block_given, own_marked, own_unmarked}
-use Rattle.state_core.proofs.Facts.{spare, not_none}
+use Rattle.state_core.proofs.Facts.{not_none}
 use Rattle.world_core.proofs.Orderly.{orderly_with_zone, orderly_round_opened, orderly_noted, orderly_isolated}
 
 -- Lists of what hands hold
@@ -229,9 +225,10 @@ module _ (zone next : ZoneState) (scan : ScanSeat) (ends : EndSeat) (is_open : B
       omega (arith, was.room, was.orderly.few.0, was.orderly.few.1, length-map list (λ (q : OnItsWay). q.serial), scans.pair.from.low, scans.pair.to.low, scans.pair.to.high)
 
 -- Calls of the zone that leave moving pages as they are.
-room_then : (b : Bool) (o : Option ZoneError) → (if not b then Some JournalFull else o) ≡ None → (b ≡ true) × (o ≡ None)
-room_then true o e = (refl, e)
-room_then false o e = cc
+-- a call that isn't refused passed each test
+passed : (b : Bool) (error : ZoneError) (o : Option ZoneError) → cond b (Some error) o ≡ None → (b ≡ false) × (o ≡ None)
+passed true error o e = cc
+passed false error o e = (refl, e)
 
 at_then : (o : Option Placement) → placement_refusal o ≡ None → (frame : ℕ) × (o ≡ Some (At frame))
 at_then None e = cc
@@ -242,12 +239,29 @@ option_or_none : {A : Type 0} (o other : Option A) → option_or o other ≡ Non
 option_or_none None other e = refl
 option_or_none (Some x) other e = cc
 
-place_then : (a b c d : Bool) → (if not a then Some Range else if not b then Some JournalFull else if c then Some Occupied else if not d then Some NoFrame else None) ≡ None → (a ≡ true) × (d ≡ true)
-place_then false b c d e = cc
-place_then true false c d e = cc
-place_then true true true d e = cc
-place_then true true false false e = cc
-place_then true true false true e = (refl, refl)
+some_if : (o : Option ℕ) → is_none o ≡ false → IsSome o
+some_if None e = cc
+some_if (Some n) e = not_none (Some n) n refl
+
+-- a page that an accepted access finds is in a frame
+pub accessed_at : (z : ZoneState) (address : Address) → access_refusal z address ≡ None → (frame : ℕ) × (placement_at z address ≡ Some (At frame))
+accessed_at z address accepted = let room = passed (not (has_room z)) JournalFull _ accepted in at_then _ room.1
+
+-- an accepted map finds a free frame
+pub frame_left : (z : ZoneState) (address : Address) → map_refusal z address ≡ None → IsSome (lowest_free_frame z)
+frame_left z address accepted =
+    let room = passed (not (has_room z)) JournalFull _ accepted in
+    let vacant = passed (is_some (page_at z.records address)) Occupied _ room.1 in
+    let some = passed (is_none (lowest_free_frame z)) NoFrame _ vacant.1 in
+    some_if _ some.0
+
+pub frame_left_at : (z : ZoneState) (address : Address) (frame : ℕ) → map_at_refusal z address frame ≡ None → IsSome (lowest_free_frame z)
+frame_left_at z address frame accepted =
+    let within = passed (not (nat_lt frame (frame_count z))) Range _ accepted in
+    let room = passed (not (has_room z)) JournalFull _ within.1 in
+    let vacant = passed (is_some (page_at z.records address)) Occupied _ room.1 in
+    let free = passed (not (is_free z frame)) NoFrame _ vacant.1 in
+    some_lowest z frame (not-false _ free.0) (ltb-true _ _ (not-false _ within.0))
 
 -- a call leaves the moving pages and the fingers as they are
 pub record LeavesMoves (zone after : ZoneState) : Type 0 where
@@ -255,155 +269,108 @@ pub record LeavesMoves (zone after : ZoneState) : Type 0 where
   pub migrate : after.migrate ≡ zone.migrate
   pub free : after.free ≡ zone.free
   pub blocks : after.blocks ≡ zone.blocks
-  pub own : (p : OnItsWay) → IsOwnCopy zone p → IsOwnCopy after p
 
-pub leaves_shared : (z : ZoneState) (client : ℕ) (address alias : Address) → LeavesMoves z (shared z client address alias)
-leaves_shared z client address alias = record { same_out = refl; migrate = refl; free = refl; blocks = refl; own = own_shared z client address alias }
+-- an unmap leaves what it leaves whether or not the address was the page's last
+by_last : (P : ZoneState → Type 0) (b : Bool) (gone kept : ZoneState) → P gone → P kept → P (if b then gone else kept)
+by_last P true gone kept last more = last
+by_last P false gone kept last more = more
 
-pub leaves_pinned : (z : ZoneState) (client : ℕ) (address : Address) → LeavesMoves z (pinned z client address)
-leaves_pinned z client address = record { same_out = refl; migrate = refl; free = refl; blocks = refl; own = own_pinned z client address }
+pub call_leaves : {W : ℕ} (call : ZoneCall W) (client : ℕ) (z : ZoneState) → LeavesMoves z (after call client z)
+call_leaves (Unmap address) client z =
+    by_last (LeavesMoves z) (is_last z address) _ _ (record { same_out = refl; migrate = refl; free = refl; blocks = refl }) (record { same_out = refl; migrate = refl; free = refl; blocks = refl })
+call_leaves (Map address unmovable) client z = record { same_out = refl; migrate = refl; free = refl; blocks = refl }
+call_leaves (MapAt address unmovable frame) client z = record { same_out = refl; migrate = refl; free = refl; blocks = refl }
+call_leaves (Load address word) client z = record { same_out = refl; migrate = refl; free = refl; blocks = refl }
+call_leaves (Store address word value) client z = record { same_out = refl; migrate = refl; free = refl; blocks = refl }
+call_leaves (Share address alias) client z = record { same_out = refl; migrate = refl; free = refl; blocks = refl }
+call_leaves (Pin address) client z = record { same_out = refl; migrate = refl; free = refl; blocks = refl }
+call_leaves (Unpin address) client z = record { same_out = refl; migrate = refl; free = refl; blocks = refl }
+call_leaves (TakeOrder order) client z = record { same_out = refl; migrate = refl; free = refl; blocks = refl }
+call_leaves (GiveOrder first order) client z = record { same_out = refl; migrate = refl; free = refl; blocks = refl }
+call_leaves (Mark block) client z = record { same_out = refl; migrate = refl; free = refl; blocks = refl }
+call_leaves (Unmark block) client z = record { same_out = refl; migrate = refl; free = refl; blocks = refl }
 
-pub leaves_unpinned : (z : ZoneState) (client : ℕ) (address : Address) → LeavesMoves z (unpinned z client address)
-leaves_unpinned z client address = record { same_out = refl; migrate = refl; free = refl; blocks = refl; own = own_unpinned z client address }
+-- a copy of a moving page stays the zone's own
+own_mapped : (z : ZoneState) (client : ℕ) (address : Address) (unmovable : Bool) (frame : ℕ) → IsLawful z → IsSome (lowest_free_frame z) → (p : OnItsWay) → IsOwnCopy z p → IsOwnCopy (mapped z client address unmovable frame) p
+own_mapped z client address unmovable frame law free = by_page (lowest_unused_page z) refl where
+  by_page : (o : Option ℕ) → lowest_unused_page z ≡ o → (p : OnItsWay) → IsOwnCopy z p → IsOwnCopy (placed z client address unmovable (unwrap_or o 0) frame) p
+  by_page None none = absurd (unused_left z law free none)
+  by_page (Some page) unused = own_placed z client address unmovable page frame (unused_is z page unused).1
 
-pub leaves_taken : (z : ZoneState) (first order : ℕ) → LeavesMoves z (block_taken z first order)
-leaves_taken z first order = record { same_out = refl; migrate = refl; free = refl; blocks = refl; own = own_block_taken z first order }
-
-pub leaves_given : (z : ZoneState) (first order : ℕ) → LeavesMoves z (block_given z first order)
-leaves_given z first order = record { same_out = refl; migrate = refl; free = refl; blocks = refl; own = own_block_given z first order }
-
-pub leaves_marked : (z : ZoneState) (block : ℕ) → LeavesMoves z (block_marked z block)
-leaves_marked z block = record { same_out = refl; migrate = refl; free = refl; blocks = refl; own = own_marked z block }
-
-pub leaves_unmarked : (z : ZoneState) (block : ℕ) → LeavesMoves z (block_unmarked z block)
-leaves_unmarked z block = record { same_out = refl; migrate = refl; free = refl; blocks = refl; own = own_unmarked z block }
-
-leaves_unmapped : (z : ZoneState) (client : ℕ) (address : Address) (frame : ℕ) → placement_at z address ≡ Some (At frame) → LeavesMoves z (unmapped z client address)
-leaves_unmapped z client address frame at = record {
-  same_out = by_last (λ after. out after.records ≡ out z.records) refl refl;
-  migrate = by_last (λ after. after.migrate ≡ z.migrate) refl refl;
-  free = by_last (λ after. after.free ≡ z.free) refl refl;
-  blocks = by_last (λ after. after.blocks ≡ z.blocks) refl refl;
-  own = own_unmapped z client address frame at;
-} where
-  next : ZoneState
-  next = noted z (Unmap client address)
-
-  ended : ZoneState
-  ended = without_page next (unwrap_or (page_at z.records address) 0)
-
-  by : (b : Bool) (P : ZoneState → Type 0) → P next → P ended → P (if b then ended else next)
-  by true P kept gone = gone
-  by false P kept gone = kept
-
-  by_last : (P : ZoneState → Type 0) → P next → P ended → P (unmapped z client address)
-  by_last P kept gone = by (is_last z address) P kept gone
+own_called : {W : ℕ} (call : ZoneCall W) (client : ℕ) (z : ZoneState) → IsLawful z → refusal_of call z ≡ None → (p : OnItsWay) → IsOwnCopy z p → IsOwnCopy (after call client z) p
+own_called (Map address unmovable) client z law accepted = own_mapped z client address unmovable _ law (frame_left z address accepted)
+own_called (MapAt address unmovable frame) client z law accepted = own_mapped z client address unmovable frame law (frame_left_at z address frame accepted)
+own_called (Load address word) client z law accepted = own_loaded z client address word
+own_called (Store address word value) client z law accepted = let at = accessed_at z address accepted in own_stored z client address word value at.0 at.1
+own_called (Share address alias) client z law accepted = own_shared z client address alias
+own_called (Unmap address) client z law accepted =
+    let room = passed (not (has_room z)) JournalFull _ accepted in
+    let at = at_then _ (option_or_none (placement_refusal (placement_at z address)) _ room.1) in
+    own_unmapped z client address at.0 at.1
+own_called (Pin address) client z law accepted = own_pinned z client address
+own_called (Unpin address) client z law accepted = own_unpinned z client address
+own_called (TakeOrder order) client z law accepted = own_block_taken z _ order
+own_called (GiveOrder first order) client z law accepted = own_block_given z first order
+own_called (Mark block) client z law accepted = own_marked z block
+own_called (Unmark block) client z law accepted = own_unmarked z block
 
 -- words that are read or written in bulk, one after the other
-leaves_read : (z : ZoneState) (client : ℕ) (address : Address) (from count : ℕ) → LeavesMoves z (loaded_all z client address from count)
-leaves_read z client address from zero = record { same_out = refl; migrate = refl; free = refl; blocks = refl; own = λ p own. own }
-leaves_read z client address from (suc count) =
-    let rest = leaves_read (loaded z client address from) client address (from + 1) count in
-    record {
-      same_out = rest.same_out;
-      migrate = rest.migrate;
-      free = rest.free;
-      blocks = rest.blocks;
-      own = λ p own. rest.own p (own_loaded z client address from p own);
-    }
+read_leaves : (z : ZoneState) (client : ℕ) (address : Address) (from count : ℕ) → LeavesMoves z (loaded_all z client address from count)
+read_leaves z client address from zero = record { same_out = refl; migrate = refl; free = refl; blocks = refl }
+read_leaves z client address from (suc count) =
+    let rest = read_leaves (loaded z client address from) client address (from + 1) count in
+    record { same_out = rest.same_out; migrate = rest.migrate; free = rest.free; blocks = rest.blocks }
 
-leaves_written : (z : ZoneState) (client : ℕ) (address : Address) (from : ℕ) (values : List ℕ) (frame : ℕ) → placement_at z address ≡ Some (At frame) → LeavesMoves z (stored_all z client address from values)
-leaves_written z client address from [] frame at = record { same_out = refl; migrate = refl; free = refl; blocks = refl; own = λ p own. own }
-leaves_written z client address from (value ∷ values) frame at =
-    let rest = leaves_written (stored z client address from value) client address (from + 1) values frame at in
-    record {
-      same_out = rest.same_out;
-      migrate = rest.migrate;
-      free = rest.free;
-      blocks = rest.blocks;
-      own = λ p own. rest.own p (own_stored z client address from value frame at p own);
-    }
+own_read : (z : ZoneState) (client : ℕ) (address : Address) (from count : ℕ) (p : OnItsWay) → IsOwnCopy z p → IsOwnCopy (loaded_all z client address from count) p
+own_read z client address from zero p own = own
+own_read z client address from (suc count) p own = own_read (loaded z client address from) client address (from + 1) count p (own_loaded z client address from p own)
 
-bulk_then : (past room : Bool) (o : Option ZoneError) → (if past then Some Range else if not room then Some JournalFull else o) ≡ None → o ≡ None
-bulk_then true room o e = cc
-bulk_then false true o e = e
-bulk_then false false o e = cc
+written_leaves : (z : ZoneState) (client : ℕ) (address : Address) (from : ℕ) (values : List ℕ) → LeavesMoves z (stored_all z client address from values)
+written_leaves z client address from [] = record { same_out = refl; migrate = refl; free = refl; blocks = refl }
+written_leaves z client address from (value ∷ values) =
+    let rest = written_leaves (stored z client address from value) client address (from + 1) values in
+    record { same_out = rest.same_out; migrate = rest.migrate; free = rest.free; blocks = rest.blocks }
+
+own_written : (z : ZoneState) (client : ℕ) (address : Address) (from : ℕ) (values : List ℕ) (frame : ℕ) → placement_at z address ≡ Some (At frame) → (p : OnItsWay) → IsOwnCopy z p → IsOwnCopy (stored_all z client address from values) p
+own_written z client address from [] frame at p own = own
+own_written z client address from (value ∷ values) frame at p own =
+    own_written (stored z client address from value) client address (from + 1) values frame at p (own_stored z client address from value frame at p own)
 
 module _ (zone next : ZoneState) (scan : ScanSeat) (ends : EndSeat) (is_open : Bool) (list : List OnItsWay) (held : List InHand) (capacity : ℕ) (was : IsCarried zone scan ends is_open list held capacity) where
   -- a refused call changes nothing
   unchanged : next ≡ zone → IsCarried next scan ends is_open list held capacity
   unchanged same = subst (λ (v : ZoneState). IsCarried v scan ends is_open list held capacity) (sym same) was
 
-  changed : (after : ZoneState) → next ≡ after → IsLawful after → out after.records ≡ out zone.records → after.migrate ≡ zone.migrate → after.free ≡ zone.free → after.blocks ≡ zone.blocks → ((p : OnItsWay) → IsOwnCopy zone p → IsOwnCopy after p) → IsCarried next scan ends is_open list held capacity
-  changed after is law same_out migrate free blocks own =
+  changed : (after : ZoneState) → next ≡ after → IsLawful next → LeavesMoves zone after → ((p : OnItsWay) → IsOwnCopy zone p → IsOwnCopy after p) → IsCarried next scan ends is_open list held capacity
+  changed after is law leaves own =
       subst (λ (v : ZoneState). IsCarried v scan ends is_open list held capacity) (sym is)
       (carried_with zone after scan ends is_open list held capacity was scan is_open
-      (orderly_with_zone (world_of zone scan ends is_open list held) after was.orderly law (λ serial. ap (list_any (nat_eq serial)) same_out) migrate free blocks) own blocks)
+      (orderly_with_zone (world_of zone scan ends is_open list held) after was.orderly (subst IsLawful is law) (λ serial. ap (list_any (nat_eq serial)) leaves.same_out) leaves.migrate leaves.free leaves.blocks) own leaves.blocks)
 
-  pub carried_loaded : {T : Type 0} (client : ℕ) (address : Address) (word : ℕ) (result : Result T ZoneError) → result_err result ≡ access_refusal zone address → OnErr result (next ≡ zone) → OnOk result (next ≡ loaded zone client address word) → IsCarried next scan ends is_open list held capacity
-  carried_loaded client address word (Err error) refused err ok = unchanged err
-  carried_loaded client address word (Ok value) refused err ok =
-      let room = room_then (has_room zone) (placement_refusal (placement_at zone address)) (sym refused) in
-      let at = at_then (placement_at zone address) room.1 in
-      changed (loaded zone client address word) ok
-      (lawful_loaded zone was.orderly.lawful (spare zone room.0) client address at.0 word at.1)
-      refl refl refl refl (own_loaded zone client address word)
-
-  pub carried_stored : {T : Type 0} (client : ℕ) (address : Address) (word value : ℕ) (result : Result T ZoneError) → result_err result ≡ access_refusal zone address → OnErr result (next ≡ zone) → OnOk result (next ≡ stored zone client address word value) → IsCarried next scan ends is_open list held capacity
-  carried_stored client address word value (Err error) refused err ok = unchanged err
-  carried_stored client address word value (Ok done) refused err ok =
-      let room = room_then (has_room zone) (placement_refusal (placement_at zone address)) (sym refused) in
-      let at = at_then (placement_at zone address) room.1 in
-      changed (stored zone client address word value) ok
-      (lawful_stored zone was.orderly.lawful (spare zone room.0) client address word value)
-      refl refl refl refl (own_stored zone client address word value at.0 at.1)
-
-  carried_placed : (client : ℕ) (address : Address) (unmovable : Bool) (frame : ℕ) → IsSome (lowest_free_frame zone) → IsLawful next → next ≡ mapped zone client address unmovable frame → IsCarried next scan ends is_open list held capacity
-  carried_placed client address unmovable frame free law is = by_page (lowest_unused_page zone) refl where
-    by_page : (o : Option ℕ) → lowest_unused_page zone ≡ o → IsCarried next scan ends is_open list held capacity
-    by_page None none = absurd (unused_left zone was.orderly.lawful free none)
-    by_page (Some page) unused =
-        let fresh : next ≡ placed zone client address unmovable page frame =
-        is ∙ ap (λ (o : Option ℕ). placed zone client address unmovable (unwrap_or o 0) frame) unused in
-        changed (placed zone client address unmovable page frame) fresh (subst IsLawful fresh law)
-        refl refl refl refl (own_placed zone client address unmovable page frame (unused_is zone page unused).1)
+  -- any call, and calls that name the frame that they answer
+  pub carried_call : {T : Type 0} (W : ℕ) (call : ZoneCall W) (client : ℕ) (result : Result T ZoneError) → IsLawful next → result_err result ≡ refusal_of call zone → OnErr result (next ≡ zone) → OnOk result (next ≡ after call client zone) → IsCarried next scan ends is_open list held capacity
+  carried_call W call client (Err error) law refused err ok = unchanged err
+  carried_call W call client (Ok done) law refused err ok =
+      changed (after call client zone) ok law (call_leaves call client zone) (own_called call client zone was.orderly.lawful (sym refused))
 
   pub carried_mapped : (client : ℕ) (address : Address) (unmovable : Bool) (result : Result ℕ ZoneError) → IsLawful next → OnErr result (next ≡ zone) → IfOk result (λ frame. lowest_free_frame zone ≡ Some frame) → IfOk result (λ frame. next ≡ mapped zone client address unmovable frame) → IsCarried next scan ends is_open list held capacity
   carried_mapped client address unmovable (Err error) law err lowest ok = unchanged err
-  carried_mapped client address unmovable (Ok frame) law err lowest ok = carried_placed client address unmovable frame (not_none _ frame lowest) law ok
+  carried_mapped client address unmovable (Ok frame) law err lowest ok =
+      changed (mapped zone client address unmovable frame) ok law (record { same_out = refl; migrate = refl; free = refl; blocks = refl }) (own_mapped zone client address unmovable frame was.orderly.lawful (not_none _ frame lowest))
 
-  pub carried_mapped_at : {T : Type 0} (client : ℕ) (address : Address) (unmovable : Bool) (frame : ℕ) (result : Result T ZoneError) → IsLawful next → result_err result ≡ map_at_refusal zone address frame → OnErr result (next ≡ zone) → OnOk result (next ≡ mapped zone client address unmovable frame) → IsCarried next scan ends is_open list held capacity
-  carried_mapped_at client address unmovable frame (Err error) law refused err ok = unchanged err
-  carried_mapped_at client address unmovable frame (Ok done) law refused err ok =
-      let free = place_then (nat_lt frame (frame_count zone)) (has_room zone) (is_some (page_at zone.records address)) (is_free zone frame) (sym refused) in
-      carried_placed client address unmovable frame (some_lowest zone frame free.1 (ltb-true frame (frame_count zone) free.0)) law ok
-
-  leaves : (after : ZoneState) → next ≡ after → IsLawful next → LeavesMoves zone after → IsCarried next scan ends is_open list held capacity
-  leaves after is law l = changed after is (subst IsLawful is law) l.same_out l.migrate l.free l.blocks l.own
-
-  -- a call whose answer says nothing more, and a call with an answer
-  pub carried_done : {T : Type 0} (result : Result T ZoneError) (after : ZoneState) → IsLawful next → OnErr result (next ≡ zone) → OnOk result (next ≡ after) → LeavesMoves zone after → IsCarried next scan ends is_open list held capacity
-  carried_done (Err error) after law err ok l = unchanged err
-  carried_done (Ok done) after law err ok l = leaves after ok law l
-
-  pub carried_told : {T : Type 0} (result : Result T ZoneError) (after : T → ZoneState) → IsLawful next → OnErr result (next ≡ zone) → IfOk result (λ told. next ≡ after told) → ((told : T) → LeavesMoves zone (after told)) → IsCarried next scan ends is_open list held capacity
-  carried_told (Err error) after law err ok l = unchanged err
-  carried_told (Ok told) after law err ok l = leaves (after told) ok law (l told)
-
-  pub carried_unmapped : {T : Type 0} (client : ℕ) (address : Address) (result : Result T ZoneError) → IsLawful next → result_err result ≡ unmap_refusal zone address → OnErr result (next ≡ zone) → OnOk result (next ≡ unmapped zone client address) → IsCarried next scan ends is_open list held capacity
-  carried_unmapped client address (Err error) law refused err ok = unchanged err
-  carried_unmapped client address (Ok done) law refused err ok =
-      let room = room_then (has_room zone) _ (sym refused) in
-      let at = at_then (placement_at zone address) (option_or_none _ _ room.1) in
-      leaves (unmapped zone client address) ok law (leaves_unmapped zone client address at.0 at.1)
+  pub carried_taken : {T : Type 0} (first : T → ℕ) (order : ℕ) (result : Result T ZoneError) → IsLawful next → OnErr result (next ≡ zone) → IfOk result (λ block. next ≡ block_taken zone (first block) order) → IsCarried next scan ends is_open list held capacity
+  carried_taken first order (Err error) law err ok = unchanged err
+  carried_taken first order (Ok block) law err ok =
+      changed (block_taken zone (first block) order) ok law (record { same_out = refl; migrate = refl; free = refl; blocks = refl }) (own_block_taken zone (first block) order)
 
   pub carried_read : {T : Type 0} (kept : Type 0) (client : ℕ) (address : Address) (from count : ℕ) (result : Result T ZoneError) → IsLawful next → OnErr result ((next ≡ zone) × kept) → OnOk result (next ≡ loaded_all zone client address from count) → IsCarried next scan ends is_open list held capacity
   carried_read kept client address from count (Err error) law err ok = unchanged err.0
-  carried_read kept client address from count (Ok done) law err ok = leaves (loaded_all zone client address from count) ok law (leaves_read zone client address from count)
+  carried_read kept client address from count (Ok done) law err ok = changed (loaded_all zone client address from count) ok law (read_leaves zone client address from count) (own_read zone client address from count)
 
   pub carried_written : {T : Type 0} (client : ℕ) (address : Address) (from : ℕ) (values : List ℕ) (result : Result T ZoneError) → IsLawful next → result_err result ≡ bulk_refusal zone address from (length values) → OnErr result (next ≡ zone) → OnOk result (next ≡ stored_all zone client address from values) → IsCarried next scan ends is_open list held capacity
   carried_written client address from values (Err error) law refused err ok = unchanged err
   carried_written client address from values (Ok done) law refused err ok =
-      let placed_at = bulk_then (nat_lt zone.page_size (from + length values)) (has_room_for zone (length values)) (placement_refusal (placement_at zone address)) (sym refused) in
-      let at = at_then (placement_at zone address) placed_at in
-      leaves (stored_all zone client address from values) ok law (leaves_written zone client address from values at.0 at.1)
+      let within = passed (nat_lt zone.page_size (from + length values)) Range _ (sym refused) in
+      let room = passed (not (has_room_for zone (length values))) JournalFull _ within.1 in
+      let at = at_then _ room.1 in
+      changed (stored_all zone client address from values) ok law (written_leaves zone client address from values) (own_written zone client address from values at.0 at.1)

@@ -2,6 +2,7 @@
 
 ghost use Rattle.std.specs.Prelude.{◌≡◌, ◌*◌, length, Some, IfOk, OnOk, OnErr};
 ghost use Rattle.std.specs.Result.{result_err};
+ghost use Rattle.state_core.specs.Calls.{refusal_of, answer_of, after};
 ghost use Rattle.state_core.specs.Bulk.{bulk_refusal, values_at, loaded_all, stored_all};
 ghost use Rattle.state_core.specs.Sharing.{share_refusal, shared};
 ghost use Rattle.state_core.specs.Unmapping.{unmap_refusal, unmapped};
@@ -12,10 +13,21 @@ ghost use Rattle.world_core.specs.World.{IsOrderly, with_zone};
 
 use super::World;
 use frame_core::{Address, BlockNo, ClientNo, FrameNo, Order, WordOf};
-use state_core::ZoneError;
+use state_core::{ZoneAnswer, ZoneCallOf, ZoneError};
 use std::sync::ledger::Ledger;
 
 impl<const W: usize, I: Ledger, N: Ledger, M: Ledger, B: Ledger> World<W, I, N, M, B> {
+    /// Makes any call of a client on the zone.
+    pub fn make(&mut self, client: ClientNo, call: ZoneCallOf<W>) -> Result<ZoneAnswer, ZoneError>
+        ensures refused { result_err result ≡ refusal_of call.entry self.old.zone }
+        ensures err { OnErr result (self.new ≡ self.old) }
+        ensures answer { IfOk result (λ answer. answer ≡ answer_of call.entry self.old.zone) }
+        ensures ok { OnOk result (self.new ≡ with_zone self.old (after call.entry client self.old.zone)) }
+        ensures orderly { IsOrderly self.new }
+    {
+        self.zone.make(client, call)
+    }
+
     /// Reads words of the page that an address names, from one on, into `values`: as loads of these words do, one after the
     /// other. Its refusals are those of `Zone::read`.
     pub fn read(

@@ -1,6 +1,6 @@
 use Rattle.std.proofs.Common.{◌++◌, ◌∷◌, [], List, take, sym, ap, subst, ◌∙◌, arith, rules}
 use Rattle.std.proofs.lemmas.List.{take_more}
-use Rattle.text_core.specs.declared.command.ClientCall.{ClientCall}
+use Rattle.state_core.specs.declared.call.ZoneCall.{ZoneCall}
 use Rattle.text_core.specs.declared.reply.Reply.{Reply}
 use Rattle.std.specs.Prelude.{Option}
 use Rattle.script_core.specs.Clients.{AreClientAnswers, IsClientReply}
@@ -17,7 +17,7 @@ loop-line-preserved g c =
     let mid = c.loop-line.client in
     let new = c.reply_to-reply.new.client in
     let here = subst (λ (r : Reply). IsClientReply mid line.call r new) (sym (ap (λ (a : Answer). a.reply) c.new.ensures))
-    (subst (λ (k : Option ClientCall). IsClientReply mid k c.reply_to-reply.result new) c.call.ensures c.reply_to-reply.ensures) in
+    (subst (λ (k : Option (ZoneCall 8)). IsClientReply mid k c.reply_to-reply.result new) c.call.ensures c.reply_to-reply.ensures) in
     let more = client_answers_more old mid new (take i items) c.loop-line.answers.items line c.new.result c.loop-line.invariant.played
     (ap (λ (a : Answer). a.line) c.new.ensures ∙ c.line.ensures) here in
     let len = c.push_reserved.ensures.len in

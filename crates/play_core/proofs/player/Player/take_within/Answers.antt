@@ -2,9 +2,9 @@ use Rattle.std.proofs.Common.{◌≡◌, ◌++◌, ◌∷◌, [], ◌<◌, ◌�
 use Rattle.std.specs.Prelude.{nat_lt, if◌then◌else◌}
 use Rattle.std.proofs.lemmas.Bool.Decides.{nat_tests}
 use Rattle.std.proofs.lemmas.Result.{MatchResult-weaker, on_ok_weaker}
+use Rattle.state_core.specs.declared.call.ZoneCall.{ZoneCall}
 use Rattle.text_core.specs.declared.command.BlockLine.{BlockLine}
 use Rattle.text_core.specs.declared.command.BlockLine.TheVariants.{Client, End}
-use Rattle.text_core.specs.declared.command.ClientCall.{ClientCall}
 use Rattle.text_core.specs.declared.profile.Profile.{Profile}
 use Rattle.text_core.specs.Line.{line_within}
 use Rattle.play_core.specs.declared.error.Fault.TheVariants.{Syntax}
@@ -35,7 +35,7 @@ module _ (profile : Profile) (block : Block) (n : ℕ) (text : List ℕ) where
       ap (comes_within profile block n) (says ∙ ap (λ (l : BlockLine). Ok (Some l)) is)
       ∙ ap (λ o. Ok (record { ended = Some (command_in_block block); reading = record { profile = profile; block = o } })) (sym outside)
 
-  is_of_client : (line : BlockLine) (call : Option ClientCall) → line_within block.zone text ≡ Ok (Some line) → line ≡ Client call
+  is_of_client : (line : BlockLine) (call : Option (ZoneCall 8)) → line_within block.zone text ≡ Ok (Some line) → line ≡ Client call
       → line_comes (within profile block) n text ≡ client_comes profile block (record { line = n; call = call })
   is_of_client line call says is = ap (comes_within profile block n) (says ∙ ap (λ (l : BlockLine). Ok (Some l)) is)
 

@@ -1,15 +1,14 @@
 use Rattle.std.proofs.Common.{rules}
 use Rattle.std.specs.Prelude.{◌*◌}
 use Rattle.std.specs.VecDeque.{deque_capacity}
-use Rattle.state_core.specs.HandingOut.{block_taken}
-use Rattle.world_core.proofs.Carrying.{carried_told, leaves_taken}
+use Rattle.world_core.proofs.Carrying.{carried_taken}
 use Rattle.world_core.proofs.world.World.take_huge.Goals as goal
 
 pub invariant_of-self : goal.invariant_of-self
 invariant_of-self g c =
     let z = c.self.inside in
-    carried_told z.zone c.take_huge.new.self z.scan z.ends z.is_open z.waiting.items z.hands.held (deque_capacity z.waiting) c.self.invariant
-    c.take_huge.result (λ block. block_taken z.zone (512 * block) 9) c.take_huge.ensures.lawful c.take_huge.ensures.err c.take_huge.ensures.ok (λ block. leaves_taken z.zone (512 * block) 9)
+    carried_taken z.zone c.take_huge.new.self z.scan z.ends z.is_open z.waiting.items z.hands.held (deque_capacity z.waiting) c.self.invariant
+    (λ block. 512 * block) 9 c.take_huge.result c.take_huge.ensures.lawful c.take_huge.ensures.err c.take_huge.ensures.ok
 
 pub returns-clause-block : goal.returns-clause-block
 returns-clause-block g c = search rules
