@@ -84,9 +84,25 @@ impl<I: Ledger, N: Ledger, M: Ledger, B: Ledger> Held<I, N, M, B> {
             .map(client(rt), address(rt, (7, 10)), PageFlags::empty());
         assert!(rt; mapped.is_ok());
     }
+
+    /// The block is given back, and a page that is mapped there has none of its words. Then the page is gone, and the block is
+    /// handed out anew.
+    fn holds_a_blank_page(&mut self, rt: &impl Abort) {
+        let at = address(rt, (7, 11));
+        assert!(rt; self.zone.give_order(self.first, order(rt, 3)) == Ok(()));
+        let mapped = self
+            .zone
+            .map_at(client(rt), at, PageFlags::empty(), self.first);
+        assert!(rt; mapped == Ok(()));
+        assert!(rt; self.zone.load(client(rt), at, word(rt, 0)) == Ok(0));
+        assert!(rt; self.zone.load(client(rt), at, word(rt, 7)) == Ok(0));
+        assert!(rt; self.zone.unmap(client(rt), at) == Ok(()));
+        assert!(rt; self.zone.take_order(order(rt, 3)) == Ok(self.first));
+    }
 }
 
-/// A fresh block is zeros, what is written in it stays, and it is zeros again when it is handed out anew.
+/// A fresh block is zeros, and what is written in it stays. Once it is given back, a page that is mapped there is zeros, and so is the
+/// block when it is handed out anew.
 fn keeps_its_words<I: Ledger, N: Ledger, M: Ledger, B: Ledger>(
     rt: &(impl Abort + AllocGlobal),
     blanks: Blanks,
@@ -101,8 +117,7 @@ fn keeps_its_words<I: Ledger, N: Ledger, M: Ledger, B: Ledger>(
     let words = held.words(rt);
     assert!(rt; words.iter().take(40).all(|word| *word == 7));
     assert!(rt; words.iter().skip(40).all(|word| *word == 9));
-    assert!(rt; held.zone.give_order(held.first, order(rt, 3)) == Ok(()));
-    assert!(rt; held.zone.take_order(order(rt, 3)) == Ok(held.first));
+    held.holds_a_blank_page(rt);
     assert!(rt; held.words(rt) == [0; 64]);
 }
 
