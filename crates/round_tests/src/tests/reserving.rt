@@ -263,6 +263,15 @@ impl<
         assert!(rt; huge.write(rt, &self.shared, last, &[7, 8]) == Err(ZoneError::Range));
         assert!(rt; self.words(rt, huge, last - 1) == (Err(ZoneError::Range), [9; 3]));
         assert!(rt; self.words(rt, huge, last - 2) == (Ok(()), [0, 5, 6]));
+        assert!(rt; self.lent(rt, huge) == Ok((256 * 8, Some(6))));
+    }
+
+    /// How many words of a block are lent under the lock, and the last of them.
+    fn lent<R: Wait>(&self, rt: &R, huge: &Huge) -> Result<(usize, Option<u64>), ZoneError> {
+        let mut room = self.shared.lock(rt);
+        room.zone.with_block(huge.frame(), huge.order(), |words| {
+            (words.len(), words.last().copied())
+        })
     }
 
     /// What a read of three words of a block answers, and the words, which were 9 before.
