@@ -1,17 +1,20 @@
-"""A zone whose journal is told makes 100,000,000 calls, and the program has no more memory after them than after the first two. Two
-examples that make 10,000,000 calls each, on one thread and with rounds on threads, have at most a MiB more in the end than in the first
-quarter of their time. Beside a zone whose journal is kept, in one run, stores of a told one take no longer, but for what a clock tells of
-the host."""
+"""A zone whose journal is told makes 100,000,000 calls, and the program has no more memory after them than after the first two. Nine times
+as many calls make no more requests for memory. Two examples that make 10,000,000 calls each, on one thread and with rounds on threads, have
+at most a MiB more in the end than in the first quarter of their time. Beside a zone whose journal is kept, in one run, stores of a told one
+take at most 1.15 of the time, since a clock tells of the host too."""
 
 import os
+import pathlib
 import re
 import subprocess
+import tempfile
 import time
 
 import runs
 
 EXAMPLES = ("buffer_pool", "vm_pool")
 VALUES = 50_000_000  # each stored, and loaded
+FEW, MANY = 1_000, 9_000  # values, too, while requests are counted: the program's own words are as long
 TURNS = 200
 MOST = 1.15  # of the time of a kept journal
 SLACK = 64  # kB: what the program's own output may touch for the first time
@@ -51,6 +54,26 @@ def call_all():
     return first, max([first, *more])
 
 
+def requests(values, folder):
+    """How many requests for memory the program makes that uses a told zone so."""
+    counted = pathlib.Path(folder) / "requests"
+    counted.unlink(missing_ok=True)
+    variables = {"LD_PRELOAD": str(pathlib.Path(folder) / "refuse_memory.so"), "REQUESTS": str(counted)}
+    command = [built("benches"), "calls", "told", str(values)]
+    subprocess.run(command, env={**os.environ, **variables}, stdout=subprocess.DEVNULL, check=True)
+    return int(counted.read_text())
+
+
+def count_requests():
+    """Looks that the calls of a told zone make none."""
+    with tempfile.TemporaryDirectory() as folder:
+        runs.preload("refuse_memory", folder)
+        few, many = requests(FEW, folder), requests(MANY, folder)
+    print(f"requests for memory: {few} with {2 * FEW} calls of a told zone, and {many} with {2 * MANY}")
+    if not 0 < few == many:
+        raise runs.Failed("calls of a told zone make requests for memory, or none is counted")
+
+
 def peaks_of(example):
     """The most memory that an example has in the first quarter of its time, and the most until its end, in kB."""
     process = subprocess.Popen([built(example)], stdout=subprocess.DEVNULL)
@@ -75,6 +98,7 @@ def compare(what, first, most, slack):
 
 def main():
     compare(f"{2 * VALUES} calls of a told zone", *call_all(), SLACK)
+    count_requests()
     for example in EXAMPLES:
         compare(example, *peaks_of(example), SLACK_OF_EXAMPLES)
     told, kept = times()
