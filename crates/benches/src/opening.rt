@@ -2,7 +2,7 @@
 
 ghost use Rattle.std.specs.Prelude.{IfSome};
 ghost use Rattle.zone_core.specs.Books.{AreFor};
-ghost use Rattle.zone_core.specs.Shape.{HasShape};
+ghost use Rattle.zone_core.specs.ZoneIdentity.{HasIdentity};
 
 use frame_core::{Address, SpaceNo, VPage, ZoneNo};
 use std::alloc::Global;
@@ -44,7 +44,7 @@ pub fn open<I: Ledger, N: Ledger, M: Ledger, B: Ledger>(
     blanks: Blanks,
 ) -> Option<Opening<I, N, M, B>>
     requires blanks { AreFor blanks I.name I.parts N.name N.parts M.name M.parts B.name B.parts }
-    ensures shape { IfSome result (λ opening. HasShape 0 8 opening.zone) }
+    ensures identity { IfSome result (λ opening. HasIdentity 0 8 opening.zone) }
 {
     let number = ZoneNo::new(0)?;
     let opened = Zone::<I, M, B>::open::<N>(alloc, number, BLOCKS, PLACES, blanks);

@@ -8,19 +8,19 @@ use Rattle.state_core.specs.declared.call.ZoneAnswer.{ZoneAnswer}
 use Rattle.state_core.specs.declared.call.ZoneCall.{ZoneCall}
 use Rattle.state_core.specs.declared.error.ZoneError.{ZoneError}
 use Rattle.state_core.specs.Calls.{refusal_of, answer_of, after}
-use Rattle.state_core.specs.Lawful.{IsLawful}
+use Rattle.state_core.specs.Lawful.{IsValidZone}
 use Rattle.state_core.specs.ZoneState.{ZoneState}
 use Rattle.round_core.specs.Calls.{IsCall}
 use Rattle.client_core.specs.Calls.{IsAccepted, IsMade, IsRefused}
 use Rattle.client_core.specs.Receipts.{AreSince}
 
 pub refused : {X : Type 0} (refusal : ZoneState → Option ZoneError) (zone : ZoneState)
-    → IsLawful zone → (result : Result X ZoneError) → result_err result ≡ refusal zone → IfErr result (IsRefused refusal)
+    → IsValidZone zone → (result : Result X ZoneError) → result_err result ≡ refusal zone → IfErr result (IsRefused refusal)
 refused refusal zone lawful (Ok answer) is = tt
 refused refusal zone lawful (Err error) is = record { zone = zone; lawful = lawful; refused = sym is }
 
 pub accepted : {X : Type 0} (refusal : ZoneState → Option ZoneError) (leaves : ZoneState → X → ZoneState → Type 0) (answer : X) (zone zone_new : ZoneState)
-    → IsLawful zone → (result : Result (Unit {0}) ZoneError) → result_err result ≡ refusal zone → OnOk result (leaves zone answer zone_new)
+    → IsValidZone zone → (result : Result (Unit {0}) ZoneError) → result_err result ≡ refusal zone → OnOk result (leaves zone answer zone_new)
     → OnOk result (IsAccepted refusal leaves answer)
 accepted refusal leaves answer zone zone_new lawful (Ok done) is left = record {
   zone = zone;
@@ -51,7 +51,7 @@ module _ {client : ℕ} {z z_new : ZoneState} (call : IsCall client z z_new) whe
   told_by told tells stub before receipt is = tells ∙ (λ i. written_if (newest_is receipt is i) (before i))
 
 -- a call was made, and it has this receipt
-pub made : {W : ℕ} (call : ZoneCall W) (client : ℕ) (zone zone_new : ZoneState) → IsLawful zone → (result : Result (ZoneAnswer × Record) ZoneError)
+pub made : {W : ℕ} (call : ZoneCall W) (client : ℕ) (zone zone_new : ZoneState) → IsValidZone zone → (result : Result (ZoneAnswer × Record) ZoneError)
     → result_err result ≡ refusal_of call zone → IfOk result (λ m. m.0 ≡ answer_of call zone) → OnOk result (zone_new ≡ after call client zone)
     → IfOk result (λ m. zone_new.records ≡ m.1 ∷ zone.records) → IfOk result (λ m. IsMade client call m.0 m.1)
 made call client zone zone_new lawful (Ok m) is answer left receipt = record {

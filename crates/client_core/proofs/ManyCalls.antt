@@ -14,7 +14,7 @@ use Rattle.state_core.specs.declared.placement.Placement.{Placement}
 use Rattle.state_core.specs.declared.placement.Placement.TheVariants.{At, Moving}
 use Rattle.state_core.specs.Access.{placement_refusal, value_at, loaded, stored}
 use Rattle.state_core.specs.Bulk.{bulk_refusal, has_room_for, values_at, loaded_all, stored_all}
-use Rattle.state_core.specs.Lawful.{IsLawful}
+use Rattle.state_core.specs.Lawful.{IsValidZone}
 use Rattle.state_core.specs.ZoneState.{ZoneState, placement_at}
 use Rattle.state_core.proofs.Accessed.{lawful_loaded, lawful_stored}
 use Rattle.round_core.specs.Calls.{IsCall}
@@ -47,7 +47,7 @@ bulk_accepted z address from count accepted =
     (spare, at_then (placement_at z address) room.1)
 
 -- a read is the loads of its words
-loads_are_calls : (z : ZoneState) (client : ℕ) (address : Address) (frame from count : ℕ) → IsLawful z
+loads_are_calls : (z : ZoneState) (client : ℕ) (address : Address) (frame from count : ℕ) → IsValidZone z
     → length (out z.records) + count ≤ z.room → placement_at z address ≡ Some (At frame)
     → AreCalls client (records_each (Load client address) from (values_at z address from count)) z (loaded_all z client address from count)
 loads_are_calls z client address frame from zero law spare at = refl
@@ -61,7 +61,7 @@ loads_are_calls z client address frame from (suc count) law spare at =
     )
 
 -- a write is the stores of its values
-stores_are_calls : (z : ZoneState) (client : ℕ) (address : Address) (from : ℕ) (values : List ℕ) → IsLawful z
+stores_are_calls : (z : ZoneState) (client : ℕ) (address : Address) (from : ℕ) (values : List ℕ) → IsValidZone z
     → length (out z.records) + length values ≤ z.room → AreCalls client (records_each (Store client address) from values) z (stored_all z client address from values)
 stores_are_calls z client address from [] law spare = refl
 stores_are_calls z client address from (value ∷ values) law spare =
@@ -75,7 +75,7 @@ stores_are_calls z client address from (value ∷ values) law spare =
 
 -- an accepted read, and its records
 module _ (z z_new : ZoneState) (client : ℕ) (address : Address) (from count : ℕ) (words : List ℕ) where
-  pub read_calls : IsLawful z → (result : Result (Unit {0}) ZoneError) → result_err result ≡ bulk_refusal z address from count
+  pub read_calls : IsValidZone z → (result : Result (Unit {0}) ZoneError) → result_err result ≡ bulk_refusal z address from count
       → OnOk result (words ≡ values_at z address from count) → OnOk result (z_new ≡ loaded_all z client address from count)
       → OnOk result (AreCalls client (records_each (Load client address) from words) z z_new)
   read_calls law (Ok done) accepted values left =
@@ -90,7 +90,7 @@ module _ (z z_new : ZoneState) (client : ℕ) (address : Address) (from count : 
   read_count (Err error) values = tt
 
 -- an accepted write, and its records
-pub write_calls : (z z_new : ZoneState) (client : ℕ) (address : Address) (from : ℕ) (values : List ℕ) → IsLawful z → (result : Result (Unit {0}) ZoneError)
+pub write_calls : (z z_new : ZoneState) (client : ℕ) (address : Address) (from : ℕ) (values : List ℕ) → IsValidZone z → (result : Result (Unit {0}) ZoneError)
     → result_err result ≡ bulk_refusal z address from (length values) → OnOk result (z_new ≡ stored_all z client address from values)
     → OnOk result (AreCalls client (records_each (Store client address) from values) z z_new)
 write_calls z z_new client address from values law (Ok done) accepted left =
@@ -100,7 +100,7 @@ write_calls z z_new client address from values law (Err error) accepted left = t
 
 -- what a lock keeps at each call, it keeps at all of them, and their records were told
 module _ (keeps : ZoneState → Type 0) (told : List Record → Option Told) (client : ℕ)
-    (each_keeps : (z left : ZoneState) → IsLawful z → IsCall client z left → keeps z → keeps left)
+    (each_keeps : (z left : ZoneState) → IsValidZone z → IsCall client z left → keeps z → keeps left)
     (each_tells : (z left : ZoneState) (call : IsCall client z left) → keeps z → told left.records ≡ written_if call.entry (told z.records)) where
   pub kept_by : (entries : List Record) (z z_new : ZoneState) (stub : Option Told) → AreCalls client entries z z_new → keeps z → told z.records ≡ stub
       → keeps z_new × (told z_new.records ≡ written_all entries stub)

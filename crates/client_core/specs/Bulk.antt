@@ -5,7 +5,7 @@ use Rattle.journal_core.specs.declared.record.Record.{Record}
 use Rattle.halves_core.specs.Told.{Told, written_if}
 use Rattle.round_core.specs.Calls.{is_of}
 use Rattle.state_core.specs.Bulk.{values_at, loaded_all}
-use Rattle.state_core.specs.Lawful.{IsLawful}
+use Rattle.state_core.specs.Lawful.{IsValidZone}
 use Rattle.state_core.specs.ZoneState.{ZoneState}
 
 -- the records of a call for the words from one on, which have these values: the oldest first
@@ -27,4 +27,4 @@ written_all (entry ∷ entries) told = written_all entries (written_if entry tol
 abbrev pub AreCalls : ℕ → List Record → ZoneState → ZoneState → Type 0
 AreCalls client [] z z_new = z_new ≡ z
 AreCalls client (entry ∷ entries) z z_new =
-    (left : ZoneState) × IsLawful z × (is_of client entry ≡ true) × (left.records ≡ entry ∷ z.records) × AreCalls client entries left z_new
+    (left : ZoneState) × IsValidZone z × (is_of client entry ≡ true) × (left.records ≡ entry ∷ z.records) × AreCalls client entries left z_new

@@ -7,7 +7,7 @@ use Rattle.state_core.specs.declared.call.ZoneCall.{ZoneCall}
 use Rattle.state_core.specs.declared.error.ZoneError.{ZoneError}
 use Rattle.state_core.specs.Access.{value_at, loaded}
 use Rattle.state_core.specs.Calls.{refusal_of, answer_of, after}
-use Rattle.state_core.specs.Lawful.{IsLawful}
+use Rattle.state_core.specs.Lawful.{IsValidZone}
 use Rattle.state_core.specs.Mapping.{mapped}
 use Rattle.state_core.specs.ZoneState.{ZoneState, lowest_free_frame, lowest_unused_page}
 use Rattle.client_core.specs.declared.error.ClientError.{ClientError}
@@ -18,7 +18,7 @@ use Rattle.client_core.specs.Receipts.{Client, with_receipt}
 -- answer, and the zone afterwards
 pub record IsAccepted {X : Type 0} (refusal : ZoneState → Option ZoneError) (leaves : ZoneState → X → ZoneState → Type 0) (answer : X) : Type 0 where
   pub zone : ZoneState
-  pub lawful : IsLawful zone
+  pub lawful : IsValidZone zone
   pub accepted : refusal zone ≡ None
   pub zone_new : ZoneState
   pub left : leaves zone answer zone_new
@@ -27,7 +27,7 @@ pub record IsAccepted {X : Type 0} (refusal : ZoneState → Option ZoneError) (l
 -- journal
 pub record IsMade {W : ℕ} (client : ℕ) (call : ZoneCall W) (answer : ZoneAnswer) (receipt : Record) : Type 0 where
   pub zone : ZoneState
-  pub lawful : IsLawful zone
+  pub lawful : IsValidZone zone
   pub accepted : refusal_of call zone ≡ None
   pub answer_is : answer ≡ answer_of call zone
   pub receipt_is : (after call client zone).records ≡ receipt ∷ zone.records
@@ -39,7 +39,7 @@ HasMade old call answer new = (receipt : Record) × IsMade old.number call answe
 -- a call was refused: some lawful zone refused it with this error
 pub record IsRefused (refusal : ZoneState → Option ZoneError) (error : ZoneError) : Type 0 where
   pub zone : ZoneState
-  pub lawful : IsLawful zone
+  pub lawful : IsValidZone zone
   pub refused : refusal zone ≡ Some error
 
 -- a call failed with this error: for want of memory, where it takes any, or because a zone refused it

@@ -15,7 +15,7 @@ ghost use Rattle.halves_core.specs.Told.{pair_of};
 mod bulk;
 
 use crate::error::ClientError;
-use crate::making::{of_client, once_there};
+use crate::making::{of_client, retry_while_moving};
 use crate::receipts::Receipts;
 use crate::telling::{Telling, Untold};
 use frame_core::{Address, ClientNo, FrameNo, PageFlags, WordNo};
@@ -179,7 +179,7 @@ impl<J: Telling, T: Receipts> Client<J, T> {
         ensures there { IfErr result (λ error. error ≢ ClientError.Zone ZoneError.Moving) }
     {
         self.receipts.make_room(1)?;
-        let (answer, receipt) = once_there(rt, shared, &mut self.slip, self.number, call)?;
+        let (answer, receipt) = retry_while_moving(rt, shared, &mut self.slip, self.number, call)?;
         self.receipts.add(receipt);
         Ok(answer)
     }

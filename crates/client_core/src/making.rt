@@ -5,7 +5,7 @@ ghost use Rattle.std.specs.Result.{result_err};
 ghost use Rattle.halves_core.specs.Told.{pair_of, written_if};
 ghost use Rattle.state_core.specs.declared.error.ZoneError.{ZoneError};
 ghost use Rattle.state_core.specs.Calls.{refusal_of, answer_of, after, is_of_client};
-ghost use Rattle.state_core.specs.Lawful.{IsLawful};
+ghost use Rattle.state_core.specs.Lawful.{IsValidZone};
 ghost use Rattle.client_core.specs.Calls.{IsMade, IsRefused};
 
 use frame_core::ClientNo;
@@ -29,7 +29,7 @@ pub(crate) fn of_client(call: ZoneCall) -> ClientCall
 
 /// Makes a call under the lock of a zone. While its page is moving, it waits until a move has ended and makes the call again. An
 /// accepted call gives its receipt, which is written on the client's slip too.
-pub(crate) fn once_there<K: Keeping, I: Ledger, M: Ledger, B: Ledger, R: Wait>(
+pub(crate) fn retry_while_moving<K: Keeping, I: Ledger, M: Ledger, B: Ledger, R: Wait>(
     rt: &R,
     shared: &KeptZone<K, I, M, B>,
     slip: &mut Option<Slip>,
@@ -61,7 +61,7 @@ fn make_kept<K: Keeping, I: Ledger, M: Ledger, B: Ledger>(
     call: ClientCall,
 ) -> Result<(ZoneAnswer, Record), ZoneError>
     requires allows { K.allows client (pair_of slip.old) }
-    ensures lawful { IsLawful room.old }
+    ensures lawful { IsValidZone room.old }
     ensures refused { result_err result ≡ refusal_of call room.old }
     ensures answer { IfOk result (λ made. made.0 ≡ answer_of call room.old) }
     ensures ok { OnOk result (room.new ≡ after call client room.old) }

@@ -1,4 +1,4 @@
--- No more copies are in a queue than its handfuls may have.
+-- No more copies are in a queue than its batches may have.
 use Rattle.std.proofs.Common.{◌≡◌, ℕ, zero, suc, ◌+◌, ◌*◌, ◌<◌, ◌≤◌, Bool, true, false, List, [], ◌∷◌, ◌++◌, length, map, All, sym, refl, ap, ◌∙◌, subst, ⊎_elim, length-append, arith, cond}
 use Rattle.std.proofs.Math.Nat.{suc-mul}
 use Rattle.std.proofs.lemmas.Bool.{cases_lt}
@@ -9,17 +9,17 @@ use Rattle.hand_core.specs.declared.copy_queue.Account.{Account}
 use Rattle.hand_core.specs.CopyEnds.{DoneSender, DoneTaker, Holds, copies_in_one, copies_in}
 use Rattle.hand_core.specs.CopyQueue.{sender_of, messages_of, sent_by, all_sent}
 use Rattle.hand_core.specs.CopyRoom.{IsAmong, HoldsWith}
-use Rattle.hand_core.specs.Handfuls.{Handful}
+use Rattle.hand_core.specs.Batches.{Batch}
 use Rattle.hand_core.proofs.Messages.{messages-append, messages_own}
 use Rattle.hand_core.proofs.Serials.{all_front, all_back}
 
 abbrev Small : ℕ → Message → Type 0
 Small most m = length (copies_in_one m) ≤ most
 
--- small handfuls are small messages, and a mark has no copy
-sent_small : (most sender : ℕ) (handfuls : List Handful) (marked : Bool) → All (λ (h : Handful). length h.items ≤ most) handfuls → All (Small most) (sent_by sender handfuls marked)
-sent_small most sender handfuls marked every =
-    All-append (Small most) (map (Copies sender) handfuls) (cond marked (Mark sender ∷ []) []) (All-map (Small most) (Copies sender) handfuls every) (marks marked)
+-- small batches are small messages, and a mark has no copy
+sent_small : (most sender : ℕ) (batches : List Batch) (marked : Bool) → All (λ (h : Batch). length h.items ≤ most) batches → All (Small most) (sent_by sender batches marked)
+sent_small most sender batches marked every =
+    All-append (Small most) (map (Copies sender) batches) (cond marked (Mark sender ∷ []) []) (All-map (Small most) (Copies sender) batches every) (marks marked)
   where
     marks : (b : Bool) → All (Small most) (cond b (Mark sender ∷ []) [])
     marks true = All-cons (Small most) (Mark sender) [] (omega arith) (All-nil (Small most))
@@ -45,7 +45,7 @@ few_copies (suc room) most (x ∷ queue) low every =
     let sum = suc-mul room most in
     let longer = length-append (copies_in_one x) (copies_in queue) in omega arith
 
--- no message of a sender is larger than a handful
+-- no message of a sender is larger than a batch
 of_sender : (queue : List Message) (t : DoneTaker) (senders : List DoneSender) (most : ℕ) → HoldsWith queue t senders → All (λ (s : DoneSender). s.most ≤ most) senders
     → (k : ℕ) → All (Small most) (messages_of k queue)
 of_sender queue t senders most h each k =
@@ -58,7 +58,7 @@ of_sender queue t senders most h each k =
     let end = All-contains (IsAmong h.holds.ends) senders s h.among his.1 in
     let le : s.most ≤ most = All-contains (λ (u : DoneSender). u.most ≤ most) senders s each his.1 in
     let is = (rule.sent end.number end.knows end.at end.sends).2 in
-    let small = All-weaker (λ (g : Handful). length g.items ≤ s.most) (λ (g : Handful). length g.items ≤ most) (λ g less. omega arith) end.knows.sent end.small in
+    let small = All-weaker (λ (g : Batch). length g.items ≤ s.most) (λ (g : Batch). length g.items ≤ most) (λ g less. omega arith) end.knows.sent end.small in
     subst (λ n. All (Small most) (messages_of n (rule.came ++ queue))) (end.sender ∙ his.2) (subst (All (Small most)) (sym is) (sent_small most end.knows.sender end.knows.sent end.knows.marked small)))
     (λ (high : t.senders ≤ k). subst (All (Small most)) (sym (rule.others k (omega arith))) (All-nil (Small most)))
     (cases_lt k t.senders) in

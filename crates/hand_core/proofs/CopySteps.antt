@@ -9,7 +9,7 @@ use Rattle.atomic_table.proofs.Lists.{at_set, at_snoc}
 use Rattle.hand_core.specs.declared.copy_queue.Message.{Message}
 use Rattle.hand_core.specs.declared.copy_queue.Message.TheVariants.{Copies, Mark}
 use Rattle.hand_core.specs.declared.copy_queue.Account.{Account}
-use Rattle.hand_core.specs.Handfuls.{Handful}
+use Rattle.hand_core.specs.Batches.{Batch}
 use Rattle.hand_core.specs.Queue.{Each}
 use Rattle.hand_core.specs.CopyQueue.{taker_account, sender_account, sender_of, messages_of, sent_by, all_sent, InTurn, after_send, Comes, folded, nothing_known, Tells}
 use Rattle.hand_core.specs.CopyEnds.{has_mark}
@@ -79,8 +79,8 @@ message_in room number v w x sends own same more queue ends short r at =
       refl,
     )
 
--- a handful of copies goes in at the back
-pub copies_go_in : (room number : ℕ) (v : Account) (sender : ℕ) (copies : Handful) → v.sends ≡ true → v.sender ≡ sender → v.marked ≡ false → Pushes InTurn room number v (Copies sender copies) (λ w. w ≡ after_send v (Copies sender copies))
+-- a batch of copies goes in at the back
+pub copies_go_in : (room number : ℕ) (v : Account) (sender : ℕ) (copies : Batch) → v.sends ≡ true → v.sender ≡ sender → v.marked ≡ false → Pushes InTurn room number v (Copies sender copies) (λ w. w ≡ after_send v (Copies sender copies))
 copies_go_in room number v sender copies sends own fresh =
     message_in room number v (after_send v (Copies sender copies)) (Copies sender copies) sends (sym own) (refl, refl, refl, refl, refl)
     (ap (λ k. all_sent v ++ Copies k copies ∷ []) (sym own) ∙ all_sent-copies v copies fresh)
@@ -98,7 +98,7 @@ was_made queue ends r x rest is =
     (λ (high : r.made ≤ sender_of x). absurd (nobody_sent (sender_of x) r.came x rest (subst (λ l. messages_of (sender_of x) (r.came ++ l) ≡ []) is (r.others (sender_of x) high)) refl))
     (cases_lt (sender_of x) r.made)
 
--- a handful or a mark comes off the front
+-- a batch or a mark comes off the front
 pub off : (number : ℕ) (v : Account) → v.takes ≡ true → Pops InTurn number v (Comes v)
 off number v takes x queue ends r at =
     let w : Account = record v { came = v.came ++ x ∷ [] } in

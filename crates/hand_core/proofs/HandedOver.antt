@@ -7,13 +7,13 @@ use Rattle.std.proofs.lemmas.List.Sorted.{IsPermutation-map, length_permutation}
 use Rattle.std.proofs.lemmas.List.{length-map}
 use Rattle.std.proofs.Math.Nat.{suc-mul, div-mul-le_self}
 use Rattle.std.proofs.Math.Seq.{take-append_seam, drop-append_seam}
-use Rattle.word_core.specs.Page.{OnItsWay}
+use Rattle.word_core.specs.Page.{IsolatedPage}
 use Rattle.word_core.specs.Serials.{serials_of, HasSerialsFrom}
 use Rattle.hand_core.specs.declared.page_queue.Note.{Note}
 use Rattle.hand_core.specs.declared.page_queue.Note.TheVariants.{Pages, Mark}
 use Rattle.hand_core.specs.declared.page_queue.Known.{Known}
 use Rattle.hand_core.specs.HandedOver.{known_to, ends_of, pages_in, Holds, IsHandedOver}
-use Rattle.hand_core.specs.Handfuls.{Handful, pages_of}
+use Rattle.hand_core.specs.Batches.{Batch, pages_of}
 use Rattle.hand_core.specs.PageEnds.{Giver, Taker, off, off_by, count_ended}
 use Rattle.hand_core.specs.PageQueue.{all_off, all_ended}
 use Rattle.hand_core.proofs.PageSteps.{queue_of}
@@ -37,27 +37,27 @@ all_have_ended (t ∷ takers) every = counted t.ended (every 0 t (omega arith)) 
     counted false is rest = absurd (true≢false (sym is))
 
 -- end marks have no pages
-queue_pages : (waiting : List Handful) (marks : ℕ) → pages_in (queue_of waiting marks) ≡ pages_of waiting
+queue_pages : (waiting : List Batch) (marks : ℕ) → pages_in (queue_of waiting marks) ≡ pages_of waiting
 queue_pages [] zero = refl
 queue_pages [] (suc marks) = queue_pages [] marks
 queue_pages (h ∷ waiting) marks = ap (λ l. h.items ++ l) (queue_pages waiting marks)
 
--- no more handfuls wait than there are messages
-fewer_handfuls : (room : ℕ) (waiting : List Handful) (marks : ℕ) (queue : List Note) → queue ≡ queue_of waiting marks → length queue ≤ room → length waiting ≤ room
-fewer_handfuls room waiting marks queue is low =
+-- no more batches wait than there are messages
+fewer_batches : (room : ℕ) (waiting : List Batch) (marks : ℕ) (queue : List Note) → queue ≡ queue_of waiting marks → length queue ≤ room → length waiting ≤ room
+fewer_batches room waiting marks queue is low =
     let all = length-append (map Pages waiting) (replicate marks Mark) in
     let as_many = length-map waiting Pages in
     let same = ap (λ l. length l) is in omega arith
 
-small : (largest most : ℕ) (waiting : List Handful) → largest ≤ most → All (λ (h : Handful). length h.items ≤ largest) waiting → All (λ (h : Handful). length h.items ≤ most) waiting
+small : (largest most : ℕ) (waiting : List Batch) → largest ≤ most → All (λ (h : Batch). length h.items ≤ largest) waiting → All (λ (h : Batch). length h.items ≤ most) waiting
 small largest most waiting le every k d low = let this = every k d low in omega arith
 
--- a queue of handfuls has no room for more pages
+-- a queue of batches has no room for more pages
 pub room_fits : (cap most : ℕ) → cap / most * most ≤ cap
 room_fits cap most = div-mul-le_self cap most
 
--- so many handfuls, each with at most so many pages
-few_pages : (room most : ℕ) (waiting : List Handful) → length waiting ≤ room → All (λ (h : Handful). length h.items ≤ most) waiting → length (pages_of waiting) ≤ room * most
+-- so many batches, each with at most so many pages
+few_pages : (room most : ℕ) (waiting : List Batch) → length waiting ≤ room → All (λ (h : Batch). length h.items ≤ most) waiting → length (pages_of waiting) ≤ room * most
 few_pages room most [] low every = omega arith
 few_pages zero most (h ∷ waiting) low every = absurd (omega arith)
 few_pages (suc room) most (h ∷ waiting) low every =
@@ -84,24 +84,24 @@ handed_over queue g takers holds =
       base = r.base;
       given = subst (HasSerialsFrom r.base) (sym pages) r.serials;
       off = subst (IsPermutation (serials_of (off_by takers))) (front ∙ ap (λ n. range_with_len r.base n) many)
-          (IsPermutation-map (λ (p : OnItsWay). p.serial) (off_by takers) r.off together);
+          (IsPermutation-map (λ (p : IsolatedPage). p.serial) (off_by takers) r.off together);
       queued = subst (λ n. HasSerialsFrom (r.base + n) (pages_in queue)) many
           (subst (HasSerialsFrom (r.base + length r.off)) (sym waits) (serials_behind r.base r.off (pages_of r.waiting) r.serials));
       off_whole = subst (IsPermutation (off_by takers)) (sym (ap (λ l. take (length (off_by takers)) l) pages ∙ ap (λ n. take n (r.off ++ pages_of r.waiting)) (sym many) ∙ take-append_seam r.off (pages_of r.waiting))) together;
       queued_whole = waits ∙ sym (ap (λ l. drop (length (off_by takers)) l) pages ∙ ap (λ n. drop n (r.off ++ pages_of r.waiting)) (sym many) ∙ drop-append_seam r.off (pages_of r.waiting));
       marks = (r.waiting, r.queued ∙ ap (λ m. map Pages r.waiting ++ replicate m Mark) (sym left));
       ended = λ some. sym (ap (λ l. length l) (pages ∙ ap (λ l. r.off ++ pages_of l) (none some) ∙ append-nil r.off) ∙ many);
-      few = subst (λ l. length l ≤ g.room * g.most) (sym waits) (few_pages g.room g.most r.waiting (fewer_handfuls g.room r.waiting r.marks queue r.queued holds.room) (small holds.largest g.most r.waiting holds.most (r.fits 0 _ refl refl)));
+      few = subst (λ l. length l ≤ g.room * g.most) (sym waits) (few_pages g.room g.most r.waiting (fewer_batches g.room r.waiting r.marks queue r.queued holds.room) (small holds.largest g.most r.waiting holds.most (r.fits 0 _ refl refl)));
       empty = λ some all. (let over : r.marks ≡ 0 = omega arith in r.queued ∙ ap (λ l. queue_of l r.marks) (none some) ∙ ap (λ m. queue_of [] m) over);
     }
 
-no_marks : (waiting : List Handful) (marks : ℕ) → [] ≡ queue_of waiting marks → marks ≡ 0
+no_marks : (waiting : List Batch) (marks : ℕ) → [] ≡ queue_of waiting marks → marks ≡ 0
 no_marks [] zero is = refl
 no_marks [] (suc marks) is = absurd (cc)
 no_marks (h ∷ waiting) marks is = absurd (cc)
 
 -- where pages are last in the queue, no mark is in it
-pages_last : (queue : List Note) (h : Handful) (waiting : List Handful) (marks : ℕ) → queue ++ Pages h ∷ [] ≡ queue_of waiting marks → (marks ≡ 0) × (waiting ≢ [])
+pages_last : (queue : List Note) (h : Batch) (waiting : List Batch) (marks : ℕ) → queue ++ Pages h ∷ [] ≡ queue_of waiting marks → (marks ≡ 0) × (waiting ≢ [])
 pages_last [] h [] zero is = absurd (cc)
 pages_last [] h [] (suc marks) is = absurd (cc)
 pages_last [] h (g ∷ waiting) marks is = (no_marks waiting marks (cc), λ none. cc)
@@ -110,7 +110,7 @@ pages_last (m ∷ queue) h [] (suc marks) is = absurd ((pages_last queue h [] ma
 pages_last (m ∷ queue) h (g ∷ waiting) marks is = ((pages_last queue h waiting marks (cc)).0, λ none. cc)
 
 -- pages go in only where no mark was put
-pub unmarked : (queue : List Note) (h : Handful) (g : Giver) (takers : List Taker) → Holds (queue ++ Pages h ∷ []) g takers → g.marks ≡ 0
+pub unmarked : (queue : List Note) (h : Batch) (g : Giver) (takers : List Taker) → Holds (queue ++ Pages h ∷ []) g takers → g.marks ≡ 0
 unmarked queue h g takers holds =
     let r = holds.rule in
     let ends : List Known = ends_of holds.largest g takers in

@@ -10,7 +10,7 @@ use Rattle.std.proofs.lemmas.List.Sums.{AllPass-from_list_all}
 use Rattle.hand_core.specs.declared.copy_queue.Message.{Message}
 use Rattle.hand_core.specs.declared.copy_queue.Message.TheVariants.{Copies, Mark}
 use Rattle.hand_core.specs.declared.copy_queue.Account.{Account}
-use Rattle.hand_core.specs.Handfuls.{Handful, pages_of}
+use Rattle.hand_core.specs.Batches.{Batch, pages_of}
 use Rattle.hand_core.specs.CopyQueue.{sender_of, messages_of, sent_by, all_sent, Comes}
 use Rattle.hand_core.specs.CopyEnds.{is_mark_of, has_mark, copies_in_one, copies_in, copies_of}
 use Rattle.hand_core.specs.CopyInvariants.{marks_of_four}
@@ -36,10 +36,10 @@ nobody_sent sender before x rest none own = nothing none
         not_nil [] ys h = cc
         not_nil (z ∷ xs) ys h = cc
 
--- a sender that put no mark sent one handful more
-pub all_sent-copies : (v : Account) (copies : Handful) → v.marked ≡ false → all_sent v ++ Copies v.sender copies ∷ [] ≡ all_sent (record v { sent = v.sent ++ copies ∷ [] })
+-- a sender that put no mark sent one batch more
+pub all_sent-copies : (v : Account) (copies : Batch) → v.marked ≡ false → all_sent v ++ Copies v.sender copies ∷ [] ≡ all_sent (record v { sent = v.sent ++ copies ∷ [] })
 all_sent-copies v copies fresh =
-    let Marked : List Handful → Bool → List Message = λ sent b. map (Copies v.sender) sent ++ cond b (Mark v.sender ∷ []) [] in
+    let Marked : List Batch → Bool → List Message = λ sent b. map (Copies v.sender) sent ++ cond b (Mark v.sender ∷ []) [] in
     ap (λ l. l ++ Copies v.sender copies ∷ []) (ap (Marked v.sent) fresh ∙ append-nil (map (Copies v.sender) v.sent))
     ∙ sym (map-append (Copies v.sender) v.sent (copies ∷ []))
     ∙ sym (append-nil (map (Copies v.sender) (v.sent ++ copies ∷ [])))
@@ -59,15 +59,15 @@ marks-append sender (x ∷ xs) ys = ap (λ b. is_mark_of sender x || b) (marks-a
     or_assoc true b c = refl
     or_assoc false b c = refl
 
--- a handful is nobody's mark
-pub marks-copies : (sender other : ℕ) (copies : Handful) (came : List Message) → has_mark (came ++ Copies other copies ∷ []) sender ≡ has_mark came sender
+-- a batch is nobody's mark
+pub marks-copies : (sender other : ℕ) (copies : Batch) (came : List Message) → has_mark (came ++ Copies other copies ∷ []) sender ≡ has_mark came sender
 marks-copies sender other copies came = marks-append sender came (Copies other copies ∷ []) ∙ nothing (has_mark came sender)
   where
     nothing : (b : Bool) → (b || false) ≡ b
     nothing true = refl
     nothing false = refl
 
-pub all_marks-copies : (other : ℕ) (copies : Handful) (came : List Message) (senders : List ℕ) → list_all (has_mark (came ++ Copies other copies ∷ [])) senders ≡ list_all (has_mark came) senders
+pub all_marks-copies : (other : ℕ) (copies : Batch) (came : List Message) (senders : List ℕ) → list_all (has_mark (came ++ Copies other copies ∷ [])) senders ≡ list_all (has_mark came) senders
 all_marks-copies other copies came [] = refl
 all_marks-copies other copies came (sender ∷ senders) = and_both (marks-copies sender other copies came) (all_marks-copies other copies came senders)
   where
@@ -114,7 +114,7 @@ nil_front [] ys e = refl
 nil_front (x ∷ xs) ys e = absurd (cc)
 
 -- a sender's messages received up to its mark are all that it sent
-up_to_mark : (sender : ℕ) (sent : List Handful) (marked : Bool) (came queue : List Message)
+up_to_mark : (sender : ℕ) (sent : List Batch) (marked : Bool) (came queue : List Message)
     → came ++ queue ≡ map (Copies sender) sent ++ cond marked (Mark sender ∷ []) [] → has_mark came sender ≡ true → copies_in came ≡ pages_of sent
 up_to_mark sender [] true [] queue is has = absurd (cc)
 up_to_mark sender [] false [] queue is has = absurd (cc)
@@ -138,7 +138,7 @@ all_came v came queue is has =
     (mark_kept v.sender came ∙ has)
 
 -- a sender's mark is the last of its messages
-mark_is_last : (sender : ℕ) (sent : List Handful) (marked : Bool) (came queue : List Message)
+mark_is_last : (sender : ℕ) (sent : List Batch) (marked : Bool) (came queue : List Message)
     → came ++ queue ≡ map (Copies sender) sent ++ cond marked (Mark sender ∷ []) [] → has_mark came sender ≡ true → queue ≡ []
 mark_is_last sender [] true [] queue is has = absurd (cc)
 mark_is_last sender [] false [] queue is has = absurd (cc)
@@ -151,7 +151,7 @@ mark_is_last sender (c ∷ sent) marked (x ∷ came) queue is has =
     mark_is_last sender sent marked came queue rest (ap (λ m. is_mark_of sender m || has_mark came sender) (sym first) ∙ has)
 
 -- once a sender's mark was received, the queue holds none of its messages
-pub nothing_behind_mark : (sender : ℕ) (sent : List Handful) (marked : Bool) (came queue : List Message)
+pub nothing_behind_mark : (sender : ℕ) (sent : List Batch) (marked : Bool) (came queue : List Message)
     → messages_of sender (came ++ queue) ≡ sent_by sender sent marked → has_mark came sender ≡ true → messages_of sender queue ≡ []
 nothing_behind_mark sender sent marked came queue is has =
     mark_is_last sender sent marked (messages_of sender came) (messages_of sender queue) (sym (messages-append sender came queue) ∙ is) (mark_kept sender came ∙ has)

@@ -11,81 +11,81 @@ use mathlib.Core.Option.{some, some-ne-none}
 use lib.ListN.{get_elem?}
 use Rattle.crossbeam_channel.specs.Fifo.{Pushes, Pops, Forks, Merges, Learns}
 use Rattle.atomic_table.proofs.Lists.{at_set}
-use Rattle.word_core.specs.Page.{OnItsWay}
+use Rattle.word_core.specs.Page.{IsolatedPage}
 use Rattle.hand_core.specs.declared.page_queue.Note.{Note}
 use Rattle.hand_core.specs.declared.page_queue.Note.TheVariants.{Pages, Mark}
 use Rattle.hand_core.specs.declared.page_queue.Known.{Known}
 use Rattle.word_core.specs.Serials.{HasSerialsFrom, IsRising}
 use Rattle.hand_core.specs.PageQueue.{giver_knows, taker_knows, total, all_off, all_ended, InOrder, after_put, after_take, Takes, joined, nothing_known, Settles}
-use Rattle.hand_core.specs.Handfuls.{Handful, pages_of}
+use Rattle.hand_core.specs.Batches.{Batch, pages_of}
 use Rattle.hand_core.specs.Queue.{Each}
 use Rattle.hand_core.proofs.EachEnd.{each_set, each_new}
 use Rattle.hand_core.proofs.Serials.{serials-append, serials_front, serials_behind, serials_below, rising-append, rising-nil}
 use Rattle.hand_core.proofs.Totals.{total_set, total_same, total_new, total_alone, off_same, off_new, off_longer, off_joined, off_alone, all_of_end}
 
-abbrev pub queue_of : List Handful → ℕ → List Note
+abbrev pub queue_of : List Batch → ℕ → List Note
 queue_of waiting marks = map Pages waiting ++ replicate marks Mark
 
-queued_pages : (queue : List Note) (waiting : List Handful) (marks : ℕ) (h : Handful) → queue ≡ queue_of waiting marks → marks ≡ 0 → queue ++ Pages h ∷ [] ≡ queue_of (waiting ++ h ∷ []) 0
+queued_pages : (queue : List Note) (waiting : List Batch) (marks : ℕ) (h : Batch) → queue ≡ queue_of waiting marks → marks ≡ 0 → queue ++ Pages h ∷ [] ≡ queue_of (waiting ++ h ∷ []) 0
 queued_pages queue waiting marks h is none =
     ap (λ l. l ++ Pages h ∷ []) (is ∙ ap (λ m. map Pages waiting ++ replicate m Mark) none ∙ append-nil (map Pages waiting))
     ∙ sym (map-append Pages waiting (h ∷ []))
     ∙ sym (append-nil (map Pages (waiting ++ h ∷ [])))
 
-queued_mark : (queue : List Note) (waiting : List Handful) (marks : ℕ) → queue ≡ queue_of waiting marks → queue ++ Mark ∷ [] ≡ queue_of waiting (marks + 1)
+queued_mark : (queue : List Note) (waiting : List Batch) (marks : ℕ) → queue ≡ queue_of waiting marks → queue ++ Mark ∷ [] ≡ queue_of waiting (marks + 1)
 queued_mark queue waiting marks is =
     ap (λ l. l ++ Mark ∷ []) is
     ∙ append_assoc (map Pages waiting) (replicate marks Mark) (Mark ∷ [])
     ∙ ap (λ l. map Pages waiting ++ l) (replicate_more marks Mark)
 
--- the pages of some handfuls and one more
-one_more : (waiting : List Handful) (h : Handful) → pages_of (waiting ++ h ∷ []) ≡ pages_of waiting ++ h.items
+-- the pages of some batches and one more
+one_more : (waiting : List Batch) (h : Batch) → pages_of (waiting ++ h ∷ []) ≡ pages_of waiting ++ h.items
 one_more waiting h =
-    flat_map-append (λ (g : Handful). g.items) waiting (h ∷ [])
+    flat_map-append (λ (g : Batch). g.items) waiting (h ∷ [])
     ∙ ap (λ l. pages_of waiting ++ l) (append-nil h.items)
 
--- a handful at the front of the queue is the first one that waits
-front_pages : (waiting : List Handful) (marks : ℕ) (h : Handful) (queue : List Note) → Pages h ∷ queue ≡ queue_of waiting marks
-    → (rest : List Handful) × (waiting ≡ h ∷ rest) × (queue ≡ queue_of rest marks)
+-- a batch at the front of the queue is the first one that waits
+front_pages : (waiting : List Batch) (marks : ℕ) (h : Batch) (queue : List Note) → Pages h ∷ queue ≡ queue_of waiting marks
+    → (rest : List Batch) × (waiting ≡ h ∷ rest) × (queue ≡ queue_of rest marks)
 front_pages [] zero h queue is = absurd (cc)
 front_pages [] (suc marks) h queue is = absurd (cc)
 front_pages (g ∷ waiting) marks h queue is = (waiting, (cc), (cc))
 
 -- after an end mark there are only end marks
-front_mark : (waiting : List Handful) (marks : ℕ) (queue : List Note) → Mark ∷ queue ≡ queue_of waiting marks
+front_mark : (waiting : List Batch) (marks : ℕ) (queue : List Note) → Mark ∷ queue ≡ queue_of waiting marks
     → (rest : ℕ) × (waiting ≡ []) × (marks ≡ suc rest) × (queue ≡ queue_of [] rest)
 front_mark [] zero queue is = absurd (cc)
 front_mark [] (suc marks) queue is = (marks, refl, refl, (cc))
 front_mark (g ∷ waiting) marks queue is = absurd (cc)
 
-abbrev Gave : ℕ → List OnItsWay → ℕ → ℕ → Known → Type 0
+abbrev Gave : ℕ → List IsolatedPage → ℕ → ℕ → Known → Type 0
 Gave giver given marks number v = v.gives ≡ true → (number ≡ giver) × (v.given ≡ given) × (v.marks ≡ marks)
 
 abbrev Spent : ℕ → Known → Type 0
 Spent number v = v.shares ≡ 0 → (v.off ≡ []) × (v.ended ≡ 0)
 
-abbrev Fits : List Handful → ℕ → Known → Type 0
-Fits waiting number v = v.gives ≡ true → All (λ (h : Handful). length h.items ≤ v.largest) waiting
+abbrev Fits : List Batch → ℕ → Known → Type 0
+Fits waiting number v = v.gives ≡ true → All (λ (h : Batch). length h.items ≤ v.largest) waiting
 
 abbrev Rises : ℕ → Known → Type 0
 Rises number v = v.gives ≡ false → IsRising v.off
 
 -- a hand-over has one giver
-other_giver : (giver : ℕ) (given given_new : List OnItsWay) (marks marks_new number other : ℕ) (u : Known) → number ≡ giver → other ≢ number → Gave giver given marks other u → Gave giver given_new marks_new other u
+other_giver : (giver : ℕ) (given given_new : List IsolatedPage) (marks marks_new number other : ℕ) (u : Known) → number ≡ giver → other ≢ number → Gave giver given marks other u → Gave giver given_new marks_new other u
 other_giver giver given given_new marks marks_new number other u this apart h gives = absurd (apart ((h gives).0 ∙ sym this))
 
-same_giver : (giver : ℕ) (given given_new : List OnItsWay) (marks marks_new other : ℕ) (u : Known) → given ≡ given_new → marks ≡ marks_new → Gave giver given marks other u → Gave giver given_new marks_new other u
+same_giver : (giver : ℕ) (given given_new : List IsolatedPage) (marks marks_new other : ℕ) (u : Known) → given ≡ given_new → marks ≡ marks_new → Gave giver given marks other u → Gave giver given_new marks_new other u
 same_giver giver given given_new marks marks_new other u pages count h gives = ((h gives).0, (h gives).1 ∙ pages, (h gives).2 ∙ count)
 
--- the largest handful is the largest of all with one more
-larger : (largest : ℕ) (h : Handful) (waiting : List Handful) → All (λ (g : Handful). length g.items ≤ largest) waiting
-    → All (λ (g : Handful). length g.items ≤ max largest (length h.items)) (waiting ++ h ∷ [])
+-- the largest batch is the largest of all with one more
+larger : (largest : ℕ) (h : Batch) (waiting : List Batch) → All (λ (g : Batch). length g.items ≤ largest) waiting
+    → All (λ (g : Batch). length g.items ≤ max largest (length h.items)) (waiting ++ h ∷ [])
 larger largest h waiting every =
-    let Small : Handful → Type 0 = λ g. length g.items ≤ max largest (length h.items) in
+    let Small : Batch → Type 0 = λ g. length g.items ≤ max largest (length h.items) in
     let left = le-max_left largest (length h.items) in
     All-push Small waiting h (λ k d low. let this = every k d low in omega arith) (le-max_right largest (length h.items))
 
-others_fit : (largest : ℕ) (h : Handful) (rest : List Handful) → All (λ (g : Handful). length g.items ≤ largest) (h ∷ rest) → All (λ (g : Handful). length g.items ≤ largest) rest
+others_fit : (largest : ℕ) (h : Batch) (rest : List Batch) → All (λ (g : Batch). length g.items ≤ largest) (h ∷ rest) → All (λ (g : Batch). length g.items ≤ largest) rest
 others_fit largest h rest every k d low = every (suc k) d (omega arith)
 
 -- the rule holds of a queue that was just opened, whose one end is the giver
@@ -104,7 +104,7 @@ opens =
       rising = only Rises (λ plain. rising-nil);
       done = λ some. refl;
       given = only (Gave 0 [] 0) (λ _. (refl, refl, refl));
-      fits = only (Fits []) (λ _. All-nil (λ (h : Handful). length h.items ≤ 0));
+      fits = only (Fits []) (λ _. All-nil (λ (h : Batch). length h.items ≤ 0));
       shares = refl;
       spent = only Spent (λ _. (refl, refl));
     }
@@ -113,15 +113,15 @@ opens =
     none zero u other at = other refl
     none (suc j) u other at = some-ne-none u (sym at)
 
--- a handful goes in at the back
-pub pages_in : (room number : ℕ) (v : Known) (h : Handful) (base : ℕ) → v.gives ≡ true → v.marks ≡ 0 → HasSerialsFrom base v.given → HasSerialsFrom (base + length v.given) h.items
+-- a batch goes in at the back
+pub pages_in : (room number : ℕ) (v : Known) (h : Batch) (base : ℕ) → v.gives ≡ true → v.marks ≡ 0 → HasSerialsFrom base v.given → HasSerialsFrom (base + length v.given) h.items
     → Pushes InOrder room number v (Pages h) (λ w. w ≡ after_put v (Pages h))
 pages_in room number v h base gives unmarked serials next queue ends short r at =
     let w = after_put v (Pages h) in
     let this = r.given number v at gives in
     let count = this.2 in
     let none : r.marks ≡ 0 = omega arith in
-    let waiting : List Handful = r.waiting ++ h ∷ [] in
+    let waiting : List Batch = r.waiting ++ h ∷ [] in
     let given : v.given ++ h.items ≡ r.off ++ pages_of waiting =
     ap (λ l. l ++ h.items) this.1 ∙ append_assoc r.off (pages_of r.waiting) h.items ∙ ap (λ l. r.off ++ l) (sym (one_more r.waiting h)) in
     let ended : all_ended (set ends number w) ≡ all_ended ends = total_same (λ u. u.ended) ends number v w at refl in
@@ -180,13 +180,13 @@ mark_in room number v gives queue ends short r at =
       refl,
     )
 
--- a handful is received from the front
-pages_off : (number : ℕ) (v : Known) (h : Handful) (queue : List Note) (ends : List Known) → v.gives ≡ false → 0 < v.shares → InOrder (Pages h ∷ queue) ends → get_elem? ends number ≡ some v
+-- a batch is received from the front
+pages_off : (number : ℕ) (v : Known) (h : Batch) (queue : List Note) (ends : List Known) → v.gives ≡ false → 0 < v.shares → InOrder (Pages h ∷ queue) ends → get_elem? ends number ≡ some v
     → InOrder queue (set ends number (after_take v (Pages h))) × IsRising (v.off ++ h.items)
 pages_off number v h queue ends plain share r at =
     let w = after_take v (Pages h) in
     let front = front_pages r.waiting r.marks h queue r.queued in
-    let rest : List Handful = front.0 in
+    let rest : List Batch = front.0 in
     let first : r.waiting ≡ h ∷ rest = front.1 in
     let moved : r.off ++ pages_of r.waiting ≡ (r.off ++ h.items) ++ pages_of rest =
     ap (λ l. r.off ++ pages_of l) first ∙ sym (append_assoc r.off h.items (pages_of rest)) in
@@ -194,9 +194,9 @@ pages_off number v h queue ends plain share r at =
     let serials : HasSerialsFrom r.base ((r.off ++ h.items) ++ pages_of rest) = subst (HasSerialsFrom r.base) moved r.serials in
     let next : HasSerialsFrom (r.base + length r.off) h.items =
     serials_behind r.base r.off h.items (serials_front r.base (r.off ++ h.items) (pages_of rest) serials) in
-    let below : All (λ (q : OnItsWay). q.serial < r.base + length r.off) v.off =
+    let below : All (λ (q : IsolatedPage). q.serial < r.base + length r.off) v.off =
     all_of_end (λ q. q.serial < r.base + length r.off) ends number v at
-    (All-permutation (λ (q : OnItsWay). q.serial < r.base + length r.off) r.off (all_off ends) (IsPermutation-sym (all_off ends) r.off r.together)
+    (All-permutation (λ (q : IsolatedPage). q.serial < r.base + length r.off) r.off (all_off ends) (IsPermutation-sym (all_off ends) r.off r.together)
     (serials_below r.base r.off (serials_front r.base r.off (pages_of r.waiting) r.serials))) in
     let rises : IsRising (v.off ++ h.items) = rising-append v.off (r.base + length r.off) h.items (r.rising number v at plain) below next in (
       record {
@@ -217,14 +217,14 @@ pages_off number v h queue ends plain share r at =
             (λ j u other e. same_giver r.giver (r.off ++ pages_of r.waiting) ((r.off ++ h.items) ++ pages_of rest) (all_ended ends + r.marks) (all_ended (set ends number w) + r.marks) j u moved (ap (λ n. n + r.marks) (sym ended)) (r.given j u e));
         fits = each_set (Fits rest) ends number w
             (λ gives. absurd (true≢false (sym gives ∙ plain)))
-            (λ j u other e his. others_fit u.largest h rest (subst (All (λ (g : Handful). length g.items ≤ u.largest)) first (r.fits j u e his)));
+            (λ j u other e his. others_fit u.largest h rest (subst (All (λ (g : Batch). length g.items ≤ u.largest)) first (r.fits j u e his)));
         shares = total_same (λ u. u.shares) ends number v w at refl ∙ r.shares;
         spent = each_set Spent ends number w (λ none. absurd (omega arith)) (λ j u other e. r.spent j u e);
       },
       rises,
     )
   where
-    nothing : {rest : List Handful} → h ∷ rest ≡ [] → ⊥
+    nothing : {rest : List Batch} → h ∷ rest ≡ [] → ⊥
     nothing e = cc
 
 -- an end mark is received from the front
@@ -253,7 +253,7 @@ mark_off number v queue ends plain share r at =
         given = each_set (Gave r.giver (r.off ++ []) (all_ended (set ends number w) + left)) ends number w
             (λ gives. absurd (true≢false (sym gives ∙ plain)))
             (λ j u other e. same_giver r.giver (r.off ++ pages_of r.waiting) (r.off ++ []) (all_ended ends + r.marks) (all_ended (set ends number w) + left) j u pages marks (r.given j u e));
-        fits = each_set (Fits []) ends number w (λ gives. absurd (true≢false (sym gives ∙ plain))) (λ j u other e his. All-nil (λ (g : Handful). length g.items ≤ u.largest));
+        fits = each_set (Fits []) ends number w (λ gives. absurd (true≢false (sym gives ∙ plain))) (λ j u other e his. All-nil (λ (g : Batch). length g.items ≤ u.largest));
         shares = total_same (λ u. u.shares) ends number v w at refl ∙ r.shares;
         spent = each_set Spent ends number w (λ none. absurd (omega arith)) (λ j u other e. r.spent j u e);
       },

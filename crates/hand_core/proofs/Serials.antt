@@ -8,7 +8,7 @@ use Rattle.std.proofs.Math.Seq.{get_or-append_seam, take-append_seam, drop-appen
 use Rattle.std.specs.List.{range_with_len}
 use Rattle.std.specs.List.Sorted.{IsStrictlyIncreasing}
 use Rattle.std.proofs.lemmas.List.Elements.{All-map, All-take, All-drop, All-cons, All-nil, All-append}
-use Rattle.word_core.specs.Page.{OnItsWay}
+use Rattle.word_core.specs.Page.{IsolatedPage}
 use Rattle.word_core.specs.Serials.{serials_of, HasSerialsFrom, IsRising}
 
 -- the numbers from a first one on, with one more
@@ -25,17 +25,17 @@ head_of : (a b : ℕ) (xs ys : List ℕ) → a ∷ xs ≡ b ∷ ys → a ≡ b
 head_of a b xs ys e = cc
 
 -- one more page with the next serial
-pub serials-snoc : (first : ℕ) (pages : List OnItsWay) (p : OnItsWay) → HasSerialsFrom first pages → p.serial ≡ first + length pages → HasSerialsFrom first (pages ++ p ∷ [])
+pub serials-snoc : (first : ℕ) (pages : List IsolatedPage) (p : IsolatedPage) → HasSerialsFrom first pages → p.serial ≡ first + length pages → HasSerialsFrom first (pages ++ p ∷ [])
 serials-snoc first pages p h next =
     let longer : length (pages ++ p ∷ []) ≡ suc (length pages) = let e = length-append pages (p ∷ []) in omega arith in
-    map-append (λ (q : OnItsWay). q.serial) pages (p ∷ [])
+    map-append (λ (q : IsolatedPage). q.serial) pages (p ∷ [])
     ∙ ap (λ l. l ++ p.serial ∷ []) h
     ∙ ap (λ n. range_with_len first (length pages) ++ n ∷ []) next
     ∙ sym (range_with_len-suc first (length pages))
     ∙ ap (λ n. range_with_len first n) (sym longer)
 
 -- more pages with the next serials
-pub serials-append : (first : ℕ) (pages more : List OnItsWay) → HasSerialsFrom first pages → HasSerialsFrom (first + length pages) more → HasSerialsFrom first (pages ++ more)
+pub serials-append : (first : ℕ) (pages more : List IsolatedPage) → HasSerialsFrom first pages → HasSerialsFrom (first + length pages) more → HasSerialsFrom first (pages ++ more)
 serials-append first [] more h next = subst (λ n. HasSerialsFrom n more) (let e : first + 0 ≡ first = omega arith in e) next
 serials-append first (p ∷ pages) more h next =
     let inner = serials-append (first + 1) pages more
@@ -45,7 +45,7 @@ serials-append first (p ∷ pages) more h next =
     ap (λ l. p.serial ∷ l) inner ∙ ap (λ n. n ∷ range_with_len (first + 1) (length (pages ++ more))) same
 
 -- the pages at the front of a list have serials in order
-pub serials_front : (first : ℕ) (pages rest : List OnItsWay) → HasSerialsFrom first (pages ++ rest) → HasSerialsFrom first pages
+pub serials_front : (first : ℕ) (pages rest : List IsolatedPage) → HasSerialsFrom first (pages ++ rest) → HasSerialsFrom first pages
 serials_front first [] rest h = refl
 serials_front first (p ∷ pages) rest h =
     let inner = serials_front (first + 1) pages rest (tail_of p.serial first (serials_of (pages ++ rest)) (range_with_len (first + 1) (length (pages ++ rest))) h) in
@@ -53,30 +53,30 @@ serials_front first (p ∷ pages) rest h =
     ap (λ l. p.serial ∷ l) inner ∙ ap (λ n. n ∷ range_with_len (first + 1) (length pages)) same
 
 -- the pages after these have the serials that come next
-pub serials_behind : (first : ℕ) (pages rest : List OnItsWay) → HasSerialsFrom first (pages ++ rest) → HasSerialsFrom (first + length pages) rest
+pub serials_behind : (first : ℕ) (pages rest : List IsolatedPage) → HasSerialsFrom first (pages ++ rest) → HasSerialsFrom (first + length pages) rest
 serials_behind first [] rest h = subst (λ n. HasSerialsFrom n rest) (let e : first ≡ first + 0 = omega arith in e) h
 serials_behind first (p ∷ pages) rest h =
     subst (λ n. HasSerialsFrom n rest) (let e : first + 1 + length pages ≡ first + suc (length pages) = omega arith in e)
     (serials_behind (first + 1) pages rest (tail_of p.serial first (serials_of (pages ++ rest)) (range_with_len (first + 1) (length (pages ++ rest))) h))
 
 -- the page after some pages has the serial that comes next
-pub serial_at : (first : ℕ) (pages : List OnItsWay) (p : OnItsWay) (rest : List OnItsWay) → HasSerialsFrom first (pages ++ p ∷ rest) → p.serial ≡ first + length pages
+pub serial_at : (first : ℕ) (pages : List IsolatedPage) (p : IsolatedPage) (rest : List IsolatedPage) → HasSerialsFrom first (pages ++ p ∷ rest) → p.serial ≡ first + length pages
 serial_at first [] p rest h = let e = head_of p.serial first (serials_of rest) (range_with_len (first + 1) (length rest)) h in omega arith
 serial_at first (q ∷ pages) p rest h =
     let e = serial_at (first + 1) pages p rest (tail_of q.serial first (serials_of (pages ++ p ∷ rest)) (range_with_len (first + 1) (length (pages ++ p ∷ rest))) h) in omega arith
 
 -- the serial of the page at an index
-pub serial_of : (first : ℕ) (pages : List OnItsWay) (place : ℕ) (p : OnItsWay) → HasSerialsFrom first pages → Some p ≡ slice_get pages place → (p.serial ≡ first + place) × (place < length pages)
+pub serial_of : (first : ℕ) (pages : List IsolatedPage) (place : ℕ) (p : IsolatedPage) → HasSerialsFrom first pages → Some p ≡ slice_get pages place → (p.serial ≡ first + place) × (place < length pages)
 serial_of first [] place p h is = absurd (cc)
 serial_of first (q ∷ pages) zero p h is =
     let same : p ≡ q = cc in
-    let serial : p.serial ≡ q.serial = ap (λ (o : OnItsWay). o.serial) same in
+    let serial : p.serial ≡ q.serial = ap (λ (o : IsolatedPage). o.serial) same in
     let e = head_of q.serial first (serials_of pages) (range_with_len (first + 1) (length pages)) h in (omega arith, omega arith)
 serial_of first (q ∷ pages) (suc place) p h is =
     let e = serial_of (first + 1) pages place p (tail_of q.serial first (serials_of pages) (range_with_len (first + 1) (length pages)) h) is in (omega arith, omega arith)
 
 -- each page has a lower serial than those that come next
-pub serials_below : (first : ℕ) (pages : List OnItsWay) → HasSerialsFrom first pages → All (λ (q : OnItsWay). q.serial < first + length pages) pages
+pub serials_below : (first : ℕ) (pages : List IsolatedPage) → HasSerialsFrom first pages → All (λ (q : IsolatedPage). q.serial < first + length pages) pages
 serials_below first [] h k d lt = absurd (omega arith)
 serials_below first (p ∷ pages) h zero d lt =
     let e = head_of p.serial first (serials_of pages) (range_with_len (first + 1) (length pages)) h in omega arith
@@ -104,17 +104,17 @@ increasing-snoc xs y rises below k lt =
     let e = below k 0 (omega arith) in omega arith)
     (cases_lt (k + 1) (length xs))
 
-pub rising-snoc : (pages : List OnItsWay) (p : OnItsWay) → IsRising pages → All (λ (q : OnItsWay). q.serial < p.serial) pages → IsRising (pages ++ p ∷ [])
+pub rising-snoc : (pages : List IsolatedPage) (p : IsolatedPage) → IsRising pages → All (λ (q : IsolatedPage). q.serial < p.serial) pages → IsRising (pages ++ p ∷ [])
 rising-snoc pages p rises below =
-    subst IsStrictlyIncreasing (sym (map-append (λ (q : OnItsWay). q.serial) pages (p ∷ [])))
-    (increasing-snoc (serials_of pages) p.serial rises (All-map (λ n. n < p.serial) (λ (q : OnItsWay). q.serial) pages below))
+    subst IsStrictlyIncreasing (sym (map-append (λ (q : IsolatedPage). q.serial) pages (p ∷ [])))
+    (increasing-snoc (serials_of pages) p.serial rises (All-map (λ n. n < p.serial) (λ (q : IsolatedPage). q.serial) pages below))
 
 -- a list that rises still does with the pages of the next serials at its end
-pub rising-append : (pages : List OnItsWay) (first : ℕ) (more : List OnItsWay) → IsRising pages → All (λ (q : OnItsWay). q.serial < first) pages → HasSerialsFrom first more → IsRising (pages ++ more)
+pub rising-append : (pages : List IsolatedPage) (first : ℕ) (more : List IsolatedPage) → IsRising pages → All (λ (q : IsolatedPage). q.serial < first) pages → HasSerialsFrom first more → IsRising (pages ++ more)
 rising-append pages first [] rises below h = subst IsRising (sym (append-nil pages)) rises
 rising-append pages first (p ∷ more) rises below h =
     let same : p.serial ≡ first = head_of p.serial first (serials_of more) (range_with_len (first + 1) (length more)) h in
-    let Below : ℕ → OnItsWay → Type 0 = λ n q. q.serial < n in
+    let Below : ℕ → IsolatedPage → Type 0 = λ n q. q.serial < n in
     let wider : All (Below (first + 1)) pages = λ k d lt. let low = below k d lt in omega arith in
     let this : All (Below (first + 1)) (p ∷ []) = All-cons (Below (first + 1)) p [] (omega arith) (All-nil (Below (first + 1))) in
     subst IsRising (append_assoc pages (p ∷ []) more)

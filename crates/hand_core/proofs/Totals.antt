@@ -4,17 +4,17 @@ use Rattle.std.specs.List.Sorted.{IsPermutation}
 use Rattle.std.proofs.lemmas.List.Sorted.{IsPermutation-refl, IsPermutation-sym, IsPermutation-trans, IsPermutation-append_comm, IsPermutation-append_right}
 use mathlib.Core.Option.{some, some-ne-none, some-injective}
 use lib.ListN.{get_elem?}
-use Rattle.word_core.specs.Page.{OnItsWay}
+use Rattle.word_core.specs.Page.{IsolatedPage}
 use Rattle.hand_core.specs.declared.page_queue.Known.{Known}
 use Rattle.hand_core.specs.PageQueue.{total, all_off}
 use Rattle.hand_core.specs.Queue.{Each}
 use Rattle.hand_core.proofs.Serials.{all_front, all_back}
 
-abbrev Same : List OnItsWay → List OnItsWay → Type 0
+abbrev Same : List IsolatedPage → List IsolatedPage → Type 0
 Same xs ys = IsPermutation xs ys
 
 -- equal lists have the same pages
-pub same_is : (xs ys : List OnItsWay) → xs ≡ ys → IsPermutation xs ys
+pub same_is : (xs ys : List IsolatedPage) → xs ≡ ys → IsPermutation xs ys
 same_is xs ys e = subst (λ l. IsPermutation xs l) e (IsPermutation-refl xs)
 
 -- a total after one end changed
@@ -66,7 +66,7 @@ pub off_new : (ends : List Known) (new : Known) → new.off ≡ [] → all_off (
 off_new [] new e = append-nil new.off ∙ e
 off_new (x ∷ ends) new e = ap (λ l. x.off ++ l) (off_new ends new e)
 
-behind : (first rest more : List OnItsWay) → Same ((first ++ more) ++ rest) ((first ++ rest) ++ more)
+behind : (first rest more : List IsolatedPage) → Same ((first ++ more) ++ rest) ((first ++ rest) ++ more)
 behind first rest more =
     IsPermutation-trans ((first ++ more) ++ rest) (first ++ (rest ++ more)) ((first ++ rest) ++ more)
     (IsPermutation-trans ((first ++ more) ++ rest) (first ++ (more ++ rest)) (first ++ (rest ++ more))
@@ -75,7 +75,7 @@ behind first rest more =
     (same_is (first ++ (rest ++ more)) ((first ++ rest) ++ more) (sym (append_assoc first rest more)))
 
 -- an end's list grows by more pages
-pub off_longer : (ends : List Known) (number : ℕ) (v w : Known) (more : List OnItsWay) → get_elem? ends number ≡ some v → w.off ≡ v.off ++ more
+pub off_longer : (ends : List Known) (number : ℕ) (v w : Known) (more : List IsolatedPage) → get_elem? ends number ≡ some v → w.off ≡ v.off ++ more
     → IsPermutation (all_off (set ends number w)) (all_off ends ++ more)
 off_longer [] number v w more at e = absurd (some-ne-none v (sym at))
 off_longer (x ∷ ends) zero v w more at e =
@@ -140,11 +140,11 @@ off_alone (x ∷ ends) (suc number) v at whole idle =
     ap (λ l. l ++ all_off ends) (idle 0 x refl (omega arith)) ∙ off_alone ends number v at (omega arith) (λ j u at. idle (suc j) u at)
 
 -- what holds of all pages that were taken holds of those of each end
-pub all_of_end : (holds : OnItsWay → Type 0) (ends : List Known) (number : ℕ) (v : Known) → get_elem? ends number ≡ some v → All holds (all_off ends) → All holds v.off
+pub all_of_end : (holds : IsolatedPage → Type 0) (ends : List Known) (number : ℕ) (v : Known) → get_elem? ends number ≡ some v → All holds (all_off ends) → All holds v.off
 all_of_end holds [] number v at every = absurd (some-ne-none v (sym at))
 all_of_end holds (x ∷ ends) zero v at every = subst (λ (u : Known). All holds u.off) (some-injective x v at) (all_front holds x.off (all_off ends) every)
 all_of_end holds (x ∷ ends) (suc number) v at every = all_of_end holds ends number v at (all_back holds x.off (all_off ends) every)
 
 -- a list that comes back is added to those that came back before
-pub list_back : (mine his before : List OnItsWay) → IsPermutation mine before → IsPermutation (mine ++ his) (his ++ before)
+pub list_back : (mine his before : List IsolatedPage) → IsPermutation mine before → IsPermutation (mine ++ his) (his ++ before)
 list_back mine his before h = IsPermutation-trans (mine ++ his) (his ++ mine) (his ++ before) (IsPermutation-append_comm mine his) (IsPermutation-append_right his mine before h)

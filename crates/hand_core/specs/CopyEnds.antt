@@ -3,49 +3,49 @@ use Rattle.std.specs.Prelude.{◌≡◌, ℕ, ◌==◌, Bool, true, false, List,
 use Rattle.std.specs.List.{list_all, list_any, flat_map, range_with_len}
 use mathlib.Core.Option.{some}
 use lib.ListN.{get_elem?}
-use Rattle.word_core.specs.Page.{OnItsWay}
+use Rattle.word_core.specs.Page.{IsolatedPage}
 use Rattle.hand_core.specs.declared.copy_queue.Message.{Message}
 use Rattle.hand_core.specs.declared.copy_queue.Message.TheVariants.{Copies, Mark}
 use Rattle.hand_core.specs.declared.copy_queue.Account.{Account}
 use Rattle.hand_core.specs.declared.done_taker.Came.{Came}
 use Rattle.hand_core.specs.Queue.{QueueName}
 use Rattle.hand_core.specs.CopyQueue.{messages_of, InTurn}
-use Rattle.hand_core.specs.Handfuls.{before_hand}
+use Rattle.hand_core.specs.Batches.{before_hand}
 
 -- the name of the queue of copies that an end belongs to
 abbrev pub Way : Type 0
 Way = QueueName Message
 
--- a sender: its queue, how many copies a handful has at most, its number, the copies that it sent, in their order, whether it put its
+-- a sender: its queue, how many copies a batch has at most, its number, the copies that it sent, in their order, whether it put its
 -- mark, and whether it is closed
 pub record DoneSender : Type 0 where
   pub way : Way
   pub most : ℕ
   pub number : ℕ
-  pub sent : List OnItsWay
+  pub sent : List IsolatedPage
   pub marked : Bool
   pub closed : Bool
 
--- the taker of a queue of copies: its queue, the queue's room in handfuls, the number of senders, the messages received, in their
--- order, and the copies of the last handful that no call has answered yet
+-- the taker of a queue of copies: its queue, the queue's room in batches, the number of senders, the messages received, in their
+-- order, and the copies of the last batch that no call has answered yet
 pub record DoneTaker : Type 0 where
   pub way : Way
   pub room : ℕ
   pub senders : ℕ
   pub came : List Message
-  pub in_hand : List OnItsWay
+  pub in_hand : List IsolatedPage
 
 -- the copies of a message; a mark has none
-abbrev pub copies_in_one : Message → List OnItsWay
+abbrev pub copies_in_one : Message → List IsolatedPage
 copies_in_one (Copies sender copies) = copies.items
 copies_in_one (Mark sender) = []
 
 -- the copies of some messages, in their order
-abbrev pub copies_in : List Message → List OnItsWay
+abbrev pub copies_in : List Message → List IsolatedPage
 copies_in came = flat_map copies_in_one came
 
 -- the copies of one sender among some messages, in their order
-abbrev pub copies_of : ℕ → List Message → List OnItsWay
+abbrev pub copies_of : ℕ → List Message → List IsolatedPage
 copies_of sender came = copies_in (messages_of sender came)
 
 -- whether a message is the sender's mark
@@ -73,11 +73,11 @@ pub record Holds (queue : List Message) (t : DoneTaker) : Type 0 where
   pub made : taker.made ≡ t.senders
 
 -- the copies that calls of the taker answered, in their order
-abbrev pub copies_taken : DoneTaker → List OnItsWay
+abbrev pub copies_taken : DoneTaker → List IsolatedPage
 copies_taken t = before_hand (copies_in t.came) t.in_hand
 
 -- the copy that an answer of the taker has, if it has one
-abbrev pub copy_answered : Came → List OnItsWay
+abbrev pub copy_answered : Came → List IsolatedPage
 copy_answered (Came.Copy copy) = copy ∷ []
 copy_answered Came.End = []
 copy_answered Came.Gone = []
@@ -90,7 +90,7 @@ IsEndInTime t Came.End = (has_ended t ≡ true) × (t.in_hand ≡ [])
 IsEndInTime t Came.Gone = (has_ended t ≡ false) × (t.in_hand ≡ [])
 
 -- the copy that the answer of a try has, if it has one
-abbrev pub copy_tried : Option Came → List OnItsWay
+abbrev pub copy_tried : Option Came → List IsolatedPage
 copy_tried None = []
 copy_tried (Some came) = copy_answered came
 

@@ -6,16 +6,16 @@ use Rattle.hand_core.specs.declared.done_sender.DoneSender.TheInside as sender
 use Rattle.hand_core.specs.declared.done_taker.DoneTaker.TheInside as taker
 use Rattle.hand_core.specs.declared.copy_queue.Message.{Message}
 use Rattle.hand_core.specs.CopyEnds.{has_mark, copies_in}
-use Rattle.hand_core.specs.Handfuls.{Handful}
-use Rattle.word_core.specs.Page.{OnItsWay}
+use Rattle.hand_core.specs.Batches.{Batch}
+use Rattle.word_core.specs.Page.{IsolatedPage}
 
--- the sender's pass is a seat at its channel, it sent no handful of more copies than one may have, and it put no mark unless it is
+-- the sender's pass is a seat at its channel, it sent no batch of more copies than one may have, and it put no mark unless it is
 -- closed
 pub record IsSending (s : sender.Inside) : Type 0 where
   pub seat : IsSeatAt (sends_on s.to) s.pass
   pub sends : (view s.pass).sends ≡ true
   pub sender : (view s.pass).sender ≡ s.number
-  pub small : All (λ (h : Handful). length h.items ≤ s.most) (view s.pass).sent
+  pub small : All (λ (h : Batch). length h.items ≤ s.most) (view s.pass).sent
   pub some : (0 < s.most) × (s.most ≤ 8)
   pub fresh : s.closed ≡ false → (view s.pass).marked ≡ false
 
@@ -30,4 +30,4 @@ pub record IsReceiving (t : taker.Inside) : Type 0 where
   pub made : (view t.pass).made ≡ t.senders
   pub few : t.senders ≤ 4
   pub noted : t.marked ≡ marks_of_four (view t.pass).came
-  pub hand : (before : List OnItsWay) × (copies_in (view t.pass).came ≡ before ++ t.hand)
+  pub hand : (before : List IsolatedPage) × (copies_in (view t.pass).came ≡ before ++ t.hand)

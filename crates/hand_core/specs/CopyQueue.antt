@@ -3,11 +3,11 @@ use Rattle.std.specs.Prelude.{◌≡◌, ℕ, ◌<◌, ◌≤◌, ◌==◌, Bool
 use Rattle.hand_core.specs.declared.copy_queue.Message.{Message}
 use Rattle.hand_core.specs.declared.copy_queue.Message.TheVariants.{Copies, Mark}
 use Rattle.hand_core.specs.declared.copy_queue.Account.{Account}
-use Rattle.hand_core.specs.Handfuls.{Handful}
+use Rattle.hand_core.specs.Batches.{Batch}
 use Rattle.hand_core.specs.Queue.{Each}
 
 -- what an end knows, made from its parts
-abbrev pub account : Bool → ℕ → List Handful → Bool → Bool → ℕ → List Message → Account
+abbrev pub account : Bool → ℕ → List Batch → Bool → Bool → ℕ → List Message → Account
 account sends sender sent marked takes made came = record { sends = sends; sender = sender; sent = sent; marked = marked; takes = takes; made = made; came = came }
 
 -- what the taker knows at first
@@ -27,9 +27,9 @@ sender_of (Mark sender) = sender
 abbrev pub messages_of : ℕ → List Message → List Message
 messages_of sender messages = filter (λ m. sender_of m == sender) messages
 
--- the messages of a sender that sent these handfuls: the handfuls in their order, and its mark after them if it put one
-abbrev pub sent_by : ℕ → List Handful → Bool → List Message
-sent_by sender handfuls marked = map (Copies sender) handfuls ++ (if marked then Mark sender ∷ [] else [])
+-- the messages of a sender that sent these batches: the batches in their order, and its mark after them if it put one
+abbrev pub sent_by : ℕ → List Batch → Bool → List Message
+sent_by sender batches marked = map (Copies sender) batches ++ (if marked then Mark sender ∷ [] else [])
 
 -- all messages that an end sent
 abbrev pub all_sent : Account → List Message
@@ -43,14 +43,14 @@ pub record InTurn (queue : List Message) (ends : List Account) : Type 0 where
   pub end_of : ℕ → ℕ
   -- of each sender, the messages received and then those in the queue are all that it sent, in its order
   pub sent : Each ends (λ number v. v.sends ≡ true → (end_of v.sender ≡ number) × (v.sender < made) × (messages_of v.sender (came ++ queue) ≡ all_sent v))
-  -- whether or not a sender's end is there, they are handfuls and then its mark, if it put one
-  pub closed : (sender : ℕ) → (handfuls : List Handful) × (marked : Bool) × (messages_of sender (came ++ queue) ≡ sent_by sender handfuls marked)
+  -- whether or not a sender's end is there, they are batches and then its mark, if it put one
+  pub closed : (sender : ℕ) → (batches : List Batch) × (marked : Bool) × (messages_of sender (came ++ queue) ≡ sent_by sender batches marked)
   -- no message is of anyone else
   pub others : (sender : ℕ) → made ≤ sender → messages_of sender (came ++ queue) ≡ []
   -- one end takes, and it knows all messages received
   pub taken : Each ends (λ number v. v.takes ≡ true → (number ≡ taker) × (v.came ≡ came) × (v.made ≡ made))
 
--- what a sender knows after it sent a handful or its mark
+-- what a sender knows after it sent a batch or its mark
 abbrev pub after_send : Account → Message → Account
 after_send v (Copies sender copies) = record v { sent = v.sent ++ copies ∷ [] }
 after_send v (Mark sender) = record v { marked = true }

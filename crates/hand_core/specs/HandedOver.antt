@@ -2,12 +2,12 @@
 use Rattle.std.specs.Prelude.{◌≡◌, ℕ, ◌+◌, ◌-◌, ◌*◌, ◌<◌, ◌≤◌, true, false, if◌then◌else◌, List, [], ◌∷◌, ◌++◌, length, map, replicate, take, drop}
 use Rattle.std.specs.List.{flat_map, range_with_len}
 use Rattle.std.specs.List.Sorted.{IsPermutation}
-use Rattle.word_core.specs.Page.{OnItsWay}
+use Rattle.word_core.specs.Page.{IsolatedPage}
 use Rattle.word_core.specs.Serials.{serials_of, HasSerialsFrom}
 use Rattle.hand_core.specs.declared.page_queue.Note.{Note}
 use Rattle.hand_core.specs.declared.page_queue.Note.TheVariants.{Pages, Mark}
 use Rattle.hand_core.specs.declared.page_queue.Known.{Known}
-use Rattle.hand_core.specs.Handfuls.{Handful}
+use Rattle.hand_core.specs.Batches.{Batch}
 use Rattle.hand_core.specs.PageEnds.{Giver, Taker, off, off_by, count_ended}
 use Rattle.hand_core.specs.PageQueue.{known, InOrder}
 
@@ -15,21 +15,21 @@ use Rattle.hand_core.specs.PageQueue.{known, InOrder}
 abbrev pub known_to : Taker → Known
 known_to t = known 1 false [] 0 0 (off t) (if t.ended then 1 else 0)
 
--- what the passes of a giver and of all its takers know, where the largest handful that was given has so many pages
+-- what the passes of a giver and of all its takers know, where the largest batch that was given has so many pages
 abbrev pub ends_of : ℕ → Giver → List Taker → List Known
 ends_of largest g takers = known (1024 - length takers) true g.given g.marks largest [] 0 ∷ map known_to takers
 
--- the pages of a handful; an end mark has none
-abbrev pub pages_in_one : Note → List OnItsWay
+-- the pages of a batch; an end mark has none
+abbrev pub pages_in_one : Note → List IsolatedPage
 pages_in_one (Pages h) = h.items
 pages_in_one Mark = []
 
 -- the pages that a queue holds, in their order
-abbrev pub pages_in : List Note → List OnItsWay
+abbrev pub pages_in : List Note → List IsolatedPage
 pages_in queue = flat_map pages_in_one queue
 
 -- the queue holds this, its giver and takers are these, and the rule holds of them. The channel holds no more messages than it has
--- room for, and no handful was given with more pages than one may have
+-- room for, and no batch was given with more pages than one may have
 pub record Holds (queue : List Note) (g : Giver) (takers : List Taker) : Type 0 where
   pub room : length queue ≤ g.room
   pub largest : ℕ
@@ -49,7 +49,7 @@ pub record IsHandedOver (queue : List Note) (g : Giver) (takers : List Taker) : 
   pub off_whole : IsPermutation (off_by takers) (take (length (off_by takers)) g.given)
   pub queued_whole : pages_in queue ≡ drop (length (off_by takers)) g.given
   -- after the pages the queue has the end marks that were put and that ended no taker yet
-  pub marks : (handfuls : List Handful) × (queue ≡ map Pages handfuls ++ replicate (g.marks - count_ended takers) Mark)
+  pub marks : (batches : List Batch) × (queue ≡ map Pages batches ++ replicate (g.marks - count_ended takers) Mark)
   -- where a taker has ended, h is n, and where each mark that was put has ended one, the queue is empty
   pub ended : 0 < count_ended takers → length (off_by takers) ≡ length g.given
   pub empty : 0 < count_ended takers → count_ended takers ≡ g.marks → queue ≡ []

@@ -4,7 +4,7 @@ pub mod CopyQueue
 pub mod CopyRoom
 pub mod Errors
 pub mod HandedOver
-pub mod Handfuls
+pub mod Batches
 pub mod PageEnds
 pub mod PageInvariants
 pub mod PageQueue

@@ -1,7 +1,7 @@
 -- What contracts see of the two ends of a hand-over of pages.
 use Rattle.std.specs.Prelude.{◌≡◌, ◌≢◌, ℕ, ◌+◌, Bool, true, if◌then◌else◌, List, [], ◌∷◌, ◌++◌}
 use Rattle.std.specs.List.{flat_map, list_all}
-use Rattle.word_core.specs.Page.{OnItsWay}
+use Rattle.word_core.specs.Page.{IsolatedPage}
 use Rattle.hand_core.specs.declared.page_queue.Note.{Note}
 use Rattle.hand_core.specs.declared.taker.Took.{Took}
 use Rattle.hand_core.specs.Queue.{QueueName}
@@ -10,7 +10,7 @@ use Rattle.hand_core.specs.Queue.{QueueName}
 abbrev pub HandOver : Type 0
 HandOver = QueueName Note
 
--- a giver: its hand-over, the queue's room in handfuls, how many pages a handful has at most, the number of takers, the first serial,
+-- a giver: its hand-over, the queue's room in batches, how many pages a batch has at most, the number of takers, the first serial,
 -- the pages given, in their order, the number of end marks put, and whether it is closed
 pub record Giver : Type 0 where
   pub hand_over : HandOver
@@ -18,7 +18,7 @@ pub record Giver : Type 0 where
   pub most : ℕ
   pub takers : ℕ
   pub base : ℕ
-  pub given : List OnItsWay
+  pub given : List IsolatedPage
   pub marks : ℕ
   pub closed : Bool
 
@@ -26,20 +26,20 @@ pub record Giver : Type 0 where
 -- has answered yet, and whether it took an end mark
 pub record Taker : Type 0 where
   pub hand_over : HandOver
-  pub taken : List OnItsWay
-  pub in_hand : List OnItsWay
+  pub taken : List IsolatedPage
+  pub in_hand : List IsolatedPage
   pub ended : Bool
 
 -- the pages that came off for a taker, in their order: those that it took, and then those in hand
-abbrev pub off : Taker → List OnItsWay
+abbrev pub off : Taker → List IsolatedPage
 off t = t.taken ++ t.in_hand
 
 -- the pages that all these takers took
-abbrev pub taken_by : List Taker → List OnItsWay
+abbrev pub taken_by : List Taker → List IsolatedPage
 taken_by takers = flat_map (λ (t : Taker). t.taken) takers
 
 -- the pages that came off for all these takers together
-abbrev pub off_by : List Taker → List OnItsWay
+abbrev pub off_by : List Taker → List IsolatedPage
 off_by takers = flat_map off takers
 
 -- how many of these takers took an end mark

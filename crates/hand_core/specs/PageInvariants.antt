@@ -2,7 +2,7 @@
 use Rattle.std.specs.Prelude.{◌≡◌, ◌+◌, ◌^◌, ◌<◌, ◌≤◌, true, false, if◌then◌else◌, List, [], ◌++◌, length}
 use Rattle.crossbeam_channel.specs.Claims.{view, IsSeatAt}
 use Rattle.crossbeam_channel.specs.Ends.{sends_on, receives_on}
-use Rattle.word_core.specs.Page.{OnItsWay}
+use Rattle.word_core.specs.Page.{IsolatedPage}
 use Rattle.word_core.specs.Serials.{HasSerialsFrom, IsRising}
 use Rattle.hand_core.specs.declared.giver.Giver.TheInside as giver
 use Rattle.hand_core.specs.declared.taker.Taker.TheInside as taker
@@ -29,6 +29,6 @@ pub record IsTaking (t : taker.Inside) : Type 0 where
   pub takes : (view t.pass).gives ≡ false
   pub share : (view t.pass).shares ≡ 1
   pub rising : IsRising (view t.pass).off
-  pub hand : (before : List OnItsWay) × ((view t.pass).off ≡ before ++ t.hand)
+  pub hand : (before : List IsolatedPage) × ((view t.pass).off ≡ before ++ t.hand)
   pub empty : t.ended ≡ true → t.hand ≡ []
   pub marked : (view t.pass).ended ≡ (if t.ended then 1 else 0)

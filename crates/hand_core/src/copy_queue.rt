@@ -1,14 +1,14 @@
 // The queue of the copies, and its rule.
 
-use crate::handful::Handful;
+use crate::batch::Batch;
 use crossbeam_channel::protocol::{Join, Lesson, Outcome, Protocol, Split};
 use std::collections::LinkedList;
 use word_core::Copied;
 
-/// A message in the queue: a handful of copies or an end mark, under the number of its sender.
+/// A message in the queue: a batch of copies or an end mark, under the number of its sender.
 #[derive(Drop)]
 pub enum Message {
-    Copies(usize, Handful<Copied>),
+    Copies(usize, Batch<Copied>),
     Mark(usize),
 }
 
@@ -16,14 +16,14 @@ pub enum Message {
 pub struct Account {
     pub sends: bool,
     pub sender: u64,
-    pub sent: LinkedList<Handful<Copied>>,
+    pub sent: LinkedList<Batch<Copied>>,
     pub marked: bool,
     pub takes: bool,
     pub made: u64,
     pub came: LinkedList<Message>,
 }
 
-/// The rule: of each sender, the handfuls are received in the order in which they were sent, and its mark after them.
+/// The rule: of each sender, the batches are received in the order in which they were sent, and its mark after them.
 pub struct Turns;
 
 impl Protocol<Message, Account> for Turns {
@@ -46,7 +46,7 @@ impl Split<Account> for Makes {
     ghost right = { λ v. sender_account v.made };
 }
 
-/// A sender puts a handful of copies or its mark at the back.
+/// A sender puts a batch of copies or its mark at the back.
 pub struct Sends;
 
 impl Outcome<Message, Account> for Sends {
@@ -60,7 +60,7 @@ impl Lesson<Message, Account> for Sends {
     ghost fact = { λ v queue. Unit {0} };
 }
 
-/// The taker takes a handful of copies or a mark from the front.
+/// The taker takes a batch of copies or a mark from the front.
 pub struct Receives;
 
 impl Outcome<Message, Account> for Receives {

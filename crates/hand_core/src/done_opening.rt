@@ -4,11 +4,11 @@ ghost use Rattle.crossbeam_channel.specs.Ends.{sends_on};
 ghost use Rattle.hand_core.specs.Queue.{name_of};
 ghost use Rattle.hand_core.specs.CopyQueue.{taker_account};
 
+use crate::batch::Batch;
 use crate::copy_queue::{Account, Makes, Message, Turns};
 use crate::done_sender::DoneSender;
 use crate::done_taker::DoneTaker;
 use crate::error::HandError;
-use crate::handful::Handful;
 use crossbeam_channel::{Pass, RuledSender, bounded_with};
 use std::alloc::{AllocError, Global};
 
@@ -32,12 +32,12 @@ pub fn done_open<R>(
     opened(alloc, senders, cap, 1).map_err(|_| HandError::Memory)
 }
 
-/// Opens a queue as `done_open` does, with room for `cap` copies in handfuls of at most `most` copies: for as many handfuls as keep it
+/// Opens a queue as `done_open` does, with room for `cap` copies in batches of at most `most` copies: for as many batches as keep it
 /// from ever holding more copies.
 ///
 /// Refused as Range where `done_open` is, and unless `most` is 1 to 8 and at most `cap`; else as Memory where there isn't enough.
 #[tactic(auto, using(crate::proofs::HandedOver::room_fits))]
-pub fn done_open_in_handfuls<R>(
+pub fn done_open_in_batches<R>(
     _rt: &R,
     alloc: Global,
     senders: usize,
@@ -56,7 +56,7 @@ pub fn done_open_in_handfuls<R>(
     opened(alloc, senders, cap / most, most).map_err(|_| HandError::Memory)
 }
 
-/// Opens a queue with room for so many handfuls, where the numbers are in range. The error is for want of memory.
+/// Opens a queue with room for so many batches, where the numbers are in range. The error is for want of memory.
 fn opened(
     alloc: Global,
     senders: usize,
@@ -76,7 +76,7 @@ fn opened(
     let taker = DoneTaker {
         senders,
         marked: [false; 4],
-        hand: Handful::new().into_iter(),
+        hand: Batch::new().into_iter(),
         from,
         pass,
     };

@@ -1,6 +1,6 @@
+use crate::batch::Batch;
 use crate::copy_queue::{Account, Message, Sends, Turns};
 use crate::error::Gone;
-use crate::handful::Handful;
 use crate::patience;
 use crossbeam_channel::{Pass, RuledSender};
 use std::alloc::Global;
@@ -11,7 +11,7 @@ use word_core::Copied;
 /// A sending end of the queue of copies.
 #[derive(Drop)]
 pub struct DoneSender {
-    // How many copies a handful has at most.
+    // How many copies a batch has at most.
     pub(crate) most: usize,
     pub(crate) number: usize,
     pub(crate) closed: bool,
@@ -23,7 +23,7 @@ impl Model for DoneSender {
     ghost use Rattle.crossbeam_channel.specs.Claims.{view as knows};
     ghost use Rattle.crossbeam_channel.specs.Ends.{sends_on};
     ghost use Rattle.hand_core.specs.CopyEnds.{DoneSender as Seen};
-    ghost use Rattle.hand_core.specs.Handfuls.{pages_of};
+    ghost use Rattle.hand_core.specs.Batches.{pages_of};
     ghost use Rattle.hand_core.specs.Queue.{name_of};
 
     ghost Value = { Seen };
@@ -46,7 +46,7 @@ impl DoneSender {
         ensures back { IfErr result (λ handed_back. handed_back ≡ copy) }
         ensures err { OnErr result (self.new ≡ self.old) }
     {
-        let mut copies = Handful::new();
+        let mut copies = Batch::new();
         copies.push(copy);
         let Err(mut refused) = self.send_all(rt, copies) else {
             return Ok(());
@@ -57,7 +57,7 @@ impl DoneSender {
         Err(copy)
     }
 
-    /// How many copies a handful has at most: 1 to 8.
+    /// How many copies a batch has at most: 1 to 8.
     pub fn most(&self) -> usize
         ensures value { result ≡ self.now.most }
         ensures range { (0 < result) × (result ≤ 8) }
@@ -65,13 +65,9 @@ impl DoneSender {
         self.most
     }
 
-    /// Puts copies at the back of the queue together, and waits for room. If they are several they may be no more than a handful has
+    /// Puts copies at the back of the queue together, and waits for room. If they are several they may be no more than a batch has
     /// at most, and the sender must not be closed. Where the taker is gone, the copies are handed back.
-    pub fn send_all<R: Wait>(
-        &mut self,
-        rt: &R,
-        copies: Handful<Copied>,
-    ) -> Result<(), Handful<Copied>>
+    pub fn send_all<R: Wait>(&mut self, rt: &R, copies: Batch<Copied>) -> Result<(), Batch<Copied>>
         requires open { self.old.closed ≡ false }
         requires few { 1 < length copies.items → length copies.items ≤ self.old.most }
         ensures ok { OnOk result (self.new ≡ record self.old { sent = self.old.sent ++ copies.items }) }

@@ -5,7 +5,7 @@ use thiserror::Error;
 pub enum HandError {
     #[error("out of memory")]
     Memory,
-    #[error("there are 1 to 4 takers or senders, and room for 1 to 64 pages or copies, in handfuls of 1 to 8 that fit in it")]
+    #[error("there are 1 to 4 takers or senders, and room for 1 to 64 pages or copies, in batches of 1 to 8 that fit in it")]
     Range,
 }
 

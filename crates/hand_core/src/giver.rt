@@ -1,8 +1,8 @@
 ghost use Rattle.std.specs.Prelude.{◌≡◌, ◌+◌, ◌^◌, ◌≤◌, length};
 ghost use Rattle.word_core.specs.Serials.{HasSerialsFrom};
 
+use crate::batch::Batch;
 use crate::error::Gone;
-use crate::handful::Handful;
 use crate::page_queue::{Known, Note, Ordered, Puts};
 use crate::patience;
 use crossbeam_channel::{Pass, RuledSender};
@@ -18,7 +18,7 @@ pub struct Giver {
     pub(crate) base: Serial,
     // The serial of the next page. Where it is 2^32 no more page can be given.
     pub(crate) next: u64,
-    // How many pages a handful has at most.
+    // How many pages a batch has at most.
     pub(crate) most: usize,
     pub(crate) takers: usize,
     pub(crate) marks: usize,
@@ -55,7 +55,7 @@ impl Giver {
         ensures back { IfErr result (λ handed_back. handed_back ≡ page) }
         ensures err { OnErr result (self.new ≡ self.old) }
     {
-        let mut pages = Handful::new();
+        let mut pages = Batch::new();
         pages.push(page);
         let Err(mut refused) = self.give_all(rt, pages) else {
             return Ok(());
@@ -66,7 +66,7 @@ impl Giver {
         Err(page)
     }
 
-    /// How many pages a handful has at most: 1 to 8.
+    /// How many pages a batch has at most: 1 to 8.
     pub fn most(&self) -> usize
         ensures value { result ≡ self.now.most }
         ensures range { (0 < result) × (result ≤ 8) }
@@ -75,12 +75,12 @@ impl Giver {
     }
 
     /// Puts pages at the back of the queue together, for one taker, and waits for room. Their serials have to be the next ones, if
-    /// they are several they may be no more than a handful has at most, and the giver must not be closed. Where every taker is gone, the pages are handed back.
+    /// they are several they may be no more than a batch has at most, and the giver must not be closed. Where every taker is gone, the pages are handed back.
     pub fn give_all<R: Wait>(
         &mut self,
         rt: &R,
-        pages: Handful<Isolated>,
-    ) -> Result<(), Handful<Isolated>>
+        pages: Batch<Isolated>,
+    ) -> Result<(), Batch<Isolated>>
         requires open { self.old.closed ≡ false }
         requires next { HasSerialsFrom (self.old.base + length self.old.given) pages.items }
         requires few { 1 < length pages.items → length pages.items ≤ self.old.most }

@@ -3,6 +3,7 @@
 //! Contracts see each end as what it gave or took, in its order, under the name of its queue.
 #![tactic(auto)]
 
+mod batch;
 mod copy_queue;
 mod done_opening;
 mod done_sender;
@@ -10,7 +11,6 @@ mod done_settling;
 mod done_taker;
 mod error;
 mod giver;
-mod handful;
 mod law;
 mod opening;
 mod page_queue;
@@ -18,14 +18,14 @@ pub mod patience;
 mod settling;
 mod taker;
 
-pub use done_opening::{done_open, done_open_in_handfuls};
+pub use batch::Batch;
+pub use done_opening::{done_open, done_open_in_batches};
 pub use done_sender::DoneSender;
 pub use done_settling::done_settle;
 pub use done_taker::{Came, DoneTaker};
 pub use error::{Gone, HandError};
 pub use giver::Giver;
-pub use handful::Handful;
 pub use law::{copies_keep_to_their_room, hands_over_in_order};
-pub use opening::{Takers, open, open_in_handfuls};
+pub use opening::{Takers, open, open_in_batches};
 pub use settling::{Settled, settle};
 pub use taker::{Taker, Took};

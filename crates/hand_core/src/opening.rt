@@ -4,9 +4,9 @@ ghost use Rattle.crossbeam_channel.specs.Ends.{sends_on, receives_on};
 ghost use Rattle.hand_core.specs.Queue.{name_of};
 ghost use Rattle.hand_core.specs.PageQueue.{giver_knows};
 
+use crate::batch::Batch;
 use crate::error::HandError;
 use crate::giver::Giver;
-use crate::handful::Handful;
 use crate::page_queue::{Known, Note, Ordered, Shares};
 use crate::taker::Taker;
 use crossbeam_channel::{Pass, RuledReceiver, RuledSender, bounded_with};
@@ -38,12 +38,12 @@ pub fn open<R>(
     opened(alloc, base, takers, cap, 1).map_err(|_| HandError::Memory)
 }
 
-/// Opens a hand-over as `open` does, with room for `cap` pages in handfuls of at most `most` pages: for as many handfuls as keep it
+/// Opens a hand-over as `open` does, with room for `cap` pages in batches of at most `most` pages: for as many batches as keep it
 /// from ever holding more pages.
 ///
 /// Refused as Range where `open` is, and unless `most` is 1 to 8 and at most `cap`; else as Memory where there isn't enough.
 #[tactic(auto, using(crate::proofs::HandedOver::room_fits))]
-pub fn open_in_handfuls<R>(
+pub fn open_in_batches<R>(
     _rt: &R,
     alloc: Global,
     base: Serial,
@@ -63,7 +63,7 @@ pub fn open_in_handfuls<R>(
     opened(alloc, base, takers, cap / most, most).map_err(|_| HandError::Memory)
 }
 
-/// Opens a hand-over with room for so many handfuls, where the numbers are in range. The error is for want of memory.
+/// Opens a hand-over with room for so many batches, where the numbers are in range. The error is for want of memory.
 fn opened(
     alloc: Global,
     base: Serial,
@@ -116,7 +116,7 @@ fn add_takers(
         let from = from.try_clone()?;
         all.push_reserved(Taker {
             ended: false,
-            hand: Handful::new().into_iter(),
+            hand: Batch::new().into_iter(),
             from,
             pass: theirs,
         });

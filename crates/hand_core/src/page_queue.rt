@@ -1,14 +1,14 @@
 // The queue of the pages, and its rule.
 
-use crate::handful::Handful;
+use crate::batch::Batch;
 use crossbeam_channel::protocol::{Join, Lesson, Outcome, Protocol, Split};
 use std::collections::LinkedList;
 use word_core::Isolated;
 
-/// A message in the queue: a handful of pages or an end mark.
+/// A message in the queue: a batch of pages or an end mark.
 #[derive(Drop)]
 pub enum Note {
-    Pages(Handful<Isolated>),
+    Pages(Batch<Isolated>),
     Mark,
 }
 
@@ -56,7 +56,7 @@ impl Join<Known> for Shares {
     ghost spent = { nothing_known };
 }
 
-/// The giver puts a handful of pages or an end mark at the back.
+/// The giver puts a batch of pages or an end mark at the back.
 pub struct Puts;
 
 impl Outcome<Note, Known> for Puts {
@@ -70,7 +70,7 @@ impl Lesson<Note, Known> for Puts {
     ghost fact = { λ v queue. Unit {0} };
 }
 
-/// A taker takes a handful of pages or an end mark from the front.
+/// A taker takes a batch of pages or an end mark from the front.
 pub struct Gets;
 
 impl Outcome<Note, Known> for Gets {

@@ -21,7 +21,7 @@ impl Model for Taker {
     ghost use Rattle.crossbeam_channel.specs.Claims.{view as knows};
     ghost use Rattle.crossbeam_channel.specs.Ends.{receives_on};
     ghost use Rattle.hand_core.specs.PageEnds.{Taker as Seen};
-    ghost use Rattle.hand_core.specs.Handfuls.{before_hand};
+    ghost use Rattle.hand_core.specs.Batches.{before_hand};
     ghost use Rattle.hand_core.specs.Queue.{name_of};
 
     ghost Value = { Seen };
@@ -43,7 +43,7 @@ pub enum Took {
 
 // What was received from the queue.
 #[derive(Clone, Copy)]
-enum Came {
+enum PageMessage {
     Pages,
     Mark,
     Nothing,
@@ -65,9 +65,9 @@ impl Taker {
                 return Took::Page(page);
             }
             match self.receive(rt) {
-                Came::Pages => {}
-                Came::Mark => return Took::End,
-                Came::Nothing => return Took::Gone,
+                PageMessage::Pages => {}
+                PageMessage::Mark => return Took::End,
+                PageMessage::Nothing => return Took::Gone,
             }
         }
         unreachable!()
@@ -91,12 +91,12 @@ impl Taker {
     }
 
     // Receives the message at the front of the queue, with no page in hand.
-    fn receive<R: Wait>(&mut self, rt: &R) -> Came
+    fn receive<R: Wait>(&mut self, rt: &R) -> PageMessage
         requires going { self.old.ended ≡ false }
         requires empty { self.old.in_hand ≡ [] }
-        ensures pages { result ≡ Came.Pages → self.new ≡ record self.old { in_hand = self.new.in_hand } }
-        ensures mark { result ≡ Came.Mark → self.new ≡ record self.old { ended = true } }
-        ensures nothing { result ≡ Came.Nothing → self.new ≡ self.old }
+        ensures pages { result ≡ PageMessage.Pages → self.new ≡ record self.old { in_hand = self.new.in_hand } }
+        ensures mark { result ≡ PageMessage.Mark → self.new ≡ record self.old { ended = true } }
+        ensures nothing { result ≡ PageMessage.Nothing → self.new ≡ self.old }
         ensures rising { IsRising (off self.new) }
     {
         let Taker {
@@ -106,13 +106,13 @@ impl Taker {
             pass,
         } = self;
         let Ok(note) = patience::receive::<Gets, _, _, _, R>(rt, from, pass) else {
-            return Came::Nothing;
+            return PageMessage::Nothing;
         };
         if let Note::Pages(pages) = note {
             *hand = pages.into_iter();
-            return Came::Pages;
+            return PageMessage::Pages;
         }
         *ended = true;
-        Came::Mark
+        PageMessage::Mark
     }
 }

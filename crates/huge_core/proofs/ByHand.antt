@@ -10,7 +10,7 @@ use Rattle.round_core.specs.declared.round.Round.{Round}
 use Rattle.state_core.specs.declared.error.ZoneError.{ZoneError}
 use Rattle.state_core.specs.declared.error.ZoneError.TheVariants as zone
 use Rattle.state_core.specs.HandingOut.{lowest_run, take_order_refusal, block_taken}
-use Rattle.state_core.specs.Lawful.{IsLawful}
+use Rattle.state_core.specs.Lawful.{IsValidZone}
 use Rattle.state_core.specs.ZoneState.{ZoneState}
 use Rattle.huge_core.specs.ByHand.{Reservation, stopped, with_block, with_round, lowest_first, lowest_taken, asked, taking, moves, idle_stop, reserved_by_hand, frames_of, after, HasFilled}
 use Rattle.huge_core.specs.Huge.{Huge}
@@ -20,7 +20,7 @@ use Rattle.huge_core.proofs.SameByHand.{AreSame, are_same_refl, are_same_trans, 
 -- a block that is taken
 
 -- the zone has no page that is moving then either
-pub rest_block : (z z_new : ZoneState) (frame order : ℕ) → z_new ≡ block_taken z frame order → IsLawful z_new
+pub rest_block : (z z_new : ZoneState) (frame order : ℕ) → z_new ≡ block_taken z frame order → IsValidZone z_new
     → IsAtRest z → IsAtRest z_new
 rest_block z z_new frame order taken law rest = record {
   lawful = law;
@@ -157,7 +157,7 @@ module _ (order n : ℕ) (start : ZoneState) where
 
     -- it runs a round that moves a page
     pub ran_by_hand : 3 ≤ order → order ≤ 9 → length got < n → take_order_refusal now order ≡ Some zone.NoBlock → moves now ≡ true
-        → IsSame (by_hand now) next → IsLawful next
+        → IsSame (by_hand now) next → IsValidZone next
         → IsUnderWayByHand order n start got ran now → IsUnderWayByHand order n start got (ran + 1) next
     ran_by_hand low high fewer refused moved same lawful was =
         let hand = rest_by_hand now was.rest in

@@ -6,17 +6,17 @@ use Rattle.state_core.specs.declared.error.ZoneError.{ZoneError}
 use Rattle.state_core.specs.declared.error.ZoneError.TheVariants.{JournalFull, NoBlock}
 use Rattle.state_core.specs.Contents.{contents_refusal, contents_from, contents_written}
 use Rattle.state_core.specs.HandingOut.{lowest_run, take_order_refusal, give_order_refusal, block_given}
-use Rattle.state_core.specs.Lawful.{IsLawful}
+use Rattle.state_core.specs.Lawful.{IsValidZone}
 use Rattle.state_core.specs.ZoneState.{ZoneState, has_room}
 use Rattle.huge_core.specs.Huge.{Huge, IsRefused, IsTakenBack, IsRead, IsWritten, IsRefusedWords}
 
-pub refused : (zone : ZoneState) (order : ℕ) → IsLawful zone → (result : Result Huge ZoneError)
+pub refused : (zone : ZoneState) (order : ℕ) → IsValidZone zone → (result : Result Huge ZoneError)
     → result_err result ≡ take_order_refusal zone order → IfErr result (IsRefused order)
 refused zone order lawful (Ok huge) is = tt
 refused zone order lawful (Err error) is = record { zone = zone; lawful = lawful; refused = sym is }
 
 -- a lawful zone refuses a block
-pub refused_by : (zone : ZoneState) (order : ℕ) (error : ZoneError) → IsLawful zone → take_order_refusal zone order ≡ Some error
+pub refused_by : (zone : ZoneState) (order : ℕ) (error : ZoneError) → IsValidZone zone → take_order_refusal zone order ≡ Some error
     → IsRefused order error
 refused_by zone order error lawful is = record { zone = zone; lawful = lawful; refused = is }
 
@@ -36,7 +36,7 @@ refused_no_block zone order error refused other =
 pub no_block : (order : ℕ) (error : ZoneError) → IsRefused order error → (error ≡ JournalFull → ⊥) → IsRefused order NoBlock
 no_block order error was other = refused_by was.zone order NoBlock was.lawful (refused_no_block was.zone order error was.refused other)
 
-pub taken_back : (zone zone_new : ZoneState) (huge : Huge) → IsLawful zone_new → (result : Result Unit (ZoneError × Huge))
+pub taken_back : (zone zone_new : ZoneState) (huge : Huge) → IsValidZone zone_new → (result : Result Unit (ZoneError × Huge))
     → OnOk result (give_order_refusal zone huge.frame huge.order ≡ None) → OnOk result (zone_new ≡ block_given zone huge.frame huge.order)
     → OnOk result (IsTakenBack huge)
 taken_back zone zone_new huge lawful (Ok done) accepted given = record {
@@ -48,7 +48,7 @@ taken_back zone zone_new huge lawful (Ok done) accepted given = record {
 }
 taken_back zone zone_new huge lawful (Err back) accepted given = tt
 
-pub read : (zone : ZoneState) (huge : Huge) (from count : ℕ) (values : List ℕ) → IsLawful zone → (result : Result Unit ZoneError)
+pub read : (zone : ZoneState) (huge : Huge) (from count : ℕ) (values : List ℕ) → IsValidZone zone → (result : Result Unit ZoneError)
     → result_err result ≡ contents_refusal zone huge.frame huge.order from count
     → OnOk result (values ≡ contents_from zone huge.frame from count) → OnOk result (IsRead huge from count values)
 read zone huge from count values lawful (Ok done) accepted are = record {
@@ -59,7 +59,7 @@ read zone huge from count values lawful (Ok done) accepted are = record {
 }
 read zone huge from count values lawful (Err error) accepted are = tt
 
-pub written : (zone zone_new : ZoneState) (huge : Huge) (from : ℕ) (values : List ℕ) → IsLawful zone_new
+pub written : (zone zone_new : ZoneState) (huge : Huge) (from : ℕ) (values : List ℕ) → IsValidZone zone_new
     → (result : Result Unit ZoneError) → result_err result ≡ contents_refusal zone huge.frame huge.order from (length values)
     → OnOk result (zone_new ≡ contents_written zone huge.frame from values) → OnOk result (IsWritten huge from values)
 written zone zone_new huge from values lawful (Ok done) accepted is = record {
@@ -71,7 +71,7 @@ written zone zone_new huge from values lawful (Ok done) accepted is = record {
 }
 written zone zone_new huge from values lawful (Err error) accepted is = tt
 
-pub refused_words : (zone : ZoneState) (huge : Huge) (from count : ℕ) → IsLawful zone → (result : Result Unit ZoneError)
+pub refused_words : (zone : ZoneState) (huge : Huge) (from count : ℕ) → IsValidZone zone → (result : Result Unit ZoneError)
     → result_err result ≡ contents_refusal zone huge.frame huge.order from count → IfErr result (IsRefusedWords huge from count)
 refused_words zone huge from count lawful (Ok done) is = tt
 refused_words zone huge from count lawful (Err error) is = record { zone = zone; lawful = lawful; refused = sym is }

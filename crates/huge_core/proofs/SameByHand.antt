@@ -14,7 +14,7 @@ use Rattle.round_core.specs.Rounds.{stop_for, stop_by_hand}
 use Rattle.state_core.specs.declared.error.ZoneError.{ZoneError}
 use Rattle.state_core.specs.declared.error.ZoneError.TheVariants.{JournalFull as JournalIsFull, NoBlock as NoBlockIsFree}
 use Rattle.state_core.specs.HandingOut.{lowest_run, is_run, take_order_refusal, block_taken}
-use Rattle.state_core.specs.Lawful.{IsLawful}
+use Rattle.state_core.specs.Lawful.{IsValidZone}
 use Rattle.state_core.specs.ZoneState.{ZoneState, frame_count, has_room}
 use Rattle.state_core.proofs.Facts.{spare}
 use Rattle.state_core.proofs.HandingOut.{lawful_block_taken}
@@ -75,7 +75,7 @@ same_trans z w v a b = record {
   room = a.room ∙ b.room;
 }
 
-pub rest_same : (z w : ZoneState) → IsAtRest z → IsLawful w → IsSame z w → IsAtRest w
+pub rest_same : (z w : ZoneState) → IsAtRest z → IsValidZone w → IsSame z w → IsAtRest w
 rest_same z w rest law same = record { lawful = law; none_out = sym same.out_is ∙ rest.none_out }
 
 -- reservations that leave the same

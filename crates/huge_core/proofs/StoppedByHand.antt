@@ -6,7 +6,7 @@ use Rattle.std.proofs.lemmas.Bool.{false_from_ne_true, false≢true}
 use Rattle.arrayvec.specs.ArrayVec.{ArrayVec}
 use Rattle.outcome_core.specs.ByHand.{by_hand}
 use Rattle.outcome_core.specs.Outcome.{IsSame}
-use Rattle.round_core.specs.Kept.{IsKept}
+use Rattle.round_core.specs.Kept.{LockInvariant}
 use Rattle.round_core.specs.Rounds.{stop_by_hand, IsWant, IsBroken, IsRefusedEarly}
 use Rattle.round_core.specs.declared.error.RoundError.{RoundError}
 use Rattle.round_core.specs.declared.round.Round.{Round}
@@ -14,7 +14,7 @@ use Rattle.round_core.specs.declared.round.Stop.{Stop as RoundStop}
 use Rattle.round_core.specs.declared.round.Stop.TheVariants as round
 use Rattle.state_core.specs.declared.error.ZoneError.TheVariants as zone
 use Rattle.state_core.specs.HandingOut.{take_order_refusal}
-use Rattle.state_core.specs.Lawful.{IsLawful}
+use Rattle.state_core.specs.Lawful.{IsValidZone}
 use Rattle.state_core.specs.ZoneState.{ZoneState, takes_up}
 use Rattle.zone_core.specs.Seats.{ScanSeat, EndSeat}
 use Rattle.huge_core.specs.ByHand.{Reservation, stopped, taking, moves, idle_stop, reserved_by_hand, frames_of, after, rounds_for, stop_for, NoneFailed, reservation_for, IsReservedByHand}
@@ -27,7 +27,7 @@ use Rattle.huge_core.proofs.ByHand.{IsUnderWayByHand, where_full, where_none_fre
 use Rattle.huge_core.proofs.SameByHand.{AreSame, same_refl, same_trans, where_none, reserved_is}
 
 -- a lawful zone is as the lock of a zone keeps it
-pub lawful_kept : (z : ZoneState) → IsLawful z → IsKept z
+pub lawful_kept : (z : ZoneState) → IsValidZone z → LockInvariant z
 lawful_kept z law = record {
   loads = law.truthful;
   clear = λ page frame held.

@@ -3,10 +3,10 @@ ghost use Rattle.arrayvec.specs.ArrayVec.{array_vec_len};
 ghost use Rattle.huge_core.specs.ByHand.{HasFilled, IsReservedByHand};
 ghost use Rattle.huge_core.specs.Reserving.{HasRun, IsGot};
 ghost use Rattle.outcome_core.specs.Alone.{IsAtRest};
-ghost use Rattle.round_core.specs.Kept.{IsKept};
+ghost use Rattle.round_core.specs.Kept.{LockInvariant};
 ghost use Rattle.state_core.specs.HandingOut.{take_order_refusal};
-ghost use Rattle.state_core.specs.Lawful.{IsLawful};
-ghost use Rattle.zone_core.specs.Shape.{HasShape};
+ghost use Rattle.state_core.specs.Lawful.{IsValidZone};
+ghost use Rattle.zone_core.specs.ZoneIdentity.{HasIdentity};
 
 use crate::collector::{Collector, idle_stop};
 use crate::huge::Huge;
@@ -41,8 +41,8 @@ pub fn reserve_alone<
     requires n { (0 < n) × (n ≤ 8) }
     // In every schedule it did what a reservation by hand does, where no page was moving before.
     ensures exact { IsAtRest zone → IsReservedByHand collector.now n zone result.0 result.1 }
-    ensures kept { IsKept result.0 }
-    ensures shape { HasShape zone.number zone.blocks result.0 }
+    ensures kept { LockInvariant result.0 }
+    ensures identity { HasIdentity zone.number zone.blocks result.0 }
     ensures got { All (IsGot collector.now.order) result.1.got.items }
     ensures most { array_vec_len result.1.got ≤ n }
     ensures enough { (result.1.stop ≡ Stop.Enough) ↔ (array_vec_len result.1.got ≡ n) }
@@ -96,8 +96,8 @@ fn fill_alone<I: Ledger, M: Ledger, B: Ledger>(
     // It took the blocks that a reservation by hand takes.
     ensures filled { HasFilled order n zone.old zone.new got.old.items got.new.items }
     ensures rest { IsAtRest zone.old → IsAtRest zone.new }
-    ensures lawful { IsLawful zone.new }
-    ensures shape { HasShape zone.old.number zone.old.blocks zone.new }
+    ensures lawful { IsValidZone zone.new }
+    ensures identity { HasIdentity zone.old.number zone.old.blocks zone.new }
     ensures got { All (IsGot order) got.new.items }
     ensures ok { OnOk result (array_vec_len got.new ≡ n) }
     ensures err { OnErr result (array_vec_len got.new < n) }

@@ -6,7 +6,7 @@ use crate::huge::Huge;
 use crate::report::{Report, Stop};
 use arrayvec::ArrayVec;
 use frame_core::Order;
-use round_core::{Gate, Shape, SharedZone, Stop as RoundStop, compact};
+use round_core::{Gate, SharedZone, Stop as RoundStop, ZoneIdentity, compact};
 use std::alloc::Global;
 use std::sync::Wait;
 use std::sync::ledger::Ledger;
@@ -36,7 +36,7 @@ impl Collector {
     /// Reserves up to `n` blocks, 1 to 8, one after the other. Where no block is free it runs a round, as long as it may and its
     /// rounds move pages.
     pub fn reserve<
-        K: Shape + Send + Sync,
+        K: ZoneIdentity + Send + Sync,
         I: Ledger + Send + Sync,
         N: Ledger,
         M: Ledger + Send + Sync,
@@ -84,7 +84,7 @@ impl Collector {
     }
 
     /// Takes free blocks until there are `n`, or until the zone refuses one.
-    fn fill<K: Shape, I: Ledger, M: Ledger, B: Ledger, R: Wait>(
+    fn fill<K: ZoneIdentity, I: Ledger, M: Ledger, B: Ledger, R: Wait>(
         &self,
         rt: &R,
         shared: &SharedZone<K, I, M, B>,
@@ -107,7 +107,7 @@ impl Collector {
 }
 
 /// Takes the lowest free block of an order.
-fn take<K: Shape, I: Ledger, M: Ledger, B: Ledger, R: Wait>(
+fn take<K: ZoneIdentity, I: Ledger, M: Ledger, B: Ledger, R: Wait>(
     rt: &R,
     shared: &SharedZone<K, I, M, B>,
     order: Order,

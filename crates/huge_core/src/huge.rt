@@ -2,12 +2,12 @@ ghost use Rattle.std.specs.Prelude.{◌≡◌, ◌/◌, length, Some, None, IsTr
 ghost use Rattle.std.specs.Result.{result_err};
 ghost use Rattle.frame_core.specs.Order.{is_aligned};
 ghost use Rattle.state_core.specs.HandingOut.{lowest_run, take_order_refusal, give_order_refusal, block_taken, block_given};
-ghost use Rattle.state_core.specs.Lawful.{IsLawful};
-ghost use Rattle.zone_core.specs.Shape.{HasShape};
+ghost use Rattle.state_core.specs.Lawful.{IsValidZone};
+ghost use Rattle.zone_core.specs.ZoneIdentity.{HasIdentity};
 ghost use Rattle.huge_core.specs.Huge.{IsHandedOut, IsTakenBack, IsRefusedBack, IsRead, IsWritten, IsRefusedWords};
 
 use frame_core::{BlockNo, FrameNo, Order, block_of};
-use round_core::{Shape, SharedZone};
+use round_core::{SharedZone, ZoneIdentity};
 use std::marker::Model;
 use std::sync::Wait;
 use std::sync::ledger::Ledger;
@@ -45,8 +45,8 @@ impl Huge {
         ensures lowest { IfOk result (λ huge. lowest_run zone.old order ≡ Some huge.frame) }
         ensures ok { IfOk result (λ huge. zone.new ≡ block_taken zone.old huge.frame order) }
         ensures handed_out { IfOk result IsHandedOut }
-        ensures shape { HasShape zone.old.number zone.old.blocks zone.new }
-        ensures lawful { IsLawful zone.new }
+        ensures identity { HasIdentity zone.old.number zone.old.blocks zone.new }
+        ensures lawful { IsValidZone zone.new }
     {
         let frame = zone.take_order(order)?;
         Ok(Huge { frame, order })
@@ -62,8 +62,8 @@ impl Huge {
         ensures err { OnErr result (zone.new ≡ zone.old) }
         ensures accepted { OnOk result (give_order_refusal zone.old self.frame self.order ≡ None) }
         ensures ok { OnOk result (zone.new ≡ block_given zone.old self.frame self.order) }
-        ensures shape { HasShape zone.old.number zone.old.blocks zone.new }
-        ensures lawful { IsLawful zone.new }
+        ensures identity { HasIdentity zone.old.number zone.old.blocks zone.new }
+        ensures lawful { IsValidZone zone.new }
     {
         match zone.give_order(self.frame, self.order) {
             Ok(()) => Ok(()),
@@ -79,7 +79,7 @@ impl Huge {
     ///
     /// Refused as NotHuge where the zone hasn't handed the block out, or took it back by its number, or as Range where the words
     /// go past its last one. Then `values` are as they were.
-    pub fn read<K: Shape, I: Ledger, M: Ledger, B: Ledger, R: Wait>(
+    pub fn read<K: ZoneIdentity, I: Ledger, M: Ledger, B: Ledger, R: Wait>(
         &self,
         rt: &R,
         shared: &SharedZone<K, I, M, B>,
@@ -99,7 +99,7 @@ impl Huge {
     ///
     /// Refused as NotHuge where the zone hasn't handed the block out, or took it back by its number, or as Range where the words
     /// go past its last one. Then the zone is as it was.
-    pub fn write<K: Shape, I: Ledger, M: Ledger, B: Ledger, R: Wait>(
+    pub fn write<K: ZoneIdentity, I: Ledger, M: Ledger, B: Ledger, R: Wait>(
         &mut self,
         rt: &R,
         shared: &SharedZone<K, I, M, B>,
@@ -158,7 +158,7 @@ impl Huge {
 ///
 /// Refused as Range where the zone has no such block, as JournalFull, or as NotHuge where the zone hasn't handed it out, or took it
 /// back by its number.
-pub fn give<K: Shape, I: Ledger, M: Ledger, B: Ledger, R: Wait>(
+pub fn give<K: ZoneIdentity, I: Ledger, M: Ledger, B: Ledger, R: Wait>(
     rt: &R,
     shared: &SharedZone<K, I, M, B>,
     huge: Huge,

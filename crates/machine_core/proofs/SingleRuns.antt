@@ -14,7 +14,7 @@ use Rattle.play_core.specs.Script.{StopsIn, Answer, IsBeginning, Numbered, comma
 use Rattle.machine_core.specs.Machine.{Step, opens, step}
 use Rattle.play_core.specs.Runs.{Begins, IsAnswered, IsAsking, IsEnded, IsStopped, IsTotal, Replied}
 use Rattle.machine_core.specs.Replies.{answers_from, answers_of, output_of, totals_of, world_behind}
-use Rattle.machine_core.specs.Single.{IsSingleStep, Opens, Single, single_at_first}
+use Rattle.machine_core.specs.OneThread.{IsSingleStep, Opens, OneThread, single_at_first}
 use Rattle.play_core.proofs.Waiting.{stops_more}
 use Rattle.play_core.proofs.Variants.{known_weaker}
 
@@ -24,13 +24,13 @@ answers_from-append places w [] ys = refl
 answers_from-append places w (c ∷ xs) ys = ap (λ (r : List Answer). record { line = c.line; reply = (step places w c.command).reply } ∷ r) (answers_from-append places (step places w c.command).world xs ys)
 
 -- these are the machine's replies to commands, and this is its world after them
-record AreSteps (places : ℕ) (w : Option WorldState) (commands : List Numbered) (answers : List Answer) (new : Single) : Type 0 where
+record AreSteps (places : ℕ) (w : Option WorldState) (commands : List Numbered) (answers : List Answer) (new : OneThread) : Type 0 where
   pub answers_are : answers ≡ answers_from places w commands
   pub world_is : new.world ≡ world_behind places w commands
 
 -- replies that a machine on one thread may give are those of its steps
-single_steps : (places : ℕ) (w : Option WorldState) (old new : Single) (commands : List Numbered) (answers : List Answer) → old.places ≡ places → old.world ≡ w → Replied IsSingleStep old commands answers new → AreSteps places w commands answers new
-single_steps places w old new [] answers same_places same_world told = record { answers_are = told.0; world_is = ap (λ (m : Single). m.world) told.1 ∙ same_world }
+single_steps : (places : ℕ) (w : Option WorldState) (old new : OneThread) (commands : List Numbered) (answers : List Answer) → old.places ≡ places → old.world ≡ w → Replied IsSingleStep old commands answers new → AreSteps places w commands answers new
+single_steps places w old new [] answers same_places same_world told = record { answers_are = told.0; world_is = ap (λ (m : OneThread). m.world) told.1 ∙ same_world }
 single_steps places w old new (c ∷ commands) answers same_places same_world told =
     let next = told.0 in
     let one = told.4 in
@@ -65,7 +65,7 @@ module _ (places : ℕ) where
       ap (answers_from places None) h.order ∙ answers_from-append places None h.before h.behind in
       subst S (sym all) (stops_more _ _ old new line (subst S (single_begins h.before h.begins).answers_are h.stops))
 
-  single_opening : (input : List ℕ) (before : List Numbered) (after : Single) (line : ℕ) → after.world ≡ world_behind places None before
+  single_opening : (input : List ℕ) (before : List Numbered) (after : OneThread) (line : ℕ) → after.world ≡ world_behind places None before
       → IsAsking Opens input before after line ⊎ IsBeginning input before line → IsOpening places input before line ⊎ IsBeginning input before line
   single_opening input before after line is (inl a) =
       let O : Option WorldState → Type 0 = λ w. IsTrue (opens w a.command.command) in
@@ -87,18 +87,18 @@ module _ (places : ℕ) where
       }
 
 -- a run of a machine that starts as one on one thread does, which says what a run on one thread says
-module _ (places : ℕ) (left left_new old new : Option (List ℕ)) (start : Single) (first : start ≡ single_at_first places) where
+module _ (places : ℕ) (left left_new old new : Option (List ℕ)) (start : OneThread) (first : start ≡ single_at_first places) where
   pub totals_by_single : (r : Result Totals RunError) → IfOk r (λ totals. IfSome left (λ input. IsTotal IsSingleStep start input old new totals))
       → IfOk r (λ totals. IfSome left (λ input. totals ≡ totals_of places input))
   totals_by_single r h = MatchResult-weaker r h (λ totals said. known_weaker left (λ input. IsTotal IsSingleStep start input old new totals) (λ input. totals ≡ totals_of places input)
-      (λ input known total. let T : Single → Type 0 = λ s. IsTotal IsSingleStep s input old new totals in single_totals places input old new totals (subst T first total)) said) (λ _ u. u)
+      (λ input known total. let T : OneThread → Type 0 = λ s. IsTotal IsSingleStep s input old new totals in single_totals places input old new totals (subst T first total)) said) (λ _ u. u)
 
   pub written_by_single : (r : Result Totals RunError) → IfOk r (λ totals. IfSome left (λ input. IsTotal IsSingleStep start input old new totals))
       → OnOk r (IfSome left (λ input. Appends old new (output_of places input)))
   written_by_single r h = MatchResult-weaker r h (λ totals said. known_weaker left (λ input. IsTotal IsSingleStep start input old new totals) (λ input. Appends old new (output_of places input))
-      (λ input known total. let A : Single → Type 0 = λ s. IsAnswered IsSingleStep s input old new in single_output places input old new (subst A first total.answered)) said) (λ _ u. u)
+      (λ input known total. let A : OneThread → Type 0 = λ s. IsAnswered IsSingleStep s input old new in single_output places input old new (subst A first total.answered)) said) (λ _ u. u)
 
   pub ended_by_single : (r : Result Totals RunError) → IfErr r (λ e. IfSome left (λ input. IsEnded IsSingleStep Opens start e.fault input e left left_new old new))
       → IfErr r (λ e. IfSome left (λ input. EndsIn e.fault places input e left left_new old new))
   ended_by_single r h = MatchResult-weaker r h (λ _ u. u) (λ e said. known_weaker left (λ input. IsEnded IsSingleStep Opens start e.fault input e left left_new old new) (λ input. EndsIn e.fault places input e left left_new old new)
-      (λ input known end. let E : Single → Type 0 = λ s. IsEnded IsSingleStep Opens s e.fault input e left left_new old new in single_ends places e.fault input e left left_new old new (subst E first end)) said)
+      (λ input known end. let E : OneThread → Type 0 = λ s. IsEnded IsSingleStep Opens s e.fault input e left left_new old new in single_ends places e.fault input e left left_new old new (subst E first end)) said)

@@ -1,4 +1,4 @@
 pub mod Ends
 pub mod Machine
 pub mod Replies
-pub mod Single
+pub mod OneThread

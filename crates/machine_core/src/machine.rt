@@ -1,7 +1,7 @@
 ghost use Rattle.std.specs.Prelude.{◌≡◌, ◌<◌, ◌≤◌, [], true, false, ⊤, Some, None, IfErr, IfNone, IfOk, IfSome, OnErr, OnOk};
 ghost use Rattle.machine_core.specs.Machine.{call_at, call_step, calls_step, compact_on, ending, found, make_step, open_step, page_step, pool_from, pool_on, pool_step, reply_for, series_step, step_on, stopped_by, during_on};
-ghost use Rattle.machine_core.specs.Single.{IsSingleStep, IsStep, Opens, single_at_first};
-ghost use Rattle.machine_core.specs.Single.{is_at_rest};
+ghost use Rattle.machine_core.specs.OneThread.{IsSingleStep, IsStep, Opens, single_at_first};
+ghost use Rattle.machine_core.specs.OneThread.{is_at_rest};
 ghost use Rattle.text_core.specs.Grammar.{address_of, zone_of};
 ghost use Rattle.text_core.specs.declared.reply.Reply.TheVariants as reply;
 ghost use Rattle.zone_core.specs.Books.{AreFor};
@@ -43,9 +43,9 @@ impl<I: Ledger, N: Ledger, M: Ledger, B: Ledger> Model for Machine<I, N, M, B> {
     ghost use Rattle.zone_core.specs.Books.{AreFor};
     ghost use Rattle.std.specs.Coded.{codes};
     ghost use Rattle.state_core.specs.ZoneCode.{coded_zone};
-    ghost use Rattle.machine_core.specs.Single.{Single};
+    ghost use Rattle.machine_core.specs.OneThread.{OneThread};
 
-    ghost Value = { Single };
+    ghost Value = { OneThread };
 
     ghost coded = { Prim.hlevel (codes, coded_zone) };
 
@@ -328,10 +328,10 @@ fn repeat<I: Ledger, N: Ledger, M: Ledger, B: Ledger>(
     match repeated {
         Repeated::Map => world
             .map(client, address, PageFlags::of(false, false))
-            .map_or_else(by_zone, |_| Reply::Done),
+            .map_or_else(zone_refusal, |_| Reply::Done),
         Repeated::Unmap => world
             .unmap(client, address)
-            .map_or_else(by_zone, |()| Reply::Done),
+            .map_or_else(zone_refusal, |()| Reply::Done),
     }
 }
 
@@ -375,7 +375,7 @@ fn make<I: Ledger, N: Ledger, M: Ledger, B: Ledger>(
 {
     match world.make(script_client(), *call) {
         Ok(answer) => *reply = reply_for(call, answer),
-        Err(error) => *reply = by_zone(error),
+        Err(error) => *reply = zone_refusal(error),
     }
 }
 
@@ -401,7 +401,7 @@ fn tell_done(outcome: Result<(), ZoneError>, reply: &mut Reply)
     ensures ok { OnOk outcome (reply.new ≡ Reply.Done) }
     ensures err { IfErr outcome (λ error. reply.new ≡ Reply.Refused (number_of error)) }
 {
-    *reply = outcome.map_or_else(by_zone, |()| Reply::Done);
+    *reply = outcome.map_or_else(zone_refusal, |()| Reply::Done);
 }
 
 /// Writes the reply with what is known of a page, or a refusal.
@@ -409,7 +409,7 @@ fn tell_look(outcome: Result<Look, ZoneError>, reply: &mut Reply)
     ensures ok { IfOk outcome (λ look. reply.new ≡ Reply.Looked look) }
     ensures err { IfErr outcome (λ error. reply.new ≡ Reply.Refused (number_of error)) }
 {
-    *reply = outcome.map_or_else(by_zone, Reply::Looked);
+    *reply = outcome.map_or_else(zone_refusal, Reply::Looked);
 }
 
 /// Writes the reply with the pageblock that was handed out, or a refusal.
@@ -417,7 +417,7 @@ fn tell_block(outcome: Result<BlockNo, ZoneError>, reply: &mut Reply)
     ensures ok { IfOk outcome (λ block. reply.new ≡ Reply.Block block) }
     ensures err { IfErr outcome (λ error. reply.new ≡ Reply.Refused (number_of error)) }
 {
-    *reply = outcome.map_or_else(by_zone, Reply::Block);
+    *reply = outcome.map_or_else(zone_refusal, Reply::Block);
 }
 
 /// Writes the reply with what a scan found, or a refusal.
@@ -425,7 +425,7 @@ fn tell_scan(outcome: Result<Scanned, WorldError>, reply: &mut Reply)
     ensures ok { IfOk outcome (λ scanned. reply.new ≡ found scanned) }
     ensures err { IfErr outcome (λ error. reply.new ≡ Reply.Refused (world_number_of error)) }
 {
-    *reply = outcome.map_or_else(by_world, scan_reply);
+    *reply = outcome.map_or_else(world_refusal, scan_reply);
 }
 
 /// Writes the reply with the serial of the page that a hand took, or a refusal.
@@ -433,7 +433,7 @@ fn tell_serial(outcome: Result<Serial, WorldError>, reply: &mut Reply)
     ensures ok { IfOk outcome (λ serial. reply.new ≡ Reply.Serial serial) }
     ensures err { IfErr outcome (λ error. reply.new ≡ Reply.Refused (world_number_of error)) }
 {
-    *reply = outcome.map_or_else(by_world, Reply::Serial);
+    *reply = outcome.map_or_else(world_refusal, Reply::Serial);
 }
 
 /// Writes the reply that a hand copied its page, or a refusal.
@@ -441,7 +441,7 @@ fn tell_copy(outcome: Result<(), WorldError>, reply: &mut Reply)
     ensures ok { OnOk outcome (reply.new ≡ Reply.Done) }
     ensures err { IfErr outcome (λ error. reply.new ≡ Reply.Refused (world_number_of error)) }
 {
-    *reply = outcome.map_or_else(by_world, |()| Reply::Done);
+    *reply = outcome.map_or_else(world_refusal, |()| Reply::Done);
 }
 
 /// Writes the reply with how a move ended, or a refusal.
@@ -449,7 +449,7 @@ fn tell_end(outcome: Result<Finished, WorldError>, reply: &mut Reply)
     ensures ok { IfOk outcome (λ finished. reply.new ≡ ending finished.serial finished.ended) }
     ensures err { IfErr outcome (λ error. reply.new ≡ Reply.Refused (world_number_of error)) }
 {
-    *reply = outcome.map_or_else(by_world, end_reply);
+    *reply = outcome.map_or_else(world_refusal, end_reply);
 }
 
 /// Writes the reply with how many pages were put back, or a refusal.
@@ -457,18 +457,18 @@ fn tell_shut(outcome: Result<u32, WorldError>, reply: &mut Reply)
     ensures ok { IfOk outcome (λ count. reply.new ≡ Reply.Shut count) }
     ensures err { IfErr outcome (λ error. reply.new ≡ Reply.Refused (world_number_of error)) }
 {
-    *reply = outcome.map_or_else(by_world, Reply::Shut);
+    *reply = outcome.map_or_else(world_refusal, Reply::Shut);
 }
 
 /// The reply for a refusal of the zone.
-fn by_zone(error: ZoneError) -> Reply
+fn zone_refusal(error: ZoneError) -> Reply
     ensures { result ≡ reply.Refused (number_of error) }
 {
     Reply::Refused(error.number())
 }
 
 /// The reply for a refusal of the world.
-fn by_world(error: WorldError) -> Reply
+fn world_refusal(error: WorldError) -> Reply
     ensures { result ≡ reply.Refused (world_number_of error) }
 {
     Reply::Refused(error.number())

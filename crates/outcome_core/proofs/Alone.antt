@@ -6,7 +6,7 @@ use Rattle.journal_core.specs.History.{pins}
 use Rattle.journal_core.specs.Moves.{isolated, out, put_back}
 use Rattle.state_core.specs.declared.placement.Placement.TheVariants.{Moving}
 use Rattle.state_core.specs.Ending.{moved_to_target, put_back_to_source, committed, HasCause}
-use Rattle.state_core.specs.Lawful.{IsLawful}
+use Rattle.state_core.specs.Lawful.{IsValidZone}
 use Rattle.state_core.specs.Rounds.{round_begun}
 use Rattle.state_core.specs.ZoneState.{ZoneState}
 use Rattle.state_core.proofs.Facts.{taken as if_true}
@@ -48,13 +48,13 @@ begun_same z = record { number = refl; blocks = refl; page_size = refl; placemen
 module _ (start : ZoneState) where
   -- the round begins where no page of it was isolated, and its scanner goes on where one was
 
-  pub alone_begins : (z : ZoneState) → IsLawful z → isolated z.records ≡ isolated start.records → KeepsAlone start z → KeepsScanning start (round_begun z)
+  pub alone_begins : (z : ZoneState) → IsValidZone z → isolated z.records ≡ isolated start.records → KeepsAlone start z → KeepsScanning start (round_begun z)
   alone_begins z law at keeps rest = elim (keeps rest) [
     | inl e ↦ subst (λ (w : ZoneState). IsUnderWay start (round_begun w)) (sym e) (under_way_begun start rest)
     | inr under ↦ subst (λ (w : ZoneState). IsUnderWay start (round_begun w)) (sym (under.fresh at)) (under_way_begun start rest)
   ]
 
-  pub alone_goes_on : (z : ZoneState) → IsLawful z → isolated start.records < isolated z.records → KeepsAlone start z → KeepsScanning start z
+  pub alone_goes_on : (z : ZoneState) → IsValidZone z → isolated start.records < isolated z.records → KeepsAlone start z → KeepsScanning start z
   alone_goes_on z law more keeps rest = elim (keeps rest) [
     | inl e ↦ (let same = ap (λ (w : ZoneState). isolated w.records) e in absurd (omega arith))
     | inr under ↦ under
@@ -65,7 +65,7 @@ module _ (start : ZoneState) where
 
   -- a page is isolated, or the scanner stops
 
-  pub alone_scans : (z : ZoneState) → IsLawful z → KeepsScanning start z → KeepsScanning start (scan_step z)
+  pub alone_scans : (z : ZoneState) → IsValidZone z → KeepsScanning start z → KeepsScanning start (scan_step z)
   alone_scans z law keeps rest =
       let under = keeps rest in
       let least = under.least in
@@ -91,7 +91,7 @@ module _ (start : ZoneState) where
     | inr under ↦ no_pin z under.comes.carried page serial source target at
   ]
 
-  pub alone_commits : (z : ZoneState) (page serial source target : ℕ) → IsLawful z → map.get z.placement page ≡ Some (Moving serial source target) → KeepsAlone start z → KeepsAlone start (committed z serial page)
+  pub alone_commits : (z : ZoneState) (page serial source target : ℕ) → IsValidZone z → map.get z.placement page ≡ Some (Moving serial source target) → KeepsAlone start z → KeepsAlone start (committed z serial page)
   alone_commits z page serial source target law at keeps rest = elim (keeps rest) [
     | inl e ↦ absurd (never z page serial source target rest (ap (λ (w : ZoneState). w.placement) e) at)
     | inr under ↦
@@ -104,7 +104,7 @@ module _ (start : ZoneState) where
         })))
   ]
 
-  pub alone_puts_back : (z : ZoneState) (page serial source target : ℕ) (cause : Cause) → IsLawful z → HasCause cause (pins z.records page) → map.get z.placement page ≡ Some (Moving serial source target) → KeepsAlone start z → KeepsAlone start (put_back_to_source z serial page cause)
+  pub alone_puts_back : (z : ZoneState) (page serial source target : ℕ) (cause : Cause) → IsValidZone z → HasCause cause (pins z.records page) → map.get z.placement page ≡ Some (Moving serial source target) → KeepsAlone start z → KeepsAlone start (put_back_to_source z serial page cause)
   alone_puts_back z page serial source target cause law has at keeps rest = elim (keeps rest) [
     | inl e ↦ absurd (never z page serial source target rest (ap (λ (w : ZoneState). w.placement) e) at)
     | inr under ↦ inr (record {
@@ -116,7 +116,7 @@ module _ (start : ZoneState) where
 
   -- the zone that the lock hands back is the one after the round by hand
 
-  pub alone_exact : (z : ZoneState) → IsAtRest start → IsLawful z → KeepsAlone start z → isolated z.records ≡ isolated (all_isolated start).records → out z.records ≡ [] → put_back z.records ≡ put_back start.records → IsSame (by_hand start) z
+  pub alone_exact : (z : ZoneState) → IsAtRest start → IsValidZone z → KeepsAlone start z → isolated z.records ≡ isolated (all_isolated start).records → out z.records ≡ [] → put_back z.records ≡ put_back start.records → IsSame (by_hand start) z
   alone_exact z rest law keeps count none back = elim (keeps rest) [
     | inl e ↦
         (let stays : isolated start.records ≡ isolated (all_isolated start).records = ap (λ (w : ZoneState). isolated w.records) (sym e) ∙ count in

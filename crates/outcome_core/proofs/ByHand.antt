@@ -12,7 +12,7 @@ use Rattle.journal_core.proofs.OnTheWay.{any_without, none_out}
 use Rattle.state_core.specs.declared.placement.Placement.{Placement}
 use Rattle.state_core.specs.declared.placement.Placement.TheVariants.{At, Moving}
 use Rattle.state_core.specs.Ending.{moved_to_target, target_of}
-use Rattle.state_core.specs.Lawful.{IsLawful, is_under}
+use Rattle.state_core.specs.Lawful.{IsValidZone, is_under}
 use Rattle.state_core.specs.Rounds.{round_begun}
 use Rattle.state_core.specs.ZoneState.{ZoneState, frame_count}
 use Rattle.state_core.proofs.Entries.{get_insert_same, get_insert_other}
@@ -46,7 +46,7 @@ pub by_one : (z : ZoneState) (n : ℕ) (P : ZoneState → Type 0) → (Stands z 
 by_one z n P = moved_by z n P (map.get z.placement n) refl
 
 pub record IsMoving (z : ZoneState) : Type 0 where
-  pub law : IsLawful z
+  pub law : IsValidZone z
   pub carried : AreCarriedUp z
 
 pub moving_moved : (z : ZoneState) (n s a b : ℕ) → IsMoving z → map.get z.placement n ≡ Some (Moving s a b) → IsMoving (moved_to_target z s n)
@@ -95,7 +95,7 @@ stand_all : (n : ℕ) (z : ZoneState) → StandFrom n z → StandFrom 0 (moved_b
 stand_all zero z stand = stand
 stand_all (suc n) z stand = stand_all n (one z n) (by_one z n (StandFrom n) (λ here. stand_here z n stand here) (λ s a b at. stand_moved z n s stand))
 
-stand_past : (z : ZoneState) → IsLawful z → StandFrom (frame_count z) z
+stand_past : (z : ZoneState) → IsValidZone z → StandFrom (frame_count z) z
 stand_past z law page low s a b at = let under = law.numbered page (not_none (map.get z.placement page) (Moving s a b) at) in absurd (omega arith)
 
 -- zones in which no page is moving are the same if they come to the same
@@ -164,7 +164,7 @@ standing None s e stands = false≢true e
 standing (Some (At f)) s e stands = false≢true e
 standing (Some (Moving t a b)) s e stands = stands t a b refl
 
-pub nothing_out : (z : ZoneState) → IsLawful z → StandFrom 0 z → out z.records ≡ []
+pub nothing_out : (z : ZoneState) → IsValidZone z → StandFrom 0 z → out z.records ≡ []
 nothing_out z law stand = none_out z.records (λ s. false_from_ne_true (is_out z.records s) (λ e.
     let page = some_is (page_of z.records s) (out_has_page z.records s e) in
     standing (map.get z.placement page.0) s ((law.under_way page.0 s).1 (e, page.1)) (stand page.0 (omega arith))))
@@ -172,7 +172,7 @@ nothing_out z law stand = none_out z.records (λ s. false_from_ne_true (is_out z
 -- the zones of a round by hand
 
 module _ (start : ZoneState) (rest : IsAtRest start) where
-  begun : IsLawful (round_begun start)
+  begun : IsValidZone (round_begun start)
   begun = lawful_begun start rest.lawful
 
   pub moving_isolated : IsMoving (all_isolated start)
@@ -196,7 +196,7 @@ module _ (start : ZoneState) (rest : IsAtRest start) where
   back_by_hand = back_all (frame_count start) (all_isolated start) ∙ back_steps (frame_count start) (round_begun start) begun
 
 -- where as many pages were isolated as by hand, none is moving and none was put back, the zone is the one after the round by hand
-pub exact : (start z : ZoneState) → IsAtRest start → IsLawful z → ComesTo start z
+pub exact : (start z : ZoneState) → IsAtRest start → IsValidZone z → ComesTo start z
     → isolated z.records ≡ isolated (all_isolated start).records → out z.records ≡ [] → put_back z.records ≡ put_back start.records → IsSame (by_hand start) z
 exact start z rest law comes count none back =
     let stops = counted_stopped start z law comes count in

@@ -7,7 +7,7 @@ use Rattle.journal_core.specs.Moves.{isolated, put_back}
 use Rattle.state_core.specs.declared.placement.Placement.TheVariants.{Moving}
 use Rattle.state_core.specs.Ending.{moved_to_target, put_back_to_source, HasCause}
 use Rattle.state_core.specs.Isolating.{isolated_next, next_state}
-use Rattle.state_core.specs.Lawful.{IsLawful}
+use Rattle.state_core.specs.Lawful.{IsValidZone}
 use Rattle.state_core.specs.Rounds.{round_begun}
 use Rattle.state_core.specs.ZoneState.{ZoneState, frame_count}
 use Rattle.state_core.proofs.Holding.{at_rest}
@@ -19,7 +19,7 @@ use Rattle.outcome_core.proofs.Scanner.{seen_refl, seen_trans, seen_outcome}
 use Rattle.outcome_core.proofs.Scanning.{by_scan, found, none_if, carried_scan, outcome_steps, frames_scan, stuck, further, within_frames, seen_steps, back_scan}
 use Rattle.outcome_core.proofs.Ending.{lawful_move, carried_moved, outcome_moved, carried_back, seen_back}
 
-pub comes_scan : (start z : ZoneState) → IsLawful z → ComesTo start z → ComesTo start (scan_step z)
+pub comes_scan : (start z : ZoneState) → IsValidZone z → ComesTo start z → ComesTo start (scan_step z)
 comes_scan start z law keeps =
     let same = back_scan z law in
     let least = keeps.least in
@@ -31,7 +31,7 @@ comes_scan start z law keeps =
       outcome = λ none. ap outcome_of on ∙ keeps.outcome (sym same ∙ none);
     }
 
-pub comes_move : (start z : ZoneState) (page serial source target : ℕ) → IsLawful z → map.get z.placement page ≡ Some (Moving serial source target) → ComesTo start z → ComesTo start (moved_to_target z serial page)
+pub comes_move : (start z : ZoneState) (page serial source target : ℕ) → IsValidZone z → map.get z.placement page ≡ Some (Moving serial source target) → ComesTo start z → ComesTo start (moved_to_target z serial page)
 comes_move start z page serial source target law at keeps =
     let moved = moved_to_target z serial page in
     let carried = carried_moved z law keeps.carried page serial source target at in
@@ -44,7 +44,7 @@ comes_move start z page serial source target law at keeps =
       outcome = λ none. outcome_steps (frame_count z) moved z law' law carried keeps.carried same ∙ keeps.outcome none;
     }
 
-pub comes_put_back : (start z : ZoneState) (page serial source target : ℕ) (cause : Cause) → IsLawful z → HasCause cause (pins z.records page) → map.get z.placement page ≡ Some (Moving serial source target) → ComesTo start z → ComesTo start (put_back_to_source z serial page cause)
+pub comes_put_back : (start z : ZoneState) (page serial source target : ℕ) (cause : Cause) → IsValidZone z → HasCause cause (pins z.records page) → map.get z.placement page ≡ Some (Moving serial source target) → ComesTo start z → ComesTo start (put_back_to_source z serial page cause)
 comes_put_back start z page serial source target cause law has at keeps =
     let least = keeps.least in
     record {
@@ -71,12 +71,12 @@ stopped_outcome start z keeps none e = ap outcome_of (sym (stuck (frame_count z)
 pub stopped_seen : (start z : ZoneState) → ComesTo start z → scan_pair z ≡ None → IsSeenAs z (all_isolated start)
 stopped_seen start z keeps e = subst (λ (w : ZoneState). IsSeenAs w (all_isolated start)) (stuck (frame_count z) z e) keeps.scans
 
-rising : (n : ℕ) (z : ZoneState) → IsLawful z → isolated z.records ≤ isolated (scan_steps n z).records
+rising : (n : ℕ) (z : ZoneState) → IsValidZone z → isolated z.records ≤ isolated (scan_steps n z).records
 rising zero z law = omega arith
 rising (suc n) z law = by_scan z law (λ w. isolated z.records ≤ isolated (scan_steps n w).records) (λ e. rising n z law)
     (λ pair t. omega (arith, rising n (isolated_next z pair) (lawful_isolated z pair law t.is t.accepted)))
 
-pub counted_stopped : (start z : ZoneState) → IsLawful z → ComesTo start z → isolated z.records ≡ isolated (all_isolated start).records → scan_pair z ≡ None
+pub counted_stopped : (start z : ZoneState) → IsValidZone z → ComesTo start z → isolated z.records ≡ isolated (all_isolated start).records → scan_pair z ≡ None
 counted_stopped start z law keeps count = none_if (scan_pair z) (λ pair e.
     let t = found z law pair e in
     let step : scan_step z ≡ isolated_next z pair = ap (next_state z) e in

@@ -9,7 +9,7 @@ use Rattle.journal_core.specs.Moves.{out}
 use Rattle.state_core.specs.declared.placement.Placement.{Placement}
 use Rattle.state_core.specs.declared.placement.Placement.TheVariants.{At, Moving}
 use Rattle.state_core.specs.Ending.{moved_to_target, put_back_to_source, target_of, source_of}
-use Rattle.state_core.specs.Lawful.{IsLawful}
+use Rattle.state_core.specs.Lawful.{IsValidZone}
 use Rattle.state_core.specs.Pairs.{stands_in}
 use Rattle.state_core.specs.ZoneState.{ZoneState, takes_up}
 use Rattle.state_core.proofs.Entries.{get_insert_same, get_insert_other}
@@ -18,11 +18,11 @@ use Rattle.outcome_core.specs.Alone.{AreCarriedUp, IsSeenAs}
 use Rattle.outcome_core.specs.Outcome.{outcome_of, final_frame}
 use Rattle.outcome_core.proofs.Scanning.{not_moving, no_pin}
 
-module _ (z : ZoneState) (law : IsLawful z) (carried : AreCarriedUp z) (page serial source target : ℕ) (at : map.get z.placement page ≡ Some (Moving serial source target)) where
+module _ (z : ZoneState) (law : IsValidZone z) (carried : AreCarriedUp z) (page serial source target : ℕ) (at : map.get z.placement page ≡ Some (Moving serial source target)) where
   target_is : target_of (map.get z.placement page) ≡ target
   target_is = ap target_of at
 
-  pub lawful_move : IsLawful (moved_to_target z serial page)
+  pub lawful_move : IsValidZone (moved_to_target z serial page)
   lawful_move = lawful_moved z serial page source target law at (no_pin z carried page serial source target at)
 
   pub carried_moved : AreCarriedUp (moved_to_target z serial page)
@@ -53,7 +53,7 @@ module _ (z : ZoneState) (law : IsLawful z) (carried : AreCarriedUp z) (page ser
       λ i. record (outcome_of z) { room = room i; frame = λ q. frame_moved q i; places = places i }
 
 -- nor is a page that is put back seen between the fingers
-module _ (z : ZoneState) (law : IsLawful z) (carried : AreCarriedUp z) (page serial source target : ℕ) (cause : Cause) (at : map.get z.placement page ≡ Some (Moving serial source target)) where
+module _ (z : ZoneState) (law : IsValidZone z) (carried : AreCarriedUp z) (page serial source target : ℕ) (cause : Cause) (at : map.get z.placement page ≡ Some (Moving serial source target)) where
   abbrev sent_back : ZoneState
   sent_back = put_back_to_source z serial page cause
 

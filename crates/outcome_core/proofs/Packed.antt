@@ -6,7 +6,7 @@ use Rattle.journal_core.specs.Moves.{isolated, out}
 use Rattle.state_core.specs.declared.error.ZoneError.{ZoneError}
 use Rattle.state_core.specs.declared.round.Pair.{Pair}
 use Rattle.state_core.specs.Isolating.{isolate_refusal}
-use Rattle.state_core.specs.Lawful.{IsLawful}
+use Rattle.state_core.specs.Lawful.{IsValidZone}
 use Rattle.state_core.specs.Packed.{IsPacked}
 use Rattle.state_core.specs.Pairs.{HaveMet, is_calm, next_pair}
 use Rattle.state_core.specs.Rounds.{round_begun}
@@ -24,10 +24,10 @@ use Rattle.outcome_core.proofs.Scanning.{by_scan, lawful_scan, settled, within_f
 
 -- the scanner leaves a round quiet
 
-quiet_scan : (z : ZoneState) → IsLawful z → is_quiet z ≡ true → is_quiet (scan_step z) ≡ true
+quiet_scan : (z : ZoneState) → IsValidZone z → is_quiet z ≡ true → is_quiet (scan_step z) ≡ true
 quiet_scan z law quiet = by_scan z law (λ w. is_quiet w ≡ true) (λ e. quiet) (λ pair t. quiet_kept z.records (Isolate (isolated z.records) pair.page) z.round refl law.begun ∙ quiet)
 
-quiet_steps : (n : ℕ) (z : ZoneState) → IsLawful z → is_quiet z ≡ true → is_quiet (scan_steps n z) ≡ true
+quiet_steps : (n : ℕ) (z : ZoneState) → IsValidZone z → is_quiet z ≡ true → is_quiet (scan_steps n z) ≡ true
 quiet_steps zero z law quiet = quiet
 quiet_steps (suc n) z law quiet = quiet_steps n (scan_step z) (lawful_scan z law) (quiet_scan z law quiet)
 
@@ -58,7 +58,7 @@ none_of (serial ∷ more) e = cc
 if_no_refusal : (refusal : Option ZoneError) (pair : Option Pair) → refusal ≡ None → cond (is_none refusal) pair None ≡ None → pair ≡ None
 if_no_refusal refusal pair e none = sym (ap (λ r. cond (is_none r) pair None) e) ∙ none
 
-module _ (start : ZoneState) (law : IsLawful start) (calm : is_calm start ≡ true) (refused : isolate_refusal (all_isolated start) ≡ None) where
+module _ (start : ZoneState) (law : IsValidZone start) (calm : is_calm start ≡ true) (refused : isolate_refusal (all_isolated start) ≡ None) where
   at_rest : IsAtRest start
   at_rest = record { lawful = law; none_out = none_of (out start.records) (eqb-true _ 0 (and_parts _ _ calm).0) }
 
@@ -83,5 +83,5 @@ packed_same z w same packed =
     let there = subst IsPacked (λ i. record z { blocks = same.blocks i; marked = same.marked i; handed_out = same.handed_out i; placement = same.placement i }) packed in
     record { each = there.each }
 
-pub packed_exact : (start z : ZoneState) → IsLawful start → is_calm start ≡ true → isolate_refusal (all_isolated start) ≡ None → IsSame (by_hand start) z → IsPacked z
+pub packed_exact : (start z : ZoneState) → IsValidZone start → is_calm start ≡ true → isolate_refusal (all_isolated start) ≡ None → IsSame (by_hand start) z → IsPacked z
 packed_exact start z law calm refused same = packed_same (by_hand start) z same (packed_by_hand start law calm refused)

@@ -10,7 +10,7 @@ use Rattle.state_core.specs.declared.error.ZoneError.{ZoneError}
 use Rattle.state_core.specs.declared.placement.Placement.TheVariants.{At, Moving}
 use Rattle.state_core.specs.declared.round.Pair.{Pair}
 use Rattle.state_core.specs.Isolating.{isolate_refusal, isolated_next, next_state}
-use Rattle.state_core.specs.Lawful.{IsLawful}
+use Rattle.state_core.specs.Lawful.{IsValidZone}
 use Rattle.state_core.specs.Pairs.{IsPair, next_pair, can_move, stands_in}
 use Rattle.state_core.specs.ZoneState.{ZoneState, frame_count, takes_up}
 use Rattle.state_core.proofs.Entries.{get_insert_same, get_insert_other}
@@ -33,7 +33,7 @@ if_accepted : (refusal : Option ZoneError) (o : Option Pair) (pair : Pair) → c
 if_accepted None o pair e = (refl, e)
 if_accepted (Some error) o pair e = cc
 
-pub found : (z : ZoneState) → IsLawful z → (pair : Pair) → scan_pair z ≡ Some pair → IsScanned z pair
+pub found : (z : ZoneState) → IsValidZone z → (pair : Pair) → scan_pair z ≡ Some pair → IsScanned z pair
 found z law pair e =
     let parts = if_accepted (isolate_refusal z) (next_pair z) pair e in
     record { is = pair_found z law pair parts.1; accepted = parts.0 }
@@ -42,7 +42,7 @@ pub none_if : (o : Option Pair) → ((pair : Pair) → o ≡ Some pair → ⊥) 
 none_if None never = refl
 none_if (Some pair) never = absurd (never pair refl)
 
-pub by_scan : (z : ZoneState) → IsLawful z → (P : ZoneState → Type 0) → (scan_pair z ≡ None → P z) → ((pair : Pair) → IsScanned z pair → P (isolated_next z pair)) → P (scan_step z)
+pub by_scan : (z : ZoneState) → IsValidZone z → (P : ZoneState → Type 0) → (scan_pair z ≡ None → P z) → ((pair : Pair) → IsScanned z pair → P (isolated_next z pair)) → P (scan_step z)
 by_scan z law P none some = by (scan_pair z) refl where
   by : (o : Option Pair) → scan_pair z ≡ o → P (next_state z o)
   by None e = none e
@@ -50,8 +50,8 @@ by_scan z law P none some = by (scan_pair z) refl where
 
 -- a step leaves a lawful zone lawful, and moving pages go up
 
-pub lawful_scan : (z : ZoneState) → IsLawful z → IsLawful (scan_step z)
-lawful_scan z law = by_scan z law IsLawful (λ e. law) (λ pair t. lawful_isolated z pair law t.is t.accepted)
+pub lawful_scan : (z : ZoneState) → IsValidZone z → IsValidZone (scan_step z)
+lawful_scan z law = by_scan z law IsValidZone (λ e. law) (λ pair t. lawful_isolated z pair law t.is t.accepted)
 
 two_ways : (a s t b source target : ℕ) → Some (Moving a s t) ≡ Some (Moving b source target) → (s ≡ source) × (t ≡ target)
 two_ways a s t b source target e = (cc, cc)
@@ -77,7 +77,7 @@ carried_isolated z pair t carried = record {
       ];
 }
 
-pub carried_scan : (z : ZoneState) → IsLawful z → AreCarriedUp z → AreCarriedUp (scan_step z)
+pub carried_scan : (z : ZoneState) → IsValidZone z → AreCarriedUp z → AreCarriedUp (scan_step z)
 carried_scan z law carried = by_scan z law AreCarriedUp (λ e. carried) (λ pair t. carried_isolated z pair t carried)
 
 -- a moving page has no pin
@@ -126,23 +126,23 @@ outcome_scan z w carried_z carried_w same =
 
 -- so many steps
 
-pub lawful_steps : (n : ℕ) (z : ZoneState) → IsLawful z → IsLawful (scan_steps n z)
+pub lawful_steps : (n : ℕ) (z : ZoneState) → IsValidZone z → IsValidZone (scan_steps n z)
 lawful_steps zero z law = law
 lawful_steps (suc n) z law = lawful_steps n (scan_step z) (lawful_scan z law)
 
-pub carried_steps : (n : ℕ) (z : ZoneState) → IsLawful z → AreCarriedUp z → AreCarriedUp (scan_steps n z)
+pub carried_steps : (n : ℕ) (z : ZoneState) → IsValidZone z → AreCarriedUp z → AreCarriedUp (scan_steps n z)
 carried_steps zero z law carried = carried
 carried_steps (suc n) z law carried = carried_steps n (scan_step z) (lawful_scan z law) (carried_scan z law carried)
 
-pub outcome_steps : (n : ℕ) (z w : ZoneState) → IsLawful z → IsLawful w → AreCarriedUp z → AreCarriedUp w → outcome_of z ≡ outcome_of w → outcome_of (scan_steps n z) ≡ outcome_of (scan_steps n w)
+pub outcome_steps : (n : ℕ) (z w : ZoneState) → IsValidZone z → IsValidZone w → AreCarriedUp z → AreCarriedUp w → outcome_of z ≡ outcome_of w → outcome_of (scan_steps n z) ≡ outcome_of (scan_steps n w)
 outcome_steps zero z w law_z law_w carried_z carried_w same = same
 outcome_steps (suc n) z w law_z law_w carried_z carried_w same =
     outcome_steps n (scan_step z) (scan_step w) (lawful_scan z law_z) (lawful_scan w law_w) (carried_scan z law_z carried_z) (carried_scan w law_w carried_w) (outcome_scan z w carried_z carried_w same)
 
-pub frames_scan : (z : ZoneState) → IsLawful z → frame_count (scan_step z) ≡ frame_count z
+pub frames_scan : (z : ZoneState) → IsValidZone z → frame_count (scan_step z) ≡ frame_count z
 frames_scan z law = by_scan z law (λ w. frame_count w ≡ frame_count z) (λ e. refl) (λ pair t. refl)
 
-pub frames_steps : (n : ℕ) (z : ZoneState) → IsLawful z → frame_count (scan_steps n z) ≡ frame_count z
+pub frames_steps : (n : ℕ) (z : ZoneState) → IsValidZone z → frame_count (scan_steps n z) ≡ frame_count z
 frames_steps zero z law = refl
 frames_steps (suc n) z law = frames_steps n (scan_step z) (lawful_scan z law) ∙ frames_scan z law
 
@@ -150,7 +150,7 @@ pub stuck : (n : ℕ) (z : ZoneState) → scan_pair z ≡ None → scan_steps n 
 stuck zero z e = refl
 stuck (suc n) z e = ap (λ o. scan_steps n (next_state z o)) e ∙ stuck n z e
 
-pub settled : (n : ℕ) (z : ZoneState) → IsLawful z → z.free - z.migrate ≤ n → scan_pair (scan_steps n z) ≡ None
+pub settled : (n : ℕ) (z : ZoneState) → IsValidZone z → z.free - z.migrate ≤ n → scan_pair (scan_steps n z) ≡ None
 settled zero z law within = none_if (scan_pair z) (λ pair e.
     let t = found z law pair e in
     let low = t.is.from.low in
@@ -165,10 +165,10 @@ in_turn zero z = refl
 in_turn (suc n) z = in_turn n (scan_step z)
 
 -- where the scanner stopped, a step more changes nothing
-pub further : (n : ℕ) (z : ZoneState) → IsLawful z → z.free - z.migrate ≤ n → scan_steps n (scan_step z) ≡ scan_steps n z
+pub further : (n : ℕ) (z : ZoneState) → IsValidZone z → z.free - z.migrate ≤ n → scan_steps n (scan_step z) ≡ scan_steps n z
 further n z law within = in_turn n z ∙ ap (next_state (scan_steps n z)) (settled n z law within)
 
-pub within_frames : (z : ZoneState) → IsLawful z → z.free - z.migrate ≤ frame_count z
+pub within_frames : (z : ZoneState) → IsValidZone z → z.free - z.migrate ≤ frame_count z
 within_frames z law = let high = law.fingers.1 in omega arith
 
 -- after a step, and after so many, the scanner still can't tell them apart
@@ -204,7 +204,7 @@ seen_isolated z w pair low high seen =
       ];
     }
 
-seen_scan : (z w : ZoneState) → IsLawful z → IsSeenAs z w → IsSeenAs (scan_step z) (scan_step w)
+seen_scan : (z w : ZoneState) → IsValidZone z → IsSeenAs z w → IsSeenAs (scan_step z) (scan_step w)
 seen_scan z w law seen = subst (λ o. IsSeenAs (scan_step z) (next_state w o)) (pair_seen z w seen) (by (scan_pair z) refl) where
   by : (o : Option Pair) → scan_pair z ≡ o → IsSeenAs (next_state z o) (next_state w o)
   by None e = seen
@@ -213,13 +213,13 @@ seen_scan z w law seen = subst (λ o. IsSeenAs (scan_step z) (next_state w o)) (
       let high = t.is.to.high in
       seen_isolated z w pair t.is.from.low (omega arith) seen
 
-pub seen_steps : (n : ℕ) (z w : ZoneState) → IsLawful z → IsLawful w → IsSeenAs z w → IsSeenAs (scan_steps n z) (scan_steps n w)
+pub seen_steps : (n : ℕ) (z w : ZoneState) → IsValidZone z → IsValidZone w → IsSeenAs z w → IsSeenAs (scan_steps n z) (scan_steps n w)
 seen_steps zero z w law_z law_w seen = seen
 seen_steps (suc n) z w law_z law_w seen = seen_steps n (scan_step z) (scan_step w) (lawful_scan z law_z) (lawful_scan w law_w) (seen_scan z w law_z seen)
 
-pub back_scan : (z : ZoneState) → IsLawful z → put_back (scan_step z).records ≡ put_back z.records
+pub back_scan : (z : ZoneState) → IsValidZone z → put_back (scan_step z).records ≡ put_back z.records
 back_scan z law = by_scan z law (λ w. put_back w.records ≡ put_back z.records) (λ e. refl) (λ pair t. refl)
 
-pub back_steps : (n : ℕ) (z : ZoneState) → IsLawful z → put_back (scan_steps n z).records ≡ put_back z.records
+pub back_steps : (n : ℕ) (z : ZoneState) → IsValidZone z → put_back (scan_steps n z).records ≡ put_back z.records
 back_steps zero z law = refl
 back_steps (suc n) z law = back_steps n (scan_step z) (lawful_scan z law) ∙ back_scan z law

@@ -7,18 +7,18 @@ use Rattle.play_core.specs.declared.error.Fault.{Fault}
 use Rattle.play_core.specs.declared.error.Fault.TheVariants.{Syntax, LongLine, Read, Write, Memory}
 use Rattle.play_core.specs.Script.{StopsIn, Answer, IsBeginning, Numbered, commands_from, commands_of, parts_of, texts}
 use Rattle.play_core.specs.Runs.{Rule, Asking, IsAsking, IsEnded, IsStopped, IsUnread}
-use Rattle.play_core.specs.Outbox.{Outbox, Owes, empty}
+use Rattle.play_core.specs.ReplyBuffer.{ReplyBuffer, Owes, empty}
 use Rattle.text_core.specs.Reply.{newlines}
-use Rattle.play_core.specs.Player.{Player, BreaksOff, EndsBy, Finishes, HasClosed, HasEnded, StopsBy, HasFault, HasRead, begun}
+use Rattle.play_core.specs.ScriptRunner.{ScriptRunner, BreaksOff, EndsBy, Finishes, HasClosed, HasEnded, StopsBy, HasFault, HasRead, begun}
 use Rattle.play_core.proofs.Waiting.{owes_empty, owes_none}
 use Rattle.text_core.proofs.Newlines.{newlines-append}
 use Rattle.play_core.proofs.Beginnings.{commands_begin}
 use Rattle.play_core.proofs.Reading.{begins_of}
 use Rattle.play_core.proofs.Inputs.{begins_end, ends_stop, read_clean}
 
-pub begun_read : {S : Type 0} (may : Rule S) (start : S) (s : Player S) (first : Option (List ℕ)) → s ≡ begun start → HasRead may start s [] first first
+pub begun_read : {S : Type 0} (may : Rule S) (start : S) (s : ScriptRunner S) (first : Option (List ℕ)) → s ≡ begun start → HasRead may start s [] first first
 begun_read {S} may start s first is =
-    let R : Player S → Type 0 = λ s. HasRead may start s [] first first in
+    let R : ScriptRunner S → Type 0 = λ s. HasRead may start s [] first first in
     subst R (sym is) (record {
       whole = [];
       split = refl;
@@ -36,14 +36,14 @@ begun_read {S} may start s first is =
     })
 
 -- what a flush does that wrote all
-abbrev pub Flushes : {S : Type 0} → Player S → Option (List ℕ) → Option (List ℕ) → Type 0
+abbrev pub Flushes : {S : Type 0} → ScriptRunner S → Option (List ℕ) → Option (List ℕ) → Type 0
 Flushes s mid after = (answers : List Answer) (first : Option (List ℕ)) → Owes s.box answers first mid → Appends first after (texts answers)
 
 -- what a flush does that stopped
-abbrev pub FlushStops : {S : Type 0} → Player S → Option (List ℕ) → Option (List ℕ) → ℕ → Type 0
+abbrev pub FlushStops : {S : Type 0} → ScriptRunner S → Option (List ℕ) → Option (List ℕ) → ℕ → Type 0
 FlushStops s mid after at = (answers : List Answer) (first : Option (List ℕ)) → Owes s.box answers first mid → StopsIn answers first after at
 
-breaks_off : {S : Type 0} (may : Rule S) (start : S) (s : Player S) (left left_new first mid after : Option (List ℕ)) (line : ℕ) → BreaksOff may start s left left_new line first mid → Flushes s mid after → IsUnread may start left left_new first after line
+breaks_off : {S : Type 0} (may : Rule S) (start : S) (s : ScriptRunner S) (left left_new first mid after : Option (List ℕ)) (line : ℕ) → BreaksOff may start s left left_new line first mid → Flushes s mid after → IsUnread may start left left_new first after line
 breaks_off may start s left left_new first mid after line h flushes =
     let r = h.has_read in
     record {
@@ -54,7 +54,7 @@ breaks_off may start s left left_new first mid after line h flushes =
       at = h.at ∙ r.line ∙ (let n : newlines r.whole + 1 ≡ newlines h.past + 1 = omega (arith, ap newlines r.split, newlines-append r.whole s.held, r.unbroken) in n);
     }
 
-pub flushed : {S : Type 0} (may : Rule S) (asks : Asking S) (start : S) (f : Fault) (s : Player S) (input : List ℕ) (e : RunError) (left left_new first mid after : Option (List ℕ)) → f ≢ Write → StopsBy may asks start f s input e left left_new first mid → Flushes s mid after → IsEnded may asks start f input e left left_new first after
+pub flushed : {S : Type 0} (may : Rule S) (asks : Asking S) (start : S) (f : Fault) (s : ScriptRunner S) (input : List ℕ) (e : RunError) (left left_new first mid after : Option (List ℕ)) → f ≢ Write → StopsBy may asks start f s input e left left_new first mid → Flushes s mid after → IsEnded may asks start f input e left left_new first after
 flushed may asks start Syntax s input e left left_new first mid after other h flushes = (h.fault, record { begins = h.begins; written = flushes h.begins.answers first h.owes })
 flushed may asks start LongLine s input e left left_new first mid after other h flushes = (h.fault, record { begins = h.begins; written = flushes h.begins.answers first h.owes })
 flushed may asks start Read s input e left left_new first mid after other h flushes = breaks_off may start s left left_new first mid after e.line h flushes
@@ -62,7 +62,7 @@ flushed may asks start Write s input e left left_new first mid after other h flu
 flushed may asks start Memory s input e left left_new first mid after other h flushes = record { before = h.before; begins = h.begins; asking = h.asking; written = flushes h.begins.answers first h.owes }
 
 -- a flush stopped after some bytes were read
-pub read_stops : {S : Type 0} (may : Rule S) (start : S) (s : Player S) (past : List ℕ) (first mid after : Option (List ℕ)) (at : ℕ) → HasRead may start s past first mid → FlushStops s mid after at → (rest : List ℕ) → IsStopped may start (past ++ rest) first after at
+pub read_stops : {S : Type 0} (may : Rule S) (start : S) (s : ScriptRunner S) (past : List ℕ) (first mid after : Option (List ℕ)) (at : ℕ) → HasRead may start s past first mid → FlushStops s mid after at → (rest : List ℕ) → IsStopped may start (past ++ rest) first after at
 read_stops may start s past first mid after at r stops rest = record {
   before = r.before;
   behind = commands_from s.reading s.line (parts_of (s.held ++ rest));
@@ -71,7 +71,7 @@ read_stops may start s past first mid after at r stops rest = record {
   stops = stops r.answers first r.owes;
 }
 
-fault_stopped : {S : Type 0} (may : Rule S) (start : S) (s : Player S) (past : List ℕ) (e : RunError) (first mid after : Option (List ℕ)) (at : ℕ) → HasFault may start s past e first mid → FlushStops s mid after at → (rest : List ℕ) → IsStopped may start (past ++ rest) first after at
+fault_stopped : {S : Type 0} (may : Rule S) (start : S) (s : ScriptRunner S) (past : List ℕ) (e : RunError) (first mid after : Option (List ℕ)) (at : ℕ) → HasFault may start s past e first mid → FlushStops s mid after at → (rest : List ℕ) → IsStopped may start (past ++ rest) first after at
 fault_stopped may start s past e first mid after at h stops rest = record {
   before = h.before;
   behind = [];
@@ -81,7 +81,7 @@ fault_stopped may start s past e first mid after at h stops rest = record {
 }
 
 -- a flush stopped after another fault
-pub ended_stops : {S : Type 0} (may : Rule S) (asks : Asking S) (start : S) (f : Fault) (s : Player S) (past : List ℕ) (e : RunError) (first mid after : Option (List ℕ)) (at : ℕ) → f ≢ Write → EndsBy may asks start f s past e first mid → FlushStops s mid after at → (rest : List ℕ) → IsStopped may start (past ++ rest) first after at
+pub ended_stops : {S : Type 0} (may : Rule S) (asks : Asking S) (start : S) (f : Fault) (s : ScriptRunner S) (past : List ℕ) (e : RunError) (first mid after : Option (List ℕ)) (at : ℕ) → f ≢ Write → EndsBy may asks start f s past e first mid → FlushStops s mid after at → (rest : List ℕ) → IsStopped may start (past ++ rest) first after at
 ended_stops may asks start Syntax s past e first mid after at other h stops rest = fault_stopped may start s past e first mid after at h stops rest
 ended_stops may asks start LongLine s past e first mid after at other h stops rest = fault_stopped may start s past e first mid after at h stops rest
 ended_stops may asks start Read s past e first mid after at other h stops rest = absurd h
@@ -97,13 +97,13 @@ ended_stops may asks start Memory s past e first mid after at other h stops rest
       stopped more.0 (ap commands_of b.order ∙ more.1 ∙ ap (λ (list : List Numbered). list ++ more.0) b.commands)
 
 -- where nothing waits, all is written
-pub written_out : {S : Type 0} (s : Player S) (now : Option (List ℕ)) → s.box ≡ empty → Flushes s now now
+pub written_out : {S : Type 0} (s : ScriptRunner S) (now : Option (List ℕ)) → s.box ≡ empty → Flushes s now now
 written_out s now none = λ answers first owes.
-    let O : Outbox → Type 0 = λ box. Owes box answers first now in
+    let O : ReplyBuffer → Type 0 = λ box. Owes box answers first now in
     owes_none empty answers first now now (subst O none owes) (Appends-nil now)
 
 -- the replies to what was read were written
-pub read_flushed : {S : Type 0} (may : Rule S) (start : S) (s : Player S) (past : List ℕ) (first mid after : Option (List ℕ)) → HasRead may start s past first mid → Flushes s mid after → HasRead may start (record s { box = empty }) past first after
+pub read_flushed : {S : Type 0} (may : Rule S) (start : S) (s : ScriptRunner S) (past : List ℕ) (first mid after : Option (List ℕ)) → HasRead may start s past first mid → Flushes s mid after → HasRead may start (record s { box = empty }) past first after
 read_flushed may start s past first mid after r flushes = record {
   whole = r.whole;
   split = r.split;
@@ -120,7 +120,7 @@ read_flushed may start s past first mid after r flushes = record {
   owes = owes_empty r.answers first after (flushes r.answers first r.owes);
 }
 
-module _ {S : Type 0} (may : Rule S) (asks : Asking S) (start : S) (s : Player S) (past : List ℕ) (first mid after : Option (List ℕ)) where
+module _ {S : Type 0} (may : Rule S) (asks : Asking S) (start : S) (s : ScriptRunner S) (past : List ℕ) (first mid after : Option (List ℕ)) where
   -- reading a piece never ends with the fault of a read
   no_read : (f : Fault) (e : RunError) → EndsBy may asks start f s past e first mid → f ≢ Read
   no_read Read e h is = h
@@ -148,13 +148,13 @@ closed_in may asks start past e first now is stops = record {
   not_write f read write = cc
 
 -- a read failed, or too many didn't come to the end, and no reply waits
-pub breaks_off_written : {S : Type 0} (may : Rule S) (asks : Asking S) (start : S) (s : Player S) (past input : List ℕ) (e : RunError) (left left_new first now : Option (List ℕ)) → s.box ≡ empty → e ≡ record { fault = Read; line = s.line } → Consumes left left_new past → HasRead may start s past first now → IsEnded may asks start e.fault input e left left_new first now
+pub breaks_off_written : {S : Type 0} (may : Rule S) (asks : Asking S) (start : S) (s : ScriptRunner S) (past input : List ℕ) (e : RunError) (left left_new first now : Option (List ℕ)) → s.box ≡ empty → e ≡ record { fault = Read; line = s.line } → Consumes left left_new past → HasRead may start s past first now → IsEnded may asks start e.fault input e left left_new first now
 breaks_off_written may asks start s past input e left left_new first now none is took r =
     let E : RunError → Type 0 = λ e. IsEnded may asks start e.fault input e left left_new first now in
     subst E (sym is) (breaks_off may start s left left_new first now now s.line (record { past = past; read = took; has_read = r; at = refl }) (written_out s now none))
 
 -- the end of the input cuts a line off, and no reply waits
-pub cut_written : {S : Type 0} (may : Rule S) (asks : Asking S) (start : S) (s : Player S) (input : List ℕ) (e : RunError) (left left_new first now : Option (List ℕ)) → s.box ≡ empty → e.fault ≡ Syntax → Finishes may start s input (Some e) first now → IsEnded may asks start e.fault input e left left_new first now
+pub cut_written : {S : Type 0} (may : Rule S) (asks : Asking S) (start : S) (s : ScriptRunner S) (input : List ℕ) (e : RunError) (left left_new first now : Option (List ℕ)) → s.box ≡ empty → e.fault ≡ Syntax → Finishes may start s input (Some e) first now → IsEnded may asks start e.fault input e left left_new first now
 cut_written may asks start s input e left left_new first now none is h =
     let E : Fault → Type 0 = λ f. IsEnded may asks start f input e left left_new first now in
     subst E (sym is) (h.fault, record { begins = h.begins; written = written_out s now none h.begins.answers first h.owes })

@@ -11,21 +11,21 @@ use Rattle.play_core.specs.declared.totals.Totals.{Totals}
 use Rattle.play_core.specs.Runs.{Rule, Asking, Begins, IsAsking, IsStopped, Replied}
 use Rattle.text_core.specs.Reply.{newlines}
 use Rattle.play_core.specs.Script.{Block, IsBeginning, IsOfEnd, Numbered, Reading, commands_from, commands_of, cut_fault, fault_from, fault_of, open_fault, reading_of}
-use Rattle.play_core.specs.Player.{Player, EndsBy, Finishes, StopsBy, HasRead, HasFault}
+use Rattle.play_core.specs.ScriptRunner.{ScriptRunner, EndsBy, Finishes, StopsBy, HasRead, HasFault}
 use Rattle.play_core.proofs.Lines.{parts-end, reading-end}
 use Rattle.text_core.proofs.Newlines.{newlines-append}
 use Rattle.std.specs.Option.{option_or}
 use Rattle.play_core.proofs.Reading.{begins_of, whole_is}
 
-pub commands_end : {S : Type 0} (may : Rule S) (start : S) (s : Player S) (input : List ℕ) (first now : Option (List ℕ)) → (r : HasRead may start s input first now) → commands_of input ≡ r.before
+pub commands_end : {S : Type 0} (may : Rule S) (start : S) (s : ScriptRunner S) (input : List ℕ) (first now : Option (List ℕ)) → (r : HasRead may start s input first now) → commands_of input ≡ r.before
 commands_end may start s input first now r =
     ap commands_of r.split ∙ r.commands s.held ∙ ap (λ (ps : List (List ℕ)). r.before ++ commands_from s.reading s.line ps) (parts-end s.held r.unbroken) ∙ append-nil r.before
 
-pub fault_end : {S : Type 0} (may : Rule S) (start : S) (s : Player S) (input : List ℕ) (first now : Option (List ℕ)) → (r : HasRead may start s input first now) → fault_of input ≡ option_or (cut_fault s.line s.held) (open_fault s.reading.block)
+pub fault_end : {S : Type 0} (may : Rule S) (start : S) (s : ScriptRunner S) (input : List ℕ) (first now : Option (List ℕ)) → (r : HasRead may start s input first now) → fault_of input ≡ option_or (cut_fault s.line s.held) (open_fault s.reading.block)
 fault_end may start s input first now r = ap fault_of r.split ∙ r.fault s.held ∙ ap (fault_from s.reading s.line) (parts-end s.held r.unbroken)
 
 -- how the line after the input would be read
-pub reading_end : {S : Type 0} (may : Rule S) (start : S) (s : Player S) (input : List ℕ) (first now : Option (List ℕ)) → (r : HasRead may start s input first now) → reading_of input ≡ s.reading
+pub reading_end : {S : Type 0} (may : Rule S) (start : S) (s : ScriptRunner S) (input : List ℕ) (first now : Option (List ℕ)) → (r : HasRead may start s input first now) → reading_of input ≡ s.reading
 reading_end may start s input first now r = ap reading_of r.split ∙ r.reading s.held ∙ reading-end s.reading s.line s.held r.unbroken
 
 -- replies to commands are replies to the same commands under another name
@@ -37,19 +37,19 @@ begins_same may start commands same is b = record {
 }
 
 -- the commands of the input were answered where all of it was read
-abbrev pub begins_end : {S : Type 0} (may : Rule S) (start : S) (s : Player S) (input : List ℕ) (first now : Option (List ℕ)) → HasRead may start s input first now → Begins may start (commands_of input)
+abbrev pub begins_end : {S : Type 0} (may : Rule S) (start : S) (s : ScriptRunner S) (input : List ℕ) (first now : Option (List ℕ)) → HasRead may start s input first now → Begins may start (commands_of input)
 begins_end may start s input first now r =
     begins_same may start r.before (commands_of input) (sym (commands_end may start s input first now r)) (begins_of may start s input first now r)
 
 -- an input that ends where no line and no block has begun
-abbrev pub read_end : {S : Type 0} (may : Rule S) (start : S) (s : Player S) (input : List ℕ) (first now : Option (List ℕ)) → HasRead may start s input first now → s.held ≡ [] → s.reading.block ≡ None → Finishes may start s input None first now
+abbrev pub read_end : {S : Type 0} (may : Rule S) (start : S) (s : ScriptRunner S) (input : List ℕ) (first now : Option (List ℕ)) → HasRead may start s input first now → s.held ≡ [] → s.reading.block ≡ None → Finishes may start s input None first now
 read_end may start s input first now r none outside = record {
   fault = fault_end may start s input first now r ∙ ap (λ h. option_or (cut_fault s.line h) (open_fault s.reading.block)) none ∙ ap open_fault outside;
   begins = begins_end may start s input first now r;
   owes = r.owes;
 }
 
-pub lines_end : {S : Type 0} (may : Rule S) (start : S) (s : Player S) (input : List ℕ) (first now : Option (List ℕ)) → HasRead may start s input first now → s.held ≡ [] → s.line - 1 ≡ newlines input
+pub lines_end : {S : Type 0} (may : Rule S) (start : S) (s : ScriptRunner S) (input : List ℕ) (first now : Option (List ℕ)) → HasRead may start s input first now → s.held ≡ [] → s.line - 1 ≡ newlines input
 lines_end may start s input first now r none = omega (arith, r.line, ap newlines (whole_is may start s input first now r none))
 
 cut_is : (line : ℕ) (cut : List ℕ) → 0 < length cut → length cut ≤ 200 → cut_fault line cut ≡ Some (record { fault = Syntax; line = line })
@@ -59,7 +59,7 @@ cut_is line (b ∷ bytes) some short =
     ap (λ (t : Bool). Some (record { fault = if t then LongLine else Syntax; line = line })) few
 
 -- an input that ends within a line
-pub read_cut : {S : Type 0} (may : Rule S) (start : S) (s : Player S) (input : List ℕ) (first now : Option (List ℕ)) → HasRead may start s input first now → 0 < length s.held → Finishes may start s input (Some (record { fault = Syntax; line = s.line })) first now
+pub read_cut : {S : Type 0} (may : Rule S) (start : S) (s : ScriptRunner S) (input : List ℕ) (first now : Option (List ℕ)) → HasRead may start s input first now → 0 < length s.held → Finishes may start s input (Some (record { fault = Syntax; line = s.line })) first now
 read_cut may start s input first now r some = record {
   fault = fault_end may start s input first now r ∙ ap (λ o. option_or o (open_fault s.reading.block)) (cut_is s.line s.held some r.short);
   begins = begins_end may start s input first now r;
@@ -67,7 +67,7 @@ read_cut may start s input first now r some = record {
 }
 
 -- an input that ends in a block
-pub read_unended : {S : Type 0} (may : Rule S) (start : S) (s : Player S) (input : List ℕ) (block : Block) (first now : Option (List ℕ)) → HasRead may start s input first now → s.held ≡ [] → s.reading.block ≡ Some block → Finishes may start s input (Some (record { fault = Syntax; line = block.line })) first now
+pub read_unended : {S : Type 0} (may : Rule S) (start : S) (s : ScriptRunner S) (input : List ℕ) (block : Block) (first now : Option (List ℕ)) → HasRead may start s input first now → s.held ≡ [] → s.reading.block ≡ Some block → Finishes may start s input (Some (record { fault = Syntax; line = block.line })) first now
 read_unended may start s input block first now r none inside = record {
   fault = fault_end may start s input first now r ∙ ap (λ h. option_or (cut_fault s.line h) (open_fault s.reading.block)) none ∙ ap open_fault inside;
   begins = begins_end may start s input first now r;
@@ -75,7 +75,7 @@ read_unended may start s input block first now r none inside = record {
 }
 
 -- what was read has no fault except those that an end there would make
-pub read_clean : {S : Type 0} (may : Rule S) (start : S) (s : Player S) (past : List ℕ) (first now : Option (List ℕ)) → HasRead may start s past first now → IfSome (fault_of past) (IsOfEnd past)
+pub read_clean : {S : Type 0} (may : Rule S) (start : S) (s : ScriptRunner S) (past : List ℕ) (first now : Option (List ℕ)) → HasRead may start s past first now → IfSome (fault_of past) (IsOfEnd past)
 read_clean may start s past first now r = by_held s.held refl where
   open_is : open_fault (reading_of past).block ≡ open_fault s.reading.block
   open_is = ap (λ (q : Reading). open_fault q.block) (reading_end may start s past first now r)
@@ -102,14 +102,14 @@ consumed_all None left_new input past e took end = cc
 consumed_all (Some xs) None input past e took end = absurd took
 consumed_all (Some xs) (Some ys) input past e took end = let same : input ≡ xs = cc in sym (append-nil past) ∙ ap (λ (r : List ℕ). past ++ r) (sym end) ∙ sym took ∙ sym same
 
-fault_stops : {S : Type 0} (may : Rule S) (start : S) (s : Player S) (past rest input : List ℕ) (e : RunError) (first now : Option (List ℕ)) → input ≡ past ++ rest → HasFault may start s past e first now → Finishes may start s input (Some e) first now
+fault_stops : {S : Type 0} (may : Rule S) (start : S) (s : ScriptRunner S) (past rest input : List ℕ) (e : RunError) (first now : Option (List ℕ)) → input ≡ past ++ rest → HasFault may start s past e first now → Finishes may start s input (Some e) first now
 fault_stops may start s past rest input e first now split h = record {
   fault = ap fault_of split ∙ h.fault rest;
   begins = begins_same may start h.before (commands_of input) (sym (ap commands_of split ∙ h.commands rest)) h.begins;
   owes = h.owes;
 }
 
-pub ends_stop : {S : Type 0} (may : Rule S) (asks : Asking S) (start : S) (f : Fault) (s : Player S) (past rest input : List ℕ) (e : RunError) (left left_new first now : Option (List ℕ)) → input ≡ past ++ rest → EndsBy may asks start f s past e first now → StopsBy may asks start f s input e left left_new first now
+pub ends_stop : {S : Type 0} (may : Rule S) (asks : Asking S) (start : S) (f : Fault) (s : ScriptRunner S) (past rest input : List ℕ) (e : RunError) (left left_new first now : Option (List ℕ)) → input ≡ past ++ rest → EndsBy may asks start f s past e first now → StopsBy may asks start f s input e left left_new first now
 ends_stop may asks start Syntax s past rest input e left left_new first now split h = fault_stops may start s past rest input e first now split h
 ends_stop may asks start LongLine s past rest input e left left_new first now split h = fault_stops may start s past rest input e first now split h
 ends_stop may asks start Read s past rest input e left left_new first now split h = absurd h
@@ -122,7 +122,7 @@ ends_stop may asks start Memory s past rest input e left left_new first now spli
 }
 
 -- an input that was read to its end
-pub end_finishes : {S : Type 0} (may : Rule S) (start : S) (s : Player S) (past input : List ℕ) (left mid left_new first now : Option (List ℕ)) → left ≡ Some input → Consumes left mid past → Consumes mid left_new [] → IsAtEnd left_new → HasRead may start s past first now → HasRead may start s input first now
+pub end_finishes : {S : Type 0} (may : Rule S) (start : S) (s : ScriptRunner S) (past input : List ℕ) (left mid left_new first now : Option (List ℕ)) → left ≡ Some input → Consumes left mid past → Consumes mid left_new [] → IsAtEnd left_new → HasRead may start s past first now → HasRead may start s input first now
 end_finishes may start s past input left mid left_new first now known took none end h =
     let R : List ℕ → Type 0 = λ p. HasRead may start s p first now in
     subst R (sym (append-nil past) ∙ consumed_all left left_new input (past ++ []) known (Consumes-trans left mid left_new past [] took none) end) h

@@ -10,7 +10,7 @@ use Rattle.std.proofs.lemmas.List.{length-map, map-append, take-append-le, take-
 use Rattle.std.proofs.Math.Seq.{take-append-add, get_or-append_seam}
 use Rattle.text_core.specs.Reply.{IsOneLine, newlines, text_of}
 use Rattle.play_core.specs.Script.{Answer, texts, StopsIn}
-use Rattle.play_core.specs.Outbox.{Outbox, IsMarked, Owes, empty}
+use Rattle.play_core.specs.ReplyBuffer.{ReplyBuffer, IsMarked, Owes, empty}
 use Rattle.text_core.proofs.Newlines.{newlines-append}
 
 abbrev pub AreOneLine : List Answer → Type 0
@@ -88,7 +88,7 @@ pub appends_on : (a b c : Option (List ℕ)) (xs ys all : List ℕ) → Appends 
 appends_on a b c xs ys all p q e = let A : List ℕ → Type 0 = λ zs. Appends a c zs in subst A e (Appends-trans a b c xs ys p q)
 
 -- where all that waits was written, nothing is owed
-pub owes_none : (box : Outbox) (answers : List Answer) (first now after : Option (List ℕ)) → Owes box answers first now → Appends now after box.bytes → Appends first after (texts answers)
+pub owes_none : (box : ReplyBuffer) (answers : List Answer) (first now after : Option (List ℕ)) → Owes box answers first now → Appends now after box.bytes → Appends first after (texts answers)
 owes_none box answers first now after owes written =
     appends_on first now after (texts owes.gone) box.bytes (texts answers) owes.written written
     (ap (λ (r : List ℕ). texts owes.gone ++ r) owes.holds.bytes ∙ sym (flat_map-append _ owes.gone owes.waiting) ∙ ap texts owes.all)
@@ -104,7 +104,7 @@ owes_empty answers first now written = record {
 }
 
 -- a writer that took n of the bytes stopped within an answer
-pub owes_stops : (box : Outbox) (answers : List Answer) (first now after : Option (List ℕ)) (n : ℕ) → Owes box answers first now → n < length box.bytes → Appends now after (take n box.bytes) → StopsIn answers first after (get_or box.lines (newlines (take n box.bytes)) 0)
+pub owes_stops : (box : ReplyBuffer) (answers : List Answer) (first now after : Option (List ℕ)) (n : ℕ) → Owes box answers first now → n < length box.bytes → Appends now after (take n box.bytes) → StopsIn answers first after (get_or box.lines (newlines (take n box.bytes)) 0)
 owes_stops box answers first now after n owes less written =
     let cut = cut_at owes.waiting n owes.holds.one_line (omega (arith, ap length owes.holds.bytes)) in
     let part : take n box.bytes ≡ texts cut.before ++ cut.taken = ap (take n) owes.holds.bytes ∙ cut.here in
@@ -131,7 +131,7 @@ one_line_more [] a all one = (one, tt)
 one_line_more (b ∷ answers) a all one = (all.0, one_line_more answers a all.1 one)
 
 -- one more answer waits
-pub owes_more : (box : Outbox) (answers : List Answer) (first now : Option (List ℕ)) (a : Answer) → Owes box answers first now → IsOneLine (text_of a.reply) → Owes (record { bytes = box.bytes ++ text_of a.reply; lines = box.lines ++ a.line ∷ [] }) (answers ++ a ∷ []) first now
+pub owes_more : (box : ReplyBuffer) (answers : List Answer) (first now : Option (List ℕ)) (a : Answer) → Owes box answers first now → IsOneLine (text_of a.reply) → Owes (record { bytes = box.bytes ++ text_of a.reply; lines = box.lines ++ a.line ∷ [] }) (answers ++ a ∷ []) first now
 owes_more box answers first now a owes one = record {
   gone = owes.gone;
   waiting = owes.waiting ++ a ∷ [];

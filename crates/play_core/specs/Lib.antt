@@ -1,6 +1,6 @@
 pub mod ErrorNumber
-pub mod Outbox
-pub mod Player
+pub mod ReplyBuffer
+pub mod ScriptRunner
 pub mod Runs
 pub mod Script
 pub mod Streams

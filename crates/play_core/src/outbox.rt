@@ -1,7 +1,7 @@
 ghost use Rattle.std.specs.Prelude.{◌≡◌, ℕ, ◌++◌, [], ◌∷◌, List, Option, IfErr, IsTrue, OnErr, OnOk, ◌↔◌};
 ghost use Rattle.std.specs.Io.KnownBytes.{Appends};
 ghost use Rattle.play_core.specs.Script.{StopsIn, Answer, texts};
-ghost use Rattle.play_core.specs.Outbox.{HasRoom, Owes, empty};
+ghost use Rattle.play_core.specs.ReplyBuffer.{HasRoom, Owes, empty};
 ghost use Rattle.text_core.specs.Reply.{IsOneLine, newlines, text_of};
 
 use crate::answer::Answer;
@@ -12,13 +12,13 @@ use text_core::{Reply, push_reply};
 
 /// Replies that wait to be written together, each with the number of the line that it answers.
 #[derive(Drop)]
-pub(crate) struct Outbox {
+pub(crate) struct ReplyBuffer {
     text: ArrayString<4096>,
     lines: ArrayVec<u64, 4096>,
 }
 
-impl Model for Outbox {
-    ghost use Rattle.play_core.specs.Outbox.{IsMarked, Outbox as Seen};
+impl Model for ReplyBuffer {
+    ghost use Rattle.play_core.specs.ReplyBuffer.{IsMarked, ReplyBuffer as Seen};
 
     ghost Value = { Seen };
 
@@ -27,11 +27,11 @@ impl Model for Outbox {
     ghost invariant = { λ b. IsMarked b.text.bytes b.lines.items };
 }
 
-impl Outbox {
+impl ReplyBuffer {
     pub(crate) fn new() -> Self
         ensures { result ≡ empty }
     {
-        Outbox {
+        ReplyBuffer {
             text: ArrayString::new(),
             lines: ArrayVec::new(),
         }

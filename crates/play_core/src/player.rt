@@ -3,15 +3,15 @@ ghost use Rattle.text_core.specs.Reply.{newlines};
 ghost use Rattle.std.specs.Io.KnownBytes.{Appends};
 ghost use Rattle.play_core.specs.Script.{StopsIn, Answer, Reading, command_in_block, command_of_line, fault_of, line_comes, texts};
 ghost use Rattle.play_core.specs.Runs.{IsEnded, IsTotal};
-ghost use Rattle.play_core.specs.Outbox.{Owes, empty};
-ghost use Rattle.play_core.specs.Player.{Finishes, HasClosed, HasEnded, HasRead, begun, block_begun, in_block, noted};
+ghost use Rattle.play_core.specs.ReplyBuffer.{Owes, empty};
+ghost use Rattle.play_core.specs.ScriptRunner.{Finishes, HasClosed, HasEnded, HasRead, begun, block_begun, in_block, noted};
 ghost use Rattle.play_core.specs.Streams.{CannotReadOn};
 
 use crate::answer::{Answer, Answers};
 use crate::block::{Block, Blocks, ClientLine};
 use crate::error::{Fault, RunError};
 use crate::input::Input;
-use crate::outbox::Outbox;
+use crate::outbox::ReplyBuffer;
 use crate::output::Output;
 use crate::respond::Respond;
 use crate::totals::Totals;
@@ -25,7 +25,7 @@ use text_core::{BlockLine, Command, Profile, Reply, ScriptError, read_block_line
 
 /// A script that is being played: its machine, the block and the line that have begun, and the replies that wait.
 #[derive(Drop)]
-pub(crate) struct Player<A: Respond> {
+pub(crate) struct ScriptRunner<A: Respond> {
     blocks: Blocks,
     profile: Profile,
     block: Option<Block>,
@@ -33,12 +33,12 @@ pub(crate) struct Player<A: Respond> {
     held: ArrayVec<u8, 200>,
     line: u64,
     replies: u64,
-    outbox: Outbox,
+    outbox: ReplyBuffer,
 }
 
-impl<A: Respond> Model for Player<A> {
+impl<A: Respond> Model for ScriptRunner<A> {
     ghost use Rattle.std.specs.Prelude.{◌*◌, ◌<◌};
-    ghost use Rattle.play_core.specs.Player.{Player as Seen};
+    ghost use Rattle.play_core.specs.ScriptRunner.{ScriptRunner as Seen};
 
     ghost Value = { Seen A };
 
@@ -47,13 +47,13 @@ impl<A: Respond> Model for Player<A> {
     ghost invariant = { λ s. (s.replies < 1001 * s.line) × A.ready s.machine };
 }
 
-impl<A: Respond> Player<A> {
+impl<A: Respond> ScriptRunner<A> {
     /// A script at its first byte.
     fn new(blocks: Blocks, machine: A) -> Self
         requires { A.ready machine }
         ensures { result ≡ begun machine }
     {
-        Player {
+        ScriptRunner {
             blocks,
             profile: Profile::Untold,
             block: None,
@@ -61,7 +61,7 @@ impl<A: Respond> Player<A> {
             held: ArrayVec::new(),
             line: 1,
             replies: 0,
-            outbox: Outbox::new(),
+            outbox: ReplyBuffer::new(),
         }
     }
 
@@ -512,7 +512,7 @@ pub fn play<A: Respond + Drop, R: Input, W: Output>(
         (R.reads reader.old) (R.reads reader.new) (R.remaining reader.old)) }
     ensures stuck { IfErr result (λ error. error.fault ≡ Fault.Write → IsTrue (W.stuck writer.new)) }
 {
-    let mut player = Player::new(Blocks::new(alloc), machine);
+    let mut player = ScriptRunner::new(Blocks::new(alloc), machine);
     player.run(reader, writer)
 }
 

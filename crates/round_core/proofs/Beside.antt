@@ -9,7 +9,7 @@ use Rattle.journal_core.specs.Moves.{isolated}
 use Rattle.outcome_core.specs.ByHand.{scan_step}
 use Rattle.outcome_core.proofs.Scanning.{by_scan}
 use Rattle.state_core.specs.Ending.{committed, moved_to_target, put_back_to_source}
-use Rattle.state_core.specs.Lawful.{IsLawful}
+use Rattle.state_core.specs.Lawful.{IsValidZone}
 use Rattle.state_core.specs.ZoneState.{ZoneState}
 use Rattle.round_core.specs.Calls.{IsAddedBeside, IsCall, is_of, is_of_round}
 
@@ -35,7 +35,7 @@ added_more number before after entry own so_far = record {
 }
 
 -- the scanner isolates a page, or stops
-pub added_scan : (number : ℕ) (before : List Record) (z : ZoneState) → IsLawful z → IsAddedBeside number before z.records → IsAddedBeside number before (scan_step z).records
+pub added_scan : (number : ℕ) (before : List Record) (z : ZoneState) → IsValidZone z → IsAddedBeside number before z.records → IsAddedBeside number before (scan_step z).records
 added_scan number before z law so_far =
     by_scan z law (λ w. IsAddedBeside number before w.records) (λ e. so_far) (λ pair t. added_more number before z.records (Isolate (isolated z.records) pair.page) refl so_far)
 

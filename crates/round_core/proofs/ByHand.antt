@@ -13,7 +13,7 @@ use Rattle.outcome_core.proofs.Scanner.{refusal_same}
 use Rattle.state_core.specs.declared.error.ZoneError.{ZoneError}
 use Rattle.state_core.specs.declared.information.Audit.{Audit}
 use Rattle.state_core.specs.Isolating.{isolate_refusal}
-use Rattle.state_core.specs.Lawful.{IsLawful}
+use Rattle.state_core.specs.Lawful.{IsValidZone}
 use Rattle.state_core.specs.Packed.{IsPacked}
 use Rattle.state_core.specs.Pairs.{is_calm}
 use Rattle.state_core.specs.ZoneState.{ZoneState}
@@ -28,10 +28,10 @@ use Rattle.round_core.specs.Rounds.{IsRound, IsRefusedEarly, IsBroken, stop_for,
 
 -- the scanner goes on once it has begun, and stops as by hand
 
-pub goes_on_alone : (start z : ZoneState) → IsLawful z → HasBegun (λ n. n ≡ isolated start.records) (isolated z.records) → KeepsAlone start z → KeepsScanning start z
+pub goes_on_alone : (start z : ZoneState) → IsValidZone z → HasBegun (λ n. n ≡ isolated start.records) (isolated z.records) → KeepsAlone start z → KeepsScanning start z
 goes_on_alone start z law begun = alone_goes_on start z law (let base = begun.begun in let more = begun.more in omega arith)
 
-pub stops_alone : (start z : ZoneState) → IsLawful z → KeepsScanning start z → scan_pair z ≡ None → StopsAlone start (isolated z.records) (stop_for (isolate_refusal z))
+pub stops_alone : (start z : ZoneState) → IsValidZone z → KeepsScanning start z → scan_pair z ≡ None → StopsAlone start (isolated z.records) (stop_for (isolate_refusal z))
 stops_alone start z law keeps none rest =
     let seen = alone_stops start z keeps none rest in
     record { count_is = seen.count; stop_is = ap stop_for (refusal_same z (all_isolated start) seen) }
@@ -59,7 +59,7 @@ pub record IsByHand (start z : ZoneState) (r : Round) : Type 0 where
   pub stopped : r.stopped ≡ stop_by_hand start
 
 -- what the audits before and after a round find, with the seats that it was given and left
-module _ (start z : ZoneState) (scan scan_new : ScanSeat) (ends ends_new : EndSeat) (before after : Result Audit ZoneError) (law_start : IsLawful start) (law : IsLawful z) (keeps : KeepsAlone start z)
+module _ (start z : ZoneState) (scan scan_new : ScanSeat) (ends ends_new : EndSeat) (before after : Result Audit ZoneError) (law_start : IsValidZone start) (law : IsValidZone z) (keeps : KeepsAlone start z)
     (told : 64 ≤ ends.parts → IsOk before ↔ (ends.moved + ends.back ≡ scan.count)) (found : IfOk before (λ a. IsAudited start scan ends a)) (counted : scan.count ≡ isolated start.records)
     (told_new : 64 ≤ ends_new.parts → IsOk after ↔ (ends_new.moved + ends_new.back ≡ scan_new.count)) (found_new : IfOk after (λ a. IsAudited z scan_new ends_new a)) (counted_new : scan_new.count ≡ isolated z.records) where
   module _ (sound : IsBroken scan ends → ⊥) where
@@ -115,7 +115,7 @@ module _ (start z : ZoneState) where
   if_stopped (Ok r) is = is.stopped
   if_stopped (Err error) is = tt
 
-  pub if_packed : IsLawful start → (result : Result Round RoundError) → IfOk result (IsByHand start z) → IfOk result (λ r. r.stopped ≡ stop.Met → is_calm start ≡ true → IsPacked z)
+  pub if_packed : IsValidZone start → (result : Result Round RoundError) → IfOk result (IsByHand start z) → IfOk result (λ r. r.stopped ≡ stop.Met → is_calm start ≡ true → IsPacked z)
   if_packed law (Ok r) is = λ met calm. packed_exact start z law calm (met_for (isolate_refusal (all_isolated start)) (sym is.stopped ∙ met)) is.same
   if_packed law (Err error) is = tt
 

@@ -9,13 +9,13 @@ use Rattle.journal_core.specs.Moves.{isolated}
 use Rattle.outcome_core.specs.ByHand.{scan_step}
 use Rattle.outcome_core.proofs.Scanning.{by_scan}
 use Rattle.state_core.specs.Ending.{committed, moved_to_target, put_back_to_source}
-use Rattle.state_core.specs.Lawful.{IsLawful}
+use Rattle.state_core.specs.Lawful.{IsValidZone}
 use Rattle.state_core.specs.ZoneState.{ZoneState}
 use Rattle.round_core.specs.Calls.{is_of_round}
 
 module _ {A : Type 0} (told : List Record → A) (none : (entry : Record) (records : List Record) → is_of_round entry ≡ true → told (entry ∷ records) ≡ told records) (z : ZoneState) where
   -- the scanner isolates a page, or stops
-  pub scan_tells_none : IsLawful z → told (scan_step z).records ≡ told z.records
+  pub scan_tells_none : IsValidZone z → told (scan_step z).records ≡ told z.records
   scan_tells_none law = by_scan z law (λ w. told w.records ≡ told z.records) (λ e. refl) (λ pair t. none (Isolate (isolated z.records) pair.page) z.records refl)
 
   -- the move of a page ends

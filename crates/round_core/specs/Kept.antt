@@ -3,17 +3,17 @@ use Rattle.std.specs.Prelude.{◌≡◌, ℕ, ◌<◌, true, false, []}
 use Rattle.std.specs.FinMap as map
 use Rattle.journal_core.specs.Moves.{ends_of, out}
 use Rattle.journal_core.specs.Truth.{IsTruthful}
-use Rattle.state_core.specs.Lawful.{IsLawful}
+use Rattle.state_core.specs.Lawful.{IsValidZone}
 use Rattle.state_core.specs.ZoneState.{ZoneState, takes_up, is_held}
 
 -- the zone at each moment that its lock is taken, also while pages are in queues and in hands
-pub record IsKept (z : ZoneState) : Type 0 where
+pub record LockInvariant (z : ZoneState) : Type 0 where
   -- each load in the journal gave the value that was stored last before it in that word of that page
   pub loads : IsTruthful z.records
   -- each block that is handed out is clear: no page takes up a frame of it
   pub clear : (page frame : ℕ) → is_held z frame ≡ true → takes_up (map.get z.placement page) frame ≡ false
   -- the zone is lawful, as every zone is
-  pub lawful : IsLawful z
+  pub lawful : IsValidZone z
 
 -- what an audit of the zone finds, with a scan seat that counted this many pages
 pub record AreAllEnded (z : ZoneState) (count : ℕ) : Type 0 where

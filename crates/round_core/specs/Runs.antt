@@ -6,10 +6,10 @@ use Rattle.hand_core.specs.CopyEnds.{has_ended}
 use Rattle.zone_core.specs.Seats.{ScanSeat}
 use Rattle.round_core.specs.Crews.{IsUnused, IsUnsent, AreListed}
 use Rattle.round_core.specs.Rounds.{answer_at}
-use Rattle.round_core.specs.declared.memory.Joined.{Joined}
+use Rattle.round_core.specs.declared.memory.CopierResults.{CopierResults}
 use Rattle.round_core.specs.declared.memory.Memory.{Memory}
-use Rattle.round_core.specs.declared.memory.Outfit.{Outfit}
-use Rattle.round_core.specs.declared.crew.Ran.{Ran}
+use Rattle.round_core.specs.declared.memory.CopierParts.{CopierParts}
+use Rattle.round_core.specs.declared.crew.RoundRun.{RoundRun}
 
 -- a giver that gave nothing, whose first page has this serial
 pub record IsFresh (serial : ℕ) (g : Giver) : Type 0 where
@@ -19,14 +19,14 @@ pub record IsFresh (serial : ℕ) (g : Giver) : Type 0 where
 
 -- each copier has a taker that took nothing, a sender that sent nothing and an empty list, and there is room for it among those
 -- that are started
-pub record IsUnstarted (o : Outfit) : Type 0 where
+pub record IsUnstarted (o : CopierParts) : Type 0 where
   pub takers : All (IsUnused o.giver.hand_over) o.takers.items
   pub senders : (vec_len o.senders ≡ vec_len o.takers) × All IsUnsent o.senders.items
   pub serials : (vec_len o.serials ≡ vec_len o.takers) × All (λ list. list.items ≡ []) o.serials.items
   pub copiers : (o.copiers.items ≡ []) × (vec_len o.takers ≤ vec_capacity o.copiers)
 
 -- nothing was joined, and there is room for what this many copiers hand back
-pub record IsEmpty (copiers : ℕ) (j : Joined) : Type 0 where
+pub record IsEmpty (copiers : ℕ) (j : CopierResults) : Type 0 where
   pub takers : (j.takers.items ≡ []) × (copiers ≤ vec_capacity j.takers)
   pub lists : (j.lists.items ≡ []) × (copiers ≤ vec_capacity j.lists)
 
@@ -39,12 +39,12 @@ pub record IsReady (serial : ℕ) (m : Memory) : Type 0 where
   pub joined : IsEmpty (vec_len m.outfit.takers) m.joined
 
 -- the takers are of the giver's hand-over, and where all copiers came to their ends the lists have the serials of the pages that they took
-pub record AreJoined (g : Giver) (j : Joined) : Type 0 where
+pub record AreJoined (g : Giver) (j : CopierResults) : Type 0 where
   pub takers : All (λ t. t.hand_over ≡ g.hand_over) j.takers.items
   pub listed : j.whole ≡ true → AreListed (map (λ v. v.items) j.lists.items) j.takers.items
 
 -- how a round ran whose first page has this serial, given the scan seat after it
-pub record HasRun (serial : ℕ) (scan : ScanSeat) (ran : Ran) : Type 0 where
+pub record HasRun (serial : ℕ) (scan : ScanSeat) (ran : RoundRun) : Type 0 where
   pub base : ran.giver.base ≡ serial
   pub joined : AreJoined ran.giver ran.joined
   -- where the scanner came to an end, each page that it counted was given

@@ -2,11 +2,11 @@ ghost use Rattle.std.specs.Prelude.{◌≡◌, ◌+◌, ◌<◌, ◌≤◌, true
 ghost use Rattle.journal_core.specs.Moves.{isolated};
 ghost use Rattle.outcome_core.specs.ByHand.{by_hand};
 ghost use Rattle.outcome_core.specs.Outcome.{IsSame};
-ghost use Rattle.round_core.specs.Kept.{IsKept};
+ghost use Rattle.round_core.specs.Kept.{LockInvariant};
 ghost use Rattle.round_core.specs.Rounds.{IsRound, IsRefusedEarly, IsBroken, stop_by_hand};
 ghost use Rattle.state_core.specs.Packed.{IsPacked};
 ghost use Rattle.state_core.specs.Pairs.{is_calm};
-ghost use Rattle.zone_core.specs.Shape.{HasShape};
+ghost use Rattle.zone_core.specs.ZoneIdentity.{HasIdentity};
 
 use crate::compacting::compact;
 use crate::error::RoundError;
@@ -51,8 +51,8 @@ pub fn compact_alone<
     ensures packed { IfOk result.1 (λ r. r.stopped ≡ Stop.Met → is_calm zone ≡ true → IsPacked result.0) }
     // Where the seats were whole and no round was begun, the zone is as before.
     ensures unbegun { ¬ (IsBroken seats.old.scan seats.old.ends) → seats.new.scan.rounds ≡ seats.old.scan.rounds → IsSame zone result.0 }
-    ensures kept { IsKept result.0 }
-    ensures shape { HasShape zone.number zone.blocks result.0 }
+    ensures kept { LockInvariant result.0 }
+    ensures identity { HasIdentity zone.number zone.blocks result.0 }
     ensures round { IfOk result.1 (λ r. IsRound seats.old.scan seats.new.scan seats.old.ends seats.new.ends r) }
     ensures early { IsRefusedEarly seats.old.scan seats.new.scan seats.old.ends seats.new.ends result.1 }
 {
@@ -84,15 +84,15 @@ fn compact_shared<
 ) -> (Zone<I, M, B>, Result<Round, RoundError>)
     requires copiers { (0 < copiers) × (copiers ≤ 4) }
     requires cap { (0 < cap) × (cap ≤ 64) }
-    requires shape { HasShape K.number K.blocks zone }
+    requires identity { HasIdentity K.number K.blocks zone }
     requires keeps { K.keeps zone }
     requires told { K.told zone.records ≡ None }
     requires begins { K.begins_at seats.old.scan.count }
     ensures keeps { K.keeps result.0 }
     ensures stops { IfOk result.1 (λ r. K.stops_at seats.new.scan.count r.stopped) }
     ensures none_back { OnOk result.1 (K.unpinned → seats.new.ends.back ≡ seats.old.ends.back) }
-    ensures kept { IsKept result.0 }
-    ensures shape { HasShape K.number K.blocks result.0 }
+    ensures kept { LockInvariant result.0 }
+    ensures identity { HasIdentity K.number K.blocks result.0 }
     ensures round { IfOk result.1 (λ r. IsRound seats.old.scan seats.new.scan seats.old.ends seats.new.ends r) }
     ensures early { IsRefusedEarly seats.old.scan seats.new.scan seats.old.ends seats.new.ends result.1 }
 {

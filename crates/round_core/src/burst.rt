@@ -3,9 +3,9 @@
 ghost use Rattle.std.specs.Prelude.{◌≡◌, ◌+◌, ◌<◌, [], length, Some, None, IfSome, IfNone, OnSome};
 ghost use Rattle.std.specs.VecDeque.{deque_capacity};
 ghost use Rattle.journal_core.specs.Moves.{isolated};
-ghost use Rattle.state_core.specs.Lawful.{IsLawful};
+ghost use Rattle.state_core.specs.Lawful.{IsValidZone};
 ghost use Rattle.word_core.specs.Serials.{HasSerialsFrom};
-ghost use Rattle.zone_core.specs.Shape.{HasShape};
+ghost use Rattle.zone_core.specs.ZoneIdentity.{HasIdentity};
 ghost use Rattle.round_core.specs.Rounds.{answer_at};
 
 use crate::keeping::Keeping;
@@ -22,7 +22,7 @@ pub(crate) fn isolate_burst<K: Keeping, I: Ledger, N: Ledger, M: Ledger, B: Ledg
     scan: &mut ScanSeat<I, N>,
     pages: &mut VecDeque<Isolated>,
 ) -> Option<Stop>
-    requires lawful { IsLawful zone.old }
+    requires lawful { IsValidZone zone.old }
     requires keeps { K.keeps_scanning zone.old }
     requires count { isolated zone.old.records ≡ scan.old.count }
     requires empty { (pages.old.items ≡ []) × (0 < deque_capacity pages.old) }
@@ -35,8 +35,8 @@ pub(crate) fn isolate_burst<K: Keeping, I: Ledger, N: Ledger, M: Ledger, B: Ledg
     ensures stops { IfSome result (λ stop. K.stops_at scan.new.count stop) }
     ensures more { IfNone result (scan.old.count < scan.new.count) }
     ensures room { deque_capacity pages.new ≡ deque_capacity pages.old }
-    ensures shape { HasShape zone.old.number zone.old.blocks zone.new }
-    ensures lawful { IsLawful zone.new }
+    ensures identity { HasIdentity zone.old.number zone.old.blocks zone.new }
+    ensures lawful { IsValidZone zone.new }
 {
     while pages.len() < pages.capacity() {
         match zone.isolate_next(scan) {
@@ -55,15 +55,15 @@ pub(crate) fn commit_burst<K: Keeping, I: Ledger, M: Ledger, B: Ledger>(
     copies: &mut VecDeque<Copied>,
     mut stranger: Option<Serial>,
 ) -> Option<Serial>
-    requires lawful { IsLawful zone.old }
+    requires lawful { IsValidZone zone.old }
     requires keeps { K.keeps zone.old }
     ensures keeps { K.keeps zone.new }
     ensures told { K.told zone.new.records ≡ K.told zone.old.records }
     ensures back { K.unpinned → seat.new.back ≡ seat.old.back }
     ensures copies { copies.new.items ≡ [] }
     ensures parts { seat.new.parts ≡ seat.old.parts }
-    ensures shape { HasShape zone.old.number zone.old.blocks zone.new }
-    ensures lawful { IsLawful zone.new }
+    ensures identity { HasIdentity zone.old.number zone.old.blocks zone.new }
+    ensures lawful { IsValidZone zone.new }
 {
     while let Some(copy) = copies.pop_front() {
         if let Err(refused) = zone.commit(seat, copy) {

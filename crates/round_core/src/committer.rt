@@ -3,7 +3,7 @@ ghost use Rattle.hand_core.specs.CopyEnds.{has_ended, IsTriedInTime};
 
 use crate::gate::{Gate, Point, tell_all};
 use crate::keeping::Keeping;
-use crate::memory::Outfit;
+use crate::memory::CopierParts;
 use crate::shared_zone::KeptZone;
 use crate::stack::stack;
 use frame_core::Serial;
@@ -122,12 +122,12 @@ pub(crate) fn start_committer<
     scope: &'s Scope<'s, &'e ()>,
     rt: &'e R,
     shared: &'e KeptZone<K, I, M, B>,
-    outfit: Outfit,
+    outfit: CopierParts,
     copies: DoneTaker,
     gathered: VecDeque<Copied>,
     seat: EndSeat<M, B>,
     gate: &'e G,
-) -> Result<(Outfit, Committer<K, M, B>), EndSeat<M, B>>
+) -> Result<(CopierParts, Committer<K, M, B>), EndSeat<M, B>>
     requires copies { has_ended copies ≡ false }
     requires part { (seat.parts ≡ 1) × (seat.back ≡ 0) }
     ensures outfit { IfOk result (λ started. started.0 ≡ outfit) }

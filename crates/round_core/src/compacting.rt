@@ -3,11 +3,11 @@ ghost use Rattle.round_core.specs.Kept.{AreAllEnded};
 ghost use Rattle.round_core.specs.Rounds.{AreShared, IsRound, IsRefusedEarly, IsAfter, IsWant};
 ghost use Rattle.round_core.specs.Runs.{IsReady, AreJoined, HasRun};
 
-use crate::crew::{Ran, run};
+use crate::crew::{RoundRun, run};
 use crate::error::RoundError;
 use crate::gate::Gate;
 use crate::keeping::Keeping;
-use crate::memory::{Joined, Memory, reserve};
+use crate::memory::{CopierResults, Memory, reserve};
 use crate::round::{Round, Stop};
 use crate::shared_zone::KeptZone;
 use frame_core::Serial;
@@ -20,8 +20,8 @@ use std::thread::Threads;
 use zone_core::{Audit, Seats, Zone, ZoneError};
 
 /// Moves what can be moved, with 1 to 4 copiers, over queues with room for `cap` pages and for `cap` copies, 1 to 64. Under one hold of
-/// the lock as many pages are isolated as a queue has room for, or as there are in a handful for each copier where that is more. A
-/// handful has up to eight pages, and no more than a queue has room for. At most as many copies are committed under one hold. What can
+/// the lock as many pages are isolated as a queue has room for, or as there are in a batch for each copier where that is more. A
+/// batch has up to eight pages, and no more than a queue has room for. At most as many copies are committed under one hold. What can
 /// fail for want of memory or of a thread fails before the first page is isolated.
 ///
 /// Refused as Broken where `audit` refuses, before anything else; as Memory or NoWorker, and then no round was begun; as Stranger where
@@ -114,7 +114,7 @@ fn in_scope<
     seats: &mut Seats<I, N, M, B>,
     memory: Memory,
     gate: &G,
-) -> Option<Ran>
+) -> Option<RoundRun>
     requires memory { IsReady seats.old.scan.count memory }
     requires parts { 1 < seats.old.ends.parts }
     requires begins { K.begins_at seats.old.scan.count }
@@ -129,7 +129,7 @@ fn in_scope<
     let (lent, ran) = thread::scope(
         thread::scope_env(),
         rt,
-        move |scope| -> (&mut Seats<I, N, M, B>, Option<Ran>)
+        move |scope| -> (&mut Seats<I, N, M, B>, Option<RoundRun>)
             requires memory { IsReady lent.now.scan.count memory }
             requires parts { 1 < lent.now.ends.parts }
             requires begins { K.begins_at lent.now.scan.count }
@@ -155,7 +155,7 @@ fn wind_up<K: Keeping, I: Ledger, N: Ledger, M: Ledger, B: Ledger, R: Wait>(
     shared: &KeptZone<K, I, M, B>,
     seats: &mut Seats<I, N, M, B>,
     before: &Audit,
-    ran: Ran,
+    ran: RoundRun,
 ) -> Result<Round, RoundError>
     requires ran { HasRun before.now.isolated seats.old.scan ran }
     requires ends { (before.now.moved ≤ seats.old.ends.moved) × (before.now.back ≤ seats.old.ends.back) × (before.now.moved + before.now.back ≡ before.now.isolated) }
@@ -185,7 +185,7 @@ struct Settlement {
 }
 
 /// Settles the hand-over of a round that ran.
-fn settle_round(ran: Ran) -> Result<Settlement, RoundError>
+fn settle_round(ran: RoundRun) -> Result<Settlement, RoundError>
     requires { AreJoined ran.giver ran.joined }
     ensures base { IfOk result (λ s. s.base ≡ ran.giver.base) }
     ensures shared { IfOk result (λ s. AreShared (map (λ v. v.items) s.by_copier.items) s.base (length ran.giver.given)) }
@@ -193,8 +193,8 @@ fn settle_round(ran: Ran) -> Result<Settlement, RoundError>
     ensures late { IfErr result (λ error. IsWant error → ⊥) }
 {
     let stopped = stop_of(&ran)?;
-    let Ran { giver, joined, .. } = ran;
-    let Joined { takers, lists, .. } = joined;
+    let RoundRun { giver, joined, .. } = ran;
+    let CopierResults { takers, lists, .. } = joined;
     let Ok(settled) = settle(giver, takers) else {
         return Err(RoundError::Broken);
     };
@@ -207,7 +207,7 @@ fn settle_round(ran: Ran) -> Result<Settlement, RoundError>
 
 /// Why the scanner stopped. Refused as Stranger where the zone refused a copy or a page that was to be put back, and as Broken where
 /// some thread didn't come to its end.
-fn stop_of(ran: &Ran) -> Result<Stop, RoundError>
+fn stop_of(ran: &RoundRun) -> Result<Stop, RoundError>
     ensures stop { IfOk result (λ stop. ran.now.stop ≡ Some stop) }
     ensures whole { OnOk result (ran.now.joined.whole ≡ true) }
     ensures late { IfErr result (λ error. IsWant error → ⊥) }

@@ -5,7 +5,7 @@ ghost use Rattle.round_core.specs.Crews.{IsUnused, IsUnsent};
 use crate::gate::{Gate, Point};
 use crate::stack::stack;
 use frame_core::Serial;
-use hand_core::{DoneSender, Handful, Taker, Took};
+use hand_core::{Batch, DoneSender, Taker, Took};
 use std::snapshot::Snapshot;
 use std::sync::Wait;
 use std::thread::{Promise, PromisedHandle, Scope, Threads};
@@ -22,7 +22,7 @@ pub struct Carried {
 }
 
 /// The body of a copier: it takes pages, copies them, and sends the copies. Copies of pages that were received together are sent
-/// together, as many at once as a handful of its sender has at most. It has no zone. It stops early where an end of a queue is gone, or
+/// together, as many at once as a batch of its sender has at most. It has no zone. It stops early where an end of a queue is gone, or
 /// where it takes a page while its list is full.
 pub fn carry<G: Gate, R: Wait>(
     rt: &R,
@@ -38,7 +38,7 @@ pub fn carry<G: Gate, R: Wait>(
     ensures { IsCarried taker sender result }
 {
     let most = sender.most();
-    let mut copies = Handful::new();
+    let mut copies = Batch::new();
     for _ in rt.forever() {
         match taker.take(rt) {
             Took::Page(page) => {

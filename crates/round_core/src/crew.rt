@@ -9,7 +9,7 @@ use crate::copier::{Carried, Copier, start_copier};
 use crate::division::Division;
 use crate::gate::Gate;
 use crate::keeping::Keeping;
-use crate::memory::{Bursts, Joined, Memory, Outfit};
+use crate::memory::{Bursts, CopierParts, CopierResults, Memory};
 use crate::round::Stop;
 use crate::scanner::scan_all;
 use crate::shared_zone::KeptZone;
@@ -24,9 +24,9 @@ use zone_core::{EndSeat, ScanSeat, Seats};
 
 /// How a round ran: why its scanner stopped, and what its threads handed back.
 #[derive(Drop)]
-pub(crate) struct Ran {
+pub(crate) struct RoundRun {
     pub(crate) giver: Giver,
-    pub(crate) joined: Joined,
+    pub(crate) joined: CopierResults,
     pub(crate) stop: Option<Stop>,
     pub(crate) stranger: Option<Serial>,
 }
@@ -43,7 +43,7 @@ struct Crew<K: Keeping, M: Ledger, B: Ledger> {
 fn start_copiers<'s, 'e, G: Gate, R: Threads + Wait + Sync>(
     scope: &'s Scope<'s, &'e ()>,
     rt: &'e R,
-    outfit: &mut Outfit,
+    outfit: &mut CopierParts,
     gate: &'e G,
 ) -> Option<()>
     requires { IsUnstarted outfit.old }
@@ -69,8 +69,8 @@ fn join_copiers<R: Threads>(
     rt: &R,
     giver: &Giver,
     mut copiers: Vec<Copier>,
-    mut joined: Joined,
-) -> Joined
+    mut joined: CopierResults,
+) -> CopierResults
     requires copiers { All (λ c. c.promise.taker.value.hand_over ≡ giver.now.hand_over) copiers.items }
     requires joined { IsEmpty (vec_len copiers) joined }
     ensures { AreJoined giver.now result }
@@ -90,14 +90,14 @@ fn join_copiers<R: Threads>(
 }
 
 /// The copiers that were started. Everything else is dropped, so that they come to their ends.
-fn let_go(outfit: Outfit) -> Vec<Copier> {
+fn let_go(outfit: CopierParts) -> Vec<Copier> {
     outfit.copiers
 }
 
 /// Joins the copiers that were started, and then the committer.
 fn join_early<K: Keeping, M: Ledger, B: Ledger, R: Threads>(
     rt: &R,
-    outfit: Outfit,
+    outfit: CopierParts,
     committer: Committer<K, M, B>,
 ) -> EndSeat<M, B>
     ensures { result.parts ≡ 1 }
@@ -125,7 +125,7 @@ fn start_crew<
     scope: &'s Scope<'s, &'e ()>,
     rt: &'e R,
     shared: &'e KeptZone<K, I, M, B>,
-    outfit: Outfit,
+    outfit: CopierParts,
     copies: DoneTaker,
     gathered: VecDeque<Copied>,
     part: EndSeat<M, B>,
@@ -144,7 +144,7 @@ fn start_crew<
     if start_copiers(scope, rt, &mut outfit, gate).is_none() {
         return Err(join_early(rt, outfit, committer));
     }
-    let Outfit { giver, copiers, .. } = outfit;
+    let CopierParts { giver, copiers, .. } = outfit;
     Ok(Crew {
         giver,
         copiers,
@@ -161,9 +161,9 @@ fn run_crew<K: Keeping, I: Ledger, N: Ledger, M: Ledger, B: Ledger, G: Gate, R: 
     crew: Crew<K, M, B>,
     mut pages: VecDeque<Isolated>,
     division: Division,
-    joined: Joined,
+    joined: CopierResults,
     gate: &G,
-) -> Ran
+) -> RoundRun
     requires giver { IsFresh scan.old.count crew.giver }
     requires copiers { All (λ c. c.promise.taker.value.hand_over ≡ crew.giver.hand_over) crew.copiers.items }
     requires pages { (pages.items ≡ []) × (0 < deque_capacity pages) }
@@ -196,7 +196,7 @@ fn run_crew<K: Keeping, I: Ledger, N: Ledger, M: Ledger, B: Ledger, G: Gate, R: 
         Ok(stop) => (Some(stop), stranger),
         Err(left) => (None, least(left, stranger)),
     };
-    Ran {
+    RoundRun {
         giver,
         joined,
         stop,
@@ -222,7 +222,7 @@ pub(crate) fn run<
     seats: &mut Seats<I, N, M, B>,
     memory: Memory,
     gate: &'e G,
-) -> Option<Ran>
+) -> Option<RoundRun>
     requires memory { IsReady seats.old.scan.count memory }
     requires parts { 1 < seats.old.ends.parts }
     requires begins { K.begins_at seats.old.scan.count }

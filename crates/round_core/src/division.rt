@@ -1,8 +1,8 @@
-//! How pages are divided into handfuls.
+//! How pages are divided into batches.
 
 ghost use Rattle.std.specs.Prelude.{◌<◌, ◌≤◌};
 
-/// How many pages a handful has at most.
+/// How many pages a batch has at most.
 const MOST: usize = 8;
 
 /// How pages are divided among copiers, over queues that have room for a number of pages.
@@ -11,7 +11,7 @@ pub(crate) struct Division {
     copiers: usize,
     // How many pages a queue has room for.
     pub(crate) room: usize,
-    // How many pages a handful of this round has at most.
+    // How many pages a batch of this round has at most.
     pub(crate) most: usize,
     ghost some: { (0 < copiers) × (copiers ≤ 4) },
     ghost in_range: { (0 < room) × (room ≤ 64) },
@@ -31,7 +31,7 @@ impl Division {
         }
     }
 
-    /// How many of this many pages go into a handful of at most `most`, so that each copier gets some where there are enough.
+    /// How many of this many pages go into a batch of at most `most`, so that each copier gets some where there are enough.
     pub(crate) fn share(self, pages: usize, most: usize) -> usize
         requires { 0 < most }
         ensures { (0 < result) × (result ≤ most) }
@@ -40,7 +40,7 @@ impl Division {
     }
 
     /// How many pages are isolated or committed under one hold of the lock at most: as many as a queue has room for, or as there are
-    /// in a handful for each copier where that is more.
+    /// in a batch for each copier where that is more.
     pub(crate) fn burst(self) -> usize
         ensures { 0 < result }
     {

@@ -12,18 +12,18 @@ ghost use Rattle.round_core.specs.Scanning.{HasBegun};
 ghost use Rattle.round_core.specs.declared.round.Stop.{Stop as Stopped};
 ghost use Rattle.state_core.specs.Ending.{committed, put_back_to_source, HasCause};
 ghost use Rattle.state_core.specs.Isolating.{isolate_refusal};
-ghost use Rattle.state_core.specs.Lawful.{IsLawful};
+ghost use Rattle.state_core.specs.Lawful.{IsValidZone};
 ghost use Rattle.state_core.specs.Rounds.{round_begun};
 ghost use Rattle.state_core.specs.ZoneState.{ZoneState};
 ghost use Rattle.state_core.specs.declared.placement.Placement.TheVariants.{Moving};
 
-use crate::shape::Shape;
+use crate::identity::ZoneIdentity;
 use std::marker::{Brand, PhantomData};
 
 /// What the lock of a zone keeps, beside that the zone is lawful: a fact about the zone that each step of a round leaves true, and each
 /// call of a client that may make calls. Contracts alone know it, and whoever shares a zone picks it. `Open` keeps nothing;
 /// `compact_alone` keeps what its round comes to, and no client may make calls.
-pub trait Keeping: Shape {
+pub trait Keeping: ZoneIdentity {
     /// What is so whenever the lock is free.
     ghost keeps: { ZoneState → Type 0 };
 
@@ -46,26 +46,26 @@ pub trait Keeping: Shape {
     ghost told: { List Record → Option Told };
 
     // A round begins, its scanner takes the lock again, and lets it go.
-    ghost begins: { (z : ZoneState) → IsLawful z → begins_at (isolated z.records) → keeps z → keeps_scanning (round_begun z) };
+    ghost begins: { (z : ZoneState) → IsValidZone z → begins_at (isolated z.records) → keeps z → keeps_scanning (round_begun z) };
 
-    ghost goes_on: { (z : ZoneState) → IsLawful z → HasBegun begins_at (isolated z.records) → keeps z → keeps_scanning z };
+    ghost goes_on: { (z : ZoneState) → IsValidZone z → HasBegun begins_at (isolated z.records) → keeps z → keeps_scanning z };
 
     ghost lets_go: { (z : ZoneState) → keeps_scanning z → keeps z };
 
     // It isolates a page, and it stops.
-    ghost scans: { (z : ZoneState) → IsLawful z → keeps_scanning z → keeps_scanning (scan_step z) };
+    ghost scans: { (z : ZoneState) → IsValidZone z → keeps_scanning z → keeps_scanning (scan_step z) };
 
-    ghost stops: { (z : ZoneState) → IsLawful z → keeps_scanning z → scan_pair z ≡ None → stops_at (isolated z.records) (stop_for (isolate_refusal z)) };
+    ghost stops: { (z : ZoneState) → IsValidZone z → keeps_scanning z → scan_pair z ≡ None → stops_at (isolated z.records) (stop_for (isolate_refusal z)) };
 
     // The move of a page ends: it is committed, or put back.
-    ghost commits: { (z : ZoneState) (page serial source target : ℕ) → IsLawful z → map.get z.placement page ≡ Some (Moving serial source target) → keeps z → keeps (committed z serial page) };
+    ghost commits: { (z : ZoneState) (page serial source target : ℕ) → IsValidZone z → map.get z.placement page ≡ Some (Moving serial source target) → keeps z → keeps (committed z serial page) };
 
-    ghost puts_back: { (z : ZoneState) (page serial source target : ℕ) (cause : Cause) → IsLawful z → HasCause cause (pins z.records page) → map.get z.placement page ≡ Some (Moving serial source target) → keeps z → keeps (put_back_to_source z serial page cause) };
+    ghost puts_back: { (z : ZoneState) (page serial source target : ℕ) (cause : Cause) → IsValidZone z → HasCause cause (pins z.records page) → map.get z.placement page ≡ Some (Moving serial source target) → keeps z → keeps (put_back_to_source z serial page cause) };
 
-    ghost pins_none: { (z : ZoneState) (page serial source target : ℕ) → unpinned → IsLawful z → keeps z → map.get z.placement page ≡ Some (Moving serial source target) → pins z.records page ≡ 0 };
+    ghost pins_none: { (z : ZoneState) (page serial source target : ℕ) → unpinned → IsValidZone z → keeps z → map.get z.placement page ≡ Some (Moving serial source target) → pins z.records page ≡ 0 };
 
     // A client makes a call that the zone accepts; one that the zone refuses leaves it as it was.
-    ghost calls: { (z z_new : ZoneState) (client : ℕ) (pair : Option Pair) → allows client pair → IsLawful z → IsCall client z z_new → keeps z → keeps z_new };
+    ghost calls: { (z z_new : ZoneState) (client : ℕ) (pair : Option Pair) → allows client pair → IsValidZone z → IsCall client z z_new → keeps z → keeps z_new };
 
     // The record of such a call is one receipt more; a step of a round is none.
     ghost tells: { (z z_new : ZoneState) (client : ℕ) (pair : Option Pair) → allows client pair → (call : IsCall client z z_new) → keeps z → told z_new.records ≡ written_if call.entry (told z.records) };
@@ -121,13 +121,13 @@ pub struct Open<K> {
     of: PhantomData<K>,
 }
 
-impl<K: Shape> Shape for Open<K> {
+impl<K: ZoneIdentity> ZoneIdentity for Open<K> {
     ghost number = { K.number };
 
     ghost blocks = { K.blocks };
 }
 
-impl<K: Shape> Keeping for Open<K> {
+impl<K: ZoneIdentity> Keeping for Open<K> {
     ghost keeps = { λ z. ⊤ };
 
     ghost keeps_scanning = { λ z. ⊤ };

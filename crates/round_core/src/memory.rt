@@ -10,7 +10,7 @@ use crate::copier::Copier;
 use crate::division::Division;
 use frame_core::Serial;
 use hand_core::{
-    DoneSender, DoneTaker, Giver, HandError, Taker, Takers, done_open_in_handfuls, open_in_handfuls,
+    DoneSender, DoneTaker, Giver, HandError, Taker, Takers, done_open_in_batches, open_in_batches,
 };
 use std::alloc::{AllocError, Global};
 use std::collections::VecDeque;
@@ -19,15 +19,15 @@ use word_core::{Copied, Isolated};
 /// The memory of a round: its queues and lists.
 #[derive(Drop)]
 pub(crate) struct Memory {
-    pub(crate) outfit: Outfit,
+    pub(crate) outfit: CopierParts,
     pub(crate) copies: DoneTaker,
     pub(crate) bursts: Bursts,
-    pub(crate) joined: Joined,
+    pub(crate) joined: CopierResults,
 }
 
 /// What the copiers are started with. After the giver and the senders are dropped, all threads that run come to their ends.
 #[derive(Drop)]
-pub(crate) struct Outfit {
+pub(crate) struct CopierParts {
     pub(crate) giver: Giver,
     pub(crate) takers: Takers,
     pub(crate) senders: Vec<DoneSender>,
@@ -49,7 +49,7 @@ pub(crate) struct Bursts {
 
 /// What the copiers handed back.
 #[derive(Drop)]
-pub(crate) struct Joined {
+pub(crate) struct CopierResults {
     pub(crate) takers: Vec<Taker>,
     pub(crate) lists: Vec<Vec<Serial>>,
     pub(crate) whole: bool,
@@ -69,7 +69,7 @@ struct Queues {
 struct Lists {
     serials: Vec<Vec<Serial>>,
     copiers: Vec<Copier>,
-    joined: Joined,
+    joined: CopierResults,
 }
 
 /// Takes the memory of a round whose first page has the serial `base`: `cap` pages and copies in the queues, and `serials`
@@ -108,7 +108,7 @@ pub(crate) fn reserve<R>(
         copies,
     } = queues;
     Some(Memory {
-        outfit: Outfit {
+        outfit: CopierParts {
             giver,
             takers,
             senders,
@@ -150,10 +150,10 @@ fn empty_lists(
 }
 
 /// Takes the memory for what this many copiers hand back.
-fn reserve_joined(alloc: Global, copiers: usize) -> Result<Joined, AllocError>
+fn reserve_joined(alloc: Global, copiers: usize) -> Result<CopierResults, AllocError>
     ensures { IfOk result (IsEmpty copiers) }
 {
-    Ok(Joined {
+    Ok(CopierResults {
         takers: Vec::with_capacity(alloc, copiers)?,
         lists: Vec::with_capacity(alloc, copiers)?,
         whole: true,
@@ -172,7 +172,7 @@ fn reserve_bursts(alloc: Global, division: Division) -> Result<Bursts, AllocErro
     })
 }
 
-/// Opens both queues, for handfuls and with room for pages and copies as this division has them.
+/// Opens both queues, for batches and with room for pages and copies as this division has them.
 fn open_queues<R>(
     rt: &R,
     alloc: Global,
@@ -187,8 +187,8 @@ fn open_queues<R>(
     ensures copies { IfOk result (λ q. has_ended q.copies ≡ false) }
 {
     let Division { room, most, .. } = division;
-    let (giver, takers) = open_in_handfuls(rt, alloc, base, copiers, room, most)?;
-    let (senders, copies) = done_open_in_handfuls(rt, alloc, copiers, room, most)?;
+    let (giver, takers) = open_in_batches(rt, alloc, base, copiers, room, most)?;
+    let (senders, copies) = done_open_in_batches(rt, alloc, copiers, room, most)?;
     Ok(Queues {
         giver,
         takers,

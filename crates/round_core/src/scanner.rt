@@ -10,7 +10,7 @@ use crate::keeping::Keeping;
 use crate::round::Stop;
 use crate::shared_zone::KeptZone;
 use frame_core::Serial;
-use hand_core::{Giver, Handful};
+use hand_core::{Batch, Giver};
 use std::collections::VecDeque;
 use std::sync::Wait;
 use std::sync::ledger::Ledger;
@@ -61,7 +61,7 @@ pub(crate) fn scan_all<K: Keeping, I: Ledger, N: Ledger, M: Ledger, B: Ledger, G
     unreachable!()
 }
 
-/// Gives all pages, in their order and in handfuls. Where the takers are gone, those that are left are put back, and the answer is an
+/// Gives all pages, in their order and in batches. Where the takers are gone, those that are left are put back, and the answer is an
 /// `Err`: with the least serial of those that the zone refused, if there is one.
 fn give_all<K: Keeping, I: Ledger, M: Ledger, B: Ledger, G: Gate, R: Wait>(
     rt: &R,
@@ -85,9 +85,9 @@ fn give_all<K: Keeping, I: Ledger, M: Ledger, B: Ledger, G: Gate, R: Wait>(
 {
     tell_all(gate, Point::Isolated, 0, pages.len());
     let share = division.share(pages.len(), giver.most());
-    while let Some(handful) = first_of(pages, share) {
-        if let Err(refused) = giver.give_all(rt, handful) {
-            let stranger = put_back_handful(rt, shared, ends, refused);
+    while let Some(batch) = first_of(pages, share) {
+        if let Err(refused) = giver.give_all(rt, batch) {
+            let stranger = put_back_batch(rt, shared, ends, refused);
             return Err(put_back_all(rt, shared, ends, pages, stranger));
         }
     }
@@ -95,39 +95,39 @@ fn give_all<K: Keeping, I: Ledger, M: Ledger, B: Ledger, G: Gate, R: Wait>(
 }
 
 /// Takes `share` pages off the front, or all where there are fewer. None where there are none.
-fn first_of(pages: &mut VecDeque<Isolated>, share: usize) -> Option<Handful<Isolated>>
+fn first_of(pages: &mut VecDeque<Isolated>, share: usize) -> Option<Batch<Isolated>>
     requires { (0 < share) × (share ≤ 8) }
-    ensures first { IfSome result (λ handful. pages.old.items ≡ handful.items ++ pages.new.items) }
-    ensures few { IfSome result (λ handful. length handful.items ≤ share) }
+    ensures first { IfSome result (λ batch. pages.old.items ≡ batch.items ++ pages.new.items) }
+    ensures few { IfSome result (λ batch. length batch.items ≤ share) }
     ensures fewer { OnSome result (length pages.new.items < length pages.old.items) }
     ensures none { IfNone result ((pages.old.items ≡ []) × (pages.new.items ≡ [])) }
     ensures room { deque_capacity pages.new ≡ deque_capacity pages.old }
 {
-    let mut handful = Handful::new();
-    while handful.len() < share {
+    let mut batch = Batch::new();
+    while batch.len() < share {
         let Some(page) = pages.pop_front() else {
             break;
         };
-        handful.push(page);
+        batch.push(page);
     }
-    if handful.is_empty() {
+    if batch.is_empty() {
         return None;
     }
-    Some(handful)
+    Some(batch)
 }
 
-/// Puts the pages of a handful back. The answer is the least serial of those that the zone refused, if there is one.
-fn put_back_handful<K: Keeping, I: Ledger, M: Ledger, B: Ledger, R: Wait>(
+/// Puts the pages of a batch back. The answer is the least serial of those that the zone refused, if there is one.
+fn put_back_batch<K: Keeping, I: Ledger, M: Ledger, B: Ledger, R: Wait>(
     rt: &R,
     shared: &KeptZone<K, I, M, B>,
     ends: &mut EndSeat<M, B>,
-    mut handful: Handful<Isolated>,
+    mut batch: Batch<Isolated>,
 ) -> Option<Serial>
     ensures ends { (ends.new.parts ≡ ends.old.parts) × (ends.new.moved ≡ ends.old.moved) × (ends.old.back ≤ ends.new.back) }
-    ensures back { result ≡ None → ends.new.back ≡ ends.old.back + length handful.items }
+    ensures back { result ≡ None → ends.new.back ≡ ends.old.back + length batch.items }
 {
     let mut stranger = None;
-    while let Some(page) = handful.pop_at(0) {
+    while let Some(page) = batch.pop_at(0) {
         stranger = shared.put_back(rt, ends, page, stranger);
     }
     stranger

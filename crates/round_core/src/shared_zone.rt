@@ -26,9 +26,9 @@ pub struct Room<K: Keeping, I: Ledger, M: Ledger, B: Ledger> {
 impl<K: Keeping, I: Ledger, M: Ledger, B: Ledger> Model for Room<K, I, M, B> {
     ghost use Rattle.std.specs.Prelude.{◌≡◌};
     ghost use Rattle.state_core.specs.ZoneCode.{coded_zone};
-    ghost use Rattle.state_core.specs.Lawful.{IsLawful};
+    ghost use Rattle.state_core.specs.Lawful.{IsValidZone};
     ghost use Rattle.state_core.specs.ZoneState.{ZoneState};
-    ghost use Rattle.zone_core.specs.Shape.{HasShape};
+    ghost use Rattle.zone_core.specs.ZoneIdentity.{HasIdentity};
 
     ghost Value = { ZoneState };
 
@@ -36,19 +36,19 @@ impl<K: Keeping, I: Ledger, M: Ledger, B: Ledger> Model for Room<K, I, M, B> {
 
     ghost view = { λ r. r.zone };
 
-    ghost invariant = { λ r. IsLawful r.zone × HasShape K.number K.blocks r.zone × K.keeps r.zone × (K.told r.zone.records ≡ r.stub) };
+    ghost invariant = { λ r. IsValidZone r.zone × HasIdentity K.number K.blocks r.zone × K.keeps r.zone × (K.told r.zone.records ≡ r.stub) };
 }
 
 impl<K: Keeping, I: Ledger, M: Ledger, B: Ledger> Room<K, I, M, B> {
     ghost use Rattle.std.specs.Prelude.{◌≡◌};
-    ghost use Rattle.round_core.specs.Kept.{IsKept};
-    ghost use Rattle.zone_core.specs.Shape.{HasShape};
+    ghost use Rattle.round_core.specs.Kept.{LockInvariant};
+    ghost use Rattle.zone_core.specs.ZoneIdentity.{HasIdentity};
 
     /// The zone, to be read, as whoever takes the lock finds it.
     pub fn zone(&self) -> &Zone<I, M, B>
         ensures zone { result.now ≡ self.now }
-        ensures kept { IsKept self.now }
-        ensures shape { HasShape K.number K.blocks self.now }
+        ensures kept { LockInvariant self.now }
+        ensures identity { HasIdentity K.number K.blocks self.now }
         ensures keeps { K.keeps self.now }
     {
         &self.zone
@@ -61,7 +61,7 @@ pub struct KeptZone<K: Keeping, I: Ledger, M: Ledger, B: Ledger> {
     room: Mutex<Room<K, I, M, B>>,
     ended: Condvar,
     blocks: u32,
-    ghost shape: { blocks ≡ K.blocks },
+    ghost identity: { blocks ≡ K.blocks },
     ghost in_range: { (0 < blocks) × (blocks ≤ 8) },
 }
 
@@ -73,14 +73,14 @@ impl<K: Keeping, I: Ledger, M: Ledger, B: Ledger> KeptZone<K, I, M, B> {
     ghost use Rattle.std.specs.VecDeque.{deque_capacity};
     ghost use Rattle.word_core.specs.Serials.{HasSerialsFrom};
     ghost use Rattle.zone_core.specs.Seats.{seat_begun};
-    ghost use Rattle.round_core.specs.Kept.{IsKept};
+    ghost use Rattle.round_core.specs.Kept.{LockInvariant};
     ghost use Rattle.round_core.specs.Rounds.{answer_at};
     ghost use Rattle.round_core.specs.Scanning.{HasBegun};
-    ghost use Rattle.zone_core.specs.Shape.{HasShape};
+    ghost use Rattle.zone_core.specs.ZoneIdentity.{HasIdentity};
 
     /// Puts a zone under a lock. Its number and its pageblocks are those of `K`.
     pub fn new(zone: Zone<I, M, B>) -> Self
-        requires shape { HasShape K.number K.blocks zone }
+        requires identity { HasIdentity K.number K.blocks zone }
         requires keeps { K.keeps zone }
         requires told { K.told zone.records ≡ None }
     {
@@ -89,7 +89,7 @@ impl<K: Keeping, I: Ledger, M: Ledger, B: Ledger> KeptZone<K, I, M, B> {
 
     /// Puts a zone under a lock, with the stub of its client's receipts where they are kept.
     pub fn with_stub(zone: Zone<I, M, B>, stub: Option<Stub>) -> Self
-        requires shape { HasShape K.number K.blocks zone }
+        requires identity { HasIdentity K.number K.blocks zone }
         requires keeps { K.keeps zone }
         requires told { K.told zone.records ≡ stub }
     {
@@ -109,8 +109,8 @@ impl<K: Keeping, I: Ledger, M: Ledger, B: Ledger> KeptZone<K, I, M, B> {
 
     /// Takes the zone out, as the last holder of the lock left it.
     pub fn into_zone(self) -> Zone<I, M, B>
-        ensures kept { IsKept result }
-        ensures shape { HasShape K.number K.blocks result }
+        ensures kept { LockInvariant result }
+        ensures identity { HasIdentity K.number K.blocks result }
         ensures keeps { K.keeps result }
     {
         let (zone, _) = self.into_parts();
@@ -119,8 +119,8 @@ impl<K: Keeping, I: Ledger, M: Ledger, B: Ledger> KeptZone<K, I, M, B> {
 
     /// Takes the zone out with the stub, as the last holder of the lock left them.
     pub fn into_parts(self) -> (Zone<I, M, B>, Option<Stub>)
-        ensures kept { IsKept result.0 }
-        ensures shape { HasShape K.number K.blocks result.0 }
+        ensures kept { LockInvariant result.0 }
+        ensures identity { HasIdentity K.number K.blocks result.0 }
         ensures keeps { K.keeps result.0 }
         ensures told { K.told result.0.records ≡ result.1 }
     {

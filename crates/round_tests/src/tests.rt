@@ -20,7 +20,7 @@ use calls::{Answer, Call};
 use frame_core::{Address, ClientNo, FrameNo, SpaceNo, VPage, WordNo};
 use opening::Opening;
 use reserving::Case;
-use round_core::Shape;
+use round_core::ZoneIdentity;
 use std::marker::Brand;
 use std::process::Abort;
 use std::sync::Wait;
@@ -88,7 +88,7 @@ enum Run<'a> {
 }
 
 impl<
-    K: Shape + Send + Sync,
+    K: ZoneIdentity + Send + Sync,
     I: Ledger + Send + Sync,
     N: Ledger + Send,
     M: Ledger + Send + Sync,
@@ -116,14 +116,14 @@ impl<
 
 /// Opens zone 1, of so many pageblocks and with so many places in its journal, and tries something with it.
 fn tries_in<
-    K: Shape + Send + Sync,
+    K: ZoneIdentity + Send + Sync,
     I: Ledger + Send + Sync,
     N: Ledger + Send,
     M: Ledger + Send + Sync,
     B: Ledger + Send + Sync,
     R: Threads + Wait + Abort + AllocGlobal + Sync,
 >(rt: &R, blocks: u32, places: u32, trial: Trial<'_>, blanks: Blanks)
-    requires shape { (K.number ≡ 1) × (K.blocks ≡ blocks) }
+    requires identity { (K.number ≡ 1) × (K.blocks ≡ blocks) }
     requires blanks { AreFor blanks I.name I.parts N.name N.parts M.name M.parts B.name B.parts }
 {
     let mut opening = Opening::<K, I, N, M, B>::of(rt, blocks, places, blanks);

@@ -6,7 +6,7 @@ use Rattle.std.proofs.lemmas.Bool.{and_parts, eq-eqb, false≢true, false_from_n
 use Rattle.journal_core.specs.Moves.{out}
 use Rattle.state_core.specs.declared.error.ZoneError.{ZoneError}
 use Rattle.state_core.specs.declared.error.ZoneError.TheVariants.{Missing, Out}
-use Rattle.state_core.specs.Lawful.{IsLawful}
+use Rattle.state_core.specs.Lawful.{IsValidZone}
 use Rattle.state_core.specs.ZoneState.{ZoneState}
 use Rattle.outcome_core.specs.Alone.{IsAtRest}
 use Rattle.outcome_core.specs.ByHand.{by_hand}
@@ -39,7 +39,7 @@ use Rattle.text_core.specs.declared.reply.Reply.TheVariants as reply
 use Rattle.text_core.specs.Pool.{pool_order, told_as}
 use Rattle.text_core.proofs.Ranges.{HasOrder, IsInRange}
 use Rattle.machine_core.specs.Machine.{Answered, Step, answered, calls_step, compact_on, declined, opens, pool_from, pool_on, refused, step}
-use Rattle.machine_core.specs.Single.{IsStep, is_at_rest}
+use Rattle.machine_core.specs.OneThread.{IsStep, is_at_rest}
 use Rattle.play_core.specs.Script.{Answer, Numbered}
 use Rattle.client_core.specs.Receipts.{Client}
 use Rattle.script_laws.specs.ByHand.{count_by_hand, pool_by_hand, pool_stopped_as, reservation_reply, round_by_hand, step_by_hand, stopped_as, work_by_hand}
@@ -50,7 +50,7 @@ use Rattle.script_laws.proofs.RoundsByHand.{reserved_rests}
 use Rattle.script_laws.proofs.Runs.{keeps_calls, opened_orderly}
 use Rattle.script_laws.proofs.Worlds.{calls_alike}
 use Rattle.script_core.specs.ByHand.{Followed, To, NoLonger, IsNoBlock, IsByHandStep, IsReplyByHand, IsUnbegun, HasFailed, OpensByHand}
-use Rattle.script_core.specs.Threaded.{AsksMemory, ComesToByHand, IsBlockFor, IsDoneByHand, IsPoolOn, IsRoundOn, IsStepAt, IsStepBy, IsThreadedStep, IsWorkStep, Settles, Threaded, is_threaded, left_by, round_reply, threaded_at_first, told_of}
+use Rattle.script_core.specs.WithThreads.{AsksMemory, ComesToByHand, IsBlockFor, IsDoneByHand, IsPoolOn, IsRoundOn, IsStepAt, IsStepBy, IsThreadedStep, IsWorkStep, Settles, WithThreads, is_threaded, left_by, round_reply, threaded_at_first, told_of}
 use Rattle.script_core.proofs.Pools.{whole_behind}
 use Rattle.script_core.proofs.RunsAs.{Goes}
 
@@ -76,7 +76,7 @@ Beside None (Some w) = ⊥
 Beside (Some v) None = ⊥
 
 -- a machine with threads that is followed so far
-abbrev pub Follows : ℕ → Threaded → Followed → Type 0
+abbrev pub Follows : ℕ → WithThreads → Followed → Type 0
 Follows places old NoLonger = ⊤
 Follows places old (To world) = (old.broken ≡ None) × (old.single.places ≡ places) × Beside old.single.world world
 
@@ -84,13 +84,13 @@ pub first_follows : (places : ℕ) → Follows places (threaded_at_first places)
 first_follows places = (refl, refl, tt)
 
 -- what a reply and the machine after it are followed by
-record GoesOn (places : ℕ) (world : Option WorldState) (command : Command) (answer : Reply) (new : Threaded) : Type 0 where
+record GoesOn (places : ℕ) (world : Option WorldState) (command : Command) (answer : Reply) (new : WithThreads) : Type 0 where
   beside : Followed
   step : IsReplyByHand places world command answer beside
   related : Follows places new beside
 
 -- a step of the machine by hand that gives this reply and leaves such a world
-done_as : (places : ℕ) (world : Option WorldState) (command : Command) (answer : Reply) (new : Threaded) (s : Step) → step_by_hand places world command ≡ s
+done_as : (places : ℕ) (world : Option WorldState) (command : Command) (answer : Reply) (new : WithThreads) (s : Step) → step_by_hand places world command ≡ s
     → answer ≡ s.reply → new.broken ≡ None → new.single.places ≡ places → Beside new.single.world s.world → GoesOn places world command answer new
 done_as places world command answer new s is told whole same_places with = record {
   beside = To s.world;
@@ -110,7 +110,7 @@ if_alike false false e x x' y y' is other = other
 if_alike true false e x x' y y' is other = cc
 if_alike false true e x x' y y' is other = cc
 
-alike_follows : (places : ℕ) (old : Threaded) (world : Option WorldState) (command : Command) (answer : Reply) (new : Threaded) → old.single.places ≡ places
+alike_follows : (places : ℕ) (old : WithThreads) (world : Option WorldState) (command : Command) (answer : Reply) (new : WithThreads) → old.single.places ≡ places
     → StepsAlike (step places old.single.world command) (step_by_hand places world command) → IsStep old.single command answer new.single → new.broken ≡ None → GoesOn places world command answer new
 alike_follows places old world command answer new same_places alike is whole =
     let here : record { reply = answer; world = new.single.world } ≡ step places old.single.world command = is.step_is ∙ ap (λ n. step n old.single.world command) same_places in
@@ -216,7 +216,7 @@ closed_beside zone scan ends z scan_z ends_z same rest whole rest_z whole_z = re
 
 -- the machine that work over a zone left, where its audit passes
 
-left_alone : (places : ℕ) (client : Client) (zone : ZoneState) (scan : ScanSeat) (ends : EndSeat) (refusal : Option ZoneError) (new : Threaded) → refusal ≡ None → new ≡ left_by places client zone scan ends refusal
+left_alone : (places : ℕ) (client : Client) (zone : ZoneState) (scan : ScanSeat) (ends : EndSeat) (refusal : Option ZoneError) (new : WithThreads) → refusal ≡ None → new ≡ left_by places client zone scan ends refusal
     → new ≡ left_by places client zone scan ends None
 left_alone places client zone scan ends refusal new passes is = is ∙ ap (left_by places client zone scan ends) passes
 
@@ -248,18 +248,18 @@ module _ (v w : WorldState) (with : AreBeside v w) (closed : v.is_open ≡ false
       let stops = d.stopped ∙ stop_same v.zone w.zone rest_v rest_w with.same.zone in
       λ i. reply.Round ((d.count ∙ counts) i) ((d.moved ∙ counts) i) (d.none_back i) (stopped_as (stops i))
 
-  round_world : (zone : ZoneState) (scan : ScanSeat) (ends : EndSeat) → IsLawful zone → ends.parts ≡ 64 → IsSame (by_hand v.zone) zone → AreBeside (world_closed zone scan ends) (round_by_hand w).world
+  round_world : (zone : ZoneState) (scan : ScanSeat) (ends : EndSeat) → IsValidZone zone → ends.parts ≡ 64 → IsSame (by_hand v.zone) zone → AreBeside (world_closed zone scan ends) (round_by_hand w).world
   round_world zone scan ends law whole same =
       closed_beside zone scan ends (by_hand w.zone) w.scan w.ends (same_trans zone (by_hand v.zone) (by_hand w.zone) (same_sym (by_hand v.zone) zone same) agrees)
       (record { lawful = law; none_out = sym same.out_is ∙ (rest_by_hand v.zone rest_v).none_out }) whole (rest_by_hand w.zone rest_w) with.orderly_by_hand.whole
 
-  same_world_as_before : (zone : ZoneState) (scan : ScanSeat) (ends : EndSeat) → IsLawful zone → ends.parts ≡ 64 → IsSame v.zone zone → AreBeside (world_closed zone scan ends) w
+  same_world_as_before : (zone : ZoneState) (scan : ScanSeat) (ends : EndSeat) → IsValidZone zone → ends.parts ≡ 64 → IsSame v.zone zone → AreBeside (world_closed zone scan ends) w
   same_world_as_before zone scan ends law whole same =
       subst (AreBeside (world_closed zone scan ends)) (sym (closed_is w with.orderly_by_hand closed_w))
       (closed_beside zone scan ends w.zone w.scan w.ends (same_trans zone v.zone w.zone (same_sym v.zone zone same) with.same.zone)
       (record { lawful = law; none_out = sym same.out_is ∙ rest_v.none_out }) whole rest_w with.orderly_by_hand.whole)
 
-  module _ (places : ℕ) (client : Client) (zone_number : ℕ) (answer : Reply) (new : Threaded) (is : step_by_hand places (Some w) (Compact zone_number) ≡ answered (round_by_hand w)) (on : IsRoundOn v places client answer new) where
+  module _ (places : ℕ) (client : Client) (zone_number : ℕ) (answer : Reply) (new : WithThreads) (is : step_by_hand places (Some w) (Compact zone_number) ≡ answered (round_by_hand w)) (on : IsRoundOn v places client answer new) where
     passed : Settles on.over.result → new ≡ left_by places client on.over.zone on.over.scan on.over.ends None
     passed settles = left_alone places client on.over.zone on.over.scan on.over.ends _ new (on.over.settled settles) on.left
 
@@ -276,9 +276,9 @@ module _ (v w : WorldState) (with : AreBeside v w) (closed : v.is_open ≡ false
           beside = To (Some w);
           step = inr (inl (told, refl));
           related = (
-            ap (λ (t : Threaded). t.broken) after,
-            ap (λ (t : Threaded). t.single.places) after,
-            subst (λ (o : Option WorldState). Beside o (Some w)) (sym (ap (λ (t : Threaded). t.single.world) after)) (same_world_as_before on.over.zone on.over.scan on.over.ends on.over.kept.lawful whole same),
+            ap (λ (t : WithThreads). t.broken) after,
+            ap (λ (t : WithThreads). t.single.places) after,
+            subst (λ (o : Option WorldState). Beside o (Some w)) (sym (ap (λ (t : WithThreads). t.single.world) after)) (same_world_as_before on.over.zone on.over.scan on.over.ends on.over.kept.lawful whole same),
           );
         }
 
@@ -293,8 +293,8 @@ module _ (v w : WorldState) (with : AreBeside v w) (closed : v.is_open ≡ false
         let O : Result Round RoundError → Type 0 = λ x. IfOk x (λ k. IsRound v.scan on.over.scan v.ends on.over.ends k) in
         let round : IsRound v.scan on.over.scan v.ends on.over.ends r = subst O result on.over.round in
         done_as places (Some w) (Compact zone_number) answer new (answered (round_by_hand w)) is (on.answer_is ∙ ap round_reply result ∙ done_reply on.over.zone r d)
-        (ap (λ (t : Threaded). t.broken) after) (ap (λ (t : Threaded). t.single.places) after)
-        (subst (λ (o : Option WorldState). Beside o (Some (round_by_hand w).world)) (sym (ap (λ (t : Threaded). t.single.world) after))
+        (ap (λ (t : WithThreads). t.broken) after) (ap (λ (t : WithThreads). t.single.places) after)
+        (subst (λ (o : Option WorldState). Beside o (Some (round_by_hand w).world)) (sym (ap (λ (t : WithThreads). t.single.world) after))
         (round_world on.over.zone on.over.scan on.over.ends on.over.kept.lawful round.whole d.same))
 
     round_goes : GoesOn places (Some w) (Compact zone_number) answer new
@@ -327,7 +327,7 @@ module _ (v w : WorldState) (with : AreBeside v w) (closed : v.is_open ≡ false
   same_at : AreSame at_v at_w
   same_at = reserved_same (pool_order blocks) order.0 order.1 4 count v.zone w.zone (rest_v v w with closed) (rest_w v w with closed) with.same.zone
 
-  module _ (places : ℕ) (client : Client) (number : ℕ) (answer : Reply) (new : Threaded) (is : step_by_hand places (Some w) (Pool number count blocks) ≡ answered (pool_by_hand 4 count blocks w)) (on : IsPoolOn count blocks v places client answer new) where
+  module _ (places : ℕ) (client : Client) (number : ℕ) (answer : Reply) (new : WithThreads) (is : step_by_hand places (Some w) (Pool number count blocks) ≡ answered (pool_by_hand 4 count blocks w)) (on : IsPoolOn count blocks v places client answer new) where
     pool_done : (stop : PoolStop) → on.report.stop ≡ stop → stop_for stop ≡ stop → rounds_for on.collector stop on.report.rounds ≡ on.collector.rounds → NoneFailed stop → on.ends ≡ on.ran.ends_behind
         → GoesOn places (Some w) (Pool number count blocks) answer new
     pool_done stop stops same_stop rounds none left =
@@ -345,8 +345,8 @@ module _ (v w : WorldState) (with : AreBeside v w) (closed : v.is_open ≡ false
         let whole = whole_left on.collector v.scan on.scan v.ends on.ends on.report with.orderly.whole on.ran left in
         let after = left_alone places client on.zone on.scan on.ends _ new (audit_passes on.zone on.ends none_out whole) on.left in
         done_as places (Some w) (Pool number count blocks) answer new (answered (pool_by_hand 4 count blocks w)) is told
-        (ap (λ (t : Threaded). t.broken) after) (ap (λ (t : Threaded). t.single.places) after)
-        (subst (λ (o : Option WorldState). Beside o (Some (pool_by_hand 4 count blocks w).world)) (sym (ap (λ (t : Threaded). t.single.world) after))
+        (ap (λ (t : WithThreads). t.broken) after) (ap (λ (t : WithThreads). t.single.places) after)
+        (subst (λ (o : Option WorldState). Beside o (Some (pool_by_hand 4 count blocks w).world)) (sym (ap (λ (t : WithThreads). t.single.world) after))
         (closed_beside on.zone on.scan on.ends at_w.zone w.scan w.ends zone_w (record { lawful = on.kept.lawful; none_out = none_out }) whole rest_at_w with.orderly_by_hand.whole))
 
     -- the number of a refusal of a round
@@ -385,7 +385,7 @@ at_rest_parts zone v rest = let both = and_parts (nat_eq zone v.zone.number) (no
 work_is : (zone : ℕ) (work : WorldState → Answered) (w : WorldState) → nat_eq zone w.zone.number ≡ true → w.is_open ≡ false → work_by_hand zone work (Some w) ≡ answered (work w)
 work_is zone work w here closed = λ i. if here i then answered (if closed i then refused 45 w else work w) else declined 43 (Some w)
 
-round_follows : (places : ℕ) (client : Client) (zone : ℕ) (answer : Reply) (new : Threaded) (v w : Option WorldState) → Beside v w → is_at_rest zone v ≡ true → IsWorkStep (Compact zone) v places client answer new
+round_follows : (places : ℕ) (client : Client) (zone : ℕ) (answer : Reply) (new : WithThreads) (v w : Option WorldState) → Beside v w → is_at_rest zone v ≡ true → IsWorkStep (Compact zone) v places client answer new
     → GoesOn places w (Compact zone) answer new
 round_follows places client zone answer new (Some v) (Some w) with rest on =
     let parts = at_rest_parts zone v rest in
@@ -394,7 +394,7 @@ round_follows places client zone answer new (Some v) (Some w) with rest on =
 round_follows places client zone answer new (Some v) None with rest on = absurd with
 round_follows places client zone answer new None w with rest on = absurd on
 
-pool_follows : (places : ℕ) (client : Client) (zone count : ℕ) (blocks : PoolBlocks) → HasOrder blocks → (answer : Reply) (new : Threaded) (v w : Option WorldState) → Beside v w → is_at_rest zone v ≡ true
+pool_follows : (places : ℕ) (client : Client) (zone count : ℕ) (blocks : PoolBlocks) → HasOrder blocks → (answer : Reply) (new : WithThreads) (v w : Option WorldState) → Beside v w → is_at_rest zone v ≡ true
     → IsWorkStep (Pool zone count blocks) v places client answer new → GoesOn places w (Pool zone count blocks) answer new
 pool_follows places client zone count blocks order answer new (Some v) (Some w) with rest on =
     let parts = at_rest_parts zone v rest in
@@ -404,8 +404,8 @@ pool_follows places client zone count blocks order answer new (Some v) None with
 pool_follows places client zone count blocks order answer new None w with rest on = absurd on
 
 -- a command of one line where no zone is broken
-module _ (places : ℕ) (range : (0 < places) × (places ≤ 65536)) (old : Threaded) (world : Option WorldState) (same_places : old.single.places ≡ places) (with : Beside old.single.world world) where
-  reply_follows : (command : Command) (answer : Reply) (new : Threaded) → IsNoBlock command → IsInRange command → IsStepBy (is_threaded command old.single.world) old command answer new
+module _ (places : ℕ) (range : (0 < places) × (places ≤ 65536)) (old : WithThreads) (world : Option WorldState) (same_places : old.single.places ≡ places) (with : Beside old.single.world world) where
+  reply_follows : (command : Command) (answer : Reply) (new : WithThreads) → IsNoBlock command → IsInRange command → IsStepBy (is_threaded command old.single.world) old command answer new
       → GoesOn places world command answer new
   reply_follows OutOfRange answer new none ranged step = alike_follows places old world OutOfRange answer new same_places (record { reply = refl; world = with }) step.0 step.1
   reply_follows Profile2 answer new none ranged step = alike_follows places old world Profile2 answer new same_places (record { reply = refl; world = with }) step.0 step.1
@@ -438,7 +438,7 @@ no_block Profile2 world none block = block
 no_block OutOfRange world none block = block
 
 module _ (places : ℕ) where
-  pub step_follows : (0 < places) × (places ≤ 65536) → (old : Threaded) (b : Followed) (c : Numbered) (answers : List Answer) (new : Threaded) → IsFollowable c → Follows places old b → IsThreadedStep old c answers new
+  pub step_follows : (0 < places) × (places ≤ 65536) → (old : WithThreads) (b : Followed) (c : Numbered) (answers : List Answer) (new : WithThreads) → IsFollowable c → Follows places old b → IsThreadedStep old c answers new
       → Goes (IsByHandStep places) (Follows places) b c answers new
   step_follows range old NoLonger c answers new followable follows step = record { beside = NoLonger; step = refl; related = tt }
   step_follows range old (To world) c answers new followable follows (inl one) =
@@ -453,7 +453,7 @@ module _ (places : ℕ) where
   opens_alike None (Some w) c with t = absurd with
   opens_alike (Some v) None c with t = absurd with
 
-  pub asks_follows : (old : Threaded) (b : Followed) (c : Numbered) → IsFollowable c → Follows places old b → AsksMemory old c.command → OpensByHand b c.command
+  pub asks_follows : (old : WithThreads) (b : Followed) (c : Numbered) → IsFollowable c → Follows places old b → AsksMemory old c.command → OpensByHand b c.command
   asks_follows old NoLonger c followable follows asks = tt
   asks_follows old (To world) c followable follows (whole, inl opened) = opens_alike old.single.world world c.command follows.2 opened
   asks_follows old (To world) c followable follows (whole, inr block) = absurd (no_block c.command old.single.world followable.0 block)

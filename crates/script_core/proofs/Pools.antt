@@ -5,10 +5,10 @@ use Rattle.state_core.specs.declared.error.ZoneError.{ZoneError}
 use Rattle.state_core.specs.ZoneState.{ZoneState}
 use Rattle.outcome_core.specs.Alone.{IsAtRest}
 use Rattle.zone_core.specs.Seats.{ScanSeat, EndSeat, audit_refusal}
-use Rattle.zone_core.specs.Shape.{HasShape}
+use Rattle.zone_core.specs.ZoneIdentity.{HasIdentity}
 use Rattle.world_core.specs.World.{WorldState}
 use Rattle.round_core.specs.declared.round.Round.{Round}
-use Rattle.round_core.specs.Kept.{IsKept}
+use Rattle.round_core.specs.Kept.{LockInvariant}
 use Rattle.round_core.specs.Rounds.{IsRefusedEarly}
 use Rattle.huge_core.specs.declared.collector.Collector.{Collector}
 use Rattle.huge_core.specs.declared.report.Report.{Report}
@@ -21,7 +21,7 @@ use Rattle.text_core.specs.declared.pool.PoolBlocks.{PoolBlocks}
 use Rattle.text_core.specs.declared.reply.Reply.{Reply}
 use Rattle.text_core.specs.Pool.{pool_order, told_as}
 use Rattle.client_core.specs.Receipts.{Client}
-use Rattle.script_core.specs.Threaded.{IsPoolOn, SettlesAt, Threaded, left_by, pool_reply, told_of}
+use Rattle.script_core.specs.WithThreads.{IsPoolOn, SettlesAt, WithThreads, left_by, pool_reply, told_of}
 use Rattle.script_core.proofs.Rounds.{settles}
 
 -- the number of the block at an index, and those of the blocks after it
@@ -73,19 +73,19 @@ module _ (scan_old scan : ScanSeat) (ends_old ends : EndSeat) (refusal : Option 
 
 -- a pool over the zone and the seats that a world was split into
 pub pool_done : (w : WorldState) (client : Client) (places count : ℕ) (blocks : PoolBlocks) (zone_old zone : ZoneState) (scan_old scan : ScanSeat) (ends_old ends : EndSeat)
-    (collector : Collector) (report : Report) (answer : Reply) (new : Threaded) → zone_old ≡ w.zone → scan_old ≡ w.scan → ends_old ≡ w.ends → ends_old.parts ≡ 64
-    → collector.rounds ≡ 4 → collector.order ≡ pool_order blocks → IsKept zone → HasShape zone_old.number zone_old.blocks zone
+    (collector : Collector) (report : Report) (answer : Reply) (new : WithThreads) → zone_old ≡ w.zone → scan_old ≡ w.scan → ends_old ≡ w.ends → ends_old.parts ≡ 64
+    → collector.rounds ≡ 4 → collector.order ≡ pool_order blocks → LockInvariant zone → HasIdentity zone_old.number zone_old.blocks zone
     → All (IsGot collector.order) report.got.items → length report.got.items ≤ count
     → (report.stop ≡ stop.Enough) ↔ (length report.got.items ≡ count)
     → HasRun collector scan_old scan ends_old ends report
     → (64 ≤ ends.parts → ends.moved + ends.back ≡ scan.count → audit_refusal zone ends ≡ None)
     → (IsAtRest zone_old → IsReservedByHand collector count zone_old zone report)
     → answer ≡ pool_reply blocks report → new ≡ left_by places client zone scan ends (audit_refusal zone ends) → IsPoolOn count blocks w places client answer new
-pool_done w client places count blocks zone_old zone scan_old scan ends_old ends collector report answer new same_zone same_scan same_ends whole four order kept shape got most enough ran passes exact told left =
+pool_done w client places count blocks zone_old zone scan_old scan ends_old ends collector report answer new same_zone same_scan same_ends whole four order kept identity got most enough ran passes exact told left =
     record {
       zone = zone;
       kept = kept;
-      shape = (shape.0 ∙ ap (λ (z : ZoneState). z.number) same_zone, shape.1 ∙ ap (λ (z : ZoneState). z.blocks) same_zone);
+      identity = (identity.0 ∙ ap (λ (z : ZoneState). z.number) same_zone, identity.1 ∙ ap (λ (z : ZoneState). z.blocks) same_zone);
       scan = scan;
       ends = ends;
       report = report;

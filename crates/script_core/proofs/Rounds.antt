@@ -8,13 +8,13 @@ use Rattle.outcome_core.specs.Outcome.{IsSame}
 use Rattle.state_core.specs.declared.error.ZoneError.{ZoneError}
 use Rattle.state_core.specs.ZoneState.{ZoneState}
 use Rattle.zone_core.specs.Seats.{ScanSeat, EndSeat, audit_refusal}
-use Rattle.zone_core.specs.Shape.{HasShape}
+use Rattle.zone_core.specs.ZoneIdentity.{HasIdentity}
 use Rattle.world_core.specs.World.{WorldState, world_closed}
 use Rattle.round_core.specs.declared.error.RoundError.{RoundError}
 use Rattle.round_core.specs.declared.error.RoundError.TheVariants.{Memory, NoWorker, Broken, Stranger}
 use Rattle.round_core.specs.declared.round.Round.{Round}
 use Rattle.round_core.specs.Calls.{IsAddedBeside}
-use Rattle.round_core.specs.Kept.{IsKept}
+use Rattle.round_core.specs.Kept.{LockInvariant}
 use Rattle.round_core.specs.Rounds.{IsBroken, IsRefusedEarly, IsRound, stop_by_hand}
 use Rattle.text_core.specs.declared.command.Command.{Command}
 use Rattle.text_core.specs.declared.command.Command.TheVariants.{During}
@@ -22,12 +22,12 @@ use Rattle.text_core.specs.declared.reply.Reply.{Reply}
 use Rattle.text_core.specs.Grammar.{zone_of}
 use Rattle.client_core.specs.Receipts.{Client}
 use Rattle.play_core.specs.Script.{Answer, ClientLine, Numbered, command_of_line}
-use Rattle.machine_core.specs.Single.{IsStep, Single}
-use Rattle.script_core.specs.Threaded.{ComesToByHand, IsBlockFor, IsNothingRun, IsReplyStep, IsRoundBeside, IsRoundOver, IsStepAt, IsStepBy, IsThreadedStep, IsTurnBeside, IsUnstarted, IsWorkOn, IsWorkStep, Settles, Threaded, broken_reply, is_threaded, left_by}
-use Rattle.machine_core.specs.Single.{is_at_rest, number_is_at_rest}
+use Rattle.machine_core.specs.OneThread.{IsStep, OneThread}
+use Rattle.script_core.specs.WithThreads.{ComesToByHand, IsBlockFor, IsNothingRun, IsReplyStep, IsRoundBeside, IsRoundOver, IsStepAt, IsStepBy, IsThreadedStep, IsTurnBeside, IsUnstarted, IsWorkOn, IsWorkStep, Settles, WithThreads, broken_reply, is_threaded, left_by}
+use Rattle.machine_core.specs.OneThread.{is_at_rest, number_is_at_rest}
 
 -- a command that uses threads
-pub threaded_step : (old : Threaded) (command : Command) (answer : Reply) (new : Threaded) (w : WorldState) (places : ℕ) (client : Client)
+pub threaded_step : (old : WithThreads) (command : Command) (answer : Reply) (new : WithThreads) (w : WorldState) (places : ℕ) (client : Client)
     → old.single.world ≡ Some w → is_threaded command (Some w) ≡ true → places ≡ old.single.places → client ≡ old.client
     → IsWorkOn command w places client answer new → IsStepBy (is_threaded command old.single.world) old command answer new
 threaded_step old command answer new w places client is threaded same_places same_client on =
@@ -38,42 +38,42 @@ threaded_step old command answer new w places client is threaded same_places sam
     subst S (sym (ap (is_threaded command) is ∙ threaded)) (subst W (sym is) (subst C same_client (subst P same_places on)))
 
 -- any other command, which the machine answers as on one thread
-pub other_step : (old : Threaded) (command : Command) (answer : Reply) (new : Threaded) (machine : Single)
+pub other_step : (old : WithThreads) (command : Command) (answer : Reply) (new : WithThreads) (machine : OneThread)
     → machine ≡ old.single → is_threaded command old.single.world ≡ false → IsStep machine command answer new.single → new.broken ≡ None → new.client ≡ old.client
     → IsStepBy (is_threaded command old.single.world) old command answer new
 other_step old command answer new machine same runs step none client =
-    let M : Single → Type 0 = λ m. IsStep m command answer new.single in
+    let M : OneThread → Type 0 = λ m. IsStep m command answer new.single in
     let S : Bool → Type 0 = λ b. IsStepBy b old command answer new in
     subst S (sym runs) (subst M same step, none, client)
 
 -- a command where a zone is broken
-pub broken_step : (old : Threaded) (command : Command) (answer : Reply) (new : Threaded) (number : ℕ)
+pub broken_step : (old : WithThreads) (command : Command) (answer : Reply) (new : WithThreads) (number : ℕ)
     → old.broken ≡ Some number → answer ≡ broken_reply number command → new ≡ old → IsReplyStep old command answer new
 broken_step old command answer new number is told same =
     let S : Option ℕ → Type 0 = λ o. IsStepAt o old command answer new in
     subst S (sym is) (told, same)
 
-pub whole_step : (old : Threaded) (command : Command) (answer : Reply) (new : Threaded)
+pub whole_step : (old : WithThreads) (command : Command) (answer : Reply) (new : WithThreads)
     → old.broken ≡ None → IsStepBy (is_threaded command old.single.world) old command answer new → IsReplyStep old command answer new
 whole_step old command answer new is step =
     let S : Option ℕ → Type 0 = λ o. IsStepAt o old command answer new in
     subst S (sym is) step
 
 -- a command of one line where a zone is broken
-pub broken_line : (old : Threaded) (command : Command) (answer : Reply) (new : Threaded) (number : ℕ)
+pub broken_line : (old : WithThreads) (command : Command) (answer : Reply) (new : WithThreads) (number : ℕ)
     → old.broken ≡ Some number → answer ≡ broken_reply number command → new ≡ old
     → (line : ℕ) → IsThreadedStep old (command_of_line line command) (record { line = line; reply = answer } ∷ []) new
 broken_line old command answer new number is told same line =
     inl (record { reply = answer; one = refl; step = broken_step old command answer new number is told same })
 
-pub whole_line : (old : Threaded) (command : Command) (answer : Reply) (new : Threaded)
+pub whole_line : (old : WithThreads) (command : Command) (answer : Reply) (new : WithThreads)
     → old.broken ≡ None → IsStepBy (is_threaded command old.single.world) old command answer new
     → (line : ℕ) → IsThreadedStep old (command_of_line line command) (record { line = line; reply = answer } ∷ []) new
 whole_line old command answer new is step line =
     inl (record { reply = answer; one = refl; step = whole_step old command answer new is step })
 
 -- the machine where its zone passes the audit, and where the zone doesn't
-pub left_whole : (places : ℕ) (client : Client) (zone zone_new : ZoneState) (scan scan_new : ScanSeat) (ends ends_new : EndSeat) (refusal : Option ZoneError) (new : Threaded)
+pub left_whole : (places : ℕ) (client : Client) (zone zone_new : ZoneState) (scan scan_new : ScanSeat) (ends ends_new : EndSeat) (refusal : Option ZoneError) (new : WithThreads)
     → refusal ≡ None → zone_new ≡ zone → scan_new ≡ scan → ends_new ≡ ends → new.single.places ≡ places
     → new.single.world ≡ Some (world_closed zone_new scan_new ends_new) → new.broken ≡ None → new.client ≡ client → new ≡ left_by places client zone scan ends refusal
 left_whole places client zone zone_new scan scan_new ends ends_new refusal new passes same_zone same_scan same_ends same_places world none same_client =
@@ -82,7 +82,7 @@ left_whole places client zone zone_new scan scan_new ends ends_new refusal new p
     let here : new ≡ left_by places client zone scan ends None = λ i. record { single = record { places = same_places i; world = there i }; broken = none i; client = same_client i } in
     here ∙ ap (left_by places client zone scan ends) (sym passes)
 
-pub left_broken : (places : ℕ) (client : Client) (zone : ZoneState) (scan : ScanSeat) (ends : EndSeat) (error : ZoneError) (refusal : Option ZoneError) (new : Threaded)
+pub left_broken : (places : ℕ) (client : Client) (zone : ZoneState) (scan : ScanSeat) (ends : EndSeat) (error : ZoneError) (refusal : Option ZoneError) (new : WithThreads)
     → refusal ≡ Some error → new.single.places ≡ places → new.single.world ≡ None → new.broken ≡ Some zone.number → new.client ≡ client → new ≡ left_by places client zone scan ends refusal
 left_broken places client zone scan ends error refusal new refused same_places none number same_client =
     let here : new ≡ left_by places client zone scan ends (Some error) = λ i. record { single = record { places = same_places i; world = none i }; broken = number i; client = same_client i } in
@@ -136,16 +136,16 @@ came_by_hand zone zone_new scan scan_new ends ends_new (Err (Stranger serial)) e
 -- a round over the zone and the seats that a world was split into
 abbrev pub round_over : (w : WorldState) (zone_old zone : ZoneState) (scan_old scan : ScanSeat) (ends_old ends : EndSeat) (result : Result Round RoundError)
     → zone_old ≡ w.zone → scan_old ≡ w.scan → ends_old ≡ w.ends → ends_old.parts ≡ 64
-    → IsKept zone → HasShape zone_old.number zone_old.blocks zone
+    → LockInvariant zone → HasIdentity zone_old.number zone_old.blocks zone
     → IfOk result (λ r. IsRound scan_old scan ends_old ends r) → IsRefusedEarly scan_old scan ends_old ends result
     → (64 ≤ ends.parts → ends.moved + ends.back ≡ scan.count → audit_refusal zone ends ≡ None) → IsRoundOver w
-round_over w zone_old zone scan_old scan ends_old ends result same_zone same_scan same_ends whole kept shape round early passes =
+round_over w zone_old zone scan_old scan ends_old ends result same_zone same_scan same_ends whole kept identity round early passes =
     let R : ScanSeat → EndSeat → Type 0 = λ s e. IfOk result (λ r. IsRound s scan e ends r) in
     let E : ScanSeat → EndSeat → Type 0 = λ s e. IsRefusedEarly s scan e ends result in
     record {
       zone = zone;
       kept = kept;
-      shape = (shape.0 ∙ ap (λ (z : ZoneState). z.number) same_zone, shape.1 ∙ ap (λ (z : ZoneState). z.blocks) same_zone);
+      identity = (identity.0 ∙ ap (λ (z : ZoneState). z.number) same_zone, identity.1 ∙ ap (λ (z : ZoneState). z.blocks) same_zone);
       scan = scan;
       ends = ends;
       result = result;
@@ -161,7 +161,7 @@ block_for number zone world w is there closed =
     ap (λ (z : Option ℕ). number_is_at_rest z world) is ∙ ap (is_at_rest zone) there ∙ closed
 
 -- a turn of this machine's client, with the lines of this block
-pub turn_of : (w : WorldState) (old : Threaded) (c : Numbered) (places : ℕ) (client : Client) (lines : List ClientLine) (told : List Answer) (own : Reply) (new : Threaded)
+pub turn_of : (w : WorldState) (old : WithThreads) (c : Numbered) (places : ℕ) (client : Client) (lines : List ClientLine) (told : List Answer) (own : Reply) (new : WithThreads)
     → places ≡ old.single.places → client ≡ old.client → lines ≡ c.clients
     → IsTurnBeside w places client lines told own new → IsTurnBeside w old.single.places old.client c.clients told own new
 turn_of w old c places client lines told own new same_places same_client same_lines turn =
@@ -171,7 +171,7 @@ turn_of w old c places client lines told own new same_places same_client same_li
     subst L same_lines (subst C same_client (subst P same_places turn))
 
 -- what ran over a world ran for the machine that gave the world away
-module _ (w : WorldState) (old given : Threaded) (c : Numbered) (answers : List Answer) (new : Threaded)
+module _ (w : WorldState) (old given : WithThreads) (c : Numbered) (answers : List Answer) (new : WithThreads)
     (places : given.single.places ≡ old.single.places) (client : given.client ≡ old.client) where
   round_beside : IsRoundBeside w given c answers new → IsRoundBeside w old c answers new
   round_beside b = record {
@@ -188,7 +188,7 @@ module _ (w : WorldState) (old given : Threaded) (c : Numbered) (answers : List 
       zone = nothing.zone;
       added = subst (λ (k : Client). IsAddedBeside k.number w.zone.records nothing.zone.records) client nothing.added;
       kept = nothing.kept;
-      shape = nothing.shape;
+      identity = nothing.identity;
       left = nothing.left ∙ (λ i. left_by (places i) (client i) nothing.zone w.scan w.ends (audit_refusal nothing.zone w.ends));
     };
   }
@@ -206,17 +206,17 @@ added_to zone_now zone_old zone client_now client same_zone same_client added =
     (subst (λ (z : ZoneState). IsAddedBeside client.number z.records zone.records) same_zone added)
 
 -- nothing ran over the zone and the seats that a world was split into
-pub nothing_ran : (w : WorldState) (old new : Threaded) (zone_old zone : ZoneState) (scan_old scan : ScanSeat) (ends_old ends : EndSeat)
+pub nothing_ran : (w : WorldState) (old new : WithThreads) (zone_old zone : ZoneState) (scan_old scan : ScanSeat) (ends_old ends : EndSeat)
     → zone_old ≡ w.zone → scan_old ≡ w.scan → ends_old ≡ w.ends → (scan ≡ scan_old) × (ends ≡ ends_old)
-    → (client : Client) → client ≡ old.client → IsAddedBeside client.number zone_old.records zone.records → IsKept zone → HasShape zone_old.number zone_old.blocks zone
+    → (client : Client) → client ≡ old.client → IsAddedBeside client.number zone_old.records zone.records → LockInvariant zone → HasIdentity zone_old.number zone_old.blocks zone
     → new ≡ left_by old.single.places old.client zone scan ends (audit_refusal zone ends) → IsNothingRun w old new
-nothing_ran w old new zone_old zone scan_old scan ends_old ends same_zone same_scan same_ends same client same_client added kept shape left =
+nothing_ran w old new zone_old zone scan_old scan ends_old ends same_zone same_scan same_ends same client same_client added kept identity left =
     let scans : scan ≡ w.scan = same.0 ∙ same_scan in
     let ends_are : ends ≡ w.ends = same.1 ∙ same_ends in
     record {
       zone = zone;
       added = added_to w.zone zone_old zone old.client client same_zone same_client added;
       kept = kept;
-      shape = (shape.0 ∙ ap (λ (z : ZoneState). z.number) same_zone, shape.1 ∙ ap (λ (z : ZoneState). z.blocks) same_zone);
+      identity = (identity.0 ∙ ap (λ (z : ZoneState). z.number) same_zone, identity.1 ∙ ap (λ (z : ZoneState). z.blocks) same_zone);
       left = left ∙ (λ i. left_by old.single.places old.client zone (scans i) (ends_are i) (audit_refusal zone (ends_are i)));
     }

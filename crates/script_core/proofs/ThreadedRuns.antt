@@ -17,8 +17,8 @@ use Rattle.machine_core.specs.Ends.{EndsIn}
 use Rattle.play_core.specs.Runs.{IsAnswered, IsEnded, IsTotal}
 use Rattle.play_core.specs.Script.{Answer, Numbered, by, commands_of, parts_of}
 use Rattle.machine_core.specs.Replies.{output_of, totals_of}
-use Rattle.machine_core.specs.Single.{IsSingleStep, Single, IsStep, Opens, single_at_first}
-use Rattle.script_core.specs.Threaded.{AsksMemory, IsBlockFor, IsUnthreaded, IsStepAt, IsThreadedStep, IsUnthreadedScript, Threaded, threaded_at_first}
+use Rattle.machine_core.specs.OneThread.{IsSingleStep, OneThread, IsStep, Opens, single_at_first}
+use Rattle.script_core.specs.WithThreads.{AsksMemory, IsBlockFor, IsUnthreaded, IsStepAt, IsThreadedStep, IsUnthreadedScript, WithThreads, threaded_at_first}
 use Rattle.script_core.specs.ByHand.{IsAloneScript, IsByHandStep, OpensByHand, To}
 use Rattle.script_core.proofs.Following.{Follows, IsFollowable, all_followable, asks_follows, first_follows, step_follows}
 use Rattle.script_core.proofs.RunsAs.{Goes, answered_as, ends_as, total_as}
@@ -27,13 +27,13 @@ use Rattle.machine_core.proofs.SingleRuns.{single_ends, single_output, single_to
 use Rattle.play_core.proofs.Variants.{known_weaker}
 
 -- a command is answered as on one thread
-abbrev IsAlone : Threaded → Numbered → List Answer → Threaded → Type 0
+abbrev IsAlone : WithThreads → Numbered → List Answer → WithThreads → Type 0
 IsAlone old c answers new = IsSingleStep old.single c answers new.single × (new.broken ≡ None)
 
-abbrev IsAloneReply : Threaded → Command → Reply → Threaded → Type 0
+abbrev IsAloneReply : WithThreads → Command → Reply → WithThreads → Type 0
 IsAloneReply old c answer new = IsStep old.single c answer new.single × (new.broken ≡ None)
 
-alone_step : (old : Threaded) (c : Command) (answer : Reply) (new : Threaded) → IsUnthreaded c → IsStepAt None old c answer new → IsAloneReply old c answer new
+alone_step : (old : WithThreads) (c : Command) (answer : Reply) (new : WithThreads) → IsUnthreaded c → IsStepAt None old c answer new → IsAloneReply old c answer new
 alone_step old (Open zone blocks) answer new none step = (step.0, step.1)
 alone_step old (On zone calls) answer new none step = (step.0, step.1)
 alone_step old (Compact zone) answer new none step = absurd none
@@ -52,7 +52,7 @@ no_block (Pool zone count blocks) world none block = block
 no_block Profile2 world none block = block
 no_block OutOfRange world none block = block
 
-unbroken_step : (old : Threaded) (c : Numbered) (answers : List Answer) (new : Threaded) → old.broken ≡ None → IsUnthreaded c.command → IsThreadedStep old c answers new → IsAlone old c answers new
+unbroken_step : (old : WithThreads) (c : Numbered) (answers : List Answer) (new : WithThreads) → old.broken ≡ None → IsUnthreaded c.command → IsThreadedStep old c answers new → IsAlone old c answers new
 unbroken_step old c answers new unbroken none (inl one) =
     let S : Option ℕ → Type 0 = λ o. IsStepAt o old c.command one.reply new in
     let alone = alone_step old c.command one.reply new none (subst S unbroken one.step) in
@@ -60,24 +60,24 @@ unbroken_step old c answers new unbroken none (inl one) =
 unbroken_step old c answers new unbroken none (inr block) = absurd (no_block c.command old.single.world none block.block)
 
 -- the other machine, which has one thread, is this one without the client
-abbrev IsAloneWith : Threaded → Single → Type 0
+abbrev IsAloneWith : WithThreads → OneThread → Type 0
 IsAloneWith old single = (single ≡ old.single) × (old.broken ≡ None)
 
-alone_goes : (old : Threaded) (single : Single) (c : Numbered) (answers : List Answer) (new : Threaded) → IsUnthreaded c.command → IsAloneWith old single → IsThreadedStep old c answers new
+alone_goes : (old : WithThreads) (single : OneThread) (c : Numbered) (answers : List Answer) (new : WithThreads) → IsUnthreaded c.command → IsAloneWith old single → IsThreadedStep old c answers new
     → Goes IsSingleStep IsAloneWith single c answers new
 alone_goes old single c answers new none with step =
     let here = unbroken_step old c answers new with.1 none step in
-    let S : Single → Type 0 = λ s. IsSingleStep s c answers new.single in
+    let S : OneThread → Type 0 = λ s. IsSingleStep s c answers new.single in
     record { beside = new.single; step = subst S (sym with.0) here.0; related = (refl, here.1) }
 
-alone_opens : (old : Threaded) (c : Command) → IsUnthreaded c → AsksMemory old c → Opens old.single c
+alone_opens : (old : WithThreads) (c : Command) → IsUnthreaded c → AsksMemory old c → Opens old.single c
 alone_opens old (During zone) none asks = absurd none
 alone_opens old c none (whole, inl opens) = opens
 alone_opens old c none (whole, inr block) = absurd (no_block c old.single.world none block)
 
-alone_asks : (old : Threaded) (single : Single) (c : Numbered) → IsUnthreaded c.command → IsAloneWith old single → AsksMemory old c.command → Opens single c.command
+alone_asks : (old : WithThreads) (single : OneThread) (c : Numbered) → IsUnthreaded c.command → IsAloneWith old single → AsksMemory old c.command → Opens single c.command
 alone_asks old single c none with asks =
-    let O : Single → Type 0 = λ s. Opens s c.command in
+    let O : OneThread → Type 0 = λ s. Opens s c.command in
     subst O (sym with.0) (alone_opens old c.command none asks)
 
 module _ (places : ℕ) where

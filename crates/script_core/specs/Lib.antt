@@ -1,5 +1,5 @@
 pub mod ByHand
 pub mod Clients
-pub mod Threaded
+pub mod WithThreads
 pub mod Status
 pub mod Stops

@@ -8,7 +8,7 @@ use Rattle.play_core.specs.Runs.{IsEnded}
 use Rattle.play_core.specs.ErrorNumber.{fault_number}
 use Rattle.play_core.specs.Streams.{CannotReadOn}
 use Rattle.script_core.specs.ByHand.{IsAloneScript, IsByHandStep, OpensByHand, To}
-use Rattle.script_core.specs.Threaded.{AsksMemory, IsThreadedStep, IsUnthreadedScript, threaded_at_first}
+use Rattle.script_core.specs.WithThreads.{AsksMemory, IsThreadedStep, IsUnthreadedScript, threaded_at_first}
 
 -- the line that says which fault ended the run, and at which line of the script
 abbrev pub fault_line : RunError → List ℕ

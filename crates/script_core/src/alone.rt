@@ -1,15 +1,15 @@
 ghost use Rattle.std.specs.Prelude.{◌≡◌, OnErr, OnOk};
-ghost use Rattle.machine_core.specs.Single.{IsStep, Opens};
-ghost use Rattle.script_core.specs.Threaded.{Threaded};
+ghost use Rattle.machine_core.specs.OneThread.{IsStep, Opens};
+ghost use Rattle.script_core.specs.WithThreads.{WithThreads};
 
 use frame_core::ZoneNo;
 use std::alloc::AllocError;
 use text_core::{Command, Reply};
 
 /// What a machine with threads does as one on one thread does it.
-pub(crate) trait Alone {
+pub(crate) trait BaseMachine {
     /// What contracts see of the machine.
-    ghost seen: { Self → Threaded };
+    ghost seen: { Self → WithThreads };
 
     /// The number of the zone that a round left broken, if one did.
     fn broken_zone(&self) -> Option<ZoneNo>

@@ -1,9 +1,9 @@
 ghost use Rattle.std.specs.Prelude.{◌≡◌, None, IfOk, OnErr};
 ghost use Rattle.text_core.specs.declared.command.Command.TheVariants.{Compact, Pool};
 ghost use Rattle.play_core.specs.Script.{command_in_block};
-ghost use Rattle.script_core.specs.Threaded.{AsksMemory, IsBlockFor, IsStepBy, IsThreadedStep, is_threaded};
+ghost use Rattle.script_core.specs.WithThreads.{AsksMemory, IsBlockFor, IsStepBy, IsThreadedStep, is_threaded};
 
-use crate::alone::Alone;
+use crate::alone::BaseMachine;
 use crate::threaded::{broken_reply, broken_reply_to_block};
 use frame_core::ZoneNo;
 use play_core::{Answers, Block, Respond};
@@ -13,7 +13,7 @@ use text_core::{BlockCount, Command, PoolBlocks, Reply};
 /// A machine with threads that answers a script. It answers by itself what a machine on one thread answers. For a round, for a pool
 /// and for a block it has three calls, which start the threads.
 #[derive(Drop)]
-pub(crate) struct Answering<A, R, P, D> {
+pub(crate) struct Dispatcher<A, R, P, D> {
     pub(crate) machine: A,
     pub(crate) round: R,
     pub(crate) pool: P,
@@ -21,11 +21,11 @@ pub(crate) struct Answering<A, R, P, D> {
 }
 
 impl<
-    A: Alone,
+    A: BaseMachine,
     R: Fn(&mut A, ZoneNo) -> Reply,
     P: Fn(&mut A, ZoneNo, BlockCount, PoolBlocks) -> Reply,
     D: Fn(&mut A, Block) -> Result<Answers, AllocError>,
-> Respond for Answering<A, R, P, D> {
+> Respond for Dispatcher<A, R, P, D> {
     ghost may = { λ old c answers new. IsThreadedStep (A.seen old.machine) c answers (A.seen new.machine) };
 
     ghost asks = { λ old command. AsksMemory (A.seen old.machine) command };

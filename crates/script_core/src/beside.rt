@@ -4,9 +4,9 @@ ghost use Rattle.std.specs.Prelude.{◌≡◌, ◌≤◌, [], Some, IfOk, IfSome
 ghost use Rattle.client_core.specs.Receipts.{AreSince, IsToldBeside};
 ghost use Rattle.halves_core.specs.Told.{pair_of};
 ghost use Rattle.round_core.specs.Calls.{IsAddedBeside};
-ghost use Rattle.round_core.specs.Kept.{IsKept};
+ghost use Rattle.round_core.specs.Kept.{LockInvariant};
 ghost use Rattle.round_core.specs.Rounds.{IsRefusedEarly, IsRound};
-ghost use Rattle.zone_core.specs.Shape.{HasShape};
+ghost use Rattle.zone_core.specs.ZoneIdentity.{HasIdentity};
 ghost use Rattle.script_core.specs.Clients.{AreClientAnswers, IsClientReply};
 
 use client_core::{Client, Telling, Untold};
@@ -26,7 +26,7 @@ use zone_core::{ClientCall, Seats, Zone};
 
 /// A client with the lines whose calls it makes, and an empty list with room for their answers.
 #[derive(Drop)]
-pub(crate) struct Turn<J: Telling = Untold> {
+pub(crate) struct ClientTurn<J: Telling = Untold> {
     pub(crate) client: Client<J>,
     pub(crate) lines: Vec<ClientLine>,
     pub(crate) answers: Vec<Answer>,
@@ -34,7 +34,7 @@ pub(crate) struct Turn<J: Telling = Untold> {
 
 /// The client after its calls, the answers to its lines, and what the round came to.
 #[derive(Drop)]
-pub(crate) struct Both<J: Telling = Untold> {
+pub(crate) struct ClientAndRound<J: Telling = Untold> {
     pub(crate) client: Client<J>,
     pub(crate) answers: Vec<Answer>,
     pub(crate) round: Result<Round, RoundError>,
@@ -54,17 +54,17 @@ pub(crate) fn compact_beside<
     zone: Zone<I, M, B>,
     seats: &mut Seats<I, N, M, B>,
     options: Options,
-    turn: Turn,
+    turn: ClientTurn,
     stub: Stub,
     slip: Slip,
-) -> (Zone<I, M, B>, Option<Both>)
+) -> (Zone<I, M, B>, Option<ClientAndRound>)
     requires room { (turn.answers.items ≡ []) × (vec_len turn.lines ≤ vec_capacity turn.answers) }
     requires pair { (slip ≡ stub) × (stub.records ≡ []) }
     // Each record that the journal has more is of the round or of the client, and those of the client are its new receipts.
     ensures added { IsAddedBeside turn.client.number zone.records result.0.records }
     ensures told { IfSome result.1 (λ both. IsToldBeside turn.client both.client zone.records result.0.records) }
-    ensures kept { IsKept result.0 }
-    ensures shape { HasShape zone.number zone.blocks result.0 }
+    ensures kept { LockInvariant result.0 }
+    ensures identity { HasIdentity zone.number zone.blocks result.0 }
     ensures played { IfSome result.1 (λ both. AreClientAnswers turn.client turn.lines.items both.answers.items both.client) }
     ensures round { IfSome result.1 (λ both. IfOk both.round (λ r. IsRound seats.old.scan seats.new.scan seats.old.ends seats.new.ends r)) }
     ensures early { IfSome result.1 (λ both. IsRefusedEarly seats.old.scan seats.new.scan seats.old.ends seats.new.ends both.round) }
@@ -89,11 +89,11 @@ fn compact_shared<
     zone: Zone<I, M, B>,
     seats: &mut Seats<I, N, M, B>,
     options: Options,
-    turn: Turn,
+    turn: ClientTurn,
     stub: Stub,
     slip: Slip,
-) -> (Zone<I, M, B>, Option<Both>)
-    requires shape { HasShape K.number K.blocks zone }
+) -> (Zone<I, M, B>, Option<ClientAndRound>)
+    requires identity { HasIdentity K.number K.blocks zone }
     requires keeps { K.keeps zone }
     requires begins { K.begins_at seats.old.scan.count }
     requires allows { K.allows turn.client.number J.pair }
@@ -103,19 +103,19 @@ fn compact_shared<
     requires room { (turn.answers.items ≡ []) × (vec_len turn.lines ≤ vec_capacity turn.answers) }
     ensures keeps { K.keeps result.0 }
     ensures told { IfSome result.1 (λ both. AreSince J.before (K.told result.0.records) both.client.receipts) }
-    ensures kept { IsKept result.0 }
-    ensures shape { HasShape K.number K.blocks result.0 }
+    ensures kept { LockInvariant result.0 }
+    ensures identity { HasIdentity K.number K.blocks result.0 }
     ensures played { IfSome result.1 (λ both. AreClientAnswers turn.client turn.lines.items both.answers.items both.client) }
     ensures round { IfSome result.1 (λ both. IfOk both.round (λ r. IsRound seats.old.scan seats.new.scan seats.old.ends seats.new.ends r)) }
     ensures early { IfSome result.1 (λ both. IsRefusedEarly seats.old.scan seats.new.scan seats.old.ends seats.new.ends both.round) }
     ensures none { IfNone result.1 ((seats.new.scan ≡ seats.old.scan) × (seats.new.ends ≡ seats.old.ends)) }
 {
-    let Turn {
+    let ClientTurn {
         client,
         lines,
         answers,
     } = turn;
-    let turn = Turn {
+    let turn = ClientTurn {
         client: client.with_slip::<J>(slip),
         lines,
         answers,
@@ -130,14 +130,14 @@ fn compact_shared<
 }
 
 /// Puts the client's slip to the stub: what is on the stub are the client's new receipts.
-fn compared<J: Telling>(both: Both<J>, stub: Option<Stub>) -> Both
+fn compared<J: Telling>(both: ClientAndRound<J>, stub: Option<Stub>) -> ClientAndRound
     requires pair { pair_of stub ≡ J.pair }
     ensures told { AreSince J.before stub both.client.receipts }
     ensures client { result.client ≡ both.client }
     ensures answers { result.answers.items ≡ both.answers.items }
     ensures round { result.round ≡ both.round }
 {
-    let Both {
+    let ClientAndRound {
         client,
         answers,
         round,
@@ -146,7 +146,7 @@ fn compared<J: Telling>(both: Both<J>, stub: Option<Stub>) -> Both
     if let (Some(stub), Some(slip)) = (stub, slip) {
         stub.compare(slip);
     }
-    Both {
+    ClientAndRound {
         client,
         answers,
         round,
@@ -168,8 +168,8 @@ fn in_scope<
     shared: &KeptZone<K, I, M, B>,
     seats: &mut Seats<I, N, M, B>,
     options: Options,
-    turn: Turn<J>,
-) -> Option<Both<J>>
+    turn: ClientTurn<J>,
+) -> Option<ClientAndRound<J>>
     requires begins { K.begins_at seats.old.scan.count }
     requires allows { K.allows turn.client.number J.pair }
     requires room { (turn.answers.items ≡ []) × (vec_len turn.lines ≤ vec_capacity turn.answers) }
@@ -182,7 +182,7 @@ fn in_scope<
     let (lent, both) = thread::scope(
         thread::scope_env(),
         rt,
-        move |scope| -> (&mut Seats<I, N, M, B>, Option<Both<J>>)
+        move |scope| -> (&mut Seats<I, N, M, B>, Option<ClientAndRound<J>>)
             requires begins { K.begins_at lent.now.scan.count }
             requires allows { K.allows turn.client.number J.pair }
             requires room { (turn.answers.items ≡ []) × (vec_len turn.lines ≤ vec_capacity turn.answers) }
@@ -218,8 +218,8 @@ fn run_both<
     shared: &'e KeptZone<K, I, M, B>,
     seats: &mut Seats<I, N, M, B>,
     options: Options,
-    turn: Turn<J>,
-) -> Option<Both<J>>
+    turn: ClientTurn<J>,
+) -> Option<ClientAndRound<J>>
     requires begins { K.begins_at seats.old.scan.count }
     requires allows { K.allows turn.client.number J.pair }
     requires room { (turn.answers.items ≡ []) × (vec_len turn.lines ≤ vec_capacity turn.answers) }
@@ -238,12 +238,12 @@ fn run_both<
         options.capacity,
         &NoGate,
     );
-    let Turn {
+    let ClientTurn {
         client,
         answers,
         ..
     } = player.join(rt);
-    Some(Both {
+    Some(ClientAndRound {
         client,
         answers,
         round,
@@ -253,10 +253,10 @@ fn run_both<
 /// A client hands back its answers and its receipts.
 #[derive(Drop)]
 struct Plays<J: Telling> {
-    turn: Snapshot<Turn<J>>,
+    turn: Snapshot<ClientTurn<J>>,
 }
 
-impl<J: Telling> Promise<Turn<J>> for Plays<J> {
+impl<J: Telling> Promise<ClientTurn<J>> for Plays<J> {
     ghost use Rattle.script_core.specs.Clients.{AreClientAnswers};
 
     ghost kept_by = { λ p r. AreClientAnswers p.turn.value.client p.turn.value.lines.items r.answers.items r.client };
@@ -276,8 +276,8 @@ fn start_client<
     scope: &'s Scope<'s, &'e ()>,
     rt: &'e R,
     shared: &'e KeptZone<K, I, M, B>,
-    turn: Turn<J>,
-) -> Option<PromisedHandle<Turn<J>, Plays<J>>>
+    turn: ClientTurn<J>,
+) -> Option<PromisedHandle<ClientTurn<J>, Plays<J>>>
     requires allows { K.allows turn.client.number J.pair }
     requires room { (turn.answers.items ≡ []) × (vec_len turn.lines ≤ vec_capacity turn.answers) }
     ensures { IfSome result (λ player. player.promise.turn.value ≡ turn) }
@@ -287,7 +287,7 @@ fn start_client<
     };
     let started = scope.spawn_with(
         promise,
-        move || -> Turn<J>
+        move || -> ClientTurn<J>
             requires allows { K.allows turn.client.number J.pair }
             requires room { (turn.answers.items ≡ []) × (vec_len turn.lines ≤ vec_capacity turn.answers) }
             ensures { AreClientAnswers turn.client turn.lines.items result.answers.items result.client }
@@ -300,13 +300,13 @@ fn start_client<
 fn play_lines<K: Keeping, J: Telling, I: Ledger, M: Ledger, B: Ledger, R: Wait>(
     rt: &R,
     shared: &KeptZone<K, I, M, B>,
-    turn: Turn<J>,
-) -> Turn<J>
+    turn: ClientTurn<J>,
+) -> ClientTurn<J>
     requires allows { K.allows turn.client.number J.pair }
     requires room { (turn.answers.items ≡ []) × (vec_len turn.lines ≤ vec_capacity turn.answers) }
     ensures { AreClientAnswers turn.client turn.lines.items result.answers.items result.client }
 {
-    let Turn {
+    let ClientTurn {
         mut client,
         lines,
         mut answers,
@@ -315,7 +315,7 @@ fn play_lines<K: Keeping, J: Telling, I: Ledger, M: Ledger, B: Ledger, R: Wait>(
         let reply = reply_to(rt, shared, &mut client, line.call());
         answers.push_reserved(Answer::new(line.line(), reply));
     }
-    Turn {
+    ClientTurn {
         client,
         lines,
         answers,

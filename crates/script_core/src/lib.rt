@@ -1,7 +1,7 @@
 //! Scripts: a machine with at most one zone answers commands, and a run reads them and writes the replies.
 //!
 //! `play_core` reads a script and writes the replies. `machine_core` answers on one thread, by `run` and `run_text`. On threads, by
-//! `run_on_threads`, a block may be answered in more than one way, and a round or a pool may be refused: `specs/Threaded.antt` says when,
+//! `run_on_threads`, a block may be answered in more than one way, and a round or a pool may be refused: `specs/WithThreads.antt` says when,
 //! and `specs/Clients.antt` what the calls during a round are answered. `specs/ByHand.antt` says how a script without blocks is answered,
 //! whatever the schedule. `run_watched` also shows the zone to a watcher. `program` is a run
 //! of `compactd`: the words that it is started with, its streams, and the status that it ends with.

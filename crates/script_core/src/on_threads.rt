@@ -9,10 +9,10 @@ ghost use Rattle.play_core.specs.Script.{command_in_block, fault_of};
 ghost use Rattle.machine_core.specs.Replies.{output_of, totals_of};
 ghost use Rattle.play_core.specs.Streams.{CannotReadOn};
 ghost use Rattle.script_core.specs.ByHand.{IsAloneScript, IsByHandStep, OpensByHand, To};
-ghost use Rattle.script_core.specs.Threaded.{AsksMemory, IsBlockFor, IsStepBy, IsThreadedStep, IsUnthreadedScript, is_threaded, threaded_at_first};
+ghost use Rattle.script_core.specs.WithThreads.{AsksMemory, IsBlockFor, IsStepBy, IsThreadedStep, IsUnthreadedScript, is_threaded, threaded_at_first};
 
-use crate::answering::Answering;
-use crate::threaded::Threaded;
+use crate::answering::Dispatcher;
+use crate::threaded::WithThreads;
 use crate::watched::{NoWatch, Watch, Watched};
 use frame_core::ZoneNo;
 use machine_core::Options;
@@ -139,11 +139,11 @@ fn run_threaded<
         (R.reads reader.old) (R.reads reader.new) (R.remaining reader.old)) }
     ensures stuck { IfErr result (λ error. error.fault ≡ Fault.Write → IsTrue (W.stuck writer.new)) }
 {
-    let round = move |machine: &mut Threaded<I, N, M, B>, zone: ZoneNo|
+    let round = move |machine: &mut WithThreads<I, N, M, B>, zone: ZoneNo|
         requires whole { machine.old.broken ≡ None }
         ensures { IsStepBy (is_threaded (Compact zone) machine.old.single.world) machine.old (Compact zone) result machine.new }
     { machine.answer_compact(rt, alloc, zone) };
-    let pool = move |machine: &mut Threaded<
+    let pool = move |machine: &mut WithThreads<
         I,
         N,
         M,
@@ -152,13 +152,13 @@ fn run_threaded<
         requires whole { machine.old.broken ≡ None }
         ensures { IsStepBy (is_threaded (Pool zone count blocks) machine.old.single.world) machine.old (Pool zone count blocks) result machine.new }
     { machine.answer_pool(rt, alloc, zone, count, blocks) };
-    let block = move |machine: &mut Threaded<I, N, M, B>, block: Block|
+    let block = move |machine: &mut WithThreads<I, N, M, B>, block: Block|
         requires whole { machine.old.broken ≡ None }
         ensures ok { IfOk result (λ answers. IsThreadedStep machine.old (command_in_block block) answers machine.new) }
         ensures memory { OnErr result (IsBlockFor (command_in_block block).command machine.old.single.world) }
     { machine.answer_block(rt, alloc, block) };
-    let machine = Threaded::new(alloc, options, blanks);
-    let answering = Answering {
+    let machine = WithThreads::new(alloc, options, blanks);
+    let answering = Dispatcher {
         machine,
         round,
         pool,

@@ -8,7 +8,7 @@ ghost use Rattle.play_core.specs.Runs.{IsAnswered};
 ghost use Rattle.play_core.specs.Script.{fault_of};
 ghost use Rattle.machine_core.specs.Replies.{output_of};
 ghost use Rattle.script_core.specs.ByHand.{IsAloneScript, IsByHandStep, To};
-ghost use Rattle.script_core.specs.Threaded.{IsThreadedStep, IsUnthreadedScript, threaded_at_first};
+ghost use Rattle.script_core.specs.WithThreads.{IsThreadedStep, IsUnthreadedScript, threaded_at_first};
 
 use crate::on_threads::run_on_threads;
 use crate::report::report;

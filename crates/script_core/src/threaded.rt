@@ -1,16 +1,16 @@
 ghost use Rattle.std.specs.Prelude.{◌≡◌, ◌⊎◌, ◌+◌, ◌≤◌, ◌↔◌, [], false, length, None, IsOk, IfOk, OnErr, IfSome, IfNone, vec_len, vec_capacity};
 ghost use Rattle.std.specs.Result.{result_err};
-ghost use Rattle.round_core.specs.Kept.{IsKept};
+ghost use Rattle.round_core.specs.Kept.{LockInvariant};
 ghost use Rattle.round_core.specs.Rounds.{IsRefusedEarly, IsRound};
 ghost use Rattle.zone_core.specs.Books.{AreFor};
 ghost use Rattle.zone_core.specs.Seats.{audit_refusal};
-ghost use Rattle.zone_core.specs.Shape.{HasShape};
+ghost use Rattle.zone_core.specs.ZoneIdentity.{HasIdentity};
 ghost use Rattle.play_core.specs.Script.{command_in_block};
-ghost use Rattle.script_core.specs.Threaded.{ComesToByHand, IsBlockFor, IsNothingRun, IsPoolOn, IsRoundBeside, IsRoundOn, IsSettledReply, IsStepBy, IsThreadedStep, IsTurnBeside, IsUnstarted, broken_refusal, broken_reply, is_threaded, left_by, pool_reply, round_reply, threaded_at_first, told_of};
+ghost use Rattle.script_core.specs.WithThreads.{ComesToByHand, IsBlockFor, IsNothingRun, IsPoolOn, IsRoundBeside, IsRoundOn, IsSettledReply, IsStepBy, IsThreadedStep, IsTurnBeside, IsUnstarted, broken_refusal, broken_reply, is_threaded, left_by, pool_reply, round_reply, threaded_at_first, told_of};
 ghost use Rattle.script_laws.specs.ByHand.{pool_stopped_as, stopped_as};
 
-use crate::alone::Alone;
-use crate::beside::{Both, Turn, compact_beside};
+use crate::alone::BaseMachine;
+use crate::beside::{ClientAndRound, ClientTurn, compact_beside};
 use arrayvec::ArrayVec;
 use client_core::{Client, settle_clients};
 use frame_core::{ClientNo, Order, ZoneNo};
@@ -36,17 +36,17 @@ const POOL_ROUNDS: u32 = 4;
 /// that no audit passes, and the client that makes calls during rounds. It has no allocator: the commands that start threads are
 /// passed one.
 #[derive(Drop)]
-pub(crate) struct Threaded<I: Ledger, N: Ledger, M: Ledger, B: Ledger> {
+pub(crate) struct WithThreads<I: Ledger, N: Ledger, M: Ledger, B: Ledger> {
     options: Options,
     machine: Machine<I, N, M, B>,
     broken: Option<ZoneNo>,
     client: Client,
 }
 
-impl<I: Ledger, N: Ledger, M: Ledger, B: Ledger> Model for Threaded<I, N, M, B> {
+impl<I: Ledger, N: Ledger, M: Ledger, B: Ledger> Model for WithThreads<I, N, M, B> {
     ghost use Rattle.std.specs.Coded.{codes};
     ghost use Rattle.state_core.specs.ZoneCode.{coded_zone};
-    ghost use Rattle.script_core.specs.Threaded.{Threaded as Seen};
+    ghost use Rattle.script_core.specs.WithThreads.{WithThreads as Seen};
 
     ghost Value = { Seen };
 
@@ -55,14 +55,14 @@ impl<I: Ledger, N: Ledger, M: Ledger, B: Ledger> Model for Threaded<I, N, M, B> 
     ghost view = { λ t. record { single = t.machine; broken = t.broken; client = t.client } };
 }
 
-impl<I: Ledger, N: Ledger, M: Ledger, B: Ledger> Threaded<I, N, M, B> {
+impl<I: Ledger, N: Ledger, M: Ledger, B: Ledger> WithThreads<I, N, M, B> {
     /// A machine with no zone. A zone that it opens has as many places in its journal as the options say, and a round has as many
     /// copiers, and as much room in its queues.
     pub(crate) fn new(alloc: Global, options: Options, blanks: Blanks) -> Self
         requires blanks { AreFor blanks I.name I.parts N.name N.parts M.name M.parts B.name B.parts }
         ensures { result ≡ threaded_at_first options.journal }
     {
-        Threaded {
+        WithThreads {
             options,
             machine: Machine::new(alloc, options.journal, blanks),
             broken: None,
@@ -81,7 +81,7 @@ impl<I: Ledger, N: Ledger, M: Ledger, B: Ledger> Threaded<I, N, M, B> {
     }
 }
 
-impl<I: Ledger, N: Ledger, M: Ledger, B: Ledger> Alone for Threaded<I, N, M, B> {
+impl<I: Ledger, N: Ledger, M: Ledger, B: Ledger> BaseMachine for WithThreads<I, N, M, B> {
     ghost seen = { λ t. t };
 
     fn broken_zone(&self) -> Option<ZoneNo> {
@@ -93,12 +93,12 @@ impl<I: Ledger, N: Ledger, M: Ledger, B: Ledger> Alone for Threaded<I, N, M, B> 
     }
 }
 
-impl<I: Ledger + Send + Sync, N: Ledger, M: Ledger + Send + Sync, B: Ledger + Send + Sync> Threaded<
-    I,
-    N,
-    M,
-    B,
-> {
+impl<
+    I: Ledger + Send + Sync,
+    N: Ledger,
+    M: Ledger + Send + Sync,
+    B: Ledger + Send + Sync,
+> WithThreads<I, N, M, B> {
     /// Answers the command for a round over a zone, where no zone is broken. This is a function of its own since it needs room for a
     /// whole world, which no other command does.
     #[inline(never)]
@@ -194,7 +194,7 @@ impl<I: Ledger + Send + Sync, N: Ledger, M: Ledger + Send + Sync, B: Ledger + Se
         let line = block.line();
         let (stub, slip) = Stub::pair(alloc)?;
         let (lines, answers) = block.into_parts();
-        let turn = Turn {
+        let turn = ClientTurn {
             client,
             lines,
             answers,
@@ -213,7 +213,7 @@ impl<I: Ledger + Send + Sync, N: Ledger, M: Ledger + Send + Sync, B: Ledger + Se
         rt: &H,
         alloc: Global,
         world: World<I, N, M, B>,
-        turn: Turn,
+        turn: ClientTurn,
         stub: Stub,
         slip: Slip,
     ) -> Option<(Vec<Answer>, Reply)>
@@ -247,12 +247,12 @@ impl<I: Ledger + Send + Sync, N: Ledger, M: Ledger + Send + Sync, B: Ledger + Se
     }
 
     /// Keeps the client as its turn left it, and gives the answers to its lines and the reply to the round.
-    fn settle(&mut self, zone: &Zone<I, M, B>, both: Both) -> (Vec<Answer>, Reply)
+    fn settle(&mut self, zone: &Zone<I, M, B>, both: ClientAndRound) -> (Vec<Answer>, Reply)
         ensures client { self.new ≡ record self.old { client = both.client } }
         ensures answers { result.0.items ≡ both.answers.items }
         ensures reply { IsSettledReply zone.now both.client both.round result.1 }
     {
-        let Both {
+        let ClientAndRound {
             client,
             answers,
             round,
@@ -270,8 +270,8 @@ impl<I: Ledger + Send + Sync, N: Ledger, M: Ledger + Send + Sync, B: Ledger + Se
         zone: Zone<I, M, B>,
         seats: &mut Seats<I, N, M, B>,
     ) -> (Zone<I, M, B>, Result<Round, RoundError>)
-        ensures kept { IsKept result.0 }
-        ensures shape { HasShape zone.number zone.blocks result.0 }
+        ensures kept { LockInvariant result.0 }
+        ensures identity { HasIdentity zone.number zone.blocks result.0 }
         ensures round { IfOk result.1 (λ r. IsRound seats.old.scan seats.new.scan seats.old.ends seats.new.ends r) }
         ensures early { IsRefusedEarly seats.old.scan seats.new.scan seats.old.ends seats.new.ends result.1 }
         ensures by_hand { ComesToByHand zone result.0 result.1 }

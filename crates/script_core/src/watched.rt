@@ -1,7 +1,7 @@
 //! A run of a script that is watched.
 
-use crate::answering::Answering;
-use crate::threaded::Threaded;
+use crate::answering::Dispatcher;
+use crate::threaded::WithThreads;
 use play_core::{Answer, Answers, Block, Respond};
 use std::alloc::AllocError;
 use std::sync::ledger::Ledger;
@@ -56,7 +56,7 @@ pub(crate) trait Shows {
 }
 
 impl<I: Ledger, N: Ledger, M: Ledger, B: Ledger, R, P, D> Shows
-    for Answering<Threaded<I, N, M, B>, R, P, D> {
+    for Dispatcher<WithThreads<I, N, M, B>, R, P, D> {
     #[inline(always)]
     fn show_before<V: Watch>(&self, watcher: &mut V, command: &Command) {
         watcher.before(command, self.machine.zone());

@@ -6,7 +6,7 @@ use Rattle.frame_core.specs.declared.place.Address.{Address}
 use Rattle.journal_core.specs.History.{page_at}
 use Rattle.state_core.specs.declared.placement.Placement.TheVariants.{At}
 use Rattle.state_core.specs.Access.{access_refusal}
-use Rattle.state_core.specs.Lawful.{IsLawful}
+use Rattle.state_core.specs.Lawful.{IsValidZone}
 use Rattle.state_core.specs.Mapping.{mapped, placed}
 use Rattle.state_core.specs.ZoneState.{ZoneState, lowest_free_frame, lowest_unused_page}
 use Rattle.state_core.proofs.Facts.{page_named}
@@ -18,7 +18,7 @@ pub record Fresh (z : ZoneState) (page : ℕ) : Type 0 where
   pub is : lowest_unused_page z ≡ Some page
   pub unused : map.get z.placement page ≡ None
 
-pub fresh_number : (z : ZoneState) → IsLawful z → IsSome (lowest_free_frame z) → (page : ℕ) × Fresh z page
+pub fresh_number : (z : ZoneState) → IsValidZone z → IsSome (lowest_free_frame z) → (page : ℕ) × Fresh z page
 fresh_number z law free = by_page (lowest_unused_page z) refl where
   by_page : (o : Option ℕ) → lowest_unused_page z ≡ o → (page : ℕ) × Fresh z page
   by_page None none = absurd (unused_left z law free none)

@@ -13,7 +13,7 @@ use Rattle.state_core.specs.declared.information.Look.{Look}
 use Rattle.state_core.specs.Access.{value_at}
 use Rattle.state_core.specs.Calls.{refusal_of, answer_of, after}
 use Rattle.state_core.specs.ErrorNumber.{number_of}
-use Rattle.state_core.specs.Lawful.{IsLawful}
+use Rattle.state_core.specs.Lawful.{IsValidZone}
 use Rattle.state_core.specs.Looking.{look_of}
 use Rattle.state_core.specs.Mapping.{mapped}
 use Rattle.state_core.specs.Unmapping.{is_last, unmapped, without_page}
@@ -110,7 +110,7 @@ no_value_ending serial ended.Moved = refl
 no_value_ending serial ended.Back = refl
 
 -- a fresh page, which no address names before
-maps_fresh : (older : List Record) (z : ZoneState) (a : Address) (unmovable : Bool) (frame : ℕ) → IsLawful z → IsSome (lowest_free_frame z) → Match z.records older → Match (mapped z 0 a unmovable frame).records (record_of.Map 0 a (length older) ∷ older)
+maps_fresh : (older : List Record) (z : ZoneState) (a : Address) (unmovable : Bool) (frame : ℕ) → IsValidZone z → IsSome (lowest_free_frame z) → Match z.records older → Match (mapped z 0 a unmovable frame).records (record_of.Map 0 a (length older) ∷ older)
 maps_fresh older z a unmovable frame law free m =
     let fresh = fresh_number z law free in
     subst (λ (next : ZoneState). Match next.records (record_of.Map 0 a (length older) ∷ older)) (sym (mapped_is z a unmovable frame fresh.0 fresh.1))

@@ -13,7 +13,7 @@ use Rattle.state_core.specs.declared.moves.Next.TheVariants as answer
 use Rattle.state_core.specs.Carrying.{page_now}
 use Rattle.state_core.specs.Ending.{moved_to_target}
 use Rattle.state_core.specs.Isolating.{isolate_refusal, isolated_next, next_answer, next_state}
-use Rattle.state_core.specs.Lawful.{IsLawful}
+use Rattle.state_core.specs.Lawful.{IsValidZone}
 use Rattle.state_core.specs.Pairs.{next_pair}
 use Rattle.state_core.specs.Rounds.{round_begun}
 use Rattle.state_core.specs.ZoneState.{ZoneState}
@@ -25,13 +25,13 @@ use Rattle.outcome_core.proofs.ByHand.{exact}
 use Rattle.outcome_core.proofs.Coming.{comes_begun, comes_scan, comes_move, stopped_seen}
 use Rattle.outcome_core.proofs.Scanner.{refusal_same}
 use Rattle.outcome_core.proofs.Scanning.{lawful_scan, no_pin}
-use Rattle.word_core.specs.Page.{OnItsWay}
+use Rattle.word_core.specs.Page.{IsolatedPage}
 use Rattle.solo_core.specs.Solo.{last_for, last_by_hand}
 
 -- no page is moving, none was put back, and the round goes on to what the round by hand comes to
 pub record IsBetween (start z : ZoneState) : Type 0 where
   pub rest : IsAtRest start
-  pub lawful : IsLawful z
+  pub lawful : IsValidZone z
   pub comes : ComesTo start z
   pub none_out : out z.records ≡ []
   pub none_back : put_back z.records ≡ put_back start.records
@@ -56,8 +56,8 @@ module _ (start z : ZoneState) (is : IsBetween start z) (pair : Pair) (spare : i
   is_step : scan_step z ≡ next
   is_step = ap (next_state z) (pair_scanned z (Some pair) spare found)
 
-  lawful_next : IsLawful next
-  lawful_next = subst IsLawful is_step (lawful_scan z is.lawful)
+  lawful_next : IsValidZone next
+  lawful_next = subst IsValidZone is_step (lawful_scan z is.lawful)
 
   comes_next : ComesTo start next
   comes_next = subst (ComesTo start) is_step (comes_scan start z is.lawful is.comes)
@@ -68,7 +68,7 @@ module _ (start z : ZoneState) (is : IsBetween start z) (pair : Pair) (spare : i
   pub unpinned : pins next.records pair.page ≡ 0
   unpinned = no_pin next comes_next.carried pair.page (isolated z.records) pair.source pair.target at_next
 
-  pub between_moved : IsLawful (moved_to_target next (isolated z.records) pair.page) → IsBetween start (moved_to_target next (isolated z.records) pair.page)
+  pub between_moved : IsValidZone (moved_to_target next (isolated z.records) pair.page) → IsBetween start (moved_to_target next (isolated z.records) pair.page)
   between_moved law = record {
     rest = is.rest;
     lawful = law;
@@ -90,13 +90,13 @@ module _ (start z : ZoneState) (is : IsBetween start z) (none : scan_pair z ≡ 
   last_is = ap last_for refusal_is
 
 -- what the answer of a scan tells of the pair
-pub record IsPageOf (z z_new : ZoneState) (p : OnItsWay) (o : Option Pair) : Type 0 where
+pub record IsPageOf (z z_new : ZoneState) (p : IsolatedPage) (o : Option Pair) : Type 0 where
   pub pair : Pair
   pub found : o ≡ Some pair
   pub page : p ≡ record { serial = isolated z.records; page = page_now z pair.page }
   pub left : z_new ≡ isolated_next z pair
 
-pub page_scanned : (z z_new : ZoneState) (p : OnItsWay) (o : Option Pair) → answer.Page p ≡ next_answer z o → z_new ≡ next_state z o → IsPageOf z z_new p o
+pub page_scanned : (z z_new : ZoneState) (p : IsolatedPage) (o : Option Pair) → answer.Page p ≡ next_answer z o → z_new ≡ next_state z o → IsPageOf z z_new p o
 page_scanned z z_new p None says left = cc
 page_scanned z z_new p (Some pair) says left = record { pair = pair; found = refl; page = cc; left = left }
 

@@ -6,7 +6,7 @@ use Rattle.journal_core.specs.declared.record.Record.TheVariants.{Load, Store}
 use Rattle.journal_core.specs.History.{last}
 use Rattle.journal_core.specs.Moves.{out}
 use Rattle.state_core.specs.declared.placement.Placement.TheVariants.{At}
-use Rattle.state_core.specs.Lawful.{IsLawful}
+use Rattle.state_core.specs.Lawful.{IsValidZone}
 use Rattle.state_core.specs.Access.{value_at, loaded, stored}
 use Rattle.state_core.specs.ZoneState.{ZoneState, placement_at}
 use Rattle.state_core.proofs.Quiet.{quiet_before}
@@ -15,8 +15,8 @@ use Rattle.state_core.proofs.Noted.{lawful_noted}
 use Rattle.state_core.proofs.Sweeping.{swept_loaded, swept_stored}
 
 -- a record of a load or a store leaves the state lawful
-module _ (v : ZoneState) (law : IsLawful v) (spare : length (out v.records) < v.room) (client : ℕ) (address : Address) where
-  pub lawful_loaded : (frame word : ℕ) → placement_at v address ≡ Some (At frame) → IsLawful (loaded v client address word)
+module _ (v : ZoneState) (law : IsValidZone v) (spare : length (out v.records) < v.room) (client : ℕ) (address : Address) where
+  pub lawful_loaded : (frame word : ℕ) → placement_at v address ≡ Some (At frame) → IsValidZone (loaded v client address word)
   lawful_loaded frame word at =
       let page = page_named v address (At frame) at in
       let T : Option ℕ → Type 0 = λ o. IsSomeAnd o (λ p. last v.records (unwrap_or o 0) word ≡ last v.records p word) in
@@ -33,7 +33,7 @@ module _ (v : ZoneState) (law : IsLawful v) (spare : length (out v.records) < v.
         swept = λ quiet. swept_loaded v client address word (law.swept (quiet_before v (Load client address word (value_at v address word)) law refl quiet));
       })
 
-  pub lawful_stored : (word value : ℕ) → IsLawful (stored v client address word value)
+  pub lawful_stored : (word value : ℕ) → IsValidZone (stored v client address word value)
   lawful_stored word value = lawful_noted v law (Store client address word value) spare (record {
     truthful = law.truthful;
     well_ended = law.well_ended;

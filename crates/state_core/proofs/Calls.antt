@@ -16,7 +16,7 @@ use Rattle.state_core.specs.declared.placement.Placement.TheVariants.{At, Moving
 use Rattle.state_core.specs.Access.{placement_refusal, access_refusal, loaded, stored}
 use Rattle.state_core.specs.Calls.{refusal_of, after, IsInRange}
 use Rattle.state_core.specs.HandingOut.{is_order, is_run, lowest_run, take_order_refusal, give_order_refusal, block_taken, block_given}
-use Rattle.state_core.specs.Lawful.{IsLawful}
+use Rattle.state_core.specs.Lawful.{IsValidZone}
 use Rattle.state_core.specs.Mapping.{map_refusal, map_at_refusal, mapped}
 use Rattle.state_core.specs.Pinning.{pin_refusal, unpin_refusal, pinned, unpinned}
 use Rattle.state_core.specs.Sharing.{share_refusal, shared}
@@ -58,7 +58,7 @@ module _ (z : ZoneState) where
   found None e = cc
   found (Some n) e = refl
 
-  module _ (law : IsLawful z) (client : ℕ) where
+  module _ (law : IsValidZone z) (client : ℕ) where
     unused : IsSome (lowest_free_frame z) → (page : ℕ) × (lowest_unused_page z ≡ Some page)
     unused some = by (lowest_unused_page z) refl where
       by : (o : Option ℕ) → lowest_unused_page z ≡ o → (page : ℕ) × (lowest_unused_page z ≡ Some page)
@@ -66,7 +66,7 @@ module _ (z : ZoneState) where
       by (Some page) e = (page, e)
 
     kept_placed : (address : Address) (unmovable : Bool) (frame : ℕ) → InRange address → length (out z.records) < z.room → page_at z.records address ≡ None
-        → is_free z frame ≡ true → frame < frame_count z → IsLawful (mapped z client address unmovable frame)
+        → is_free z frame ≡ true → frame < frame_count z → IsValidZone (mapped z client address unmovable frame)
     kept_placed address unmovable frame range room vacant free within =
         let page = unused (some_lowest z frame free within) in
         let is = unused_is z page.0 page.1 in
@@ -82,7 +82,7 @@ module _ (z : ZoneState) where
           within = within;
         }))
 
-    kept_map : (address : Address) (unmovable : Bool) → InRange address → map_refusal z address ≡ None → IsLawful (mapped z client address unmovable (unwrap_or (lowest_free_frame z) 0))
+    kept_map : (address : Address) (unmovable : Bool) → InRange address → map_refusal z address ≡ None → IsValidZone (mapped z client address unmovable (unwrap_or (lowest_free_frame z) 0))
     kept_map address unmovable range accepted =
         let room = passed _ _ _ accepted in
         let vacant = passed _ _ _ room.1 in
@@ -90,7 +90,7 @@ module _ (z : ZoneState) where
         let free = lowest_some (is_free z) (frame_count z) _ (found (lowest_free_frame z) (not-false _ some.0)) in
         kept_placed address unmovable _ range (room_passed room.0) (none_is _ vacant.0) free.1 free.0
 
-    kept_map_at : (address : Address) (unmovable : Bool) (frame : ℕ) → InRange address → map_at_refusal z address frame ≡ None → IsLawful (mapped z client address unmovable frame)
+    kept_map_at : (address : Address) (unmovable : Bool) (frame : ℕ) → InRange address → map_at_refusal z address frame ≡ None → IsValidZone (mapped z client address unmovable frame)
     kept_map_at address unmovable frame range accepted =
         let within = passed _ _ _ accepted in
         let room = passed _ _ _ within.1 in
@@ -98,16 +98,16 @@ module _ (z : ZoneState) where
         let free = passed _ _ _ vacant.1 in
         kept_placed address unmovable frame range (room_passed room.0) (none_is _ vacant.0) (not-false _ free.0) (ltb-true _ _ (not-false _ within.0))
 
-    kept_load : (address : Address) (word : ℕ) → access_refusal z address ≡ None → IsLawful (loaded z client address word)
+    kept_load : (address : Address) (word : ℕ) → access_refusal z address ≡ None → IsValidZone (loaded z client address word)
     kept_load address word accepted =
         let room = passed _ _ _ accepted in
         let at = in_a_frame _ room.1 in
         lawful_loaded z law (room_passed room.0) client address at.0 word at.1
 
-    kept_store : (address : Address) (word value : ℕ) → access_refusal z address ≡ None → IsLawful (stored z client address word value)
+    kept_store : (address : Address) (word value : ℕ) → access_refusal z address ≡ None → IsValidZone (stored z client address word value)
     kept_store address word value accepted = lawful_stored z law (room_passed (passed _ _ _ accepted).0) client address word value
 
-    kept_share : (address alias : Address) → InRange alias → share_refusal z address alias ≡ None → IsLawful (shared z client address alias)
+    kept_share : (address alias : Address) → InRange alias → share_refusal z address alias ≡ None → IsValidZone (shared z client address alias)
     kept_share address alias range accepted =
         let room = passed _ _ _ accepted in
         let both = both_passed _ _ room.1 in
@@ -125,41 +125,41 @@ module _ (z : ZoneState) where
           few = subst (λ (o : Option ℕ). maps z.records (unwrap_or o 0) < 4) page.1 (leb-false _ _ few.0);
         })
 
-    kept_unmap : (address : Address) → unmap_refusal z address ≡ None → IsLawful (unmapped z client address)
+    kept_unmap : (address : Address) → unmap_refusal z address ≡ None → IsValidZone (unmapped z client address)
     kept_unmap address accepted =
         let room = passed _ _ _ accepted in
         let at = in_a_frame _ (both_passed _ _ room.1).0 in
         let page = page_named z address (At at.0) at.1 in
         lawful_unmapped z client address page.0 at.0 (record { lawful = law; spare = room_passed room.0; named = page.1; at = page.2 })
 
-    kept_pin : (address : Address) → pin_refusal z address ≡ None → IsLawful (pinned z client address)
+    kept_pin : (address : Address) → pin_refusal z address ≡ None → IsValidZone (pinned z client address)
     kept_pin address accepted =
         let room = passed _ _ _ accepted in
         let named = passed _ _ _ room.1 in
         let few = passed _ _ _ named.1 in
         lawful_pinned z client address _ (found (page_at z.records address) (not-false _ named.0)) law (room_passed room.0) (leb-false _ _ few.0)
 
-    kept_unpin : (address : Address) → unpin_refusal z address ≡ None → IsLawful (unpinned z client address)
+    kept_unpin : (address : Address) → unpin_refusal z address ≡ None → IsValidZone (unpinned z client address)
     kept_unpin address accepted =
         let room = passed _ _ _ accepted in
         let named = passed _ _ _ room.1 in
         lawful_unpinned z client address _ (found (page_at z.records address) (not-false _ named.0)) law (room_passed room.0)
 
-    kept_take : (order : ℕ) → 3 ≤ order → order ≤ 9 → take_order_refusal z order ≡ None → IsLawful (block_taken z (unwrap_or (lowest_run z order) 0) order)
+    kept_take : (order : ℕ) → 3 ≤ order → order ≤ 9 → take_order_refusal z order ≡ None → IsValidZone (block_taken z (unwrap_or (lowest_run z order) 0) order)
     kept_take order low high accepted =
         let room = passed _ _ _ accepted in
         let some = passed _ _ _ room.1 in
         let run = lowest_some (is_run z order) (frame_count z) _ (found (lowest_run z order) (not-false _ some.0)) in
         lawful_block_taken z _ order run.1 law (room_passed room.0) low high
 
-    kept_give : (first order : ℕ) → give_order_refusal z first order ≡ None → IsLawful (block_given z first order)
+    kept_give : (first order : ℕ) → give_order_refusal z first order ≡ None → IsValidZone (block_given z first order)
     kept_give first order accepted =
         let room = passed _ _ _ (passed _ _ _ accepted).1 in
         let held = passed _ _ _ room.1 in
         lawful_block_given z law first order (of_this_order _ order (not-false _ held.0)) (room_passed room.0)
 
 -- each call that isn't refused leaves a lawful zone lawful
-pub call_lawful : (W : ℕ) (call : ZoneCall W) (client : ℕ) (z : ZoneState) → IsLawful z → IsInRange call → refusal_of call z ≡ None → IsLawful (after call client z)
+pub call_lawful : (W : ℕ) (call : ZoneCall W) (client : ℕ) (z : ZoneState) → IsValidZone z → IsInRange call → refusal_of call z ≡ None → IsValidZone (after call client z)
 call_lawful W (Map address unmovable) client z law range accepted = kept_map z law client address unmovable range accepted
 call_lawful W (MapAt address unmovable frame) client z law range accepted = kept_map_at z law client address unmovable frame range accepted
 call_lawful W (Load address word) client z law range accepted = kept_load z law client address word accepted

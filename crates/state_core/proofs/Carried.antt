@@ -11,11 +11,11 @@ use Rattle.journal_core.specs.declared.record.Record.{Record}
 use Rattle.journal_core.specs.declared.record.Record.TheVariants.{Unmap, Moved, Back}
 use Rattle.journal_core.specs.History.{page_at, is_page, names, last, pins}
 use Rattle.journal_core.specs.Moves.{isolated, page_of}
-use Rattle.word_core.specs.Page.{OnItsWay}
+use Rattle.word_core.specs.Page.{IsolatedPage}
 use Rattle.state_core.specs.declared.round.Pair.{Pair}
 use Rattle.state_core.specs.declared.placement.Placement.{Placement}
 use Rattle.state_core.specs.declared.placement.Placement.TheVariants.{At, Moving}
-use Rattle.state_core.specs.Lawful.{IsLawful, is_under}
+use Rattle.state_core.specs.Lawful.{IsValidZone, is_under}
 use Rattle.state_core.specs.Ending.{is_own, IsOwnCopy, moved_to_target, put_back_to_source, committed}
 use Rattle.state_core.specs.Carrying.{page_now, relocated}
 use Rattle.state_core.specs.Rounds.{round_begun}
@@ -38,57 +38,57 @@ one_serial (Some (At frame)) s t e f = cc
 one_serial (Some (Moving serial source target)) s t e f = sym (eqb-true serial s e) ∙ eqb-true serial t f
 
 -- a page of a zone, isolated under a serial, is moving there under this serial
-pub own_under : (z : ZoneState) (p : OnItsWay) → is_own z p ≡ true → is_under (map.get z.placement p.page.number) p.serial ≡ true
+pub own_under : (z : ZoneState) (p : IsolatedPage) → is_own z p ≡ true → is_under (map.get z.placement p.page.number) p.serial ≡ true
 own_under z p own = (and_parts (nat_eq p.page.zone z.number) (is_under (map.get z.placement p.page.number) p.serial) own).1
 
 -- the journal tells which page has the serial
-pub own_page : (z : ZoneState) → IsLawful z → (p : OnItsWay) → is_own z p ≡ true → page_of z.records p.serial ≡ Some p.page.number
+pub own_page : (z : ZoneState) → IsValidZone z → (p : IsolatedPage) → is_own z p ≡ true → page_of z.records p.serial ≡ Some p.page.number
 own_page z law p own = ((law.under_way p.page.number p.serial).0 (own_under z p own)).1
 
 -- a copy stays one of the zone where the placement and the words of its page stay
-own_kept : (z next : ZoneState) (p : OnItsWay) → next.number ≡ z.number → next.page_size ≡ z.page_size → map.get next.placement p.page.number ≡ map.get z.placement p.page.number → ((w : ℕ) → last next.records p.page.number w ≡ last z.records p.page.number w) → IsOwnCopy z p → IsOwnCopy next p
+own_kept : (z next : ZoneState) (p : IsolatedPage) → next.number ≡ z.number → next.page_size ≡ z.page_size → map.get next.placement p.page.number ≡ map.get z.placement p.page.number → ((w : ℕ) → last next.records p.page.number w ≡ last z.records p.page.number w) → IsOwnCopy z p → IsOwnCopy next p
 own_kept z next p number size placement words own = record {
   own = (λ i. nat_eq p.page.zone (number i) && is_under (placement i) p.serial) ∙ own.own;
   same = own.same ∙ sym (λ i. each (λ w. words w i) (range_with_len 0 (size i)));
 }
 
-pub own_begun : (z : ZoneState) (p : OnItsWay) → IsOwnCopy z p → IsOwnCopy (round_begun z) p
+pub own_begun : (z : ZoneState) (p : IsolatedPage) → IsOwnCopy z p → IsOwnCopy (round_begun z) p
 own_begun z p own = record { own = own.own; same = own.same }
 
-pub own_loaded : (z : ZoneState) (client : ℕ) (address : Address) (word : ℕ) (p : OnItsWay) → IsOwnCopy z p → IsOwnCopy (loaded z client address word) p
+pub own_loaded : (z : ZoneState) (client : ℕ) (address : Address) (word : ℕ) (p : IsolatedPage) → IsOwnCopy z p → IsOwnCopy (loaded z client address word) p
 own_loaded z client address word p own = record { own = own.own; same = own.same }
 
 -- a block that is handed out or taken back, and a mark, leave each copy one of the zone
-pub own_block_taken : (z : ZoneState) (first order : ℕ) (p : OnItsWay) → IsOwnCopy z p → IsOwnCopy (block_taken z first order) p
+pub own_block_taken : (z : ZoneState) (first order : ℕ) (p : IsolatedPage) → IsOwnCopy z p → IsOwnCopy (block_taken z first order) p
 own_block_taken z first order p own = record { own = own.own; same = own.same }
 
-pub own_block_given : (z : ZoneState) (first order : ℕ) (p : OnItsWay) → IsOwnCopy z p → IsOwnCopy (block_given z first order) p
+pub own_block_given : (z : ZoneState) (first order : ℕ) (p : IsolatedPage) → IsOwnCopy z p → IsOwnCopy (block_given z first order) p
 own_block_given z first order p own = record { own = own.own; same = own.same }
 
-pub own_marked : (z : ZoneState) (block : ℕ) (p : OnItsWay) → IsOwnCopy z p → IsOwnCopy (block_marked z block) p
+pub own_marked : (z : ZoneState) (block : ℕ) (p : IsolatedPage) → IsOwnCopy z p → IsOwnCopy (block_marked z block) p
 own_marked z block p own = record { own = own.own; same = own.same }
 
-pub own_unmarked : (z : ZoneState) (block : ℕ) (p : OnItsWay) → IsOwnCopy z p → IsOwnCopy (block_unmarked z block) p
+pub own_unmarked : (z : ZoneState) (block : ℕ) (p : IsolatedPage) → IsOwnCopy z p → IsOwnCopy (block_unmarked z block) p
 own_unmarked z block p own = record { own = own.own; same = own.same }
 
 -- a page that is nowhere or in a frame isn't a moving one
-apart_from : (z : ZoneState) (page : ℕ) (o : Option Placement) (p : OnItsWay) → map.get z.placement page ≡ o → is_under o p.serial ≡ false → is_own z p ≡ true → p.page.number ≢ page
+apart_from : (z : ZoneState) (page : ℕ) (o : Option Placement) (p : IsolatedPage) → map.get z.placement page ≡ o → is_under o p.serial ≡ false → is_own z p ≡ true → p.page.number ≢ page
 apart_from z page o p at off own same = both_ways _ (ap (λ x. is_under x p.serial) (ap (map.get z.placement) same ∙ at) ∙ off) (own_under z p own)
 
 -- two serials are of two pages
-serials_apart : (z : ZoneState) (p q : OnItsWay) → is_own z p ≡ true → is_own z q ≡ true → q.serial ≢ p.serial → p.page.number ≢ q.page.number
+serials_apart : (z : ZoneState) (p q : IsolatedPage) → is_own z p ≡ true → is_own z q ≡ true → q.serial ≢ p.serial → p.page.number ≢ q.page.number
 serials_apart z p q own_p own_q ne same = ne (one_serial _ q.serial p.serial (own_under z q own_q) (ap (λ n. is_under (map.get z.placement n) p.serial) (sym same) ∙ own_under z p own_p))
 
-pub own_shared : (z : ZoneState) (client : ℕ) (address alias : Address) (p : OnItsWay) → IsOwnCopy z p → IsOwnCopy (shared z client address alias) p
+pub own_shared : (z : ZoneState) (client : ℕ) (address alias : Address) (p : IsolatedPage) → IsOwnCopy z p → IsOwnCopy (shared z client address alias) p
 own_shared z client address alias p own = record { own = own.own; same = own.same }
 
-pub own_pinned : (z : ZoneState) (client : ℕ) (address : Address) (p : OnItsWay) → IsOwnCopy z p → IsOwnCopy (pinned z client address) p
+pub own_pinned : (z : ZoneState) (client : ℕ) (address : Address) (p : IsolatedPage) → IsOwnCopy z p → IsOwnCopy (pinned z client address) p
 own_pinned z client address p own = record { own = own.own; same = own.same }
 
-pub own_unpinned : (z : ZoneState) (client : ℕ) (address : Address) (p : OnItsWay) → IsOwnCopy z p → IsOwnCopy (unpinned z client address) p
+pub own_unpinned : (z : ZoneState) (client : ℕ) (address : Address) (p : IsolatedPage) → IsOwnCopy z p → IsOwnCopy (unpinned z client address) p
 own_unpinned z client address p own = record { own = own.own; same = own.same }
 
-pub own_unmapped : (z : ZoneState) (client : ℕ) (address : Address) (frame : ℕ) → placement_at z address ≡ Some (At frame) → (p : OnItsWay) → IsOwnCopy z p → IsOwnCopy (unmapped z client address) p
+pub own_unmapped : (z : ZoneState) (client : ℕ) (address : Address) (frame : ℕ) → placement_at z address ≡ Some (At frame) → (p : IsolatedPage) → IsOwnCopy z p → IsOwnCopy (unmapped z client address) p
 own_unmapped z client address frame at p own = by_last (is_last z address) where
   page : (q : ℕ) × (page_at z.records address ≡ Some q) × (map.get z.placement q ≡ Some (At frame))
   page = page_named z address (At frame) at
@@ -100,14 +100,14 @@ own_unmapped z client address frame at p own = by_last (is_last z address) where
   by_last true = own_kept z _ p refl refl (get_remove_other z.placement _ p.page.number (λ same. apart_from z page.0 _ p page.2 refl own.own (same ∙ named))) (λ w. refl) own
   by_last false = record { own = own.own; same = own.same }
 
-pub own_stored : (z : ZoneState) (client : ℕ) (address : Address) (word value frame : ℕ) → placement_at z address ≡ Some (At frame) → (p : OnItsWay) → IsOwnCopy z p → IsOwnCopy (stored z client address word value) p
+pub own_stored : (z : ZoneState) (client : ℕ) (address : Address) (word value frame : ℕ) → placement_at z address ≡ Some (At frame) → (p : IsolatedPage) → IsOwnCopy z p → IsOwnCopy (stored z client address word value) p
 own_stored z client address word value frame at p own =
     let page = page_named z address (At frame) at in
     let unnamed : names z.records address p.page.number ≡ false =
     ap (λ (o : Option ℕ). is_page o p.page.number) page.1 ∙ ne_eqb page.0 p.page.number (λ same. apart_from z page.0 _ p page.2 refl own.own (sym same)) in
     own_kept z (stored z client address word value) p refl refl refl (λ w. ap (λ b. if b && nat_eq word w then value else last z.records p.page.number w) unnamed) own
 
-pub own_placed : (z : ZoneState) (client : ℕ) (address : Address) (unmovable : Bool) (page frame : ℕ) → map.get z.placement page ≡ None → (p : OnItsWay) → IsOwnCopy z p → IsOwnCopy (placed z client address unmovable page frame) p
+pub own_placed : (z : ZoneState) (client : ℕ) (address : Address) (unmovable : Bool) (page frame : ℕ) → map.get z.placement page ≡ None → (p : IsolatedPage) → IsOwnCopy z p → IsOwnCopy (placed z client address unmovable page frame) p
 own_placed z client address unmovable page frame unused p own =
     let ne = apart_from z page _ p unused refl own.own in
     own_kept z (placed z client address unmovable page frame) p refl refl
@@ -116,7 +116,7 @@ own_placed z client address unmovable page frame unused p own =
     own
 
 -- a copy stays one of the zone when another page is isolated
-pub own_isolated : (z : ZoneState) (pair : Pair) (frame : ℕ) → map.get z.placement pair.page ≡ Some (At frame) → (p : OnItsWay) → IsOwnCopy z p → IsOwnCopy (isolated_next z pair) p
+pub own_isolated : (z : ZoneState) (pair : Pair) (frame : ℕ) → map.get z.placement pair.page ≡ Some (At frame) → (p : IsolatedPage) → IsOwnCopy z p → IsOwnCopy (isolated_next z pair) p
 own_isolated z pair frame at p own =
     own_kept z (isolated_next z pair) p refl refl
     (get_insert_other z.placement pair.page p.page.number _ (apart_from z pair.page _ p at refl own.own))
@@ -131,16 +131,16 @@ own_fresh z pair = record {
 }
 
 -- a copy stays one of the zone when another page's move ends
-own_ended : (z : ZoneState) (entry : Record) (q : OnItsWay) (frame : ℕ) (p : OnItsWay) → is_own z q ≡ true → q.serial ≢ p.serial → ((w : ℕ) → last (entry ∷ z.records) p.page.number w ≡ last z.records p.page.number w) → IsOwnCopy z p → IsOwnCopy (relocated z entry q.page.number (At frame)) p
+own_ended : (z : ZoneState) (entry : Record) (q : IsolatedPage) (frame : ℕ) (p : IsolatedPage) → is_own z q ≡ true → q.serial ≢ p.serial → ((w : ℕ) → last (entry ∷ z.records) p.page.number w ≡ last z.records p.page.number w) → IsOwnCopy z p → IsOwnCopy (relocated z entry q.page.number (At frame)) p
 own_ended z entry q frame p own_q ne words own =
     own_kept z (relocated z entry q.page.number (At frame)) p refl refl
     (get_insert_other z.placement q.page.number p.page.number (At frame) (serials_apart z p q own.own own_q ne))
     words own
 
-pub own_put_back : (z : ZoneState) (cause : Cause) (q p : OnItsWay) → is_own z q ≡ true → q.serial ≢ p.serial → IsOwnCopy z p → IsOwnCopy (put_back_to_source z q.serial q.page.number cause) p
+pub own_put_back : (z : ZoneState) (cause : Cause) (q p : IsolatedPage) → is_own z q ≡ true → q.serial ≢ p.serial → IsOwnCopy z p → IsOwnCopy (put_back_to_source z q.serial q.page.number cause) p
 own_put_back z cause q p own_q ne own = own_ended z (Back q.serial cause) q _ p own_q ne (λ w. refl) own
 
-pub own_committed : (z : ZoneState) (q p : OnItsWay) → is_own z q ≡ true → q.serial ≢ p.serial → IsOwnCopy z p → IsOwnCopy (committed z q.serial q.page.number) p
+pub own_committed : (z : ZoneState) (q p : IsolatedPage) → is_own z q ≡ true → q.serial ≢ p.serial → IsOwnCopy z p → IsOwnCopy (committed z q.serial q.page.number) p
 own_committed z q p own_q ne own = by_pins (nat_eq (pins z.records q.page.number) 0) where
   by_pins : (b : Bool) → IsOwnCopy (if b then moved_to_target z q.serial q.page.number else put_back_to_source z q.serial q.page.number Pinned) p
   by_pins true = own_ended z (Moved q.serial) q _ p own_q ne (λ w. refl) own

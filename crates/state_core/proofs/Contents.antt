@@ -6,7 +6,7 @@ use Rattle.std.proofs.lemmas.Bool.Decides.{eqb_tells}
 use Rattle.std.proofs.lemmas.List.{length-append, length-drop, length-take-le}
 use Rattle.std.proofs.lemmas.Option.{none-some, same_Some}
 use Rattle.state_core.specs.Contents.{contents_of, contents_written}
-use Rattle.state_core.specs.Lawful.{IsLawful}
+use Rattle.state_core.specs.Lawful.{IsValidZone}
 use Rattle.state_core.specs.Pairs.{HaveMet}
 use Rattle.state_core.specs.Swept.{IsSwept}
 use Rattle.state_core.specs.ZoneState.{ZoneState}
@@ -19,7 +19,7 @@ length_put_from words from values within =
     length-append (take from words ++ values) (drop (from + length values) words)
     ∙ omega (arith, length-append (take from words) values, length-take-le from words (omega arith), length-drop (from + length values) words)
 
-module _ (v : ZoneState) (law : IsLawful v) (first order : ℕ) (at : map.get v.handed_out first ≡ Some order) where
+module _ (v : ZoneState) (law : IsValidZone v) (first order : ℕ) (at : map.get v.handed_out first ≡ Some order) where
   -- a block that is handed out has its words
   pub has_contents : map.get v.contents first ≡ Some (contents_of v first)
   has_contents = by_entry (map.get v.contents first) (law.contents first ∙ ap (option_map (λ o. 2 ^ o * v.page_size)) at) where
@@ -52,7 +52,7 @@ module _ (v : ZoneState) (law : IsLawful v) (first order : ℕ) (at : map.get v.
       ways = λ page serial source target e. (let way = swept.ways page serial source target e in record { low = way.low; high = way.high; movable = way.movable });
     }
 
-    pub lawful_contents_written : IsLawful (contents_written v first from values)
+    pub lawful_contents_written : IsValidZone (contents_written v first from values)
     lawful_contents_written = record {
       size = law.size;
       places = law.places;

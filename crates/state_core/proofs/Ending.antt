@@ -16,7 +16,7 @@ use Rattle.journal_core.specs.History.{pins}
 use Rattle.journal_core.specs.Moves.{out, is_out, without, page_of, IsWellEnded}
 use Rattle.state_core.specs.declared.placement.Placement.{Placement}
 use Rattle.state_core.specs.declared.placement.Placement.TheVariants.{At, Moving}
-use Rattle.state_core.specs.Lawful.{IsLawful, is_under}
+use Rattle.state_core.specs.Lawful.{IsValidZone, is_under}
 use Rattle.state_core.specs.Carrying.{relocated}
 use Rattle.state_core.specs.Ending.{HasCause}
 use Rattle.state_core.specs.ZoneState.{ZoneState, frame_count, takes_up, is_free}
@@ -24,7 +24,7 @@ use Rattle.state_core.proofs.Facts.{not_none}
 use Rattle.state_core.proofs.Moving.{CanSettle, IsRecorded, moved_still, back_still}
 use Rattle.state_core.proofs.Places.{IsOutWith, free_old, free_left, free_same, free_count, ways_of}
 
-module _ (v : ZoneState) (page serial source target : ℕ) (law : IsLawful v) (at : map.get v.placement page ≡ Some (Moving serial source target)) where
+module _ (v : ZoneState) (page serial source target : ℕ) (law : IsValidZone v) (at : map.get v.placement page ≡ Some (Moving serial source target)) where
   abbrev way : Placement
   way = Moving serial source target
 

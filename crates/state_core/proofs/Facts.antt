@@ -14,7 +14,7 @@ use Rattle.state_core.specs.declared.error.ZoneError.TheVariants.{JournalFull}
 use Rattle.state_core.specs.declared.placement.Placement.{Placement}
 use Rattle.state_core.specs.declared.placement.Placement.TheVariants.{At, Moving}
 use Rattle.state_core.specs.Isolating.{isolate_refusal}
-use Rattle.state_core.specs.Lawful.{IsLawful}
+use Rattle.state_core.specs.Lawful.{IsValidZone}
 use Rattle.state_core.specs.ZoneState.{words_frame, ZoneState, frame_count, takes_up, has_room, placement_at}
 
 pub chosen : {A : Type 0} (n : ℕ) (x y : A) → (if nat_eq n n then x else y) ≡ x
@@ -56,11 +56,11 @@ pub takes_own : (placement : Placement) → takes_up (Some placement) (words_fra
 takes_own (At frame) = eq-eqb frame frame refl
 takes_own (Moving serial source target) = ap (λ b. b || nat_eq source target) (eq-eqb source source refl)
 
-pub frame_within : (v : ZoneState) → IsLawful v → (page : ℕ) (placement : Placement) → map.get v.placement page ≡ Some placement → words_frame placement < frame_count v
+pub frame_within : (v : ZoneState) → IsValidZone v → (page : ℕ) (placement : Placement) → map.get v.placement page ≡ Some placement → words_frame placement < frame_count v
 frame_within v law page placement e = law.within page (words_frame placement) (ap (λ (o : Option Placement). takes_up o (words_frame placement)) e ∙ takes_own placement)
 
 -- the frames with the words of two pages differ
-pub frames_differ : (v : ZoneState) → IsLawful v → (p q : ℕ) (a b : Placement) → map.get v.placement p ≡ Some a → map.get v.placement q ≡ Some b → q ≢ p → words_frame b ≢ words_frame a
+pub frames_differ : (v : ZoneState) → IsValidZone v → (p q : ℕ) (a b : Placement) → map.get v.placement p ≡ Some a → map.get v.placement q ≡ Some b → q ≢ p → words_frame b ≢ words_frame a
 frames_differ v law p q a b at_p at_q ne same =
     ne (law.apart q p (words_frame b)
     (ap (λ (o : Option Placement). takes_up o (words_frame b)) at_q ∙ takes_own b)

@@ -4,12 +4,12 @@ use Rattle.std.specs.FinMap.{get}
 use Rattle.std.proofs.lemmas.Bool.{both_ways, not-true, not-false, true_from_ne_false}
 use Rattle.frame_core.proofs.Searches.{lowest_some, lowest_before, no_lowest, count_all, count_some}
 use Rattle.frame_core.specs.Below.{count_below, count_from}
-use Rattle.state_core.specs.Lawful.{IsLawful}
+use Rattle.state_core.specs.Lawful.{IsValidZone}
 use Rattle.state_core.specs.ZoneState.{ZoneState, frame_count, is_free, lowest_free_frame, lowest_unused_page}
 use Rattle.state_core.proofs.Facts.{none_is, some_is}
 
 -- where a frame is free, a page number is unused
-pub unused_left : (v : ZoneState) → IsLawful v → IsSome (lowest_free_frame v) → lowest_unused_page v ≡ None → ⊥
+pub unused_left : (v : ZoneState) → IsValidZone v → IsSome (lowest_free_frame v) → lowest_unused_page v ≡ None → ⊥
 unused_left v law some none =
     let found = some_is (lowest_free_frame v) some in
     let free = lowest_some (is_free v) (frame_count v) found.0 found.1 in

@@ -18,7 +18,7 @@ use Rattle.journal_core.specs.Moves.{out}
 use Rattle.state_core.specs.declared.placement.Placement.TheVariants.{At}
 use Rattle.state_core.specs.Clear.{BlocksAreClear}
 use Rattle.state_core.specs.HandingOut.{has_block, is_run, lowest_run, block_taken, block_given}
-use Rattle.state_core.specs.Lawful.{IsLawful, IsBlock}
+use Rattle.state_core.specs.Lawful.{IsValidZone, IsBlock}
 use Rattle.state_core.specs.ZoneState.{ZoneState, frame_count, takes_up, covers, is_used, is_held, is_free, is_whole}
 use Rattle.state_core.proofs.Entries.{get_insert_same, get_insert_other, get_remove_same, get_remove_other}
 use Rattle.state_core.proofs.Facts.{page_named}
@@ -56,7 +56,7 @@ held_more {fewer} {more} {first} {order} one n h frame =
     ∙ ap (λ (o : Option ℕ). held_in fewer n frame || covers o first frame) one.here
 
 -- a frame of a block that is handed out is held
-pub held_of : (v : ZoneState) → IsLawful v → (first order frame : ℕ) → map.get v.handed_out first ≡ Some order → in_block first order frame ≡ true → is_held v frame ≡ true
+pub held_of : (v : ZoneState) → IsValidZone v → (first order frame : ℕ) → map.get v.handed_out first ≡ Some order → in_block first order frame ≡ true → is_held v frame ≡ true
 held_of v law first order frame at here =
     let within = (law.blocks first order at).within in
     some_at (λ q. covers (map.get v.handed_out q) q frame) (frame_count v) first
@@ -120,7 +120,7 @@ module _ (v : ZoneState) (first order : ℕ) (run : is_run v order first ≡ tru
         (λ i. one_if (free_taken_out frame there i) + one_if ((held_taken frame ∙ ap (λ b. is_held v frame || b) there ∙ or-false (is_held v frame)) i))
   ]
 
-  module _ (law : IsLawful v) (spare : length (out v.records) < v.room) (low : 3 ≤ order) (high : order ≤ 9) where
+  module _ (law : IsValidZone v) (spare : length (out v.records) < v.room) (low : 3 ≤ order) (high : order ≤ 9) where
     clear_taken : (page frame : ℕ) → takes_up (map.get v.placement page) frame ≡ true → is_held taken frame ≡ false
     clear_taken page frame e = held_taken frame ∙ or_from (is_held v frame) _ (law.clear page frame e)
         (false_from_ne_true _ (λ here. both_ways _ (untaken v law frame (block_free frame here) page) e))
@@ -170,7 +170,7 @@ module _ (v : ZoneState) (first order : ℕ) (run : is_run v order first ≡ tru
           ∙ sym (ap (option_map (λ o. 2 ^ o * v.page_size)) (get_insert_other v.handed_out first f order other.1)))
     ]
 
-    pub lawful_block_taken : IsLawful (block_taken v first order)
+    pub lawful_block_taken : IsValidZone (block_taken v first order)
     lawful_block_taken = record {
       size = law.size;
       places = (let before = law.places in omega arith);
@@ -199,7 +199,7 @@ module _ (v : ZoneState) (first order : ℕ) (run : is_run v order first ≡ tru
     }
 
 -- what is known of a block that is handed out before and after it is taken back
-module _ (v : ZoneState) (law : IsLawful v) (first order : ℕ) (at : map.get v.handed_out first ≡ Some order) where
+module _ (v : ZoneState) (law : IsValidZone v) (first order : ℕ) (at : map.get v.handed_out first ≡ Some order) where
   abbrev given : ZoneState
   given = block_given v first order
 
@@ -282,7 +282,7 @@ module _ (v : ZoneState) (law : IsLawful v) (first order : ℕ) (at : map.get v.
         ∙ sym (ap (option_map (λ o. 2 ^ o * v.page_size)) (get_remove_other v.handed_out first f other.1)))
   ]
 
-  pub lawful_block_given : length (out v.records) < v.room → IsLawful (block_given v first order)
+  pub lawful_block_given : length (out v.records) < v.room → IsValidZone (block_given v first order)
   lawful_block_given spare = record {
     size = law.size;
     places = (let before = law.places in omega arith);
@@ -311,7 +311,7 @@ module _ (v : ZoneState) (law : IsLawful v) (first order : ℕ) (at : map.get v.
   }
 
 -- each block that is handed out is clear
-pub blocks_are_clear : (v : ZoneState) → IsLawful v → BlocksAreClear v
+pub blocks_are_clear : (v : ZoneState) → IsValidZone v → BlocksAreClear v
 blocks_are_clear v law first order at = record {
   unnamed = λ address frame low high named.
       (let page = page_named v address (At frame) named in

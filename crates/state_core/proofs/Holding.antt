@@ -8,7 +8,7 @@ use Rattle.journal_core.proofs.OnTheWay.{out_empty}
 use Rattle.journal_core.specs.Moves.{out}
 use Rattle.state_core.specs.declared.placement.Placement.{Placement}
 use Rattle.state_core.specs.declared.placement.Placement.TheVariants.{At, Moving}
-use Rattle.state_core.specs.Lawful.{IsLawful, is_under}
+use Rattle.state_core.specs.Lawful.{IsValidZone, is_under}
 use Rattle.state_core.specs.Pairs.{stands_in, holder}
 use Rattle.state_core.specs.ZoneState.{ZoneState, frame_count, takes_up}
 use Rattle.state_core.proofs.Facts.{not_none}
@@ -22,7 +22,7 @@ stands_at (Some (Moving serial source target)) frame e = cc
 pub at_takes : (o : Option Placement) (frame : ℕ) → o ≡ Some (At frame) → takes_up o frame ≡ true
 at_takes o frame e = ap (λ (p : Option Placement). takes_up p frame) e ∙ eq-eqb frame frame refl
 
-pub holder_at : (v : ZoneState) → IsLawful v → (page frame : ℕ) → map.get v.placement page ≡ Some (At frame) →
+pub holder_at : (v : ZoneState) → IsValidZone v → (page frame : ℕ) → map.get v.placement page ≡ Some (At frame) →
     holder v frame ≡ Some page
 holder_at v law page frame at =
     lowest_is (λ q. stands_in (map.get v.placement q) frame) (frame_count v) page
@@ -41,7 +41,7 @@ holder_none v frame none = lowest_none (λ q. stands_in (map.get v.placement q) 
     (λ q h. when_not _ (λ stands. none q (stands_at _ frame stands)))
 
 -- where no page is out, no page is moving
-pub at_rest : (v : ZoneState) → IsLawful v → length (out v.records) ≡ 0 → (page serial source target : ℕ) → map.get v.placement page ≡ Some (Moving serial source target) → ⊥
+pub at_rest : (v : ZoneState) → IsValidZone v → length (out v.records) ≡ 0 → (page serial source target : ℕ) → map.get v.placement page ≡ Some (Moving serial source target) → ⊥
 at_rest v law none page serial source target at =
     let known = (law.under_way page serial).0 (ap (λ (o : Option Placement). is_under o serial) at ∙ eq-eqb serial serial refl) in
     both_ways _ (out_empty v.records none serial) known.0

@@ -12,7 +12,7 @@ use Rattle.journal_core.specs.Moves.{isolated, out, is_out, page_of}
 use Rattle.state_core.specs.declared.round.Pair.{Pair}
 use Rattle.state_core.specs.declared.placement.Placement.{Placement}
 use Rattle.state_core.specs.declared.placement.Placement.TheVariants.{At, Moving}
-use Rattle.state_core.specs.Lawful.{IsLawful, is_under}
+use Rattle.state_core.specs.Lawful.{IsValidZone, is_under}
 use Rattle.state_core.specs.Carrying.{relocated}
 use Rattle.state_core.specs.Pairs.{IsPair}
 use Rattle.state_core.specs.ZoneState.{ZoneState, frame_count, is_free}
@@ -20,7 +20,7 @@ use Rattle.state_core.proofs.Facts.{not_none}
 use Rattle.state_core.proofs.Moving.{CanSettle, IsRecorded, isolate_still}
 use Rattle.state_core.proofs.Places.{IsOutWith, free_new, free_same, free_count, ways_of}
 
-module _ (v : ZoneState) (pair : Pair) (law : IsLawful v) (is : IsPair v pair.page pair.source pair.target) where
+module _ (v : ZoneState) (pair : Pair) (law : IsValidZone v) (is : IsPair v pair.page pair.source pair.target) where
   abbrev serial_next : ℕ
   serial_next = isolated v.records
 

@@ -12,7 +12,7 @@ use Rattle.journal_core.specs.declared.record.Record.TheVariants.{Map}
 use Rattle.journal_core.specs.History.{same_address, page_at, is_page, names, maps, pins}
 use Rattle.journal_core.specs.Moves.{out}
 use Rattle.state_core.specs.declared.placement.Placement.TheVariants.{At}
-use Rattle.state_core.specs.Lawful.{IsLawful, is_under}
+use Rattle.state_core.specs.Lawful.{IsValidZone, is_under}
 use Rattle.state_core.specs.Mapping.{placed}
 use Rattle.state_core.specs.ZoneState.{ZoneState, frame_count, takes_up, is_held, is_free}
 use Rattle.state_core.proofs.Entries.{contains_insert_other}
@@ -22,7 +22,7 @@ use Rattle.state_core.proofs.Places.{CanChangePlace, IsTold, put, page_count, la
 
 -- what has to hold so that a fresh page can be placed
 pub record CanPlace (v : ZoneState) (address : Address) (page frame : ℕ) : Type 0 where
-  pub lawful : IsLawful v
+  pub lawful : IsValidZone v
   pub spare : length (out v.records) < v.room
   pub range : InRange address
   pub vacant : page_at v.records address ≡ None
@@ -159,5 +159,5 @@ module _ (v : ZoneState) (client : ℕ) (address : Address) (unmovable : Bool) (
         stay = stay unmovable;
       }
 
-  pub placed_lawful : IsLawful next
+  pub placed_lawful : IsValidZone next
   placed_lawful = lawful_told can_map (Map client address page) _ map_told v.migrate v.free can.lawful.fingers (swept_ended v next (Map client address page) can.lawful refl refl refl)

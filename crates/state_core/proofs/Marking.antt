@@ -6,13 +6,13 @@ use Rattle.std.proofs.lemmas.Bool.Decides.{eqb_tells}
 use Rattle.journal_core.specs.declared.record.Record.TheVariants.{Mark, Unmark}
 use Rattle.journal_core.specs.Blocks.{is_marked_by}
 use Rattle.journal_core.specs.Moves.{out}
-use Rattle.state_core.specs.Lawful.{IsLawful}
+use Rattle.state_core.specs.Lawful.{IsValidZone}
 use Rattle.state_core.specs.Marking.{block_marked, block_unmarked}
 use Rattle.state_core.specs.ZoneState.{ZoneState}
 use Rattle.state_core.proofs.Entries.{contains_insert_same, contains_insert_other, contains_remove_same, contains_remove_other}
 use Rattle.state_core.proofs.Quiet.{begun_more, swept_ended}
 
-module _ (v : ZoneState) (law : IsLawful v) (spare : length (out v.records) < v.room) (block : ℕ) where
+module _ (v : ZoneState) (law : IsValidZone v) (spare : length (out v.records) < v.room) (block : ℕ) where
   marks_more : (b : ℕ) → set.contains (set.insert v.marked block) b ≡ is_marked_by (Mark block ∷ v.records) b
   marks_more b = elim (eqb_tells b block) [
     | inl same ↦ contains_insert_same v.marked block b same.1 ∙ sym (cond-true (nat_eq block b) true (is_marked_by v.records b) (eq-eqb block b (sym same.1)))
@@ -25,7 +25,7 @@ module _ (v : ZoneState) (law : IsLawful v) (spare : length (out v.records) < v.
     | inr other ↦ contains_remove_other v.marked block b other.1 ∙ law.marks b ∙ sym (cond-false (nat_eq block b) false (is_marked_by v.records b) (ne_eqb block b (λ e. other.1 (sym e))))
   ]
 
-  pub lawful_marked : IsLawful (block_marked v block)
+  pub lawful_marked : IsValidZone (block_marked v block)
   lawful_marked = record {
     size = law.size;
     places = (let before = law.places in omega arith);
@@ -53,7 +53,7 @@ module _ (v : ZoneState) (law : IsLawful v) (spare : length (out v.records) < v.
     sum = law.sum;
   }
 
-  pub lawful_unmarked : IsLawful (block_unmarked v block)
+  pub lawful_unmarked : IsValidZone (block_unmarked v block)
   lawful_unmarked = record {
     size = law.size;
     places = (let before = law.places in omega arith);

@@ -11,7 +11,7 @@ use Rattle.journal_core.specs.History.{page_at, last, dirty, pins, maps}
 use Rattle.journal_core.specs.Moves.{isolated, out, IsWellEnded}
 use Rattle.journal_core.specs.Truth.{IsTruthful}
 use Rattle.state_core.specs.declared.placement.Placement.{Placement}
-use Rattle.state_core.specs.Lawful.{IsLawful, is_under}
+use Rattle.state_core.specs.Lawful.{IsValidZone, is_under}
 use Rattle.state_core.specs.Carrying.{relocated}
 use Rattle.state_core.specs.Swept.{SweptIfQuiet}
 use Rattle.state_core.specs.ZoneState.{ZoneState, frame_count}
@@ -59,7 +59,7 @@ module _ {v : ZoneState} {page : ℕ} {old new : Placement} (can : CanSettle v p
   pub same_pages : count_below (λ q. is_some (map.get (map.insert v.placement page new) q)) (frame_count v) ≡ count_below (λ q. is_some (map.get v.placement q)) (frame_count v)
   same_pages = omega (arith, page_count can)
 
-  pub lawful_settled : (entry : Record) → IsRecorded v entry page new → (migrate free : ℕ) → (migrate ≤ free) × (free ≤ frame_count v) → SweptIfQuiet (record (relocated v entry page new) { migrate = migrate; free = free }) → IsLawful (record (relocated v entry page new) { migrate = migrate; free = free })
+  pub lawful_settled : (entry : Record) → IsRecorded v entry page new → (migrate free : ℕ) → (migrate ≤ free) × (free ≤ frame_count v) → SweptIfQuiet (record (relocated v entry page new) { migrate = migrate; free = free }) → IsValidZone (record (relocated v entry page new) { migrate = migrate; free = free })
   lawful_settled entry recorded =
       let law = can.lawful in
       let still = recorded.still in

@@ -9,7 +9,7 @@ use Rattle.journal_core.specs.Blocks.{handed_out_by, is_marked_by}
 use Rattle.journal_core.specs.History.{page_at, maps, pins}
 use Rattle.journal_core.specs.Moves.{isolated, out, IsWellEnded}
 use Rattle.journal_core.specs.Truth.{IsTruthful}
-use Rattle.state_core.specs.Lawful.{IsLawful}
+use Rattle.state_core.specs.Lawful.{IsValidZone}
 use Rattle.state_core.specs.Swept.{SweptIfQuiet}
 use Rattle.state_core.specs.ZoneState.{ZoneState, noted}
 use Rattle.state_core.proofs.Places.{IsOutWith}
@@ -28,7 +28,7 @@ pub record IsNoted (v : ZoneState) (entry : Record) : Type 0 where
   pub marks : (block : ℕ) → is_marked_by (entry ∷ v.records) block ≡ is_marked_by v.records block
   pub swept : SweptIfQuiet (noted v entry)
 
-pub lawful_noted : (v : ZoneState) → IsLawful v → (entry : Record) → length (out v.records) < v.room → IsNoted v entry → IsLawful (noted v entry)
+pub lawful_noted : (v : ZoneState) → IsValidZone v → (entry : Record) → length (out v.records) < v.room → IsNoted v entry → IsValidZone (noted v entry)
 lawful_noted v law entry spare told =
     let same : length (out (entry ∷ v.records)) ≡ length (out v.records) = λ i. length (told.out i) in
     record {

@@ -9,7 +9,7 @@ use Rattle.frame_core.specs.Below.{count_below}
 use Rattle.journal_core.specs.Moves.{out}
 use Rattle.state_core.specs.declared.placement.Placement.{Placement}
 use Rattle.state_core.specs.declared.placement.Placement.TheVariants.{At, Moving}
-use Rattle.state_core.specs.Lawful.{IsLawful}
+use Rattle.state_core.specs.Lawful.{IsValidZone}
 use Rattle.state_core.specs.Packed.{IsPacked, is_unmarked, place_of, unmarked_free}
 use Rattle.state_core.specs.Pairs.{IsSource, HaveMet, is_marked, next_source, next_target}
 use Rattle.state_core.specs.Swept.{IsSwept}
@@ -104,7 +104,7 @@ takes_at None frame rest e = cc
 takes_at (Some (At f)) frame rest e = ap (λ (g : ℕ). Some (At g)) (sym (eqb-true frame f e))
 takes_at (Some (Moving serial source target)) frame rest e = absurd (rest serial source target refl)
 
-module _ (v : ZoneState) (law : IsLawful v) (swept : IsSwept v) (none : length (out v.records) ≡ 0) where
+module _ (v : ZoneState) (law : IsValidZone v) (swept : IsSwept v) (none : length (out v.records) ≡ 0) where
   full : (page frame : ℕ) → map.get v.placement page ≡ Some (At frame) → is_free v frame ≡ false
   full page frame at = false_from_ne_true _ (λ free. both_ways _ (untaken v law frame free page) (at_takes _ frame at))
 
@@ -165,5 +165,5 @@ module _ (v : ZoneState) (law : IsLawful v) (swept : IsSwept v) (none : length (
     packed = let parted = by_source (next_source v) refl in packed_parted v parted.0 parted.1
 
 -- a quiet zone with no page out and no pair is packed
-pub packed_quiet : (v : ZoneState) → IsLawful v → is_quiet v ≡ true → length (out v.records) ≡ 0 → HaveMet v → IsPacked v
+pub packed_quiet : (v : ZoneState) → IsValidZone v → is_quiet v ≡ true → length (out v.records) ≡ 0 → HaveMet v → IsPacked v
 packed_quiet v law quiet = packed v law (law.swept quiet)

@@ -5,7 +5,7 @@ use Rattle.std.proofs.lemmas.Bool.Decides.{leb_tells}
 use Rattle.std.proofs.lemmas.Option.{same_Some, none-some}
 use Rattle.frame_core.proofs.Searches.{lowest_is, lowest_some, lowest_before}
 use Rattle.state_core.specs.declared.round.Pair.{Pair}
-use Rattle.state_core.specs.Lawful.{IsLawful}
+use Rattle.state_core.specs.Lawful.{IsValidZone}
 use Rattle.state_core.specs.Pairs.{IsSource, IsTarget, IsPair, HaveMet, is_marked, can_move, can_move_if_some, holder, holds_movable, is_free_unmarked, next_source, next_target, pair_from, pair_at, next_pair}
 use Rattle.state_core.specs.ZoneState.{ZoneState, frame_count, is_free}
 use Rattle.state_core.proofs.Highest.{highest_is, highest_some, highest_above}
@@ -24,7 +24,7 @@ is_from v frame = nat_le v.migrate frame && holds_movable v frame
 abbrev pub is_to : ZoneState → ℕ → ℕ → Bool
 is_to v source frame = nat_lt source frame && is_free_unmarked v frame
 
-module _ (v : ZoneState) (law : IsLawful v) where
+module _ (v : ZoneState) (law : IsValidZone v) where
   pub source_passes : (page frame : ℕ) → IsSource v page frame → is_from v frame ≡ true
   source_passes page frame is =
       let holds = holder_at v law page frame is.here in
@@ -105,7 +105,7 @@ module _ (v : ZoneState) (law : IsLawful v) where
         ];
       }
 
-pub pair_found : (v : ZoneState) → IsLawful v → (pair : Pair) → next_pair v ≡ Some pair → IsPair v pair.page pair.source pair.target
+pub pair_found : (v : ZoneState) → IsValidZone v → (pair : Pair) → next_pair v ≡ Some pair → IsPair v pair.page pair.source pair.target
 pair_found v law pair e = by_source (next_source v) refl e where
   by_parts : (source : ℕ) (p t : Option ℕ) → next_source v ≡ Some source → holder v source ≡ p → next_target v source ≡ t → pair_from source p t ≡ Some pair → IsPair v pair.page pair.source pair.target
   by_parts source None t from holds to e = cc
@@ -117,11 +117,11 @@ pair_found v law pair e = by_source (next_source v) refl e where
   by_source (Some source) from e = by_parts source (holder v source) (next_target v source) from refl refl e
 
 -- where the search finds no pair there is none
-pub no_pair : (v : ZoneState) → IsLawful v → next_pair v ≡ None → HaveMet v
+pub no_pair : (v : ZoneState) → IsValidZone v → next_pair v ≡ None → HaveMet v
 no_pair v law none page source target pair = none-some _ (sym none ∙ pair_is v law page source target pair)
 
 -- the same, for a search whose result has a name
-pub none_found : (v : ZoneState) → IsLawful v → (o : Option Pair) → o ≡ None → next_pair v ≡ None →
+pub none_found : (v : ZoneState) → IsValidZone v → (o : Option Pair) → o ≡ None → next_pair v ≡ None →
     IfNone o (HaveMet v)
 none_found v law None e none = no_pair v law none
 none_found v law (Some pair) e none = cc
@@ -139,7 +139,7 @@ pub no_page_pair : (v : ZoneState) (source : ℕ) → next_source v ≡ Some sou
 no_page_pair v source from none = ap (pair_at v) from ∙ ap (λ (o : Option ℕ). pair_from source o (next_target v source)) none
 
 -- a source that is found is in the zone
-pub source_within : (v : ZoneState) → IsLawful v → (source : ℕ) → next_source v ≡ Some source → source < frame_count v
+pub source_within : (v : ZoneState) → IsValidZone v → (source : ℕ) → next_source v ≡ Some source → source < frame_count v
 source_within v law source from =
     let found = lowest_some (is_from v) v.free source from in
     omega (arith, found.0, law.fingers.1)

@@ -7,7 +7,7 @@ use Rattle.frame_core.specs.declared.place.Address.{Address}
 use Rattle.journal_core.specs.declared.record.Record.TheVariants.{Pin, Unpin}
 use Rattle.journal_core.specs.History.{page_at, is_page, pins}
 use Rattle.journal_core.specs.Moves.{out}
-use Rattle.state_core.specs.Lawful.{IsLawful}
+use Rattle.state_core.specs.Lawful.{IsValidZone}
 use Rattle.state_core.specs.Pinning.{pinned, unpinned}
 use Rattle.state_core.specs.ZoneState.{ZoneState}
 use Rattle.state_core.proofs.Noted.{lawful_noted}
@@ -32,8 +32,8 @@ module _ (v : ZoneState) (client : ℕ) (address : Address) (page : ℕ) (named 
   pub unpinned_others : (q : ℕ) → q ≢ page → pins (unpinned v client address).records q ≡ pins v.records q
   unpinned_others q ne = omega (arith, named_none q ne)
 
-  module _ (law : IsLawful v) (spare : length (out v.records) < v.room) where
-    pub lawful_pinned : pins v.records page < 255 → IsLawful (pinned v client address)
+  module _ (law : IsValidZone v) (spare : length (out v.records) < v.room) where
+    pub lawful_pinned : pins v.records page < 255 → IsValidZone (pinned v client address)
     lawful_pinned few = lawful_noted v law (Pin client address) spare (record {
       truthful = law.truthful;
       well_ended = law.well_ended;
@@ -52,7 +52,7 @@ module _ (v : ZoneState) (client : ℕ) (address : Address) (page : ℕ) (named 
       swept = swept_ended v (pinned v client address) (Pin client address) law refl refl refl;
     })
 
-    pub lawful_unpinned : IsLawful (unpinned v client address)
+    pub lawful_unpinned : IsValidZone (unpinned v client address)
     lawful_unpinned = lawful_noted v law (Unpin client address) spare (record {
       truthful = law.truthful;
       well_ended = law.well_ended;

@@ -10,7 +10,7 @@ use Rattle.frame_core.specs.Below.{one_if, count_below, count_from, some_below}
 use Rattle.journal_core.specs.Moves.{out}
 use Rattle.state_core.specs.declared.placement.Placement.{Placement}
 use Rattle.state_core.specs.declared.placement.Placement.TheVariants.{At, Moving}
-use Rattle.state_core.specs.Lawful.{IsLawful}
+use Rattle.state_core.specs.Lawful.{IsValidZone}
 use Rattle.state_core.specs.Packed.{IsPacked, IsPlacement, is_place, frame_of, places_now, is_left_free, is_unmarked, unmarked_free, whole_runs, free_runs, left_whole, left_runs}
 use Rattle.state_core.specs.Pairs.{is_marked}
 use Rattle.state_core.specs.ZoneState.{ZoneState, frame_count, takes_up, is_used, is_held, is_free, is_whole}
@@ -127,7 +127,7 @@ if_left : (m a b : Bool) → (m ≡ true → a ≡ b) → (m && a) ≡ (m && b)
 if_left true a b same = same refl
 if_left false a b same = refl
 
-module _ (v : ZoneState) (law : IsLawful v) (none : length (out v.records) ≡ 0) (place : ℕ → Option ℕ) (placed : IsPlacement v place) where
+module _ (v : ZoneState) (law : IsValidZone v) (none : length (out v.records) ≡ 0) (place : ℕ → Option ℕ) (placed : IsPlacement v place) where
   abbrev now : ℕ → Option ℕ
   now = places_now v
 
@@ -214,7 +214,7 @@ frame_some None rest = refl
 frame_some (Some (At f)) rest = refl
 frame_some (Some (Moving serial source target)) rest = absurd (rest serial source target refl)
 
-pub placed_now : (v : ZoneState) → IsLawful v → length (out v.records) ≡ 0 → IsPlacement v (places_now v)
+pub placed_now : (v : ZoneState) → IsValidZone v → length (out v.records) ≡ 0 → IsPlacement v (places_now v)
 placed_now v law none = record {
   same_pages = λ page. frame_some (map.get v.placement page) (at_rest v law none page);
   within = λ page frame e. law.within page frame (frame_is _ frame e);

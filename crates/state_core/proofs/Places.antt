@@ -17,7 +17,7 @@ use Rattle.journal_core.specs.Moves.{isolated, out, is_out, page_of, IsWellEnded
 use Rattle.journal_core.specs.Truth.{IsTruthful}
 use Rattle.state_core.specs.declared.placement.Placement.{Placement}
 use Rattle.state_core.specs.declared.placement.Placement.TheVariants.{At, Moving}
-use Rattle.state_core.specs.Lawful.{IsLawful, is_under}
+use Rattle.state_core.specs.Lawful.{IsValidZone, is_under}
 use Rattle.state_core.specs.Swept.{SweptIfQuiet}
 use Rattle.state_core.specs.ZoneState.{ZoneState, frame_count, takes_up, is_used, is_held, is_free, noted}
 use Rattle.state_core.proofs.Entries.{get_insert_same, get_insert_other, get_remove_same, get_remove_other}
@@ -49,7 +49,7 @@ IsOutWith records page serial = IsTrue (is_out records serial) × (page_of recor
 
 -- what has to hold so that the place of a page may change: each frame that it takes up then is one that it took up, or one that is free
 pub record CanChangePlace (v : ZoneState) (page : ℕ) (old new : Option Placement) : Type 0 where
-  pub lawful : IsLawful v
+  pub lawful : IsValidZone v
   pub at : map.get v.placement page ≡ old
   pub numbered : page < frame_count v
   pub takes : (frame : ℕ) → takes_up new frame ≡ true → (takes_up old frame ≡ true) ⊎ ((is_free v frame ≡ true) × (frame < frame_count v))
@@ -75,7 +75,7 @@ pub unheld_frame : (v : ZoneState) (frame : ℕ) → is_free v frame ≡ true �
 unheld_frame v frame free = not-true _ (and_parts (not (is_used v frame)) _ free).1
 
 -- no page takes up a free frame
-pub untaken : (v : ZoneState) → IsLawful v → (frame : ℕ) → is_free v frame ≡ true → (page : ℕ) → takes_up (map.get v.placement page) frame ≡ false
+pub untaken : (v : ZoneState) → IsValidZone v → (frame : ℕ) → is_free v frame ≡ true → (page : ℕ) → takes_up (map.get v.placement page) frame ≡ false
 untaken v law frame free page = by_use (map.get v.placement page) refl where
   by_use : (o : Option Placement) → map.get v.placement page ≡ o → takes_up (map.get v.placement page) frame ≡ false
   by_use None e = ap (λ (o : Option Placement). takes_up o frame) e
@@ -255,7 +255,7 @@ module _ {v : ZoneState} {page : ℕ} {old new : Option Placement} (can : CanCha
     | inr there ↦ ap (λ o. is_under o serial) there.1 ∙ (can.lawful.under_way q serial).1 ((told.other_ways q serial there.0).1 way)
   ]
 
-  pub lawful_told : (migrate free : ℕ) → (migrate ≤ free) × (free ≤ frame_count v) → SweptIfQuiet (record (noted (with_place v page new) entry) { unmovable = unmovable; migrate = migrate; free = free }) → IsLawful (record (noted (with_place v page new) entry) { unmovable = unmovable; migrate = migrate; free = free })
+  pub lawful_told : (migrate free : ℕ) → (migrate ≤ free) × (free ≤ frame_count v) → SweptIfQuiet (record (noted (with_place v page new) entry) { unmovable = unmovable; migrate = migrate; free = free }) → IsValidZone (record (noted (with_place v page new) entry) { unmovable = unmovable; migrate = migrate; free = free })
   lawful_told migrate free fingers swept =
       let law = can.lawful in
       let geometry = lawful_places can in

@@ -5,7 +5,7 @@ use Rattle.std.proofs.Math.Bool.{and-true}
 use Rattle.std.proofs.lemmas.Bool.{and_right, both_ways, cases_Bool}
 use Rattle.journal_core.specs.declared.record.Record.{Record}
 use Rattle.state_core.specs.declared.round.RoundStart.{RoundStart}
-use Rattle.state_core.specs.Lawful.{IsLawful}
+use Rattle.state_core.specs.Lawful.{IsValidZone}
 use Rattle.state_core.specs.Pairs.{is_calm}
 use Rattle.state_core.specs.Rounds.{round_begun}
 use Rattle.state_core.specs.Swept.{SweptIfQuiet}
@@ -50,11 +50,11 @@ pub quiet_is_calm : (v : ZoneState) → is_quiet (round_begun v) ≡ is_calm v
 quiet_is_calm v = sym (quiet_begun v.records (record { records = length v.records; calm = is_calm v }) refl)
 
 -- the records of a load, a store, an isolation and a move leave a quiet round quiet, and each other record ends that
-pub quiet_noted : (v : ZoneState) → IsLawful v → (entry : Record) → is_quiet (noted v entry) ≡ (is_quiet v && keeps_quiet entry)
+pub quiet_noted : (v : ZoneState) → IsValidZone v → (entry : Record) → is_quiet (noted v entry) ≡ (is_quiet v && keeps_quiet entry)
 quiet_noted v law entry = quiet_next v.records entry v.round law.begun
 
 -- a call whose record ends the quiet does so whatever else it changes
-module _ (v next : ZoneState) (entry : Record) (law : IsLawful v) where
+module _ (v next : ZoneState) (entry : Record) (law : IsValidZone v) where
   pub quiet_stops : keeps_quiet entry ≡ false → next.records ≡ entry ∷ v.records → next.round ≡ v.round → is_quiet next ≡ false
   quiet_stops ends records round = (λ i. is_quiet_since (records i) (round i)) ∙ quiet_ended v.records entry v.round ends law.begun
 
@@ -62,5 +62,5 @@ module _ (v next : ZoneState) (entry : Record) (law : IsLawful v) where
   swept_ended ends records round quiet = absurd (both_ways _ (quiet_stops ends records round) quiet)
 
 -- a round that is quiet after such a record was quiet before
-pub quiet_before : (v : ZoneState) (entry : Record) → IsLawful v → keeps_quiet entry ≡ true → is_quiet_since (entry ∷ v.records) v.round ≡ true → is_quiet v ≡ true
+pub quiet_before : (v : ZoneState) (entry : Record) → IsValidZone v → keeps_quiet entry ≡ true → is_quiet_since (entry ∷ v.records) v.round ≡ true → is_quiet v ≡ true
 quiet_before v entry law keeps quiet = sym (quiet_kept v.records entry v.round keeps law.begun) ∙ quiet

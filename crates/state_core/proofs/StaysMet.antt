@@ -11,7 +11,7 @@ use Rattle.state_core.specs.declared.placement.Placement.TheVariants.{At, Moving
 use Rattle.state_core.specs.Access.{loaded, stored}
 use Rattle.state_core.specs.Carrying.{relocated}
 use Rattle.state_core.specs.Ending.{moved_to_target, target_of}
-use Rattle.state_core.specs.Lawful.{IsLawful}
+use Rattle.state_core.specs.Lawful.{IsValidZone}
 use Rattle.state_core.specs.Pairs.{IsSource, IsTarget, HaveMet}
 use Rattle.state_core.specs.Swept.{IsSwept}
 use Rattle.state_core.specs.ZoneState.{ZoneState, is_free, is_quiet}
@@ -35,7 +35,7 @@ met_stored v client address word value met page from to is = met page from to (r
 })
 
 -- a page whose move ends leaves sources and targets as they were: both its frames are outside the fingers
-module _ (v : ZoneState) (page serial source target : ℕ) (law : IsLawful v) (swept : IsSwept v) (at : map.get v.placement page ≡ Some (Moving serial source target)) where
+module _ (v : ZoneState) (page serial source target : ℕ) (law : IsValidZone v) (swept : IsSwept v) (at : map.get v.placement page ≡ Some (Moving serial source target)) where
   abbrev there : ZoneState
   there = relocated v (Moved serial) page (At target)
 
@@ -77,6 +77,6 @@ module _ (v : ZoneState) (page serial source target : ℕ) (law : IsLawful v) (s
   met_moved met = subst (λ (o : Option Placement). HaveMet (relocated v (Moved serial) page (At (target_of o)))) (sym at) (met_arrived met)
 
 -- in a quiet round a moving page has no pin
-pub never_pinned : (v : ZoneState) (page serial source target : ℕ) → IsLawful v → map.get v.placement page ≡ Some (Moving serial source target) → is_quiet v ≡ true → not (nat_eq (pins v.records page) 0) ≡ true → ⊥
+pub never_pinned : (v : ZoneState) (page serial source target : ℕ) → IsValidZone v → map.get v.placement page ≡ Some (Moving serial source target) → is_quiet v ≡ true → not (nat_eq (pins v.records page) 0) ≡ true → ⊥
 never_pinned v page serial source target law at quiet pinned =
     both_ways _ (ap not (eq-eqb (pins v.records page) 0 (no_pin v page serial source target law (law.swept quiet) at))) pinned

@@ -18,7 +18,7 @@ use Rattle.state_core.specs.declared.round.RoundStart.{RoundStart}
 use Rattle.state_core.specs.Access.{loaded, stored}
 use Rattle.state_core.specs.Carrying.{relocated}
 use Rattle.state_core.specs.Isolating.{isolated_next}
-use Rattle.state_core.specs.Lawful.{IsLawful}
+use Rattle.state_core.specs.Lawful.{IsValidZone}
 use Rattle.state_core.specs.Pairs.{IsPair, is_marked, can_move, holder, stays_if_some, is_stuck, is_calm}
 use Rattle.state_core.specs.Swept.{IsSwept}
 use Rattle.state_core.specs.ZoneState.{ZoneState, frame_count, is_free, is_held, noted}
@@ -38,7 +38,7 @@ unstuck true held stays e f = cc
 unstuck false true stays e f = cc
 unstuck false false stays e f = (refl, f)
 
-module _ (v : ZoneState) (law : IsLawful v) (calm : is_calm v ≡ true) where
+module _ (v : ZoneState) (law : IsValidZone v) (calm : is_calm v ≡ true) where
   halves : (nat_eq (length (out v.records)) 0 ≡ true) × (not (some_below (is_stuck v) (frame_count v)) ≡ true)
   halves = and_parts (nat_eq (length (out v.records)) 0) (not (some_below (is_stuck v) (frame_count v))) calm
 
@@ -87,7 +87,7 @@ on_its_way_not_at serial s t frame e = cc
 two_ways : (a s t b source target : ℕ) → Some (Moving a s t) ≡ Some (Moving b source target) → (s ≡ source) × (t ≡ target)
 two_ways a s t b source target e = (cc, cc)
 
-module _ (v : ZoneState) (pair : Pair) (law : IsLawful v) (swept : IsSwept v) (is : IsPair v pair.page pair.source pair.target) where
+module _ (v : ZoneState) (pair : Pair) (law : IsValidZone v) (swept : IsSwept v) (is : IsPair v pair.page pair.source pair.target) where
   abbrev next : ZoneState
   next = isolated_next v pair
 
@@ -160,7 +160,7 @@ one_frame f g e = cc
 at_not_on_its_way : (f serial source target : ℕ) → Some (At f) ≡ Some (Moving serial source target) → ⊥
 at_not_on_its_way f serial source target e = cc
 
-module _ (v : ZoneState) (page serial source target : ℕ) (law : IsLawful v) (swept : IsSwept v) (at : map.get v.placement page ≡ Some (Moving serial source target)) where
+module _ (v : ZoneState) (page serial source target : ℕ) (law : IsValidZone v) (swept : IsSwept v) (at : map.get v.placement page ≡ Some (Moving serial source target)) where
   abbrev after : ZoneState
   after = relocated v (Moved serial) page (At target)
 

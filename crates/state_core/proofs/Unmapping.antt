@@ -12,7 +12,7 @@ use Rattle.journal_core.specs.declared.record.Record.TheVariants.{Unmap}
 use Rattle.journal_core.specs.History.{same_address, page_at, is_page, maps}
 use Rattle.journal_core.specs.Moves.{out}
 use Rattle.state_core.specs.declared.placement.Placement.TheVariants.{At}
-use Rattle.state_core.specs.Lawful.{IsLawful, is_under}
+use Rattle.state_core.specs.Lawful.{IsValidZone, is_under}
 use Rattle.state_core.specs.Unmapping.{is_last, without_page, unmapped}
 use Rattle.state_core.specs.ZoneState.{ZoneState, frame_count, is_free, noted}
 use Rattle.state_core.proofs.Entries.{contains_remove_same, contains_remove_other}
@@ -23,7 +23,7 @@ use Rattle.state_core.proofs.Places.{CanChangePlace, HasLawfulPlaces, IsTold, wi
 
 -- what has to hold so that an address can be unmapped
 pub record CanUnmap (v : ZoneState) (address : Address) (page frame : ℕ) : Type 0 where
-  pub lawful : IsLawful v
+  pub lawful : IsValidZone v
   pub spare : length (out v.records) < v.room
   pub named : page_at v.records address ≡ Some page
   pub at : map.get v.placement page ≡ Some (At frame)
@@ -61,7 +61,7 @@ module _ (v : ZoneState) (client : ℕ) (address : Address) (page frame : ℕ) (
   ]
 
   -- the zone stays lawful where another address names the page
-  pub lawful_still : maps v.records page ≢ 1 → IsLawful after
+  pub lawful_still : maps v.records page ≢ 1 → IsValidZone after
   lawful_still more =
       let law = can.lawful in
       lawful_noted v law (Unmap client address) can.spare (record {
@@ -151,7 +151,7 @@ module _ (v : ZoneState) (client : ℕ) (address : Address) (page frame : ℕ) (
         ];
       }
 
-  pub lawful_gone : maps v.records page ≡ 1 → IsLawful (without_page after page)
+  pub lawful_gone : maps v.records page ≡ 1 → IsValidZone (without_page after page)
   lawful_gone one = lawful_told can_unmap (Unmap client address) _ (unmap_told one) v.migrate v.free can.lawful.fingers (swept_ended v (without_page after page) (Unmap client address) can.lawful refl refl refl)
 
   -- the page of the address has one address exactly where the address is its last one
@@ -164,8 +164,8 @@ module _ (v : ZoneState) (client : ℕ) (address : Address) (page frame : ℕ) (
   pub unmapped_still : maps v.records page ≢ 1 → unmapped v client address ≡ after
   unmapped_still more = cond-false (is_last v address) _ after (is_last_by ∙ ne_eqb (maps v.records page) 1 more)
 
-  pub lawful_unmapped : IsLawful (unmapped v client address)
+  pub lawful_unmapped : IsValidZone (unmapped v client address)
   lawful_unmapped = elim (eqb_tells (maps v.records page) 1) [
-    | inl last ↦ subst IsLawful (sym (unmapped_last last.1)) (lawful_gone last.1)
-    | inr more ↦ subst IsLawful (sym (unmapped_still more.1)) (lawful_still more.1)
+    | inl last ↦ subst IsValidZone (sym (unmapped_last last.1)) (lawful_gone last.1)
+    | inr more ↦ subst IsValidZone (sym (unmapped_still more.1)) (lawful_still more.1)
   ]

@@ -3,7 +3,7 @@ use Rattle.std.specs.Prelude.{ℕ, not, if◌then◌else◌, Option, Some, None,
 use Rattle.frame_core.specs.declared.place.Address.{Address}
 use Rattle.journal_core.specs.History.{page_at, last}
 use Rattle.state_core.specs.declared.placement.Placement.{Placement}
-use Rattle.state_core.specs.declared.placement.Placement.TheVariants.{At, Moving as OnItsWay}
+use Rattle.state_core.specs.declared.placement.Placement.TheVariants.{At, Moving as IsolatedPage}
 use Rattle.state_core.specs.declared.error.ZoneError.{ZoneError}
 use Rattle.state_core.specs.declared.error.ZoneError.TheVariants.{JournalFull, Unmapped, Moving}
 use Rattle.state_core.specs.ZoneState.{ZoneState, has_room, placement_at, noted}
@@ -13,7 +13,7 @@ use Rattle.journal_core.specs.declared.record.Record.TheVariants.{Store, Load}
 abbrev pub placement_refusal : Option Placement → Option ZoneError
 placement_refusal None = Some Unmapped
 placement_refusal (Some (At frame)) = None
-placement_refusal (Some (OnItsWay serial source target)) = Some Moving
+placement_refusal (Some (IsolatedPage serial source target)) = Some Moving
 
 -- why a load or a store at an address is refused, if it is
 abbrev pub access_refusal : ZoneState → Address → Option ZoneError

@@ -6,7 +6,7 @@ use Rattle.journal_core.specs.declared.record.Cause.{Cause}
 use Rattle.journal_core.specs.declared.record.Cause.TheVariants.{Pinned, NotCopied}
 use Rattle.journal_core.specs.declared.record.Record.TheVariants.{Moved as WasMoved, Back as WasPutBack}
 use Rattle.journal_core.specs.History.{page_at, pins}
-use Rattle.word_core.specs.Page.{OnItsWay}
+use Rattle.word_core.specs.Page.{IsolatedPage}
 use Rattle.state_core.specs.declared.moves.Ended.{Ended}
 use Rattle.state_core.specs.declared.moves.Ended.TheVariants as ended
 use Rattle.state_core.specs.declared.placement.Placement.{Placement}
@@ -16,11 +16,11 @@ use Rattle.state_core.specs.ZoneState.{ZoneState, is_free}
 use Rattle.state_core.specs.Carrying.{flags_of, words_now, relocated}
 
 -- whether a page is of this zone and is moving there under its serial
-abbrev pub is_own : ZoneState → OnItsWay → Bool
+abbrev pub is_own : ZoneState → IsolatedPage → Bool
 is_own z p = nat_eq p.page.zone z.number && is_under (map.get z.placement p.page.number) p.serial
 
 -- a copy is of a page that is moving in this zone under its serial, and has the page's words
-pub record IsOwnCopy (z : ZoneState) (copy : OnItsWay) : Type 0 where
+pub record IsOwnCopy (z : ZoneState) (copy : IsolatedPage) : Type 0 where
   pub own : is_own z copy ≡ true
   pub same : copy.page.words ≡ words_now z copy.page.number
 
@@ -69,7 +69,7 @@ pub record IsEnded (old new : ZoneState) (page serial : ℕ) (kept left : ℕ �
   pub settled : IsSettled old new page (kept source target) (left source target)
 
 -- the move of this page ended as the answer says: Moved in the target, Back in the source
-abbrev pub Ends : ZoneState → ZoneState → OnItsWay → Ended → Type 0
+abbrev pub Ends : ZoneState → ZoneState → IsolatedPage → Ended → Type 0
 Ends old new p ended.Moved = IsEnded old new p.page.number p.serial (λ source target. target) (λ source target. source)
 Ends old new p ended.Back = IsEnded old new p.page.number p.serial (λ source target. source) (λ source target. target)
 

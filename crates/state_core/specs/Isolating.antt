@@ -14,7 +14,7 @@ use Rattle.state_core.specs.declared.placement.Placement.TheVariants.{Moving}
 use Rattle.state_core.specs.Pairs.{IsPair, HaveMet}
 use Rattle.state_core.specs.ZoneState.{ZoneState}
 use Rattle.state_core.specs.Carrying.{page_now, relocated}
-use Rattle.word_core.specs.Page.{OnItsWay}
+use Rattle.word_core.specs.Page.{IsolatedPage}
 
 -- whether the journal has a place for an isolation and one for its end, besides those for the ends of the pages that are out
 abbrev pub has_room_for_two : ZoneState → Bool
@@ -36,7 +36,7 @@ isolated_next z pair =
     record (relocated z (Isolate serial pair.page) pair.page (Moving serial pair.source pair.target)) { migrate = pair.source + 1; free = pair.target }
 
 -- the answer of a scan: the page of the pair, or Met where there is no pair
-abbrev pub next_answer : ZoneState → Option Pair → Next OnItsWay
+abbrev pub next_answer : ZoneState → Option Pair → Next IsolatedPage
 next_answer z None = next.Met
 next_answer z (Some pair) = next.Page (record { serial = isolated z.records; page = page_now z pair.page })
 
@@ -55,6 +55,6 @@ pub record IsIsolated (old new : ZoneState) (page serial : ℕ) : Type 0 where
   pub names : (address : Address) → page_at new.records address ≡ page_at old.records address
 
 -- the answer in terms of pairs: the page of the pair is isolated, or there is no pair
-abbrev pub Scans : ZoneState → ZoneState → Next OnItsWay → Type 0
+abbrev pub Scans : ZoneState → ZoneState → Next IsolatedPage → Type 0
 Scans old new next.Met = HaveMet old
 Scans old new (next.Page p) = IsIsolated old new p.page.number p.serial

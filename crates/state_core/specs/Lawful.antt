@@ -30,7 +30,7 @@ pub record IsBlock (frames first order : ℕ) : Type 0 where
   pub within : first + 2 ^ order ≤ frames
 
 -- what is true of every zone
-pub record IsLawful (z : ZoneState) : Type 0 where
+pub record IsValidZone (z : ZoneState) : Type 0 where
   -- a zone has 1 to 8 pageblocks, and its journal at most 2^53 places
   pub size : (0 < z.blocks) × (z.blocks ≤ 8)
   pub places : length z.records + z.room ≤ 2 ^ 53

@@ -7,7 +7,7 @@ ghost use Rattle.text_core.specs.Token.{tokens};
 use crate::token::{Token, first_number, first_token, is_end};
 
 /// The number that a text consists of, or none where it is anything else.
-pub(crate) fn one(text: &[u8]) -> Option<u64>
+pub(crate) fn one_number(text: &[u8]) -> Option<u64>
     ensures { result ≡ one_of (tokens text.now) }
 {
     let (a, behind) = first_number(text)?;
@@ -16,28 +16,28 @@ pub(crate) fn one(text: &[u8]) -> Option<u64>
 
 /// The two numbers that a text consists of, or none where it is anything else.
 #[inline(always)]
-pub(crate) fn two(text: &[u8]) -> Option<(u64, u64)>
+pub(crate) fn two_numbers(text: &[u8]) -> Option<(u64, u64)>
     ensures { result ≡ two_of (tokens text.now) }
 {
     let (a, behind) = first_number(text)?;
-    Some((a, one(behind)?))
+    Some((a, one_number(behind)?))
 }
 
 /// The three numbers that a text consists of, or none where it is anything else.
-pub(crate) fn three(text: &[u8]) -> Option<(u64, u64, u64)>
+pub(crate) fn three_numbers(text: &[u8]) -> Option<(u64, u64, u64)>
     ensures { result ≡ three_of (tokens text.now) }
 {
     let (a, behind) = first_number(text)?;
-    let (b, c) = two(behind)?;
+    let (b, c) = two_numbers(behind)?;
     Some((a, b, c))
 }
 
 /// The four numbers that a text consists of, or none where it is anything else.
-pub(crate) fn four(text: &[u8]) -> Option<(u64, u64, u64, u64)>
+pub(crate) fn four_numbers(text: &[u8]) -> Option<(u64, u64, u64, u64)>
     ensures { result ≡ four_of (tokens text.now) }
 {
     let (a, behind) = first_number(text)?;
-    let (b, c, d) = three(behind)?;
+    let (b, c, d) = three_numbers(behind)?;
     Some((a, b, c, d))
 }
 
@@ -53,7 +53,7 @@ fn flag(text: &[u8]) -> Option<bool>
 }
 
 /// The two numbers and the flag that a text consists of, or none where it is anything else.
-pub(crate) fn two_and_flag(text: &[u8]) -> Option<(u64, u64, bool)>
+pub(crate) fn two_numbers_and_flag(text: &[u8]) -> Option<(u64, u64, bool)>
     ensures { result ≡ two_and_flag_of (tokens text.now) }
 {
     let (a, behind) = first_number(text)?;
@@ -62,10 +62,10 @@ pub(crate) fn two_and_flag(text: &[u8]) -> Option<(u64, u64, bool)>
 }
 
 /// The three numbers and the flag that a text consists of, or none where it is anything else.
-pub(crate) fn three_and_flag(text: &[u8]) -> Option<(u64, u64, u64, bool)>
+pub(crate) fn three_numbers_and_flag(text: &[u8]) -> Option<(u64, u64, u64, bool)>
     ensures { result ≡ three_and_flag_of (tokens text.now) }
 {
     let (a, behind) = first_number(text)?;
-    let (b, c, unmovable) = two_and_flag(behind)?;
+    let (b, c, unmovable) = two_numbers_and_flag(behind)?;
     Some((a, b, c, unmovable))
 }

@@ -6,7 +6,10 @@ ghost use Rattle.text_core.specs.Token.{tokens};
 ghost use Rattle.state_core.specs.declared.call.ZoneCall.TheVariants as zone_call;
 ghost use Rattle.text_core.specs.Grammar.{client_row, address_of, blocks_of, command_of, compacting, frame_of, give_order_call, order_of, row_in, row_of_profile_2, own_row, hand_of, load_call, map_at_call, map_call, call_on, zone_call_on, opening, page_count_of, pageblock_of, pooling, row_of, series_of, series_on, share_call, space_of, store_call, word_of, zone_of, block_line_of, during_row};
 
-use crate::arguments::{four, one, three, three_and_flag, two, two_and_flag};
+use crate::arguments::{
+    four_numbers, one_number, three_numbers, three_numbers_and_flag, two_numbers,
+    two_numbers_and_flag,
+};
 use crate::blocks::BlockCount;
 use crate::command::{BlockLine, Call, Calls, Command, Repeated, Series};
 use crate::pages::PageCount;
@@ -82,15 +85,15 @@ fn row_of_profile_2(keyword: Token, zone: Option<ZoneNo>, arguments: &[u8]) -> O
     use Token::{Give, Huge, Info, Mark, Pool, Unmark};
     match keyword {
         Info if is_end(arguments) => Some(on(zone, Some(Call::InfoWithHeld))),
-        Huge => Some(zone_on(zone, take_order(order(one(arguments)?)))),
+        Huge => Some(zone_on(zone, take_order(order(one_number(arguments)?)))),
         Give => {
-            let (f, k) = two(arguments)?;
+            let (f, k) = two_numbers(arguments)?;
             Some(zone_on(zone, give_order(frame(f), order(k))))
         }
-        Mark => Some(zone_on(zone, mark(pageblock(one(arguments)?)))),
-        Unmark => Some(zone_on(zone, unmark(pageblock(one(arguments)?)))),
+        Mark => Some(zone_on(zone, mark(pageblock(one_number(arguments)?)))),
+        Unmark => Some(zone_on(zone, unmark(pageblock(one_number(arguments)?)))),
         Pool => {
-            let (n, k) = two(arguments)?;
+            let (n, k) = two_numbers(arguments)?;
             Some(pool(zone, blocks(n), order(k).map(PoolBlocks::OfOrder)))
         }
         _ => None,
@@ -106,16 +109,16 @@ fn row(keyword: Token, zone: Option<ZoneNo>, arguments: &[u8]) -> Option<Command
         Share, Shut, Store, Take, Thin, Unmap, Unpin, Zone,
     };
     match keyword {
-        Zone => Some(open(zone, blocks(one(arguments)?))),
+        Zone => Some(open(zone, blocks(one_number(arguments)?))),
         Map => map_row(zone, arguments),
         MapAt => map_at_row(zone, arguments),
         Store => store_row(zone, arguments),
         Load => load_row(zone, arguments),
         Info if is_end(arguments) => Some(on(zone, Some(Call::Info))),
         Scan if is_end(arguments) => Some(on(zone, Some(Call::Scan))),
-        Take => Some(on(zone, hand(one(arguments)?).map(Call::Take))),
-        Copy => Some(on(zone, hand(one(arguments)?).map(Call::Copy))),
-        Finish => Some(on(zone, hand(one(arguments)?).map(Call::Finish))),
+        Take => Some(on(zone, hand(one_number(arguments)?).map(Call::Take))),
+        Copy => Some(on(zone, hand(one_number(arguments)?).map(Call::Copy))),
+        Finish => Some(on(zone, hand(one_number(arguments)?).map(Call::Finish))),
         Shut if is_end(arguments) => Some(on(zone, Some(Call::Shut))),
         Look => look_row(zone, arguments),
         Share => share_row(zone, arguments),
@@ -123,11 +126,15 @@ fn row(keyword: Token, zone: Option<ZoneNo>, arguments: &[u8]) -> Option<Command
         Pin => pin_row(zone, arguments),
         Unpin => unpin_row(zone, arguments),
         Huge if is_end(arguments) => Some(on(zone, Some(Call::Huge))),
-        Give => Some(on(zone, pageblock(one(arguments)?).map(Call::Give))),
+        Give => Some(on(zone, pageblock(one_number(arguments)?).map(Call::Give))),
         Fill => fill_row(zone, arguments),
         Thin => thin_row(zone, arguments),
         Compact if is_end(arguments) => Some(compact(zone)),
-        Pool => Some(pool(zone, blocks(one(arguments)?), Some(PoolBlocks::Pageblocks))),
+        Pool => Some(pool(
+            zone,
+            blocks(one_number(arguments)?),
+            Some(PoolBlocks::Pageblocks),
+        )),
         _ => None,
     }
 }
@@ -156,35 +163,35 @@ fn client_row(keyword: Token, arguments: &[u8]) -> Option<Option<ClientCall>>
     use Token::{Load, Map, MapAt, Pin, Share, Store, Unmap, Unpin};
     match keyword {
         Map => {
-            let (s, v, unmovable) = two_and_flag(arguments)?;
+            let (s, v, unmovable) = two_numbers_and_flag(arguments)?;
             Some(map(address(s, v), unmovable))
         }
         MapAt => {
-            let (s, v, f, unmovable) = three_and_flag(arguments)?;
+            let (s, v, f, unmovable) = three_numbers_and_flag(arguments)?;
             Some(map_at(address(s, v), frame(f), unmovable))
         }
         Store => {
-            let (s, v, w, x) = four(arguments)?;
+            let (s, v, w, x) = four_numbers(arguments)?;
             Some(store(address(s, v), word(w), x))
         }
         Load => {
-            let (s, v, w) = three(arguments)?;
+            let (s, v, w) = three_numbers(arguments)?;
             Some(load(address(s, v), word(w)))
         }
         Share => {
-            let (s, v, s2, v2) = four(arguments)?;
+            let (s, v, s2, v2) = four_numbers(arguments)?;
             Some(share(address(s, v), address(s2, v2)))
         }
         Unmap => {
-            let (s, v) = two(arguments)?;
+            let (s, v) = two_numbers(arguments)?;
             Some(unmap(address(s, v)))
         }
         Pin => {
-            let (s, v) = two(arguments)?;
+            let (s, v) = two_numbers(arguments)?;
             Some(pin(address(s, v)))
         }
         Unpin => {
-            let (s, v) = two(arguments)?;
+            let (s, v) = two_numbers(arguments)?;
             Some(unpin(address(s, v)))
         }
         _ => None,
@@ -223,7 +230,7 @@ fn load_row(zone: Option<ZoneNo>, arguments: &[u8]) -> Option<Command>
 fn look_row(zone: Option<ZoneNo>, arguments: &[u8]) -> Option<Command>
     ensures { result ≡ row_of Token.Look zone (tokens arguments.now) }
 {
-    let (s, v) = two(arguments)?;
+    let (s, v) = two_numbers(arguments)?;
     Some(on(zone, address(s, v).map(Call::Look)))
 }
 
@@ -259,7 +266,7 @@ fn unpin_row(zone: Option<ZoneNo>, arguments: &[u8]) -> Option<Command>
 fn fill_row(zone: Option<ZoneNo>, arguments: &[u8]) -> Option<Command>
     ensures { result ≡ row_of Token.Fill zone (tokens arguments.now) }
 {
-    let (s, v, n) = three(arguments)?;
+    let (s, v, n) = three_numbers(arguments)?;
     Some(series_on(zone, series(Repeated::Map, space(s), v, page_count(n), 1)))
 }
 
@@ -267,7 +274,7 @@ fn fill_row(zone: Option<ZoneNo>, arguments: &[u8]) -> Option<Command>
 fn thin_row(zone: Option<ZoneNo>, arguments: &[u8]) -> Option<Command>
     ensures { result ≡ row_of Token.Thin zone (tokens arguments.now) }
 {
-    let (s, v, n, step) = four(arguments)?;
+    let (s, v, n, step) = four_numbers(arguments)?;
     Some(series_on(
         zone,
         series(Repeated::Unmap, space(s), v, page_count(n), step),

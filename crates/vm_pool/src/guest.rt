@@ -2,7 +2,7 @@
 
 use arrayvec::ArrayVec;
 use huge_core::Huge;
-use round_core::{Shape, SharedZone};
+use round_core::{SharedZone, ZoneIdentity};
 use std::sync::Wait;
 use std::sync::ledger::Ledger;
 
@@ -22,7 +22,7 @@ pub struct Guest {
 
 impl Guest {
     /// Writes all words of its huge pages, one page in a call. The answer is how many were written.
-    pub fn fill<K: Shape, I: Ledger, M: Ledger, B: Ledger, R: Wait>(
+    pub fn fill<K: ZoneIdentity, I: Ledger, M: Ledger, B: Ledger, R: Wait>(
         &mut self,
         rt: &R,
         shared: &SharedZone<K, I, M, B>,
@@ -38,7 +38,7 @@ impl Guest {
     }
 
     /// Reads all words of its huge pages, one page in a call. The answer is how many of them are what was written.
-    pub fn count_right<K: Shape, I: Ledger, M: Ledger, B: Ledger, R: Wait>(
+    pub fn count_right<K: ZoneIdentity, I: Ledger, M: Ledger, B: Ledger, R: Wait>(
         &self,
         rt: &R,
         shared: &SharedZone<K, I, M, B>,

@@ -10,7 +10,7 @@ use frame_core::{Order, ZoneNo};
 use huge_core::{Collector, Stop, give};
 use rand_core::Rng;
 use rand_pcg::Pcg32;
-use round_core::{Keeping, NoGate, Open, Shape, SharedZone};
+use round_core::{Keeping, NoGate, Open, SharedZone, ZoneIdentity};
 use std::alloc::Global;
 use std::sync::Wait;
 use std::sync::ledger::Ledger;
@@ -47,7 +47,7 @@ pub struct Tally {
 }
 
 #[derive(Drop)]
-struct Host<K: Shape, I: Ledger, N: Ledger, M: Ledger, B: Ledger>
+struct Host<K: ZoneIdentity, I: Ledger, N: Ledger, M: Ledger, B: Ledger>
 where
     Open<K>: Keeping,
 {
@@ -64,7 +64,7 @@ where
 
 /// Opens a zone whose journal takes no memory, and lets guests come and go day by day.
 pub fn serve<
-    K: Shape + Send + Sync,
+    K: ZoneIdentity + Send + Sync,
     I: Ledger + Send + Sync,
     N: Ledger,
     M: Ledger + Send + Sync,
@@ -72,7 +72,7 @@ pub fn serve<
     R: Threads + Wait + Sync,
 >(rt: &R, alloc: Global, rounds: u32, blanks: Blanks) -> Option<Tally>
     requires rounds { rounds ≤ 16 }
-    requires shape { (K.number ≡ 0) × (K.blocks ≡ 8) }
+    requires identity { (K.number ≡ 0) × (K.blocks ≡ 8) }
     requires blanks { AreFor blanks I.name I.parts N.name N.parts M.name M.parts B.name B.parts }
 {
     let number = ZoneNo::new(0)?;
@@ -98,7 +98,7 @@ pub fn serve<
 }
 
 impl<
-    K: Shape + Send + Sync,
+    K: ZoneIdentity + Send + Sync,
     I: Ledger + Send + Sync,
     N: Ledger,
     M: Ledger + Send + Sync,

@@ -4,7 +4,7 @@ use bitflags::Flags;
 use frame_core::{Address, ClientNo, PageFlags, SpaceNo, VPage, WordNo};
 use rand_core::Rng;
 use rand_pcg::Pcg32;
-use round_core::{Shape, SharedZone};
+use round_core::{SharedZone, ZoneIdentity};
 use std::sync::Wait;
 use std::sync::ledger::Ledger;
 
@@ -34,7 +34,7 @@ impl SmallPages {
     }
 
     /// Maps so many pages, and unmaps all of them but about one in sixteen.
-    pub fn churn<K: Shape, I: Ledger, M: Ledger, B: Ledger, R: Wait>(
+    pub fn churn<K: ZoneIdentity, I: Ledger, M: Ledger, B: Ledger, R: Wait>(
         &mut self,
         rt: &R,
         shared: &SharedZone<K, I, M, B>,
@@ -60,7 +60,7 @@ impl SmallPages {
 }
 
 /// How many pages there are, and how many of them hold what was stored in them.
-pub fn count_kept<K: Shape, I: Ledger, M: Ledger, B: Ledger, R: Wait>(
+pub fn count_kept<K: ZoneIdentity, I: Ledger, M: Ledger, B: Ledger, R: Wait>(
     rt: &R,
     shared: &SharedZone<K, I, M, B>,
 ) -> (u32, u32) {
@@ -80,7 +80,7 @@ fn stored_in(page: u32) -> u64 {
 }
 
 /// Binds a virtual page to a fresh page, and stores its number there. A virtual page that is bound is left alone.
-fn map<K: Shape, I: Ledger, M: Ledger, B: Ledger, R: Wait>(
+fn map<K: ZoneIdentity, I: Ledger, M: Ledger, B: Ledger, R: Wait>(
     rt: &R,
     shared: &SharedZone<K, I, M, B>,
     page: u32,
@@ -92,7 +92,7 @@ fn map<K: Shape, I: Ledger, M: Ledger, B: Ledger, R: Wait>(
 }
 
 /// Lets a virtual page name no page any more.
-fn unmap<K: Shape, I: Ledger, M: Ledger, B: Ledger, R: Wait>(
+fn unmap<K: ZoneIdentity, I: Ledger, M: Ledger, B: Ledger, R: Wait>(
     rt: &R,
     shared: &SharedZone<K, I, M, B>,
     page: u32,
@@ -102,7 +102,7 @@ fn unmap<K: Shape, I: Ledger, M: Ledger, B: Ledger, R: Wait>(
 }
 
 /// What stands in a virtual page, if it is bound.
-fn load<K: Shape, I: Ledger, M: Ledger, B: Ledger, R: Wait>(
+fn load<K: ZoneIdentity, I: Ledger, M: Ledger, B: Ledger, R: Wait>(
     rt: &R,
     shared: &SharedZone<K, I, M, B>,
     page: u32,

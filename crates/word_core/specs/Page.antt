@@ -18,10 +18,10 @@ abbrev pub blank_page : ℕ → ℕ → ℕ → Page
 blank_page size zone number = record { zone = zone; number = number; flags = record { 0 = 0 }; words = blank_words size }
 
 -- an isolated page, under the serial that its zone gave it
-pub record OnItsWay : Type 0 where
+pub record IsolatedPage : Type 0 where
   pub serial : ℕ
   pub page : Page
 
 -- a blank isolated page, or a blank copy: the blank page 0 of zone 0, under the serial 0
-abbrev pub blank_on_its_way : ℕ → OnItsWay
+abbrev pub blank_on_its_way : ℕ → IsolatedPage
 blank_on_its_way size = record { serial = 0; page = blank_page size 0 0 }

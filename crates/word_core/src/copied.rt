@@ -13,9 +13,9 @@ pub struct Copied<const W: usize> {
 }
 
 impl<const W: usize> Model for Copied<W> {
-    ghost use Rattle.word_core.specs.Page.{OnItsWay};
+    ghost use Rattle.word_core.specs.Page.{IsolatedPage};
 
-    ghost Value = { OnItsWay };
+    ghost Value = { IsolatedPage };
 
     ghost view = { λ p. record { serial = p.serial; page = p.page } };
 }

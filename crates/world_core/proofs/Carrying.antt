@@ -12,7 +12,7 @@ use Rattle.frame_core.proofs.Lists.{slice_get_set_same, slice_get_set_other}
 use Rattle.frame_core.specs.declared.place.Address.{Address}
 use Rattle.journal_core.specs.History.{page_at}
 use Rattle.journal_core.specs.Moves.{isolated, out}
-use Rattle.word_core.specs.Page.{OnItsWay}
+use Rattle.word_core.specs.Page.{IsolatedPage}
 use Rattle.word_core.specs.Serials.{serials_of}
 use Rattle.state_core.specs.declared.call.ZoneCall.{ZoneCall}
 use Rattle.state_core.specs.declared.call.ZoneCall.TheVariants.{Map, MapAt, Load, Store, Share, Unmap, Pin, Unpin, TakeOrder, GiveOrder, Mark, Unmark}
@@ -25,7 +25,7 @@ use Rattle.state_core.specs.declared.moves.Next.TheVariants.{Page as Found, Met}
 use Rattle.state_core.specs.declared.round.Pair.{Pair}
 use Rattle.state_core.specs.declared.placement.Placement.{Placement}
 use Rattle.state_core.specs.declared.placement.Placement.TheVariants.{At, Moving}
-use Rattle.state_core.specs.Lawful.{IsLawful}
+use Rattle.state_core.specs.Lawful.{IsValidZone}
 use Rattle.state_core.specs.Pairs.{next_pair}
 use Rattle.state_core.specs.Ending.{IsOwnCopy}
 use Rattle.state_core.specs.Carrying.{page_now}
@@ -74,45 +74,45 @@ held_after held i j x y e = elim (eqb_tells j i) [
   | inr other ↦ inr (other.1, sym (slice_get_set_other held i j x other.1) ∙ e)
 ]
 
-pub is_page_held : (o : Option InHand) (p : OnItsWay) → page_held (unwrap_or o Nothing) ≡ Some p → o ≡ Some (Page p)
+pub is_page_held : (o : Option InHand) (p : IsolatedPage) → page_held (unwrap_or o Nothing) ≡ Some p → o ≡ Some (Page p)
 is_page_held None p e = cc
 is_page_held (Some Nothing) p e = cc
-is_page_held (Some (Page q)) p e = let same : q ≡ p = cc in ap (λ (x : OnItsWay). Some (Page x)) same
+is_page_held (Some (Page q)) p e = let same : q ≡ p = cc in ap (λ (x : IsolatedPage). Some (Page x)) same
 is_page_held (Some (Copy q)) p e = cc
 
-pub is_copy_held : (o : Option InHand) (p : OnItsWay) → copy_held (unwrap_or o Nothing) ≡ Some p → o ≡ Some (Copy p)
+pub is_copy_held : (o : Option InHand) (p : IsolatedPage) → copy_held (unwrap_or o Nothing) ≡ Some p → o ≡ Some (Copy p)
 is_copy_held None p e = cc
 is_copy_held (Some Nothing) p e = cc
 is_copy_held (Some (Page q)) p e = cc
-is_copy_held (Some (Copy q)) p e = let same : q ≡ p = cc in ap (λ (x : OnItsWay). Some (Copy x)) same
+is_copy_held (Some (Copy q)) p e = let same : q ≡ p = cc in ap (λ (x : IsolatedPage). Some (Copy x)) same
 
-pub page_same : {p q : OnItsWay} → ◌≡◌ {A = InHand} (Page p) (Page q) → p ≡ q
+pub page_same : {p q : IsolatedPage} → ◌≡◌ {A = InHand} (Page p) (Page q) → p ≡ q
 page_same {p} {q} e = cc
 
-pub copy_same : {p q : OnItsWay} → ◌≡◌ {A = InHand} (Copy p) (Copy q) → p ≡ q
+pub copy_same : {p q : IsolatedPage} → ◌≡◌ {A = InHand} (Copy p) (Copy q) → p ≡ q
 copy_same {p} {q} e = cc
 
-pub page_no_copy : {p q : OnItsWay} → ◌≡◌ {A = InHand} (Page p) (Copy q) → ⊥
+pub page_no_copy : {p q : IsolatedPage} → ◌≡◌ {A = InHand} (Page p) (Copy q) → ⊥
 page_no_copy {p} {q} e = cc
 
-pub copy_no_page : {p q : OnItsWay} → ◌≡◌ {A = InHand} (Copy p) (Page q) → ⊥
+pub copy_no_page : {p q : IsolatedPage} → ◌≡◌ {A = InHand} (Copy p) (Page q) → ⊥
 copy_no_page {p} {q} e = cc
 
-pub nothing_no_page : {q : OnItsWay} → ◌≡◌ {A = InHand} Nothing (Page q) → ⊥
+pub nothing_no_page : {q : IsolatedPage} → ◌≡◌ {A = InHand} Nothing (Page q) → ⊥
 nothing_no_page {q} e = cc
 
-pub nothing_no_copy : {q : OnItsWay} → ◌≡◌ {A = InHand} Nothing (Copy q) → ⊥
+pub nothing_no_copy : {q : IsolatedPage} → ◌≡◌ {A = InHand} Nothing (Copy q) → ⊥
 nothing_no_copy {q} e = cc
 
 pub true_not_false : (b : Bool) → b ≡ true → b ≡ false → ⊥
 true_not_false b t f = let bad : true ≡ false = sym t ∙ f in cc
 
-pub no_page : (n i : ℕ) (p : OnItsWay) → slice_get {X = InHand} (replicate n Nothing) i ≡ Some (Page p) → ⊥
+pub no_page : (n i : ℕ) (p : IsolatedPage) → slice_get {X = InHand} (replicate n Nothing) i ≡ Some (Page p) → ⊥
 no_page zero i p e = cc
 no_page (suc n) zero p e = cc
 no_page (suc n) (suc i) p e = no_page n i p e
 
-pub no_copy : (n i : ℕ) (p : OnItsWay) → slice_get {X = InHand} (replicate n Nothing) i ≡ Some (Copy p) → ⊥
+pub no_copy : (n i : ℕ) (p : IsolatedPage) → slice_get {X = InHand} (replicate n Nothing) i ≡ Some (Copy p) → ⊥
 no_copy zero i p e = cc
 no_copy (suc n) zero p e = cc
 no_copy (suc n) (suc i) p e = no_copy n i p e
@@ -122,14 +122,14 @@ nothing_is Nothing e = refl
 nothing_is (Page p) e = cc
 nothing_is (Copy p) e = cc
 
-pub waits_at : (list : List OnItsWay) (i : ℕ) (p : OnItsWay) → slice_get list i ≡ Some p → list_any (nat_eq p.serial) (serials_of list) ≡ true
+pub waits_at : (list : List IsolatedPage) (i : ℕ) (p : IsolatedPage) → slice_get list i ≡ Some p → list_any (nat_eq p.serial) (serials_of list) ≡ true
 waits_at [] i p e = cc
 waits_at (q ∷ list) zero p e = let same : q ≡ p = cc in or_left (nat_eq p.serial q.serial) _ (eq-eqb p.serial q.serial (ap (λ x. x.serial) (sym same)))
 waits_at (q ∷ list) (suc i) p e = or_right (nat_eq p.serial q.serial) _ (waits_at list i p e)
 
 -- What a world carries when its zone changes.
-module _ (zone next : ZoneState) (scan : ScanSeat) (ends : EndSeat) (is_open : Bool) (list : List OnItsWay) (held : List InHand) (capacity : ℕ) (was : IsCarried zone scan ends is_open list held capacity) where
-  pub carried_with : (seat : ScanSeat) (opened : Bool) → IsOrderly (world_of next seat ends opened list held) → ((p : OnItsWay) → IsOwnCopy zone p → IsOwnCopy next p) → next.blocks ≡ zone.blocks → IsCarried next seat ends opened list held capacity
+module _ (zone next : ZoneState) (scan : ScanSeat) (ends : EndSeat) (is_open : Bool) (list : List IsolatedPage) (held : List InHand) (capacity : ℕ) (was : IsCarried zone scan ends is_open list held capacity) where
+  pub carried_with : (seat : ScanSeat) (opened : Bool) → IsOrderly (world_of next seat ends opened list held) → ((p : IsolatedPage) → IsOwnCopy zone p → IsOwnCopy next p) → next.blocks ≡ zone.blocks → IsCarried next seat ends opened list held capacity
   carried_with seat opened orderly own blocks = record {
     orderly = orderly;
     waiting = λ i p e. own p (was.waiting i p e);
@@ -139,36 +139,36 @@ module _ (zone next : ZoneState) (scan : ScanSeat) (ends : EndSeat) (is_open : B
   }
 
 -- the seat of the scanner notes something
-pub carried_noted : (zone : ZoneState) (scan : ScanSeat) (ends : EndSeat) (is_open : Bool) (list : List OnItsWay) (held : List InHand) (capacity : ℕ) → IsCarried zone scan ends is_open list held capacity → (seat : ScanSeat) → IsCarried zone seat ends is_open list held capacity
+pub carried_noted : (zone : ZoneState) (scan : ScanSeat) (ends : EndSeat) (is_open : Bool) (list : List IsolatedPage) (held : List InHand) (capacity : ℕ) → IsCarried zone scan ends is_open list held capacity → (seat : ScanSeat) → IsCarried zone seat ends is_open list held capacity
 carried_noted zone scan ends is_open list held capacity was seat =
     carried_with zone zone scan ends is_open list held capacity was seat is_open (orderly_noted (world_of zone scan ends is_open list held) seat was.orderly) (λ p own. own) refl
 
 -- A round opens, and a page is isolated.
-pub carried_opened : (zone : ZoneState) (scan : ScanSeat) (ends : EndSeat) (is_open : Bool) (list : List OnItsWay) (held : List InHand) (capacity : ℕ) → IsCarried zone scan ends is_open list held capacity → is_open ≡ false → IsCarried (round_begun zone) (seat_begun scan) ends true list held capacity
+pub carried_opened : (zone : ZoneState) (scan : ScanSeat) (ends : EndSeat) (is_open : Bool) (list : List IsolatedPage) (held : List InHand) (capacity : ℕ) → IsCarried zone scan ends is_open list held capacity → is_open ≡ false → IsCarried (round_begun zone) (seat_begun scan) ends true list held capacity
 carried_opened zone scan ends is_open list held capacity was closed =
     carried_with zone (round_begun zone) scan ends is_open list held capacity was (seat_begun scan) true orderly (own_begun zone) refl where
       orderly : IsOrderly (world_of (round_begun zone) (seat_begun scan) ends true list held)
       orderly = subst (λ (b : Bool). IsOrderly (record { zone = if b then zone else round_begun zone; scan = if b then scan else seat_begun scan; ends = ends; is_open = true; waiting = serials_of list; hands = each hand_as held })) closed
           (orderly_round_opened (world_of zone scan ends is_open list held) was.orderly)
 
-serials_more : (list : List OnItsWay) (p : OnItsWay) → serials_of (list ++ p ∷ []) ≡ serials_of list ++ p.serial ∷ []
+serials_more : (list : List IsolatedPage) (p : IsolatedPage) → serials_of (list ++ p ∷ []) ≡ serials_of list ++ p.serial ∷ []
 serials_more [] p = refl
 serials_more (q ∷ list) p = ap (λ (t : List ℕ). q.serial ∷ t) (serials_more list p)
 
-one_more : (list : List OnItsWay) (p : OnItsWay) (i : ℕ) (q : OnItsWay) → slice_get (list ++ p ∷ []) i ≡ Some q → (slice_get list i ≡ Some q) ⊎ (p ≡ q)
+one_more : (list : List IsolatedPage) (p : IsolatedPage) (i : ℕ) (q : IsolatedPage) → slice_get (list ++ p ∷ []) i ≡ Some q → (slice_get list i ≡ Some q) ⊎ (p ≡ q)
 one_more [] p zero q e = inr cc
 one_more [] p (suc i) q e = cc
 one_more (x ∷ list) p zero q e = inl e
 one_more (x ∷ list) p (suc i) q e = one_more list p i q e
 
 -- what `isolate_next` says of the page that it answers
-pub record IsTaken (zone next : ZoneState) (p : OnItsWay) : Type 0 where
+pub record IsTaken (zone next : ZoneState) (p : IsolatedPage) : Type 0 where
   pub pair : Pair
   pub is : next_pair zone ≡ Some pair
   pub page : p ≡ record { serial = isolated zone.records; page = page_now zone pair.page }
   pub state : next ≡ isolated_next zone pair
 
-pub is_taken : (zone next : ZoneState) (p : OnItsWay) → Found p ≡ next_answer zone (next_pair zone) → next ≡ next_state zone (next_pair zone) → IsTaken zone next p
+pub is_taken : (zone next : ZoneState) (p : IsolatedPage) → Found p ≡ next_answer zone (next_pair zone) → next ≡ next_state zone (next_pair zone) → IsTaken zone next p
 is_taken zone next p answer state = by_pair (next_pair zone) refl answer state where
   by_pair : (o : Option Pair) → next_pair zone ≡ o → Found p ≡ next_answer zone o → next ≡ next_state zone o → IsTaken zone next p
   by_pair None is answer state = cc
@@ -180,7 +180,7 @@ met_same zone next answer state = by_pair (next_pair zone) answer state where
   by_pair None answer state = state
   by_pair (Some pair) answer state = cc
 
-module _ (zone next : ZoneState) (scan : ScanSeat) (ends : EndSeat) (is_open : Bool) (list : List OnItsWay) (held : List InHand) (capacity : ℕ) (p : OnItsWay) (was : IsCarried zone scan ends is_open list held capacity) (opened : is_open ≡ true) (room : isolate_refusal zone ≡ None) (take : IsTaken zone next p) (scans : Scans zone next (Found p)) where
+module _ (zone next : ZoneState) (scan : ScanSeat) (ends : EndSeat) (is_open : Bool) (list : List IsolatedPage) (held : List InHand) (capacity : ℕ) (p : IsolatedPage) (was : IsCarried zone scan ends is_open list held capacity) (opened : is_open ≡ true) (room : isolate_refusal zone ≡ None) (take : IsTaken zone next p) (scans : Scans zone next (Found p)) where
   abbrev scanning : WorldState
   scanning = world_of zone scan ends is_open list held
 
@@ -188,15 +188,15 @@ module _ (zone next : ZoneState) (scan : ScanSeat) (ends : EndSeat) (is_open : B
   seat_counted = seat_noted scan (Found p)
 
   at_source : map.get zone.placement take.pair.page ≡ Some (At scans.source)
-  at_source = ap (λ (q : OnItsWay). map.get zone.placement q.page.number) (sym take.page) ∙ scans.pair.from.here
+  at_source = ap (λ (q : IsolatedPage). map.get zone.placement q.page.number) (sym take.page) ∙ scans.pair.from.here
 
   pub world_is : isolated_by scanning (next_pair zone) ≡ world_of next seat_counted ends is_open (list ++ p ∷ []) held
   world_is =
       ap (isolated_by scanning) take.is
-      ∙ (λ i. record { zone = sym take.state i; scan = seat_counted; ends = ends; is_open = is_open; waiting = serials_of list ++ sym (ap (λ (q : OnItsWay). q.serial) take.page) i ∷ []; hands = each hand_as held })
+      ∙ (λ i. record { zone = sym take.state i; scan = seat_counted; ends = ends; is_open = is_open; waiting = serials_of list ++ sym (ap (λ (q : IsolatedPage). q.serial) take.page) i ∷ []; hands = each hand_as held })
       ∙ ap (λ (waiting : List ℕ). record { zone = next; scan = seat_counted; ends = ends; is_open = is_open; waiting = waiting; hands = each hand_as held }) (sym (serials_more list p))
 
-  own_then : (q : OnItsWay) → IsOwnCopy zone q → IsOwnCopy next q
+  own_then : (q : IsolatedPage) → IsOwnCopy zone q → IsOwnCopy next q
   own_then q own = subst (λ (v : ZoneState). IsOwnCopy v q) (sym take.state) (own_isolated zone take.pair scans.source at_source q own)
 
   own_now : IsOwnCopy next p
@@ -222,7 +222,7 @@ module _ (zone next : ZoneState) (scan : ScanSeat) (ends : EndSeat) (is_open : B
   -- the list has a place for one more page
   pub place_left : length list < capacity
   place_left =
-      omega (arith, was.room, was.orderly.few.0, was.orderly.few.1, length-map list (λ (q : OnItsWay). q.serial), scans.pair.from.low, scans.pair.to.low, scans.pair.to.high)
+      omega (arith, was.room, was.orderly.few.0, was.orderly.few.1, length-map list (λ (q : IsolatedPage). q.serial), scans.pair.from.low, scans.pair.to.low, scans.pair.to.high)
 
 -- Calls of the zone that leave moving pages as they are.
 -- a call that isn't refused passed each test
@@ -291,13 +291,13 @@ call_leaves (Mark block) client z = record { same_out = refl; migrate = refl; fr
 call_leaves (Unmark block) client z = record { same_out = refl; migrate = refl; free = refl; blocks = refl }
 
 -- a copy of a moving page stays the zone's own
-own_mapped : (z : ZoneState) (client : ℕ) (address : Address) (unmovable : Bool) (frame : ℕ) → IsLawful z → IsSome (lowest_free_frame z) → (p : OnItsWay) → IsOwnCopy z p → IsOwnCopy (mapped z client address unmovable frame) p
+own_mapped : (z : ZoneState) (client : ℕ) (address : Address) (unmovable : Bool) (frame : ℕ) → IsValidZone z → IsSome (lowest_free_frame z) → (p : IsolatedPage) → IsOwnCopy z p → IsOwnCopy (mapped z client address unmovable frame) p
 own_mapped z client address unmovable frame law free = by_page (lowest_unused_page z) refl where
-  by_page : (o : Option ℕ) → lowest_unused_page z ≡ o → (p : OnItsWay) → IsOwnCopy z p → IsOwnCopy (placed z client address unmovable (unwrap_or o 0) frame) p
+  by_page : (o : Option ℕ) → lowest_unused_page z ≡ o → (p : IsolatedPage) → IsOwnCopy z p → IsOwnCopy (placed z client address unmovable (unwrap_or o 0) frame) p
   by_page None none = absurd (unused_left z law free none)
   by_page (Some page) unused = own_placed z client address unmovable page frame (unused_is z page unused).1
 
-own_called : {W : ℕ} (call : ZoneCall W) (client : ℕ) (z : ZoneState) → IsLawful z → refusal_of call z ≡ None → (p : OnItsWay) → IsOwnCopy z p → IsOwnCopy (after call client z) p
+own_called : {W : ℕ} (call : ZoneCall W) (client : ℕ) (z : ZoneState) → IsValidZone z → refusal_of call z ≡ None → (p : IsolatedPage) → IsOwnCopy z p → IsOwnCopy (after call client z) p
 own_called (Map address unmovable) client z law accepted = own_mapped z client address unmovable _ law (frame_left z address accepted)
 own_called (MapAt address unmovable frame) client z law accepted = own_mapped z client address unmovable frame law (frame_left_at z address frame accepted)
 own_called (Load address word) client z law accepted = own_loaded z client address word
@@ -321,7 +321,7 @@ read_leaves z client address from (suc count) =
     let rest = read_leaves (loaded z client address from) client address (from + 1) count in
     record { same_out = rest.same_out; migrate = rest.migrate; free = rest.free; blocks = rest.blocks }
 
-own_read : (z : ZoneState) (client : ℕ) (address : Address) (from count : ℕ) (p : OnItsWay) → IsOwnCopy z p → IsOwnCopy (loaded_all z client address from count) p
+own_read : (z : ZoneState) (client : ℕ) (address : Address) (from count : ℕ) (p : IsolatedPage) → IsOwnCopy z p → IsOwnCopy (loaded_all z client address from count) p
 own_read z client address from zero p own = own
 own_read z client address from (suc count) p own = own_read (loaded z client address from) client address (from + 1) count p (own_loaded z client address from p own)
 
@@ -331,43 +331,43 @@ written_leaves z client address from (value ∷ values) =
     let rest = written_leaves (stored z client address from value) client address (from + 1) values in
     record { same_out = rest.same_out; migrate = rest.migrate; free = rest.free; blocks = rest.blocks }
 
-own_written : (z : ZoneState) (client : ℕ) (address : Address) (from : ℕ) (values : List ℕ) (frame : ℕ) → placement_at z address ≡ Some (At frame) → (p : OnItsWay) → IsOwnCopy z p → IsOwnCopy (stored_all z client address from values) p
+own_written : (z : ZoneState) (client : ℕ) (address : Address) (from : ℕ) (values : List ℕ) (frame : ℕ) → placement_at z address ≡ Some (At frame) → (p : IsolatedPage) → IsOwnCopy z p → IsOwnCopy (stored_all z client address from values) p
 own_written z client address from [] frame at p own = own
 own_written z client address from (value ∷ values) frame at p own =
     own_written (stored z client address from value) client address (from + 1) values frame at p (own_stored z client address from value frame at p own)
 
-module _ (zone next : ZoneState) (scan : ScanSeat) (ends : EndSeat) (is_open : Bool) (list : List OnItsWay) (held : List InHand) (capacity : ℕ) (was : IsCarried zone scan ends is_open list held capacity) where
+module _ (zone next : ZoneState) (scan : ScanSeat) (ends : EndSeat) (is_open : Bool) (list : List IsolatedPage) (held : List InHand) (capacity : ℕ) (was : IsCarried zone scan ends is_open list held capacity) where
   -- a refused call changes nothing
   unchanged : next ≡ zone → IsCarried next scan ends is_open list held capacity
   unchanged same = subst (λ (v : ZoneState). IsCarried v scan ends is_open list held capacity) (sym same) was
 
-  changed : (after : ZoneState) → next ≡ after → IsLawful next → LeavesMoves zone after → ((p : OnItsWay) → IsOwnCopy zone p → IsOwnCopy after p) → IsCarried next scan ends is_open list held capacity
+  changed : (after : ZoneState) → next ≡ after → IsValidZone next → LeavesMoves zone after → ((p : IsolatedPage) → IsOwnCopy zone p → IsOwnCopy after p) → IsCarried next scan ends is_open list held capacity
   changed after is law leaves own =
       subst (λ (v : ZoneState). IsCarried v scan ends is_open list held capacity) (sym is)
       (carried_with zone after scan ends is_open list held capacity was scan is_open
-      (orderly_with_zone (world_of zone scan ends is_open list held) after was.orderly (subst IsLawful is law) (λ serial. ap (list_any (nat_eq serial)) leaves.same_out) leaves.migrate leaves.free leaves.blocks) own leaves.blocks)
+      (orderly_with_zone (world_of zone scan ends is_open list held) after was.orderly (subst IsValidZone is law) (λ serial. ap (list_any (nat_eq serial)) leaves.same_out) leaves.migrate leaves.free leaves.blocks) own leaves.blocks)
 
   -- any call, and calls that name the frame that they answer
-  pub carried_call : {T : Type 0} (W : ℕ) (call : ZoneCall W) (client : ℕ) (result : Result T ZoneError) → IsLawful next → result_err result ≡ refusal_of call zone → OnErr result (next ≡ zone) → OnOk result (next ≡ after call client zone) → IsCarried next scan ends is_open list held capacity
+  pub carried_call : {T : Type 0} (W : ℕ) (call : ZoneCall W) (client : ℕ) (result : Result T ZoneError) → IsValidZone next → result_err result ≡ refusal_of call zone → OnErr result (next ≡ zone) → OnOk result (next ≡ after call client zone) → IsCarried next scan ends is_open list held capacity
   carried_call W call client (Err error) law refused err ok = unchanged err
   carried_call W call client (Ok done) law refused err ok =
       changed (after call client zone) ok law (call_leaves call client zone) (own_called call client zone was.orderly.lawful (sym refused))
 
-  pub carried_mapped : (client : ℕ) (address : Address) (unmovable : Bool) (result : Result ℕ ZoneError) → IsLawful next → OnErr result (next ≡ zone) → IfOk result (λ frame. lowest_free_frame zone ≡ Some frame) → IfOk result (λ frame. next ≡ mapped zone client address unmovable frame) → IsCarried next scan ends is_open list held capacity
+  pub carried_mapped : (client : ℕ) (address : Address) (unmovable : Bool) (result : Result ℕ ZoneError) → IsValidZone next → OnErr result (next ≡ zone) → IfOk result (λ frame. lowest_free_frame zone ≡ Some frame) → IfOk result (λ frame. next ≡ mapped zone client address unmovable frame) → IsCarried next scan ends is_open list held capacity
   carried_mapped client address unmovable (Err error) law err lowest ok = unchanged err
   carried_mapped client address unmovable (Ok frame) law err lowest ok =
       changed (mapped zone client address unmovable frame) ok law (record { same_out = refl; migrate = refl; free = refl; blocks = refl }) (own_mapped zone client address unmovable frame was.orderly.lawful (not_none _ frame lowest))
 
-  pub carried_taken : {T : Type 0} (first : T → ℕ) (order : ℕ) (result : Result T ZoneError) → IsLawful next → OnErr result (next ≡ zone) → IfOk result (λ block. next ≡ block_taken zone (first block) order) → IsCarried next scan ends is_open list held capacity
+  pub carried_taken : {T : Type 0} (first : T → ℕ) (order : ℕ) (result : Result T ZoneError) → IsValidZone next → OnErr result (next ≡ zone) → IfOk result (λ block. next ≡ block_taken zone (first block) order) → IsCarried next scan ends is_open list held capacity
   carried_taken first order (Err error) law err ok = unchanged err
   carried_taken first order (Ok block) law err ok =
       changed (block_taken zone (first block) order) ok law (record { same_out = refl; migrate = refl; free = refl; blocks = refl }) (own_block_taken zone (first block) order)
 
-  pub carried_read : {T : Type 0} (kept : Type 0) (client : ℕ) (address : Address) (from count : ℕ) (result : Result T ZoneError) → IsLawful next → OnErr result ((next ≡ zone) × kept) → OnOk result (next ≡ loaded_all zone client address from count) → IsCarried next scan ends is_open list held capacity
+  pub carried_read : {T : Type 0} (kept : Type 0) (client : ℕ) (address : Address) (from count : ℕ) (result : Result T ZoneError) → IsValidZone next → OnErr result ((next ≡ zone) × kept) → OnOk result (next ≡ loaded_all zone client address from count) → IsCarried next scan ends is_open list held capacity
   carried_read kept client address from count (Err error) law err ok = unchanged err.0
   carried_read kept client address from count (Ok done) law err ok = changed (loaded_all zone client address from count) ok law (read_leaves zone client address from count) (own_read zone client address from count)
 
-  pub carried_written : {T : Type 0} (client : ℕ) (address : Address) (from : ℕ) (values : List ℕ) (result : Result T ZoneError) → IsLawful next → result_err result ≡ bulk_refusal zone address from (length values) → OnErr result (next ≡ zone) → OnOk result (next ≡ stored_all zone client address from values) → IsCarried next scan ends is_open list held capacity
+  pub carried_written : {T : Type 0} (client : ℕ) (address : Address) (from : ℕ) (values : List ℕ) (result : Result T ZoneError) → IsValidZone next → result_err result ≡ bulk_refusal zone address from (length values) → OnErr result (next ≡ zone) → OnOk result (next ≡ stored_all zone client address from values) → IsCarried next scan ends is_open list held capacity
   carried_written client address from values (Err error) law refused err ok = unchanged err
   carried_written client address from values (Ok done) law refused err ok =
       let within = passed (nat_lt zone.page_size (from + length values)) Range _ (sym refused) in

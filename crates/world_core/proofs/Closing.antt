@@ -7,13 +7,13 @@ use Rattle.std.proofs.lemmas.List.{length-map}
 use Rattle.journal_core.specs.declared.record.Cause.TheVariants.{NotCopied}
 use Rattle.journal_core.specs.Moves.{out, is_out, page_of}
 use Rattle.journal_core.proofs.OnTheWay.{out_empty, none_out}
-use Rattle.word_core.specs.Page.{OnItsWay}
+use Rattle.word_core.specs.Page.{IsolatedPage}
 use Rattle.word_core.specs.Serials.{serials_of}
 use Rattle.state_core.specs.declared.error.ZoneError.TheVariants.{Missing, Out}
 use Rattle.world_core.specs.declared.hand.Hand.TheVariants as hand
 use Rattle.world_core.specs.declared.hands.Held.TheVariants.{Nothing, Page, Copy}
 use Rattle.world_core.specs.Carried.{InHand, hand_as, is_nothing, AreOwn, world_of, IsCarried, IsRest}
-use Rattle.state_core.specs.Lawful.{IsLawful}
+use Rattle.state_core.specs.Lawful.{IsValidZone}
 use Rattle.state_core.specs.Ending.{IsOwnCopy, put_back_to_source}
 use Rattle.zone_core.specs.Seats.{ScanSeat, EndSeat, audit_refusal}
 use Rattle.world_core.specs.World.{WorldState, IsOrderly, IsRising, world_closed, hand_of, serial_in, is_empty, all_put_back, shut, shut_step}
@@ -29,7 +29,7 @@ empty_hands zero i = refl
 empty_hands (suc n) zero = refl
 empty_hands (suc n) (suc i) = empty_hands n i
 
-module _ (zone : ZoneState) (scan : ScanSeat) (ends : EndSeat) (law : IsLawful zone) (whole : ends.parts ≡ 64) (none : (serial : ℕ) → is_out zone.records serial ≡ false) where
+module _ (zone : ZoneState) (scan : ScanSeat) (ends : EndSeat) (law : IsValidZone zone) (whole : ends.parts ≡ 64) (none : (serial : ℕ) → is_out zone.records serial ≡ false) where
   empty_hand : (k serial : ℕ) → serial_in (hand_of (world_closed zone scan ends) k) ≡ Some serial → ⊥
   empty_hand k serial e =
       let bad : None ≡ Some serial = ap serial_in (sym (empty_hands 4 (k - 1))) ∙ e in
@@ -58,13 +58,13 @@ module _ (zone : ZoneState) (scan : ScanSeat) (ends : EndSeat) (law : IsLawful z
   }
 
 -- no page waits where no round is open
-no_list : (list : List OnItsWay) → ((serial : ℕ) → list_any (nat_eq serial) (serials_of list) ≡ false) → list ≡ []
+no_list : (list : List IsolatedPage) → ((serial : ℕ) → list_any (nat_eq serial) (serials_of list) ≡ false) → list ≡ []
 no_list [] none = refl
 no_list (p ∷ list) none =
     let bad : true ≡ false = sym (waits_at (p ∷ list) zero p refl) ∙ none p.serial in
     cc
 
-pub closed_waits : (zone : ZoneState) (scan : ScanSeat) (ends : EndSeat) (is_open : Bool) (list : List OnItsWay) (held : List InHand) → IsOrderly (world_of zone scan ends is_open list held) → is_open ≡ false → list ≡ []
+pub closed_waits : (zone : ZoneState) (scan : ScanSeat) (ends : EndSeat) (is_open : Bool) (list : List IsolatedPage) (held : List InHand) → IsOrderly (world_of zone scan ends is_open list held) → is_open ≡ false → list ≡ []
 closed_waits zone scan ends is_open list held orderly closed = no_list list (λ serial. not_waiting_then serial (list_any (nat_eq serial) (serials_of list)) refl) where
   not_waiting_then : (serial : ℕ) (b : Bool) → list_any (nat_eq serial) (serials_of list) ≡ b → b ≡ false
   not_waiting_then serial false e = refl
@@ -73,14 +73,14 @@ closed_waits zone scan ends is_open list held orderly closed = no_list list (λ 
       cc
 
 -- Closing a round
-pub record IsClosing (zone : ZoneState) (list : List OnItsWay) (count : ℕ) (first : ZoneState) (all : List OnItsWay) : Type 0 where
+pub record IsClosing (zone : ZoneState) (list : List IsolatedPage) (count : ℕ) (first : ZoneState) (all : List IsolatedPage) : Type 0 where
   pub own : AreOwn zone list
   pub rising : IsRising (serials_of list)
   pub ahead : all_put_back zone (serials_of list) ≡ all_put_back first (serials_of all)
   pub counted : count + length list ≡ length all
   pub blocks : zone.blocks ≡ first.blocks
 
-pub closing_first : (zone : ZoneState) (list : List OnItsWay) → AreOwn zone list → IsRising (serials_of list) → IsClosing zone list 0 zone list
+pub closing_first : (zone : ZoneState) (list : List IsolatedPage) → AreOwn zone list → IsRising (serials_of list) → IsClosing zone list 0 zone list
 closing_first zone list own rising = record {
   own = own;
   rising = rising;
@@ -89,7 +89,7 @@ closing_first zone list own rising = record {
   blocks = refl;
 }
 
-pub closing_next : (zone : ZoneState) (p : OnItsWay) (list : List OnItsWay) (count : ℕ) (first : ZoneState) (all : List OnItsWay) → IsClosing zone (p ∷ list) count first all → page_of zone.records p.serial ≡ Some p.page.number → IsClosing (all_put_back zone (p.serial ∷ [])) list (count + 1) first all
+pub closing_next : (zone : ZoneState) (p : IsolatedPage) (list : List IsolatedPage) (count : ℕ) (first : ZoneState) (all : List IsolatedPage) → IsClosing zone (p ∷ list) count first all → page_of zone.records p.serial ≡ Some p.page.number → IsClosing (all_put_back zone (p.serial ∷ [])) list (count + 1) first all
 closing_next zone p list count first all was page = record {
   own = λ i q e. subst (λ (v : ZoneState). IsOwnCopy v q) (sym put_is)
       (own_put_back zone NotCopied p q (was.own zero p refl).own (rises i q e) (was.own (suc i) q e));
@@ -101,7 +101,7 @@ closing_next zone p list count first all was page = record {
   put_is : all_put_back zone (p.serial ∷ []) ≡ put_back_to_source zone p.serial p.page.number NotCopied
   put_is = ap (λ (o : Option ℕ). put_back_to_source zone p.serial (unwrap_or o 0) NotCopied) page
 
-  rises : (i : ℕ) (q : OnItsWay) → slice_get list i ≡ Some q → p.serial ≢ q.serial
+  rises : (i : ℕ) (q : IsolatedPage) → slice_get list i ≡ Some q → p.serial ≢ q.serial
   rises i q e same = let less : p.serial < q.serial = was.rising.0 q.serial (waits_at list i q e) in absurd (omega arith)
 
 all_empty : (held : List InHand) → list_all is_nothing held ≡ true → (i : ℕ) (h : InHand) → slice_get held i ≡ Some h → h ≡ Nothing
@@ -115,16 +115,16 @@ empty_seen (Nothing ∷ held) = empty_seen held
 empty_seen (Page p ∷ held) = refl
 empty_seen (Copy p ∷ held) = refl
 
-pub not_shut : (zone : ZoneState) (scan : ScanSeat) (ends : EndSeat) (is_open : Bool) (list : List OnItsWay) (held : List InHand) → list_all is_nothing held ≡ false → shut_step (world_of zone scan ends is_open list held) ≡ None
+pub not_shut : (zone : ZoneState) (scan : ScanSeat) (ends : EndSeat) (is_open : Bool) (list : List IsolatedPage) (held : List InHand) → list_all is_nothing held ≡ false → shut_step (world_of zone scan ends is_open list held) ≡ None
 not_shut zone scan ends is_open list held full =
     skipped (list_all is_empty (each hand_as held)) (Some (length (serials_of list), shut (world_of zone scan ends is_open list held))) None (empty_seen held ∙ full)
 
 -- the list of a world has at most 4,096 pages
-pub short_list : (zone : ZoneState) (scan : ScanSeat) (ends : EndSeat) (is_open : Bool) (list : List OnItsWay) (held : List InHand) (capacity : ℕ) → IsCarried zone scan ends is_open list held capacity → length list ≤ 4096
+pub short_list : (zone : ZoneState) (scan : ScanSeat) (ends : EndSeat) (is_open : Bool) (list : List IsolatedPage) (held : List InHand) (capacity : ℕ) → IsCarried zone scan ends is_open list held capacity → length list ≤ 4096
 short_list zone scan ends is_open list held capacity was =
-    omega (arith, was.orderly.few.1, was.orderly.lawful.size.1, length-map list (λ (p : OnItsWay). p.serial))
+    omega (arith, was.orderly.few.1, was.orderly.lawful.size.1, length-map list (λ (p : IsolatedPage). p.serial))
 
-module _ (zone next : ZoneState) (scan : ScanSeat) (ends : EndSeat) (is_open : Bool) (list : List OnItsWay) (held : List InHand) (capacity count : ℕ) (was : IsCarried zone scan ends is_open list held capacity) (empty : list_all is_nothing held ≡ true) (done : next ≡ all_put_back zone (serials_of list)) (blocks : next.blocks ≡ zone.blocks) (counted : count ≡ length list) where
+module _ (zone next : ZoneState) (scan : ScanSeat) (ends : EndSeat) (is_open : Bool) (list : List IsolatedPage) (held : List InHand) (capacity count : ℕ) (was : IsCarried zone scan ends is_open list held capacity) (empty : list_all is_nothing held ≡ true) (done : next ≡ all_put_back zone (serials_of list)) (blocks : next.blocks ≡ zone.blocks) (counted : count ≡ length list) where
   abbrev open_world : WorldState
   open_world = world_of zone scan ends is_open list held
 
@@ -139,7 +139,7 @@ module _ (zone next : ZoneState) (scan : ScanSeat) (ends : EndSeat) (is_open : B
         back = sym done
 
         number : length (serials_of list) ≡ count
-        number = length-map list (λ (p : OnItsWay). p.serial) ∙ sym counted
+        number = length-map list (λ (p : IsolatedPage). p.serial) ∙ sym counted
 
   pub carried_shut : IsCarried next scan ends_shut false [] held capacity
   carried_shut = record {
@@ -156,7 +156,7 @@ audit_then false b e = cc
 audit_then true true e = cc
 audit_then true false e = (refl, refl)
 
-pub carried_joined : (zone : ZoneState) (scan : ScanSeat) (ends : EndSeat) (list : List OnItsWay) (held : List InHand) (capacity : ℕ) → IsLawful zone → audit_refusal zone ends ≡ None → IsRest list capacity → capacity / 256 ≡ zone.blocks → held ≡ Nothing ∷ Nothing ∷ Nothing ∷ Nothing ∷ [] → IsCarried zone scan ends false list held capacity
+pub carried_joined : (zone : ZoneState) (scan : ScanSeat) (ends : EndSeat) (list : List IsolatedPage) (held : List InHand) (capacity : ℕ) → IsValidZone zone → audit_refusal zone ends ≡ None → IsRest list capacity → capacity / 256 ≡ zone.blocks → held ≡ Nothing ∷ Nothing ∷ Nothing ∷ Nothing ∷ [] → IsCarried zone scan ends false list held capacity
 carried_joined zone scan ends list held capacity law audit rest blocks empty =
     let passed = audit_then (nat_eq ends.parts 64) (nat_lt 0 (length (out zone.records))) audit in
     let gone = ltb-false 0 (length (out zone.records)) passed.1 in
@@ -164,13 +164,13 @@ carried_joined zone scan ends list held capacity law audit rest blocks empty =
     (carried_closed zone scan ends law (eqb-true ends.parts 64 passed.0) (out_empty zone.records (omega arith)) capacity (omega (arith, rest.room, blocks)))
 
 -- where no round is open, the zone and its seats pass an audit
-pub audit_left : (zone : ZoneState) (scan : ScanSeat) (ends : EndSeat) (is_open : Bool) (list : List OnItsWay) (held : List InHand) (capacity : ℕ) → IsCarried zone scan ends is_open list held capacity → is_open ≡ false → audit_refusal zone ends ≡ None
+pub audit_left : (zone : ZoneState) (scan : ScanSeat) (ends : EndSeat) (is_open : Bool) (list : List IsolatedPage) (held : List InHand) (capacity : ℕ) → IsCarried zone scan ends is_open list held capacity → is_open ≡ false → audit_refusal zone ends ≡ None
 audit_left zone scan ends is_open list held capacity was closed =
     ap (λ (n : ℕ). if not (nat_eq n 64) then Some Missing else if nat_lt 0 (length (out zone.records)) then Some Out else None) was.orderly.whole
     ∙ ap (λ (serials : List ℕ). if nat_lt 0 (length serials) then Some Out else None) (none_out zone.records (was.orderly.closed closed))
 
 -- where no round is open no page waits
-pub rest_left : (zone : ZoneState) (scan : ScanSeat) (ends : EndSeat) (is_open : Bool) (list : List OnItsWay) (held : List InHand) (capacity : ℕ) → IsCarried zone scan ends is_open list held capacity → is_open ≡ false → IsRest list capacity
+pub rest_left : (zone : ZoneState) (scan : ScanSeat) (ends : EndSeat) (is_open : Bool) (list : List IsolatedPage) (held : List InHand) (capacity : ℕ) → IsCarried zone scan ends is_open list held capacity → is_open ≡ false → IsRest list capacity
 rest_left zone scan ends is_open list held capacity was closed = record {
   none = closed_waits zone scan ends is_open list held was.orderly closed;
   room = omega (arith, was.room);

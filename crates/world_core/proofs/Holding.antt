@@ -5,7 +5,7 @@ use Rattle.std.specs.List.{list_any}
 use Rattle.std.specs.Option.{option_and_then}
 use Rattle.journal_core.specs.declared.record.Cause.TheVariants.{Pinned}
 use Rattle.journal_core.specs.History.{pins}
-use Rattle.word_core.specs.Page.{OnItsWay}
+use Rattle.word_core.specs.Page.{IsolatedPage}
 use Rattle.word_core.specs.Serials.{serials_of}
 use Rattle.world_core.specs.declared.hand.Hand.{Hand}
 use Rattle.world_core.specs.declared.hand.Hand.TheVariants as hand
@@ -21,7 +21,7 @@ use Rattle.world_core.proofs.MovesEnded.{orderly_finished}
 use Rattle.world_core.proofs.Carrying.{each_set, seen_at, seen_some, held_after, is_page_held, is_copy_held, page_same, copy_same, page_no_copy, copy_no_page, nothing_no_page, nothing_no_copy, nothing_is, waits_at}
 
 -- Taking, copying and finishing
-module _ (zone : ZoneState) (scan : ScanSeat) (ends : EndSeat) (is_open : Bool) (p : OnItsWay) (list : List OnItsWay) (held : List InHand) (k capacity : ℕ) (low : 0 < k) (high : k ≤ 4) (nothing : is_nothing (held_at held k) ≡ true) (was : IsCarried zone scan ends is_open (p ∷ list) held capacity) where
+module _ (zone : ZoneState) (scan : ScanSeat) (ends : EndSeat) (is_open : Bool) (p : IsolatedPage) (list : List IsolatedPage) (held : List InHand) (k capacity : ℕ) (low : 0 < k) (high : k ≤ 4) (nothing : is_nothing (held_at held k) ≡ true) (was : IsCarried zone scan ends is_open (p ∷ list) held capacity) where
   abbrev before : WorldState
   before = world_of zone scan ends is_open (p ∷ list) held
 
@@ -51,7 +51,7 @@ module _ (zone : ZoneState) (scan : ScanSeat) (ends : EndSeat) (is_open : Bool) 
     room = was.room;
   }
 
-module _ (zone : ZoneState) (scan : ScanSeat) (ends : EndSeat) (is_open : Bool) (p : OnItsWay) (list : List OnItsWay) (held : List InHand) (k capacity : ℕ) (low : 0 < k) (high : k ≤ 4) (page : page_held (held_at held k) ≡ Some p) (was : IsCarried zone scan ends is_open list held capacity) where
+module _ (zone : ZoneState) (scan : ScanSeat) (ends : EndSeat) (is_open : Bool) (p : IsolatedPage) (list : List IsolatedPage) (held : List InHand) (k capacity : ℕ) (low : 0 < k) (high : k ≤ 4) (page : page_held (held_at held k) ≡ Some p) (was : IsCarried zone scan ends is_open list held capacity) where
   abbrev uncopied : WorldState
   uncopied = world_of zone scan ends is_open list held
 
@@ -81,7 +81,7 @@ module _ (zone : ZoneState) (scan : ScanSeat) (ends : EndSeat) (is_open : Bool) 
     room = was.room;
   }
 
-module _ (zone : ZoneState) (scan : ScanSeat) (ends : EndSeat) (is_open : Bool) (p : OnItsWay) (list : List OnItsWay) (held : List InHand) (k capacity : ℕ) (low : 0 < k) (high : k ≤ 4) (copy : copy_held (held_at held k) ≡ Some p) (was : IsCarried zone scan ends is_open list held capacity) where
+module _ (zone : ZoneState) (scan : ScanSeat) (ends : EndSeat) (is_open : Bool) (p : IsolatedPage) (list : List IsolatedPage) (held : List InHand) (k capacity : ℕ) (low : 0 < k) (high : k ≤ 4) (copy : copy_held (held_at held k) ≡ Some p) (was : IsCarried zone scan ends is_open list held capacity) where
   abbrev unfinished : WorldState
   unfinished = world_of zone scan ends is_open list held
 
@@ -117,17 +117,17 @@ module _ (zone : ZoneState) (scan : ScanSeat) (ends : EndSeat) (is_open : Bool) 
     by_pins true = refl
     by_pins false = refl
 
-  own_stays : (q : OnItsWay) → p.serial ≢ q.serial → IsOwnCopy zone q → IsOwnCopy zone_finished q
+  own_stays : (q : IsolatedPage) → p.serial ≢ q.serial → IsOwnCopy zone q → IsOwnCopy zone_finished q
   own_stays q ne own = subst (λ (v : ZoneState). IsOwnCopy v q) (sym finished_is) (own_committed zone p q own_in_hand.own ne own)
 
-  not_waiting : (i : ℕ) (q : OnItsWay) → slice_get list i ≡ Some q → p.serial ≢ q.serial
+  not_waiting : (i : ℕ) (q : IsolatedPage) → slice_get list i ≡ Some q → p.serial ≢ q.serial
   not_waiting i q e same =
       let none = was.orderly.one_place k p.serial low (ap serial_in hand_copy) in
       let one = waits_at list i q e in
       let bad : true ≡ false = sym one ∙ ap (λ (s : ℕ). list_any (nat_eq s) (serials_of list)) (sym same) ∙ none in
       cc
 
-  in_other_hand : (i : ℕ) (h : InHand) (q : OnItsWay) → i ≢ k - 1 → slice_get held i ≡ Some h → serial_in (hand_as h) ≡ Some q.serial → p.serial ≢ q.serial
+  in_other_hand : (i : ℕ) (h : InHand) (q : IsolatedPage) → i ≢ k - 1 → slice_get held i ≡ Some h → serial_in (hand_as h) ≡ Some q.serial → p.serial ≢ q.serial
   in_other_hand i h q other e is same =
       let place : i + 1 - 1 ≡ i = omega arith in
       let here : serial_in (hand_of unfinished (i + 1)) ≡ Some q.serial =

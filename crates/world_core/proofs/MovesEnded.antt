@@ -21,7 +21,7 @@ use Rattle.state_core.specs.declared.moves.Ended.{Ended}
 use Rattle.state_core.specs.declared.moves.Ended.TheVariants as ended
 use Rattle.state_core.specs.declared.placement.Placement.{Placement}
 use Rattle.state_core.specs.declared.placement.Placement.TheVariants.{At, Moving}
-use Rattle.state_core.specs.Lawful.{IsLawful, is_under}
+use Rattle.state_core.specs.Lawful.{IsValidZone, is_under}
 use Rattle.state_core.specs.Ending.{moved_to_target, put_back_to_source}
 use Rattle.world_core.specs.World.{WorldState, IsOrderly, IsRising, with_hand, hand_of, waits, is_empty, serial_in, copy_in, finished_as, finished_in, finished_by, finish_step, all_put_back, shut, shut_step}
 use Rattle.zone_core.specs.Seats.{EndSeat, seat_ended}
@@ -53,7 +53,7 @@ abbrev pub page_under : ZoneState → ℕ → ℕ
 page_under z serial = unwrap_or (page_of z.records serial) 0
 
 -- the page of a serial that is out is moving under it
-pub on_its_way : (z : ZoneState) → IsLawful z → (serial : ℕ) → is_out z.records serial ≡ true → (source target : ℕ) × (map.get z.placement (page_under z serial) ≡ Some (Moving serial source target))
+pub on_its_way : (z : ZoneState) → IsValidZone z → (serial : ℕ) → is_out z.records serial ≡ true → (source target : ℕ) × (map.get z.placement (page_under z serial) ≡ Some (Moving serial source target))
 on_its_way z law serial e =
     let page = out_page z.records serial e in
     let named : page_under z serial ≡ page.0 = ap (λ (o : Option ℕ). unwrap_or o 0) page.1 in
@@ -62,13 +62,13 @@ on_its_way z law serial e =
 
 -- a zone in which the move of one serial ended
 record IsEnded (old new : ZoneState) (serial : ℕ) : Type 0 where
-  lawful : IsLawful new
+  lawful : IsValidZone new
   gone : (s : ℕ) → is_out new.records s ≡ (is_out old.records s && not (nat_eq s serial))
   migrate : new.migrate ≡ old.migrate
   free : new.free ≡ old.free
   blocks : new.blocks ≡ old.blocks
 
-finished_ended : (z : ZoneState) → IsLawful z → (serial : ℕ) → is_out z.records serial ≡ true → IsEnded z (finished_in z serial) serial
+finished_ended : (z : ZoneState) → IsValidZone z → (serial : ℕ) → is_out z.records serial ≡ true → IsEnded z (finished_in z serial) serial
 finished_ended z law serial e = by_pins (nat_eq (pins z.records (page_under z serial)) 0) refl where
   way : (source target : ℕ) × (map.get z.placement (page_under z serial) ≡ Some (Moving serial source target))
   way = on_its_way z law serial e
@@ -172,10 +172,10 @@ orderly_finished w k finished after low high o e = by_copy (copy_in (hand_of w k
 
 -- a zone in which the moves of some serials ended
 record AreEnded (old new : ZoneState) (serials : List ℕ) : Type 0 where
-  lawful : IsLawful new
+  lawful : IsValidZone new
   gone : (s : ℕ) → is_out new.records s ≡ true → (is_out old.records s ≡ true) × (list_any (nat_eq s) serials ≡ false)
 
-all_ended : (serials : List ℕ) (z : ZoneState) → IsLawful z → IsRising serials → ((s : ℕ) → list_any (nat_eq s) serials ≡ true → is_out z.records s ≡ true) → AreEnded z (all_put_back z serials) serials
+all_ended : (serials : List ℕ) (z : ZoneState) → IsValidZone z → IsRising serials → ((s : ℕ) → list_any (nat_eq s) serials ≡ true → is_out z.records s ≡ true) → AreEnded z (all_put_back z serials) serials
 all_ended [] z law rising are_out = record { lawful = law; gone = λ s e. (e, refl) }
 all_ended (serial ∷ more) z law rising are_out =
     let way = on_its_way z law serial (are_out serial (or_left (nat_eq serial serial) _ (eq-eqb serial serial refl))) in

@@ -8,7 +8,7 @@ use Rattle.journal_core.proofs.OnTheWay.{out_below}
 use Rattle.journal_core.specs.Moves.{isolated, is_out}
 use Rattle.state_core.specs.declared.moves.Next.TheVariants as next
 use Rattle.state_core.specs.declared.round.Pair.{Pair}
-use Rattle.state_core.specs.Lawful.{IsLawful}
+use Rattle.state_core.specs.Lawful.{IsValidZone}
 use Rattle.state_core.specs.Rounds.{round_begun}
 use Rattle.state_core.specs.Isolating.{isolate_refusal, isolated_next}
 use Rattle.state_core.specs.Pairs.{IsPair, next_pair}
@@ -20,7 +20,7 @@ use Rattle.state_core.proofs.Rounds.{lawful_begun}
 use Rattle.state_core.proofs.Settled.{lawful_isolated}
 use Rattle.world_core.proofs.Standing.{Stands, stands, stands_so, stands_out, waits_out, in_hand_out}
 
-pub orderly_with_zone : (w : WorldState) (zone : ZoneState) → IsOrderly w → IsLawful zone → ((serial : ℕ) → is_out zone.records serial ≡ is_out w.zone.records serial) → zone.migrate ≡ w.zone.migrate → zone.free ≡ w.zone.free → zone.blocks ≡ w.zone.blocks → IsOrderly (with_zone w zone)
+pub orderly_with_zone : (w : WorldState) (zone : ZoneState) → IsOrderly w → IsValidZone zone → ((serial : ℕ) → is_out zone.records serial ≡ is_out w.zone.records serial) → zone.migrate ≡ w.zone.migrate → zone.free ≡ w.zone.free → zone.blocks ≡ w.zone.blocks → IsOrderly (with_zone w zone)
 orderly_with_zone w zone o law same migrate free blocks = record {
   lawful = law;
   whole = o.whole;
@@ -113,7 +113,7 @@ rising_more (x ∷ waiting) n rising below =
       rising_more waiting n rising.1 (λ s h. below s (or_right (nat_eq s x) _ h)),
     )
 
-module _ (w : WorldState) (o : IsOrderly w) (is_open : w.is_open ≡ true) (pair : Pair) (law : IsLawful (isolated_next w.zone pair)) (is_pair : IsPair w.zone pair.page pair.source pair.target) where
+module _ (w : WorldState) (o : IsOrderly w) (is_open : w.is_open ≡ true) (pair : Pair) (law : IsValidZone (isolated_next w.zone pair)) (is_pair : IsPair w.zone pair.page pair.source pair.target) where
   abbrev next_serial : ℕ
   next_serial = isolated w.zone.records
 

@@ -1,3 +1,3 @@
 pub mod Books
 pub mod Seats
-pub mod Shape
+pub mod ZoneIdentity

@@ -10,7 +10,7 @@ use Rattle.state_core.specs.declared.moves.Next.TheVariants as next
 use Rattle.state_core.specs.declared.moves.Ended.{Ended}
 use Rattle.state_core.specs.declared.moves.Ended.TheVariants as ended
 use Rattle.state_core.specs.ZoneState.{ZoneState}
-use Rattle.word_core.specs.Page.{OnItsWay}
+use Rattle.word_core.specs.Page.{IsolatedPage}
 use Rattle.zone_core.specs.declared.seats.Answered.{Answered}
 use Rattle.zone_core.specs.declared.seats.Answered.TheVariants as answered
 
@@ -53,12 +53,12 @@ abbrev pub seat_full : ScanSeat → ScanSeat
 seat_full seat = record seat { last = Some answered.JournalFull }
 
 -- the scan seat after it noted an answer, and counted the page where the answer is one
-abbrev pub seat_noted : ScanSeat → Next OnItsWay → ScanSeat
+abbrev pub seat_noted : ScanSeat → Next IsolatedPage → ScanSeat
 seat_noted seat next.Met = record seat { last = Some answered.Met }
 seat_noted seat (next.Page p) = record seat { count = seat.count + 1; last = Some answered.Page }
 
 -- where the answer is a page, its serial isn't the highest number
-abbrev pub IsFollowed : Next OnItsWay → Type 0
+abbrev pub IsFollowed : Next IsolatedPage → Type 0
 IsFollowed next.Met = ⊤
 IsFollowed (next.Page p) = p.serial + 1 < 2 ^ 32
 

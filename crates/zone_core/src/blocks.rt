@@ -3,10 +3,10 @@ ghost use Rattle.std.specs.Result.{result_err};
 ghost use Rattle.frame_core.specs.Below.{lowest};
 ghost use Rattle.state_core.specs.Clear.{IsClear};
 ghost use Rattle.state_core.specs.HandingOut.{is_run, lowest_run, take_order_refusal, give_order_refusal, block_taken, block_given};
-ghost use Rattle.state_core.specs.Lawful.{IsLawful};
+ghost use Rattle.state_core.specs.Lawful.{IsValidZone};
 ghost use Rattle.state_core.specs.Marking.{mark_refusal, unmark_refusal, block_marked, block_unmarked, marked_of};
 ghost use Rattle.state_core.specs.ZoneState.{is_whole};
-ghost use Rattle.zone_core.specs.Shape.{HasShape};
+ghost use Rattle.zone_core.specs.ZoneIdentity.{HasIdentity};
 
 use crate::zone::Zone;
 use frame_core::{BlockNo, FrameNo, Order, block_of, first_frame};
@@ -26,16 +26,16 @@ impl<const W: usize, I: Ledger, M: Ledger, B: Ledger> Zone<W, I, M, B> {
         // Each of the block's frames was free, and no address or page has one of them.
         ensures run { IfOk result (λ first. IsTrue (is_run self.old order first)) }
         ensures clear { IfOk result (λ first. IsClear self.new first (2 ^ order)) }
-        ensures shape { HasShape self.old.number self.old.blocks self.new }
-        ensures lawful { IsLawful self.new }
+        ensures identity { HasIdentity self.old.number self.old.blocks self.new }
+        ensures lawful { IsValidZone self.new }
     {
-        if !self.plain.has_room() {
+        if !self.tables.has_room() {
             return Err(ZoneError::JournalFull);
         }
-        let Some(first) = self.plain.find_run(order) else {
+        let Some(first) = self.tables.find_run(order) else {
             return Err(ZoneError::NoBlock);
         };
-        self.plain.hand_out(first, order);
+        self.tables.hand_out(first, order);
         Ok(first)
     }
 
@@ -47,19 +47,19 @@ impl<const W: usize, I: Ledger, M: Ledger, B: Ledger> Zone<W, I, M, B> {
         ensures err { OnErr result (self.new ≡ self.old) }
         ensures ok { OnOk result (self.new ≡ block_given self.old first order) }
         ensures run { OnOk result (IsTrue (is_run self.new order first)) }
-        ensures shape { HasShape self.old.number self.old.blocks self.new }
-        ensures lawful { IsLawful self.new }
+        ensures identity { HasIdentity self.old.number self.old.blocks self.new }
+        ensures lawful { IsValidZone self.new }
     {
-        if !self.plain.has_block(first, order) {
+        if !self.tables.has_block(first, order) {
             return Err(ZoneError::Range);
         }
-        if !self.plain.has_room() {
+        if !self.tables.has_room() {
             return Err(ZoneError::JournalFull);
         }
-        if !self.plain.is_handed_out(first, order) {
+        if !self.tables.is_handed_out(first, order) {
             return Err(ZoneError::NotHuge);
         }
-        self.plain.take_back(first, order);
+        self.tables.take_back(first, order);
         Ok(())
     }
 
@@ -73,8 +73,8 @@ impl<const W: usize, I: Ledger, M: Ledger, B: Ledger> Zone<W, I, M, B> {
         ensures whole { IfOk result (λ block. lowest (is_whole self.old) self.old.blocks ≡ Some block) }
         ensures ok { IfOk result (λ block. self.new ≡ block_taken self.old (512 * block) 9) }
         ensures clear { IfOk result (λ block. IsClear self.new (512 * block) 512) }
-        ensures shape { HasShape self.old.number self.old.blocks self.new }
-        ensures lawful { IsLawful self.new }
+        ensures identity { HasIdentity self.old.number self.old.blocks self.new }
+        ensures lawful { IsValidZone self.new }
     {
         let first = self.take_order(Order::of_pageblock())?;
         Ok(block_of(first))
@@ -88,8 +88,8 @@ impl<const W: usize, I: Ledger, M: Ledger, B: Ledger> Zone<W, I, M, B> {
         ensures err { OnErr result (self.new ≡ self.old) }
         ensures ok { OnOk result (self.new ≡ block_given self.old (512 * block) 9) }
         ensures whole { OnOk result (IsTrue (is_whole self.new block)) }
-        ensures shape { HasShape self.old.number self.old.blocks self.new }
-        ensures lawful { IsLawful self.new }
+        ensures identity { HasIdentity self.old.number self.old.blocks self.new }
+        ensures lawful { IsValidZone self.new }
     {
         self.give_order(first_frame(block), Order::of_pageblock())
     }
@@ -101,19 +101,19 @@ impl<const W: usize, I: Ledger, M: Ledger, B: Ledger> Zone<W, I, M, B> {
         ensures refused { result_err result ≡ mark_refusal self.old block }
         ensures err { OnErr result (self.new ≡ self.old) }
         ensures ok { OnOk result (self.new ≡ block_marked self.old block) }
-        ensures shape { HasShape self.old.number self.old.blocks self.new }
-        ensures lawful { IsLawful self.new }
+        ensures identity { HasIdentity self.old.number self.old.blocks self.new }
+        ensures lawful { IsValidZone self.new }
     {
-        if !self.plain.has_pageblock(block) {
+        if !self.tables.has_pageblock(block) {
             return Err(ZoneError::Range);
         }
-        if !self.plain.has_room() {
+        if !self.tables.has_room() {
             return Err(ZoneError::JournalFull);
         }
-        if self.plain.is_marked(block) {
+        if self.tables.is_marked(block) {
             return Err(ZoneError::Marked);
         }
-        self.plain.mark(block);
+        self.tables.mark(block);
         Ok(())
     }
 
@@ -124,19 +124,19 @@ impl<const W: usize, I: Ledger, M: Ledger, B: Ledger> Zone<W, I, M, B> {
         ensures refused { result_err result ≡ unmark_refusal self.old block }
         ensures err { OnErr result (self.new ≡ self.old) }
         ensures ok { OnOk result (self.new ≡ block_unmarked self.old block) }
-        ensures shape { HasShape self.old.number self.old.blocks self.new }
-        ensures lawful { IsLawful self.new }
+        ensures identity { HasIdentity self.old.number self.old.blocks self.new }
+        ensures lawful { IsValidZone self.new }
     {
-        if !self.plain.has_pageblock(block) {
+        if !self.tables.has_pageblock(block) {
             return Err(ZoneError::Range);
         }
-        if !self.plain.has_room() {
+        if !self.tables.has_room() {
             return Err(ZoneError::JournalFull);
         }
-        if !self.plain.is_marked(block) {
+        if !self.tables.is_marked(block) {
             return Err(ZoneError::NotMarked);
         }
-        self.plain.unmark(block);
+        self.tables.unmark(block);
         Ok(())
     }
 
@@ -144,9 +144,9 @@ impl<const W: usize, I: Ledger, M: Ledger, B: Ledger> Zone<W, I, M, B> {
     pub fn marked(&self, block: BlockNo) -> Option<bool>
         ensures { result ≡ marked_of self.now block }
     {
-        if !self.plain.has_pageblock(block) {
+        if !self.tables.has_pageblock(block) {
             return None;
         }
-        Some(self.plain.is_marked(block))
+        Some(self.tables.is_marked(block))
     }
 }

@@ -3,9 +3,9 @@
 ghost use Rattle.std.specs.Prelude.{◌≡◌, ◌+◌, ◌≤◌, length, OnOk, OnErr};
 ghost use Rattle.std.specs.Result.{result_err};
 ghost use Rattle.state_core.specs.Bulk.{bulk_refusal, values_at, loaded_all, stored_all};
-ghost use Rattle.state_core.specs.Lawful.{IsLawful};
+ghost use Rattle.state_core.specs.Lawful.{IsValidZone};
 ghost use Rattle.state_core.specs.Pairs.{HaveMet};
-ghost use Rattle.zone_core.specs.Shape.{HasShape};
+ghost use Rattle.zone_core.specs.ZoneIdentity.{HasIdentity};
 
 use crate::zone::Zone;
 use frame_core::{Address, ClientNo, WordOf};
@@ -31,11 +31,11 @@ impl<const W: usize, I: Ledger, M: Ledger, B: Ledger> Zone<W, I, M, B> {
         ensures values { OnOk result (values.new ≡ values_at self.old address from.entry (length values.old)) }
         ensures ok { OnOk result (self.new ≡ loaded_all self.old client address from.entry (length values.old)) }
         ensures met { OnOk result (HaveMet self.old → HaveMet self.new) }
-        ensures shape { HasShape self.old.number self.old.blocks self.new }
-        ensures lawful { IsLawful self.new }
+        ensures identity { HasIdentity self.old.number self.old.blocks self.new }
+        ensures lawful { IsValidZone self.new }
     {
-        let frame = self.plain.bulk_frame(&address, from, values.len())?;
-        self.plain.read_words(client, address, frame, from, values);
+        let frame = self.tables.bulk_frame(&address, from, values.len())?;
+        self.tables.read_words(client, address, frame, from, values);
         Ok(())
     }
 
@@ -55,11 +55,12 @@ impl<const W: usize, I: Ledger, M: Ledger, B: Ledger> Zone<W, I, M, B> {
         ensures within { OnOk result (from.entry + length values.now ≤ W) }
         ensures ok { OnOk result (self.new ≡ stored_all self.old client address from.entry values.now) }
         ensures met { OnOk result (HaveMet self.old → HaveMet self.new) }
-        ensures shape { HasShape self.old.number self.old.blocks self.new }
-        ensures lawful { IsLawful self.new }
+        ensures identity { HasIdentity self.old.number self.old.blocks self.new }
+        ensures lawful { IsValidZone self.new }
     {
-        let frame = self.plain.bulk_frame(&address, from, values.len())?;
-        self.plain.write_words(client, address, frame, from, values);
+        let frame = self.tables.bulk_frame(&address, from, values.len())?;
+        self.tables
+            .write_words(client, address, frame, from, values);
         Ok(())
     }
 }

@@ -6,9 +6,9 @@ ghost use Rattle.std.specs.Fn.{FnOnceTakesAtMut, FnOnceReturnsAtMut};
 ghost use Rattle.std.specs.Result.{result_err};
 ghost use Rattle.state_core.specs.Contents.{contents_refusal, contents_of, contents_from, contents_written};
 ghost use Rattle.state_core.specs.HandingOut.{is_order};
-ghost use Rattle.state_core.specs.Lawful.{IsLawful};
+ghost use Rattle.state_core.specs.Lawful.{IsValidZone};
 ghost use Rattle.state_core.specs.Pairs.{HaveMet};
-ghost use Rattle.zone_core.specs.Shape.{HasShape};
+ghost use Rattle.zone_core.specs.ZoneIdentity.{HasIdentity};
 
 use crate::zone::Zone;
 use frame_core::{FrameNo, Order};
@@ -38,11 +38,11 @@ impl<const W: usize, I: Ledger, M: Ledger, B: Ledger> Zone<W, I, M, B> {
         ensures values { OnOk result (values.new ≡ contents_from self.old first from (length values.old)) }
         ensures ok { OnOk result (self.new ≡ self.old) }
         ensures met { OnOk result (HaveMet self.old → HaveMet self.new) }
-        ensures shape { HasShape self.old.number self.old.blocks self.new }
-        ensures lawful { IsLawful self.new }
+        ensures identity { HasIdentity self.old.number self.old.blocks self.new }
+        ensures lawful { IsValidZone self.new }
     {
         self.can_reach(first, order, from, values.len())?;
-        self.plain.read_block(first, order, from, values);
+        self.tables.read_block(first, order, from, values);
         Ok(())
     }
 
@@ -61,11 +61,11 @@ impl<const W: usize, I: Ledger, M: Ledger, B: Ledger> Zone<W, I, M, B> {
         ensures err { OnErr result (self.new ≡ self.old) }
         ensures ok { OnOk result (self.new ≡ contents_written self.old first from values.now) }
         ensures met { OnOk result (HaveMet self.old → HaveMet self.new) }
-        ensures shape { HasShape self.old.number self.old.blocks self.new }
-        ensures lawful { IsLawful self.new }
+        ensures identity { HasIdentity self.old.number self.old.blocks self.new }
+        ensures lawful { IsValidZone self.new }
     {
         self.can_reach(first, order, from, values.len())?;
-        self.plain.write_block(first, order, from, values);
+        self.tables.write_block(first, order, from, values);
         Ok(())
     }
 
@@ -84,11 +84,11 @@ impl<const W: usize, I: Ledger, M: Ledger, B: Ledger> Zone<W, I, M, B> {
         ensures err { OnErr result (self.new ≡ self.old) }
         ensures ok { IfOk result (λ answer. (words : List ℕ) × (length words ≡ 2 ^ order * self.old.page_size) × FnOnceReturnsAtMut F.FnOnce change (contents_of self.old first) answer words × (self.new ≡ contents_written self.old first 0 words)) }
         ensures met { OnOk result (HaveMet self.old → HaveMet self.new) }
-        ensures shape { HasShape self.old.number self.old.blocks self.new }
-        ensures lawful { IsLawful self.new }
+        ensures identity { HasIdentity self.old.number self.old.blocks self.new }
+        ensures lawful { IsValidZone self.new }
     {
         self.can_reach(first, order, 0, 0)?;
-        Ok(self.plain.with_block(first, order, change))
+        Ok(self.tables.with_block(first, order, change))
     }
 
     // Whether this many words of a block, from one on, can be read or written.
@@ -103,10 +103,10 @@ impl<const W: usize, I: Ledger, M: Ledger, B: Ledger> Zone<W, I, M, B> {
         ensures held { OnOk result (IsTrue (is_order (map.get self.now.handed_out first) order)) }
         ensures within { OnOk result (from + count ≤ 2 ^ order * W) }
     {
-        if !self.plain.is_handed_out(first, order) {
+        if !self.tables.is_handed_out(first, order) {
             return Err(ZoneError::NotHuge);
         }
-        if !self.plain.has_words_from(first, order, from, count) {
+        if !self.tables.has_words_from(first, order, from, count) {
             return Err(ZoneError::Range);
         }
         Ok(())

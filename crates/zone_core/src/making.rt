@@ -3,9 +3,9 @@
 ghost use Rattle.std.specs.Prelude.{◌≡◌, IsTrue, IfOk, OnOk, OnErr};
 ghost use Rattle.std.specs.Result.{result_err};
 ghost use Rattle.state_core.specs.Calls.{refusal_of, answer_of, after, is_access};
-ghost use Rattle.state_core.specs.Lawful.{IsLawful};
+ghost use Rattle.state_core.specs.Lawful.{IsValidZone};
 ghost use Rattle.state_core.specs.Pairs.{HaveMet};
-ghost use Rattle.zone_core.specs.Shape.{HasShape};
+ghost use Rattle.zone_core.specs.ZoneIdentity.{HasIdentity};
 
 use crate::zone::Zone;
 use frame_core::{ClientNo, PageFlags};
@@ -22,8 +22,8 @@ impl<const W: usize, I: Ledger, M: Ledger, B: Ledger> Zone<W, I, M, B> {
         ensures ok { OnOk result (self.new ≡ after call.entry client self.old) }
         // A load or a store doesn't make a pair.
         ensures met { OnOk result (IsTrue (is_access call.entry) → HaveMet self.old → HaveMet self.new) }
-        ensures shape { HasShape self.old.number self.old.blocks self.new }
-        ensures lawful { IsLawful self.new }
+        ensures identity { HasIdentity self.old.number self.old.blocks self.new }
+        ensures lawful { IsValidZone self.new }
     {
         match call {
             Call::Map { address, unmovable } => {

@@ -2,11 +2,11 @@
 
 ghost use Rattle.std.specs.Prelude.{◌≡◌, OnOk, OnErr};
 ghost use Rattle.std.specs.Result.{result_err};
-ghost use Rattle.state_core.specs.Lawful.{IsLawful};
+ghost use Rattle.state_core.specs.Lawful.{IsValidZone};
 ghost use Rattle.state_core.specs.Sharing.{share_refusal, shared};
 ghost use Rattle.state_core.specs.Unmapping.{unmap_refusal, unmapped};
 ghost use Rattle.state_core.specs.Pinning.{pin_refusal, pinned, unpin_refusal, unpinned};
-ghost use Rattle.zone_core.specs.Shape.{HasShape};
+ghost use Rattle.zone_core.specs.ZoneIdentity.{HasIdentity};
 
 use crate::zone::Zone;
 use frame_core::{Address, ClientNo};
@@ -26,20 +26,20 @@ impl<const W: usize, I: Ledger, M: Ledger, B: Ledger> Zone<W, I, M, B> {
         ensures refused { result_err result ≡ share_refusal self.old address alias }
         ensures err { OnErr result (self.new ≡ self.old) }
         ensures ok { OnOk result (self.new ≡ shared self.old client address alias) }
-        ensures shape { HasShape self.old.number self.old.blocks self.new }
-        ensures lawful { IsLawful self.new }
+        ensures identity { HasIdentity self.old.number self.old.blocks self.new }
+        ensures lawful { IsValidZone self.new }
     {
-        if !self.plain.has_room() {
+        if !self.tables.has_room() {
             return Err(ZoneError::JournalFull);
         }
-        let frame = self.plain.frame_of(&address)?;
-        if self.plain.names_page(&alias) {
+        let frame = self.tables.frame_of(&address)?;
+        if self.tables.names_page(&alias) {
             return Err(ZoneError::Occupied);
         }
-        if self.plain.uses_at(&address).maps >= 4 {
+        if self.tables.uses_at(&address).maps >= 4 {
             return Err(ZoneError::ShareFull);
         }
-        self.plain.share(client, address, alias, frame);
+        self.tables.share(client, address, alias, frame);
         Ok(())
     }
 
@@ -51,18 +51,18 @@ impl<const W: usize, I: Ledger, M: Ledger, B: Ledger> Zone<W, I, M, B> {
         ensures refused { result_err result ≡ unmap_refusal self.old address }
         ensures err { OnErr result (self.new ≡ self.old) }
         ensures ok { OnOk result (self.new ≡ unmapped self.old client address) }
-        ensures shape { HasShape self.old.number self.old.blocks self.new }
-        ensures lawful { IsLawful self.new }
+        ensures identity { HasIdentity self.old.number self.old.blocks self.new }
+        ensures lawful { IsValidZone self.new }
     {
-        if !self.plain.has_room() {
+        if !self.tables.has_room() {
             return Err(ZoneError::JournalFull);
         }
-        let frame = self.plain.frame_of(&address)?;
-        let uses = self.plain.uses_at(&address);
+        let frame = self.tables.frame_of(&address)?;
+        let uses = self.tables.uses_at(&address);
         if uses.maps == 1 && uses.pins != 0 {
             return Err(ZoneError::Pinned);
         }
-        self.plain.unmap(client, address, frame);
+        self.tables.unmap(client, address, frame);
         Ok(())
     }
 
@@ -74,19 +74,19 @@ impl<const W: usize, I: Ledger, M: Ledger, B: Ledger> Zone<W, I, M, B> {
         ensures refused { result_err result ≡ pin_refusal self.old address }
         ensures err { OnErr result (self.new ≡ self.old) }
         ensures ok { OnOk result (self.new ≡ pinned self.old client address) }
-        ensures shape { HasShape self.old.number self.old.blocks self.new }
-        ensures lawful { IsLawful self.new }
+        ensures identity { HasIdentity self.old.number self.old.blocks self.new }
+        ensures lawful { IsValidZone self.new }
     {
-        if !self.plain.has_room() {
+        if !self.tables.has_room() {
             return Err(ZoneError::JournalFull);
         }
-        if !self.plain.names_page(&address) {
+        if !self.tables.names_page(&address) {
             return Err(ZoneError::Unmapped);
         }
-        if self.plain.uses_at(&address).pins == 255 {
+        if self.tables.uses_at(&address).pins == 255 {
             return Err(ZoneError::PinFull);
         }
-        self.plain.pin(client, address);
+        self.tables.pin(client, address);
         Ok(())
     }
 
@@ -97,19 +97,19 @@ impl<const W: usize, I: Ledger, M: Ledger, B: Ledger> Zone<W, I, M, B> {
         ensures refused { result_err result ≡ unpin_refusal self.old address }
         ensures err { OnErr result (self.new ≡ self.old) }
         ensures ok { OnOk result (self.new ≡ unpinned self.old client address) }
-        ensures shape { HasShape self.old.number self.old.blocks self.new }
-        ensures lawful { IsLawful self.new }
+        ensures identity { HasIdentity self.old.number self.old.blocks self.new }
+        ensures lawful { IsValidZone self.new }
     {
-        if !self.plain.has_room() {
+        if !self.tables.has_room() {
             return Err(ZoneError::JournalFull);
         }
-        if !self.plain.names_page(&address) {
+        if !self.tables.names_page(&address) {
             return Err(ZoneError::Unmapped);
         }
-        if self.plain.uses_at(&address).pins == 0 {
+        if self.tables.uses_at(&address).pins == 0 {
             return Err(ZoneError::NotPinned);
         }
-        self.plain.unpin(client, address);
+        self.tables.unpin(client, address);
         Ok(())
     }
 }

@@ -3,7 +3,7 @@
 ghost use Rattle.std.specs.Prelude.{◌≡◌, ◌<◌, ℕ, Some, length};
 ghost use Rattle.std.specs.FinMap as map;
 ghost use Rattle.journal_core.specs.History.{last};
-ghost use Rattle.plain_core.specs.Fits.{EntriesFit, FramesFit, MovableFit, WordsFit};
+ghost use Rattle.zone_tables.specs.Fits.{EntriesFit, FramesFit, MovableFit, WordsFit};
 ghost use Rattle.state_core.specs.ZoneState.{frame_count, words_frame};
 ghost use Rattle.state_core.specs.declared.placement.Placement.{Placement};
 ghost use Rattle.word_core.specs.Words.{word_of};
@@ -20,7 +20,7 @@ impl<const W: usize, I: Ledger, M: Ledger, B: Ledger> Zone<W, I, M, B> {
         ensures entries { EntriesFit result.now.entries self.now }
         ensures frames { result.now.frames ≡ frame_count self.now }
     {
-        self.plain.tables()
+        self.tables.tables()
     }
 
     /// The state of each frame, and whether the page that it holds may be taken from it.
@@ -28,7 +28,7 @@ impl<const W: usize, I: Ledger, M: Ledger, B: Ledger> Zone<W, I, M, B> {
         ensures states { FramesFit result.now.states self.now }
         ensures movable { MovableFit result.now.movable self.now }
     {
-        self.plain.frames()
+        self.tables.frames()
     }
 
     /// The words of each frame. The frame in which a page stands has the words of this page; while a page is moving, the one
@@ -40,6 +40,6 @@ impl<const W: usize, I: Ledger, M: Ledger, B: Ledger> Zone<W, I, M, B> {
         ensures last { (page : ℕ) (placement : Placement) (word : ℕ) → map.get self.now.placement page ≡ Some placement
             → word < self.now.page_size → word_of result.now (words_frame placement) word ≡ last self.now.records page word }
     {
-        self.plain.words()
+        self.tables.words()
     }
 }

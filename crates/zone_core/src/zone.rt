@@ -2,14 +2,14 @@ ghost use Rattle.std.specs.Prelude.{◌≡◌, ◌+◌, ◌/◌, ◌^◌, ◌==�
 ghost use Rattle.std.specs.Int.RustNames.{bit_and};
 ghost use Rattle.zone_core.specs.Books.{AreFor};
 ghost use Rattle.state_core.specs.Clear.{BlocksAreApart, BlocksAreClear};
-ghost use Rattle.state_core.specs.Lawful.{IsLawful};
+ghost use Rattle.state_core.specs.Lawful.{IsValidZone};
 ghost use Rattle.journal_core.specs.Moves.{isolated, out};
 ghost use Rattle.journal_core.specs.declared.record.Record.{Record};
 ghost use Rattle.state_core.specs.Rounds.{round_begun};
 ghost use Rattle.state_core.specs.Isolating.{isolate_refusal, next_answer, next_state, Scans};
 ghost use Rattle.state_core.specs.Ending.{is_own, IsOwnCopy, Ends, ended_as, committed, put_back_to_source};
 ghost use Rattle.state_core.specs.Looking.{look_of, info_of};
-ghost use Rattle.zone_core.specs.Shape.{HasShape};
+ghost use Rattle.zone_core.specs.ZoneIdentity.{HasIdentity};
 ghost use Rattle.zone_core.specs.Seats.{IsFollowed, seat_begun, seat_full, seat_noted, seat_ended, audit_refusal, IsAudited, fresh_scan_seat, fresh_end_seat};
 ghost use Rattle.state_core.specs.Packed.{IsPacked, IsPlacement, unmarked_free, marked_whole, free_runs, left_whole, left_runs, places_now};
 ghost use Rattle.state_core.specs.Pairs.{HaveMet, is_calm, next_pair};
@@ -25,12 +25,12 @@ use crate::seats::{Answered, Blanks, EndSeat, ScanSeat};
 use bitflags::Flags;
 use frame_core::{Address, ClientNo, FrameNo, PageFlags, WordOf, ZoneNo};
 use journal_core::{Cause, Journal};
-use plain_core::PlainZone;
 use state_core::{Audit, Ended, Info, Look, Next, Stranger, ZoneError};
 use std::alloc::Global;
 use std::marker::Model;
 use std::sync::ledger::{Book, Ledger};
 use word_core::{CopiedOf, IsolatedOf};
+use zone_tables::ZoneTables;
 
 /// A zone of 1 to 8 pageblocks, whose pages have `W` words. Its type parameters name its opening: the ledgers of the pages
 /// that are isolated, moved and put back. After `open` no call takes memory.
@@ -42,14 +42,14 @@ use word_core::{CopiedOf, IsolatedOf};
 /// most. `open_told` keeps none of them: they exist for contracts alone, and there is room for 2^53.
 #[derive(Drop)]
 pub struct Zone<const W: usize, I: Ledger, M: Ledger, B: Ledger> {
-    pub(crate) plain: PlainZone<W>,
+    pub(crate) tables: ZoneTables<W>,
     isolated: Book<I>,
     moved: Book<M>,
     back: Book<B>,
 }
 
 impl<const W: usize, I: Ledger, M: Ledger, B: Ledger> Model for Zone<W, I, M, B> {
-    ghost use Rattle.state_core.specs.Lawful.{IsLawful};
+    ghost use Rattle.state_core.specs.Lawful.{IsValidZone};
     ghost use Rattle.state_core.specs.ZoneState.{ZoneState};
     ghost use Rattle.zone_core.specs.Books.{AreBooks, AreCut, IsScanned};
     ghost use Rattle.state_core.specs.ZoneCode.{coded_zone};
@@ -58,9 +58,9 @@ impl<const W: usize, I: Ledger, M: Ledger, B: Ledger> Model for Zone<W, I, M, B>
 
     ghost coded = { coded_zone };
 
-    ghost view = { λ z. z.plain };
+    ghost view = { λ z. z.tables };
 
-    ghost invariant = { λ z. AreBooks z.moved.total z.back.total z.plain × AreCut I.parts M.parts B.parts × IsLawful z.plain × IsScanned z.isolated.total z.plain };
+    ghost invariant = { λ z. AreBooks z.moved.total z.back.total z.tables × AreCut I.parts M.parts B.parts × IsValidZone z.tables × IsScanned z.isolated.total z.tables };
 }
 
 impl<const W: usize, I: Ledger, M: Ledger, B: Ledger> Zone<W, I, M, B> {
@@ -82,13 +82,13 @@ impl<const W: usize, I: Ledger, M: Ledger, B: Ledger> Zone<W, I, M, B> {
         ensures zone { IfOk result (λ opening. opening.0 ≡ opened_with W number blocks places) }
         ensures scan { IfOk result (λ opening. opening.1 ≡ fresh_scan_seat) }
         ensures ends { IfOk result (λ opening. opening.2 ≡ fresh_end_seat) }
-        ensures lawful { IfOk result (λ opening. IsLawful opening.0) }
+        ensures lawful { IfOk result (λ opening. IsValidZone opening.0) }
     {
         if blocks < 1 || blocks > 8 || places < 1 || places > 65536 {
             return Err(ZoneError::Range);
         }
-        let plain = PlainZone::open(alloc, number, blocks, places)?;
-        Ok(Self::seated(plain, blanks))
+        let tables = ZoneTables::open(alloc, number, blocks, places)?;
+        Ok(Self::seated(tables, blanks))
     }
 
     /// An empty zone whose journal is told, as `open` gives one whose journal is kept. Contracts see each record, and no memory has
@@ -108,25 +108,25 @@ impl<const W: usize, I: Ledger, M: Ledger, B: Ledger> Zone<W, I, M, B> {
         ensures zone { IfOk result (λ opening. opening.0 ≡ opened_told W number blocks) }
         ensures scan { IfOk result (λ opening. opening.1 ≡ fresh_scan_seat) }
         ensures ends { IfOk result (λ opening. opening.2 ≡ fresh_end_seat) }
-        ensures lawful { IfOk result (λ opening. IsLawful opening.0) }
+        ensures lawful { IfOk result (λ opening. IsValidZone opening.0) }
     {
         if blocks < 1 || blocks > 8 {
             return Err(ZoneError::Range);
         }
-        let plain = PlainZone::open_told(alloc, number, blocks)?;
-        Ok(Self::seated(plain, blanks))
+        let tables = ZoneTables::open_told(alloc, number, blocks)?;
+        Ok(Self::seated(tables, blanks))
     }
 
     /// The zone with its ledgers and seats.
     fn seated<N: Ledger>(
-        plain: PlainZone<W>,
+        tables: ZoneTables<W>,
         blanks: Blanks,
     ) -> (Zone<W, I, M, B>, ScanSeat<I, N>, EndSeat<M, B>)
-        requires fresh { (number blocks places : ℕ) × (plain ≡ opened_with W number blocks places) }
-        requires lawful { IsLawful plain }
+        requires fresh { (number blocks places : ℕ) × (tables ≡ opened_with W number blocks places) }
+        requires lawful { IsValidZone tables }
         requires blanks { AreFor blanks I.name I.parts N.name N.parts M.name M.parts B.name B.parts }
-        ensures zone { result.0 ≡ plain.entry }
-        ensures lawful { IsLawful result.0 }
+        ensures zone { result.0 ≡ tables.entry }
+        ensures lawful { IsValidZone result.0 }
         ensures scan { result.1 ≡ fresh_scan_seat }
         ensures ends { result.2 ≡ fresh_end_seat }
     {
@@ -140,7 +140,7 @@ impl<const W: usize, I: Ledger, M: Ledger, B: Ledger> Zone<W, I, M, B> {
         let (moved, moved_share) = moved.open::<M>();
         let (back, back_share) = back.open::<B>();
         let zone = Zone {
-            plain,
+            tables,
             isolated,
             moved,
             back,
@@ -165,20 +165,20 @@ impl<const W: usize, I: Ledger, M: Ledger, B: Ledger> Zone<W, I, M, B> {
         ensures err { OnErr result (self.new ≡ self.old) }
         ensures frame { IfOk result (λ frame. lowest_free_frame self.old ≡ Some frame) }
         ensures ok { IfOk result (λ frame. self.new ≡ mapped self.old client address (is_unmovable flags) frame) }
-        ensures shape { HasShape self.old.number self.old.blocks self.new }
-        ensures lawful { IsLawful self.new }
+        ensures identity { HasIdentity self.old.number self.old.blocks self.new }
+        ensures lawful { IsValidZone self.new }
     {
-        if !self.plain.has_room() {
+        if !self.tables.has_room() {
             return Err(ZoneError::JournalFull);
         }
-        if self.plain.names_page(&address) {
+        if self.tables.names_page(&address) {
             return Err(ZoneError::Occupied);
         }
-        let Some(frame) = self.plain.find_free() else {
+        let Some(frame) = self.tables.find_free() else {
             return Err(ZoneError::NoFrame);
         };
         let unmovable = flags.contains(PageFlags::UNMOVABLE);
-        self.plain.place(client, address, unmovable, frame);
+        self.tables.place(client, address, unmovable, frame);
         Ok(frame)
     }
 
@@ -196,23 +196,23 @@ impl<const W: usize, I: Ledger, M: Ledger, B: Ledger> Zone<W, I, M, B> {
         ensures refused { result_err result ≡ map_at_refusal self.old address frame }
         ensures err { OnErr result (self.new ≡ self.old) }
         ensures ok { OnOk result (self.new ≡ mapped self.old client address (is_unmovable flags) frame) }
-        ensures shape { HasShape self.old.number self.old.blocks self.new }
-        ensures lawful { IsLawful self.new }
+        ensures identity { HasIdentity self.old.number self.old.blocks self.new }
+        ensures lawful { IsValidZone self.new }
     {
-        if !self.plain.has_frame(frame) {
+        if !self.tables.has_frame(frame) {
             return Err(ZoneError::Range);
         }
-        if !self.plain.has_room() {
+        if !self.tables.has_room() {
             return Err(ZoneError::JournalFull);
         }
-        if self.plain.names_page(&address) {
+        if self.tables.names_page(&address) {
             return Err(ZoneError::Occupied);
         }
-        if !self.plain.is_free(frame) {
+        if !self.tables.is_free(frame) {
             return Err(ZoneError::NoFrame);
         }
         let unmovable = flags.contains(PageFlags::UNMOVABLE);
-        self.plain.place(client, address, unmovable, frame);
+        self.tables.place(client, address, unmovable, frame);
         Ok(())
     }
 
@@ -231,14 +231,14 @@ impl<const W: usize, I: Ledger, M: Ledger, B: Ledger> Zone<W, I, M, B> {
         ensures ok { OnOk result (self.new ≡ loaded self.old client address word.entry) }
         // A load doesn't make a pair.
         ensures met { OnOk result (HaveMet self.old → HaveMet self.new) }
-        ensures shape { HasShape self.old.number self.old.blocks self.new }
-        ensures lawful { IsLawful self.new }
+        ensures identity { HasIdentity self.old.number self.old.blocks self.new }
+        ensures lawful { IsValidZone self.new }
     {
-        if !self.plain.has_room() {
+        if !self.tables.has_room() {
             return Err(ZoneError::JournalFull);
         }
-        let frame = self.plain.frame_of(&address)?;
-        Ok(self.plain.read(client, address, frame, word))
+        let frame = self.tables.frame_of(&address)?;
+        Ok(self.tables.read(client, address, frame, word))
     }
 
     /// Writes a word of the page that an address names.
@@ -255,14 +255,14 @@ impl<const W: usize, I: Ledger, M: Ledger, B: Ledger> Zone<W, I, M, B> {
         ensures err { OnErr result (self.new ≡ self.old) }
         ensures ok { OnOk result (self.new ≡ stored self.old client address word.entry value) }
         ensures met { OnOk result (HaveMet self.old → HaveMet self.new) }
-        ensures shape { HasShape self.old.number self.old.blocks self.new }
-        ensures lawful { IsLawful self.new }
+        ensures identity { HasIdentity self.old.number self.old.blocks self.new }
+        ensures lawful { IsValidZone self.new }
     {
-        if !self.plain.has_room() {
+        if !self.tables.has_room() {
             return Err(ZoneError::JournalFull);
         }
-        let held = self.plain.frame_of(&address)?;
-        self.plain.write(client, address, held, word, value);
+        let held = self.tables.frame_of(&address)?;
+        self.tables.write(client, address, held, word, value);
         Ok(())
     }
 
@@ -273,11 +273,11 @@ impl<const W: usize, I: Ledger, M: Ledger, B: Ledger> Zone<W, I, M, B> {
         ensures seat { seat.new ≡ seat_begun seat.old }
         ensures quiet { is_quiet self.new ≡ is_calm self.old }
         ensures serial { seat.old.count ≡ isolated self.old.records }
-        ensures shape { HasShape self.old.number self.old.blocks self.new }
-        ensures lawful { IsLawful self.new }
+        ensures identity { HasIdentity self.old.number self.old.blocks self.new }
+        ensures lawful { IsValidZone self.new }
     {
         seat.tell(&mut self.isolated);
-        self.plain.begin_round();
+        self.tables.begin_round();
         seat.begin(&mut self.isolated);
     }
 
@@ -285,7 +285,7 @@ impl<const W: usize, I: Ledger, M: Ledger, B: Ledger> Zone<W, I, M, B> {
     pub fn show_count<N: Ledger>(&mut self, seat: &mut ScanSeat<I, N>)
         ensures serial { seat.old.count ≡ isolated self.old.records }
         ensures same { (self.new ≡ self.old) × (seat.new ≡ seat.old) }
-        ensures lawful { IsLawful self.new }
+        ensures lawful { IsValidZone self.new }
     {
         seat.tell(&mut self.isolated);
     }
@@ -313,19 +313,19 @@ impl<const W: usize, I: Ledger, M: Ledger, B: Ledger> Zone<W, I, M, B> {
         ensures followed { IfOk result IsFollowed }
         ensures seat { IfOk result (λ next. seat.new ≡ seat_noted seat.old next) }
         ensures full { OnErr result (seat.new ≡ seat_full seat.old) }
-        ensures shape { HasShape self.old.number self.old.blocks self.new }
-        ensures lawful { IsLawful self.new }
+        ensures identity { HasIdentity self.old.number self.old.blocks self.new }
+        ensures lawful { IsValidZone self.new }
     {
         seat.tell(&mut self.isolated);
-        if !self.plain.has_room_for_two() || !self.plain.has_serial() {
+        if !self.tables.has_room_for_two() || !self.tables.has_serial() {
             seat.note(&mut self.isolated, Answered::JournalFull);
             return Err(ZoneError::JournalFull);
         }
-        let Some(pair) = self.plain.next_pair() else {
+        let Some(pair) = self.tables.next_pair() else {
             seat.note(&mut self.isolated, Answered::Met);
             return Ok(Next::Met);
         };
-        let page = self.plain.isolate(pair);
+        let page = self.tables.isolate(pair);
         seat.count(&mut self.isolated);
         Ok(Next::Page(page))
     }
@@ -351,21 +351,21 @@ impl<const W: usize, I: Ledger, M: Ledger, B: Ledger> Zone<W, I, M, B> {
         ensures met { OnOk result (is_quiet self.old ≡ true → HaveMet self.old → HaveMet self.new) }
         ensures once { OnOk result (is_own self.new copied.entry ≡ false) }
         ensures seat { IfOk result (λ ended. seat.new ≡ seat_ended seat.old ended) }
-        ensures shape { HasShape self.old.number self.old.blocks self.new }
-        ensures lawful { IsLawful self.new }
+        ensures identity { HasIdentity self.old.number self.old.blocks self.new }
+        ensures lawful { IsValidZone self.new }
     {
-        let Some(way) = self.plain.way_of(copied.serial(), copied.page()) else {
+        let Some(way) = self.tables.find_move(copied.serial(), copied.page()) else {
             return Err(Stranger(copied));
         };
-        if !self.plain.has_words(&way, copied.page()) {
+        if !self.tables.has_words(&way, copied.page()) {
             return Err(Stranger(copied));
         }
-        if self.plain.has_pin(way.page) {
-            self.plain.go_back(&way, Cause::Pinned);
+        if self.tables.has_pin(way.page) {
+            self.tables.go_back(&way, Cause::Pinned);
             seat.count_back(&mut self.back);
             return Ok(Ended::Back);
         }
-        self.plain.arrive(&way, copied.page());
+        self.tables.arrive(&way, copied.page());
         seat.count_moved(&mut self.moved);
         Ok(Ended::Moved)
     }
@@ -384,13 +384,13 @@ impl<const W: usize, I: Ledger, M: Ledger, B: Ledger> Zone<W, I, M, B> {
         ensures settled { OnOk result (Ends self.old self.new isolated.entry Ended.Back) }
         ensures once { OnOk result (is_own self.new isolated.entry ≡ false) }
         ensures seat { OnOk result (seat.new ≡ record seat.old { back = seat.old.back + 1 }) }
-        ensures shape { HasShape self.old.number self.old.blocks self.new }
-        ensures lawful { IsLawful self.new }
+        ensures identity { HasIdentity self.old.number self.old.blocks self.new }
+        ensures lawful { IsValidZone self.new }
     {
-        let Some(way) = self.plain.way_of(isolated.serial(), isolated.page()) else {
+        let Some(way) = self.tables.find_move(isolated.serial(), isolated.page()) else {
             return Err(Stranger(isolated));
         };
-        self.plain.go_back(&way, Cause::NotCopied);
+        self.tables.go_back(&way, Cause::NotCopied);
         seat.count_back(&mut self.back);
         Ok(())
     }
@@ -403,7 +403,7 @@ impl<const W: usize, I: Ledger, M: Ledger, B: Ledger> Zone<W, I, M, B> {
         ensures refused { result_err result ≡ (if is_some (look_of self.now address) then None else Some ZoneError.Unmapped) }
         ensures value { IfOk result (λ look. look_of self.now address ≡ Some look) }
     {
-        self.plain.look(&address).ok_or(ZoneError::Unmapped)
+        self.tables.look(&address).ok_or(ZoneError::Unmapped)
     }
 
     /// Whether the latest round is still quiet. It is where no page was out when it began, no unmarked pageblock had a page
@@ -417,7 +417,7 @@ impl<const W: usize, I: Ledger, M: Ledger, B: Ledger> Zone<W, I, M, B> {
         // the free finger on.
         ensures swept { result ≡ true → IsSwept self.now }
     {
-        self.plain.quiet()
+        self.tables.quiet()
     }
 
     /// The counts of pages isolated, moved and put back, which are those of the two seats.
@@ -439,29 +439,29 @@ impl<const W: usize, I: Ledger, M: Ledger, B: Ledger> Zone<W, I, M, B> {
         // Where the last answer of a quiet round was that the scanners met, the zone is packed.
         ensures packed { OnOk result (is_quiet self.new ≡ true → scan.old.last ≡ Some Answered.Met → IsPacked self.new) }
         ensures serial { scan.old.count ≡ isolated self.old.records }
-        ensures lawful { IsLawful self.new }
+        ensures lawful { IsValidZone self.new }
     {
         scan.tell(&mut self.isolated);
         ends.tell(&mut self.moved, &mut self.back);
         if !ends.is_whole() {
             return Err(ZoneError::Missing);
         }
-        self.plain.counted().ok_or(ZoneError::Out)
+        self.tables.counted().ok_or(ZoneError::Out)
     }
 
     /// The number that the zone was opened with.
     pub fn number(&self) -> ZoneNo
         ensures { result ≡ self.now.number }
     {
-        self.plain.number()
+        self.tables.number()
     }
 
     /// How many pageblocks the zone has, 1 to 8.
     pub fn blocks(&self) -> u32
         ensures blocks { result ≡ self.now.blocks }
-        ensures lawful { IsLawful self.now }
+        ensures lawful { IsValidZone self.now }
     {
-        self.plain.blocks()
+        self.tables.blocks()
     }
 
     /// The counts of the zone.
@@ -479,18 +479,18 @@ impl<const W: usize, I: Ledger, M: Ledger, B: Ledger> Zone<W, I, M, B> {
             → (order : ℕ) → order ≤ 9 → left_runs self.now place (2 ^ order) ≤ free_runs self.now (2 ^ order) }
         ensures placement { result.moving ≡ 0 → IsPlacement self.now (places_now self.now) }
     {
-        self.plain.info()
+        self.tables.info()
     }
 
     /// The journal of the zone. Whoever holds the zone finds it lawful: each load in the journal gave the value that was stored last.
     pub fn journal(&self) -> &Journal
         ensures records { result.now.records ≡ self.now.records }
         ensures room { result.now.room ≡ self.now.room }
-        ensures lawful { IsLawful self.now }
+        ensures lawful { IsValidZone self.now }
         // No page or address has a frame of a block that is handed out, and no two such blocks share a frame.
         ensures clear { BlocksAreClear self.now }
         ensures apart { BlocksAreApart self.now }
     {
-        self.plain.journal()
+        self.tables.journal()
     }
 }

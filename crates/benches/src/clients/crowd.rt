@@ -5,7 +5,7 @@ use crate::opening::page;
 use crate::times::nanos_since;
 use client_core::Client;
 use frame_core::{ClientNo, WordNo};
-use round_core::{Shape, SharedZone};
+use round_core::{SharedZone, ZoneIdentity};
 use std::alloc::Global;
 use std::sync::Wait;
 use std::sync::ledger::Ledger;
@@ -32,7 +32,7 @@ fn word_of(client: &Client) -> Option<WordNo> {
 
 /// At most four clients, each on a thread of its own.
 pub fn use_all<
-    K: Shape + Send + Sync,
+    K: ZoneIdentity + Send + Sync,
     I: Ledger + Send + Sync,
     M: Ledger + Send + Sync,
     B: Ledger + Send + Sync,
@@ -49,7 +49,7 @@ pub fn use_all<
 
 /// At most two clients.
 fn use_two<
-    K: Shape + Send + Sync,
+    K: ZoneIdentity + Send + Sync,
     I: Ledger + Send + Sync,
     M: Ledger + Send + Sync,
     B: Ledger + Send + Sync,
@@ -70,7 +70,7 @@ fn use_two<
 }
 
 /// Stores to the client's word of each page and loads it, by turns.
-fn use_pages<K: Shape, I: Ledger, M: Ledger, B: Ledger, R: Wait>(
+fn use_pages<K: ZoneIdentity, I: Ledger, M: Ledger, B: Ledger, R: Wait>(
     rt: &R,
     shared: &SharedZone<K, I, M, B>,
     client: &mut Client,
@@ -83,7 +83,7 @@ fn use_pages<K: Shape, I: Ledger, M: Ledger, B: Ledger, R: Wait>(
 }
 
 /// Stores to the client's word of the page whose turn it is.
-fn store<K: Shape, I: Ledger, M: Ledger, B: Ledger, R: Wait>(
+fn store<K: ZoneIdentity, I: Ledger, M: Ledger, B: Ledger, R: Wait>(
     rt: &R,
     shared: &SharedZone<K, I, M, B>,
     client: &mut Client,
@@ -96,7 +96,7 @@ fn store<K: Shape, I: Ledger, M: Ledger, B: Ledger, R: Wait>(
 }
 
 /// Loads the client's word of the page whose turn it is.
-fn load<K: Shape, I: Ledger, M: Ledger, B: Ledger, R: Wait>(
+fn load<K: ZoneIdentity, I: Ledger, M: Ledger, B: Ledger, R: Wait>(
     rt: &R,
     shared: &SharedZone<K, I, M, B>,
     client: &mut Client,
@@ -107,7 +107,7 @@ fn load<K: Shape, I: Ledger, M: Ledger, B: Ledger, R: Wait>(
 }
 
 /// Loads the client's word of each page in turn. How long each load takes, in nanoseconds.
-pub fn time_loads<K: Shape, I: Ledger, M: Ledger, B: Ledger, R: Wait + Clock>(
+pub fn time_loads<K: ZoneIdentity, I: Ledger, M: Ledger, B: Ledger, R: Wait + Clock>(
     rt: &R,
     alloc: Global,
     shared: &SharedZone<K, I, M, B>,

@@ -7,7 +7,7 @@ use crate::opening::{FRAMES, Opening, open, page};
 use bitflags::Flags;
 use client_core::Client;
 use frame_core::{ClientNo, FrameNo, PageFlags};
-use round_core::{Keeping, Open, Shape, SharedZone};
+use round_core::{Keeping, Open, SharedZone, ZoneIdentity};
 use std::alloc::Global;
 use std::sync::Wait;
 use std::sync::ledger::Ledger;
@@ -18,7 +18,7 @@ pub const PAGES: u32 = 64;
 
 /// A shared zone with its seats, and the client that mapped its pages.
 #[derive(Drop)]
-pub struct Filled<K: Shape, I: Ledger, N: Ledger, M: Ledger, B: Ledger>
+pub struct Filled<K: ZoneIdentity, I: Ledger, N: Ledger, M: Ledger, B: Ledger>
 where
     Open<K>: Keeping,
 {
@@ -28,12 +28,12 @@ where
 }
 
 /// Opens zone 0 and maps a page to each frame.
-pub fn fill<K: Shape, I: Ledger, N: Ledger, M: Ledger, B: Ledger, R: Wait>(
+pub fn fill<K: ZoneIdentity, I: Ledger, N: Ledger, M: Ledger, B: Ledger, R: Wait>(
     rt: &R,
     alloc: Global,
     blanks: Blanks,
 ) -> Option<Filled<K, I, N, M, B>>
-    requires shape { (K.number ≡ 0) × (K.blocks ≡ 8) }
+    requires identity { (K.number ≡ 0) × (K.blocks ≡ 8) }
     requires blanks { AreFor blanks I.name I.parts N.name N.parts M.name M.parts B.name B.parts }
 {
     let Opening { zone, seats } = open::<I, N, M, B>(alloc, blanks)?;
@@ -48,7 +48,7 @@ pub fn fill<K: Shape, I: Ledger, N: Ledger, M: Ledger, B: Ledger, R: Wait>(
 }
 
 /// Maps a page to each frame.
-fn map_all<K: Shape, I: Ledger, M: Ledger, B: Ledger, R: Wait>(
+fn map_all<K: ZoneIdentity, I: Ledger, M: Ledger, B: Ledger, R: Wait>(
     rt: &R,
     shared: &SharedZone<K, I, M, B>,
     keeper: &mut Client,

@@ -3,7 +3,7 @@
 use super::filled::PAGES;
 use crate::opening::{FRAMES, page};
 use client_core::Client;
-use round_core::{NoGate, Shape, SharedZone, compact};
+use round_core::{NoGate, SharedZone, ZoneIdentity, compact};
 use std::alloc::Global;
 use std::sync::Wait;
 use std::sync::atomic::{AtomicBool, Ordering};
@@ -16,7 +16,7 @@ const COPIERS: usize = 2;
 /// Frees the frames after the pages of the clients, and moves the pages there by a round, again and again, until the clients have
 /// ended or the pages stand at the top. How many pages were moved.
 pub fn run_rounds<
-    K: Shape + Send + Sync,
+    K: ZoneIdentity + Send + Sync,
     I: Ledger + Send + Sync,
     N: Ledger,
     M: Ledger + Send + Sync,
@@ -47,7 +47,7 @@ pub fn run_rounds<
 }
 
 /// Frees as many frames as the clients have pages, from this one on.
-fn free<K: Shape, I: Ledger, M: Ledger, B: Ledger, R: Wait>(
+fn free<K: ZoneIdentity, I: Ledger, M: Ledger, B: Ledger, R: Wait>(
     rt: &R,
     shared: &SharedZone<K, I, M, B>,
     keeper: &mut Client,

@@ -8,7 +8,7 @@ use super::filled::{Filled, fill};
 use super::moving::run_rounds;
 use crate::times::{nanos_since, thousands};
 use client_core::{Client, settle_clients};
-use round_core::{Shape, SharedZone};
+use round_core::{SharedZone, ZoneIdentity};
 use std::alloc::Global;
 use std::sync::Wait;
 use std::sync::atomic::{AtomicBool, Ordering};
@@ -53,14 +53,14 @@ impl Waits {
 
 /// How many thousands of calls clients make in a second, of a zone at rest.
 pub fn rate_at_rest<
-    K: Shape + Send + Sync,
+    K: ZoneIdentity + Send + Sync,
     I: Ledger + Send + Sync,
     N: Ledger,
     M: Ledger + Send + Sync,
     B: Ledger + Send + Sync,
     R: Threads + Wait + Clock + Sync,
 >(rt: &R, alloc: Global, count: u32, blanks: Blanks) -> Option<u64>
-    requires shape { (K.number ≡ 0) × (K.blocks ≡ 8) }
+    requires identity { (K.number ≡ 0) × (K.blocks ≡ 8) }
     requires blanks { AreFor blanks I.name I.parts N.name N.parts M.name M.parts B.name B.parts }
 {
     let filled = fill::<K, I, N, M, B, R>(rt, alloc, blanks)?;
@@ -70,7 +70,7 @@ pub fn rate_at_rest<
 
 /// How many thousands of calls clients make in a second.
 fn rate<
-    K: Shape + Send + Sync,
+    K: ZoneIdentity + Send + Sync,
     I: Ledger + Send + Sync,
     M: Ledger + Send + Sync,
     B: Ledger + Send + Sync,
@@ -84,14 +84,14 @@ fn rate<
 
 /// Clients beside rounds, and the comparison of their receipts with the journal.
 pub fn beside_rounds<
-    K: Shape + Send + Sync,
+    K: ZoneIdentity + Send + Sync,
     I: Ledger + Send + Sync,
     N: Ledger + Send,
     M: Ledger + Send + Sync,
     B: Ledger + Send + Sync,
     R: Threads + Wait + Clock + Sync,
 >(rt: &R, alloc: Global, count: u32, blanks: Blanks) -> Option<Outcome>
-    requires shape { (K.number ≡ 0) × (K.blocks ≡ 8) }
+    requires identity { (K.number ≡ 0) × (K.blocks ≡ 8) }
     requires blanks { AreFor blanks I.name I.parts N.name N.parts M.name M.parts B.name B.parts }
 {
     let mut filled = fill::<K, I, N, M, B, R>(rt, alloc, blanks)?;
@@ -108,7 +108,7 @@ pub fn beside_rounds<
 
 /// How many thousands of calls clients make in a second beside rounds, and how many pages those move.
 fn rate_beside_rounds<
-    K: Shape + Send + Sync,
+    K: ZoneIdentity + Send + Sync,
     I: Ledger + Send + Sync,
     N: Ledger + Send,
     M: Ledger + Send + Sync,
@@ -140,7 +140,7 @@ fn rate_beside_rounds<
 }
 
 /// Compares the receipts of all clients with the journal.
-fn settle<K: Shape, I: Ledger, N: Ledger, M: Ledger, B: Ledger>(
+fn settle<K: ZoneIdentity, I: Ledger, N: Ledger, M: Ledger, B: Ledger>(
     filled: Filled<K, I, N, M, B>,
     mut clients: Vec<Client>,
 ) -> Option<()> {
@@ -160,14 +160,14 @@ fn receipts_of(clients: &[Client]) -> usize {
 
 /// How long a load of one client takes beside rounds whose queues have so much room.
 pub fn wait_beside_rounds<
-    K: Shape + Send + Sync,
+    K: ZoneIdentity + Send + Sync,
     I: Ledger + Send + Sync,
     N: Ledger + Send,
     M: Ledger + Send + Sync,
     B: Ledger + Send + Sync,
     R: Threads + Wait + Clock + Sync,
 >(rt: &R, alloc: Global, cap: usize, blanks: Blanks) -> Option<Waits>
-    requires shape { (K.number ≡ 0) × (K.blocks ≡ 8) }
+    requires identity { (K.number ≡ 0) × (K.blocks ≡ 8) }
     requires blanks { AreFor blanks I.name I.parts N.name N.parts M.name M.parts B.name B.parts }
 {
     let mut filled = fill::<K, I, N, M, B, R>(rt, alloc, blanks)?;
@@ -178,7 +178,7 @@ pub fn wait_beside_rounds<
 
 /// How long each load of a client takes beside rounds, in nanoseconds.
 fn loads_beside_rounds<
-    K: Shape + Send + Sync,
+    K: ZoneIdentity + Send + Sync,
     I: Ledger + Send + Sync,
     N: Ledger + Send,
     M: Ledger + Send + Sync,

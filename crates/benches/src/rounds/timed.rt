@@ -2,12 +2,12 @@
 
 ghost use Rattle.std.specs.Prelude.{◌<◌, ◌≤◌};
 ghost use Rattle.zone_core.specs.Books.{AreFor};
-ghost use Rattle.zone_core.specs.Shape.{HasShape};
+ghost use Rattle.zone_core.specs.ZoneIdentity.{HasIdentity};
 
 use super::alone::half_full;
 use crate::opening::Opening;
 use crate::times::{Times, nanos_since};
-use round_core::{NoGate, Shape, SharedZone, compact};
+use round_core::{NoGate, SharedZone, ZoneIdentity, compact};
 use std::alloc::Global;
 use std::io;
 use std::marker::Brand;
@@ -36,9 +36,9 @@ pub fn run_round<
     time_rounds::<Brand, I, N, M, B, R>(rt, alloc, zone, seats, copiers, cap)
 }
 
-/// How long both rounds take over a zone of the shape that the type names.
+/// How long both rounds take over a zone of the identity that the type names.
 fn time_rounds<
-    K: Shape + Send + Sync,
+    K: ZoneIdentity + Send + Sync,
     I: Ledger + Send + Sync,
     N: Ledger,
     M: Ledger + Send + Sync,
@@ -54,7 +54,7 @@ fn time_rounds<
 ) -> io::Result<Times>
     requires copiers { (0 < copiers) × (copiers ≤ 4) }
     requires cap { (0 < cap) × (cap ≤ 64) }
-    requires shape { HasShape K.number K.blocks zone }
+    requires identity { HasIdentity K.number K.blocks zone }
 {
     let shared = SharedZone::<K, I, M, B>::new(zone);
     let start = Instant::now(rt)?;
@@ -72,7 +72,7 @@ fn time_rounds<
 
 /// How many pages a round moves.
 fn moved_by<
-    K: Shape + Send + Sync,
+    K: ZoneIdentity + Send + Sync,
     I: Ledger + Send + Sync,
     N: Ledger,
     M: Ledger + Send + Sync,

@@ -2,9 +2,7 @@ ghost use Rattle.std.specs.Prelude.{◌≡◌, ◌<◌, true, false, All};
 ghost use Rattle.hand_core.specs.CopyEnds.{has_ended};
 
 use super::{is_page, isolated};
-use hand_core::{
-    Came, DoneSender, DoneTaker, Handful, done_open, done_open_in_handfuls, done_settle,
-};
+use hand_core::{Batch, Came, DoneSender, DoneTaker, done_open, done_open_in_batches, done_settle};
 use std::alloc::Global;
 use std::process::Abort;
 use std::sync::Wait;
@@ -321,12 +319,12 @@ fn is_told_without_waiting_that_the_senders_are_gone(rt: HostRuntime) {
     assert!(rt; matches!(taker.try_take(&rt), Some(Came::Gone)));
 }
 
-// A queue with room for two handfuls of two copies.
+// A queue with room for two batches of two copies.
 fn opened_in_pairs<R: Wait + Abort>(rt: &R, alloc: Global) -> (Vec<DoneSender>, DoneTaker)
     ensures senders { All (λ s. (s.closed ≡ false) × (s.most ≡ 2)) result.0.items }
     ensures taker { has_ended result.1 ≡ false }
 {
-    done_open_in_handfuls(rt, alloc, 1, 4, 2).expect(rt, "a queue")
+    done_open_in_batches(rt, alloc, 1, 4, 2).expect(rt, "a queue")
 }
 
 fn opened_for_pairs<R: Wait + Abort>(rt: &R, alloc: Global) -> (DoneSender, DoneTaker)
@@ -339,10 +337,10 @@ fn opened_for_pairs<R: Wait + Abort>(rt: &R, alloc: Global) -> (DoneSender, Done
 }
 
 #[test]
-fn takes_the_copies_of_a_handful_one_by_one(rt: HostRuntime) {
+fn takes_the_copies_of_a_batch_one_by_one(rt: HostRuntime) {
     let (mut one, mut taker) = opened_for_pairs(&rt, rt.alloc());
     assert!(rt; one.most() == 2);
-    let mut copies = Handful::new();
+    let mut copies = Batch::new();
     copies.push(copy_of(&rt, 0, 7));
     copies.push(copy_of(&rt, 0, 8));
     assert!(rt; one.send_all(&rt, copies).is_ok());

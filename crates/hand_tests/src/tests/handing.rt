@@ -2,7 +2,7 @@ ghost use Rattle.std.specs.Prelude.{◌≡◌, ◌+◌, ◌<◌, ◌^◌, [], fa
 ghost use Rattle.word_core.specs.Serials.{HasSerialsFrom};
 
 use super::{is_page, isolated};
-use hand_core::{Giver, Handful, Taker, Takers, Took, open, open_in_handfuls, settle};
+use hand_core::{Batch, Giver, Taker, Takers, Took, open, open_in_batches, settle};
 use std::alloc::Global;
 use std::process::Abort;
 use std::sync::Wait;
@@ -389,21 +389,21 @@ fn answers_gone_after_the_pages_where_the_giver_is_gone(rt: HostRuntime) {
     assert!(rt; matches!(one.take(&rt), Took::Gone));
 }
 
-// A hand-over with room for two handfuls of three pages.
+// A hand-over with room for two batches of three pages.
 fn opened_for_threes<R: Wait + Abort>(rt: &R, alloc: Global) -> (Giver, Taker)
     ensures giver { (result.0.closed ≡ false) × (result.0.given ≡ []) × (result.0.base ≡ BASE) × (result.0.most ≡ 3) }
     ensures taker { (result.1.hand_over ≡ result.0.hand_over) × (result.1.ended ≡ false) }
 {
-    let (giver, mut takers) = open_in_handfuls(rt, alloc, BASE, 1, 6, 3).expect(rt, "a hand-over");
+    let (giver, mut takers) = open_in_batches(rt, alloc, BASE, 1, 6, 3).expect(rt, "a hand-over");
     let one = next_taker(rt, &giver, &mut takers);
     (giver, one)
 }
 
-fn three_pages<R: Abort>(rt: &R) -> Handful<Isolated>
+fn three_pages<R: Abort>(rt: &R) -> Batch<Isolated>
     ensures serials { HasSerialsFrom BASE result.items }
     ensures few { length result.items ≡ 3 }
 {
-    let mut pages = Handful::new();
+    let mut pages = Batch::new();
     pages.push(page_of(rt, BASE, 0));
     pages.push(page_of(rt, BASE + 1, 1));
     pages.push(page_of(rt, BASE + 2, 2));
@@ -423,7 +423,7 @@ fn assert_takes<R: Wait + Abort>(rt: &R, taker: &mut Taker, number: u32, has_mor
 }
 
 #[test]
-fn takes_the_pages_of_a_handful_one_by_one(rt: HostRuntime) {
+fn takes_the_pages_of_a_batch_one_by_one(rt: HostRuntime) {
     let (mut giver, mut one) = opened_for_threes(&rt, rt.alloc());
     assert!(rt; giver.give_all(&rt, three_pages(&rt)).is_ok());
     assert!(rt; giver.close(&rt).is_ok());

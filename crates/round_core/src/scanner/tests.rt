@@ -2,15 +2,15 @@
 
 ghost use Rattle.std.specs.Prelude.{◌≡◌, false};
 ghost use Rattle.zone_core.specs.Books.{AreFor};
-ghost use Rattle.zone_core.specs.Shape.{HasShape};
+ghost use Rattle.zone_core.specs.ZoneIdentity.{HasIdentity};
 
 use super::{give_all, scan_all};
 use crate::division::Division;
 use crate::gate::NoGate;
-use crate::shape::Shape;
+use crate::identity::ZoneIdentity;
 use crate::shared_zone::SharedZone;
 use frame_core::{Address, ClientNo, PageFlags, SpaceNo, VPage, ZoneNo};
-use hand_core::{Taker, Took, open_in_handfuls};
+use hand_core::{Taker, Took, open_in_batches};
 use journal_core::{Cause, Record};
 use std::collections::VecDeque;
 use std::marker::Brand;
@@ -27,7 +27,7 @@ const BURST: u32 = 16;
 
 /// Maps a page in the lowest free frame.
 fn map_page<I: Ledger, M: Ledger, B: Ledger>(rt: &impl Abort, zone: &mut Zone<I, M, B>, number: u32)
-    ensures { HasShape zone.old.number zone.old.blocks zone.new }
+    ensures { HasIdentity zone.old.number zone.old.blocks zone.new }
 {
     let client = ClientNo::new(0).expect(rt, "a client");
     let space = SpaceNo::new(0).expect(rt, "a space");
@@ -45,7 +45,7 @@ fn opened<I: Ledger, N: Ledger, M: Ledger, B: Ledger, R: Abort + AllocGlobal>(
     blanks: Blanks,
 ) -> (Zone<I, M, B>, ScanSeat<I, N>, EndSeat<M, B>)
     requires { AreFor blanks I.name I.parts N.name N.parts M.name M.parts B.name B.parts }
-    ensures shape { HasShape 1 1 result.0 }
+    ensures identity { HasIdentity 1 1 result.0 }
     ensures scan { result.1.count ≡ 0 }
 {
     let number = ZoneNo::new(1).expect(rt, "a zone");
@@ -73,7 +73,7 @@ fn take_burst<R: Wait + Abort + AllocGlobal>(rt: &R, mut taker: Taker) -> Vec<Is
 
 /// A burst is given and taken, and its taker goes. Then the scanner isolates another burst. The pages that were taken come back.
 fn scan_for_nobody<
-    K: Shape,
+    K: ZoneIdentity,
     I: Ledger,
     N: Ledger,
     M: Ledger,
@@ -89,7 +89,7 @@ fn scan_for_nobody<
 {
     let division = Division::new(1, 16);
     let mut pages = VecDeque::with_capacity(rt.alloc(), 16).expect(rt, "memory");
-    let opened = open_in_handfuls(rt, rt.alloc(), 0, 1, 16, 8);
+    let opened = open_in_batches(rt, rt.alloc(), 0, 1, 16, 8);
     let (mut giver, mut takers) = opened.expect(rt, "a hand-over");
     let taker = takers.pop().expect(rt, "a taker");
     let _ = shared.begin_burst(rt, scan, &mut pages);
@@ -116,11 +116,15 @@ fn assert_put_back(rt: &impl Abort, records: &[Record]) {
     assert!(rt; records.len() == (PAGES + 4 * BURST) as usize);
 }
 
-fn puts_back<K: Shape, I: Ledger, N: Ledger, M: Ledger, B: Ledger, R: Wait + Abort + AllocGlobal>(
-    rt: &R,
-    blanks: Blanks,
-)
-    requires shape { (K.number ≡ 1) × (K.blocks ≡ 1) }
+fn puts_back<
+    K: ZoneIdentity,
+    I: Ledger,
+    N: Ledger,
+    M: Ledger,
+    B: Ledger,
+    R: Wait + Abort + AllocGlobal,
+>(rt: &R, blanks: Blanks)
+    requires identity { (K.number ≡ 1) × (K.blocks ≡ 1) }
     requires blanks { AreFor blanks I.name I.parts N.name N.parts M.name M.parts B.name B.parts }
 {
     let (zone, mut scan, mut ends) = opened::<I, N, M, B, R>(rt, blanks);

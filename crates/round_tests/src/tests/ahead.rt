@@ -1,7 +1,7 @@
 use super::gates::{comes_above, linger};
 use super::opening::Opening;
 use super::{Run, runs};
-use round_core::{Gate, Point, Shape};
+use round_core::{Gate, Point, ZoneIdentity};
 use std::process::Abort;
 use std::sync::Wait;
 use std::sync::atomic::{AtomicU64, Ordering};
@@ -48,7 +48,7 @@ impl Gate for Dams {
 }
 
 impl<
-    K: Shape + Send + Sync,
+    K: ZoneIdentity + Send + Sync,
     I: Ledger + Send + Sync,
     N: Ledger,
     M: Ledger + Send + Sync,

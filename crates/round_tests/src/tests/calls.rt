@@ -4,7 +4,7 @@ use super::{address, frame, word};
 use bitflags::Flags;
 use client_core::{Client, ClientError};
 use frame_core::{FrameNo, PageFlags};
-use round_core::{Shape, SharedZone};
+use round_core::{SharedZone, ZoneIdentity};
 use std::process::Abort;
 use std::sync::Wait;
 use std::sync::ledger::Ledger;
@@ -78,7 +78,7 @@ fn valued(answer: Result<u64, ClientError>) -> Answer {
 }
 
 /// Reads eight words, from one on.
-fn read<K: Shape, I: Ledger, M: Ledger, B: Ledger, R: Wait + Abort>(
+fn read<K: ZoneIdentity, I: Ledger, M: Ledger, B: Ledger, R: Wait + Abort>(
     rt: &R,
     shared: &SharedZone<K, I, M, B>,
     client: &mut Client,
@@ -97,7 +97,7 @@ fn read<K: Shape, I: Ledger, M: Ledger, B: Ledger, R: Wait + Abort>(
 }
 
 /// Makes a call.
-pub fn made<K: Shape, I: Ledger, M: Ledger, B: Ledger, R: Wait + Abort>(
+pub fn made<K: ZoneIdentity, I: Ledger, M: Ledger, B: Ledger, R: Wait + Abort>(
     rt: &R,
     shared: &SharedZone<K, I, M, B>,
     client: &mut Client,
@@ -133,7 +133,7 @@ pub fn made<K: Shape, I: Ledger, M: Ledger, B: Ledger, R: Wait + Abort>(
 }
 
 /// Makes calls, one after the other, and compares their answers.
-pub fn play<K: Shape, I: Ledger, M: Ledger, B: Ledger, R: Wait + Abort>(
+pub fn play<K: ZoneIdentity, I: Ledger, M: Ledger, B: Ledger, R: Wait + Abort>(
     rt: &R,
     shared: &SharedZone<K, I, M, B>,
     client: &mut Client,

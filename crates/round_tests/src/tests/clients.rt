@@ -3,7 +3,7 @@ use super::gates::{Holds, comes_above};
 use super::opening::{Opening, counts_of, mismatch, round_of, settled};
 use super::{Trial, client_number, tries};
 use client_core::Client;
-use round_core::{NoGate, Point, Round, RoundError, Shape, SharedZone};
+use round_core::{NoGate, Point, Round, RoundError, SharedZone, ZoneIdentity};
 use std::process::Abort;
 use std::sync::Wait;
 use std::sync::atomic::Ordering;
@@ -16,7 +16,7 @@ fn client<R: Abort + AllocGlobal>(rt: &R, number: u32) -> Client {
 }
 
 /// Makes a call while a copy is held, and speaks before it or after it.
-fn calls_beside<K: Shape, I: Ledger, M: Ledger, B: Ledger, R: Wait + Abort>(
+fn calls_beside<K: ZoneIdentity, I: Ledger, M: Ledger, B: Ledger, R: Wait + Abort>(
     rt: &R,
     shared: &SharedZone<K, I, M, B>,
     gate: &Holds,
@@ -34,7 +34,7 @@ fn calls_beside<K: Shape, I: Ledger, M: Ledger, B: Ledger, R: Wait + Abort>(
 }
 
 /// Stores to a word of a page and loads it, 200 times.
-fn uses<K: Shape, I: Ledger, M: Ledger, B: Ledger, R: Wait + Abort>(
+fn uses<K: ZoneIdentity, I: Ledger, M: Ledger, B: Ledger, R: Wait + Abort>(
     rt: &R,
     shared: &SharedZone<K, I, M, B>,
     mut client: Client,
@@ -52,7 +52,7 @@ fn uses<K: Shape, I: Ledger, M: Ledger, B: Ledger, R: Wait + Abort>(
 }
 
 /// Writes all words of a page and reads them, 100 times. A read finds the words of one write.
-fn uses_whole_pages<K: Shape, I: Ledger, M: Ledger, B: Ledger, R: Wait + Abort>(
+fn uses_whole_pages<K: ZoneIdentity, I: Ledger, M: Ledger, B: Ledger, R: Wait + Abort>(
     rt: &R,
     shared: &SharedZone<K, I, M, B>,
     mut client: Client,
@@ -72,7 +72,7 @@ fn uses_whole_pages<K: Shape, I: Ledger, M: Ledger, B: Ledger, R: Wait + Abort>(
 
 /// Three rounds, one after the other. How many pages they isolated and moved.
 fn three_rounds<
-    K: Shape + Send + Sync,
+    K: ZoneIdentity + Send + Sync,
     I: Ledger + Send + Sync,
     N: Ledger,
     M: Ledger + Send + Sync,
@@ -91,7 +91,7 @@ fn three_rounds<
 
 /// Makes 5,000 calls, drawn from a seed: each stores or loads one of the two words that the client has in each of 64 pages. A load
 /// answers what the client stored there last.
-fn uses_its_words<K: Shape, I: Ledger, M: Ledger, B: Ledger, R: Wait + Abort>(
+fn uses_its_words<K: ZoneIdentity, I: Ledger, M: Ledger, B: Ledger, R: Wait + Abort>(
     rt: &R,
     shared: &SharedZone<K, I, M, B>,
     mut client: Client,
@@ -118,7 +118,7 @@ fn uses_its_words<K: Shape, I: Ledger, M: Ledger, B: Ledger, R: Wait + Abort>(
 
 /// Two clients at once.
 fn two_use_their_words<
-    K: Shape + Send + Sync,
+    K: ZoneIdentity + Send + Sync,
     I: Ledger + Send + Sync,
     M: Ledger + Send + Sync,
     B: Ledger + Send + Sync,
@@ -137,7 +137,7 @@ fn two_use_their_words<
 }
 
 impl<
-    K: Shape + Send + Sync,
+    K: ZoneIdentity + Send + Sync,
     I: Ledger + Send + Sync,
     N: Ledger + Send,
     M: Ledger + Send + Sync,

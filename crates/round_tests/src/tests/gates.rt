@@ -1,6 +1,6 @@
 use super::opening::{Opening, counts_of, round_of};
 use super::{Run, runs};
-use round_core::{Gate, Point, Shape};
+use round_core::{Gate, Point, ZoneIdentity};
 use std::process::Abort;
 use std::sync::Wait;
 use std::sync::atomic::{AtomicU64, Ordering};
@@ -118,7 +118,7 @@ impl Gate for Notes {
 }
 
 impl<
-    K: Shape + Send + Sync,
+    K: ZoneIdentity + Send + Sync,
     I: Ledger + Send + Sync,
     N: Ledger,
     M: Ledger + Send + Sync,

@@ -4,7 +4,7 @@ use super::rounds::assert_shared;
 use super::{Run, runs};
 use frame_core::Serial;
 use journal_core::Record;
-use round_core::{Gate, Point, Shape};
+use round_core::{Gate, Point, ZoneIdentity};
 use std::process::Abort;
 use std::sync::Wait;
 use std::sync::atomic::{AtomicU64, Ordering};
@@ -80,7 +80,7 @@ impl Gate for KeepsBack {
 }
 
 impl<
-    K: Shape + Send + Sync,
+    K: ZoneIdentity + Send + Sync,
     I: Ledger + Send + Sync,
     N: Ledger,
     M: Ledger + Send + Sync,

@@ -2,7 +2,7 @@ use super::gates::linger;
 use super::opening::{Opening, counts_of, round_of};
 use super::{Run, runs};
 use journal_core::Record;
-use round_core::{Gate, Keeping, Open, Point, Shape, SharedZone};
+use round_core::{Gate, Keeping, Open, Point, SharedZone, ZoneIdentity};
 use std::process::Abort;
 use std::sync::Wait;
 use std::sync::atomic::{AtomicU64, Ordering};
@@ -65,7 +65,7 @@ fn recorded(records: &[Record]) -> (u64, u64) {
 /// Takes the lock of a zone at each point, some turns after it was told. Each step that it was told of has been made, and no page has
 /// made the next step before it let the page go.
 #[derive(Drop)]
-struct Looks<'a, K: Shape, I: Ledger, M: Ledger, B: Ledger, R: Wait + Abort>
+struct Looks<'a, K: ZoneIdentity, I: Ledger, M: Ledger, B: Ledger, R: Wait + Abort>
 where
     Open<K>: Keeping,
 {
@@ -75,7 +75,14 @@ where
     let_go: Tally,
 }
 
-impl<'a, K: Shape, I: Ledger, M: Ledger, B: Ledger, R: Wait + Abort> Looks<'a, K, I, M, B, R> {
+impl<'a, K: ZoneIdentity, I: Ledger, M: Ledger, B: Ledger, R: Wait + Abort> Looks<
+    'a,
+    K,
+    I,
+    M,
+    B,
+    R,
+> {
     fn at_each(rt: &'a R, shared: &'a SharedZone<K, I, M, B>) -> Self {
         Looks {
             rt,
@@ -109,7 +116,7 @@ impl<'a, K: Shape, I: Ledger, M: Ledger, B: Ledger, R: Wait + Abort> Looks<'a, K
 
 impl<
     'a,
-    K: Shape + Send + Sync,
+    K: ZoneIdentity + Send + Sync,
     I: Ledger + Send + Sync,
     M: Ledger + Send + Sync,
     B: Ledger + Send + Sync,
@@ -141,7 +148,7 @@ impl<
 }
 
 impl<
-    K: Shape + Send + Sync,
+    K: ZoneIdentity + Send + Sync,
     I: Ledger + Send + Sync,
     N: Ledger,
     M: Ledger + Send + Sync,

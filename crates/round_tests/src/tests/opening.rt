@@ -5,7 +5,7 @@ use super::calls::{Answer, Call, play};
 use super::client_number;
 use client_core::{Client, Mismatch, Unsettled, settle_clients};
 use frame_core::ZoneNo;
-use round_core::{Gate, Keeping, Open, Round, RoundError, Shape, SharedZone, compact};
+use round_core::{Gate, Keeping, Open, Round, RoundError, SharedZone, ZoneIdentity, compact};
 use std::process::Abort;
 use std::sync::Wait;
 use std::sync::ledger::Ledger;
@@ -14,7 +14,7 @@ use zone_core::{Blanks, Info, Seats, Zone};
 
 /// A shared zone with its seats, and the client that maps its pages.
 #[derive(Drop)]
-pub struct Opening<K: Shape, I: Ledger, N: Ledger, M: Ledger, B: Ledger>
+pub struct Opening<K: ZoneIdentity, I: Ledger, N: Ledger, M: Ledger, B: Ledger>
 where
     Open<K>: Keeping,
 {
@@ -23,10 +23,10 @@ where
     pub keeper: Client,
 }
 
-impl<K: Shape, I: Ledger, N: Ledger, M: Ledger, B: Ledger> Opening<K, I, N, M, B> {
+impl<K: ZoneIdentity, I: Ledger, N: Ledger, M: Ledger, B: Ledger> Opening<K, I, N, M, B> {
     /// Zone 1, of so many pageblocks and with so many places in its journal.
     pub fn of<R: Abort + AllocGlobal>(rt: &R, blocks: u32, places: u32, blanks: Blanks) -> Self
-        requires shape { (K.number ≡ 1) × (K.blocks ≡ blocks) }
+        requires identity { (K.number ≡ 1) × (K.blocks ≡ blocks) }
         requires blanks { AreFor blanks I.name I.parts N.name N.parts M.name M.parts B.name B.parts }
     {
         let number = ZoneNo::new(1).expect(rt, "a zone");
@@ -82,7 +82,7 @@ impl<K: Shape, I: Ledger, N: Ledger, M: Ledger, B: Ledger> Opening<K, I, N, M, B
 
 /// A round, known by its answer alone.
 pub fn round_of<
-    K: Shape + Send + Sync,
+    K: ZoneIdentity + Send + Sync,
     I: Ledger + Send + Sync,
     N: Ledger,
     M: Ledger + Send + Sync,
@@ -110,7 +110,7 @@ pub fn counts_of(rt: &impl Abort, round: Result<Round, RoundError>) -> (u32, u32
 }
 
 /// What settling these clients with a zone answers.
-pub fn settled<K: Shape, I: Ledger, M: Ledger, B: Ledger, R: Wait>(
+pub fn settled<K: ZoneIdentity, I: Ledger, M: Ledger, B: Ledger, R: Wait>(
     rt: &R,
     shared: &SharedZone<K, I, M, B>,
     clients: &[Client],

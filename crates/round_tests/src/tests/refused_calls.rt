@@ -4,14 +4,14 @@ use super::{Trial, address, client_number, tries};
 use client_core::Client;
 use frame_core::PageNo;
 use journal_core::Record;
-use round_core::{Shape, SharedZone};
+use round_core::{SharedZone, ZoneIdentity};
 use std::process::Abort;
 use std::sync::Wait;
 use std::sync::ledger::Ledger;
 use zone_core::ZoneError;
 
 /// Makes each call at an address that names no page, and then at one that does.
-fn maps_and_accesses<K: Shape, I: Ledger, M: Ledger, B: Ledger, R: Wait + Abort>(
+fn maps_and_accesses<K: ZoneIdentity, I: Ledger, M: Ledger, B: Ledger, R: Wait + Abort>(
     rt: &R,
     shared: &SharedZone<K, I, M, B>,
     client: &mut Client,
@@ -40,7 +40,7 @@ fn maps_and_accesses<K: Shape, I: Ledger, M: Ledger, B: Ledger, R: Wait + Abort>
 }
 
 /// Names a page at as many addresses as can be, and takes off all but one.
-fn shares_and_unmaps<K: Shape, I: Ledger, M: Ledger, B: Ledger, R: Wait + Abort>(
+fn shares_and_unmaps<K: ZoneIdentity, I: Ledger, M: Ledger, B: Ledger, R: Wait + Abort>(
     rt: &R,
     shared: &SharedZone<K, I, M, B>,
     client: &mut Client,
@@ -61,7 +61,7 @@ fn shares_and_unmaps<K: Shape, I: Ledger, M: Ledger, B: Ledger, R: Wait + Abort>
 }
 
 /// Pins a page as often as can be.
-fn pins<K: Shape, I: Ledger, M: Ledger, B: Ledger, R: Wait + Abort>(
+fn pins<K: ZoneIdentity, I: Ledger, M: Ledger, B: Ledger, R: Wait + Abort>(
     rt: &R,
     shared: &SharedZone<K, I, M, B>,
     client: &mut Client,
@@ -78,7 +78,7 @@ fn pins<K: Shape, I: Ledger, M: Ledger, B: Ledger, R: Wait + Abort>(
 }
 
 /// Maps pages until no frame is left.
-fn fills<K: Shape, I: Ledger, M: Ledger, B: Ledger, R: Wait + Abort>(
+fn fills<K: ZoneIdentity, I: Ledger, M: Ledger, B: Ledger, R: Wait + Abort>(
     rt: &R,
     shared: &SharedZone<K, I, M, B>,
     client: &mut Client,
@@ -91,7 +91,7 @@ fn fills<K: Shape, I: Ledger, M: Ledger, B: Ledger, R: Wait + Abort>(
     play(rt, shared, client, &[full]);
 }
 
-impl<K: Shape, I: Ledger, N: Ledger, M: Ledger, B: Ledger> Opening<K, I, N, M, B> {
+impl<K: ZoneIdentity, I: Ledger, N: Ledger, M: Ledger, B: Ledger> Opening<K, I, N, M, B> {
     /// Each call is made where it is accepted, and refused for each reason that a zone has but a full journal.
     pub fn refuses_calls<R: Wait + Abort + AllocGlobal>(self, rt: &R) {
         let mut client = Client::new(rt.alloc(), client_number(rt, 5));

@@ -4,7 +4,7 @@ use super::{Run, runs};
 use arrayvec::ArrayVec;
 use frame_core::Order;
 use huge_core::{Collector, Huge, Report, Stop, give};
-use round_core::{Gate, NoGate, RoundError, Shape};
+use round_core::{Gate, NoGate, RoundError, ZoneIdentity};
 use std::process::Abort;
 use std::sync::Wait;
 use std::sync::ledger::Ledger;
@@ -167,7 +167,7 @@ fn last_block(rt: &impl Abort, mut report: Report) -> Huge {
 }
 
 impl<
-    K: Shape + Send + Sync,
+    K: ZoneIdentity + Send + Sync,
     I: Ledger + Send + Sync,
     N: Ledger,
     M: Ledger + Send + Sync,

@@ -1,7 +1,7 @@
 use super::calls::{Answer, Call, made};
 use super::opening::{Opening, counts_of, round_of};
 use super::{Run, runs};
-use round_core::{NoGate, Round, RoundError, Shape, Stop};
+use round_core::{NoGate, Round, RoundError, Stop, ZoneIdentity};
 use std::process::Abort;
 use std::sync::Wait;
 use std::sync::ledger::Ledger;
@@ -31,7 +31,7 @@ pub fn assert_shared(rt: &(impl Abort + AllocGlobal), round: &Round) {
 }
 
 impl<
-    K: Shape + Send + Sync,
+    K: ZoneIdentity + Send + Sync,
     I: Ledger + Send + Sync,
     N: Ledger,
     M: Ledger + Send + Sync,

@@ -5,7 +5,7 @@ use super::calls::{Answer, Call, play};
 use super::client_number;
 use super::opening::{Opening, mismatch, settled};
 use client_core::Client;
-use round_core::{Shape, SharedZone};
+use round_core::{SharedZone, ZoneIdentity};
 use std::marker::Brand;
 use std::process::Abort;
 use std::sync::Wait;
@@ -17,7 +17,7 @@ fn client<R: Abort + AllocGlobal>(rt: &R, number: u32) -> Client {
 }
 
 /// Two clients that take turns.
-fn clients_of<K: Shape, I: Ledger, M: Ledger, B: Ledger, R: Wait + Abort + AllocGlobal>(
+fn clients_of<K: ZoneIdentity, I: Ledger, M: Ledger, B: Ledger, R: Wait + Abort + AllocGlobal>(
     rt: &R,
     shared: &SharedZone<K, I, M, B>,
 ) -> [Client; 2] {
@@ -36,10 +36,13 @@ fn clients_of<K: Shape, I: Ledger, M: Ledger, B: Ledger, R: Wait + Abort + Alloc
 }
 
 /// The clients agree until another client makes a call under the number of one of them.
-fn clients_that_agree<K: Shape, I: Ledger, M: Ledger, B: Ledger, R: Wait + Abort + AllocGlobal>(
-    rt: &R,
-    shared: &SharedZone<K, I, M, B>,
-) -> [Client; 2] {
+fn clients_that_agree<
+    K: ZoneIdentity,
+    I: Ledger,
+    M: Ledger,
+    B: Ledger,
+    R: Wait + Abort + AllocGlobal,
+>(rt: &R, shared: &SharedZone<K, I, M, B>) -> [Client; 2] {
     assert!(rt; settled(rt, shared, &[]) == Ok(()));
     let clients = clients_of(rt, shared);
     assert!(rt; settled(rt, shared, &clients) == Ok(()));
@@ -53,11 +56,15 @@ fn clients_that_agree<K: Shape, I: Ledger, M: Ledger, B: Ledger, R: Wait + Abort
 }
 
 /// Opens a zone for clients that agree.
-fn settles<K: Shape, I: Ledger, N: Ledger, M: Ledger, B: Ledger, R: Wait + Abort + AllocGlobal>(
-    rt: &R,
-    blanks: Blanks,
-) -> [Client; 2]
-    requires shape { (K.number ≡ 1) × (K.blocks ≡ 1) }
+fn settles<
+    K: ZoneIdentity,
+    I: Ledger,
+    N: Ledger,
+    M: Ledger,
+    B: Ledger,
+    R: Wait + Abort + AllocGlobal,
+>(rt: &R, blanks: Blanks) -> [Client; 2]
+    requires identity { (K.number ≡ 1) × (K.blocks ≡ 1) }
     requires blanks { AreFor blanks I.name I.parts N.name N.parts M.name M.parts B.name B.parts }
 {
     let opening = Opening::<K, I, N, M, B>::of(rt, 1, 99, blanks);
@@ -71,7 +78,7 @@ fn settling_names_the_first_that_differs(rt: HostRuntime) {
 }
 
 /// Of two zones in which the same calls were made but for the last, the receipts of one are refused by the other.
-fn disagree<K: Shape, I: Ledger, M: Ledger, B: Ledger, R: Wait + Abort + AllocGlobal>(
+fn disagree<K: ZoneIdentity, I: Ledger, M: Ledger, B: Ledger, R: Wait + Abort + AllocGlobal>(
     rt: &R,
     shared: &SharedZone<K, I, M, B>,
     clients: &[Client],
@@ -84,14 +91,14 @@ fn disagree<K: Shape, I: Ledger, M: Ledger, B: Ledger, R: Wait + Abort + AllocGl
 
 /// Opens another zone for clients that disagree with it.
 fn differs_from_another<
-    K: Shape,
+    K: ZoneIdentity,
     I: Ledger,
     N: Ledger,
     M: Ledger,
     B: Ledger,
     R: Wait + Abort + AllocGlobal,
 >(rt: &R, clients: &[Client], blanks: Blanks)
-    requires shape { (K.number ≡ 1) × (K.blocks ≡ 1) }
+    requires identity { (K.number ≡ 1) × (K.blocks ≡ 1) }
     requires blanks { AreFor blanks I.name I.parts N.name N.parts M.name M.parts B.name B.parts }
 {
     let opening = Opening::<K, I, N, M, B>::of(rt, 1, 99, blanks);

@@ -8,7 +8,7 @@ use super::{address, client_number, frame, word};
 use bitflags::Flags;
 use client_core::{Client, ToldClient, Unsettled, settle_clients};
 use frame_core::{PageFlags, ZoneNo};
-use round_core::{NoGate, Round, RoundError, Shape, SharedZone};
+use round_core::{NoGate, Round, RoundError, SharedZone, ZoneIdentity};
 use std::marker::Brand;
 use std::process::Abort;
 use std::sync::Wait;
@@ -19,7 +19,7 @@ use zone_core::{Blanks, Seats, Zone};
 const PAGES: u32 = 16;
 
 /// A client whose pages are in the frames 0, 1, ..
-fn with_pages<K: Shape, I: Ledger, M: Ledger, B: Ledger, R: Wait + Abort>(
+fn with_pages<K: ZoneIdentity, I: Ledger, M: Ledger, B: Ledger, R: Wait + Abort>(
     rt: &R,
     shared: &SharedZone<K, I, M, B>,
 ) -> ToldClient {
@@ -32,7 +32,7 @@ fn with_pages<K: Shape, I: Ledger, M: Ledger, B: Ledger, R: Wait + Abort>(
 }
 
 /// The words of a page.
-fn words_of<K: Shape, I: Ledger, M: Ledger, B: Ledger, R: Wait + Abort>(
+fn words_of<K: ZoneIdentity, I: Ledger, M: Ledger, B: Ledger, R: Wait + Abort>(
     rt: &R,
     shared: &SharedZone<K, I, M, B>,
     client: &mut ToldClient,
@@ -45,7 +45,7 @@ fn words_of<K: Shape, I: Ledger, M: Ledger, B: Ledger, R: Wait + Abort>(
 }
 
 /// Stores to a page and loads what was stored, and does so with all words of the page.
-fn uses_page<K: Shape, I: Ledger, M: Ledger, B: Ledger, R: Wait + Abort>(
+fn uses_page<K: ZoneIdentity, I: Ledger, M: Ledger, B: Ledger, R: Wait + Abort>(
     rt: &R,
     shared: &SharedZone<K, I, M, B>,
     client: &mut ToldClient,
@@ -63,7 +63,7 @@ fn uses_page<K: Shape, I: Ledger, M: Ledger, B: Ledger, R: Wait + Abort>(
 }
 
 /// Uses each page 50 times.
-fn uses_pages<K: Shape, I: Ledger, M: Ledger, B: Ledger, R: Wait + Abort>(
+fn uses_pages<K: ZoneIdentity, I: Ledger, M: Ledger, B: Ledger, R: Wait + Abort>(
     rt: &R,
     shared: &SharedZone<K, I, M, B>,
     mut client: ToldClient,
@@ -78,14 +78,14 @@ fn uses_pages<K: Shape, I: Ledger, M: Ledger, B: Ledger, R: Wait + Abort>(
 
 /// A zone whose journal is told is used by a client whose receipts are told, while a round moves its pages. There is nothing to settle.
 fn uses_a_told_zone<
-    K: Shape + Send + Sync,
+    K: ZoneIdentity + Send + Sync,
     I: Ledger + Send + Sync,
     N: Ledger + Send,
     M: Ledger + Send + Sync,
     B: Ledger + Send + Sync,
     R: Threads + Wait + Abort + AllocGlobal + Sync,
 >(rt: &R, blanks: Blanks)
-    requires shape { (K.number ≡ 1) × (K.blocks ≡ 1) }
+    requires identity { (K.number ≡ 1) × (K.blocks ≡ 1) }
     requires blanks { AreFor blanks I.name I.parts N.name N.parts M.name M.parts B.name B.parts }
 {
     let number = ZoneNo::new(1).expect(rt, "a zone");

@@ -3,7 +3,7 @@ use super::gates::{comes_above, linger};
 use super::opening::{Opening, counts_of, round_of, settled};
 use super::{Trial, client_number, tries};
 use client_core::Client;
-use round_core::{Gate, Point, Round, RoundError, Shape, SharedZone};
+use round_core::{Gate, Point, Round, RoundError, SharedZone, ZoneIdentity};
 use std::process::Abort;
 use std::sync::Wait;
 use std::sync::atomic::{AtomicU64, Ordering};
@@ -49,7 +49,7 @@ impl Gate for Lulls {
 }
 
 /// Waits until no page is moving. It says that it waits while it has the lock, which it lets go only as it sleeps.
-fn waits_by_hand<K: Shape, I: Ledger, M: Ledger, B: Ledger, R: Wait>(
+fn waits_by_hand<K: ZoneIdentity, I: Ledger, M: Ledger, B: Ledger, R: Wait>(
     rt: &R,
     shared: &SharedZone<K, I, M, B>,
     gate: &Lulls,
@@ -66,7 +66,7 @@ fn waits_by_hand<K: Shape, I: Ledger, M: Ledger, B: Ledger, R: Wait>(
 }
 
 /// Waits for the page, and tells the gate that it was woken.
-fn waits<K: Shape, I: Ledger, M: Ledger, B: Ledger, R: Wait + Abort>(
+fn waits<K: ZoneIdentity, I: Ledger, M: Ledger, B: Ledger, R: Wait + Abort>(
     rt: &R,
     shared: &SharedZone<K, I, M, B>,
     gate: &Lulls,
@@ -87,7 +87,7 @@ fn waits<K: Shape, I: Ledger, M: Ledger, B: Ledger, R: Wait + Abort>(
 
 /// Two threads at once, each with a client.
 fn both_wait<
-    K: Shape + Send + Sync,
+    K: ZoneIdentity + Send + Sync,
     I: Ledger + Send + Sync,
     M: Ledger + Send + Sync,
     B: Ledger + Send + Sync,
@@ -108,7 +108,7 @@ fn both_wait<
 
 /// Both threads that wait for the page of a round are woken.
 fn woken_by_a_round<
-    K: Shape + Send + Sync,
+    K: ZoneIdentity + Send + Sync,
     I: Ledger + Send + Sync,
     N: Ledger + Send,
     M: Ledger + Send + Sync,
@@ -137,7 +137,7 @@ fn woken_by_a_round<
 }
 
 impl<
-    K: Shape + Send + Sync,
+    K: ZoneIdentity + Send + Sync,
     I: Ledger + Send + Sync,
     N: Ledger + Send,
     M: Ledger + Send + Sync,

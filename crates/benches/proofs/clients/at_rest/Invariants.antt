@@ -1,7 +1,7 @@
 use Rattle.benches.proofs.clients.at_rest.Given as goal
 
-abbrev pub ghosts-rate_at_rest-K-Shape : goal.ghosts-rate_at_rest-K-Shape
-ghosts-rate_at_rest-K-Shape g a = record { number = 0; blocks = 8 }
+abbrev pub ghosts-rate_at_rest-K-ZoneIdentity : goal.ghosts-rate_at_rest-K-ZoneIdentity
+ghosts-rate_at_rest-K-ZoneIdentity g a = record { number = 0; blocks = 8 }
 
 abbrev pub ghosts-rate_at_rest-I-Ledger : goal.ghosts-rate_at_rest-I-Ledger
 ghosts-rate_at_rest-I-Ledger g a = record { name = a.blanks.isolated.name; parts = a.blanks.isolated.parts }

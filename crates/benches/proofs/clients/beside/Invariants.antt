@@ -1,7 +1,7 @@
 use Rattle.benches.proofs.clients.beside.Given as goal
 
-abbrev pub ghosts-beside_rounds-K-Shape : goal.ghosts-beside_rounds-K-Shape
-ghosts-beside_rounds-K-Shape g a = record { number = 0; blocks = 8 }
+abbrev pub ghosts-beside_rounds-K-ZoneIdentity : goal.ghosts-beside_rounds-K-ZoneIdentity
+ghosts-beside_rounds-K-ZoneIdentity g a = record { number = 0; blocks = 8 }
 
 abbrev pub ghosts-beside_rounds-I-Ledger : goal.ghosts-beside_rounds-I-Ledger
 ghosts-beside_rounds-I-Ledger g a = record { name = a.blanks.isolated.name; parts = a.blanks.isolated.parts }

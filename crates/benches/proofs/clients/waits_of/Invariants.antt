@@ -1,7 +1,7 @@
 use Rattle.benches.proofs.clients.waits_of.Given as goal
 
-abbrev pub ghosts-wait_beside_rounds-K-Shape : goal.ghosts-wait_beside_rounds-K-Shape
-ghosts-wait_beside_rounds-K-Shape g a = record { number = 0; blocks = 8 }
+abbrev pub ghosts-wait_beside_rounds-K-ZoneIdentity : goal.ghosts-wait_beside_rounds-K-ZoneIdentity
+ghosts-wait_beside_rounds-K-ZoneIdentity g a = record { number = 0; blocks = 8 }
 
 abbrev pub ghosts-wait_beside_rounds-I-Ledger : goal.ghosts-wait_beside_rounds-I-Ledger
 ghosts-wait_beside_rounds-I-Ledger g a = record { name = a.blanks.isolated.name; parts = a.blanks.isolated.parts }

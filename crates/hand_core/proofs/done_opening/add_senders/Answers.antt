@@ -2,7 +2,7 @@ use Rattle.std.proofs.Common.{◌≡◌, ℕ, zero, suc, ◌+◌, ◌<◌, false
 use Rattle.std.specs.Prelude.{slice_get}
 use Rattle.crossbeam_channel.specs.Ends.{sends_on}
 use Rattle.hand_core.specs.declared.copy_queue.Account.{Account}
-use Rattle.hand_core.specs.Handfuls.{pages_of}
+use Rattle.hand_core.specs.Batches.{pages_of}
 use Rattle.hand_core.specs.Queue.{name_of}
 use Rattle.hand_core.proofs.CopySteps.{makes}
 use Rattle.hand_core.proofs.done_opening.add_senders.Goals as goal

@@ -3,7 +3,7 @@ use Rattle.crossbeam_channel.specs.Claims.{view}
 use Rattle.hand_core.specs.declared.copy_queue.Account.{Account}
 use Rattle.hand_core.specs.declared.copy_queue.Message.{Message}
 use Rattle.hand_core.specs.CopyEnds.{DoneSender, DoneTaker, copies_of, has_ended, has_mark}
-use Rattle.hand_core.specs.Handfuls.{pages_of}
+use Rattle.hand_core.specs.Batches.{pages_of}
 use Rattle.hand_core.specs.CopyQueue.{Tells}
 use Rattle.hand_core.proofs.Messages.{all_came, each_passes}
 use Rattle.std.proofs.lemmas.List.Elements.{All-cons, All-pop}

@@ -3,7 +3,7 @@ use Rattle.std.proofs.lemmas.List.Elements.{All-push}
 use Rattle.crossbeam_channel.specs.Ends.{sends_on}
 use Rattle.hand_core.specs.declared.page_queue.Known.{Known}
 use Rattle.hand_core.specs.PageEnds.{Taker}
-use Rattle.hand_core.specs.Handfuls.{before_hand}
+use Rattle.hand_core.specs.Batches.{before_hand}
 use Rattle.hand_core.specs.PageQueue.{giver_knows}
 use Rattle.hand_core.specs.Queue.{name_of}
 use Rattle.hand_core.proofs.PageSteps.{cuts}

@@ -2,7 +2,7 @@ use Rattle.std.proofs.Common.{rules, ◌≡◌, length, ap, sym, ◌∙◌, subs
 use Rattle.std.specs.List.{range_with_len}
 use Rattle.std.specs.List.Sorted.{IsPermutation}
 use Rattle.std.proofs.lemmas.List.Sorted.{IsPermutation-map}
-use Rattle.word_core.specs.Page.{OnItsWay}
+use Rattle.word_core.specs.Page.{IsolatedPage}
 use Rattle.hand_core.specs.PageEnds.{Giver, taken_by}
 use Rattle.word_core.specs.Serials.{serials_of, HasSerialsFrom}
 use Rattle.hand_core.proofs.settling.settle.Goals as goal
@@ -16,7 +16,7 @@ returns-clause-serials c =
     let numbers : range_with_len giver.base (length giver.given) ≡ range_with_len settled.base settled.count =
     ap (λ b. range_with_len b (length giver.given)) (sym count.0) ∙ ap (λ n. range_with_len settled.base n) (sym count.1) in
     subst (λ l. IsPermutation (serials_of (taken_by c.args.takers.items)) l) (serials ∙ numbers)
-    (IsPermutation-map (λ (p : OnItsWay). p.serial) (taken_by c.args.takers.items) giver.given c.take_back.ensures.pages)
+    (IsPermutation-map (λ (p : IsolatedPage). p.serial) (taken_by c.args.takers.items) giver.given c.take_back.ensures.pages)
 
 pub take_back-requires-clause-marks : goal.take_back-requires-clause-marks
 take_back-requires-clause-marks c = search rules

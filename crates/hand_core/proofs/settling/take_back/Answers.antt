@@ -4,7 +4,7 @@ use Rattle.std.proofs.lemmas.List.Sorted.{IsPermutation-sym, IsPermutation-trans
 use Rattle.crossbeam_channel.specs.Claims.{view}
 use Rattle.hand_core.specs.declared.page_queue.Known.{Known}
 use Rattle.hand_core.specs.PageEnds.{Giver, Taker, off, taken_by}
-use Rattle.hand_core.specs.Handfuls.{before_hand}
+use Rattle.hand_core.specs.Batches.{before_hand}
 use Rattle.word_core.specs.Serials.{IsRising}
 use Rattle.std.proofs.lemmas.List.Elements.{All-cons, All-pop}
 use Rattle.hand_core.proofs.HandedOver.{all_have_ended, handed_over}

@@ -10,7 +10,7 @@ loop-order-init g c = record {
   filled = λ ran none. refl;
   rest = λ rest. rest;
   lawful = λ more. absurd (omega arith);
-  shape = (refl, refl);
+  identity = (refl, refl);
 }
 
 pub returns-in_err-take-clause-filled : goal.returns-in_err-take-clause-filled
@@ -30,5 +30,5 @@ loop-order-preserved g c =
           c.args.got.now.items was.got.items c.push.new.self.items (omega arith) c.push.ensures.items was.invariant.filled;
       rest = λ rest. rest_block was.zone now huge.frame order took.ok took.lawful (was.invariant.rest rest);
       lawful = λ more. took.lawful;
-      shape = search rules;
+      identity = search rules;
     }

@@ -16,7 +16,7 @@ loop-error-init g c = record {
   got = search rules;
   running = not_begun c.args.collector.now c.args.seats.now.scan c.args.seats.now.ends;
   hand = λ rest. rw c.new-got.ensures (begun_by_hand c.args.collector.now.order c.args.n c.args.zone rest);
-  shape = (refl, refl);
+  identity = (refl, refl);
 }
 
 pub loop-error-preserved : goal.loop-error-preserved
@@ -49,7 +49,7 @@ loop-error-preserved g c =
           ran_by_hand order c.args.n start now run.result.0 got was.rounds filled.ensures.low filled.ensures.high err.err none
           (round_moves now round count none_back is_round.sum c.if-round-eq0.false)
           (rw c.in-Ok.is at run.ensures.exact) run.ensures.kept.lawful here;
-      shape = search rules;
+      identity = search rules;
     }
 
 pub returns-clause-kept : goal.returns-clause-kept

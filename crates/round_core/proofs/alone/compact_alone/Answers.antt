@@ -1,6 +1,6 @@
 use Rattle.std.proofs.Common.{◌≡◌, ◌+◌, ◌≤◌, ◌↔◌, sym, subst, ◌∙◌, ap, IsOk, IfOk}
 use Rattle.journal_core.specs.Moves.{isolated}
-use Rattle.state_core.specs.Lawful.{IsLawful}
+use Rattle.state_core.specs.Lawful.{IsValidZone}
 use Rattle.state_core.specs.ZoneState.{ZoneState}
 use Rattle.zone_core.specs.Seats.{ScanSeat, EndSeat, IsAudited}
 use Rattle.round_core.specs.Rounds.{IsBroken}
@@ -65,7 +65,7 @@ returns-clause-stopped g c = if_stopped c.args.zone c.audit-2.new.self c.compact
 
 pub returns-clause-packed : goal.returns-clause-packed
 returns-clause-packed g c =
-    let law = subst IsLawful c.audit.ensures.same c.audit.ensures.lawful in
+    let law = subst IsValidZone c.audit.ensures.same c.audit.ensures.lawful in
     if_packed c.args.zone c.audit-2.new.self law c.compact_shared-zone.result.1 (by_hand_then g c)
 
 pub returns-clause-unbegun : goal.returns-clause-unbegun

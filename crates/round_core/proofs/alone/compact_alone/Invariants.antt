@@ -7,8 +7,8 @@ use Rattle.round_core.proofs.ByHand.{goes_on_alone, stops_alone}
 use Rattle.round_core.proofs.alone.compact_alone.Given as goal
 
 -- the zone that is shared
-abbrev pub ghosts-compact_shared-K-Shape : goal.ghosts-compact_shared-K-Shape
-ghosts-compact_shared-K-Shape g a = record { number = a.zone.number; blocks = a.zone.blocks }
+abbrev pub ghosts-compact_shared-K-ZoneIdentity : goal.ghosts-compact_shared-K-ZoneIdentity
+ghosts-compact_shared-K-ZoneIdentity g a = record { number = a.zone.number; blocks = a.zone.blocks }
 
 -- and what its lock keeps, since nobody else has it: what the round comes to
 abbrev pub ghosts-compact_shared-K-Keeping : goal.ghosts-compact_shared-K-Keeping

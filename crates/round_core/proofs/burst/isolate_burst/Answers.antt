@@ -1,6 +1,6 @@
 use Rattle.std.proofs.Common.{rules, ◌≡◌, ◌+◌, ◌∷◌, [], length, refl, sym, ap, subst, ◌∙◌, arith, length-append}
 use Rattle.std.specs.Prelude.{Option, None, Some}
-use Rattle.word_core.specs.Page.{OnItsWay}
+use Rattle.word_core.specs.Page.{IsolatedPage}
 use Rattle.word_core.specs.Serials.{HasSerialsFrom}
 use Rattle.journal_core.specs.Moves.{isolated}
 use Rattle.state_core.specs.declared.moves.Next.TheVariants.{Page}
@@ -16,12 +16,12 @@ use Rattle.outcome_core.proofs.Steps.{stepped, met_none, met_stops}
 use Rattle.round_core.proofs.NoReceipt.{scan_tells_none}
 use Rattle.round_core.proofs.burst.isolate_burst.Goals as goal
 
-serial_is : (z : ZoneState) (pair : Option Pair) (p : OnItsWay) → Page p ≡ next_answer z pair → p.serial ≡ isolated z.records
+serial_is : (z : ZoneState) (pair : Option Pair) (p : IsolatedPage) → Page p ≡ next_answer z pair → p.serial ≡ isolated z.records
 serial_is z None p e = cc
 serial_is z (Some pair) p e = cc
 
 -- a page more was isolated
-grown : (z : ZoneState) (pair : Option Pair) (p : OnItsWay) → Page p ≡ next_answer z pair → isolated (next_state z pair).records ≡ isolated z.records + 1
+grown : (z : ZoneState) (pair : Option Pair) (p : IsolatedPage) → Page p ≡ next_answer z pair → isolated (next_state z pair).records ≡ isolated z.records + 1
 grown z None p e = cc
 grown z (Some pair) p e = refl
 
@@ -35,14 +35,14 @@ loop-zone-preserved g c =
     let next : p.serial ≡ c.args.scan.now.count + length pages = serial ∙ sym c.in-Ok-Page.ensures.serial ∙ old.count in
     let seat : c.isolate_next.new.seat ≡ seat_noted c.loop-zone.scan (Page p) = c.in-Ok-Page.ensures.seat ∙ ap (seat_noted c.loop-zone.scan) c.in-Ok-Page.field-0-is in
     let pushed = c.push_back_reserved.ensures.items in
-    let longer = ap (length {A = OnItsWay}) pushed ∙ length-append pages (p ∷ []) in
+    let longer = ap (length {A = IsolatedPage}) pushed ∙ length-append pages (p ∷ []) in
     let count = ap (λ (s : ScanSeat). s.count) seat in
     let counted = old.count in
     record {
       serials = subst (HasSerialsFrom c.args.scan.now.count) (sym pushed) (serials-snoc c.args.scan.now.count pages p old.serials next);
       count = omega (arith, count, counted, longer);
       rounds = ap (λ (s : ScanSeat). s.rounds) seat ∙ old.rounds;
-      shape = search rules;
+      identity = search rules;
       lawful = c.in-Ok-Page.ensures.lawful;
       keeps = subst g.K.Keeping.keeps_scanning (sym (c.in-Ok-Page.ensures.ok ∙ stepped zone c.in-Ok-Page.ensures.refused)) (g.K.Keeping.scans zone old.lawful old.keeps);
       clients = ap (λ (z : ZoneState). g.K.Keeping.told z.records) (c.in-Ok-Page.ensures.ok ∙ stepped zone c.in-Ok-Page.ensures.refused)

@@ -1,9 +1,9 @@
 use Rattle.std.proofs.Common.{◌≡◌, ◌+◌, ◌-◌, length}
 use Rattle.std.specs.VecDeque.{deque_capacity}
 use Rattle.journal_core.specs.Moves.{isolated}
-use Rattle.state_core.specs.Lawful.{IsLawful}
+use Rattle.state_core.specs.Lawful.{IsValidZone}
 use Rattle.word_core.specs.Serials.{HasSerialsFrom}
-use Rattle.zone_core.specs.Shape.{HasShape}
+use Rattle.zone_core.specs.ZoneIdentity.{HasIdentity}
 use Rattle.round_core.proofs.burst.isolate_burst.Given as goal
 
 abbrev pub invariant-loop-zone : goal.invariant-loop-zone
@@ -11,8 +11,8 @@ invariant-loop-zone g l = record {
   serials : HasSerialsFrom l.fn.scan.count l.pages.items;
   count : l.scan.count ≡ l.fn.scan.count + length l.pages.items;
   rounds : l.scan.rounds ≡ l.fn.scan.rounds;
-  shape : HasShape l.fn.zone.number l.fn.zone.blocks l.zone;
-  lawful : IsLawful l.zone;
+  identity : HasIdentity l.fn.zone.number l.fn.zone.blocks l.zone;
+  lawful : IsValidZone l.zone;
   keeps : g.K.Keeping.keeps_scanning l.zone;
   clients : g.K.Keeping.told l.zone.records ≡ g.K.Keeping.told l.fn.zone.records;
   told : isolated l.zone.records ≡ l.scan.count;

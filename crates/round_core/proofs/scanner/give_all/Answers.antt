@@ -7,19 +7,19 @@ use Rattle.round_core.proofs.scanner.give_all.Goals as goal
 
 pub give_all-requires-clause-next : goal.give_all-requires-clause-next
 give_all-requires-clause-next g c =
-    let giver = c.loop-handful.giver in
+    let giver = c.loop-batch.giver in
     let next = giver.base + length giver.given in
-    serials_front next c.in-Some.handful.items c.first_of.new.pages.items (subst (HasSerialsFrom next) c.in-Some.ensures.first c.loop-handful.invariant.serials)
+    serials_front next c.in-Some.batch.items c.first_of.new.pages.items (subst (HasSerialsFrom next) c.in-Some.ensures.first c.loop-batch.invariant.serials)
 
-pub loop-handful-preserved : goal.loop-handful-preserved
-loop-handful-preserved g c =
-    let giver = c.loop-handful.giver in
+pub loop-batch-preserved : goal.loop-batch-preserved
+loop-batch-preserved g c =
+    let giver = c.loop-batch.giver in
     let new = c.give_all.new.self in
     let first = c.args.giver.now in
-    let items = c.in-Some.handful.items in
+    let items = c.in-Some.batch.items in
     let rest = c.first_of.new.pages.items in
     let next = giver.base + length giver.given in
-    let old = c.loop-handful.invariant in
+    let old = c.loop-batch.invariant in
     let split = c.in-Some.ensures.first in
     let ok = c.in_default-give_all.ensures.ok in
     let base = ap (λ (v : Giver). v.base) ok in
@@ -37,11 +37,11 @@ loop-handful-preserved g c =
 
 pub returns-in-Err-clause-left : goal.returns-in-Err-clause-left
 returns-in-Err-clause-left g c is =
-    let old = c.loop-handful.invariant in
+    let old = c.loop-batch.invariant in
     let none : c.put_back_all.result ≡ None = cc in
     let all = c.put_back_all.ensures.back none in
-    let some = c.put_back_handful-stranger.ensures.back all.0 in
-    let refused : length c.in-Err.refused.items ≡ length c.in-Some.handful.items = (λ i. length (c.in-Err.ensures.back i).items) in
+    let some = c.put_back_batch-stranger.ensures.back all.0 in
+    let refused : length c.in-Err.refused.items ≡ length c.in-Some.batch.items = (λ i. length (c.in-Err.ensures.back i).items) in
     let given = ap (λ (v : Giver). length v.given) c.in-Err.ensures.err in
     let ends = ap (λ (v : EndSeat). v.back) old.ends in
     let before = ap length old.given in
@@ -55,7 +55,7 @@ returns-in-Err-clause-left g c is =
       ends,
       before,
       first,
-      length-append c.loop-handful.giver.given c.loop-handful.pages.items,
+      length-append c.loop-batch.giver.given c.loop-batch.pages.items,
       length-append c.args.giver.now.given c.args.pages.now.items,
-      length-append c.in-Some.handful.items c.first_of.new.pages.items,
+      length-append c.in-Some.batch.items c.first_of.new.pages.items,
     )

@@ -1,7 +1,7 @@
 use Rattle.round_tests.proofs.tests.tries.Given as goal
 
-abbrev pub ghosts-tries_in-K-Shape : goal.ghosts-tries_in-K-Shape
-ghosts-tries_in-K-Shape g a = record { number = 1; blocks = a.blocks }
+abbrev pub ghosts-tries_in-K-ZoneIdentity : goal.ghosts-tries_in-K-ZoneIdentity
+ghosts-tries_in-K-ZoneIdentity g a = record { number = 1; blocks = a.blocks }
 
 abbrev pub ghosts-tries_in-I-Ledger : goal.ghosts-tries_in-I-Ledger
 ghosts-tries_in-I-Ledger g a = record { name = a.blanks.isolated.name; parts = a.blanks.isolated.parts }

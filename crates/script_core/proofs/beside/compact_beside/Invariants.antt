@@ -5,8 +5,8 @@ use Rattle.round_core.proofs.Beside.{added_back, added_call, added_commit, added
 use Rattle.script_core.proofs.beside.compact_beside.Given as goal
 
 -- the zone that is shared
-abbrev pub ghosts-compact_shared-K-Shape : goal.ghosts-compact_shared-K-Shape
-ghosts-compact_shared-K-Shape g a = record { number = a.zone.number; blocks = a.zone.blocks }
+abbrev pub ghosts-compact_shared-K-ZoneIdentity : goal.ghosts-compact_shared-K-ZoneIdentity
+ghosts-compact_shared-K-ZoneIdentity g a = record { number = a.zone.number; blocks = a.zone.blocks }
 
 -- and what its lock keeps: the round and the one client add to the journal, and nobody else does
 abbrev pub ghosts-compact_shared-K-Keeping : goal.ghosts-compact_shared-K-Keeping

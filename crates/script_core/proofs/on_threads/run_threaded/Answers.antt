@@ -1,4 +1,4 @@
-use Rattle.script_core.specs.Threaded.{AsksMemory, IsThreadedStep, threaded_at_first}
+use Rattle.script_core.specs.WithThreads.{AsksMemory, IsThreadedStep, threaded_at_first}
 use Rattle.play_core.proofs.Carried.{ends_carried, totals_carried}
 use Rattle.script_core.proofs.on_threads.run_threaded.Goals as goal
 

@@ -10,7 +10,7 @@ use Rattle.client_core.specs.Receipts.{Agrees, Client}
 use Rattle.client_core.specs.Settling.{HasKeptJournal, IsUnsettled}
 use Rattle.client_core.specs.declared.settling.Unsettled.{Unsettled}
 use Rattle.client_core.specs.declared.settling.Unsettled.TheVariants as unsettled
-use Rattle.script_core.specs.Threaded.{IsSettledReply}
+use Rattle.script_core.specs.WithThreads.{IsSettledReply}
 use Rattle.script_core.proofs.threaded.settled_reply.Goals as goal
 
 -- the reply where the client isn't settled with the zone

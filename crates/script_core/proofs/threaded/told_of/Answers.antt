@@ -2,7 +2,7 @@ use Rattle.std.proofs.Common.{◌∙◌, ◌+◌, ◌++◌, ◌∷◌, [], ℕ, 
 use Rattle.std.proofs.lemmas.List.{at_drop_all, length_push}
 use Rattle.arrayvec.specs.ArrayVec.{ArrayVec}
 use Rattle.text_core.specs.Pool.{told_as}
-use Rattle.script_core.specs.Threaded.{told_of}
+use Rattle.script_core.specs.WithThreads.{told_of}
 use Rattle.script_core.proofs.Pools.{told_at, told_more}
 use Rattle.script_core.proofs.threaded.told_of.Goals as goal
 use Rattle.script_core.proofs.threaded.told_of.Goals.{in-Some, in_default}

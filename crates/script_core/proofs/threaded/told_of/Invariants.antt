@@ -1,5 +1,5 @@
 use Rattle.std.proofs.Common.{◌≡◌, ◌≤◌, ◌++◌, drop, length}
-use Rattle.script_core.specs.Threaded.{told_of}
+use Rattle.script_core.specs.WithThreads.{told_of}
 use Rattle.script_core.proofs.threaded.told_of.Given as goal
 
 -- the numbers so far, and those of the blocks that are left

@@ -7,7 +7,7 @@ use Rattle.outcome_core.specs.Outcome.{IsSame}
 use Rattle.outcome_core.proofs.Packed.{packed_exact}
 use Rattle.state_core.specs.Ending.{IsOwnCopy, moved_to_target}
 use Rattle.state_core.specs.Isolating.{isolated_next, next_state}
-use Rattle.state_core.specs.Lawful.{IsLawful}
+use Rattle.state_core.specs.Lawful.{IsValidZone}
 use Rattle.state_core.specs.Pairs.{next_pair}
 use Rattle.state_core.specs.Rounds.{round_begun}
 use Rattle.state_core.specs.ZoneState.{ZoneState}
@@ -19,7 +19,7 @@ use Rattle.solo_core.proofs.compacting.compact.Goals as goal
 
 pub loop-page-init : goal.loop-page-init
 loop-page-init g c =
-    let rest : IsAtRest c.args.zone.now = record { lawful = subst IsLawful c.audit.ensures.same c.audit.ensures.lawful; none_out = c.in_ok-audit.ensures.ok.none_out } in
+    let rest : IsAtRest c.args.zone.now = record { lawful = subst IsValidZone c.audit.ensures.same c.audit.ensures.lawful; none_out = c.in_ok-audit.ensures.ok.none_out } in
     let begun : c.begin_round.new.self ≡ round_begun c.args.zone.now = c.begin_round.ensures.zone ∙ ap round_begun c.audit.ensures.same in
     let count = ap (λ (s : ScanSeat). s.count) c.begin_round.ensures.seat in
     let count_old = ap (λ (s : ScanSeat). s.count) c.audit.ensures.seats.0 in
@@ -55,7 +55,7 @@ loop-page-preserved g c =
     let moved = ap (λ (s : EndSeat). s.moved) c.carry.ensures.ends in
     record {
       between = subst (IsBetween start) (sym moved_is)
-          (between_moved start z before.between is.pair (sym c.in-Ok-Page.ensures.refused) is.found (subst IsLawful moved_is c.carry.ensures.lawful));
+          (between_moved start z before.between is.pair (sym c.in-Ok-Page.ensures.refused) is.found (subst IsValidZone moved_is c.carry.ensures.lawful));
       count = count ∙ ap (λ (n : ℕ). n + 1) before.count ∙ sym (ap (λ (w : ZoneState). isolated w.records) moved_is);
       rounds = ap (λ (s : ScanSeat). s.rounds) seat ∙ before.rounds;
       moved = omega (arith, count, moved, before.moved);

@@ -4,8 +4,8 @@ use Rattle.state_core.proofs.law.calls_keep_the_law.Goals as goal
 pub returns-clause-lawful : goal.returns-clause-lawful
 returns-clause-lawful c = call_lawful
 
-pub returns-clause-shape : goal.returns-clause-shape
-returns-clause-shape c = call_shape
+pub returns-clause-identity : goal.returns-clause-identity
+returns-clause-identity c = call_shape
 
 pub returns-clause-recorded : goal.returns-clause-recorded
 returns-clause-recorded c = call_recorded

@@ -1,5 +1,5 @@
 use Rattle.std.proofs.Common.{rules, ℕ, ◌+◌, add-zero, add_assoc, ◌∷◌, List, length, refl, sym, ap, subst, ◌∙◌, arith}
-use Rattle.word_core.specs.Page.{OnItsWay}
+use Rattle.word_core.specs.Page.{IsolatedPage}
 use Rattle.state_core.specs.ZoneState.{ZoneState}
 use Rattle.zone_core.specs.Seats.{EndSeat}
 use Rattle.world_core.proofs.Closing.{IsClosing, closing_first, closing_next}
@@ -16,17 +16,17 @@ loop-page-init g c = record {
 pub put_back_in-requires : goal.put_back_in-requires
 put_back_in-requires g c =
     let was : IsClosing c.loop-page.zone (c.in-Some.page ∷ c.pop_front.new.self.items) c.loop-page.count c.args.zone.now c.args.waiting.now.items =
-    subst (λ (list : List OnItsWay). IsClosing c.loop-page.zone list c.loop-page.count c.args.zone.now c.args.waiting.now.items) c.in-Some.ensures.items c.loop-page.invariant.closing in
+    subst (λ (list : List IsolatedPage). IsClosing c.loop-page.zone list c.loop-page.count c.args.zone.now c.args.waiting.now.items) c.in-Some.ensures.items c.loop-page.invariant.closing in
     (search rules, (search rules, (c.loop-page.invariant.lawful, was.own 0 c.in-Some.page refl)))
 
 pub overflow_add-count : goal.overflow_add-count
 overflow_add-count g c =
-    omega (arith, c.loop-page.invariant.closing.counted, c.requires.few, ap (length {A = OnItsWay}) c.in-Some.ensures.items)
+    omega (arith, c.loop-page.invariant.closing.counted, c.requires.few, ap (length {A = IsolatedPage}) c.in-Some.ensures.items)
 
 pub loop-page-preserved : goal.loop-page-preserved
 loop-page-preserved g c =
     let was : IsClosing c.loop-page.zone (c.in-Some.page ∷ c.pop_front.new.self.items) c.loop-page.count c.args.zone.now c.args.waiting.now.items =
-    subst (λ (list : List OnItsWay). IsClosing c.loop-page.zone list c.loop-page.count c.args.zone.now c.args.waiting.now.items) c.in-Some.ensures.items c.loop-page.invariant.closing in
+    subst (λ (list : List IsolatedPage). IsClosing c.loop-page.zone list c.loop-page.count c.args.zone.now c.args.waiting.now.items) c.in-Some.ensures.items c.loop-page.invariant.closing in
     record {
       closing = subst (λ (zone : ZoneState). IsClosing zone c.pop_front.new.self.items (c.loop-page.count + 1) c.args.zone.now c.args.waiting.now.items) (sym c.put_back_in.ensures.zone)
           (closing_next c.loop-page.zone c.in-Some.page c.pop_front.new.self.items c.loop-page.count c.args.zone.now c.args.waiting.now.items was c.put_back_in.ensures.page);

@@ -3,7 +3,7 @@ use Rattle.std.proofs.lemmas.List.Elements.{All-push}
 use Rattle.crossbeam_channel.specs.Claims.{view}
 use Rattle.hand_core.specs.declared.copy_queue.Account.{Account}
 use Rattle.hand_core.specs.CopyEnds.{DoneSender}
-use Rattle.hand_core.specs.Handfuls.{Handful}
+use Rattle.hand_core.specs.Batches.{Batch}
 use Rattle.hand_core.proofs.CopySteps.{copies_go_in}
 use Rattle.hand_core.proofs.Hands.{fits}
 use Rattle.hand_core.proofs.done_sender.DoneSender.send_all.Goals as goal
@@ -23,8 +23,8 @@ invariant_of-self g c =
       seat = c.in_default.ensures.channel.0;
       sends = ap (λ (v : Account). v.sends) e ∙ k.sends;
       sender = ap (λ (v : Account). v.sender) e ∙ k.sender;
-      small = subst (All (λ (h : Handful). length h.items ≤ s.most)) (sym (ap (λ (v : Account). v.sent) e))
-          (All-push (λ (h : Handful). length h.items ≤ s.most) (view s.pass).sent c.args.copies k.small (fits (length c.args.copies.items) s.most k.some.0 few));
+      small = subst (All (λ (h : Batch). length h.items ≤ s.most)) (sym (ap (λ (v : Account). v.sent) e))
+          (All-push (λ (h : Batch). length h.items ≤ s.most) (view s.pass).sent c.args.copies k.small (fits (length c.args.copies.items) s.most k.some.0 few));
       some = k.some;
       fresh = λ still. ap (λ (v : Account). v.marked) e ∙ k.fresh still;
     }

@@ -1,9 +1,9 @@
 use Rattle.std.proofs.Common.{◌≡◌, ◌∷◌, ◌++◌, [], List, IfSome, subst}
 use Rattle.std.specs.Option.{option_to_list}
 use Rattle.crossbeam_channel.specs.Claims.{view}
-use Rattle.word_core.specs.Page.{OnItsWay}
+use Rattle.word_core.specs.Page.{IsolatedPage}
 use Rattle.hand_core.specs.CopyEnds.{DoneTaker, copies_in, copies_taken}
-use Rattle.hand_core.specs.Handfuls.{before_hand}
+use Rattle.hand_core.specs.Batches.{before_hand}
 use Rattle.hand_core.proofs.Hands.{hand_step, next_taken}
 use Rattle.hand_core.proofs.done_taker.DoneTaker.next_in_hand.Goals as goal
 
@@ -23,6 +23,6 @@ pub returns-clause-some : goal.returns-clause-some
 returns-clause-some c =
     let t = c.self.inside in
     let k = c.self.invariant in
-    let came : List OnItsWay = copies_in (view t.pass).came in
+    let came : List IsolatedPage = copies_in (view t.pass).came in
     subst (λ (was : DoneTaker). IfSome c.next.result (λ copy. before_hand came c.next.new.self ≡ copies_taken was ++ copy ∷ [])) c.self.view_is
     (next_taken came k.hand.0 t.hand c.next.new.self c.next.result k.hand.1 c.next.ensures.steps)

@@ -1,9 +1,9 @@
 use Rattle.std.proofs.Common.{◌≡◌, ◌++◌, ◌∷◌, [], Bool, List, None, Some, Option, MatchOption, IfSome, ap, sym, ◌∙◌, subst}
 use Rattle.std.specs.Option.{option_to_list}
 use Rattle.crossbeam_channel.specs.Claims.{view}
-use Rattle.word_core.specs.Page.{OnItsWay}
+use Rattle.word_core.specs.Page.{IsolatedPage}
 use Rattle.word_core.specs.Serials.{IsRising}
-use Rattle.hand_core.specs.Handfuls.{before_hand}
+use Rattle.hand_core.specs.Batches.{before_hand}
 use Rattle.hand_core.specs.PageEnds.{Taker, HandOver, off}
 use Rattle.hand_core.proofs.Hands.{hand_whole, hand_step, empty_step, next_taken}
 use Rattle.hand_core.proofs.taker.Taker.next_in_hand.Goals as goal
@@ -25,13 +25,13 @@ invariant_of-self c =
     }
 
 -- what contracts see of the taker afterwards
-seen : (hand_over : HandOver) (ended : Bool) (now : Taker) (came in_hand rest : List OnItsWay) (next : Option OnItsWay)
+seen : (hand_over : HandOver) (ended : Bool) (now : Taker) (came in_hand rest : List IsolatedPage) (next : Option IsolatedPage)
     → record { hand_over = hand_over; taken = before_hand came in_hand; in_hand = in_hand; ended = ended } ≡ now
     → IfSome next (λ p. before_hand came rest ≡ before_hand came in_hand ++ p ∷ [])
     → IfSome next (λ p. record { hand_over = hand_over; taken = before_hand came rest; in_hand = rest; ended = ended } ≡ record now { taken = now.taken ++ p ∷ []; in_hand = rest })
 seen hand_over ended now came in_hand rest None is longer = tt
 seen hand_over ended now came in_hand rest (Some p) is longer =
-    let with_taken : List OnItsWay → Taker = λ l. record { hand_over = hand_over; taken = l; in_hand = rest; ended = ended } in
+    let with_taken : List IsolatedPage → Taker = λ l. record { hand_over = hand_over; taken = l; in_hand = rest; ended = ended } in
     ap with_taken longer ∙ ap (λ (t : Taker). record t { taken = t.taken ++ p ∷ []; in_hand = rest }) is
 
 pub returns-clause-some : goal.returns-clause-some
@@ -42,7 +42,7 @@ returns-clause-some c =
     (next_taken (view t.pass).off before.0 t.hand c.next.new.self c.next.result before.1 c.next.ensures.steps)
 
 -- what came off is what it was, with fewer pages in hand
-whole : (came before in_hand rest : List OnItsWay) (next : Option OnItsWay) → came ≡ before ++ in_hand → MatchOption next ((in_hand ≡ []) × (rest ≡ [])) (λ p. in_hand ≡ p ∷ rest)
+whole : (came before in_hand rest : List IsolatedPage) (next : Option IsolatedPage) → came ≡ before ++ in_hand → MatchOption next ((in_hand ≡ []) × (rest ≡ [])) (λ p. in_hand ≡ p ∷ rest)
     → before_hand came rest ++ rest ≡ came
 whole came before in_hand rest next is steps = hand_whole came (before ++ option_to_list next) rest (hand_step came before in_hand rest next is steps)
 

@@ -1,10 +1,10 @@
 use Rattle.std.proofs.Common.{◌≡◌, ◌≢◌, ◌∷◌, [], true, List, ap, sym, refl, ◌∙◌}
-use Rattle.word_core.specs.Page.{OnItsWay}
+use Rattle.word_core.specs.Page.{IsolatedPage}
 use Rattle.hand_core.specs.PageEnds.{Taker}
 use Rattle.hand_core.proofs.taker.Taker.take.Goals as goal
 
 -- a hand that had pages before the loop still has them
-empty_before : (in_hand : List OnItsWay) (before now : Taker) → before.in_hand ≡ in_hand → (before.in_hand ≢ [] → now ≡ before) → now.in_hand ≡ [] → in_hand ≡ []
+empty_before : (in_hand : List IsolatedPage) (before now : Taker) → before.in_hand ≡ in_hand → (before.in_hand ≢ [] → now ≡ before) → now.in_hand ≡ [] → in_hand ≡ []
 empty_before [] before now is held empty = refl
 empty_before (p ∷ in_hand) before now is held empty = absurd (still (sym empty ∙ ap (λ (t : Taker). t.in_hand) (held other) ∙ is))
   where

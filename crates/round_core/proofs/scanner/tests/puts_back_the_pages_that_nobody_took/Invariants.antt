@@ -1,7 +1,7 @@
 use Rattle.round_core.proofs.scanner.tests.puts_back_the_pages_that_nobody_took.Given as goal
 
-abbrev pub ghosts-puts_back-K-Shape : goal.ghosts-puts_back-K-Shape
-ghosts-puts_back-K-Shape g a = record { number = 1; blocks = 1 }
+abbrev pub ghosts-puts_back-K-ZoneIdentity : goal.ghosts-puts_back-K-ZoneIdentity
+ghosts-puts_back-K-ZoneIdentity g a = record { number = 1; blocks = 1 }
 
 abbrev pub ghosts-puts_back-I-Ledger : goal.ghosts-puts_back-I-Ledger
 ghosts-puts_back-I-Ledger g a = record { name = a.blanks.isolated.name; parts = a.blanks.isolated.parts }

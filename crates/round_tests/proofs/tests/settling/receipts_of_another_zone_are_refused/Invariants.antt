@@ -1,7 +1,7 @@
 use Rattle.round_tests.proofs.tests.settling.receipts_of_another_zone_are_refused.Given as goal
 
-abbrev pub ghosts-settles-K-Shape : goal.ghosts-settles-K-Shape
-ghosts-settles-K-Shape g a = record { number = 1; blocks = 1 }
+abbrev pub ghosts-settles-K-ZoneIdentity : goal.ghosts-settles-K-ZoneIdentity
+ghosts-settles-K-ZoneIdentity g a = record { number = 1; blocks = 1 }
 
 abbrev pub ghosts-settles-I-Ledger : goal.ghosts-settles-I-Ledger
 ghosts-settles-I-Ledger g a = record { name = a.blanks.isolated.name; parts = a.blanks.isolated.parts }
@@ -15,8 +15,8 @@ ghosts-settles-M-Ledger g a = record { name = a.blanks.moved.name; parts = a.bla
 abbrev pub ghosts-settles-B-Ledger : goal.ghosts-settles-B-Ledger
 ghosts-settles-B-Ledger g a = record { name = a.blanks.back.name; parts = a.blanks.back.parts }
 
-abbrev pub ghosts-differs_from_another-K-Shape : goal.ghosts-differs_from_another-K-Shape
-ghosts-differs_from_another-K-Shape g a = record { number = 1; blocks = 1 }
+abbrev pub ghosts-differs_from_another-K-ZoneIdentity : goal.ghosts-differs_from_another-K-ZoneIdentity
+ghosts-differs_from_another-K-ZoneIdentity g a = record { number = 1; blocks = 1 }
 
 abbrev pub ghosts-differs_from_another-I-Ledger : goal.ghosts-differs_from_another-I-Ledger
 ghosts-differs_from_another-I-Ledger g a = record { name = a.blanks.isolated.name; parts = a.blanks.isolated.parts }

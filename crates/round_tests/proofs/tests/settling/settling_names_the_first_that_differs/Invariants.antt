@@ -1,7 +1,7 @@
 use Rattle.round_tests.proofs.tests.settling.settling_names_the_first_that_differs.Given as goal
 
-abbrev pub ghosts-settles-K-Shape : goal.ghosts-settles-K-Shape
-ghosts-settles-K-Shape g a = record { number = 1; blocks = 1 }
+abbrev pub ghosts-settles-K-ZoneIdentity : goal.ghosts-settles-K-ZoneIdentity
+ghosts-settles-K-ZoneIdentity g a = record { number = 1; blocks = 1 }
 
 abbrev pub ghosts-settles-I-Ledger : goal.ghosts-settles-I-Ledger
 ghosts-settles-I-Ledger g a = record { name = a.blanks.isolated.name; parts = a.blanks.isolated.parts }

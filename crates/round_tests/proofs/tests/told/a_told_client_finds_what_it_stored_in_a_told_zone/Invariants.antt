@@ -1,7 +1,7 @@
 use Rattle.round_tests.proofs.tests.told.a_told_client_finds_what_it_stored_in_a_told_zone.Given as goal
 
-abbrev pub ghosts-uses_a_told_zone-K-Shape : goal.ghosts-uses_a_told_zone-K-Shape
-ghosts-uses_a_told_zone-K-Shape g a = record { number = 1; blocks = 1 }
+abbrev pub ghosts-uses_a_told_zone-K-ZoneIdentity : goal.ghosts-uses_a_told_zone-K-ZoneIdentity
+ghosts-uses_a_told_zone-K-ZoneIdentity g a = record { number = 1; blocks = 1 }
 
 abbrev pub ghosts-uses_a_told_zone-I-Ledger : goal.ghosts-uses_a_told_zone-I-Ledger
 ghosts-uses_a_told_zone-I-Ledger g a = record { name = a.blanks.isolated.name; parts = a.blanks.isolated.parts }

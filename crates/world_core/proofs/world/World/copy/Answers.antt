@@ -1,7 +1,7 @@
 use Rattle.std.proofs.Common.{◌≡◌, ◌-◌, List, sym, ap, ◌∙◌}
 use Rattle.std.specs.Prelude.{Some, slice_set}
 use Rattle.std.specs.VecDeque.{deque_capacity}
-use Rattle.word_core.specs.Page.{OnItsWay}
+use Rattle.word_core.specs.Page.{IsolatedPage}
 use Rattle.world_core.specs.declared.hands.Held.TheVariants.{Copy}
 use Rattle.world_core.specs.Carried.{InHand, world_of}
 use Rattle.world_core.specs.World.{WorldState, copy_step}
@@ -17,7 +17,7 @@ hands_are g c =
     c.put.ensures
     ∙ ap (λ (held : List InHand). slice_set held i (Copy c.copy_into_new.result)) c.in-Some.ensures.some
     ∙ set_twice c.self.inside.hands.held i _ (Copy c.copy_into_new.result)
-    ∙ ap (λ (p : OnItsWay). slice_set c.self.inside.hands.held i (Copy p)) c.copy_into_new.ensures
+    ∙ ap (λ (p : IsolatedPage). slice_set c.self.inside.hands.held i (Copy p)) c.copy_into_new.ensures
 
 pub invariant_of-self-2 : goal.invariant_of-self-2
 invariant_of-self-2 g c =

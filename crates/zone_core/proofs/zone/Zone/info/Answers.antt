@@ -1,7 +1,7 @@
 use Rattle.std.proofs.Common.{rules, ◌≡◌, ◌∙◌, ap, length, subst, sym, arith}
 use Rattle.journal_core.specs.Moves.{out}
 use Rattle.state_core.specs.declared.information.Info.{Info}
-use Rattle.state_core.specs.Lawful.{IsLawful}
+use Rattle.state_core.specs.Lawful.{IsValidZone}
 use Rattle.state_core.specs.Looking.{info_of}
 use Rattle.state_core.proofs.Filled.{all_whole, packed_order}
 use Rattle.state_core.proofs.Placements.{whole_best, runs_best, placed_now}
@@ -12,8 +12,8 @@ use Rattle.zone_core.proofs.zone.Zone.info.Goals.{After-info}
 counted : (g : Over) (c : After-info g) → c.info.result ≡ info_of c.args.self.now
 counted g c = c.info.ensures.counts ∙ ap info_of c.self.view_is
 
-law : (g : Over) (c : After-info g) → IsLawful c.args.self.now
-law g c = subst IsLawful c.self.view_is c.self.invariant.2
+law : (g : Over) (c : After-info g) → IsValidZone c.args.self.now
+law g c = subst IsValidZone c.self.view_is c.self.invariant.2
 
 none_out : (g : Over) (c : After-info g) → c.info.result.moving ≡ 0 → length (out c.args.self.now.records) ≡ 0
 none_out g c none = sym (ap (λ (i : Info). i.moving) (counted g c)) ∙ none

@@ -2,10 +2,10 @@ use Rattle.std.proofs.Common.{rules, ◌∙◌, ℕ, ap, subst, sym, arith}
 use Rattle.std.specs.Prelude.{Some}
 use Rattle.std.specs.FinMap as map
 use Rattle.journal_core.specs.History.{page_at}
-use Rattle.word_core.specs.Page.{OnItsWay}
+use Rattle.word_core.specs.Page.{IsolatedPage}
 use Rattle.state_core.specs.declared.placement.Placement.TheVariants.{Moving}
 use Rattle.state_core.specs.Isolating.{isolated_next}
-use Rattle.state_core.specs.Lawful.{IsLawful}
+use Rattle.state_core.specs.Lawful.{IsValidZone}
 use Rattle.state_core.specs.Pairs.{IsPair}
 use Rattle.state_core.specs.ZoneState.{ZoneState}
 use Rattle.state_core.proofs.Entries.{get_insert_same, get_insert_other}
@@ -18,32 +18,32 @@ use Rattle.zone_core.proofs.zone.Zone.isolate_next.Goals as goal
 
 pub returns-clause-followed : goal.returns-clause-followed
 returns-clause-followed g c =
-    let serial = ap (λ (p : OnItsWay). p.serial) c.isolate-page.ensures.page in
-    let law : IsLawful (isolated_next c.self.inside.plain c.in-Some.pair) = subst IsLawful c.isolate-page.ensures.step c.isolate-page.ensures.lawful in
+    let serial = ap (λ (p : IsolatedPage). p.serial) c.isolate-page.ensures.page in
+    let law : IsValidZone (isolated_next c.self.inside.tables c.in-Some.pair) = subst IsValidZone c.isolate-page.ensures.step c.isolate-page.ensures.lawful in
     omega (arith, serial, law.serials)
 
 pub returns-clause-pair : goal.returns-clause-pair
 returns-clause-pair g c =
     let pair = c.in-Some.pair in
-    let number = ap (λ (p : OnItsWay). p.page.number) c.isolate-page.ensures.page in
-    let serial = ap (λ (p : OnItsWay). p.serial) c.isolate-page.ensures.page in
+    let number = ap (λ (p : IsolatedPage). p.page.number) c.isolate-page.ensures.page in
+    let serial = ap (λ (p : IsolatedPage). p.serial) c.isolate-page.ensures.page in
     let step = c.isolate-page.ensures.step in
     record {
       source = pair.source;
       target = pair.target;
       pair = subst (λ (z : ZoneState). IsPair z c.isolate-page.result.page.number pair.source pair.target) c.self.view_is
-          (subst (λ (page : ℕ). IsPair c.self.inside.plain page pair.source pair.target) (sym number) c.in-Some.ensures.is_pair);
+          (subst (λ (page : ℕ). IsPair c.self.inside.tables page pair.source pair.target) (sym number) c.in-Some.ensures.is_pair);
       way = ap (λ (z : ZoneState). map.get z.placement c.isolate-page.result.page.number) step
-          ∙ get_insert_same c.self.inside.plain.placement pair.page c.isolate-page.result.page.number _ number
+          ∙ get_insert_same c.self.inside.tables.placement pair.page c.isolate-page.result.page.number _ number
           ∙ ap (λ (s : ℕ). Some (Moving s pair.source pair.target)) (sym serial);
       others = λ other ne. ap (λ (z : ZoneState). map.get z.placement other) step
-          ∙ get_insert_other c.self.inside.plain.placement pair.page other _ (λ e. ne (e ∙ sym number))
+          ∙ get_insert_other c.self.inside.tables.placement pair.page other _ (λ e. ne (e ∙ sym number))
           ∙ ap (λ (z : ZoneState). map.get z.placement other) c.self.view_is;
       names = λ address. ap (λ (z : ZoneState). page_at z.records address) step ∙ ap (λ (z : ZoneState). page_at z.records address) c.self.view_is;
     }
 
 pub returns-in_default-clause-packed : goal.returns-in_default-clause-packed
-returns-in_default-clause-packed g c met quiet none = packed_quiet c.self.inside.plain c.self.invariant.2 quiet none c.in_default.ensures.none
+returns-in_default-clause-packed g c met quiet none = packed_quiet c.self.inside.tables c.self.invariant.2 quiet none c.in_default.ensures.none
 
 pub returns-in_default-clause-seat : goal.returns-in_default-clause-seat
 returns-in_default-clause-seat g c = search rules
@@ -51,8 +51,8 @@ returns-in_default-clause-seat g c = search rules
 pub invariant_of-self-in_default : goal.invariant_of-self-in_default
 invariant_of-self-in_default g c =
     let seat = c.args.seat.now in
-    let counted = seat_counted c.self.inside.isolated.total seat.count seat.last c.self.inside.plain c.self.invariant.3 c.tell.ensures.total in
-    let scanned : IsScanned c.note-in_default.new.book.total c.self.inside.plain = record {
+    let counted = seat_counted c.self.inside.isolated.total seat.count seat.last c.self.inside.tables c.self.invariant.3 c.tell.ensures.total in
+    let scanned : IsScanned c.note-in_default.new.book.total c.self.inside.tables = record {
       last = Some answered.Met;
       counted = c.note-in_default.ensures.book ∙ ap (λ (n : ℕ). scan_amount n (Some answered.Met)) (ap (λ (s : ScanSeat). s.count) c.tell.ensures.seat ∙ counted);
       met = λ met quiet. c.in_default.ensures.none;

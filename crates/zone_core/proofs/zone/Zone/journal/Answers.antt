@@ -1,10 +1,10 @@
 use Rattle.std.proofs.Common.{subst}
-use Rattle.state_core.specs.Lawful.{IsLawful}
+use Rattle.state_core.specs.Lawful.{IsValidZone}
 use Rattle.state_core.proofs.HandingOut.{blocks_are_clear}
 use Rattle.zone_core.proofs.zone.Zone.journal.Goals as goal
 
 pub returns-clause-clear : goal.returns-clause-clear
-returns-clause-clear g c = blocks_are_clear c.args.self.now (subst IsLawful c.self.view_is c.self.invariant.2)
+returns-clause-clear g c = blocks_are_clear c.args.self.now (subst IsValidZone c.self.view_is c.self.invariant.2)
 
 pub returns-clause-apart : goal.returns-clause-apart
-returns-clause-apart g c = let law : IsLawful c.args.self.now = subst IsLawful c.self.view_is c.self.invariant.2 in law.disjoint
+returns-clause-apart g c = let law : IsValidZone c.args.self.now = subst IsValidZone c.self.view_is c.self.invariant.2 in law.disjoint

@@ -8,6 +8,6 @@ use Rattle.zone_core.proofs.zone.Zone.map_at.Goals as goal
 
 pub invariant_of-self : goal.invariant_of-self
 invariant_of-self g c =
-    let v = c.self.inside.plain in
+    let v = c.self.inside.tables in
     let scanned = scanned_loud c.self.inside.isolated.total v (mapped v c.args.client c.args.address _ _) c.place.new.self (Map c.args.client c.args.address (unwrap_or (lowest_unused_page v) 0)) c.self.invariant.2.begun c.self.invariant.3 c.place.ensures.step refl refl refl refl in
     search (rules, scanned)

@@ -9,6 +9,6 @@ returns-clause-refused g c = search rules
 
 pub invariant_of-self : goal.invariant_of-self
 invariant_of-self g c =
-    let v = c.self.inside.plain in
+    let v = c.self.inside.tables in
     let scanned = scanned_loud c.self.inside.isolated.total v (block_marked v c.args.block) c.mark.new.self (Mark c.args.block) c.self.invariant.2.begun c.self.invariant.3 c.mark.ensures.step refl refl refl refl in
     search (rules, scanned)

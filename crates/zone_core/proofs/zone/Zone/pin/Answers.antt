@@ -6,6 +6,6 @@ use Rattle.zone_core.proofs.zone.Zone.pin.Goals as goal
 
 pub invariant_of-self : goal.invariant_of-self
 invariant_of-self g c =
-    let v = c.self.inside.plain in
+    let v = c.self.inside.tables in
     let scanned = scanned_loud c.self.inside.isolated.total v (pinned v c.args.client c.args.address) c.pin.new.self (Pin c.args.client c.args.address) c.self.invariant.2.begun c.self.invariant.3 c.pin.ensures.step refl refl refl refl in
     search (rules, scanned)

@@ -12,11 +12,11 @@ use Rattle.zone_core.proofs.zone.Zone.put_back.Goals as goal
 pub returns-clause-once : goal.returns-clause-once
 returns-clause-once g c =
     ap (λ (z : ZoneState). is_own z c.args.isolated) c.go_back.ensures.step
-    ∙ ended_once c.self.inside.plain (Back c.in-Some.way.serial NotCopied) c.in-Some.way.page (source_of (map.get c.self.inside.plain.placement c.in-Some.way.page)) c.args.isolated (ap (λ (p : Page). p.number) (sym c.page.ensures) ∙ sym c.in-Some.ensures.named.0)
+    ∙ ended_once c.self.inside.tables (Back c.in-Some.way.serial NotCopied) c.in-Some.way.page (source_of (map.get c.self.inside.tables.placement c.in-Some.way.page)) c.args.isolated (ap (λ (p : Page). p.number) (sym c.page.ensures) ∙ sym c.in-Some.ensures.named.0)
 
 pub returns-clause-settled : goal.returns-clause-settled
 returns-clause-settled g c =
-    ended_in c.self.inside.plain c.args.self.now c.go_back.new.self c.args.isolated c.in-Some.way.page c.in-Some.way.serial c.in-Some.way.source c.in-Some.way.target _ _ c.self.view_is
+    ended_in c.self.inside.tables c.args.self.now c.go_back.new.self c.args.isolated c.in-Some.way.page c.in-Some.way.serial c.in-Some.way.source c.in-Some.way.target _ _ c.self.view_is
     (ap (λ (p : Page). p.number) (sym c.page.ensures) ∙ sym c.in-Some.ensures.named.0) (sym c.serial.ensures ∙ sym c.in-Some.ensures.named.1) c.in-Some.ensures.placed c.go_back.ensures.settled
 
 pub go_back-requires : goal.go_back-requires
@@ -27,6 +27,6 @@ returns-clause-ok g c = search rules
 
 pub invariant_of-self : goal.invariant_of-self
 invariant_of-self g c =
-    let v = c.self.inside.plain in
+    let v = c.self.inside.tables in
     let scanned = scanned_loud c.self.inside.isolated.total v (put_back_to_source v c.in-Some.way.serial c.in-Some.way.page NotCopied) c.go_back.new.self (Back c.in-Some.way.serial NotCopied) c.self.invariant.2.begun c.self.invariant.3 c.go_back.ensures.step refl refl refl refl in
     search (rules, scanned)

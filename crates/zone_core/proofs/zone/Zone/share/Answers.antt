@@ -12,6 +12,6 @@ returns-clause-refused g c = search rules
 
 pub invariant_of-self : goal.invariant_of-self
 invariant_of-self g c =
-    let v = c.self.inside.plain in
+    let v = c.self.inside.tables in
     let scanned = scanned_loud c.self.inside.isolated.total v (shared v c.args.client c.args.address c.args.alias) c.share.new.self (Share c.args.client c.args.address c.args.alias) c.self.invariant.2.begun c.self.invariant.3 c.share.ensures.step refl refl refl refl in
     search (rules, scanned)

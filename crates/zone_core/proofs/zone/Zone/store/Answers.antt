@@ -6,10 +6,10 @@ use Rattle.zone_core.proofs.ScannersMet.{scanned_stored}
 use Rattle.zone_core.proofs.zone.Zone.store.Goals as goal
 
 pub returns-clause-met : goal.returns-clause-met
-returns-clause-met g c met = subst HaveMet (sym c.write.ensures.step) (met_stored c.self.inside.plain c.args.client c.args.address c.args.word c.args.value (subst HaveMet (sym c.self.view_is) met))
+returns-clause-met g c met = subst HaveMet (sym c.write.ensures.step) (met_stored c.self.inside.tables c.args.client c.args.address c.args.word c.args.value (subst HaveMet (sym c.self.view_is) met))
 
 pub invariant_of-self : goal.invariant_of-self
 invariant_of-self g c =
     let total = c.self.inside.isolated.total in
-    let scanned = subst (IsScanned total) (sym c.write.ensures.step) (scanned_stored total c.args.client c.args.address c.self.inside.plain c.args.word c.args.value c.self.invariant.2.begun c.self.invariant.3) in
+    let scanned = subst (IsScanned total) (sym c.write.ensures.step) (scanned_stored total c.args.client c.args.address c.self.inside.tables c.args.word c.args.value c.self.invariant.2.begun c.self.invariant.3) in
     search (rules, scanned)

@@ -18,6 +18,6 @@ returns-in_default-clause-refused g c = search rules
 
 pub invariant_of-self : goal.invariant_of-self
 invariant_of-self g c =
-    let v = c.self.inside.plain in
+    let v = c.self.inside.tables in
     let scanned = scanned_loud c.self.inside.isolated.total v (block_taken v c.in-Some.first c.args.order) c.hand_out.new.self (TakeHuge c.in-Some.first c.args.order) c.self.invariant.2.begun c.self.invariant.3 c.hand_out.ensures.step refl refl refl refl in
     search (rules, scanned)

@@ -17,7 +17,7 @@ pub returns-clause-met : goal.returns-clause-met
 returns-clause-met g c met =
     let step = c.with_block.ensures.changed.3 in
     subst HaveMet (sym step)
-    (met_contents_written c.self.inside.plain c.args.first 0 c.with_block.ensures.changed.0 (subst HaveMet (sym c.self.view_is) met))
+    (met_contents_written c.self.inside.tables c.args.first 0 c.with_block.ensures.changed.0 (subst HaveMet (sym c.self.view_is) met))
 
 pub invariant_of-self : goal.invariant_of-self
 invariant_of-self g c =
@@ -27,5 +27,5 @@ invariant_of-self g c =
       c.self.invariant.1,
       c.with_block.ensures.lawful,
       subst (IsScanned z.isolated.total) (sym step)
-          (scanned_written z.isolated.total z.plain c.args.first 0 c.with_block.ensures.changed.0 c.self.invariant.3),
+          (scanned_written z.isolated.total z.tables c.args.first 0 c.with_block.ensures.changed.0 c.self.invariant.3),
     )

@@ -8,7 +8,7 @@ use Rattle.zone_core.proofs.zone.Zone.write_block.Goals as goal
 pub returns-clause-met : goal.returns-clause-met
 returns-clause-met g c met =
     subst HaveMet (sym c.write_block.ensures.step)
-    (met_contents_written c.self.inside.plain c.args.first c.args.from c.args.values.now (subst HaveMet (sym c.self.view_is) met))
+    (met_contents_written c.self.inside.tables c.args.first c.args.from c.args.values.now (subst HaveMet (sym c.self.view_is) met))
 
 pub invariant_of-self : goal.invariant_of-self
 invariant_of-self g c =
@@ -17,5 +17,5 @@ invariant_of-self g c =
       c.self.invariant.1,
       c.write_block.ensures.lawful,
       subst (IsScanned z.isolated.total) (sym c.write_block.ensures.step)
-          (scanned_written z.isolated.total z.plain c.args.first c.args.from c.args.values.now c.self.invariant.3),
+          (scanned_written z.isolated.total z.tables c.args.first c.args.from c.args.values.now c.self.invariant.3),
     )

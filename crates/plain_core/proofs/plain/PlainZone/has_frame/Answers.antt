@@ -1,5 +1,0 @@
-use Rattle.std.proofs.Common.{rules}
-use Rattle.plain_core.proofs.plain.PlainZone.has_frame.Goals as goal
-
-pub returns : goal.returns
-returns g c = search rules

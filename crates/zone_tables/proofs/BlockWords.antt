@@ -1,0 +1,66 @@
+-- The words of a block are read or written: the tables still stand for the zone.
+use Rattle.std.proofs.Common.{◌≡◌, ℕ, ◌+◌, ◌*◌, ◌^◌, ◌≤◌, Bool, true, List, [], ◌++◌, length, sym, ap, subst, ◌∙◌, arith}
+use Rattle.std.specs.Prelude.{Some, slice_set}
+use Rattle.std.specs.FinMap as map
+use Rattle.std.specs.List.{All}
+use Rattle.std.specs.Ordering.{nat_cmp}
+use Rattle.std.proofs.lemmas.List.{append-nil, drop_all, get_or_default}
+use Rattle.std.proofs.lemmas.Option.{unwrap_or-slice_get}
+use Rattle.scan_core.specs.Frames.{true_at}
+use Rattle.state_core.specs.Contents.{contents_of, contents_written}
+use Rattle.state_core.specs.Lawful.{IsValidZone}
+use Rattle.state_core.specs.ZoneState.{ZoneState}
+use Rattle.state_core.proofs.Contents.{has_contents, lawful_contents_written}
+use Rattle.word_core.specs.Words.{block_words, HasBlock, put_from}
+use Rattle.zone_tables.specs.Contents.{words_held}
+use Rattle.zone_tables.specs.Fits.{WordsFit}
+use Rattle.zone_tables.specs.Sound.{IsSound, state_of}
+use Rattle.zone_tables.specs.declared.zone.ZoneTables.TheInside.{Inside}
+use Rattle.zone_tables.proofs.HeldWords.{block_view, block_sound, held_is, put_again}
+
+-- each frame has a row of a page's words
+pub rows_sized : (rows : List (List ℕ)) (v : ZoneState) (size : ℕ) → WordsFit rows v → v.page_size ≡ size → All (λ row. length row ≡ size) rows
+rows_sized rows v size fit same k d h =
+    ap length (get_or_default rows k d [] h ∙ sym (unwrap_or-slice_get rows k [])) ∙ fit.sized k (omega (arith, h, fit.count)) ∙ same
+
+-- as many values as there are words take the place of all
+pub put_whole : (words values : List ℕ) → length values ≡ length words → put_from words 0 values ≡ values
+put_whole words values same =
+    ap (λ (ws : List ℕ). values ++ ws) (drop_all (0 + length values) words (omega (arith, same))) ∙ append-nil values
+
+module _ {W : ℕ} (z : Inside W) (v : ZoneState) (sound : IsSound z v) (view : state_of z ≡ v) (first order : ℕ) (at : map.get v.handed_out first ≡ Some order) (flags : List Bool) (noted : flags ≡ slice_set z.cleared first true) (rows : List (List ℕ)) where
+  -- the fields after the block was read or written
+  abbrev after : Inside W
+  after = record z { words = rows; cleared = flags }
+
+  put_view : (words : List ℕ) → HasBlock z.words rows first (2 ^ order) words → state_of after ≡ record v { contents = map.insert v.contents first words }
+  put_view words has = ap (λ (fs : List Bool). state_of (record z { words = rows; cleared = fs })) noted ∙ block_view z v sound view first order at rows words has
+
+  put_sound : (words : List ℕ) → HasBlock z.words rows first (2 ^ order) words → All (λ row. length row ≡ W) rows → (contents : map.FinMap nat_cmp (List ℕ)) → IsValidZone (record v { contents = contents }) → IsSound after (record v { contents = contents })
+  put_sound words has sized contents law =
+      subst (λ (fs : List Bool). IsSound (record z { words = rows; cleared = fs }) (record v { contents = contents })) (sym noted)
+      (block_sound z v sound view first order at rows words has contents sized law)
+
+  -- the block was cleared, if that was left
+  module _ (has : HasBlock z.words rows first (2 ^ order) (words_held W z.words (true_at z.cleared first) first order)) where
+    pub words_read : block_words rows first (2 ^ order) ≡ contents_of v first
+    words_read = has.here ∙ held_is z v sound view first order at
+
+    pub read_view : state_of after ≡ v
+    read_view =
+        put_view (words_held W z.words (true_at z.cleared first) first order) has
+        ∙ ap (λ (m : map.FinMap nat_cmp (List ℕ)). record v { contents = m })
+        (ap (map.insert v.contents first) (held_is z v sound view first order at) ∙ put_again v.contents first (contents_of v first) (has_contents v sound.lawful first order at))
+
+    pub read_sound : All (λ row. length row ≡ W) rows → IsSound after v
+    read_sound sized = put_sound (words_held W z.words (true_at z.cleared first) first order) has sized v.contents sound.lawful
+
+  -- values were put among its words
+  module _ (from : ℕ) (values : List ℕ) (has : HasBlock z.words rows first (2 ^ order) (put_from (contents_of v first) from values)) where
+    pub write_view : state_of after ≡ contents_written v first from values
+    write_view = put_view (put_from (contents_of v first) from values) has
+
+    pub write_sound : from + length values ≤ 2 ^ order * v.page_size → All (λ row. length row ≡ W) rows → IsSound after (contents_written v first from values)
+    write_sound within sized =
+        put_sound (put_from (contents_of v first) from values) has sized (map.insert v.contents first (put_from (contents_of v first) from values))
+        (lawful_contents_written v sound.lawful first order at from values within)

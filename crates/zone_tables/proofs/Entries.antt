@@ -1,0 +1,20 @@
+-- One address names something else: the entries still stand for the zone.
+use Rattle.std.proofs.Common.{◌≡◌, ◌≢◌, true, false, List, ◌⊎◌, inl, inr, sym, ap, ◌∙◌}
+use Rattle.std.specs.Prelude.{nat_eq, ◌&&◌}
+use Rattle.std.proofs.lemmas.Bool.Decides.{eqb_tells}
+use Rattle.frame_core.specs.Address.{InRange}
+use Rattle.frame_core.specs.declared.place.Address.{Address}
+use Rattle.journal_core.specs.History.{same_address}
+use Rattle.table_core.specs.declared.entry.Entry.{Entry}
+use Rattle.table_core.specs.Tables.{entry_at, ChangesOnly}
+use Rattle.state_core.specs.ZoneState.{ZoneState, placement_at}
+use Rattle.zone_tables.specs.Fits.{entry_for, EntriesFit}
+
+pub entries_changed : (v w : ZoneState) (old new : List Entry) (address : Address) (entry : Entry) → EntriesFit old v → ChangesOnly old new address entry → ((a : Address) → same_address a address ≡ true → entry ≡ entry_for (placement_at w a)) → ((a : Address) → same_address a address ≡ false → placement_at w a ≡ placement_at v a) → EntriesFit new w
+entries_changed v w old new address entry fit changes here there = record { each = λ b range. by_place b range (eqb_tells b.space address.space) (eqb_tells b.vpage address.vpage) } where
+  by_place : (b : Address) → InRange b → ((nat_eq b.space address.space ≡ true) × (b.space ≡ address.space)) ⊎ ((nat_eq b.space address.space ≡ false) × (b.space ≢ address.space)) → ((nat_eq b.vpage address.vpage ≡ true) × (b.vpage ≡ address.vpage)) ⊎ ((nat_eq b.vpage address.vpage ≡ false) × (b.vpage ≢ address.vpage)) → entry_at new b ≡ entry_for (placement_at w b)
+  by_place b range (inl space) (inl vpage) = changes.changed b space.1 vpage.1 ∙ here b (λ i. space.0 i && vpage.0 i)
+  by_place b range (inr space) other =
+      changes.other_spaces b range.vpage space.1 ∙ fit.each b range ∙ sym (ap entry_for (there b (ap (λ t. t && nat_eq b.vpage address.vpage) space.0)))
+  by_place b range (inl space) (inr vpage) =
+      changes.other_pages b range.vpage vpage.1 ∙ fit.each b range ∙ sym (ap entry_for (there b (λ i. space.0 i && vpage.0 i)))

@@ -1,0 +1,23 @@
+-- What is known of a zone that is sound.
+use Rattle.std.proofs.Common.{◌≡◌, ℕ, List, ap, ◌∙◌}
+use Rattle.std.specs.Prelude.{Option, Some, slice_get}
+use Rattle.std.specs.FinMap as map
+use Rattle.frame_core.specs.declared.state.FrameState.{FrameState}
+use Rattle.frame_core.specs.declared.state.FrameState.TheVariants.{Holds}
+use Rattle.journal_core.specs.declared.record.Record.{Record}
+use Rattle.zone_tables.specs.History.{History, told}
+use Rattle.zone_tables.specs.declared.zone.ZoneTables.TheInside.{Inside}
+use Rattle.state_core.specs.declared.placement.Placement.{Placement}
+use Rattle.state_core.specs.declared.placement.Placement.TheVariants.{At}
+use Rattle.zone_tables.specs.Fits.{state_by, FramesFit}
+use Rattle.zone_tables.specs.Sound.{state_of}
+use Rattle.state_core.specs.ZoneState.{ZoneState, noted}
+use Rattle.state_core.proofs.Facts.{chosen}
+
+-- the frame of a page that isn't moving holds the page
+pub held_by : (frames : List FrameState) (v : ZoneState) → FramesFit frames v → (page frame : ℕ) → map.get v.placement page ≡ Some (At frame) → slice_get frames frame ≡ Some (Holds page)
+held_by frames v fit page frame e = fit.of_page page frame (Holds page) (ap (λ (o : Option Placement). state_by page o frame) e ∙ chosen frame _ _)
+
+-- the state with one more record, and nothing else changed
+pub noted_view : {W : ℕ} (z : Inside W) (v : ZoneState) (history : History) (entry : Record) → state_of z ≡ v → history ≡ told z.history entry → state_of (record z { history = history }) ≡ noted v entry
+noted_view z v history entry view is = ap (λ (h : History). state_of (record z { history = h })) is ∙ ap (λ (u : ZoneState). noted u entry) view

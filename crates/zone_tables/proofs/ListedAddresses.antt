@@ -1,0 +1,141 @@
+-- Which addresses are listed under a frame, by the pages that they name.
+use Rattle.std.proofs.Common.{◌≡◌, ◌≢◌, ℕ, Bool, true, false, not, List, inl, inr, refl, sym, ap, ◌∙◌, arith}
+use Rattle.std.specs.Prelude.{Option, Some, None, nat_eq, ◌&&◌}
+use Rattle.std.specs.FinMap as map
+use Rattle.std.specs.Option.{option_and_then}
+use Rattle.std.proofs.lemmas.Bool.{eq-eqb, or_left, or_right}
+use Rattle.std.proofs.lemmas.Bool.Decides.{eqb_tells}
+use Rattle.frame_core.proofs.Searches.{pairs_same_below, pairs_none, some_none}
+use Rattle.frame_core.specs.Address.{InRange}
+use Rattle.frame_core.specs.declared.place.Address.{Address}
+use Rattle.journal_core.proofs.OnTheWay.{out_below}
+use Rattle.journal_core.specs.History.{page_at, is_page, names, maps}
+use Rattle.journal_core.specs.Moves.{isolated}
+use Rattle.table_core.specs.declared.entry.Entry.{Entry}
+use Rattle.table_core.specs.declared.entry.Entry.TheVariants.{Present, Migration}
+use Rattle.table_core.specs.Tables.{entry_at, is_listed, count_listed}
+use Rattle.state_core.specs.declared.placement.Placement.{Placement}
+use Rattle.state_core.specs.declared.placement.Placement.TheVariants.{At, Moving}
+use Rattle.state_core.specs.Lawful.{IsValidZone, is_under}
+use Rattle.state_core.specs.ZoneState.{ZoneState, frame_count, placement_at, takes_up, is_used}
+use Rattle.state_core.proofs.Facts.{page_named, not_none}
+use Rattle.state_core.proofs.Placed.{untrue}
+use Rattle.zone_tables.specs.Fits.{entry_for, EntriesFit}
+use Rattle.zone_tables.proofs.Tables.{migration_is}
+
+-- a page whose entry is listed under a frame takes it up
+takes_listed : (p : Placement) (frame : ℕ) → is_listed (entry_for (Some p)) frame ≡ true → takes_up (Some p) frame ≡ true
+takes_listed (At f) frame e = elim (eqb_tells f frame) [ inl same ↦ eq-eqb frame f (sym same.1) | inr other ↦ absurd (untrue _ other.0 e) ]
+takes_listed (Moving serial source target) frame e = elim (eqb_tells source frame) [
+  | inl same ↦ or_left _ _ (eq-eqb frame source (sym same.1))
+  | inr other ↦ absurd (untrue _ other.0 e)
+]
+
+module _ (entries : List Entry) (v : ZoneState) (fit : EntriesFit entries v) (law : IsValidZone v) where
+  pub record Names (address : Address) (frame : ℕ) : Type 0 where
+    pub page : ℕ
+    pub placement : Placement
+    pub named : page_at v.records address ≡ Some page
+    pub at : map.get v.placement page ≡ Some placement
+    pub entry : entry_at entries address ≡ entry_for (Some placement)
+    pub takes : takes_up (map.get v.placement page) frame ≡ true
+
+  -- an address that is listed under a frame names a page that takes it up
+  pub names_of : (a : Address) → InRange a → (frame : ℕ) → is_listed (entry_at entries a) frame ≡ true → Names a frame
+  names_of a range frame e = by_placement (placement_at v a) refl where
+    by_placement : (o : Option Placement) → placement_at v a ≡ o → Names a frame
+    by_placement None is = (let bad : false ≡ true = sym (ap (λ (x : Entry). is_listed x frame) (fit.each a range ∙ ap entry_for is)) ∙ e in cc)
+    by_placement (Some p) is =
+        let page = page_named v a p is in
+        let entry = fit.each a range ∙ ap entry_for is in
+        record {
+          page = page.0;
+          placement = p;
+          named = page.1;
+          at = page.2;
+          entry = entry;
+          takes = ap (λ (o : Option Placement). takes_up o frame) page.2 ∙ takes_listed p frame (sym (ap (λ (x : Entry). is_listed x frame) entry) ∙ e);
+        }
+
+  -- no address is listed under a frame that no page takes up
+  pub none_listed : (frame : ℕ) → is_used v frame ≡ false → (a : Address) → InRange a → is_listed (entry_at entries a) frame ≡ false
+  none_listed frame unused a range = by_list (is_listed (entry_at entries a) frame) refl where
+    by_list : (b : Bool) → is_listed (entry_at entries a) frame ≡ b → b ≡ false
+    by_list true e =
+        let by = names_of a range frame e in
+        absurd (untrue _ (some_none (λ page. takes_up (map.get v.placement page) frame) (frame_count v) unused by.page (law.numbered by.page (not_none _ by.placement by.at))) by.takes)
+    by_list false e = refl
+
+  pub count_none : (frame : ℕ) → is_used v frame ≡ false → count_listed entries frame ≡ 0
+  count_none frame unused =
+      pairs_same_below _ (λ space vpage. false) 8 4096 (λ space vpage h l. none_listed frame unused (record { space = space; vpage = vpage }) (record { space = h; vpage = l }))
+      ∙ pairs_none (λ space vpage. false) 8 4096 (λ i j. refl)
+
+  -- exactly the addresses that name a page are listed under its frame
+  pub listed_names : (page frame : ℕ) → map.get v.placement page ≡ Some (At frame) → (a : Address) → InRange a → is_listed (entry_at entries a) frame ≡ names v.records a page
+  listed_names page frame at a range = by_list (is_listed (entry_at entries a) frame) (page_at v.records a) refl refl where
+    by_list : (b : Bool) (o : Option ℕ) → is_listed (entry_at entries a) frame ≡ b → page_at v.records a ≡ o → b ≡ is_page (page_at v.records a) page
+    by_list true o e is =
+        let by = names_of a range frame e in
+        let same : by.page ≡ page = law.apart by.page page frame by.takes (ap (λ (p : Option Placement). takes_up p frame) at ∙ eq-eqb frame frame refl) in
+        sym (ap (λ (p : Option ℕ). is_page p page) by.named ∙ eq-eqb by.page page same)
+    by_list false None e is = sym (ap (λ (p : Option ℕ). is_page p page) is)
+    by_list false (Some q) e is = elim (eqb_tells q page) [
+      | inl same ↦ (let entry : entry_at entries a ≡ entry_for (Some (At frame)) = fit.each a range ∙ ap (λ (o : Option ℕ). entry_for (option_and_then (map.get v.placement) o)) is ∙ ap (λ (p : ℕ). entry_for (map.get v.placement p)) same.1 ∙ ap entry_for at in
+          absurd (untrue _ e (ap (λ (x : Entry). is_listed x frame) entry ∙ eq-eqb frame frame refl)))
+      | inr other ↦ sym (ap (λ (p : Option ℕ). is_page p page) is ∙ other.0)
+    ]
+
+  pub count_names : (page frame : ℕ) → map.get v.placement page ≡ Some (At frame) → count_listed entries frame ≡ maps v.records page
+  count_names page frame at =
+      pairs_same_below _ (λ space vpage. names v.records (record { space = space; vpage = vpage }) page) 8 4096
+      (λ space vpage h l. listed_names page frame at (record { space = space; vpage = vpage }) (record { space = h; vpage = l }))
+
+  -- no entry has the serial that is given next
+  pub fresh_serial : (a : Address) (source : ℕ) → InRange a → entry_at entries a ≢ Migration (isolated v.records) source
+  fresh_serial a source range e =
+      let way = migration_is (placement_at v a) (isolated v.records) source (sym (fit.each a range) ∙ e) in
+      let page = page_named v a (Moving (isolated v.records) source way.0) way.1 in
+      let known = (law.under_way page.0 (isolated v.records)).0 (ap (λ (o : Option Placement). is_under o (isolated v.records)) page.2 ∙ eq-eqb (isolated v.records) (isolated v.records) refl) in
+      let below = out_below v.records law.well_ended (isolated v.records) known.0 in
+      absurd (omega (arith, below))
+
+  -- no address names a page that left a frame which no page takes up, or which holds a page
+  pub none_left : (frame : ℕ) → is_used v frame ≡ false → (a : Address) (serial : ℕ) → InRange a → entry_at entries a ≢ Migration serial frame
+  none_left frame unused a serial range e =
+      untrue _ (none_listed frame unused a range) (ap (λ (x : Entry). is_listed x frame) e ∙ eq-eqb frame frame refl)
+
+  pub page_rests : (page frame : ℕ) → map.get v.placement page ≡ Some (At frame) → (a : Address) (serial : ℕ) → InRange a → entry_at entries a ≢ Migration serial frame
+  page_rests page frame at a serial range e =
+      let by = names_of a range frame (ap (λ (x : Entry). is_listed x frame) e ∙ eq-eqb frame frame refl) in
+      let same : by.page ≡ page = law.apart by.page page frame by.takes (ap (λ (p : Option Placement). takes_up p frame) at ∙ eq-eqb frame frame refl) in
+      let two : Some by.placement ≡ Some (At frame) = sym by.at ∙ ap (map.get v.placement) same ∙ at in
+      let is : by.placement ≡ At frame = cc in
+      let bad : Present frame ≡ Migration serial frame = sym (ap (λ (p : Placement). entry_for (Some p)) is) ∙ sym by.entry ∙ e in
+      cc
+
+  -- the addresses listed under the source of a moving page name that page, and none is listed under its target
+  module _ (page serial source target : ℕ) (at : map.get v.placement page ≡ Some (Moving serial source target)) where
+    same_page : (frame : ℕ) → takes_up (Some (Moving serial source target)) frame ≡ true → (a : Address) (by : Names a frame) → by.placement ≡ Moving serial source target
+    same_page frame takes a by =
+        let same : by.page ≡ page = law.apart by.page page frame by.takes (ap (λ (p : Option Placement). takes_up p frame) at ∙ takes) in
+        let two : Some by.placement ≡ Some (Moving serial source target) = sym by.at ∙ ap (map.get v.placement) same ∙ at in cc
+
+    pub all_left : (a : Address) → InRange a → is_listed (entry_at entries a) source ≡ true → entry_at entries a ≡ Migration serial source
+    all_left a range e =
+        let by = names_of a range source e in
+        by.entry ∙ ap (λ (p : Placement). entry_for (Some p)) (same_page source (or_left _ _ (eq-eqb source source refl)) a by)
+
+    pub target_unnamed : target ≢ source → (a : Address) → InRange a → is_listed (entry_at entries a) target ≡ false
+    target_unnamed apart a range = by_list (is_listed (entry_at entries a) target) refl where
+      by_list : (b : Bool) → is_listed (entry_at entries a) target ≡ b → b ≡ false
+      by_list true e =
+          let by = names_of a range target e in
+          let is = by.entry ∙ ap (λ (p : Placement). entry_for (Some p)) (same_page target (or_right _ _ (eq-eqb target target refl)) a by) in
+          let at_source : nat_eq source target ≡ true = sym (ap (λ (x : Entry). is_listed x target) is) ∙ e in
+          elim (eqb_tells source target) [ inl same ↦ absurd (apart (sym same.1)) | inr other ↦ absurd (untrue _ other.0 at_source) ]
+      by_list false e = refl
+
+pub not_used : (used held : Bool) → (not used && not held) ≡ true → used ≡ false
+not_used true held e = cc
+not_used false held e = refl

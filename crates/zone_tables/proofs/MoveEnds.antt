@@ -1,0 +1,165 @@
+-- The move of a page ends: how each table changes.
+use Rattle.std.proofs.Common.{◌≡◌, ◌≢◌, ℕ, ◌<◌, Bool, true, false, List, length, ◌⊎◌, inl, inr, refl, sym, ap, ◌∙◌, arith}
+use Rattle.std.specs.FinMap as map
+use Rattle.std.specs.Prelude.{Some, None, slice_get, slice_set, nat_eq, ◌||◌, if◌then◌else◌}
+use Rattle.std.proofs.lemmas.Bool.{eq-eqb, ne_eqb}
+use Rattle.std.proofs.lemmas.Bool.Decides.{eqb_tells}
+use Rattle.std.proofs.lemmas.List.{length-set}
+use Rattle.frame_core.proofs.Lists.{slice_get_set_same, slice_get_set_other}
+use Rattle.frame_core.specs.declared.state.FrameState.{FrameState}
+use Rattle.frame_core.specs.declared.state.FrameState.TheVariants.{Free, Holds, Source, Target}
+use Rattle.journal_core.specs.declared.record.Cause.{Cause}
+use Rattle.journal_core.specs.declared.record.Record.TheVariants.{Moved, Back}
+use Rattle.scan_core.specs.Frames.{Frames, free_at, is_free_state, is_way_state, way_at}
+use Rattle.word_core.specs.Words.{words_of, with_words}
+use Rattle.journal_core.specs.Moves.{out}
+use Rattle.state_core.specs.declared.placement.Placement.TheVariants.{At, Moving}
+use Rattle.zone_tables.specs.Fits.{state_by, FramesFit, WordsFit}
+use Rattle.state_core.specs.Lawful.{IsValidZone}
+use Rattle.state_core.specs.Carrying.{relocated}
+use Rattle.state_core.specs.Ending.{IsSettled}
+use Rattle.state_core.specs.ZoneState.{ZoneState, frame_count}
+use Rattle.zone_tables.proofs.LoadsAndStores.{words_set_same, words_set_other}
+use Rattle.state_core.proofs.Facts.{chosen}
+use Rattle.state_core.proofs.Placed.{untrue}
+use Rattle.state_core.proofs.Settled.{can_move_on, can_go_back, frames_apart, moved_source, back_target, target_in, out_fewer, at_page, at_other}
+use Rattle.zone_tables.proofs.Relocation.{FramesSettled, MovableSettled, WordsSettled}
+
+differs : (g x : ℕ) → nat_eq g x ≡ false → g ≢ x
+differs g x e same = untrue _ e (eq-eqb g x same)
+
+equals : (g x : ℕ) → nat_eq g x ≡ true → g ≡ x
+equals g x e = elim (eqb_tells g x) [ inl same ↦ same.1 | inr other ↦ absurd (untrue _ other.0 e) ]
+
+or_cases : (a b : Bool) → (a || b) ≡ true → (a ≡ true) ⊎ (b ≡ true)
+or_cases true b e = inl refl
+or_cases false b e = inr e
+
+left_false : (a b : Bool) → (a || b) ≡ false → a ≡ false
+left_false true b e = cc
+left_false false b e = refl
+
+right_false : (a b : Bool) → (a || b) ≡ false → b ≡ false
+right_false true b e = cc
+right_false false b e = e
+
+-- one of the two frames of a moving page holds it now, and the other is free
+module _ (frames : List FrameState) (page kept left : ℕ) (apart : kept ≢ left) (kept_in : kept < length frames) (left_in : left < length frames) where
+  abbrev one_set : List FrameState
+  one_set = slice_set frames left Free
+
+  abbrev changed : List FrameState
+  changed = slice_set one_set kept (Holds page)
+
+  at_kept : slice_get changed kept ≡ Some (Holds page)
+  at_kept = slice_get_set_same one_set kept kept (Holds page) refl (omega (arith, length-set frames left Free, kept_in))
+
+  at_left : slice_get changed left ≡ Some Free
+  at_left = slice_get_set_other one_set kept left (Holds page) (λ e. apart (sym e)) ∙ slice_get_set_same frames left left Free refl left_in
+
+  pub count_kept : length changed ≡ length frames
+  count_kept = length-set one_set kept (Holds page) ∙ length-set frames left Free
+
+  pub state_kept : (g : ℕ) (state : FrameState) → state_by page (Some (At kept)) g ≡ Some state → slice_get changed g ≡ Some state
+  state_kept g state e = elim (eqb_tells g kept) [
+    | inl same ↦ ap (slice_get changed) same.1 ∙ at_kept ∙ sym (ap (λ b. if b then Some (Holds page) else None) same.0) ∙ e
+    | inr other ↦ (let bad : None ≡ Some state = sym (ap (λ b. if b then Some (Holds page) else None) other.0) ∙ e in cc)
+  ]
+
+  pub state_left : (g : ℕ) → g ≡ left → slice_get changed g ≡ Some Free
+  state_left g e = ap (slice_get changed) e ∙ at_left
+
+  pub state_other : (g : ℕ) → g ≢ kept → g ≢ left → slice_get changed g ≡ slice_get frames g
+  state_other g a b = slice_get_set_other one_set kept g (Holds page) a ∙ slice_get_set_other frames left g Free b
+
+pub moved_frames : (frames : List FrameState) (page serial source target : ℕ) → source ≢ target → source < length frames → target < length frames → FramesSettled frames (slice_set (slice_set frames source Free) target (Holds page)) page (Moving serial source target) (At target)
+moved_frames frames page serial source target apart source_in target_in = record {
+  count = count_kept frames page target source (λ e. apart (sym e)) target_in source_in;
+  taken = state_kept frames page target source (λ e. apart (sym e)) target_in source_in;
+  left = λ g had gone. state_left frames page target source (λ e. apart (sym e)) target_in source_in g (elim (or_cases (nat_eq g source) (nat_eq g target) had) [ inl s ↦ equals g source s | inr t ↦ absurd (untrue _ gone t) ]);
+  kept = λ g off gone. state_other frames page target source (λ e. apart (sym e)) target_in source_in g (differs g target gone) (differs g source (left_false _ _ off));
+}
+
+pub back_frames : (frames : List FrameState) (page serial source target : ℕ) → source ≢ target → source < length frames → target < length frames → FramesSettled frames (slice_set (slice_set frames target Free) source (Holds page)) page (Moving serial source target) (At source)
+back_frames frames page serial source target apart source_in target_in = record {
+  count = count_kept frames page source target apart source_in target_in;
+  taken = state_kept frames page source target apart source_in target_in;
+  left = λ g had gone. state_left frames page source target apart source_in target_in g (elim (or_cases (nat_eq g source) (nat_eq g target) had) [ inl s ↦ absurd (untrue _ gone s) | inr t ↦ equals g target t ]);
+  kept = λ g off gone. state_other frames page source target apart source_in target_in g (differs g source gone) (differs g target (right_false _ _ off));
+}
+
+pub moved_words : {size : ℕ} → (rows : List (List ℕ)) (words : List ℕ) (serial source target : ℕ) → target < length rows → words ≡ words_of rows source → length words ≡ size → WordsSettled size rows (with_words rows target words) (Moving serial source target) (At target)
+moved_words rows words serial source target within same sized = record {
+  count = length-set rows target words;
+  carried = words_set_same rows target words within ∙ same;
+  kept = λ g gone. words_set_other rows target g words (differs g target gone);
+  sized = λ g has. ap (λ (f : ℕ). length (words_of (with_words rows target words) f)) (equals g target has) ∙ ap length (words_set_same rows target words within) ∙ sized;
+}
+
+pub back_words : (rows : List (List ℕ)) (v : ZoneState) → WordsFit rows v → (serial source target : ℕ) → source < frame_count v → WordsSettled v.page_size rows rows (Moving serial source target) (At source)
+back_words rows v fit serial source target within = record {
+  count = refl;
+  carried = refl;
+  kept = λ g gone. refl;
+  sized = λ g has. fit.sized g (let at : g ≡ source = equals g source has in omega arith);
+}
+
+pub kept_movable : (movable : List Bool) (can noted : Bool) (kept : ℕ) → kept < length movable → noted ≡ can → MovableSettled movable (slice_set movable kept noted) can (At kept)
+kept_movable movable can noted kept within is = record {
+  count = length-set movable kept noted;
+  here = λ g e. (let at : kept ≡ g = cc in slice_get_set_same movable kept g noted (sym at) within ∙ ap Some is);
+  kept = λ g gone. slice_get_set_other movable kept g noted (differs g kept gone);
+}
+
+module _ (v : ZoneState) (page serial source target : ℕ) (law : IsValidZone v) (at : map.get v.placement page ≡ Some (Moving serial source target)) where
+  pub some_on_the_way : 0 < length (out v.records)
+  some_on_the_way = omega (arith, out_fewer v page serial source target law at)
+
+  pub ending_room : 0 < v.room
+  ending_room = let left = law.room_left in omega (arith, out_fewer v page serial source target law at)
+
+  -- the source and the target of a moving page are noted as such
+  pub source_on_way : (frames : List FrameState) → FramesFit frames v → way_at frames source ≡ true
+  source_on_way frames fit = ap is_way_state (fit.of_page page source (Source serial) (ap (λ o. state_by page o source) at ∙ chosen source _ _))
+
+  pub target_on_way : (frames : List FrameState) → FramesFit frames v → way_at frames target ≡ true
+  target_on_way frames fit =
+      let apart = frames_apart v page serial source target law at in
+      ap is_way_state (fit.of_page page target (Target serial) (ap (λ o. state_by page o target) at ∙ ap (λ b. if b then Some (Source serial) else if nat_eq target target then Some (Target serial) else None) (ne_eqb target source (λ e. apart (sym e))) ∙ chosen target _ _))
+
+  -- what a move or a put back leaves of the page
+  pub moved_settled : IsSettled v (relocated v (Moved serial) page (At target)) page target source
+  moved_settled = record {
+    here = at_page v page (Moving serial source target) (At target) (can_move_on v page serial source target law at) (Moved serial);
+    freed = moved_source v page serial source target law at (Moved serial);
+    flags = refl;
+    words = refl;
+    others = at_other v page (Moving serial source target) (At target) (can_move_on v page serial source target law at) (Moved serial);
+    names = λ address. refl;
+  }
+
+  pub back_settled : (cause : Cause) → IsSettled v (relocated v (Back serial cause) page (At source)) page source target
+  back_settled cause = record {
+    here = at_page v page (Moving serial source target) (At source) (can_go_back v page serial source target law at) (Back serial cause);
+    freed = back_target v page serial source target law at (Back serial cause);
+    flags = refl;
+    words = refl;
+    others = at_other v page (Moving serial source target) (At source) (can_go_back v page serial source target law at) (Back serial cause);
+    names = λ address. refl;
+  }
+
+-- two frames change their states, one after the other
+pub two_puts : (f a b : Frames) (i j : ℕ) (x y : FrameState) → a ≡ record f { states = slice_set f.states i x } → b ≡ record a { states = slice_set a.states j y } → b ≡ record f { states = slice_set (slice_set f.states i x) j y }
+two_puts f a b i j x y first second = second ∙ ap (λ (fs : Frames). record fs { states = slice_set fs.states j y }) first
+
+-- a page's move ends in one of its frames, and the other is free
+pub left_settled : (f a b : Frames) (kept left page : ℕ) (can : Bool) → a ≡ record f { states = slice_set f.states left Free } → b ≡ record { states = slice_set a.states kept (Holds page); movable = slice_set a.movable kept can } → b ≡ record { states = slice_set (slice_set f.states left Free) kept (Holds page); movable = slice_set f.movable kept can }
+left_settled f a b kept left page can first second = second ∙ ap (λ (fs : Frames). record { states = slice_set fs.states kept (Holds page); movable = slice_set fs.movable kept can }) first
+
+-- one frame of a moving page is still noted as such after the other was freed
+pub still_on_way : (f a : Frames) (kept left : ℕ) → kept ≢ left → a ≡ record f { states = slice_set f.states left Free } → way_at f.states kept ≡ true → way_at a.states kept ≡ true
+still_on_way f a kept left apart now way = ap (λ (fs : Frames). way_at fs.states kept) now ∙ ap is_way_state (slice_get_set_other f.states left kept Free apart) ∙ way
+
+-- a free frame is still free after another one changed its state
+pub still_free : (f a : Frames) (frame other : ℕ) (state : FrameState) → frame ≢ other → a ≡ record f { states = slice_set f.states other state } → free_at f.states frame ≡ true → free_at a.states frame ≡ true
+still_free f a frame other state apart now free = ap (λ (fs : Frames). free_at fs.states frame) now ∙ ap is_free_state (slice_get_set_other f.states other frame state apart) ∙ free

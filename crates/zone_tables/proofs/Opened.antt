@@ -1,0 +1,125 @@
+-- A zone that was just opened.
+use Rattle.std.proofs.Common.{◌≡◌, ℕ, ◌*◌, ◌≤◌, Bool, true, false, List, [], length, replicate, inl, inr, sym, ap, ◌∙◌}
+use Rattle.std.specs.Prelude.{Option, Some, None, IsSome, is_some, slice_get, unwrap_or}
+use Rattle.std.specs.FinSet as set
+use Rattle.std.specs.FinMap as map
+use Rattle.std.specs.Option.{option_map}
+use Rattle.std.specs.Ordering.{nat_cmp}
+use Rattle.std.proofs.lemmas.List.{length-replicate}
+use Rattle.frame_core.proofs.Lists.{slice_get_replicate}
+use Rattle.frame_core.specs.declared.state.FrameState.{FrameState}
+use Rattle.frame_core.specs.declared.state.FrameState.TheVariants.{Free}
+use Rattle.table_core.specs.Tables.{IsBlank}
+use Rattle.word_core.specs.Page.{blank_words}
+use Rattle.word_core.specs.Words.{words_of}
+use Rattle.zone_tables.specs.declared.note.PageNote.{PageNote}
+use Rattle.zone_tables.specs.Moves.{Moves}
+use Rattle.zone_tables.proofs.Copies.{copies, no_placement, all_movable, no_order}
+use Rattle.zone_tables.specs.declared.zone.ZoneTables.TheInside.{Inside}
+use Rattle.state_core.specs.declared.placement.Placement.{Placement}
+use Rattle.state_core.specs.declared.placement.Placement.TheVariants.{At, Moving}
+use Rattle.state_core.specs.Opening.{opened_with, IsSize}
+use Rattle.journal_core.specs.Journal.{told_places}
+use Rattle.zone_tables.specs.Fits.{state_by}
+use Rattle.zone_tables.specs.Sound.{state_of, IsSound}
+use Rattle.scan_core.specs.Frames.{Frames, all_free, true_at}
+use Rattle.zone_tables.specs.Contents.{words_held, contents_at}
+use Rattle.zone_tables.specs.HandedOut.{order_of}
+use Rattle.zone_tables.specs.Notes.{unused_note, placement_of, is_unmovable_of}
+use Rattle.scan_core.specs.NumberSet.{gathered}
+use Rattle.zone_tables.specs.Tabulated.{tabulated}
+use Rattle.zone_tables.proofs.Tabulating.{tabulated_none, gathered_none}
+use Rattle.state_core.proofs.Opened.{unheld, opened_lawful}
+
+-- the fields of a zone that was just opened
+pub record IsFresh {W : ℕ} (z : Inside W) (number blocks places : ℕ) : Type 0 where
+  pub size : IsSize blocks
+  pub few : places ≤ told_places
+  pub number_is : z.number ≡ number
+  pub blocks_is : z.blocks ≡ blocks
+  pub frames : z.frames ≡ all_free blocks
+  pub tables : IsBlank z.tables.entries
+  pub tables_frames : z.tables.frames ≡ 512 * blocks
+  pub words : z.words ≡ replicate (512 * blocks) (blank_words W)
+  pub notes : z.notes ≡ replicate (512 * blocks) unused_note
+  pub handed_out : z.handed_out ≡ replicate (512 * blocks) None
+  pub cleared : z.cleared ≡ replicate (512 * blocks) false
+  pub marked : z.marked ≡ replicate 8 false
+  pub fingers : z.fingers ≡ record { migrate = 0; free = 0 }
+  pub moves : z.moves ≡ record { pages = replicate (512 * blocks) 0; isolated = 0; moved = 0; back = 0 }
+  pub history : z.history ≡ record { records = []; room = places; round = None }
+
+pub opened_view : {W : ℕ} (z : Inside W) (number blocks places : ℕ) → IsFresh z number blocks places → state_of z ≡ opened_with W number blocks places
+opened_view {W} z number blocks places fresh =
+    let u : gathered (is_unmovable_of z.notes) (length z.notes) ≡ set.empty =
+    gathered_none (is_unmovable_of z.notes) (length z.notes) (λ page. ap (λ (ns : List PageNote). is_unmovable_of ns page) fresh.notes ∙ all_movable (512 * blocks) page) in
+    let m : gathered (true_at z.marked) 8 ≡ set.empty = ap (λ (bs : List Bool). gathered (true_at bs) 8) fresh.marked in
+    let h : tabulated (order_of z.handed_out) (length z.handed_out) ≡ map.empty =
+    tabulated_none (order_of z.handed_out) (length z.handed_out) (λ first. ap (λ (os : List (Option ℕ)). order_of os first) fresh.handed_out ∙ no_order (512 * blocks) first) in
+    let c : tabulated (contents_at W z.words z.cleared z.handed_out) (length z.handed_out) ≡ map.empty =
+    tabulated_none (contents_at W z.words z.cleared z.handed_out) (length z.handed_out)
+    (λ first. ap (option_map (words_held W z.words (true_at z.cleared first) first)) (ap (λ (os : List (Option ℕ)). order_of os first) fresh.handed_out ∙ no_order (512 * blocks) first)) in
+    let p : tabulated (placement_of z.notes) (length z.notes) ≡ map.empty =
+    tabulated_none (placement_of z.notes) (length z.notes) (λ page. ap (λ (ns : List PageNote). placement_of ns page) fresh.notes ∙ no_placement (512 * blocks) page) in
+    λ i. record {
+      number = fresh.number_is i;
+      blocks = fresh.blocks_is i;
+      page_size = W;
+      records = (fresh.history i).records;
+      room = (fresh.history i).room;
+      unmovable = u i;
+      marked = m i;
+      handed_out = h i;
+      contents = c i;
+      placement = p i;
+      migrate = (fresh.fingers i).migrate;
+      free = (fresh.fingers i).free;
+      round = (fresh.history i).round;
+    }
+
+some_eight : (size : ℕ) (rows : List (List ℕ)) (frame : ℕ) → slice_get rows frame ≡ Some (blank_words size) → length (words_of rows frame) ≡ size
+some_eight size rows frame e = ap (λ (o : Option (List ℕ)). length (unwrap_or o [])) e ∙ length-replicate size 0
+
+note_clash : (n page : ℕ) (note : PageNote) → slice_get (replicate n unused_note) page ≡ Some note → IsSome note.placement → ⊥
+note_clash n page note e used = elim (copies n page unused_note) [
+  | inl is ↦ (let same : unused_note ≡ note = (let both : Some unused_note ≡ Some note = sym is ∙ e in cc) in
+      let bad : false ≡ true = ap (λ (x : PageNote). is_some x.placement) same ∙ used in cc)
+  | inr is ↦ (let bad : None ≡ Some note = sym is ∙ e in cc)
+]
+
+state_clash : (size number blocks places page frame : ℕ) (state : FrameState) → state_by page (map.get (opened_with size number blocks places).placement page) frame ≡ Some state → ⊥
+state_clash size number blocks places page frame state e =
+    let bad : None ≡ Some state = sym (ap (λ (o : Option Placement). state_by page o frame) (map.get-empty nat_cmp page)) ∙ e in cc
+
+pub opened_sound : {W : ℕ} (z : Inside W) (number blocks places : ℕ) → IsFresh z number blocks places → IsSound z (opened_with W number blocks places)
+opened_sound {W} z number blocks places fresh = record {
+  lawful = opened_lawful W number blocks places fresh.size fresh.few;
+  orders = ap length fresh.handed_out ∙ length-replicate (512 * blocks) None;
+  cleared = ap length fresh.cleared ∙ length-replicate (512 * blocks) false;
+  tables = fresh.tables_frames;
+  frames = record {
+    count = ap (λ (fs : Frames). length fs.states) fresh.frames ∙ length-replicate (512 * blocks) Free;
+    of_page = λ page frame state e. absurd (state_clash W number blocks places page frame state e);
+    of_block = λ frame h held. (let bad : false ≡ true = sym (unheld W number blocks places frame) ∙ held in cc);
+    of_none = λ frame h free. ap (λ (fs : Frames). slice_get fs.states frame) fresh.frames ∙ slice_get_replicate (512 * blocks) frame Free h;
+  };
+  entries = record { each = λ address range. fresh.tables address };
+  words = record {
+    count = ap length fresh.words ∙ length-replicate (512 * blocks) (blank_words W);
+    sized = λ frame h. some_eight W z.words frame (ap (λ (rows : List (List ℕ)). slice_get rows frame) fresh.words ∙ slice_get_replicate (512 * blocks) frame (blank_words W) h);
+    each = λ page placement word e h. (let bad : None ≡ Some placement = sym (map.get-empty nat_cmp page) ∙ e in cc);
+  };
+  notes = record {
+    count = ap length fresh.notes ∙ length-replicate (512 * blocks) unused_note;
+    each = λ page note e used. absurd (note_clash (512 * blocks) page note (ap (λ (ns : List PageNote). slice_get ns page) (sym fresh.notes) ∙ e) used);
+  };
+  moves = record { isolated = ap (λ (m : Moves). m.isolated) fresh.moves; moved = ap (λ (m : Moves). m.moved) fresh.moves; back = ap (λ (m : Moves). m.back) fresh.moves };
+  sources = record {
+    count = ap (λ (m : Moves). length m.pages) fresh.moves ∙ length-replicate (512 * blocks) 0;
+    each = λ page serial source target e. (let bad : None ≡ Some (Moving serial source target) = sym (map.get-empty nat_cmp page) ∙ e in cc);
+  };
+  movable = record {
+    count = ap (λ (fs : Frames). length fs.movable) fresh.frames ∙ length-replicate (512 * blocks) false;
+    each = λ page frame e. (let bad : None ≡ Some (At frame) = sym (map.get-empty nat_cmp page) ∙ e in cc);
+  };
+}

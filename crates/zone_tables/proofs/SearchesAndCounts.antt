@@ -1,0 +1,116 @@
+-- What searches and counts in the tables of a zone answer.
+use Rattle.std.proofs.Common.{◌≡◌, ℕ, ◌*◌, ◌<◌, ◌≤◌, Bool, true, false, not, List, length, refl, sym, ap, ◌∙◌, get_or, arith}
+use Rattle.std.specs.Prelude.{Option, Some, None, IsSome, IfSome, is_some, is_none, nat_eq, if◌then◌else◌, ◌&&◌, ◌||◌}
+use Rattle.std.specs.Option.{option_and_then}
+use Rattle.std.specs.FinMap.{get}
+use Rattle.std.proofs.lemmas.Option.{slice_get-get_or, slice_get_past}
+use Rattle.frame_core.proofs.Searches.{some_one, lowest_same, count_same, count_from_same}
+use Rattle.frame_core.specs.Below.{lowest, count_below, some_below}
+use Rattle.frame_core.specs.declared.state.FrameState.{FrameState}
+use Rattle.frame_core.specs.declared.state.FrameState.TheVariants.{Holds, Source, Target}
+use Rattle.zone_tables.specs.declared.note.PageNote.{PageNote}
+use Rattle.zone_tables.specs.declared.zone.ZoneTables.TheInside.{Inside}
+use Rattle.state_core.specs.declared.placement.Placement.{Placement}
+use Rattle.state_core.specs.declared.placement.Placement.TheVariants.{At, Moving}
+use Rattle.zone_tables.specs.Fits.{state_by, FramesFit}
+use Rattle.zone_tables.specs.Sound.{state_of}
+use Rattle.state_core.specs.ZoneState.{ZoneState, frame_count, takes_up, covers, is_used, is_held, is_free, lowest_free_frame, lowest_unused_page, is_whole as whole_block}
+use Rattle.scan_core.specs.Frames.{free_at, is_free_state, free_frames, is_whole, blocks_of}
+use Rattle.zone_tables.specs.Notes.{placement_of, is_in_use}
+use Rattle.zone_tables.specs.HandedOut.{order_of, held_at}
+use Rattle.zone_tables.specs.Tabulated.{tabulated}
+use Rattle.zone_tables.proofs.Tabulating.{get_tabulated_all}
+
+pub some_when : (o : Option Placement) → is_none o ≡ false → is_some o ≡ true
+some_when None e = cc
+some_when (Some placement) e = refl
+
+pub some_is : (o : Option ℕ) (i : ℕ) → IsSome o → IfSome o (λ z. z ≡ i) → o ≡ Some i
+some_is None i s e = cc
+some_is (Some z) i s e = ap Some e
+
+pub placement_at_note : (notes : List PageNote) (page : ℕ) (d : PageNote) → page < length notes → placement_of notes page ≡ (get_or notes page d).placement
+placement_at_note notes page d h = ap (option_and_then (λ (note : PageNote). note.placement)) (slice_get-get_or notes page d h)
+
+pub placement_past : (notes : List PageNote) (page : ℕ) → length notes ≤ page → placement_of notes page ≡ None
+placement_past notes page h = ap (option_and_then (λ (note : PageNote). note.placement)) (slice_get_past notes page h)
+
+-- the map of placements agrees with the notes
+pub get_placements : (notes : List PageNote) (page : ℕ) → get (tabulated (placement_of notes) (length notes)) page ≡ placement_of notes page
+get_placements notes page = get_tabulated_all (placement_of notes) (length notes) page (placement_past notes)
+
+-- a moving page puts a frame of its own in a state, and this state isn't Free
+puts : (page serial : ℕ) (a b : Bool) → (a || b) ≡ true → (state : FrameState) × ((if a then Some (Source serial) else if b then Some (Target serial) else None) ≡ Some state) × (is_free_state (Some state) ≡ false)
+puts page serial true b e = (Source serial, refl, refl)
+puts page serial false true e = (Target serial, refl, refl)
+puts page serial false false e = cc
+
+pub takes_state : (page : ℕ) (o : Option Placement) (frame : ℕ) → takes_up o frame ≡ true → (state : FrameState) × (state_by page o frame ≡ Some state) × (is_free_state (Some state) ≡ false)
+takes_state page None frame e = cc
+takes_state page (Some (At f)) frame e = (Holds page, ap (λ b. if b then Some (Holds page) else None) e, refl)
+takes_state page (Some (Moving serial source target)) frame e = puts page serial (nat_eq frame source) (nat_eq frame target) e
+
+off : (a b : Bool) → b ≡ true → (not a && not b) ≡ false
+off true b e = refl
+off false b e = ap not e
+
+-- a frame is free in the tables exactly where it is free in the state
+pub free_seen : (frames : List FrameState) (v : ZoneState) → FramesFit frames v → (frame : ℕ) → frame < frame_count v → free_at frames frame ≡ is_free v frame
+free_seen frames v fit frame within = by_held (is_held v frame) (is_used v frame) refl refl where
+  by_held : (held used : Bool) → is_held v frame ≡ held → is_used v frame ≡ used → free_at frames frame ≡ (not (is_used v frame) && not (is_held v frame))
+  by_held true used is at = ap is_free_state (fit.of_block frame within is) ∙ sym (off (is_used v frame) (is_held v frame) is)
+  by_held false true is at =
+      let one = some_one (λ page. takes_up (get v.placement page) frame) (frame_count v) at in
+      let state = takes_state one.0 (get v.placement one.0) frame one.2 in
+      ap is_free_state (fit.of_page one.0 frame state.0 state.1) ∙ state.2 ∙ sym (ap (λ b. not b && not (is_held v frame)) at)
+  by_held false false is at =
+      let free : is_free v frame ≡ true = λ i. not (at i) && not (is i) in
+      ap is_free_state (fit.of_none frame within free) ∙ sym free
+
+pub lowest_free_seen : (frames : List FrameState) (v : ZoneState) → FramesFit frames v → lowest (free_at frames) (length frames) ≡ lowest_free_frame v
+lowest_free_seen frames v fit =
+    lowest_same (free_at frames) (is_free v) (length frames) (λ frame h. free_seen frames v fit frame (omega (arith, h, fit.count)))
+    ∙ ap (lowest (is_free v)) fit.count
+
+pub placements_seen : {W : ℕ} (z : Inside W) → get (state_of z).placement ≡ placement_of z.notes
+placements_seen z = λ i page. get_placements z.notes page i
+
+pub lowest_unused_seen : {W : ℕ} (z : Inside W) (v : ZoneState) → state_of z ≡ v → length z.notes ≡ frame_count v → lowest (λ page. is_none (placement_of z.notes page)) (length z.notes) ≡ lowest_unused_page v
+lowest_unused_seen z v view count =
+    ap (λ (placed : ℕ → Option Placement). lowest (λ page. is_none (placed page)) (length z.notes)) (sym (placements_seen z))
+    ∙ ap (λ (u : ZoneState). lowest (λ page. is_none (get u.placement page)) (length z.notes)) view
+    ∙ ap (lowest (λ page. is_none (get v.placement page))) count
+
+-- the counts of free frames and of whole pageblocks
+pub free_counted : (frames : List FrameState) (v : ZoneState) → FramesFit frames v → free_frames frames ≡ count_below (is_free v) (frame_count v)
+free_counted frames v fit =
+    count_same (free_at frames) (is_free v) (length frames) (λ frame h. free_seen frames v fit frame (omega (arith, h, fit.count)))
+    ∙ ap (count_below (is_free v)) fit.count
+
+pub whole_counted : (frames : List FrameState) (v : ZoneState) → FramesFit frames v → count_below (is_whole frames) (blocks_of frames) ≡ count_below (whole_block v) v.blocks
+whole_counted frames v fit =
+    let blocks : blocks_of frames ≡ v.blocks = omega (arith, fit.count) in
+    count_same (is_whole frames) (whole_block v) (blocks_of frames) (λ block h.
+    ap (λ n. nat_eq n 512) (count_from_same (free_at frames) (is_free v) (512 * block) 512 (λ frame low high. free_seen frames v fit frame (omega (arith, h, blocks, high)))))
+    ∙ ap (count_below (whole_block v)) blocks
+
+-- the counts of pages in use and of blocks that are handed out
+pub in_use_seen : {W : ℕ} (z : Inside W) (v : ZoneState) → state_of z ≡ v → length z.notes ≡ frame_count v → count_below (is_in_use z.notes) (length z.notes) ≡ count_below (λ page. is_some (get v.placement page)) (frame_count v)
+in_use_seen z v view count =
+    ap (λ (placed : ℕ → Option Placement). count_below (λ page. is_some (placed page)) (length z.notes)) (sym (placements_seen z))
+    ∙ ap (λ (u : ZoneState). count_below (λ page. is_some (get u.placement page)) (length z.notes)) view
+    ∙ ap (count_below (λ page. is_some (get v.placement page))) count
+
+pub order_past : (orders : List (Option ℕ)) (first : ℕ) → length orders ≤ first → order_of orders first ≡ None
+order_past orders first h = ap (option_and_then (λ (order : Option ℕ). order)) (slice_get_past orders first h)
+
+pub orders_seen : {W : ℕ} (z : Inside W) (v : ZoneState) → state_of z ≡ v → order_of z.handed_out ≡ get v.handed_out
+orders_seen z v view =
+    sym (λ i first. get_tabulated_all (order_of z.handed_out) (length z.handed_out) first (order_past z.handed_out) i)
+    ∙ ap (λ (u : ZoneState). get u.handed_out) view
+
+pub blocks_seen : {W : ℕ} (z : Inside W) (v : ZoneState) → state_of z ≡ v → length z.handed_out ≡ frame_count v → count_below (λ first. is_some (order_of z.handed_out first)) (length z.handed_out) ≡ count_below (λ first. is_some (get v.handed_out first)) (frame_count v)
+blocks_seen z v view count = λ i. count_below (λ first. is_some (orders_seen z v view i first)) (count i)
+
+pub held_seen : {W : ℕ} (z : Inside W) (v : ZoneState) → state_of z ≡ v → length z.handed_out ≡ frame_count v → count_below (held_at z.handed_out) (length z.handed_out) ≡ count_below (is_held v) (frame_count v)
+held_seen z v view count = λ i. count_below (λ frame. some_below (λ first. covers (orders_seen z v view i first) first frame) (count i)) (count i)

@@ -1,0 +1,283 @@
+-- What the tables of a sound zone say of its state.
+use Rattle.std.proofs.Common.{◌≡◌, ℕ, zero, suc, ◌+◌, ◌<◌, ◌≤◌, Bool, true, false, not, List, [], ◌∷◌, length, ◌⊎◌, inl, inr, refl, sym, ap, ◌∙◌, arith}
+use Rattle.std.specs.Prelude.{Option, Some, None, IsSome, IsTrue, is_some, slice_get, nat_eq, map as each, ◌&&◌, if◌then◌else◌}
+use Rattle.std.specs.FinMap as map
+use Rattle.std.specs.FinSet as set
+use Rattle.std.specs.Option.{option_and_then}
+use Rattle.std.proofs.lemmas.Bool.{eq-eqb, eqb-true}
+use Rattle.std.proofs.lemmas.Bool.Decides.{eqb_tells}
+use Rattle.std.proofs.lemmas.Option.{slice_get_past}
+use Rattle.frame_core.proofs.Searches.{some_one}
+use Rattle.frame_core.specs.declared.place.Address.{Address}
+use Rattle.frame_core.specs.PageFlags.{page_flags}
+use Rattle.frame_core.specs.declared.flags.PageFlags.{PageFlags}
+use Rattle.frame_core.specs.declared.state.FrameState.{FrameState}
+use Rattle.frame_core.specs.declared.state.FrameState.TheVariants.{Free, Holds, Source, Target, Huge}
+use Rattle.journal_core.specs.History.{page_at, last, pins, maps}
+use Rattle.table_core.specs.declared.entry.Entry.TheVariants.{Migration}
+use Rattle.word_core.specs.Words.{words_of}
+use Rattle.state_core.specs.declared.information.Look.TheVariants as look
+use Rattle.zone_tables.specs.declared.note.PageNote.{PageNote}
+use Rattle.zone_tables.specs.declared.zone.ZoneTables.TheInside.{Inside}
+use Rattle.state_core.specs.declared.placement.Placement.{Placement}
+use Rattle.state_core.specs.declared.placement.Placement.TheVariants.{At, Moving}
+use Rattle.zone_tables.specs.Fits.{state_by, entry_for, FramesFit, WordsFit, NoteFits}
+use Rattle.state_core.specs.ZoneState.{words_frame, ZoneState, frame_count, takes_up, is_used, is_held, is_free}
+use Rattle.zone_tables.specs.Notes.{placement_of, is_unmovable_of, says_unmovable}
+use Rattle.state_core.specs.Lawful.{IsValidZone, is_under}
+use Rattle.state_core.specs.Carrying.{words_now, flags_of}
+use Rattle.state_core.specs.Looking.{look_by, look_of}
+use Rattle.state_core.specs.Pairs.{holder, can_move}
+use Rattle.scan_core.specs.Frames.{true_at}
+use Rattle.std.specs.List.{range_with_len}
+use Rattle.zone_tables.specs.Sound.{state_of, IsSound}
+use Rattle.state_core.proofs.Facts.{frame_within}
+use Rattle.zone_tables.proofs.Facts.{held_by}
+use Rattle.zone_tables.proofs.SearchesAndCounts.{placements_seen, takes_state}
+use Rattle.state_core.proofs.Placed.{untrue}
+use Rattle.zone_tables.proofs.Tabulating.{gathered_in, contains_gathered}
+use Rattle.state_core.proofs.Holding.{stands_at, when_not, holder_none}
+
+-- a list whose items are f of the numbers from a first one on
+in_turn : (f : ℕ → ℕ) (xs : List ℕ) (n first : ℕ) → length xs ≡ n →
+    ((k : ℕ) → k < n → slice_get xs k ≡ Some (f (first + k))) → xs ≡ each f (range_with_len first n)
+in_turn f [] zero first e has = refl
+in_turn f [] (suc n) first e has = absurd (omega arith)
+in_turn f (x ∷ xs) zero first e has = absurd (omega arith)
+in_turn f (x ∷ xs) (suc n) first e has =
+    let at : first + 0 ≡ first = omega arith in
+    let one : Some x ≡ Some (f first) = has 0 (omega arith) ∙ ap (λ (k : ℕ). Some (f k)) at in
+    let here : x ≡ f first = cc in
+    let next : (k : ℕ) → first + suc k ≡ first + 1 + k = λ k. omega arith in
+    let rest : xs ≡ each f (range_with_len (first + 1) n) =
+    in_turn f xs n (first + 1) (omega arith) (λ k h. has (suc k) (omega arith) ∙ ap (λ (j : ℕ). Some (f j)) (next k)) in
+    λ i. here i ∷ rest i
+
+-- the frame of a page in use has the page's words
+pub words_seen : (rows : List (List ℕ)) (v : ZoneState) → WordsFit rows v → IsValidZone v →
+    (page : ℕ) (placement : Placement) → map.get v.placement page ≡ Some placement →
+    words_of rows (words_frame placement) ≡ words_now v page
+words_seen rows v fit law page placement at =
+    in_turn (last v.records page) (words_of rows (words_frame placement)) v.page_size 0
+    (fit.sized (words_frame placement) (frame_within v law page placement at))
+    (λ k h. fit.each page placement k at h ∙ ap (λ (w : ℕ). Some (last v.records page w)) (zone k)) where
+      zone : (k : ℕ) → k ≡ 0 + k
+      zone k = omega arith
+
+-- the marks of pageblocks are those of the state
+pub mark_seen : {W : ℕ} (z : Inside W) (v : ZoneState) → state_of z ≡ v → (block : ℕ) → block < 8 →
+    true_at z.marked block ≡ set.contains v.marked block
+mark_seen z v view block h =
+    sym (gathered_in (true_at z.marked) 8 block h)
+    ∙ ap (λ (u : ZoneState). set.contains u.marked block) view
+
+-- whether a page in use is noted as unmovable
+unmovable_past : (notes : List PageNote) (page : ℕ) → length notes ≤ page → is_unmovable_of notes page ≡ false
+unmovable_past notes page h = ap says_unmovable (slice_get_past notes page h)
+
+pub placement_seen : {W : ℕ} (z : Inside W) (v : ZoneState) → state_of z ≡ v → (page : ℕ) →
+    placement_of z.notes page ≡ map.get v.placement page
+placement_seen z v view page =
+    ap (λ (placed : ℕ → Option Placement). placed page) (sym (placements_seen z))
+    ∙ ap (λ (u : ZoneState). map.get u.placement page) view
+
+pub record Noted {W : ℕ} (z : Inside W) (v : ZoneState) (page : ℕ) (note : PageNote) : Type 0 where
+  pub placement : note.placement ≡ map.get v.placement page
+  pub unmovable : note.unmovable ≡ set.contains v.unmovable page
+  pub fits : NoteFits note v page
+
+if_placed : (a b : Bool) → a ≡ true → (a && b) ≡ b
+if_placed true b e = refl
+if_placed false b e = cc
+
+pub note_seen : {W : ℕ} (z : Inside W) (v : ZoneState) → state_of z ≡ v → IsSound z v → (page : ℕ) →
+    IsSome (map.get v.placement page) → (note : PageNote) → slice_get z.notes page ≡ Some note → Noted z v page note
+note_seen z v view sound page used note at =
+    let placed : note.placement ≡ map.get v.placement page = sym (ap placement_in at) ∙ placement_seen z v view page in
+    let some : is_some note.placement ≡ true = ap is_some placed ∙ used in
+    record {
+      placement = placed;
+      unmovable =
+          sym (if_placed (is_some note.placement) note.unmovable some) ∙ sym (ap says_unmovable at)
+          ∙ sym (contains_gathered (is_unmovable_of z.notes) (length z.notes) page (unmovable_past z.notes))
+          ∙ ap (λ (u : ZoneState). set.contains u.unmovable page) view;
+      fits = sound.notes.each page note at some;
+    } where
+      placement_in : Option PageNote → Option Placement
+      placement_in None = None
+      placement_in (Some note) = note.placement
+
+-- a page in use has a note
+pub note_within : {W : ℕ} (z : Inside W) (v : ZoneState) → IsSound z v → (page : ℕ) → IsSome (map.get v.placement page) → page < length z.notes
+note_within z v sound page used = omega (arith, sound.lawful.numbered page used, sound.notes.count)
+
+-- a page gives a state only to its own frames
+by_two : (page q serial : ℕ) (a b : Bool) →
+    (if a then Some (Source serial) else if b then Some (Target serial) else None) ≡ Some (Holds q) → ⊥
+by_two page q serial true b e = cc
+by_two page q serial false true e = cc
+by_two page q serial false false e = cc
+
+by_one : (page q frame : ℕ) (b : Bool) → (if b then Some (Holds page) else None) ≡ Some (Holds q) → (b ≡ true) × (page ≡ q)
+by_one page q frame true e = (refl, cc)
+by_one page q frame false e = cc
+
+holds_by : (page q : ℕ) (o : Option Placement) (frame : ℕ) → state_by page o frame ≡ Some (Holds q) →
+    (o ≡ Some (At frame)) × (page ≡ q)
+holds_by page q None frame e = cc
+holds_by page q (Some (At f)) frame e = let is = by_one page q frame (nat_eq frame f) e in
+    (stands_at (Some (At f)) frame is.0, is.1)
+holds_by page q (Some (Moving serial source target)) frame e =
+    absurd (by_two page q serial (nat_eq frame source) (nat_eq frame target) e)
+
+-- the state of a frame comes from its block, or from its page, or is Free
+pub record ByPage (v : ZoneState) (frame : ℕ) (state : FrameState) : Type 0 where
+  pub page : ℕ
+  pub puts : state_by page (map.get v.placement page) frame ≡ Some state
+
+pub frame_cases : (frames : List FrameState) (v : ZoneState) → FramesFit frames v → (frame : ℕ) (state : FrameState) →
+    frame < frame_count v → slice_get frames frame ≡ Some state →
+    ByPage v frame state ⊎ (((is_held v frame ≡ true) × (state ≡ Huge)) ⊎ ((is_free v frame ≡ true) × (state ≡ Free)))
+frame_cases frames v fit frame state within at = by_held (is_held v frame) (is_used v frame) refl refl where
+  by_held : (held used : Bool) → is_held v frame ≡ held → is_used v frame ≡ used → ByPage v frame state
+      ⊎ (((is_held v frame ≡ true) × (state ≡ Huge)) ⊎ ((is_free v frame ≡ true) × (state ≡ Free)))
+  by_held true used is takes =
+      let two : Some state ≡ Some Huge = sym at ∙ fit.of_block frame within is in
+      let same : state ≡ Huge = cc in
+      inr (inl (is, same))
+  by_held false true is takes =
+      let one = some_one (λ page. takes_up (map.get v.placement page) frame) (frame_count v) takes in
+      let its = takes_state one.0 (map.get v.placement one.0) frame one.2 in
+      let same : Some its.0 ≡ Some state = sym (fit.of_page one.0 frame its.0 its.1) ∙ at in
+      inl (record { page = one.0; puts = its.1 ∙ same })
+  by_held false false is takes =
+      let free : is_free v frame ≡ true = λ i. not (takes i) && not (is i) in
+      let two : Some state ≡ Some Free = sym at ∙ fit.of_none frame within free in
+      let same : state ≡ Free = cc in
+      inr (inr (free, same))
+
+-- the page that a frame's state names is in this frame
+pub holds_seen : (frames : List FrameState) (v : ZoneState) → FramesFit frames v → (frame page : ℕ) (state : FrameState) →
+    frame < frame_count v → slice_get frames frame ≡ Some state → state ≡ Holds page →
+    map.get v.placement page ≡ Some (At frame)
+holds_seen frames v fit frame page state within at holds =
+    elim (frame_cases frames v fit frame state within at) [
+      | inl by ↦ (let is = holds_by by.page page (map.get v.placement by.page) frame (by.puts ∙ ap Some holds) in
+          ap (map.get v.placement) (sym is.1) ∙ is.0)
+      | inr off ↦ absurd (elim off [
+        | inl held ↦ (let bad : Huge ≡ Holds page = sym held.1 ∙ holds in cc)
+        | inr
+            free ↦ (let bad : Free ≡ Holds page = sym free.1 ∙ holds in cc)
+      ])
+    ]
+
+-- a frame whose state names no page has no page in it
+pub none_seen : (frames : List FrameState) (v : ZoneState) → FramesFit frames v → (frame : ℕ) (state : FrameState) →
+    slice_get frames frame ≡ Some state → ((page : ℕ) → state ≡ Holds page → ⊥) → holder v frame ≡ None
+none_seen frames v fit frame state at none =
+    holder_none v frame (λ page is.
+    (let two : Some state ≡ Some (Holds page) = sym at ∙ held_by frames v fit page frame is in
+    let same : state ≡ Holds page = cc in none page same))
+
+-- the note of a page says whether the page may be taken
+pub movable_seen : {W : ℕ} (z : Inside W) (v : ZoneState) (page : ℕ) (note : PageNote) → Noted z v page note →
+    (nat_eq note.pins 0 && not note.unmovable) ≡ can_move v page
+movable_seen z v page note noted = λ i. nat_eq (noted.fits.pins i) 0 && not (noted.unmovable i)
+
+-- the note of a page has the page's flags
+pub flags_seen : {W : ℕ} (z : Inside W) (v : ZoneState) (page : ℕ) (note : PageNote) → Noted z v page note → page_flags note.unmovable note.dirty ≡ flags_of v page
+flags_seen z v page note noted = λ i. page_flags (noted.unmovable i) (noted.fits.dirty i)
+
+-- a frame is in a block that is handed out exactly where its state is Huge
+by_block : (page serial : ℕ) (a b : Bool) →
+    (if a then Some (Source serial) else if b then Some (Target serial) else None) ≡ Some Huge → ⊥
+by_block page serial true b e = cc
+by_block page serial false true e = cc
+by_block page serial false false e = cc
+
+by_held : (page : ℕ) (b : Bool) → (if b then Some (Holds page) else None) ≡ Some Huge → ⊥
+by_held page true e = cc
+by_held page false e = cc
+
+huge_by : (page : ℕ) (o : Option Placement) (frame : ℕ) → state_by page o frame ≡ Some Huge → ⊥
+huge_by page None frame e = cc
+huge_by page (Some (At f)) frame e = by_held page (nat_eq frame f) e
+huge_by page (Some (Moving serial source target)) frame e = by_block page serial (nat_eq frame source)
+    (nat_eq frame target) e
+
+pub huge_seen : (frames : List FrameState) (v : ZoneState) → FramesFit frames v → (frame : ℕ) (state : FrameState) →
+    frame < frame_count v → slice_get frames frame ≡ Some state → state ≡ Huge → is_held v frame ≡ true
+huge_seen frames v fit frame state within at huge =
+    elim (frame_cases frames v fit frame state within at) [
+      | inl by ↦ absurd (huge_by by.page (map.get v.placement by.page) frame (by.puts ∙ ap Some huge))
+      | inr off ↦ elim off [ inl held ↦ held.0 | inr free ↦ (let bad : Free ≡ Huge = sym free.1 ∙ huge in cc) ]
+    ]
+
+pub no_huge_seen : (frames : List FrameState) (v : ZoneState) → FramesFit frames v → (frame : ℕ) (state : FrameState) →
+    frame < frame_count v → slice_get frames frame ≡ Some state → (state ≡ Huge → ⊥) → is_held v frame ≡ false
+no_huge_seen frames v fit frame state within at ne =
+    when_not (is_held v frame) (λ held.
+    (let two : Some state ≡ Some Huge = sym at ∙ fit.of_block frame within held in let same : state ≡ Huge = cc in
+    ne same))
+
+-- a migration entry is that of a moving page
+pub migration_is : (o : Option Placement) (serial source : ℕ) → entry_for o ≡ Migration serial source →
+    (target : ℕ) × (o ≡ Some (Moving serial source target))
+migration_is None serial source e = cc
+migration_is (Some (At frame)) serial source e = cc
+migration_is (Some (Moving s from target)) serial source e =
+    let same : s ≡ serial = cc in
+    let left : from ≡ source = cc in
+    (target, λ i. Some (Moving (same i) (left i) target))
+
+-- what is known of the page that an address names
+pub look_resident : (v : ZoneState) (address : Address) (page q frame : ℕ) (flags : PageFlags) (n m : ℕ) →
+    page_at v.records address ≡ Some page → map.get v.placement page ≡ Some (At frame) → page ≡ q → flags ≡ flags_of v q →
+    n ≡ pins v.records q → m ≡ maps v.records q → Some (look.At frame flags n m) ≡ look_of v address
+look_resident v address page q frame flags n m named at same f p u =
+    (λ i. Some (look.At frame (f i) (p i) (u i))) ∙ ap (λ (r : ℕ). look_by v r (Some (At frame))) (sym same)
+    ∙ sym (ap (look_by v page) at)
+    ∙ sym (ap (option_and_then (λ (r : ℕ). look_by v r (map.get v.placement r))) named)
+
+pub look_moving : (v : ZoneState) (address : Address) (page q serial source target n m : ℕ) →
+    page_at v.records address ≡ Some page → map.get v.placement page ≡ Some (Moving serial source target) → page ≡ q →
+    n ≡ pins v.records q → m ≡ maps v.records q → Some (look.Moving serial n m) ≡ look_of v address
+look_moving v address page q serial source target n m named at same p u =
+    (λ i. Some (look.Moving serial (p i) (u i))) ∙ ap (λ (r : ℕ). look_by v r (Some (Moving serial source target)))
+    (sym same) ∙ sym (ap (look_by v page) at)
+    ∙ sym (ap (option_and_then (λ (r : ℕ). look_by v r (map.get v.placement r))) named)
+
+-- whether a page is moving under a serial
+pub under_is : (o : Option Placement) (serial : ℕ) → is_under o serial ≡ true →
+    (source target : ℕ) × (o ≡ Some (Moving serial source target))
+under_is None serial e = cc
+under_is (Some (At frame)) serial e = cc
+under_is (Some (Moving s source target)) serial e =
+    (source, target, ap (λ (n : ℕ). Some (Moving n source target)) (eqb-true s serial e))
+
+pub own_when : (zone number serial : ℕ) (o : Option Placement) (under source target : ℕ) → zone ≡ number →
+    o ≡ Some (Moving under source target) → under ≡ serial → (nat_eq zone number && is_under o serial) ≡ true
+own_when zone number serial o under source target here at same =
+    (λ i. eq-eqb zone number here i && is_under (at i) serial) ∙ eq-eqb under serial same
+
+pub own_under : (a b : Bool) → (a && b) ≡ true → b ≡ true
+own_under true b e = e
+own_under false b e = cc
+
+pub not_own : (zone number serial : ℕ) (o : Option Placement) (some : Bool) → some ≡ false →
+    ((source target : ℕ) → o ≡ Some (Moving serial source target) → ⊥) →
+    (some ≡ true → IsTrue (nat_eq zone number && is_under o serial)) × (IsTrue (nat_eq zone number && is_under o serial) →
+    some ≡ true)
+not_own zone number serial o some e none = (
+  λ is. absurd (untrue some e is),
+  λ own. (let way = under_is o serial (own_under (nat_eq zone number) (is_under o serial) own) in
+      absurd (none way.0 way.1 way.2)),
+)
+
+pub other_serial : (o : Option Placement) (under serial source target : ℕ) → o ≡ Some (Moving under source target) →
+    (under ≡ serial → ⊥) → (s t : ℕ) → o ≡ Some (Moving serial s t) → ⊥
+other_serial o under serial source target at ne s t e = let same : under ≡ serial = cc in ne same
+
+pub same_number : (a b : ℕ) → false ≡ not (nat_eq a b) → a ≡ b
+same_number a b e = elim (eqb_tells a b)
+    [ inl is ↦ is.1 | inr isnt ↦ (let bad : true ≡ false = sym (ap not isnt.0) ∙ sym e in cc) ]

@@ -1,0 +1,19 @@
+use Rattle.std.proofs.Common.{◌-◌, arith, sym, subst, ℕ}
+use Rattle.std.specs.Prelude.{None}
+use Rattle.frame_core.specs.FixedVec.{with_item}
+use Rattle.zone_tables.specs.HandedOutInside.{IsCounted}
+use Rattle.zone_tables.proofs.BlockOrders.{can_give, given_counted, given_some}
+use Rattle.zone_tables.proofs.handed_out.HandedOut.give.Goals as goal
+
+pub overflow_sub-self : goal.overflow_sub-self
+overflow_sub-self c = (given_some c.self.inside c.self.invariant c.args.first c.args.order (can_give c.self.inside.orders.items c.args.self.now c.args.first c.args.order c.self.view_is c.requires.here c.requires.within c.requires.alone)).0
+
+pub overflow_sub-self-2 : goal.overflow_sub-self-2
+overflow_sub-self-2 c = omega (arith, c.frames.ensures.value, (given_some c.self.inside c.self.invariant c.args.first c.args.order (can_give c.self.inside.orders.items c.args.self.now c.args.first c.args.order c.self.view_is c.requires.here c.requires.within c.requires.alone)).1)
+
+pub invariant_of-self : goal.invariant_of-self
+invariant_of-self c =
+    let T : ℕ → ℕ → Type 0 = λ place frames. IsCounted (record { orders = with_item c.self.inside.orders place None; blocks = c.self.inside.blocks - 1; frames = c.self.inside.frames - frames }) in
+    subst (λ (place : ℕ). T place c.frames.result) (sym c.get.ensures.value)
+    (subst (T c.args.first) (sym c.frames.ensures.value)
+    (given_counted c.self.inside c.self.invariant c.args.first c.args.order (can_give c.self.inside.orders.items c.args.self.now c.args.first c.args.order c.self.view_is c.requires.here c.requires.within c.requires.alone)))

@@ -1,0 +1,10 @@
+use Rattle.std.proofs.Common.{◌∙◌, ap}
+use Rattle.std.specs.FinSet as set
+use Rattle.zone_tables.proofs.Marks.{mark_read}
+use Rattle.zone_tables.proofs.Tables.{mark_seen}
+use Rattle.zone_tables.proofs.zone.ZoneTables.is_marked.Goals as goal
+
+pub returns : goal.returns
+returns g c =
+    mark_read c.self.inside.marked c.get.result ∙ mark_seen c.self.inside c.args.self.now c.self.view_is c.get.result c.get.ensures.range
+    ∙ ap (set.contains c.args.self.now.marked) c.get.ensures.value

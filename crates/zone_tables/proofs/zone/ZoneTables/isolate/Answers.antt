@@ -1,0 +1,180 @@
+use Rattle.std.proofs.Common.{get_or, ◌≡◌, ◌∙◌, ◌+◌, ◌∷◌, ℕ, refl, ap, subst, sym, arith}
+use Rattle.std.specs.Prelude.{Some, false, is_some, slice_get, slice_set, unwrap_or}
+use Rattle.std.proofs.lemmas.Option.{slice_get-get_or}
+use Rattle.frame_core.specs.declared.state.FrameState.TheVariants.{Source, Target}
+use Rattle.journal_core.specs.declared.record.Record.TheVariants.{Isolate}
+use Rattle.journal_core.specs.Moves.{isolated}
+use Rattle.table_core.specs.declared.entry.Entry.TheVariants.{Present, Migration}
+use Rattle.table_core.specs.Tables.{Replaces}
+use Rattle.zone_tables.specs.declared.zone.ZoneTables.TheInside.{Inside}
+use Rattle.state_core.specs.declared.placement.Placement.TheVariants.{At, Moving}
+use Rattle.scan_core.specs.Frames.{Frames, is_holding_state}
+use Rattle.zone_tables.proofs.Facts.{held_by}
+use Rattle.zone_tables.proofs.MoveEnds.{still_free, two_puts}
+use Rattle.zone_tables.proofs.SearchesAndCounts.{free_seen}
+use Rattle.state_core.specs.Pairs.{can_move}
+use Rattle.state_core.specs.ZoneState.{ZoneState}
+use Rattle.zone_tables.proofs.ListedAddresses.{fresh_serial, page_rests}
+use Rattle.zone_tables.specs.Fits.{MovesFit}
+use Rattle.zone_tables.specs.History.{told}
+use Rattle.zone_tables.specs.Moves.{Moves}
+use Rattle.state_core.proofs.Facts.{frame_within, not_none, room_and_serial}
+use Rattle.zone_tables.proofs.Tables.{placement_seen, note_within, words_seen}
+use Rattle.zone_tables.specs.Notes.{unused_note}
+use Rattle.zone_tables.specs.declared.note.PageNote.{PageNote}
+use Rattle.zone_tables.specs.Sound.{IsSound}
+use Rattle.zone_tables.proofs.Isolation.{isolated_frames, isolated_words, isolated_movable, isolated_sources}
+use Rattle.state_core.proofs.Settled.{can_isolate, isolate_recorded, target_within, swept_if_isolated}
+use Rattle.zone_tables.proofs.Placement.{SourcesPlaced}
+use Rattle.zone_tables.proofs.Relocation.{Settling, FramesSettled, MovableSettled, settle_sound, settle_view}
+use Rattle.zone_tables.proofs.zone.ZoneTables.isolate.Given.{Over}
+use Rattle.zone_tables.proofs.zone.ZoneTables.isolate.Goals as goal
+use Rattle.zone_tables.proofs.zone.ZoneTables.isolate.Goals.{After-read_out-carried}
+
+pub to_source-requires : goal.to_source-requires
+to_source-requires g c =
+    let sound : IsSound c.self.inside c.args.self.now = subst (IsSound c.self.inside) c.self.view_is c.self.invariant in
+    let from = c.requires.pair.from in
+    record {
+      page = ap is_holding_state (held_by c.self.inside.frames.states c.args.self.now sound.frames c.args.pair.page c.args.pair.source from.here);
+      movable = ap (λ o. unwrap_or o false) (sound.movable.each c.args.pair.page c.args.pair.source from.here) ∙ from.movable;
+    }
+
+pub to_target-requires : goal.to_target-requires
+to_target-requires g c =
+    let sound : IsSound c.self.inside c.args.self.now = subst (IsSound c.self.inside) c.self.view_is c.self.invariant in
+    let to = c.requires.pair.to in
+    let low = to.low in
+    still_free c.self.inside.frames c.to_source.new.self c.args.pair.target c.args.pair.source (Source c.isolate-serial.result) (λ e. absurd (omega arith)) c.to_source.ensures.state
+    (free_seen c.self.inside.frames.states c.args.self.now sound.frames c.args.pair.target (target_within c.args.self.now c.args.pair sound.lawful c.requires.pair) ∙ to.free)
+
+pub isolate-serial-requires-clause-within : goal.isolate-serial-requires-clause-within
+isolate-serial-requires-clause-within g c =
+    let sound : IsSound c.self.inside c.args.self.now = subst (IsSound c.self.inside) c.self.view_is c.self.invariant in
+    let at = (can_isolate c.args.self.now c.args.pair sound.lawful c.requires.pair).at in
+    omega (arith, frame_within c.args.self.now sound.lawful c.args.pair.page (At c.args.pair.source) at, sound.sources.count)
+
+pub isolate-serial-requires-clause-serial_left : goal.isolate-serial-requires-clause-serial_left
+isolate-serial-requires-clause-serial_left g c =
+    let sound : IsSound c.self.inside c.args.self.now = subst (IsSound c.self.inside) c.self.view_is c.self.invariant in
+    omega (arith, (room_and_serial c.args.self.now c.requires.accepted).1, sound.moves.isolated)
+
+pub place-requires : goal.place-requires
+place-requires g c =
+    let sound : IsSound c.self.inside c.args.self.now = subst (IsSound c.self.inside) c.self.view_is c.self.invariant in
+    ap is_some (placement_seen c.self.inside c.args.self.now c.self.view_is c.args.pair.page ∙ (can_isolate c.args.self.now c.args.pair sound.lawful c.requires.pair).at)
+
+-- the note of the page after it was isolated
+abbrev noted : {g : Over} → After-read_out-carried g → PageNote
+noted c = get_or c.self.inside.notes c.args.pair.page unused_note
+
+note_is : {g : Over} (c : After-read_out-carried g) → slice_get c.self.inside.notes c.args.pair.page ≡ Some (noted c)
+note_is c =
+    let sound : IsSound c.self.inside c.args.self.now = subst (IsSound c.self.inside) c.self.view_is c.self.invariant in
+    let used = not_none _ (At c.args.pair.source) (can_isolate c.args.self.now c.args.pair sound.lawful c.requires.pair).at in
+    slice_get-get_or c.self.inside.notes c.args.pair.page unused_note (note_within c.self.inside c.args.self.now sound c.args.pair.page used)
+
+-- the fields after the call
+abbrev after : {g : Over} → After-read_out-carried g → Inside g.row.W
+after c = record c.self.inside {
+  frames = c.to_target.new.self;
+  tables = c.to_migration.new.self;
+  notes = c.place.new.self;
+  moves = c.isolate-serial.new.self;
+  fingers = record { migrate = c.get.result + 1; free = c.get-self-inside.result };
+  history = c.note.new.self;
+}
+
+settling : {g : Over} (c : After-read_out-carried g) → Settling c.self.inside (after c) c.args.self.now c.args.pair.page (At c.args.pair.source) (Moving (isolated c.args.self.now.records) c.args.pair.source c.args.pair.target) (Isolate (isolated c.args.self.now.records) c.args.pair.page) (noted c) (c.args.pair.source + 1) c.args.pair.target
+settling c =
+    let z = c.self.inside in
+    let v = c.args.self.now in
+    let pair = c.args.pair in
+    let sound : IsSound z v = subst (IsSound z) c.self.view_is c.self.invariant in
+    let law = sound.lawful in
+    let is = c.requires.pair in
+    let left = room_and_serial v c.requires.accepted in
+    let room = left.0 in
+    let serial : c.isolate-serial.result ≡ isolated v.records = c.isolate-serial.ensures.serial ∙ sound.moves.isolated in
+    let target_in = target_within v pair law is in
+    let low = is.to.low in
+    let high = is.to.high in
+    let frames_are = two_puts z.frames c.to_source.new.self c.to_target.new.self pair.source pair.target (Source c.isolate-serial.result) (Target c.isolate-serial.result) c.to_source.ensures.state c.to_target.ensures.state in
+    let fingers = law.fingers.1 in
+    record {
+      sound = sound;
+      view = c.self.view_is;
+      can = can_isolate v pair law is;
+      recorded = isolate_recorded v pair law is left.0 left.1;
+      spare = omega arith;
+      note_is = note_is c;
+      frames = subst (λ (fs : Frames). FramesSettled z.frames.states fs.states pair.page (At pair.source) (Moving (isolated v.records) pair.source pair.target)) (sym frames_are)
+          (subst (λ (n : ℕ). FramesSettled z.frames.states (slice_set (slice_set z.frames.states pair.source (Source n)) pair.target (Target n)) pair.page (At pair.source) (Moving (isolated v.records) pair.source pair.target)) (sym serial)
+          (isolated_frames z.frames.states pair.page pair.source pair.target (isolated v.records) (λ e. absurd (omega arith)) (omega (arith, target_in, sound.frames.count)) (omega (arith, target_in, sound.frames.count))));
+      movable = subst (λ (fs : Frames). MovableSettled z.frames.movable fs.movable (can_move v pair.page) (Moving (isolated v.records) pair.source pair.target)) (sym frames_are)
+          (isolated_movable z.frames.movable (can_move v pair.page) (isolated v.records) pair.source pair.target);
+      tables = subst (λ (n : ℕ). Replaces z.tables.entries c.to_migration.new.self.entries (Present pair.source) (Migration n pair.source)) serial c.to_migration.ensures.replaced;
+      words = isolated_words z.words v sound.words (isolated v.records) pair.source pair.target (omega arith) target_in;
+      notes = c.place.ensures (noted c) (note_is c) ∙ ap (λ (n : ℕ). slice_set z.notes pair.page (record (noted c) { placement = Some (Moving n pair.source pair.target) })) serial;
+      moves = subst (λ (moves : Moves). MovesFit moves (Isolate (isolated v.records) pair.page ∷ v.records)) (sym c.isolate-serial.ensures.noted)
+          (record { isolated = ap (λ n. n + 1) sound.moves.isolated; moved = sound.moves.moved; back = sound.moves.back });
+      sources = subst (λ (moves : Moves). SourcesPlaced z.moves.pages moves.pages pair.page (Some (Moving (isolated v.records) pair.source pair.target))) (sym c.isolate-serial.ensures.noted)
+          (isolated_sources z.moves.pages pair.page (isolated v.records) pair.source pair.target (omega (arith, target_in, sound.sources.count)));
+      fingers_are = λ i. record { migrate = c.get.ensures.value i + 1; free = c.get-self-inside.ensures.value i };
+      fingers = (omega arith, omega arith);
+      swept = swept_if_isolated v pair law is;
+      history = c.note.ensures ∙ ap (λ (n : ℕ). told z.history (Isolate n pair.page)) serial;
+      frames_same = c.to_migration.ensures.frames;
+      number_same = refl;
+      blocks_same = refl;
+      marked_same = refl;
+      handed_out_same = refl;
+      cleared_same = refl;
+      contents_same = refl;
+    }
+
+pub invariant_of-self : goal.invariant_of-self
+invariant_of-self g c =
+    subst (IsSound (after c.before)) (sym (settle_view c.self.inside (after c.before) c.args.self.now c.args.pair.page _ _ _ _ _ _ (settling c.before)))
+    (settle_sound c.self.inside (after c.before) c.args.self.now c.args.pair.page _ _ _ _ _ _ (settling c.before))
+
+pub returns-clause-step : goal.returns-clause-step
+returns-clause-step g c = settle_view c.self.inside (after c.before) c.args.self.now c.args.pair.page _ _ _ _ _ _ (settling c.before)
+
+pub returns-clause-lawful : goal.returns-clause-lawful
+returns-clause-lawful g c = (invariant_of-self g c).lawful
+
+pub to_migration-requires-clause-within : goal.to_migration-requires-clause-within
+to_migration-requires-clause-within g c =
+    let sound : IsSound c.self.inside c.args.self.now = subst (IsSound c.self.inside) c.self.view_is c.self.invariant in
+    let within = target_within c.args.self.now c.args.pair sound.lawful c.requires.pair in
+    let low = c.requires.pair.to.low in
+    omega (arith, within, low, sound.tables)
+
+pub to_migration-requires-clause-fresh : goal.to_migration-requires-clause-fresh
+to_migration-requires-clause-fresh g c =
+    let sound : IsSound c.self.inside c.args.self.now = subst (IsSound c.self.inside) c.self.view_is c.self.invariant in
+    let serial : c.isolate-serial.result ≡ isolated c.args.self.now.records = c.isolate-serial.ensures.serial ∙ sound.moves.isolated in
+    λ a source range e. fresh_serial c.self.inside.tables.entries c.args.self.now sound.entries sound.lawful a source range (e ∙ ap (λ (n : ℕ). Migration n source) serial)
+
+pub to_migration-requires-clause-resting : goal.to_migration-requires-clause-resting
+to_migration-requires-clause-resting g c =
+    let sound : IsSound c.self.inside c.args.self.now = subst (IsSound c.self.inside) c.self.view_is c.self.invariant in
+    let at = (can_isolate c.args.self.now c.args.pair sound.lawful c.requires.pair).at in
+    page_rests c.self.inside.tables.entries c.args.self.now sound.entries sound.lawful c.args.pair.page c.args.pair.source at
+
+pub read_out-carried-requires : goal.read_out-carried-requires
+read_out-carried-requires g c =
+    let sound : IsSound c.self.inside c.args.self.now = subst (IsSound c.self.inside) c.self.view_is c.self.invariant in
+    let at = (can_isolate c.args.self.now c.args.pair sound.lawful c.requires.pair).at in
+    omega (arith, frame_within c.args.self.now sound.lawful c.args.pair.page (At c.args.pair.source) at, sound.words.count)
+
+pub returns-clause-page : goal.returns-clause-page
+returns-clause-page g c =
+    let sound : IsSound c.self.inside c.args.self.now = subst (IsSound c.self.inside) c.self.view_is c.self.invariant in
+    let at = (can_isolate c.args.self.now c.args.pair sound.lawful c.requires.pair).at in
+    let serial = c.isolate-serial.ensures.serial ∙ sound.moves.isolated in
+    let zone = ap (λ (u : ZoneState). u.number) c.self.view_is in
+    let words = words_seen c.self.inside.words c.args.self.now sound.words sound.lawful c.args.pair.page (At c.args.pair.source) at in
+    let page = c.read_out-carried.ensures ∙ (λ i. record { zone = zone i; number = c.args.pair.page; flags = c.flags_of-flags.ensures i; words = words i }) in
+    λ i. record { serial = (c.new.ensures.serial ∙ serial) i; page = (c.new.ensures.page ∙ page) i }

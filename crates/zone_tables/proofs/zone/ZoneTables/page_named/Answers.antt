@@ -1,0 +1,51 @@
+use Rattle.std.proofs.Common.{◌≡◌, ◌∙◌, ℕ, ap, subst, sym, arith}
+use Rattle.std.specs.Prelude.{Option, Some, IfSome}
+use Rattle.std.specs.FinMap as map
+use Rattle.state_core.specs.declared.placement.Placement.TheVariants.{At, Moving}
+use Rattle.zone_tables.specs.Sound.{IsSound}
+use Rattle.state_core.specs.ZoneState.{placement_at}
+use Rattle.zone_tables.proofs.LoadsAndStores.{present_is}
+use Rattle.state_core.proofs.Facts.{page_named, frame_within, not_none}
+use Rattle.state_core.proofs.Holding.{holder_at}
+use Rattle.zone_tables.proofs.Tables.{migration_is}
+use Rattle.zone_tables.proofs.zone.ZoneTables.page_named.Goals as goal
+
+named_so : (o : Option ℕ) (P : ℕ → Type 0) (page : ℕ) → o ≡ Some page → P page → IfSome o P
+named_so o P page is holds = subst (λ (o : Option ℕ). IfSome o P) (sym is) holds
+
+pub holder-requires : goal.holder-requires
+holder-requires g c =
+    let sound : IsSound c.self.inside c.args.self.now = subst (IsSound c.self.inside) c.self.view_is c.self.invariant in
+    let at = present_is (placement_at c.args.self.now c.args.address.now) c.in-Present.frame
+    (sym (sound.entries.each c.args.address.now c.entry.ensures.range) ∙ sym c.entry.ensures.value ∙ c.in-Present.is) in
+    let page = page_named c.args.self.now c.args.address.now (At c.in-Present.frame) at in
+    (omega arith, frame_within c.args.self.now sound.lawful page.0 (At c.in-Present.frame) page.2)
+
+pub returns-in-Present : goal.returns-in-Present
+returns-in-Present g c =
+    let sound : IsSound c.self.inside c.args.self.now = subst (IsSound c.self.inside) c.self.view_is c.self.invariant in
+    let at = present_is (placement_at c.args.self.now c.args.address.now) c.in-Present.frame
+    (sym (sound.entries.each c.args.address.now c.entry.ensures.range) ∙ sym c.entry.ensures.value ∙ c.in-Present.is) in
+    let page = page_named c.args.self.now c.args.address.now (At c.in-Present.frame) at in
+    let is = c.holder.ensures.holder ∙ holder_at c.args.self.now sound.lawful page.0 c.in-Present.frame page.2 in
+    record { page = is ∙ sym page.1; in_use = named_so c.holder.result _ page.0 is (not_none _ (At c.in-Present.frame) page.2) }
+
+pub page_from-requires : goal.page_from-requires
+page_from-requires g c =
+    let sound : IsSound c.self.inside c.args.self.now = subst (IsSound c.self.inside) c.self.view_is c.self.invariant in
+    let at = migration_is (placement_at c.args.self.now c.args.address.now) c.in-Migration.serial c.in-Migration.source
+    (sym (sound.entries.each c.args.address.now c.entry.ensures.range) ∙ sym c.entry.ensures.value ∙ c.in-Migration.is) in
+    let way = Moving c.in-Migration.serial c.in-Migration.source at.0 in
+    let page = page_named c.args.self.now c.args.address.now way at.1 in
+    omega (arith, frame_within c.args.self.now sound.lawful page.0 way page.2, sound.sources.count)
+
+pub returns-in-Migration : goal.returns-in-Migration
+returns-in-Migration g c =
+    let sound : IsSound c.self.inside c.args.self.now = subst (IsSound c.self.inside) c.self.view_is c.self.invariant in
+    let at = migration_is (placement_at c.args.self.now c.args.address.now) c.in-Migration.serial c.in-Migration.source
+    (sym (sound.entries.each c.args.address.now c.entry.ensures.range) ∙ sym c.entry.ensures.value ∙ c.in-Migration.is) in
+    let way = Moving c.in-Migration.serial c.in-Migration.source at.0 in
+    let page = page_named c.args.self.now c.args.address.now way at.1 in
+    let is : Some c.page_from.result ≡ Some page.0 = sym c.page_from.ensures ∙ sound.sources.each page.0 c.in-Migration.serial c.in-Migration.source at.0 page.2 in
+    let same : c.page_from.result ≡ page.0 = cc in
+    record { page = is ∙ sym page.1; in_use = not_none _ way (ap (map.get c.args.self.now.placement) same ∙ page.2) }

@@ -1,0 +1,36 @@
+use Rattle.std.proofs.Common.{◌∙◌, ap, subst}
+use Rattle.std.specs.Prelude.{slice_set}
+use Rattle.state_core.proofs.Facts.{spare}
+use Rattle.scan_core.specs.Frames.{is_holding_state}
+use Rattle.zone_tables.specs.Sound.{IsSound}
+use Rattle.zone_tables.proofs.Facts.{held_by}
+use Rattle.zone_tables.proofs.Unmapped.{Unmapping, last_holds}
+use Rattle.zone_tables.proofs.zone.ZoneTables.unmap_last.Given.{Over}
+use Rattle.zone_tables.proofs.zone.ZoneTables.unmap_last.Goals as goal
+use Rattle.zone_tables.proofs.zone.ZoneTables.unmap_last.Goals.{After-note}
+
+pub empty-requires : goal.empty-requires
+empty-requires g c =
+    let sound : IsSound c.self.inside c.args.self.now = subst (IsSound c.self.inside) c.self.view_is c.self.invariant in
+    ap is_holding_state (held_by c.self.inside.frames.states c.args.self.now sound.frames c.args.page c.args.frame c.requires.here)
+
+unmapping : {g : Over} (c : After-note g) → Unmapping c.self.inside c.args.self.now c.args.client c.args.address c.args.page c.args.frame c.clear.new.self c.note.new.self
+unmapping c =
+    let sound : IsSound c.self.inside c.args.self.now = subst (IsSound c.self.inside) c.self.view_is c.self.invariant in
+    record {
+      sound = sound;
+      view = c.self.view_is;
+      can = record { lawful = sound.lawful; spare = spare c.args.self.now c.requires.room; named = c.requires.named; at = c.requires.here };
+      changes = c.clear.ensures.cleared;
+      frames_same = c.clear.ensures.frames;
+      history_is = c.note.ensures;
+    }
+
+pub invariant_of-self : goal.invariant_of-self
+invariant_of-self g c = (last_holds _ _ _ _ _ _ _ _ (unmapping c) c.requires.last c.empty.new.self c.put.new.self c.empty.ensures.state (c.put.ensures ∙ ap (slice_set c.self.inside.notes c.args.page) c.unused.ensures)).0
+
+pub returns-clause-step : goal.returns-clause-step
+returns-clause-step g c = (last_holds _ _ _ _ _ _ _ _ (unmapping c) c.requires.last c.empty.new.self c.put.new.self c.empty.ensures.state (c.put.ensures ∙ ap (slice_set c.self.inside.notes c.args.page) c.unused.ensures)).1
+
+pub returns-clause-lawful : goal.returns-clause-lawful
+returns-clause-lawful g c = (invariant_of-self g c).lawful

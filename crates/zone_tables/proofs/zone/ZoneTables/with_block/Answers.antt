@@ -1,0 +1,67 @@
+use Rattle.std.proofs.Common.{rules, ◌≡◌, ℕ, ◌*◌, ◌^◌, List, length, sym, ap, subst, ◌∙◌, arith}
+use Rattle.std.specs.Prelude.{Some}
+use Rattle.std.specs.FinMap as map
+use Rattle.std.specs.Fn.{FnOnceReturnsAtMut}
+use Rattle.state_core.specs.Contents.{contents_of}
+use Rattle.state_core.specs.ZoneState.{ZoneState}
+use Rattle.state_core.proofs.Contents.{length_contents}
+use Rattle.word_core.specs.Words.{block_words, HasBlock, put_from}
+use Rattle.zone_tables.specs.Sound.{IsSound}
+use Rattle.zone_tables.proofs.BlockFrames.{order_held}
+use Rattle.zone_tables.proofs.BlockWords.{put_whole, words_read, write_view, write_sound}
+use Rattle.zone_tables.proofs.HeldWords.{written_again}
+use Rattle.zone_tables.proofs.zone.ZoneTables.with_block.Given.{Over}
+use Rattle.zone_tables.proofs.zone.ZoneTables.with_block.Goals as goal
+use Rattle.zone_tables.proofs.zone.ZoneTables.with_block.Goals.{After-frames, After-with_block}
+
+module _ (g : Over) (c : After-frames g) where
+  sound_before : IsSound c.self.inside c.args.self.now
+  sound_before = subst (IsSound c.self.inside) c.self.view_is c.self.invariant
+
+  -- the closure is shown the words of the block
+  shown : block_words c.clear.new.words c.args.first c.frames.result ≡ contents_of c.args.self.now c.args.first
+  shown =
+      ap (block_words c.clear.new.words c.args.first) c.frames.ensures.value
+      ∙ words_read c.self.inside c.args.self.now sound_before c.self.view_is c.args.first c.args.order (order_held _ c.args.order c.requires.held) _ c.clear.ensures.noted _ c.clear.ensures.words
+
+pub with_block-requires : goal.with_block-requires
+with_block-requires g c = (omega arith, (search rules, λ p is. c.requires.callable p (is ∙ shown g c)))
+
+module _ (g : Over) (c : After-with_block g) where
+  -- what the block was left with
+  abbrev left : List ℕ
+  left = c.with_block.ensures.changed.0
+
+  sound : IsSound c.self.inside c.args.self.now
+  sound = subst (IsSound c.self.inside) c.self.view_is c.self.invariant
+
+  at : map.get c.args.self.now.handed_out c.args.first ≡ Some c.args.order
+  at = order_held _ c.args.order c.requires.held
+
+  many : length left ≡ 2 ^ c.args.order * c.args.self.now.page_size
+  many = c.with_block.ensures.changed.1 ∙ ap (λ (n : ℕ). n * g.row.W) c.frames.ensures.value ∙ ap (λ (u : ZoneState). 2 ^ c.args.order * u.page_size) c.self.view_is
+
+  written : HasBlock c.self.inside.words c.with_block.new.self c.args.first (2 ^ c.args.order) (put_from (contents_of c.args.self.now c.args.first) 0 left)
+  written =
+      let same : length left ≡ length (contents_of c.args.self.now c.args.first) = many ∙ sym (length_contents c.args.self.now sound.lawful c.args.first c.args.order at) in
+      subst (HasBlock c.self.inside.words c.with_block.new.self c.args.first (2 ^ c.args.order)) (sym (put_whole (contents_of c.args.self.now c.args.first) left same))
+      (written_again c.clear.ensures.words (subst (λ (n : ℕ). HasBlock c.clear.new.words c.with_block.new.self c.args.first n left) c.frames.ensures.value c.with_block.ensures.changed.3))
+
+pub invariant_of-self : goal.invariant_of-self
+invariant_of-self g c =
+    subst (IsSound _) (sym (write_view c.self.inside c.args.self.now (sound g c) c.self.view_is c.args.first c.args.order (at g c) _ c.clear.ensures.noted _ 0 (left g c) (written g c)))
+    (write_sound c.self.inside c.args.self.now (sound g c) c.self.view_is c.args.first c.args.order (at g c) _ c.clear.ensures.noted _ 0 (left g c) (written g c) (omega (arith, many g c)) c.with_block.ensures.sized)
+
+pub returns-clause-changed : goal.returns-clause-changed
+returns-clause-changed g c =
+    let shown =
+    ap (block_words c.clear.new.words c.args.first) c.frames.ensures.value
+    ∙ words_read c.self.inside c.args.self.now (sound g c) c.self.view_is c.args.first c.args.order (at g c) _ c.clear.ensures.noted _ c.clear.ensures.words in (
+      left g c,
+      many g c,
+      subst (λ (words : List ℕ). FnOnceReturnsAtMut g.F.FnOnce c.args.change words c.with_block.result (left g c)) shown c.with_block.ensures.changed.2,
+      write_view c.self.inside c.args.self.now (sound g c) c.self.view_is c.args.first c.args.order (at g c) _ c.clear.ensures.noted _ 0 (left g c) (written g c),
+    )
+
+pub returns-clause-lawful : goal.returns-clause-lawful
+returns-clause-lawful g c = (invariant_of-self g c).lawful

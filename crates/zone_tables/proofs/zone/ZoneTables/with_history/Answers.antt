@@ -1,0 +1,56 @@
+use Rattle.std.proofs.Common.{◌≡◌, [], ◌∷◌, refl, subst, sym, false}
+use Rattle.zone_tables.specs.declared.zone.ZoneTables.TheInside.{Inside}
+use Rattle.state_core.specs.ZoneState.{ZoneState}
+use Rattle.zone_tables.specs.Sound.{IsSound, state_of}
+use Rattle.state_core.specs.Opening.{opened_with}
+use Rattle.zone_tables.proofs.Opened.{IsFresh, opened_view, opened_sound}
+use Rattle.zone_tables.proofs.zone.ZoneTables.with_history.Given.{Over}
+use Rattle.zone_tables.proofs.zone.ZoneTables.with_history.Goals as goal
+use Rattle.zone_tables.proofs.zone.ZoneTables.with_history.Goals.{After-new}
+
+abbrev new_zone : {g : Over} → After-new g → Inside g.row.W
+new_zone c = record {
+  number = c.args.number;
+  blocks = c.args.blocks;
+  frames = c.in-Ok.frames;
+  tables = c.in-Ok-open-5.tables;
+  words = c.in-Ok-open-6.words;
+  notes = c.in-Ok-open.notes;
+  moves = c.in-Ok-open-4.moves;
+  handed_out = c.in-Ok-open-2.handed_out;
+  cleared = c.in-Ok-open-3.cleared;
+  marked = false ∷ false ∷ false ∷ false ∷ false ∷ false ∷ false ∷ false ∷ [];
+  fingers = c.new.result;
+  history = c.args.history;
+}
+
+fresh : {g : Over} (c : After-new g) → IsFresh (new_zone c) c.args.number c.args.blocks c.args.history.room
+fresh c = record {
+  size = c.requires.«open»;
+  few = c.requires.places;
+  number_is = refl;
+  blocks_is = refl;
+  frames = c.in-Ok.ensures.open;
+  tables = c.in-Ok-open-5.ensures.blank;
+  tables_frames = c.in-Ok-open-5.ensures.frames;
+  words = c.in-Ok-open-6.ensures.blank;
+  notes = c.in-Ok-open.ensures;
+  handed_out = c.in-Ok-open-2.ensures;
+  cleared = c.in-Ok-open-3.ensures;
+  marked = refl;
+  fingers = c.new.ensures;
+  moves = c.in-Ok-open-4.ensures;
+  history = c.requires.none;
+}
+
+view : {g : Over} (c : After-new g) → state_of (new_zone c) ≡ opened_with g.row.W c.args.number c.args.blocks c.args.history.room
+view c = opened_view (new_zone c) _ _ _ (fresh c)
+
+pub invariant_of-result : goal.invariant_of-result
+invariant_of-result g c = let P : ZoneState → Type 0 = λ v. IsSound (new_zone c) v in subst P (sym (view c)) (opened_sound (new_zone c) _ _ _ (fresh c))
+
+pub returns-clause-ok : goal.returns-clause-ok
+returns-clause-ok g c = view c
+
+pub returns-clause-lawful : goal.returns-clause-lawful
+returns-clause-lawful g c = (invariant_of-result g c).lawful

@@ -1,0 +1,78 @@
+-- How the tables of a zone stand for its state.
+use Rattle.std.specs.Prelude.{◌≡◌, ℕ, ◌<◌, Bool, true, List, length, nat_eq, if◌then◌else◌, slice_get, Option, Some, None, IsSome}
+use Rattle.std.specs.FinMap as map
+use Rattle.std.specs.Ordering.{nat_cmp}
+use Rattle.frame_core.specs.Address.{InRange}
+use Rattle.frame_core.specs.declared.place.Address.{Address}
+use Rattle.frame_core.specs.declared.state.FrameState.{FrameState}
+use Rattle.frame_core.specs.declared.state.FrameState.TheVariants.{Free, Holds, Source, Target, Huge}
+use Rattle.journal_core.specs.declared.record.Record.{Record}
+use Rattle.journal_core.specs.History.{last, dirty, pins, maps}
+use Rattle.journal_core.specs.Moves.{isolated, moved, put_back}
+use Rattle.table_core.specs.declared.entry.Entry.{Entry}
+use Rattle.table_core.specs.declared.entry.Entry.TheVariants.{Absent, Present, Migration}
+use Rattle.table_core.specs.Tables.{entry_at}
+use Rattle.word_core.specs.Words.{words_of}
+use Rattle.zone_tables.specs.Moves.{Moves}
+use Rattle.zone_tables.specs.declared.note.PageNote.{PageNote}
+use Rattle.state_core.specs.declared.placement.Placement.{Placement}
+use Rattle.state_core.specs.declared.placement.Placement.TheVariants.{At, Moving}
+use Rattle.state_core.specs.Pairs.{can_move}
+use Rattle.state_core.specs.ZoneState.{ZoneState, frame_count, is_free, is_held, placement_at, words_frame}
+
+-- the state that a page with this number and placement gives to a frame, if it takes the frame up
+abbrev pub state_by : ℕ → Option Placement → ℕ → Option FrameState
+state_by page None frame = None
+state_by page (Some (At f)) frame = if nat_eq frame f then Some (Holds page) else None
+state_by page (Some (Moving serial source target)) frame =
+    if nat_eq frame source then Some (Source serial) else if nat_eq frame target then Some (Target serial) else None
+
+-- the entry of an address whose page has this placement
+abbrev pub entry_for : Option Placement → Entry
+entry_for None = Absent
+entry_for (Some (At frame)) = Present frame
+entry_for (Some (Moving serial source target)) = Migration serial source
+
+-- each frame has the state that its page or its block gives to it, and is free where it has neither
+pub record FramesFit (frames : List FrameState) (v : ZoneState) : Type 0 where
+  pub count : length frames ≡ frame_count v
+  pub of_page : (page frame : ℕ) (state : FrameState) → state_by page (map.get v.placement page) frame ≡ Some state → slice_get frames frame ≡ Some state
+  pub of_block : (frame : ℕ) → frame < frame_count v → is_held v frame ≡ true → slice_get frames frame ≡ Some Huge
+  pub of_none : (frame : ℕ) → frame < frame_count v → is_free v frame ≡ true → slice_get frames frame ≡ Some Free
+
+-- each address has the entry that the placement of its page asks for
+pub record EntriesFit (entries : List Entry) (v : ZoneState) : Type 0 where
+  pub each : (address : Address) → InRange address → entry_at entries address ≡ entry_for (placement_at v address)
+
+-- each word of a page in use is the value that was stored there last
+pub record WordsFit (rows : List (List ℕ)) (v : ZoneState) : Type 0 where
+  pub count : length rows ≡ frame_count v
+  pub sized : (frame : ℕ) → frame < frame_count v → length (words_of rows frame) ≡ v.page_size
+  pub each : (page : ℕ) (placement : Placement) (word : ℕ) → map.get v.placement page ≡ Some placement → word < v.page_size → slice_get (words_of rows (words_frame placement)) word ≡ Some (last v.records page word)
+
+-- the note of a page in use says what the journal says of the page
+pub record NoteFits (note : PageNote) (v : ZoneState) (page : ℕ) : Type 0 where
+  pub dirty : note.dirty ≡ dirty v.records page
+  pub pins : note.pins ≡ pins v.records page
+  pub maps : note.maps ≡ maps v.records page
+
+-- each page number has a note, and the note of each page in use says what the journal says
+pub record NotesFit (notes : List PageNote) (v : ZoneState) : Type 0 where
+  pub count : length notes ≡ frame_count v
+  pub each : (page : ℕ) (note : PageNote) → slice_get notes page ≡ Some note → IsSome note.placement → NoteFits note v page
+
+-- a frame that holds a page is noted as movable exactly where the page may be taken from it
+pub record MovableFit (movable : List Bool) (v : ZoneState) : Type 0 where
+  pub count : length movable ≡ frame_count v
+  pub each : (page frame : ℕ) → map.get v.placement page ≡ Some (At frame) → slice_get movable frame ≡ Some (can_move v page)
+
+-- the moves are counted as the journal tells of them
+pub record MovesFit (moves : Moves) (records : List Record) : Type 0 where
+  pub isolated : moves.isolated ≡ isolated records
+  pub moved : moves.moved ≡ moved records
+  pub back : moves.back ≡ put_back records
+
+-- each frame has a page in the list, and the frame that a moving page left has this page
+pub record SourcesFit (pages : List ℕ) (frames : ℕ) (placement : map.FinMap nat_cmp Placement) : Type 0 where
+  pub count : length pages ≡ frames
+  pub each : (page serial source target : ℕ) → map.get placement page ≡ Some (Moving serial source target) → slice_get pages source ≡ Some page

@@ -1,0 +1,44 @@
+-- What contracts see of the fields of a zone, and what is true of them.
+use Rattle.std.specs.Prelude.{◌≡◌, ℕ, length}
+use Rattle.zone_tables.specs.declared.zone.ZoneTables.TheInside.{Inside}
+use Rattle.state_core.specs.ZoneState.{ZoneState, frame_count}
+use Rattle.state_core.specs.Lawful.{IsValidZone}
+use Rattle.zone_tables.specs.Contents.{contents_at}
+use Rattle.zone_tables.specs.Fits.{FramesFit, EntriesFit, WordsFit, NotesFit, MovesFit, MovableFit, SourcesFit}
+use Rattle.zone_tables.specs.HandedOut.{order_of}
+use Rattle.zone_tables.specs.Notes.{placement_of, is_unmovable_of}
+use Rattle.scan_core.specs.Frames.{true_at}
+use Rattle.scan_core.specs.NumberSet.{gathered}
+use Rattle.zone_tables.specs.Tabulated.{tabulated}
+
+-- the state that contracts see, read off the fields
+abbrev pub state_of : {W : ℕ} → Inside W → ZoneState
+state_of {W} z = record {
+  number = z.number;
+  blocks = z.blocks;
+  page_size = W;
+  records = z.history.records;
+  room = z.history.room;
+  unmovable = gathered (is_unmovable_of z.notes) (length z.notes);
+  marked = gathered (true_at z.marked) 8;
+  handed_out = tabulated (order_of z.handed_out) (length z.handed_out);
+  contents = tabulated (contents_at W z.words z.cleared z.handed_out) (length z.handed_out);
+  placement = tabulated (placement_of z.notes) (length z.notes);
+  migrate = z.fingers.migrate;
+  free = z.fingers.free;
+  round = z.history.round;
+}
+
+-- the state is lawful, and each field stands for its part of it
+pub record IsSound {W : ℕ} (z : Inside W) (v : ZoneState) : Type 0 where
+  pub lawful : IsValidZone v
+  pub orders : length z.handed_out ≡ frame_count v
+  pub cleared : length z.cleared ≡ frame_count v
+  pub frames : FramesFit z.frames.states v
+  pub movable : MovableFit z.frames.movable v
+  pub tables : z.tables.frames ≡ frame_count v
+  pub entries : EntriesFit z.tables.entries v
+  pub words : WordsFit z.words v
+  pub notes : NotesFit z.notes v
+  pub moves : MovesFit z.moves v.records
+  pub sources : SourcesFit z.moves.pages (frame_count v) v.placement

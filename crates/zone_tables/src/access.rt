@@ -1,0 +1,105 @@
+//! Reading and writing the words of pages.
+
+ghost use Rattle.std.specs.Prelude.{◌≡◌, Some, IsSome, IsTrue, IfOk};
+ghost use Rattle.journal_core.specs.History.{page_at};
+ghost use Rattle.state_core.specs.Lawful.{IsValidZone};
+ghost use Rattle.state_core.specs.Access.{placement_refusal, value_at, loaded, stored};
+ghost use Rattle.state_core.specs.Isolating.{has_room_for_two, has_serial};
+ghost use Rattle.std.specs.Result.{result_err};
+ghost use Rattle.state_core.specs.ZoneState.{has_room, placement_at};
+ghost use Rattle.state_core.specs.declared.placement.Placement.TheVariants.{At};
+
+use crate::zone::ZoneTables;
+use frame_core::{Address, ClientNo, FrameNo, WordOf};
+use journal_core::Record;
+use state_core::ZoneError;
+use table_core::Entry;
+
+impl<const W: usize> ZoneTables<W> {
+    /// Whether the journal has room for a call.
+    pub fn has_room(&self) -> bool
+        ensures { result ≡ has_room self.now }
+    {
+        u64::from(self.moves.out()) < self.history.room()
+    }
+
+    /// Whether the journal has room for an isolation and for its end.
+    pub fn has_room_for_two(&self) -> bool
+        ensures { result ≡ has_room_for_two self.now }
+    {
+        u64::from(self.moves.out()) + 1 < self.history.room()
+    }
+
+    /// Whether a serial is left for an isolation.
+    pub fn has_serial(&self) -> bool
+        ensures { result ≡ has_serial self.now }
+    {
+        self.moves.isolated() < u32::MAX
+    }
+
+    /// The frame of the page that an address names. An address that names no page is refused as Unmapped, and one whose
+    /// page is moving as Moving.
+    pub fn frame_of(&self, address: &Address) -> Result<FrameNo, ZoneError>
+        ensures refused { result_err result ≡ placement_refusal (placement_at self.now address.now) }
+        ensures frame { IfOk result (λ frame. placement_at self.now address.now ≡ Some (At frame)) }
+        ensures named { IfOk result (λ frame. IsSome (page_at self.now.records address.now)) }
+    {
+        match self.tables.entry(*address) {
+            Entry::Absent => Err(ZoneError::Unmapped),
+            Entry::Present(frame) => Ok(frame),
+            Entry::Migration { .. } => Err(ZoneError::Moving),
+        }
+    }
+
+    /// Reads a word of the page that an address names.
+    pub fn read(
+        &mut self,
+        client: ClientNo,
+        address: Address,
+        frame: FrameNo,
+        word: WordOf<W>,
+    ) -> u64
+        requires room { IsTrue (has_room self.old) }
+        requires frame { placement_at self.old address ≡ Some (At frame) }
+        ensures value { result ≡ value_at self.old address word.entry }
+        ensures step { self.new ≡ loaded self.old client address word.entry }
+        ensures lawful { IsValidZone self.new }
+    {
+        let value = self.words.load(frame, word);
+        self.history.note(Record::Load {
+            client,
+            address,
+            word: word.noted(),
+            value,
+        });
+        value
+    }
+
+    /// Writes a word of the page that an address names.
+    pub fn write(
+        &mut self,
+        client: ClientNo,
+        address: Address,
+        frame: FrameNo,
+        word: WordOf<W>,
+        value: u64,
+    )
+        requires room { IsTrue (has_room self.old) }
+        requires frame { placement_at self.old address ≡ Some (At frame) }
+        ensures step { self.new ≡ stored self.old client address word.entry value }
+        ensures lawful { IsValidZone self.new }
+    {
+        let Some(page) = self.holder(frame) else {
+            unreachable!();
+        };
+        self.words.store(frame, word, value);
+        let note = self.notes.get(page);
+        self.notes.revise(page, note.stored());
+        self.history.note(Record::Store {
+            client,
+            address,
+            word: word.noted(),
+            value,
+        });
+    }
+}

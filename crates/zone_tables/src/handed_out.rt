@@ -1,0 +1,92 @@
+//! The blocks that are handed out.
+
+ghost use Rattle.std.specs.Prelude.{◌≡◌, ℕ, ◌+◌, ◌^◌, ◌≤◌, false, length, replicate, slice_set, is_some, Some, None, IsTrue, IfOk};
+ghost use Rattle.frame_core.specs.Below.{count_below};
+ghost use Rattle.zone_tables.specs.HandedOut.{order_of, held_at};
+ghost use Rattle.state_core.specs.ZoneState.{covers};
+
+use frame_core::{FixedVec, FrameNo, Order};
+use std::alloc::{AllocError, Global};
+use std::marker::Model;
+
+/// The order of each block that is handed out, by its first frame.
+#[derive(Drop)]
+pub struct HandedOut {
+    orders: FixedVec<Option<Order>>,
+    blocks: u32,
+    frames: u32,
+}
+
+impl Model for HandedOut {
+    ghost use Rattle.std.specs.Prelude.{ℕ, List, Option};
+
+    ghost Value = { List (Option ℕ) };
+
+    ghost view = { λ z. z.orders.items };
+
+    ghost use Rattle.zone_tables.specs.HandedOutInside.{IsCounted};
+
+    ghost invariant = { IsCounted };
+}
+
+impl HandedOut {
+    /// A list for this many frames in which no block is handed out, or an error where there is no memory for it. No
+    /// other call takes memory.
+    pub fn open(alloc: Global, frames: u32) -> Result<Self, AllocError>
+        requires { frames ≤ 4096 }
+        ensures { IfOk result (λ orders. orders ≡ replicate frames None) }
+    {
+        let orders = FixedVec::filled(alloc, None, frames as usize)?;
+        Ok(HandedOut {
+            orders,
+            blocks: 0,
+            frames: 0,
+        })
+    }
+
+    /// How many blocks are handed out.
+    pub fn blocks(&self) -> u32
+        ensures { result ≡ count_below (λ first. is_some (order_of self.now first)) (length self.now) }
+    {
+        self.blocks
+    }
+
+    /// How many frames the blocks have that are handed out.
+    pub fn frames(&self) -> u32
+        ensures { result ≡ count_below (held_at self.now) (length self.now) }
+    {
+        self.frames
+    }
+
+    /// The order of the block that is handed out from this first frame on, if there is one.
+    pub fn order(&self, first: FrameNo) -> Option<Order>
+        ensures { result ≡ order_of self.now first }
+    {
+        *self.orders.get(first.get() as usize)?
+    }
+
+    /// Notes that a block is handed out.
+    pub fn take(&mut self, first: FrameNo, order: Order)
+        requires within { first + 2 ^ order ≤ length self.old }
+        requires clear { (frame : ℕ) → IsTrue (covers (Some order) first frame) → held_at self.old frame ≡ false }
+        ensures set { self.new ≡ slice_set self.old first (Some order) }
+        ensures low { 3 ≤ order }
+        ensures high { order ≤ 9 }
+    {
+        self.orders[first.get() as usize] = Some(order);
+        self.blocks += 1;
+        self.frames += order.frames();
+    }
+
+    /// Notes that a block was taken back.
+    pub fn give(&mut self, first: FrameNo, order: Order)
+        requires here { order_of self.old first ≡ Some order }
+        requires within { first + 2 ^ order ≤ length self.old }
+        requires alone { (frame : ℕ) → IsTrue (covers (Some order) first frame) → held_at (slice_set self.old first None) frame ≡ false }
+        ensures { self.new ≡ slice_set self.old first None }
+    {
+        self.orders[first.get() as usize] = None;
+        self.blocks -= 1;
+        self.frames -= order.frames();
+    }
+}

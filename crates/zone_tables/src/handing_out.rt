@@ -1,0 +1,71 @@
+//! Handing blocks out, and taking them back.
+
+ghost use Rattle.std.specs.Prelude.{◌≡◌, IsTrue, IfSome};
+ghost use Rattle.std.specs.FinMap as map;
+ghost use Rattle.state_core.specs.HandingOut.{has_block, is_order, is_run, lowest_run, block_taken, block_given};
+ghost use Rattle.state_core.specs.Lawful.{IsValidZone};
+ghost use Rattle.state_core.specs.ZoneState.{has_room};
+
+use crate::zone::ZoneTables;
+use frame_core::{FrameNo, Order};
+use journal_core::Record;
+
+impl<const W: usize> ZoneTables<W> {
+    /// Whether a block of this order may begin at a frame: it is aligned, and all of it is in the zone.
+    pub fn has_block(&self, first: FrameNo, order: Order) -> bool
+        ensures { result ≡ has_block self.now order first }
+    {
+        let frames = order.frames();
+        let first = first.get();
+        first / frames * frames == first && first + frames <= 512 * self.blocks
+    }
+
+    /// Whether a block of this order is handed out from this first frame on.
+    pub fn is_handed_out(&self, first: FrameNo, order: Order) -> bool
+        ensures { result ≡ is_order (map.get self.now.handed_out first) order }
+    {
+        match self.handed_out.order(first) {
+            Some(held) => held == order,
+            None => false,
+        }
+    }
+
+    /// The first frame of the lowest free block of an order, if there is one.
+    pub fn find_run(&self, order: Order) -> Option<FrameNo>
+        ensures lowest { result ≡ lowest_run self.now order }
+        ensures run { IfSome result (λ first. IsTrue (is_run self.now order first)) }
+    {
+        self.frames.first_run(order)
+    }
+
+    /// Hands out a free block.
+    pub fn hand_out(&mut self, first: FrameNo, order: Order)
+        requires room { IsTrue (has_room self.old) }
+        requires run { IsTrue (is_run self.old order first) }
+        ensures step { self.new ≡ block_taken self.old first order }
+        ensures lawful { IsValidZone self.new }
+    {
+        self.frames.hold(first, order);
+        self.handed_out.take(first, order);
+        self.cleared.hand_out(first);
+        self.history.note(Record::TakeHuge {
+            frame: first,
+            order,
+        });
+    }
+
+    /// Takes back a block that was handed out.
+    pub fn take_back(&mut self, first: FrameNo, order: Order)
+        requires room { IsTrue (has_room self.old) }
+        requires held { IsTrue (is_order (map.get self.old.handed_out first) order) }
+        ensures step { self.new ≡ block_given self.old first order }
+        ensures lawful { IsValidZone self.new }
+    {
+        self.frames.release(first, order);
+        self.handed_out.give(first, order);
+        self.history.note(Record::GiveHuge {
+            frame: first,
+            order,
+        });
+    }
+}

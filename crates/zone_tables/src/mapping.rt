@@ -1,0 +1,82 @@
+//! Making an address name a fresh page.
+
+ghost use Rattle.std.specs.Prelude.{◌≡◌, ◌<◌, nat_lt, Some, None, IsTrue, IsSome, IfSome, is_some};
+ghost use Rattle.journal_core.specs.History.{page_at};
+ghost use Rattle.state_core.specs.Lawful.{IsValidZone};
+ghost use Rattle.state_core.specs.Mapping.{mapped};
+ghost use Rattle.state_core.specs.ZoneState.{frame_count, has_room, is_free, lowest_free_frame, lowest_unused_page};
+
+use crate::note::PageNote;
+use crate::zone::ZoneTables;
+use frame_core::{Address, ClientNo, FrameNo, PageNo};
+use journal_core::Record;
+use table_core::Entry;
+
+impl<const W: usize> ZoneTables<W> {
+    /// Whether an address names a page.
+    pub fn names_page(&self, address: &Address) -> bool
+        ensures { result ≡ is_some (page_at self.now.records address.now) }
+    {
+        match self.tables.entry(*address) {
+            Entry::Absent => false,
+            _ => true,
+        }
+    }
+
+    /// Whether the zone has a frame.
+    pub fn has_frame(&self, frame: FrameNo) -> bool
+        ensures { result ≡ nat_lt frame (frame_count self.now) }
+    {
+        frame.get() < 512 * self.blocks
+    }
+
+    /// Whether a frame of the zone is free.
+    pub fn is_free(&self, frame: FrameNo) -> bool
+        requires { frame < frame_count self.now }
+        ensures { result ≡ is_free self.now frame }
+    {
+        self.frames.is_free(frame)
+    }
+
+    /// The lowest free frame, if there is one.
+    pub fn find_free(&self) -> Option<FrameNo>
+        ensures lowest { result ≡ lowest_free_frame self.now }
+        ensures free { IfSome result (λ frame. IsTrue (is_free self.now frame)) }
+        ensures within { IfSome result (λ frame. frame < frame_count self.now) }
+    {
+        self.frames.lowest_free()
+    }
+
+    /// The lowest page number that isn't in use. There is one wherever a frame is free.
+    fn unused_page(&self) -> PageNo
+        requires { IsSome (lowest_free_frame self.now) }
+        ensures { lowest_unused_page self.now ≡ Some result }
+    {
+        let Some(page) = self.notes.lowest_unused() else {
+            unreachable!();
+        };
+        page
+    }
+
+    /// Makes an address name a fresh page in a free frame.
+    pub fn place(&mut self, client: ClientNo, address: Address, unmovable: bool, frame: FrameNo)
+        requires room { IsTrue (has_room self.old) }
+        requires vacant { page_at self.old.records address ≡ None }
+        requires free { IsTrue (is_free self.old frame) }
+        requires within { frame < frame_count self.old }
+        ensures step { self.new ≡ mapped self.old client address unmovable frame }
+        ensures lawful { IsValidZone self.new }
+    {
+        let named = address;
+        let page = self.unused_page();
+        self.frames.fill(frame, page, !unmovable);
+        self.tables.set(named, frame);
+        self.words.blank(frame);
+        self.notes.put(page, PageNote::fresh(frame, unmovable));
+        self.history.note(Record::Map {
+            client,
+            address,
+            page,
+        });
+    }
+}

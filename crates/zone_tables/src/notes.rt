@@ -1,0 +1,129 @@
+//! What a zone notes of its pages.
+
+ghost use Rattle.std.specs.Prelude.{◌≡◌, ℕ, ◌<◌, ◌≤◌, true, nat_lt, length, replicate, slice_get, slice_set, is_none, Some, IsSome, IfOk};
+ghost use Rattle.std.specs.FinSet as set;
+ghost use Rattle.frame_core.specs.Below.{count_below, lowest};
+ghost use Rattle.zone_tables.specs.Notes.{placement_of, is_in_use, unused_note};
+ghost use Rattle.zone_tables.specs.declared.note.PageNote.{PageNote as Noted};
+
+use crate::note::PageNote;
+use frame_core::{FixedVec, PageNo};
+use scan_core::NumberSet;
+use state_core::Placement;
+use std::alloc::{AllocError, Global};
+use std::marker::Model;
+
+/// The notes of a zone, by page number.
+#[derive(Drop)]
+pub struct Notes {
+    notes: FixedVec<PageNote>,
+    /// How many page numbers are in use.
+    in_use: u32,
+    /// The page numbers that aren't in use.
+    unused: NumberSet,
+}
+
+impl Model for Notes {
+    ghost use Rattle.std.specs.Prelude.{List};
+    ghost use Rattle.zone_tables.specs.declared.note.PageNote.{PageNote as Noted};
+
+    ghost Value = { List Noted };
+
+    ghost view = { λ z. z.notes.items };
+
+    ghost use Rattle.zone_tables.specs.NotesInside.{IsCounted};
+
+    ghost invariant = { IsCounted };
+}
+
+impl Notes {
+    /// The notes of this many numbers, none of which is in use, or an error where there is no memory for them. No other call takes memory.
+    pub fn open(alloc: Global, count: u32) -> Result<Self, AllocError>
+        requires { count ≤ 4096 }
+        ensures { IfOk result (λ notes. notes ≡ replicate count unused_note) }
+    {
+        let notes = FixedVec::filled(alloc, PageNote::unused(), count as usize)?;
+        Ok(Notes {
+            notes,
+            in_use: 0,
+            unused: numbers_below(count),
+        })
+    }
+
+    /// The note of a page number.
+    pub fn get(&self, page: PageNo) -> PageNote
+        requires { page < length self.now }
+        ensures { slice_get self.now page ≡ Some result }
+    {
+        self.notes[page.get() as usize]
+    }
+
+    /// Where a page is, if its number is one of the zone's and is in use.
+    pub fn placement(&self, page: PageNo) -> Option<Placement>
+        ensures { result ≡ placement_of self.now page }
+    {
+        self.notes.get(page.get() as usize)?.placement
+    }
+
+    /// How many page numbers are in use.
+    pub fn in_use(&self) -> u32
+        ensures { result ≡ count_below (is_in_use self.now) (length self.now) }
+    {
+        self.in_use
+    }
+
+    /// Replaces the note of a page number.
+    pub fn put(&mut self, page: PageNo, note: PageNote)
+        requires { page < length self.old }
+        ensures { self.new ≡ slice_set self.old page note }
+    {
+        let index = page.get() as usize;
+        let was = self.notes[index].placement.is_some();
+        let is = note.placement.is_some();
+        self.notes[index] = note;
+        self.unused.put(page.get(), !is);
+        if was {
+            if !is {
+                self.in_use -= 1;
+            }
+        } else if is {
+            self.in_use += 1;
+        }
+    }
+
+    /// Replaces the note of a page that is in use and stays so.
+    pub fn revise(&mut self, page: PageNo, note: PageNote)
+        requires used { is_in_use self.old page ≡ true }
+        requires stays { IsSome note.placement }
+        ensures { self.new ≡ slice_set self.old page note }
+    {
+        self.notes[page.get() as usize] = note;
+    }
+
+    /// Gives a page in use another place.
+    pub fn place(&mut self, page: PageNo, placement: Placement)
+        requires { is_in_use self.old page ≡ true }
+        ensures { (note : Noted) → slice_get self.old page ≡ Some note → self.new ≡ slice_set self.old page (record note { placement = Some placement }) }
+    {
+        self.notes[page.get() as usize].placement = Some(placement);
+    }
+
+    /// The lowest page number that isn't in use, if there is one.
+    pub fn lowest_unused(&self) -> Option<PageNo>
+        ensures { result ≡ lowest (λ page. is_none (placement_of self.now page)) (length self.now) }
+    {
+        PageNo::new(self.unused.lowest()?)
+    }
+}
+
+/// The set of the numbers below a count.
+fn numbers_below(count: u32) -> NumberSet
+    requires { count ≤ 4096 }
+    ensures { (number : ℕ) → set.contains result number ≡ nat_lt number count }
+{
+    let mut numbers = NumberSet::new();
+    for number in 0..count {
+        numbers.insert(number);
+    }
+    numbers
+}

@@ -1,0 +1,62 @@
+//! Pinning pages, moving ones too.
+
+ghost use Rattle.std.specs.Prelude.{◌≡◌, ◌<◌, ℕ, true, nat_eq, not, ◌&&◌, Some, IsSome, IsTrue};
+ghost use Rattle.scan_core.specs.Frames.{holds_at};
+ghost use Rattle.journal_core.specs.History.{page_at};
+ghost use Rattle.state_core.specs.Lawful.{IsValidZone};
+ghost use Rattle.state_core.specs.Pinning.{pins_at, pinned, unpinned};
+ghost use Rattle.state_core.specs.ZoneState.{has_room};
+ghost use Rattle.state_core.specs.declared.placement.Placement.TheVariants.{At};
+ghost use Rattle.zone_tables.specs.Notes.{movable_by};
+
+use crate::note::PageNote;
+use crate::zone::ZoneTables;
+use frame_core::{Address, ClientNo};
+use journal_core::Record;
+use scan_core::Frames;
+use state_core::Placement;
+
+impl<const W: usize> ZoneTables<W> {
+    /// Pins the page that an address names.
+    pub fn pin(&mut self, client: ClientNo, address: Address)
+        requires room { IsTrue (has_room self.old) }
+        requires named { IsSome (page_at self.old.records address) }
+        requires few { pins_at self.old address < 255 }
+        ensures step { self.new ≡ pinned self.old client address }
+        ensures lawful { IsValidZone self.new }
+    {
+        let named = address;
+        let page = self.page_at(&named);
+        let note = self.notes.get(page).with_pin();
+        say_movable(&mut self.frames, &note);
+        self.notes.revise(page, note);
+        self.history.note(Record::Pin { client, address });
+    }
+
+    /// Takes a pin off the page that an address names.
+    pub fn unpin(&mut self, client: ClientNo, address: Address)
+        requires room { IsTrue (has_room self.old) }
+        requires named { IsSome (page_at self.old.records address) }
+        requires some { 0 < pins_at self.old address }
+        ensures step { self.new ≡ unpinned self.old client address }
+        ensures lawful { IsValidZone self.new }
+    {
+        let named = address;
+        let page = self.page_at(&named);
+        let note = self.notes.get(page).without_pin();
+        say_movable(&mut self.frames, &note);
+        self.notes.revise(page, note);
+        self.history.note(Record::Unpin { client, address });
+    }
+}
+
+/// Notes in the frame of a page whether the page may be taken from it. A moving page has no such note.
+#[inline(always)]
+fn say_movable(frames: &mut Frames, note: &PageNote)
+    requires { (frame : ℕ) → note.now.placement ≡ Some (At frame) → holds_at frames.old.states frame ≡ true }
+    ensures { frames.new ≡ record frames.old { movable = movable_by frames.old.movable note.now } }
+{
+    if let Some(Placement::At(frame)) = note.placement {
+        frames.set_movable(frame, note.can_move());
+    }
+}

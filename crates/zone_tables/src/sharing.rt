@@ -1,0 +1,35 @@
+//! A second address for a page.
+
+ghost use Rattle.std.specs.Prelude.{◌≡◌, ◌<◌, None, Some, IsTrue};
+ghost use Rattle.journal_core.specs.History.{page_at};
+ghost use Rattle.state_core.specs.Lawful.{IsValidZone};
+ghost use Rattle.state_core.specs.Sharing.{maps_at, shared};
+ghost use Rattle.state_core.specs.ZoneState.{has_room, placement_at};
+ghost use Rattle.state_core.specs.declared.placement.Placement.TheVariants.{At};
+
+use crate::zone::ZoneTables;
+use frame_core::{Address, ClientNo, FrameNo};
+use journal_core::Record;
+
+impl<const W: usize> ZoneTables<W> {
+    /// Makes an alias name the page of an address too.
+    pub fn share(&mut self, client: ClientNo, address: Address, alias: Address, frame: FrameNo)
+        requires room { IsTrue (has_room self.old) }
+        requires frame { placement_at self.old address ≡ Some (At frame) }
+        requires vacant { page_at self.old.records alias ≡ None }
+        requires few { maps_at self.old address < 4 }
+        ensures step { self.new ≡ shared self.old client address alias }
+        ensures lawful { IsValidZone self.new }
+    {
+        let (named, second) = (address, alias);
+        let page = self.page_at(&named);
+        self.tables.set(second, frame);
+        let note = self.notes.get(page);
+        self.notes.revise(page, note.with_address());
+        self.history.note(Record::Share {
+            client,
+            address,
+            alias,
+        });
+    }
+}

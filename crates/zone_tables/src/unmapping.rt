@@ -1,0 +1,65 @@
+//! Taking an address from a page. With its last address the page goes out of use.
+
+ghost use Rattle.std.specs.Prelude.{◌≡◌, ◌≢◌, ℕ, Some, IsTrue};
+ghost use Rattle.std.specs.FinMap as map;
+ghost use Rattle.journal_core.specs.History.{page_at, maps};
+ghost use Rattle.journal_core.specs.declared.record.Record.TheVariants.{Unmap};
+ghost use Rattle.state_core.specs.Lawful.{IsValidZone};
+ghost use Rattle.state_core.specs.Unmapping.{unmapped, without_page};
+ghost use Rattle.state_core.specs.ZoneState.{has_room, placement_at, noted};
+ghost use Rattle.state_core.specs.declared.placement.Placement.TheVariants.{At};
+
+use crate::note::PageNote;
+use crate::zone::ZoneTables;
+use frame_core::{Address, ClientNo, FrameNo, PageNo};
+use journal_core::Record;
+
+impl<const W: usize> ZoneTables<W> {
+    /// Makes an address name no page any more. A page that has no address left isn't in use.
+    pub fn unmap(&mut self, client: ClientNo, address: Address, frame: FrameNo)
+        requires room { IsTrue (has_room self.old) }
+        requires frame { placement_at self.old address ≡ Some (At frame) }
+        ensures step { self.new ≡ unmapped self.old client address }
+        ensures lawful { IsValidZone self.new }
+    {
+        let named = address;
+        let page = self.page_at(&named);
+        if self.notes.get(page).maps == 1 {
+            self.unmap_last(client, address, page, frame);
+        } else {
+            self.unmap_one(client, address, page);
+        }
+    }
+
+    /// Takes one of its addresses from a page that has others.
+    fn unmap_one(&mut self, client: ClientNo, address: Address, page: PageNo)
+        requires room { IsTrue (has_room self.old) }
+        requires named { page_at self.old.records address ≡ Some page }
+        requires here { (frame : ℕ) × (map.get self.old.placement page ≡ Some (At frame)) }
+        requires more { maps self.old.records page ≢ 1 }
+        ensures step { self.new ≡ noted self.old (Unmap client address) }
+        ensures lawful { IsValidZone self.new }
+    {
+        let named = address;
+        self.tables.clear(named);
+        let note = self.notes.get(page);
+        self.notes.revise(page, note.without_address());
+        self.history.note(Record::Unmap { client, address });
+    }
+
+    /// Takes its last address from a page: its frame is free, and its number isn't in use.
+    fn unmap_last(&mut self, client: ClientNo, address: Address, page: PageNo, frame: FrameNo)
+        requires room { IsTrue (has_room self.old) }
+        requires named { page_at self.old.records address ≡ Some page }
+        requires here { map.get self.old.placement page ≡ Some (At frame) }
+        requires last { maps self.old.records page ≡ 1 }
+        ensures step { self.new ≡ without_page (noted self.old (Unmap client address)) page }
+        ensures lawful { IsValidZone self.new }
+    {
+        let named = address;
+        self.tables.clear(named);
+        self.frames.empty(frame);
+        self.notes.put(page, PageNote::unused());
+        self.history.note(Record::Unmap { client, address });
+    }
+}
