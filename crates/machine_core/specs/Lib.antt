@@ -1,4 +1,5 @@
 pub mod Ends
 pub mod Machine
-pub mod Replies
 pub mod OneThread
+pub mod Refusals
+pub mod Replies

@@ -6,8 +6,10 @@
 
 mod machine;
 mod options;
+mod refusal;
 mod script;
 
 pub use machine::{Machine, reply_for};
 pub use options::Options;
+pub use refusal::Refusal;
 pub use script::{run, run_text};

@@ -8,6 +8,7 @@ ghost use Rattle.zone_core.specs.Books.{AreFor};
 ghost use Rattle.world_core.specs.ErrorNumber.{world_number_of};
 ghost use Rattle.state_core.specs.ErrorNumber.{number_of};
 
+use crate::refusal::Refusal;
 use arrayvec::ArrayVec;
 use frame_core::{Address, BlockNo, ClientNo, PageFlags, Serial, SpaceNo, VPage, ZoneNo};
 use play_core::{Answers, Block, Respond};
@@ -92,7 +93,7 @@ impl<I: Ledger, N: Ledger, M: Ledger, B: Ledger> Machine<I, N, M, B> {
         ensures memory { OnErr result (Opens self.old command) }
     {
         match command {
-            Command::OutOfRange => *reply = Reply::Refused(1),
+            Command::OutOfRange => *reply = Refusal::OutOfRange.reply(),
             Command::Profile2 => *reply = Reply::Done,
             Command::Open { zone, blocks } => *reply = self.open(zone, blocks)?,
             Command::On { zone, calls } => self.call(zone, calls, reply),
@@ -116,7 +117,7 @@ impl<I: Ledger, N: Ledger, M: Ledger, B: Ledger> Machine<I, N, M, B> {
         ensures memory { OnErr result (self.old.world ≡ None) }
     {
         if self.world.is_some() {
-            return Ok(Reply::Refused(44));
+            return Ok(Refusal::AlreadyOpen.reply());
         }
         let Some(Opening { alloc, blanks }) = self.opening.take() else {
             return Err(AllocError);
@@ -134,9 +135,14 @@ impl<I: Ledger, N: Ledger, M: Ledger, B: Ledger> Machine<I, N, M, B> {
     {
         match &self.world {
             Some(world) if world.zone().number() == zone => {
-                Reply::Refused(if world.is_open() { 45 } else { 32 })
+                (if world.is_open() {
+                    Refusal::OpenRound
+                } else {
+                    Refusal::NoWorker
+                })
+                .reply()
             }
-            _ => Reply::Refused(43),
+            _ => Refusal::OtherZone.reply(),
         }
     }
 
@@ -147,7 +153,7 @@ impl<I: Ledger, N: Ledger, M: Ledger, B: Ledger> Machine<I, N, M, B> {
     {
         match zone_of(number) {
             Some(zone) => self.compact(zone),
-            None => Reply::Refused(1),
+            None => Refusal::OutOfRange.reply(),
         }
     }
 
@@ -158,7 +164,7 @@ impl<I: Ledger, N: Ledger, M: Ledger, B: Ledger> Machine<I, N, M, B> {
     {
         match &mut self.world {
             Some(world) if world.zone().number() == zone => answer_pool(world, count, blocks),
-            _ => Reply::Refused(43),
+            _ => Refusal::OtherZone.reply(),
         }
     }
 
@@ -201,7 +207,7 @@ impl<I: Ledger, N: Ledger, M: Ledger, B: Ledger> Machine<I, N, M, B> {
     {
         match &mut self.world {
             Some(world) if world.zone().number() == zone => answer_all(world, calls, reply),
-            _ => *reply = Reply::Refused(43),
+            _ => *reply = Refusal::OtherZone.reply(),
         }
     }
 }
@@ -215,7 +221,7 @@ fn answer_pool<I: Ledger, N: Ledger, M: Ledger, B: Ledger>(
     ensures { record { reply = result; world = world.new } ≡ pool_step world.old count blocks }
 {
     if world.is_open() {
-        Reply::Refused(45)
+        Refusal::OpenRound.reply()
     } else {
         reserve(world, count, blocks)
     }
@@ -258,7 +264,7 @@ fn stopped_by(error: ZoneError) -> PoolStopped
 {
     match error {
         ZoneError::JournalFull => PoolStopped::JournalFull,
-        _ => PoolStopped::Refused(32),
+        _ => PoolStopped::Refused(Refusal::NoWorker.number()),
     }
 }
 
@@ -312,7 +318,7 @@ fn answer_at<I: Ledger, N: Ledger, M: Ledger, B: Ledger>(
 {
     match address {
         Some(address) => repeat(world, repeated, address),
-        None => Reply::Refused(1),
+        None => Refusal::OutOfRange.reply(),
     }
 }
 

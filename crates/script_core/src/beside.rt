@@ -11,7 +11,7 @@ ghost use Rattle.script_core.specs.Clients.{AreClientAnswers, IsClientReply};
 
 use client_core::{Client, Telling, Untold};
 use halves_core::{Slip, Stub};
-use machine_core::{Options, reply_for};
+use machine_core::{Options, Refusal, reply_for};
 use play_core::{Answer, ClientLine};
 use round_core::{Keeping, KeptZone, NoGate, Round, RoundError, compact};
 use std::alloc::Global;
@@ -333,7 +333,7 @@ fn reply_to<K: Keeping, J: Telling, I: Ledger, M: Ledger, B: Ledger, R: Wait>(
     ensures { IsClientReply client.old call result client.new }
 {
     let Some(call) = call else {
-        return Reply::Refused(1);
+        return Refusal::OutOfRange.reply();
     };
     let made = call.get();
     match client.make(rt, shared, call) {

@@ -5,6 +5,7 @@ ghost use Rattle.round_core.specs.Rounds.{IsRefusedEarly, IsRound};
 ghost use Rattle.zone_core.specs.Books.{AreFor};
 ghost use Rattle.zone_core.specs.Seats.{audit_refusal};
 ghost use Rattle.zone_core.specs.ZoneIdentity.{HasIdentity};
+ghost use Rattle.machine_core.specs.Refusals.{number_of};
 ghost use Rattle.play_core.specs.Script.{command_in_block};
 ghost use Rattle.script_core.specs.WithThreads.{ComesToByHand, IsBlockFor, IsNothingRun, IsPoolOn, IsRoundBeside, IsRoundOn, IsSettledReply, IsStepBy, IsThreadedStep, IsTurnBeside, IsUnstarted, broken_refusal, broken_reply, is_threaded, left_by, pool_reply, round_reply, threaded_at_first, told_of};
 ghost use Rattle.script_laws.specs.ByHand.{pool_stopped_as, stopped_as};
@@ -16,7 +17,7 @@ use client_core::{Client, settle_clients};
 use frame_core::{ClientNo, Order, ZoneNo};
 use halves_core::{Slip, Stub};
 use huge_core::{Collector, Huge, Report, Stop as PoolStop, reserve_alone};
-use machine_core::{Machine, Options};
+use machine_core::{Machine, Options, Refusal};
 use play_core::{Answer, Answers, Block};
 use round_core::{NoGate, Round, RoundError, Stop, compact_alone};
 use std::alloc::{AllocError, Global};
@@ -149,7 +150,7 @@ impl<
         ensures memory { OnErr result (IsBlockFor (command_in_block block).command self.old.single.world) }
     {
         let Some(zone) = zone_of(block.zone()) else {
-            return Ok(block.answered(Reply::Refused(1)));
+            return Ok(block.answered(Refusal::OutOfRange.reply()));
         };
         let Some(world) = self.machine.take_closed(zone) else {
             let reply = self.machine.compact(zone);
@@ -200,7 +201,7 @@ impl<
             answers,
         };
         let Some((answers, own)) = self.run_turn(rt, alloc, world, turn, stub, slip) else {
-            let own = Answer::new(line, Reply::Refused(32));
+            let own = Answer::new(line, Refusal::NoWorker.reply());
             return Ok(Answers::new(Vec::new(alloc), own));
         };
         Ok(Answers::new(answers, Answer::new(line, own)))
@@ -456,11 +457,11 @@ pub(crate) fn broken_reply(number: ZoneNo, command: Command) -> Reply
     ensures { result ≡ broken_reply number command }
 {
     match command {
-        Command::OutOfRange => Reply::Refused(1),
+        Command::OutOfRange => Refusal::OutOfRange.reply(),
         Command::Profile2 => Reply::Done,
-        Command::Open { .. } => Reply::Refused(44),
+        Command::Open { .. } => Refusal::AlreadyOpen.reply(),
         Command::On { zone, .. } | Command::Compact { zone } | Command::Pool { zone, .. } => {
-            Reply::Refused(broken_refusal(number, zone))
+            broken_refusal(number, zone).reply()
         }
         Command::During { zone } => broken_reply_to_block(number, zone),
     }
@@ -471,14 +472,18 @@ pub(crate) fn broken_reply_to_block(number: ZoneNo, zone: u64) -> Reply
     ensures { result ≡ broken_reply number (Command.During zone) }
 {
     match zone_of(zone) {
-        Some(zone) => Reply::Refused(broken_refusal(number, zone)),
-        None => Reply::Refused(1),
+        Some(zone) => broken_refusal(number, zone).reply(),
+        None => Refusal::OutOfRange.reply(),
     }
 }
 
-/// The number of the refusal of a command on a zone, where the zone with the first number is broken.
-fn broken_refusal(number: ZoneNo, zone: ZoneNo) -> u16
-    ensures { result ≡ broken_refusal number zone }
+/// Why a command on a zone is refused, where the zone with the first number is broken.
+fn broken_refusal(number: ZoneNo, zone: ZoneNo) -> Refusal
+    ensures { number_of result ≡ broken_refusal number zone }
 {
-    if zone == number { 33 } else { 43 }
+    if zone == number {
+        Refusal::BrokenZone
+    } else {
+        Refusal::OtherZone
+    }
 }
