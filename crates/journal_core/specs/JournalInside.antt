@@ -1,11 +1,18 @@
 -- What is true of the fields of a journal.
-use Rattle.std.specs.Prelude.{◌≡◌, ◌+◌, ◌<◌, ◌≤◌, length, reverse, take}
+use Rattle.std.specs.Prelude.{◌≡◌, ◌+◌, ◌≤◌, ℕ, List, length, reverse, slice_get}
 use Rattle.journal_core.specs.Journal.{told_places}
 use Rattle.journal_core.specs.declared.journal.Journal.TheInside.{Inside}
+use Rattle.journal_core.specs.declared.journal.Kept.{Kept}
+use Rattle.journal_core.specs.declared.journal.Kept.TheVariants.{All, Newest}
+use Rattle.journal_core.specs.declared.record.Record.{Record}
 
--- the records are counted, and there are places for them; up to 65,536 places, each is kept, and else the newest is
+-- what is in memory of these records, in a journal with this many places: all of them up to 65,536 places, and else the newest
+abbrev pub HasKept : List Record → ℕ → Kept → Type 0
+HasKept records places (All kept) = (reverse kept.items ≡ records) × (length kept.items + kept.room ≡ places) × (places ≤ 65536)
+HasKept records places (Newest newest) = (newest ≡ slice_get records 0) × (places ≡ told_places)
+
+-- the records are counted, there are places for them, and they are kept
 pub record IsInOrder (j : Inside) : Type 0 where
   pub counted : j.count ≡ length j.told
   pub within : j.count ≤ j.places
-  pub all : j.places ≤ 65536 → (reverse j.kept.items ≡ j.told) × (length j.kept.items + j.kept.room ≡ j.places)
-  pub newest : 65536 < j.places → (j.kept.items ≡ take 1 j.told) × (length j.kept.items + j.kept.room ≡ 1) × (j.places ≡ told_places)
+  pub kept : HasKept j.told j.places j.kept

@@ -9,9 +9,6 @@ use std::alloc::{AllocError, Global};
 use std::marker::Model;
 use told_core::Told;
 
-/// The most places of a journal that is kept.
-const MOST_KEPT: u64 = 65_536;
-
 /// Records in the order in which they were appended.
 ///
 /// A journal is opened in one of two kinds. One that is kept has memory for all its records, which is taken once, when it is opened.
@@ -20,10 +17,18 @@ const MOST_KEPT: u64 = 65_536;
 #[derive(Drop)]
 pub struct Journal {
     told: Told<Record>,
-    /// All records, or the newest alone where there are more places than `MOST_KEPT`.
-    kept: FixedVec<Record>,
+    kept: Kept,
     count: u64,
     places: u64,
+}
+
+/// What a journal has of its records in memory.
+#[derive(Drop)]
+enum Kept {
+    /// All of them, the oldest first.
+    All(FixedVec<Record>),
+    /// The newest alone, once there is one.
+    Newest(Option<Record>),
 }
 
 impl Model for Journal {
@@ -49,24 +54,22 @@ impl Journal {
         let kept = FixedVec::with_room(alloc, places as usize)?;
         Ok(Journal {
             told: Told::nothing(),
-            kept,
+            kept: Kept::All(kept),
             count: 0,
             places: u64::from(places),
         })
     }
 
-    /// An empty journal with room for 2^53 records, which are told, or an error where there is no memory for the newest of them. No
-    /// later call takes memory.
-    pub fn told(alloc: Global) -> Result<Journal, AllocError>
-        ensures { IfOk result (λ j. j ≡ record { records = []; room = told_places }) }
+    /// An empty journal with room for 2^53 records, which are told. Neither this nor a later call takes memory.
+    pub fn told() -> Journal
+        ensures { result ≡ record { records = []; room = told_places } }
     {
-        let kept = FixedVec::with_room(alloc, 1)?;
-        Ok(Journal {
+        Journal {
             told: Told::nothing(),
-            kept,
+            kept: Kept::Newest(None),
             count: 0,
             places: 1 << 53,
-        })
+        }
     }
 
     /// The number of records.
@@ -95,24 +98,20 @@ impl Journal {
         ensures records { IfSome result (λ records. records.now ≡ reverse self.now.records) }
         ensures some { IsSome result ↔ (length self.now.records + self.now.room ≤ 65536) }
     {
-        if self.is_told() {
-            return None;
+        match &self.kept {
+            Kept::All(records) => Some(records),
+            Kept::Newest(_) => None,
         }
-        Some(&self.kept)
     }
 
     /// The newest record, if there is one.
     pub fn last(&self) -> Option<&Record>
         ensures { option_copied result ≡ slice_get self.now.records 0 }
     {
-        self.kept.last()
-    }
-
-    /// Whether the journal keeps its newest record alone.
-    fn is_told(&self) -> bool
-        ensures { IsTrue result ↔ (65536 < length self.now.records + self.now.room) }
-    {
-        self.places > MOST_KEPT
+        match &self.kept {
+            Kept::All(records) => records.last(),
+            Kept::Newest(newest) => newest.as_ref(),
+        }
     }
 
     /// Appends a record, and takes no memory. There has to be a place left.
@@ -123,10 +122,9 @@ impl Journal {
     {
         self.told.push(&entry);
         self.count += 1;
-        if self.places > MOST_KEPT {
-            keep_newest(&mut self.kept, entry);
-        } else {
-            self.kept.push(entry);
+        match &mut self.kept {
+            Kept::All(records) => records.push(entry),
+            Kept::Newest(newest) => *newest = Some(entry),
         }
     }
 
@@ -138,8 +136,14 @@ impl Journal {
         ensures records { self.new.records ≡ with_each (access_record access.now) from values.now self.old.records }
         ensures room { self.new.room + length values.now ≡ self.old.room }
     {
-        if self.is_told() {
-            self.tell_each(access, from, values);
+        let Some((newest, others)) = values.split_last() else {
+            return;
+        };
+        if let Kept::Newest(kept) = &mut self.kept {
+            tell_all(&mut self.told, access, from, values);
+            self.count += values.len() as u64;
+            let word = from + others.len() as u16;
+            *kept = Some(access.record(word, *newest));
         } else {
             self.keep_each(access, from, values);
         }
@@ -155,36 +159,6 @@ impl Journal {
         for offset in 0..values.len() {
             self.push(access.record(from + offset as u16, values[offset]));
         }
-    }
-
-    /// Appends the records at once, where only the newest is kept.
-    fn tell_each(&mut self, access: &Access, from: u16, values: &[u64])
-        requires room { length values.now ≤ self.old.room }
-        requires words { from + length values.now ≤ 65536 }
-        requires told { 65536 < length self.old.records + self.old.room }
-        ensures records { self.new.records ≡ with_each (access_record access.now) from values.now self.old.records }
-        ensures room { self.new.room + length values.now ≡ self.old.room }
-    {
-        let Some((newest, others)) = values.split_last() else {
-            return;
-        };
-        tell_all(&mut self.told, access, from, values);
-        self.count += values.len() as u64;
-        let word = from + others.len() as u16;
-        keep_newest(&mut self.kept, access.record(word, *newest));
-    }
-}
-
-/// Puts the newest record in the place of the one before, in a list with one place.
-fn keep_newest(kept: &mut FixedVec<Record>, newest: Record)
-    requires { length kept.old.items + kept.old.room ≡ 1 }
-    ensures items { kept.new.items ≡ newest ∷ [] }
-    ensures room { kept.new.room ≡ 0 }
-{
-    if kept.is_empty() {
-        kept.push(newest);
-    } else {
-        kept[0] = newest;
     }
 }
 

@@ -42,13 +42,11 @@ impl History {
         Ok(Self::begun(journal))
     }
 
-    /// A history with no record and no round, whose journal is told, or an error where there is no memory for its newest record. No
-    /// other call takes memory.
-    pub fn told(alloc: Global) -> Result<Self, AllocError>
-        ensures { IfOk result (λ history. history ≡ record { records = []; room = told_places; round = None }) }
+    /// A history with no record and no round, whose journal is told. No call takes memory.
+    pub fn told() -> Self
+        ensures { result ≡ record { records = []; room = told_places; round = None } }
     {
-        let journal = Journal::told(alloc)?;
-        Ok(Self::begun(journal))
+        Self::begun(Journal::told())
     }
 
     /// A history with no round, whose records are those of a journal.

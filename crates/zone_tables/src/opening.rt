@@ -45,10 +45,7 @@ impl<const W: usize> ZoneTables<W> {
         ensures ok { IfOk result (λ zone. zone ≡ opened_told W number blocks) }
         ensures lawful { IfOk result (λ zone. IsValidZone zone) }
     {
-        let Ok(history) = History::told(alloc) else {
-            return Err(ZoneError::Memory);
-        };
-        Self::with_history(alloc, number, blocks, history)
+        Self::with_history(alloc, number, blocks, History::told())
     }
 
     /// An empty zone with a history that has no record yet, or the error Memory where there isn't enough memory for it.
