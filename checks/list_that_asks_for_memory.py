@@ -18,12 +18,13 @@ OWNERS = re.compile(r"\b(Vec|VecDeque|Box|String|Rc|Arc|HashMap|BTreeMap|HashSet
 FIELDS = re.compile(r"^(?:pub )?(?:struct|enum|union) .*?^}", re.DOTALL | re.MULTILINE)
 
 FILE = "crates/journal_core/src/journal.rt"
-PUSH = "            self.kept.push(entry);\n"
+PUSH = "            Kept::All(records) => records.push(entry),\n"
+PLANTED = "            Kept::All(records) => {{\n{asks}                records.push(entry);\n            }}\n"
 ASKS = {
-    "let _copy = self.kept.clone();": "the method `clone` exists for `FixedVec<Record>`, but its bounds are not met",
-    "let _more = self.kept.reserve(1);": "no method named `reserve` found for type `FixedVec<Record>`",
-    "let _from = self.kept.allocator();": "no method named `allocator` found for type `FixedVec<Record>`",
-    "let _list = &self.kept.list;": "field `list` of struct `FixedVec` is private",
+    "let _copy = records.clone();": "the method `clone` exists for `FixedVec<Record>`, but its bounds are not met",
+    "let _more = records.reserve(1);": "no method named `reserve` found for type `FixedVec<Record>`",
+    "let _from = records.allocator();": "no method named `allocator` found for type `FixedVec<Record>`",
+    "let _list = &records.list;": "field `list` of struct `FixedVec` is private",
 }
 
 
@@ -47,8 +48,9 @@ def refused(asks):
         source = folder / FILE
         text = source.read_text()
         if text.count(PUSH) != 1:
-            raise runs.Failed(f"{FILE} has no line to plant another before")
-        source.write_text(text.replace(PUSH, "".join(f"            {line}\n" for line in asks) + PUSH))
+            raise runs.Failed(f"{FILE} has no line to plant others before")
+        planted = PLANTED.format(asks="".join(f"                {line}\n" for line in asks))
+        source.write_text(text.replace(PUSH, planted))
         checked = runs.finished([runs.rt(), "check"], cwd=source.parent.parent)
     log = (checked.output + checked.error).decode(errors="replace")
     if checked.status == 0:
