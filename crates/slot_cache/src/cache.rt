@@ -6,7 +6,7 @@ ghost use Rattle.zone_core.specs.Books.{AreFor};
 
 use crate::clock::Clock;
 use crate::keys::{KEYS, address_of};
-use crate::object::{Object, object_of};
+use crate::object::{Object, length_of, object_of};
 use crate::trouble::Trouble;
 use bitflags::Flags;
 use frame_core::{ClientNo, PageFlags, WordNo, ZoneNo};
@@ -78,12 +78,13 @@ impl<I: Ledger, N: Ledger, M: Ledger, B: Ledger> Cache<I, N, M, B> {
         }
     }
 
-    /// Puts the object of a key in. Where there is no room, another one is evicted.
+    /// Puts the object of a key in, as many words as it has. Where there is no room, another one is evicted.
     fn put(&mut self, key: u32) -> Result<(), Trouble> {
         self.make_room(1)?;
         let (address, object) = (address_of(key)?, object_of(key));
         self.zone.map(self.client, address, PageFlags::empty())?;
-        self.zone.write(self.client, address, self.first, &object)?;
+        let words = &object[..length_of(key)];
+        self.zone.write(self.client, address, self.first, words)?;
         Ok(())
     }
 
