@@ -1,3 +1,3 @@
-pub mod ScannersMet
 pub mod Seated
+pub mod StaysBooked
 mod WordsAtOnce

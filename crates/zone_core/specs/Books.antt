@@ -28,14 +28,12 @@ pub record AreCut (isolated_parts moved_parts back_parts : ℕ) : Type 0 where
   pub moved : moved_parts ≡ 64
   pub back : back_parts ≡ 64
 
--- the total of the scanner's book is what a seat has in it that counted each isolated page; and where the last answer of that seat is that
--- the scanners met, they have met for as long as the round is quiet
-pub record IsScanned (total : ℕ) (v : ZoneState) : Type 0 where
+-- the totals of three books are those of the journal. The scanner's is what a seat has in it that counted each isolated page; and
+-- where the last answer of that seat is that the scanners met, they have met for as long as the round is quiet. The totals of the
+-- other two are the numbers of pages that were moved and put back
+pub record AreBooks (isolated_total moved_total back_total : ℕ) (v : ZoneState) : Type 0 where
   pub last : Option Answered
-  pub counted : total ≡ scan_amount (isolated_of v.records) last
+  pub counted : isolated_total ≡ scan_amount (isolated_of v.records) last
   pub met : last ≡ Some answered.Met → is_quiet v ≡ true → HaveMet v
-
--- the totals of the other two books are the numbers of pages that were moved and put back
-pub record AreBooks (moved_total back_total : ℕ) (v : ZoneState) : Type 0 where
   pub moved : moved_total ≡ moved_of v.records
   pub back : back_total ≡ put_back v.records

@@ -29,14 +29,7 @@ impl<const W: usize, I: Ledger, M: Ledger, B: Ledger> Zone<W, I, M, B> {
         ensures identity { HasIdentity self.old.number self.old.blocks self.new }
         ensures lawful { IsValidZone self.new }
     {
-        if !self.tables.has_room() {
-            return Err(ZoneError::JournalFull);
-        }
-        let Some(first) = self.tables.find_run(order) else {
-            return Err(ZoneError::NoBlock);
-        };
-        self.tables.hand_out(first, order);
-        Ok(first)
+        self.bare.take_order(order)
     }
 
     /// Takes back a block that was handed out, by its first frame and its order. All of its frames are free again.
@@ -50,17 +43,7 @@ impl<const W: usize, I: Ledger, M: Ledger, B: Ledger> Zone<W, I, M, B> {
         ensures identity { HasIdentity self.old.number self.old.blocks self.new }
         ensures lawful { IsValidZone self.new }
     {
-        if !self.tables.has_block(first, order) {
-            return Err(ZoneError::Range);
-        }
-        if !self.tables.has_room() {
-            return Err(ZoneError::JournalFull);
-        }
-        if !self.tables.is_handed_out(first, order) {
-            return Err(ZoneError::NotHuge);
-        }
-        self.tables.take_back(first, order);
-        Ok(())
+        self.bare.give_order(first, order)
     }
 
     /// Hands out the lowest pageblock whose 512 frames are all free, and answers its number.
@@ -104,17 +87,7 @@ impl<const W: usize, I: Ledger, M: Ledger, B: Ledger> Zone<W, I, M, B> {
         ensures identity { HasIdentity self.old.number self.old.blocks self.new }
         ensures lawful { IsValidZone self.new }
     {
-        if !self.tables.has_pageblock(block) {
-            return Err(ZoneError::Range);
-        }
-        if !self.tables.has_room() {
-            return Err(ZoneError::JournalFull);
-        }
-        if self.tables.is_marked(block) {
-            return Err(ZoneError::Marked);
-        }
-        self.tables.mark(block);
-        Ok(())
+        self.bare.mark(block)
     }
 
     /// Takes the mark of a pageblock off.
@@ -127,26 +100,13 @@ impl<const W: usize, I: Ledger, M: Ledger, B: Ledger> Zone<W, I, M, B> {
         ensures identity { HasIdentity self.old.number self.old.blocks self.new }
         ensures lawful { IsValidZone self.new }
     {
-        if !self.tables.has_pageblock(block) {
-            return Err(ZoneError::Range);
-        }
-        if !self.tables.has_room() {
-            return Err(ZoneError::JournalFull);
-        }
-        if !self.tables.is_marked(block) {
-            return Err(ZoneError::NotMarked);
-        }
-        self.tables.unmark(block);
-        Ok(())
+        self.bare.unmark(block)
     }
 
     /// Whether a pageblock is marked, or none where the zone has no such pageblock.
     pub fn marked(&self, block: BlockNo) -> Option<bool>
         ensures { result ≡ marked_of self.now block }
     {
-        if !self.tables.has_pageblock(block) {
-            return None;
-        }
-        Some(self.tables.is_marked(block))
+        self.bare.marked(block)
     }
 }

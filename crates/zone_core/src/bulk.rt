@@ -34,9 +34,7 @@ impl<const W: usize, I: Ledger, M: Ledger, B: Ledger> Zone<W, I, M, B> {
         ensures identity { HasIdentity self.old.number self.old.blocks self.new }
         ensures lawful { IsValidZone self.new }
     {
-        let frame = self.tables.bulk_frame(&address, from, values.len())?;
-        self.tables.read_words(client, address, frame, from, values);
-        Ok(())
+        self.bare.read(client, address, from, values)
     }
 
     /// Writes words of the page that an address names, from one on: as stores of these values do, one after the other.
@@ -58,9 +56,6 @@ impl<const W: usize, I: Ledger, M: Ledger, B: Ledger> Zone<W, I, M, B> {
         ensures identity { HasIdentity self.old.number self.old.blocks self.new }
         ensures lawful { IsValidZone self.new }
     {
-        let frame = self.tables.bulk_frame(&address, from, values.len())?;
-        self.tables
-            .write_words(client, address, frame, from, values);
-        Ok(())
+        self.bare.write(client, address, from, values)
     }
 }

@@ -41,9 +41,7 @@ impl<const W: usize, I: Ledger, M: Ledger, B: Ledger> Zone<W, I, M, B> {
         ensures identity { HasIdentity self.old.number self.old.blocks self.new }
         ensures lawful { IsValidZone self.new }
     {
-        self.can_reach(first, order, from, values.len())?;
-        self.tables.read_block(first, order, from, values);
-        Ok(())
+        self.bare.read_block(first, order, from, values)
     }
 
     /// Writes words of a block that is handed out, from one on. No page and no other block changes.
@@ -64,9 +62,7 @@ impl<const W: usize, I: Ledger, M: Ledger, B: Ledger> Zone<W, I, M, B> {
         ensures identity { HasIdentity self.old.number self.old.blocks self.new }
         ensures lawful { IsValidZone self.new }
     {
-        self.can_reach(first, order, from, values.len())?;
-        self.tables.write_block(first, order, from, values);
-        Ok(())
+        self.bare.write_block(first, order, from, values)
     }
 
     /// Lends all words of a block that is handed out to `change`, as one slice, and gives what it answers. The slice has the
@@ -87,28 +83,6 @@ impl<const W: usize, I: Ledger, M: Ledger, B: Ledger> Zone<W, I, M, B> {
         ensures identity { HasIdentity self.old.number self.old.blocks self.new }
         ensures lawful { IsValidZone self.new }
     {
-        self.can_reach(first, order, 0, 0)?;
-        Ok(self.tables.with_block(first, order, change))
-    }
-
-    // Whether this many words of a block, from one on, can be read or written.
-    fn can_reach(
-        &self,
-        first: FrameNo,
-        order: Order,
-        from: usize,
-        count: usize,
-    ) -> Result<(), ZoneError>
-        ensures refused { result_err result ≡ contents_refusal self.now first order from count }
-        ensures held { OnOk result (IsTrue (is_order (map.get self.now.handed_out first) order)) }
-        ensures within { OnOk result (from + count ≤ 2 ^ order * W) }
-    {
-        if !self.tables.is_handed_out(first, order) {
-            return Err(ZoneError::NotHuge);
-        }
-        if !self.tables.has_words_from(first, order, from, count) {
-            return Err(ZoneError::Range);
-        }
-        Ok(())
+        self.bare.with_block(first, order, change)
     }
 }

@@ -1,5 +1,8 @@
 //! A zone: its frames, the pages in them, the addresses that name these pages, and its journal.
 //!
+//! A `BareZone` is a zone without ledgers: its calls with their tests stand there once. A `Zone` is a bare zone with its ledgers. Those
+//! who scan and those who end moves count on them with their seats.
+//!
 //! Contracts see a zone as one record, the `ZoneState` of `state_core`: the state of a machine without frame tables, words or
 //! counters. The clauses of each call say when it is refused and which step that machine makes, by the definitions of that
 //! crate. Seats are seen as the records of `specs/Seats.antt`.
@@ -10,6 +13,7 @@
 //! mean here is this project's own profile.
 #![tactic(auto)]
 
+mod bare;
 mod blocks;
 mod bulk;
 mod contents;
@@ -19,6 +23,7 @@ mod sharing;
 mod tables;
 mod zone;
 
+pub use bare::BareZone;
 pub use seats::{Answered, Blanks, EndSeat, ScanSeat, Seats};
 pub use state_core::{
     Audit, ClientCall, ClientCallOf, Ended, Info, Look, Next, Placement, RoundStart, Stranger,

@@ -25,41 +25,6 @@ impl<const W: usize, I: Ledger, M: Ledger, B: Ledger> Zone<W, I, M, B> {
         ensures identity { HasIdentity self.old.number self.old.blocks self.new }
         ensures lawful { IsValidZone self.new }
     {
-        match call {
-            Call::Map { address, unmovable } => {
-                let flags = PageFlags::of(unmovable, false);
-                self.map(client, address, flags).map(ZoneAnswer::Frame)
-            }
-            Call::MapAt {
-                address,
-                unmovable,
-                frame,
-            } => {
-                let flags = PageFlags::of(unmovable, false);
-                done(self.map_at(client, address, flags, frame))
-            }
-            Call::Load { address, word } => self.load(client, address, word).map(ZoneAnswer::Value),
-            Call::Store {
-                address,
-                word,
-                value,
-            } => done(self.store(client, address, word, value)),
-            Call::Share { address, alias } => done(self.share(client, address, alias)),
-            Call::Unmap { address } => done(self.unmap(client, address)),
-            Call::Pin { address } => done(self.pin(client, address)),
-            Call::Unpin { address } => done(self.unpin(client, address)),
-            Call::TakeOrder { order } => self.take_order(order).map(ZoneAnswer::Frame),
-            Call::GiveOrder { first, order } => done(self.give_order(first, order)),
-            Call::Mark { block } => done(self.mark(block)),
-            Call::Unmark { block } => done(self.unmark(block)),
-        }
+        self.bare.make(client, call)
     }
-}
-
-/// What a call answers that has nothing to tell.
-fn done(made: Result<(), ZoneError>) -> Result<ZoneAnswer, ZoneError>
-    ensures refused { result_err result ≡ result_err made }
-    ensures answer { IfOk result (λ answer. answer ≡ ZoneAnswer.Done) }
-{
-    made.map(|()| ZoneAnswer::Done)
 }

@@ -29,18 +29,7 @@ impl<const W: usize, I: Ledger, M: Ledger, B: Ledger> Zone<W, I, M, B> {
         ensures identity { HasIdentity self.old.number self.old.blocks self.new }
         ensures lawful { IsValidZone self.new }
     {
-        if !self.tables.has_room() {
-            return Err(ZoneError::JournalFull);
-        }
-        let frame = self.tables.frame_of(&address)?;
-        if self.tables.names_page(&alias) {
-            return Err(ZoneError::Occupied);
-        }
-        if self.tables.uses_at(&address).maps >= 4 {
-            return Err(ZoneError::ShareFull);
-        }
-        self.tables.share(client, address, alias, frame);
-        Ok(())
+        self.bare.share(client, address, alias)
     }
 
     /// Makes an address name no page any more. A page that has no address left isn't in use: its number and its frame may be
@@ -54,16 +43,7 @@ impl<const W: usize, I: Ledger, M: Ledger, B: Ledger> Zone<W, I, M, B> {
         ensures identity { HasIdentity self.old.number self.old.blocks self.new }
         ensures lawful { IsValidZone self.new }
     {
-        if !self.tables.has_room() {
-            return Err(ZoneError::JournalFull);
-        }
-        let frame = self.tables.frame_of(&address)?;
-        let uses = self.tables.uses_at(&address);
-        if uses.maps == 1 && uses.pins != 0 {
-            return Err(ZoneError::Pinned);
-        }
-        self.tables.unmap(client, address, frame);
-        Ok(())
+        self.bare.unmap(client, address)
     }
 
     /// Pins the page that an address names, also while the page is moving. It isn't isolated or moved until each of its
@@ -77,17 +57,7 @@ impl<const W: usize, I: Ledger, M: Ledger, B: Ledger> Zone<W, I, M, B> {
         ensures identity { HasIdentity self.old.number self.old.blocks self.new }
         ensures lawful { IsValidZone self.new }
     {
-        if !self.tables.has_room() {
-            return Err(ZoneError::JournalFull);
-        }
-        if !self.tables.names_page(&address) {
-            return Err(ZoneError::Unmapped);
-        }
-        if self.tables.uses_at(&address).pins == 255 {
-            return Err(ZoneError::PinFull);
-        }
-        self.tables.pin(client, address);
-        Ok(())
+        self.bare.pin(client, address)
     }
 
     /// Takes a pin off the page that an address names, also while the page is moving.
@@ -100,16 +70,6 @@ impl<const W: usize, I: Ledger, M: Ledger, B: Ledger> Zone<W, I, M, B> {
         ensures identity { HasIdentity self.old.number self.old.blocks self.new }
         ensures lawful { IsValidZone self.new }
     {
-        if !self.tables.has_room() {
-            return Err(ZoneError::JournalFull);
-        }
-        if !self.tables.names_page(&address) {
-            return Err(ZoneError::Unmapped);
-        }
-        if self.tables.uses_at(&address).pins == 0 {
-            return Err(ZoneError::NotPinned);
-        }
-        self.tables.unpin(client, address);
-        Ok(())
+        self.bare.unpin(client, address)
     }
 }

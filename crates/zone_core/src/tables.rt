@@ -20,7 +20,7 @@ impl<const W: usize, I: Ledger, M: Ledger, B: Ledger> Zone<W, I, M, B> {
         ensures entries { EntriesFit result.now.entries self.now }
         ensures frames { result.now.frames ≡ frame_count self.now }
     {
-        self.tables.tables()
+        self.bare.tables()
     }
 
     /// The state of each frame, and whether the page that it holds may be taken from it.
@@ -28,7 +28,7 @@ impl<const W: usize, I: Ledger, M: Ledger, B: Ledger> Zone<W, I, M, B> {
         ensures states { FramesFit result.now.states self.now }
         ensures movable { MovableFit result.now.movable self.now }
     {
-        self.tables.frames()
+        self.bare.frames()
     }
 
     /// The words of each frame. The frame in which a page stands has the words of this page; while a page is moving, the one
@@ -40,6 +40,6 @@ impl<const W: usize, I: Ledger, M: Ledger, B: Ledger> Zone<W, I, M, B> {
         ensures last { (page : ℕ) (placement : Placement) (word : ℕ) → map.get self.now.placement page ≡ Some placement
             → word < self.now.page_size → word_of result.now (words_frame placement) word ≡ last self.now.records page word }
     {
-        self.tables.words()
+        self.bare.words()
     }
 }

@@ -21,6 +21,7 @@ ghost use Rattle.state_core.specs.Access.{access_refusal, value_at, loaded, stor
 ghost use Rattle.frame_core.specs.PageFlags.{is_unmovable};
 ghost use Rattle.state_core.specs.ZoneState.{frame_count, lowest_free_frame, noted, keeps_quiet, is_quiet};
 
+use crate::bare::BareZone;
 use crate::seats::{Answered, Blanks, EndSeat, ScanSeat};
 use bitflags::Flags;
 use frame_core::{Address, ClientNo, FrameNo, PageFlags, WordOf, ZoneNo};
@@ -30,10 +31,9 @@ use std::alloc::Global;
 use std::marker::Model;
 use std::sync::ledger::{Book, Ledger};
 use word_core::{CopiedOf, IsolatedOf};
-use zone_tables::ZoneTables;
 
-/// A zone of 1 to 8 pageblocks, whose pages have `W` words. Its type parameters name its opening: the ledgers of the pages
-/// that are isolated, moved and put back. After `open` no call takes memory.
+/// A zone of 1 to 8 pageblocks, whose pages have `W` words: a bare zone with its ledgers. Its type parameters name its opening: the
+/// ledgers of the pages that are isolated, moved and put back. After `open` no call takes memory.
 ///
 /// Each call says what it may be refused as, in the order of the tests. A refused call leaves the zone as it was. JournalFull
 /// means that the journal has no more places left than pages are moving, since the end of each move needs a place.
@@ -42,7 +42,7 @@ use zone_tables::ZoneTables;
 /// most. `open_told` keeps none of them: they exist for contracts alone, and there is room for 2^53.
 #[derive(Drop)]
 pub struct Zone<const W: usize, I: Ledger, M: Ledger, B: Ledger> {
-    pub(crate) tables: ZoneTables<W>,
+    pub(crate) bare: BareZone<W>,
     isolated: Book<I>,
     moved: Book<M>,
     back: Book<B>,
@@ -51,16 +51,16 @@ pub struct Zone<const W: usize, I: Ledger, M: Ledger, B: Ledger> {
 impl<const W: usize, I: Ledger, M: Ledger, B: Ledger> Model for Zone<W, I, M, B> {
     ghost use Rattle.state_core.specs.Lawful.{IsValidZone};
     ghost use Rattle.state_core.specs.ZoneState.{ZoneState};
-    ghost use Rattle.zone_core.specs.Books.{AreBooks, AreCut, IsScanned};
+    ghost use Rattle.zone_core.specs.Books.{AreBooks, AreCut};
     ghost use Rattle.state_core.specs.ZoneCode.{coded_zone};
 
     ghost Value = { ZoneState };
 
     ghost coded = { coded_zone };
 
-    ghost view = { λ z. z.tables };
+    ghost view = { λ z. z.bare };
 
-    ghost invariant = { λ z. AreBooks z.moved.total z.back.total z.tables × AreCut I.parts M.parts B.parts × IsValidZone z.tables × IsScanned z.isolated.total z.tables };
+    ghost invariant = { λ z. AreBooks z.isolated.total z.moved.total z.back.total z.bare × AreCut I.parts M.parts B.parts × IsValidZone z.bare };
 }
 
 impl<const W: usize, I: Ledger, M: Ledger, B: Ledger> Zone<W, I, M, B> {
@@ -84,11 +84,8 @@ impl<const W: usize, I: Ledger, M: Ledger, B: Ledger> Zone<W, I, M, B> {
         ensures ends { IfOk result (λ opening. opening.2 ≡ fresh_end_seat) }
         ensures lawful { IfOk result (λ opening. IsValidZone opening.0) }
     {
-        if blocks < 1 || blocks > 8 || places < 1 || places > 65536 {
-            return Err(ZoneError::Range);
-        }
-        let tables = ZoneTables::open(alloc, number, blocks, places)?;
-        Ok(Self::seated(tables, blanks))
+        let bare = BareZone::open(alloc, number, blocks, places)?;
+        Ok(Self::seated(bare, blanks))
     }
 
     /// An empty zone whose journal is told, as `open` gives one whose journal is kept. Contracts see each record, and no memory has
@@ -110,22 +107,19 @@ impl<const W: usize, I: Ledger, M: Ledger, B: Ledger> Zone<W, I, M, B> {
         ensures ends { IfOk result (λ opening. opening.2 ≡ fresh_end_seat) }
         ensures lawful { IfOk result (λ opening. IsValidZone opening.0) }
     {
-        if blocks < 1 || blocks > 8 {
-            return Err(ZoneError::Range);
-        }
-        let tables = ZoneTables::open_told(alloc, number, blocks)?;
-        Ok(Self::seated(tables, blanks))
+        let bare = BareZone::open_told(alloc, number, blocks)?;
+        Ok(Self::seated(bare, blanks))
     }
 
     /// The zone with its ledgers and seats.
     fn seated<N: Ledger>(
-        tables: ZoneTables<W>,
+        bare: BareZone<W>,
         blanks: Blanks,
     ) -> (Zone<W, I, M, B>, ScanSeat<I, N>, EndSeat<M, B>)
-        requires fresh { (number blocks places : ℕ) × (tables ≡ opened_with W number blocks places) }
-        requires lawful { IsValidZone tables }
+        requires fresh { (number blocks places : ℕ) × (bare ≡ opened_with W number blocks places) }
+        requires lawful { IsValidZone bare }
         requires blanks { AreFor blanks I.name I.parts N.name N.parts M.name M.parts B.name B.parts }
-        ensures zone { result.0 ≡ tables.entry }
+        ensures zone { result.0 ≡ bare.entry }
         ensures lawful { IsValidZone result.0 }
         ensures scan { result.1 ≡ fresh_scan_seat }
         ensures ends { result.2 ≡ fresh_end_seat }
@@ -140,7 +134,7 @@ impl<const W: usize, I: Ledger, M: Ledger, B: Ledger> Zone<W, I, M, B> {
         let (moved, moved_share) = moved.open::<M>();
         let (back, back_share) = back.open::<B>();
         let zone = Zone {
-            tables,
+            bare,
             isolated,
             moved,
             back,
@@ -168,18 +162,8 @@ impl<const W: usize, I: Ledger, M: Ledger, B: Ledger> Zone<W, I, M, B> {
         ensures identity { HasIdentity self.old.number self.old.blocks self.new }
         ensures lawful { IsValidZone self.new }
     {
-        if !self.tables.has_room() {
-            return Err(ZoneError::JournalFull);
-        }
-        if self.tables.names_page(&address) {
-            return Err(ZoneError::Occupied);
-        }
-        let Some(frame) = self.tables.find_free() else {
-            return Err(ZoneError::NoFrame);
-        };
         let unmovable = flags.contains(PageFlags::UNMOVABLE);
-        self.tables.place(client, address, unmovable, frame);
-        Ok(frame)
+        self.bare.map(client, address, unmovable)
     }
 
     /// Makes an address name a fresh page in a given frame, as `map` does in the lowest. The flags must not have DIRTY.
@@ -199,21 +183,8 @@ impl<const W: usize, I: Ledger, M: Ledger, B: Ledger> Zone<W, I, M, B> {
         ensures identity { HasIdentity self.old.number self.old.blocks self.new }
         ensures lawful { IsValidZone self.new }
     {
-        if !self.tables.has_frame(frame) {
-            return Err(ZoneError::Range);
-        }
-        if !self.tables.has_room() {
-            return Err(ZoneError::JournalFull);
-        }
-        if self.tables.names_page(&address) {
-            return Err(ZoneError::Occupied);
-        }
-        if !self.tables.is_free(frame) {
-            return Err(ZoneError::NoFrame);
-        }
         let unmovable = flags.contains(PageFlags::UNMOVABLE);
-        self.tables.place(client, address, unmovable, frame);
-        Ok(())
+        self.bare.map_at(client, address, unmovable, frame)
     }
 
     /// Reads a word of the page that an address names: the value that was stored there last, or 0.
@@ -234,11 +205,7 @@ impl<const W: usize, I: Ledger, M: Ledger, B: Ledger> Zone<W, I, M, B> {
         ensures identity { HasIdentity self.old.number self.old.blocks self.new }
         ensures lawful { IsValidZone self.new }
     {
-        if !self.tables.has_room() {
-            return Err(ZoneError::JournalFull);
-        }
-        let frame = self.tables.frame_of(&address)?;
-        Ok(self.tables.read(client, address, frame, word))
+        self.bare.load(client, address, word)
     }
 
     /// Writes a word of the page that an address names.
@@ -258,12 +225,7 @@ impl<const W: usize, I: Ledger, M: Ledger, B: Ledger> Zone<W, I, M, B> {
         ensures identity { HasIdentity self.old.number self.old.blocks self.new }
         ensures lawful { IsValidZone self.new }
     {
-        if !self.tables.has_room() {
-            return Err(ZoneError::JournalFull);
-        }
-        let held = self.tables.frame_of(&address)?;
-        self.tables.write(client, address, held, word, value);
-        Ok(())
+        self.bare.store(client, address, word, value)
     }
 
     /// Begins a round: the migrate finger is set to the bottom of the zone, and the free finger above its top. The seat
@@ -277,7 +239,7 @@ impl<const W: usize, I: Ledger, M: Ledger, B: Ledger> Zone<W, I, M, B> {
         ensures lawful { IsValidZone self.new }
     {
         seat.tell(&mut self.isolated);
-        self.tables.begin_round();
+        self.bare.begin_round();
         seat.begin(&mut self.isolated);
     }
 
@@ -317,17 +279,13 @@ impl<const W: usize, I: Ledger, M: Ledger, B: Ledger> Zone<W, I, M, B> {
         ensures lawful { IsValidZone self.new }
     {
         seat.tell(&mut self.isolated);
-        if !self.tables.has_room_for_two() || !self.tables.has_serial() {
-            seat.note(&mut self.isolated, Answered::JournalFull);
-            return Err(ZoneError::JournalFull);
+        let answer = self.bare.isolate_next();
+        match &answer {
+            Ok(Next::Page(_)) => seat.count(&mut self.isolated),
+            Ok(Next::Met) => seat.note(&mut self.isolated, Answered::Met),
+            Err(_) => seat.note(&mut self.isolated, Answered::JournalFull),
         }
-        let Some(pair) = self.tables.next_pair() else {
-            seat.note(&mut self.isolated, Answered::Met);
-            return Ok(Next::Met);
-        };
-        let page = self.tables.isolate(pair);
-        seat.count(&mut self.isolated);
-        Ok(Next::Page(page))
+        answer
     }
 
     /// Ends the move of a page with its copy: the page is in its new frame afterwards, or in its old one where it has a pin.
@@ -354,20 +312,12 @@ impl<const W: usize, I: Ledger, M: Ledger, B: Ledger> Zone<W, I, M, B> {
         ensures identity { HasIdentity self.old.number self.old.blocks self.new }
         ensures lawful { IsValidZone self.new }
     {
-        let Some(way) = self.tables.find_move(copied.serial(), copied.page()) else {
-            return Err(Stranger(copied));
-        };
-        if !self.tables.has_words(&way, copied.page()) {
-            return Err(Stranger(copied));
+        let ended = self.bare.commit(copied)?;
+        match ended {
+            Ended::Moved => seat.count_moved(&mut self.moved),
+            Ended::Back => seat.count_back(&mut self.back),
         }
-        if self.tables.has_pin(way.page) {
-            self.tables.go_back(&way, Cause::Pinned);
-            seat.count_back(&mut self.back);
-            return Ok(Ended::Back);
-        }
-        self.tables.arrive(&way, copied.page());
-        seat.count_moved(&mut self.moved);
-        Ok(Ended::Moved)
+        Ok(ended)
     }
 
     /// Ends the move of a page that wasn't copied: the page is in its old frame afterwards. The seat counts it. A page is
@@ -387,10 +337,7 @@ impl<const W: usize, I: Ledger, M: Ledger, B: Ledger> Zone<W, I, M, B> {
         ensures identity { HasIdentity self.old.number self.old.blocks self.new }
         ensures lawful { IsValidZone self.new }
     {
-        let Some(way) = self.tables.find_move(isolated.serial(), isolated.page()) else {
-            return Err(Stranger(isolated));
-        };
-        self.tables.go_back(&way, Cause::NotCopied);
+        self.bare.put_back(isolated)?;
         seat.count_back(&mut self.back);
         Ok(())
     }
@@ -403,7 +350,7 @@ impl<const W: usize, I: Ledger, M: Ledger, B: Ledger> Zone<W, I, M, B> {
         ensures refused { result_err result ≡ (if is_some (look_of self.now address) then None else Some ZoneError.Unmapped) }
         ensures value { IfOk result (λ look. look_of self.now address ≡ Some look) }
     {
-        self.tables.look(&address).ok_or(ZoneError::Unmapped)
+        self.bare.look(address)
     }
 
     /// Whether the latest round is still quiet. It is where no page was out when it began, no unmarked pageblock had a page
@@ -417,7 +364,7 @@ impl<const W: usize, I: Ledger, M: Ledger, B: Ledger> Zone<W, I, M, B> {
         // the free finger on.
         ensures swept { result ≡ true → IsSwept self.now }
     {
-        self.tables.quiet()
+        self.bare.quiet()
     }
 
     /// The counts of pages isolated, moved and put back, which are those of the two seats.
@@ -446,14 +393,14 @@ impl<const W: usize, I: Ledger, M: Ledger, B: Ledger> Zone<W, I, M, B> {
         if !ends.is_whole() {
             return Err(ZoneError::Missing);
         }
-        self.tables.counted().ok_or(ZoneError::Out)
+        self.bare.audit()
     }
 
     /// The number that the zone was opened with.
     pub fn number(&self) -> ZoneNo
         ensures { result ≡ self.now.number }
     {
-        self.tables.number()
+        self.bare.number()
     }
 
     /// How many pageblocks the zone has, 1 to 8.
@@ -461,7 +408,7 @@ impl<const W: usize, I: Ledger, M: Ledger, B: Ledger> Zone<W, I, M, B> {
         ensures blocks { result ≡ self.now.blocks }
         ensures lawful { IsValidZone self.now }
     {
-        self.tables.blocks()
+        self.bare.blocks()
     }
 
     /// The counts of the zone.
@@ -479,7 +426,7 @@ impl<const W: usize, I: Ledger, M: Ledger, B: Ledger> Zone<W, I, M, B> {
             → (order : ℕ) → order ≤ 9 → left_runs self.now place (2 ^ order) ≤ free_runs self.now (2 ^ order) }
         ensures placement { result.moving ≡ 0 → IsPlacement self.now (places_now self.now) }
     {
-        self.tables.info()
+        self.bare.info()
     }
 
     /// The journal of the zone. Whoever holds the zone finds it lawful: each load in the journal gave the value that was stored last.
@@ -491,6 +438,6 @@ impl<const W: usize, I: Ledger, M: Ledger, B: Ledger> Zone<W, I, M, B> {
         ensures clear { BlocksAreClear self.now }
         ensures apart { BlocksAreApart self.now }
     {
-        self.tables.journal()
+        self.bare.journal()
     }
 }

@@ -1,73 +1,19 @@
-use Rattle.std.proofs.Common.{rules, ◌∙◌, ap, subst, sym, refl}
-use Rattle.std.specs.FinMap as map
-use Rattle.journal_core.specs.declared.record.Cause.TheVariants.{Pinned}
-use Rattle.journal_core.specs.declared.record.Record.TheVariants.{Moved, Back}
-use Rattle.word_core.specs.Page.{Page}
-use Rattle.state_core.specs.Ending.{is_own, source_of, target_of, moved_to_target, put_back_to_source}
-use Rattle.state_core.specs.Pairs.{HaveMet}
-use Rattle.state_core.specs.ZoneState.{ZoneState, is_quiet}
-use Rattle.state_core.proofs.StaysMet.{met_moved, never_pinned}
-use Rattle.zone_core.proofs.Seated.{ended_once, ended_in}
-use Rattle.zone_core.proofs.ScannersMet.{scanned_loud, scanned_quiet}
+use Rattle.std.proofs.Common.{◌∙◌, sym}
+use Rattle.zone_core.proofs.StaysBooked.{booked_moved, booked_pinned}
 use Rattle.zone_core.proofs.zone.Zone.commit.Goals as goal
 
-pub returns-then-has_pin-clause-once : goal.returns-then-has_pin-clause-once
-returns-then-has_pin-clause-once g c =
-    ap (λ (z : ZoneState). is_own z c.args.copied) c.go_back.ensures.step
-    ∙ ended_once c.self.inside.tables (Back c.in-Some.way.serial Pinned) c.in-Some.way.page (source_of (map.get c.self.inside.tables.placement c.in-Some.way.page)) c.args.copied (ap (λ (p : Page). p.number) (sym c.page.ensures) ∙ sym c.in-Some.ensures.named.0)
+pub invariant_of-self-in-Moved : goal.invariant_of-self-in-Moved
+invariant_of-self-in-Moved g c =
+    let left = c.in_ok-ended.ensures in (
+      booked_moved c.args.copied.serial c.args.copied.page.number c.self.invariant.2 c.self.invariant.0 left.ok (sym left.ended ∙ c.in-Moved.is) c.count_moved.ensures.book left.met,
+      c.self.invariant.1,
+      left.lawful,
+    )
 
-pub returns-clause-once : goal.returns-clause-once
-returns-clause-once g c =
-    ap (λ (z : ZoneState). is_own z c.args.copied) c.arrive.ensures.step
-    ∙ ended_once c.self.inside.tables (Moved c.in-Some.way.serial) c.in-Some.way.page (target_of (map.get c.self.inside.tables.placement c.in-Some.way.page)) c.args.copied (ap (λ (p : Page). p.number) (sym c.page.ensures) ∙ sym c.in-Some.ensures.named.0)
-
-pub returns-then-has_pin-clause-settled : goal.returns-then-has_pin-clause-settled
-returns-then-has_pin-clause-settled g c =
-    ended_in c.self.inside.tables c.args.self.now c.go_back.new.self c.args.copied c.in-Some.way.page c.in-Some.way.serial c.in-Some.way.source c.in-Some.way.target _ _ c.self.view_is
-    (ap (λ (p : Page). p.number) (sym c.page.ensures) ∙ sym c.in-Some.ensures.named.0) (sym c.serial.ensures ∙ sym c.in-Some.ensures.named.1) c.in-Some.ensures.placed c.go_back.ensures.settled
-
-pub returns-clause-settled : goal.returns-clause-settled
-returns-clause-settled g c =
-    ended_in c.self.inside.tables c.args.self.now c.arrive.new.self c.args.copied c.in-Some.way.page c.in-Some.way.serial c.in-Some.way.source c.in-Some.way.target _ _ c.self.view_is
-    (ap (λ (p : Page). p.number) (sym c.page.ensures) ∙ sym c.in-Some.ensures.named.0) (sym c.serial.ensures ∙ sym c.in-Some.ensures.named.1) c.in-Some.ensures.placed c.arrive.ensures.settled
-
-pub returns-clause-met : goal.returns-clause-met
-returns-clause-met g c quiet met =
-    let z = c.self.inside.tables in
-    let law = c.self.invariant.2 in
-    let way = c.in-Some.way in
-    subst HaveMet {x = moved_to_target z way.serial way.page} (sym c.arrive.ensures.step)
-    (met_moved z way.page way.serial way.source way.target law (law.swept (ap is_quiet c.self.view_is ∙ quiet)) c.in-Some.ensures.placed (subst HaveMet (sym c.self.view_is) met))
-
--- in a quiet round no page has a pin
-pub returns-then-has_pin-clause-met : goal.returns-then-has_pin-clause-met
-returns-then-has_pin-clause-met g c quiet met =
-    let way = c.in-Some.way in
-    absurd (never_pinned c.self.inside.tables way.page way.serial way.source way.target c.self.invariant.2 c.in-Some.ensures.placed (ap is_quiet c.self.view_is ∙ quiet) (sym c.has_pin.ensures ∙ c.if-has_pin.true))
-
-pub returns-then-has_pin-clause-moves : goal.returns-then-has_pin-clause-moves
-returns-then-has_pin-clause-moves g c quiet =
-    let way = c.in-Some.way in
-    absurd (never_pinned c.self.inside.tables way.page way.serial way.source way.target c.self.invariant.2 c.in-Some.ensures.placed (ap is_quiet c.self.view_is ∙ quiet) (sym c.has_pin.ensures ∙ c.if-has_pin.true))
-
-pub returns-then-has_pin-clause-own : goal.returns-then-has_pin-clause-own
-returns-then-has_pin-clause-own g c = search rules
-
-pub arrive-requires : goal.arrive-requires
-arrive-requires g c = search rules
-
-pub returns-clause-own : goal.returns-clause-own
-returns-clause-own g c = search rules
-
-pub invariant_of-self : goal.invariant_of-self
-invariant_of-self g c =
-    let v = c.self.inside.tables in
-    let scanned = scanned_loud c.self.inside.isolated.total v (put_back_to_source v c.in-Some.way.serial c.in-Some.way.page Pinned) c.go_back.new.self (Back c.in-Some.way.serial Pinned) c.self.invariant.2.begun c.self.invariant.3 c.go_back.ensures.step refl refl refl refl in
-    search (rules, scanned)
-
-pub invariant_of-self-2 : goal.invariant_of-self-2
-invariant_of-self-2 g c =
-    let v = c.self.inside.tables in
-    let scanned = scanned_quiet c.self.inside.isolated.total v (moved_to_target v c.in-Some.way.serial c.in-Some.way.page) c.arrive.new.self (Moved c.in-Some.way.serial) c.self.invariant.2.begun c.self.invariant.3 c.arrive.ensures.step refl refl refl refl
-    (λ quiet. met_moved v c.in-Some.way.page c.in-Some.way.serial c.in-Some.way.source c.in-Some.way.target c.self.invariant.2 (c.self.invariant.2.swept quiet) c.in-Some.ensures.placed) in
-    search (rules, scanned)
+pub invariant_of-self-in-Back : goal.invariant_of-self-in-Back
+invariant_of-self-in-Back g c =
+    let left = c.in_ok-ended.ensures in (
+      booked_pinned c.args.copied.serial c.args.copied.page.number c.self.invariant.2 c.self.invariant.0 left.ok (sym left.ended ∙ c.in-Back.is) c.count_back.ensures.book,
+      c.self.invariant.1,
+      left.lawful,
+    )

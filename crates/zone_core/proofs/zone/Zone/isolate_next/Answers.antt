@@ -1,60 +1,18 @@
-use Rattle.std.proofs.Common.{rules, ◌∙◌, ℕ, ap, subst, sym, arith}
-use Rattle.std.specs.Prelude.{Some}
-use Rattle.std.specs.FinMap as map
-use Rattle.journal_core.specs.History.{page_at}
-use Rattle.word_core.specs.Page.{IsolatedPage}
-use Rattle.state_core.specs.declared.placement.Placement.TheVariants.{Moving}
-use Rattle.state_core.specs.Isolating.{isolated_next}
-use Rattle.state_core.specs.Lawful.{IsValidZone}
-use Rattle.state_core.specs.Pairs.{IsPair}
-use Rattle.state_core.specs.ZoneState.{ZoneState}
-use Rattle.state_core.proofs.Entries.{get_insert_same, get_insert_other}
-use Rattle.state_core.proofs.Packing.{packed_quiet}
-use Rattle.zone_core.specs.Books.{IsScanned}
+use Rattle.std.proofs.Common.{rules, ◌≡◌, ◌∙◌, ap, Some}
+use Rattle.std.specs.Prelude.{Ok}
+use Rattle.state_core.specs.declared.moves.Next.TheVariants as next
 use Rattle.zone_core.specs.Seats.{ScanSeat, scan_amount}
 use Rattle.zone_core.specs.declared.seats.Answered.TheVariants as answered
-use Rattle.zone_core.proofs.ScannersMet.{seat_counted}
+use Rattle.zone_core.proofs.StaysBooked.{booked_met}
 use Rattle.zone_core.proofs.zone.Zone.isolate_next.Goals as goal
 
-pub returns-clause-followed : goal.returns-clause-followed
-returns-clause-followed g c =
-    let serial = ap (λ (p : IsolatedPage). p.serial) c.isolate-page.ensures.page in
-    let law : IsValidZone (isolated_next c.self.inside.tables c.in-Some.pair) = subst IsValidZone c.isolate-page.ensures.step c.isolate-page.ensures.lawful in
-    omega (arith, serial, law.serials)
-
-pub returns-clause-pair : goal.returns-clause-pair
-returns-clause-pair g c =
-    let pair = c.in-Some.pair in
-    let number = ap (λ (p : IsolatedPage). p.page.number) c.isolate-page.ensures.page in
-    let serial = ap (λ (p : IsolatedPage). p.serial) c.isolate-page.ensures.page in
-    let step = c.isolate-page.ensures.step in
-    record {
-      source = pair.source;
-      target = pair.target;
-      pair = subst (λ (z : ZoneState). IsPair z c.isolate-page.result.page.number pair.source pair.target) c.self.view_is
-          (subst (λ (page : ℕ). IsPair c.self.inside.tables page pair.source pair.target) (sym number) c.in-Some.ensures.is_pair);
-      way = ap (λ (z : ZoneState). map.get z.placement c.isolate-page.result.page.number) step
-          ∙ get_insert_same c.self.inside.tables.placement pair.page c.isolate-page.result.page.number _ number
-          ∙ ap (λ (s : ℕ). Some (Moving s pair.source pair.target)) (sym serial);
-      others = λ other ne. ap (λ (z : ZoneState). map.get z.placement other) step
-          ∙ get_insert_other c.self.inside.tables.placement pair.page other _ (λ e. ne (e ∙ sym number))
-          ∙ ap (λ (z : ZoneState). map.get z.placement other) c.self.view_is;
-      names = λ address. ap (λ (z : ZoneState). page_at z.records address) step ∙ ap (λ (z : ZoneState). page_at z.records address) c.self.view_is;
-    }
-
-pub returns-in_default-clause-packed : goal.returns-in_default-clause-packed
-returns-in_default-clause-packed g c met quiet none = packed_quiet c.self.inside.tables c.self.invariant.2 quiet none c.in_default.ensures.none
-
-pub returns-in_default-clause-seat : goal.returns-in_default-clause-seat
-returns-in_default-clause-seat g c = search rules
-
-pub invariant_of-self-in_default : goal.invariant_of-self-in_default
-invariant_of-self-in_default g c =
+pub invariant_of-self-in-Ok-Met : goal.invariant_of-self-in-Ok-Met
+invariant_of-self-in-Ok-Met g c =
     let seat = c.args.seat.now in
-    let counted = seat_counted c.self.inside.isolated.total seat.count seat.last c.self.inside.tables c.self.invariant.3 c.tell.ensures.total in
-    let scanned : IsScanned c.note-in_default.new.book.total c.self.inside.tables = record {
-      last = Some answered.Met;
-      counted = c.note-in_default.ensures.book ∙ ap (λ (n : ℕ). scan_amount n (Some answered.Met)) (ap (λ (s : ScanSeat). s.count) c.tell.ensures.seat ∙ counted);
-      met = λ met quiet. c.in_default.ensures.none;
-    } in
-    search (rules, scanned)
+    let left = c.isolate_next-answer.ensures in
+    let is : c.isolate_next-answer.result ≡ Ok next.Met = search rules in
+    let marked = c.note.ensures.book ∙ ap (λ (s : ScanSeat). scan_amount s.count (Some answered.Met)) c.tell.ensures.seat in (
+      booked_met seat.count seat.last c.isolate_next-answer.result is left.answer left.ok left.pair c.self.invariant.0 c.tell.ensures.total marked,
+      c.self.invariant.1,
+      left.lawful,
+    )

@@ -1,13 +1,5 @@
-use Rattle.std.proofs.Common.{rules, refl}
-use Rattle.std.specs.Prelude.{unwrap_or}
-use Rattle.journal_core.specs.declared.record.Record.TheVariants.{Map}
-use Rattle.state_core.specs.Mapping.{mapped}
-use Rattle.state_core.specs.ZoneState.{lowest_unused_page}
-use Rattle.zone_core.proofs.ScannersMet.{scanned_loud}
+use Rattle.zone_core.proofs.StaysBooked.{booked_made}
 use Rattle.zone_core.proofs.zone.Zone.map_at.Goals as goal
 
 pub invariant_of-self : goal.invariant_of-self
-invariant_of-self g c =
-    let v = c.self.inside.tables in
-    let scanned = scanned_loud c.self.inside.isolated.total v (mapped v c.args.client c.args.address _ _) c.place.new.self (Map c.args.client c.args.address (unwrap_or (lowest_unused_page v) 0)) c.self.invariant.2.begun c.self.invariant.3 c.place.ensures.step refl refl refl refl in
-    search (rules, scanned)
+invariant_of-self g c = (booked_made c.map_at.ensures.made c.self.invariant.2 c.self.invariant.0, c.self.invariant.1, c.map_at.ensures.made.lawful)

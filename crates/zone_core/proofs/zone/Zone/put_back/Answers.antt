@@ -1,32 +1,7 @@
-use Rattle.std.proofs.Common.{rules, ◌∙◌, ap, sym, refl}
-use Rattle.std.specs.FinMap as map
-use Rattle.journal_core.specs.declared.record.Cause.TheVariants.{NotCopied}
-use Rattle.journal_core.specs.declared.record.Record.TheVariants.{Back}
-use Rattle.word_core.specs.Page.{Page}
-use Rattle.state_core.specs.Ending.{is_own, source_of, put_back_to_source}
-use Rattle.state_core.specs.ZoneState.{ZoneState}
-use Rattle.zone_core.proofs.Seated.{ended_once, ended_in}
-use Rattle.zone_core.proofs.ScannersMet.{scanned_loud}
+use Rattle.zone_core.proofs.StaysBooked.{booked_back}
 use Rattle.zone_core.proofs.zone.Zone.put_back.Goals as goal
 
-pub returns-clause-once : goal.returns-clause-once
-returns-clause-once g c =
-    ap (λ (z : ZoneState). is_own z c.args.isolated) c.go_back.ensures.step
-    ∙ ended_once c.self.inside.tables (Back c.in-Some.way.serial NotCopied) c.in-Some.way.page (source_of (map.get c.self.inside.tables.placement c.in-Some.way.page)) c.args.isolated (ap (λ (p : Page). p.number) (sym c.page.ensures) ∙ sym c.in-Some.ensures.named.0)
-
-pub returns-clause-settled : goal.returns-clause-settled
-returns-clause-settled g c =
-    ended_in c.self.inside.tables c.args.self.now c.go_back.new.self c.args.isolated c.in-Some.way.page c.in-Some.way.serial c.in-Some.way.source c.in-Some.way.target _ _ c.self.view_is
-    (ap (λ (p : Page). p.number) (sym c.page.ensures) ∙ sym c.in-Some.ensures.named.0) (sym c.serial.ensures ∙ sym c.in-Some.ensures.named.1) c.in-Some.ensures.placed c.go_back.ensures.settled
-
-pub go_back-requires : goal.go_back-requires
-go_back-requires g c = search rules
-
-pub returns-clause-ok : goal.returns-clause-ok
-returns-clause-ok g c = search rules
-
-pub invariant_of-self : goal.invariant_of-self
-invariant_of-self g c =
-    let v = c.self.inside.tables in
-    let scanned = scanned_loud c.self.inside.isolated.total v (put_back_to_source v c.in-Some.way.serial c.in-Some.way.page NotCopied) c.go_back.new.self (Back c.in-Some.way.serial NotCopied) c.self.invariant.2.begun c.self.invariant.3 c.go_back.ensures.step refl refl refl refl in
-    search (rules, scanned)
+pub invariant_of-self-2 : goal.invariant_of-self-2
+invariant_of-self-2 g c =
+    let left = c.in_ok-put_back.ensures in
+    (booked_back c.args.isolated.serial c.args.isolated.page.number c.self.invariant.2 c.self.invariant.0 left.ok c.count_back.ensures.book, c.self.invariant.1, left.lawful)

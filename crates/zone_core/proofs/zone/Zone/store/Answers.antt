@@ -1,15 +1,8 @@
-use Rattle.std.proofs.Common.{subst, sym, rules}
-use Rattle.state_core.specs.Pairs.{HaveMet}
-use Rattle.state_core.proofs.StaysMet.{met_stored}
-use Rattle.zone_core.specs.Books.{IsScanned}
-use Rattle.zone_core.proofs.ScannersMet.{scanned_stored}
+use Rattle.zone_core.proofs.StaysBooked.{booked_made}
 use Rattle.zone_core.proofs.zone.Zone.store.Goals as goal
 
-pub returns-clause-met : goal.returns-clause-met
-returns-clause-met g c met = subst HaveMet (sym c.write.ensures.step) (met_stored c.self.inside.tables c.args.client c.args.address c.args.word c.args.value (subst HaveMet (sym c.self.view_is) met))
-
 pub invariant_of-self : goal.invariant_of-self
-invariant_of-self g c =
-    let total = c.self.inside.isolated.total in
-    let scanned = subst (IsScanned total) (sym c.write.ensures.step) (scanned_stored total c.args.client c.args.address c.self.inside.tables c.args.word c.args.value c.self.invariant.2.begun c.self.invariant.3) in
-    search (rules, scanned)
+invariant_of-self g c = (booked_made c.store.ensures.made c.self.invariant.2 c.self.invariant.0, c.self.invariant.1, c.store.ensures.made.lawful)
+
+pub returns-clause-met : goal.returns-clause-met
+returns-clause-met g c = rw (← c.self.view_is) c.store.ensures.met

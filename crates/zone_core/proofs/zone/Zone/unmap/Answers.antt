@@ -1,11 +1,5 @@
-use Rattle.std.proofs.Common.{rules}
-use Rattle.zone_core.proofs.ScannersMet.{scanned_unmapped}
+use Rattle.zone_core.proofs.StaysBooked.{booked_made}
 use Rattle.zone_core.proofs.zone.Zone.unmap.Goals as goal
 
-pub returns-clause-refused : goal.returns-clause-refused
-returns-clause-refused g c = search rules
-
 pub invariant_of-self : goal.invariant_of-self
-invariant_of-self g c =
-    let scanned = scanned_unmapped c.self.inside.isolated.total c.self.inside.tables c.unmap.new.self c.args.client c.args.address c.self.invariant.2.begun c.self.invariant.3 c.unmap.ensures.step in
-    search (rules, scanned)
+invariant_of-self g c = (booked_made c.unmap.ensures.made c.self.invariant.2 c.self.invariant.0, c.self.invariant.1, c.unmap.ensures.made.lawful)

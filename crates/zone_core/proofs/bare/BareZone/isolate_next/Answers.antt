@@ -1,0 +1,42 @@
+use Rattle.std.proofs.Common.{◌∙◌, ℕ, ap, subst, sym, arith}
+use Rattle.std.specs.Prelude.{Some}
+use Rattle.std.specs.FinMap as map
+use Rattle.journal_core.specs.History.{page_at}
+use Rattle.word_core.specs.Page.{IsolatedPage}
+use Rattle.state_core.specs.declared.placement.Placement.TheVariants.{Moving}
+use Rattle.state_core.specs.Isolating.{isolated_next}
+use Rattle.state_core.specs.Lawful.{IsValidZone}
+use Rattle.state_core.specs.Pairs.{IsPair, HaveMet}
+use Rattle.state_core.specs.ZoneState.{ZoneState}
+use Rattle.state_core.proofs.Entries.{get_insert_same, get_insert_other}
+use Rattle.state_core.proofs.Packing.{packed_quiet}
+use Rattle.zone_core.proofs.bare.BareZone.isolate_next.Goals as goal
+
+pub returns-clause-followed : goal.returns-clause-followed
+returns-clause-followed g c =
+    let serial = ap (λ (p : IsolatedPage). p.serial) c.isolate-page.ensures.page in
+    let law : IsValidZone (isolated_next c.self.inside.tables c.in-Some.pair) = subst IsValidZone c.isolate-page.ensures.step c.isolate-page.ensures.lawful in
+    omega (arith, serial, law.serials)
+
+pub returns-clause-pair : goal.returns-clause-pair
+returns-clause-pair g c =
+    let pair = c.in-Some.pair in
+    let number = ap (λ (p : IsolatedPage). p.page.number) c.isolate-page.ensures.page in
+    let serial = ap (λ (p : IsolatedPage). p.serial) c.isolate-page.ensures.page in
+    let step = c.isolate-page.ensures.step in
+    record {
+      source = pair.source;
+      target = pair.target;
+      pair = subst (λ (z : ZoneState). IsPair z c.isolate-page.result.page.number pair.source pair.target) c.self.view_is
+          (subst (λ (page : ℕ). IsPair c.self.inside.tables page pair.source pair.target) (sym number) c.in-Some.ensures.is_pair);
+      way = ap (λ (z : ZoneState). map.get z.placement c.isolate-page.result.page.number) step
+          ∙ get_insert_same c.self.inside.tables.placement pair.page c.isolate-page.result.page.number _ number
+          ∙ ap (λ (s : ℕ). Some (Moving s pair.source pair.target)) (sym serial);
+      others = λ other ne. ap (λ (z : ZoneState). map.get z.placement other) step
+          ∙ get_insert_other c.self.inside.tables.placement pair.page other _ (λ e. ne (e ∙ sym number))
+          ∙ ap (λ (z : ZoneState). map.get z.placement other) c.self.view_is;
+      names = λ address. ap (λ (z : ZoneState). page_at z.records address) step ∙ ap (λ (z : ZoneState). page_at z.records address) c.self.view_is;
+    }
+
+pub returns-in_default-clause-packed : goal.returns-in_default-clause-packed
+returns-in_default-clause-packed g c met quiet none = packed_quiet c.args.self.now (subst IsValidZone c.self.view_is c.self.invariant) quiet none (subst HaveMet c.self.view_is c.in_default.ensures.none)

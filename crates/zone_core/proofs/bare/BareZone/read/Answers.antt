@@ -1,0 +1,18 @@
+use Rattle.std.proofs.Common.{length, subst, sym}
+use Rattle.state_core.specs.Pairs.{HaveMet}
+use Rattle.state_core.specs.ZoneState.{ZoneState}
+use Rattle.state_core.proofs.Bulk.{met_loaded_all}
+use Rattle.zone_core.specs.ZoneIdentity.{HasIdentity}
+use Rattle.zone_core.proofs.WordsAtOnce.{same_shape, shape_loaded}
+use Rattle.zone_core.proofs.bare.BareZone.read.Goals as goal
+
+pub returns-clause-met : goal.returns-clause-met
+returns-clause-met g c met =
+    subst HaveMet (sym c.read_words.ensures.step)
+    (met_loaded_all c.self.inside.tables c.args.client c.args.address c.args.from (length c.args.values.now) (subst HaveMet (sym c.self.view_is) met))
+
+pub returns-clause-identity : goal.returns-clause-identity
+returns-clause-identity g c =
+    let old = c.args.self.now in
+    subst (λ (z : ZoneState). HasIdentity old.number old.blocks z) (sym c.read_words.ensures.step)
+    (shape_loaded old.number old.blocks c.self.inside.tables c.args.client c.args.address c.args.from (length c.args.values.now) (same_shape c.self.inside.tables old c.self.view_is))

@@ -1,0 +1,11 @@
+use Rattle.std.proofs.Common.{◌∙◌, refl, ap}
+use Rattle.std.specs.FinMap as map
+use Rattle.state_core.specs.ZoneState.{ZoneState}
+use Rattle.state_core.proofs.Entries.{get_insert_same}
+use Rattle.state_core.proofs.HandingOut.{blocks_are_clear}
+use Rattle.zone_core.proofs.bare.BareZone.take_order.Goals as goal
+
+pub returns-clause-clear : goal.returns-clause-clear
+returns-clause-clear g c =
+    blocks_are_clear _ c.hand_out.ensures.lawful c.in-Some.first c.args.order
+    (ap (λ (v : ZoneState). map.get v.handed_out c.in-Some.first) c.hand_out.ensures.step ∙ get_insert_same _ c.in-Some.first c.in-Some.first c.args.order refl)

@@ -1,0 +1,171 @@
+//! A zone without ledgers.
+
+ghost use Rattle.std.specs.Prelude.{◌≡◌, ◌+◌, ◌/◌, ◌^◌, ◌≤◌, ◌&&◌, ℕ, true, Option, Some, None, is_some, if◌then◌else◌, IfOk, IfErr};
+ghost use Rattle.journal_core.specs.declared.record.Record.{Record};
+ghost use Rattle.state_core.specs.Clear.{BlocksAreApart, BlocksAreClear};
+ghost use Rattle.state_core.specs.Lawful.{IsValidZone};
+ghost use Rattle.state_core.specs.Looking.{look_of, info_of};
+ghost use Rattle.state_core.specs.Marking.{marked_of};
+ghost use Rattle.state_core.specs.Opening.{IsOpenable, IsSize, opened_told, opened_with};
+ghost use Rattle.state_core.specs.Packed.{IsPacked, IsPlacement, unmarked_free, marked_whole, free_runs, left_whole, left_runs, places_now};
+ghost use Rattle.state_core.specs.Swept.{IsSwept};
+ghost use Rattle.state_core.specs.ZoneState.{frame_count, noted, keeps_quiet, is_quiet};
+ghost use Rattle.std.specs.Result.{result_err};
+
+mod calls;
+mod rounds;
+mod tables;
+mod words;
+
+use frame_core::{Address, BlockNo, ZoneNo};
+use journal_core::Journal;
+use state_core::{Info, Look, ZoneError};
+use std::alloc::Global;
+use std::marker::Model;
+use zone_tables::ZoneTables;
+
+/// A zone of 1 to 8 pageblocks, whose pages have `W` words. It has no ledgers: nothing tells in which calls its pages were isolated
+/// and moved. A `Zone` is a bare zone with its ledgers, and each of its calls does what the call of this name does here.
+///
+/// Each call says what it may be refused as, in the order of the tests. A refused call leaves the zone as it was. After `open` no
+/// call takes memory.
+#[derive(Drop)]
+pub struct BareZone<const W: usize> {
+    pub(crate) tables: ZoneTables<W>,
+}
+
+impl<const W: usize> Model for BareZone<W> {
+    ghost use Rattle.state_core.specs.Lawful.{IsValidZone};
+    ghost use Rattle.state_core.specs.ZoneState.{ZoneState};
+    ghost use Rattle.state_core.specs.ZoneCode.{coded_zone};
+
+    ghost Value = { ZoneState };
+
+    ghost coded = { coded_zone };
+
+    ghost view = { λ z. z.tables };
+
+    ghost invariant = { λ z. IsValidZone z.tables };
+}
+
+impl<const W: usize> BareZone<W> {
+    /// An empty zone with this many pageblocks and this many places in its journal.
+    ///
+    /// Refused as Range unless there are 1 to 8 pageblocks and 1 to 65,536 places, else as Memory where there isn't enough.
+    pub fn open(
+        alloc: Global,
+        number: ZoneNo,
+        blocks: u32,
+        places: u32,
+    ) -> Result<BareZone<W>, ZoneError>
+        requires size { W ≤ 65536 }
+        ensures range { ¬ (IsOpenable blocks places) → result ≡ Err ZoneError.Range }
+        ensures memory { IsOpenable blocks places → IfErr result (λ error. error ≡ ZoneError.Memory) }
+        ensures zone { IfOk result (λ zone. zone ≡ opened_with W number blocks places) }
+        ensures lawful { IfOk result (λ zone. IsValidZone zone) }
+    {
+        if blocks < 1 || blocks > 8 || places < 1 || places > 65536 {
+            return Err(ZoneError::Range);
+        }
+        let tables = ZoneTables::open(alloc, number, blocks, places)?;
+        Ok(BareZone { tables })
+    }
+
+    /// An empty zone whose journal is told, as `open` gives one whose journal is kept. Contracts see each record, and no memory has
+    /// them: the journal has room for 2^53. A zone isolates at most 2^32 - 1 pages in its life.
+    ///
+    /// Refused as Range unless there are 1 to 8 pageblocks, else as Memory where there isn't enough.
+    pub fn open_told(alloc: Global, number: ZoneNo, blocks: u32) -> Result<BareZone<W>, ZoneError>
+        requires size { W ≤ 65536 }
+        ensures range { ¬ (IsSize blocks) → result ≡ Err ZoneError.Range }
+        ensures memory { IsSize blocks → IfErr result (λ error. error ≡ ZoneError.Memory) }
+        ensures zone { IfOk result (λ zone. zone ≡ opened_told W number blocks) }
+        ensures lawful { IfOk result (λ zone. IsValidZone zone) }
+    {
+        if blocks < 1 || blocks > 8 {
+            return Err(ZoneError::Range);
+        }
+        let tables = ZoneTables::open_told(alloc, number, blocks)?;
+        Ok(BareZone { tables })
+    }
+
+    /// What is known of the page that an address names: its frame and flags, or its serial while it is moving, and how many pins and
+    /// addresses it has.
+    ///
+    /// Refused as Unmapped.
+    pub fn look(&self, address: Address) -> Result<Look, ZoneError>
+        ensures refused { result_err result ≡ (if is_some (look_of self.now address) then None else Some ZoneError.Unmapped) }
+        ensures value { IfOk result (λ look. look_of self.now address ≡ Some look) }
+    {
+        self.tables.look(&address).ok_or(ZoneError::Unmapped)
+    }
+
+    /// Whether a pageblock is marked, or none where the zone has no such pageblock.
+    pub fn marked(&self, block: BlockNo) -> Option<bool>
+        ensures { result ≡ marked_of self.now block }
+    {
+        if !self.tables.has_pageblock(block) {
+            return None;
+        }
+        Some(self.tables.is_marked(block))
+    }
+
+    /// Whether the latest round is still quiet. It is where no page was out when it began, no unmarked pageblock had a page
+    /// that was pinned or unmovable or a frame that was handed out, and since then the only calls that left records were
+    /// loads, stores, isolations and moves.
+    pub fn quiet(&self) -> bool
+        ensures value { result ≡ is_quiet self.now }
+        // The records of a load, a store, an isolation and a move leave it quiet, and each other record ends that.
+        ensures next { (entry : Record) → is_quiet (noted self.now entry) ≡ (result && keeps_quiet entry) }
+        // While it is quiet, no frame of an unmarked pageblock holds a page below the migrate finger, and none is free from
+        // the free finger on.
+        ensures swept { result ≡ true → IsSwept self.now }
+    {
+        self.tables.quiet()
+    }
+
+    /// The number that the zone was opened with.
+    pub fn number(&self) -> ZoneNo
+        ensures { result ≡ self.now.number }
+    {
+        self.tables.number()
+    }
+
+    /// How many pageblocks the zone has, 1 to 8.
+    pub fn blocks(&self) -> u32
+        ensures blocks { result ≡ self.now.blocks }
+        ensures lawful { IsValidZone self.now }
+    {
+        self.tables.blocks()
+    }
+
+    /// The counts of the zone.
+    pub fn info(&self) -> Info
+        ensures counts { result ≡ info_of self.now }
+        // Each frame is free, or of a page, or of a block that is handed out; a moving page has two frames.
+        ensures sum { result.free + result.pages + result.moving + result.held ≡ frame_count self.now }
+        // A packed zone has as many whole pageblocks, and as many free aligned runs of an order, as its free frames can make.
+        ensures whole { IsPacked self.now → result.whole ≡ unmarked_free self.now / 512 + marked_whole self.now }
+        ensures runs { IsPacked self.now → (order : ℕ) → order ≤ 9 → free_runs self.now (2 ^ order) ≡ unmarked_free self.now / 2 ^ order }
+        // No other placement of its pages, where none is moving, has more of either.
+        ensures most_whole { IsPacked self.now → result.moving ≡ 0 → (place : ℕ → Option ℕ) → IsPlacement self.now place
+            → left_whole self.now place ≤ result.whole }
+        ensures most_runs { IsPacked self.now → result.moving ≡ 0 → (place : ℕ → Option ℕ) → IsPlacement self.now place
+            → (order : ℕ) → order ≤ 9 → left_runs self.now place (2 ^ order) ≤ free_runs self.now (2 ^ order) }
+        ensures placement { result.moving ≡ 0 → IsPlacement self.now (places_now self.now) }
+    {
+        self.tables.info()
+    }
+
+    /// The journal of the zone. Whoever holds the zone finds it lawful: each load in the journal gave the value that was stored last.
+    pub fn journal(&self) -> &Journal
+        ensures records { result.now.records ≡ self.now.records }
+        ensures room { result.now.room ≡ self.now.room }
+        ensures lawful { IsValidZone self.now }
+        // No page or address has a frame of a block that is handed out, and no two such blocks share a frame.
+        ensures clear { BlocksAreClear self.now }
+        ensures apart { BlocksAreApart self.now }
+    {
+        self.tables.journal()
+    }
+}

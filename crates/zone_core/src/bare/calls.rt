@@ -1,0 +1,293 @@
+//! The calls of clients: each with its tests in their order, and its step.
+
+ghost use Rattle.std.specs.Prelude.{◌≡◌, ◌^◌, Some, IsTrue, IfOk, OnOk, OnErr};
+ghost use Rattle.std.specs.Result.{result_err};
+ghost use Rattle.state_core.specs.Access.{value_at};
+ghost use Rattle.state_core.specs.Calls.{refusal_of, answer_of, after, is_access};
+ghost use Rattle.state_core.specs.Clear.{IsClear};
+ghost use Rattle.state_core.specs.HandingOut.{is_run, lowest_run};
+ghost use Rattle.state_core.specs.Lawful.{IsValidZone};
+ghost use Rattle.state_core.specs.Pairs.{HaveMet};
+ghost use Rattle.state_core.specs.ZoneState.{lowest_free_frame};
+ghost use Rattle.state_core.specs.declared.call.ZoneCall.TheVariants as call;
+ghost use Rattle.zone_core.specs.Made.{IsMade};
+ghost use Rattle.zone_core.specs.ZoneIdentity.{HasIdentity};
+
+use crate::bare::BareZone;
+use frame_core::{Address, BlockNo, ClientNo, FrameNo, Order, WordOf};
+use state_core::{ZoneAnswer, ZoneCallOf as Call, ZoneError};
+
+impl<const W: usize> BareZone<W> {
+    /// Makes a call of a client, or refuses it. A call that names no address is the same whichever client makes it.
+    pub fn make(&mut self, client: ClientNo, call: Call<W>) -> Result<ZoneAnswer, ZoneError>
+        ensures refused { result_err result ≡ refusal_of call.entry self.old }
+        ensures err { OnErr result (self.new ≡ self.old) }
+        ensures answer { IfOk result (λ answer. answer ≡ answer_of call.entry self.old) }
+        ensures ok { OnOk result (self.new ≡ after call.entry client self.old) }
+        // A load or a store doesn't make a pair.
+        ensures met { OnOk result (IsTrue (is_access call.entry) → HaveMet self.old → HaveMet self.new) }
+        ensures identity { HasIdentity self.old.number self.old.blocks self.new }
+        ensures lawful { IsValidZone self.new }
+    {
+        match call {
+            Call::Map { address, unmovable } => {
+                self.map(client, address, unmovable).map(ZoneAnswer::Frame)
+            }
+            Call::MapAt {
+                address,
+                unmovable,
+                frame,
+            } => done(self.map_at(client, address, unmovable, frame)),
+            Call::Load { address, word } => self.load(client, address, word).map(ZoneAnswer::Value),
+            Call::Store {
+                address,
+                word,
+                value,
+            } => done(self.store(client, address, word, value)),
+            Call::Share { address, alias } => done(self.share(client, address, alias)),
+            Call::Unmap { address } => done(self.unmap(client, address)),
+            Call::Pin { address } => done(self.pin(client, address)),
+            Call::Unpin { address } => done(self.unpin(client, address)),
+            Call::TakeOrder { order } => self.take_order(order).map(ZoneAnswer::Frame),
+            Call::GiveOrder { first, order } => done(self.give_order(first, order)),
+            Call::Mark { block } => done(self.mark(block)),
+            Call::Unmark { block } => done(self.unmark(block)),
+        }
+    }
+
+    #[inline(always)]
+    pub(crate) fn map(
+        &mut self,
+        client: ClientNo,
+        address: Address,
+        unmovable: bool,
+    ) -> Result<FrameNo, ZoneError>
+        ensures made { IsMade {W = W} (call.Map address unmovable) client self.old self.new result }
+        ensures frame { IfOk result (λ frame. lowest_free_frame self.old ≡ Some frame) }
+    {
+        if !self.tables.has_room() {
+            return Err(ZoneError::JournalFull);
+        }
+        if self.tables.names_page(&address) {
+            return Err(ZoneError::Occupied);
+        }
+        let Some(frame) = self.tables.find_free() else {
+            return Err(ZoneError::NoFrame);
+        };
+        self.tables.place(client, address, unmovable, frame);
+        Ok(frame)
+    }
+
+    #[inline(always)]
+    pub(crate) fn map_at(
+        &mut self,
+        client: ClientNo,
+        address: Address,
+        unmovable: bool,
+        frame: FrameNo,
+    ) -> Result<(), ZoneError>
+        ensures made { IsMade {W = W} (call.MapAt address unmovable frame) client self.old self.new result }
+    {
+        if !self.tables.has_frame(frame) {
+            return Err(ZoneError::Range);
+        }
+        if !self.tables.has_room() {
+            return Err(ZoneError::JournalFull);
+        }
+        if self.tables.names_page(&address) {
+            return Err(ZoneError::Occupied);
+        }
+        if !self.tables.is_free(frame) {
+            return Err(ZoneError::NoFrame);
+        }
+        self.tables.place(client, address, unmovable, frame);
+        Ok(())
+    }
+
+    #[inline(always)]
+    pub(crate) fn load(
+        &mut self,
+        client: ClientNo,
+        address: Address,
+        word: WordOf<W>,
+    ) -> Result<u64, ZoneError>
+        ensures made { IsMade {W = W} (call.Load address word.entry) client self.old self.new result }
+        ensures value { IfOk result (λ value. value ≡ value_at self.old address word.entry) }
+        ensures met { OnOk result (HaveMet self.old → HaveMet self.new) }
+    {
+        if !self.tables.has_room() {
+            return Err(ZoneError::JournalFull);
+        }
+        let read_from = self.tables.frame_of(&address)?;
+        Ok(self.tables.read(client, address, read_from, word))
+    }
+
+    #[inline(always)]
+    pub(crate) fn store(
+        &mut self,
+        client: ClientNo,
+        address: Address,
+        word: WordOf<W>,
+        value: u64,
+    ) -> Result<(), ZoneError>
+        ensures made { IsMade {W = W} (call.Store address word.entry value) client self.old self.new result }
+        ensures met { OnOk result (HaveMet self.old → HaveMet self.new) }
+    {
+        if !self.tables.has_room() {
+            return Err(ZoneError::JournalFull);
+        }
+        let held = self.tables.frame_of(&address)?;
+        self.tables.write(client, address, held, word, value);
+        Ok(())
+    }
+
+    #[inline(always)]
+    pub(crate) fn share(
+        &mut self,
+        client: ClientNo,
+        address: Address,
+        alias: Address,
+    ) -> Result<(), ZoneError>
+        ensures made { IsMade {W = W} (call.Share address alias) client self.old self.new result }
+    {
+        if !self.tables.has_room() {
+            return Err(ZoneError::JournalFull);
+        }
+        let frame = self.tables.frame_of(&address)?;
+        if self.tables.names_page(&alias) {
+            return Err(ZoneError::Occupied);
+        }
+        if self.tables.uses_at(&address).maps >= 4 {
+            return Err(ZoneError::ShareFull);
+        }
+        self.tables.share(client, address, alias, frame);
+        Ok(())
+    }
+
+    #[inline(always)]
+    pub(crate) fn unmap(&mut self, client: ClientNo, address: Address) -> Result<(), ZoneError>
+        ensures made { IsMade {W = W} (call.Unmap address) client self.old self.new result }
+    {
+        if !self.tables.has_room() {
+            return Err(ZoneError::JournalFull);
+        }
+        let frame = self.tables.frame_of(&address)?;
+        let uses = self.tables.uses_at(&address);
+        if uses.maps == 1 && uses.pins != 0 {
+            return Err(ZoneError::Pinned);
+        }
+        self.tables.unmap(client, address, frame);
+        Ok(())
+    }
+
+    #[inline(always)]
+    pub(crate) fn pin(&mut self, client: ClientNo, address: Address) -> Result<(), ZoneError>
+        ensures made { IsMade {W = W} (call.Pin address) client self.old self.new result }
+    {
+        if !self.tables.has_room() {
+            return Err(ZoneError::JournalFull);
+        }
+        if !self.tables.names_page(&address) {
+            return Err(ZoneError::Unmapped);
+        }
+        if self.tables.uses_at(&address).pins == 255 {
+            return Err(ZoneError::PinFull);
+        }
+        self.tables.pin(client, address);
+        Ok(())
+    }
+
+    #[inline(always)]
+    pub(crate) fn unpin(&mut self, client: ClientNo, address: Address) -> Result<(), ZoneError>
+        ensures made { IsMade {W = W} (call.Unpin address) client self.old self.new result }
+    {
+        if !self.tables.has_room() {
+            return Err(ZoneError::JournalFull);
+        }
+        if !self.tables.names_page(&address) {
+            return Err(ZoneError::Unmapped);
+        }
+        if self.tables.uses_at(&address).pins == 0 {
+            return Err(ZoneError::NotPinned);
+        }
+        self.tables.unpin(client, address);
+        Ok(())
+    }
+
+    #[inline(always)]
+    pub(crate) fn take_order(&mut self, order: Order) -> Result<FrameNo, ZoneError>
+        ensures made { IsMade {W = W} (call.TakeOrder order) 0 self.old self.new result }
+        ensures first { IfOk result (λ first. lowest_run self.old order ≡ Some first) }
+        ensures run { IfOk result (λ first. IsTrue (is_run self.old order first)) }
+        ensures clear { IfOk result (λ first. IsClear self.new first (2 ^ order)) }
+    {
+        if !self.tables.has_room() {
+            return Err(ZoneError::JournalFull);
+        }
+        let Some(first) = self.tables.find_run(order) else {
+            return Err(ZoneError::NoBlock);
+        };
+        self.tables.hand_out(first, order);
+        Ok(first)
+    }
+
+    #[inline(always)]
+    pub(crate) fn give_order(&mut self, first: FrameNo, order: Order) -> Result<(), ZoneError>
+        ensures made { IsMade {W = W} (call.GiveOrder first order) 0 self.old self.new result }
+        ensures run { OnOk result (IsTrue (is_run self.new order first)) }
+    {
+        if !self.tables.has_block(first, order) {
+            return Err(ZoneError::Range);
+        }
+        if !self.tables.has_room() {
+            return Err(ZoneError::JournalFull);
+        }
+        if !self.tables.is_handed_out(first, order) {
+            return Err(ZoneError::NotHuge);
+        }
+        self.tables.take_back(first, order);
+        Ok(())
+    }
+
+    #[inline(always)]
+    pub(crate) fn mark(&mut self, block: BlockNo) -> Result<(), ZoneError>
+        ensures made { IsMade {W = W} (call.Mark block) 0 self.old self.new result }
+    {
+        if !self.tables.has_pageblock(block) {
+            return Err(ZoneError::Range);
+        }
+        if !self.tables.has_room() {
+            return Err(ZoneError::JournalFull);
+        }
+        if self.tables.is_marked(block) {
+            return Err(ZoneError::Marked);
+        }
+        self.tables.mark(block);
+        Ok(())
+    }
+
+    #[inline(always)]
+    pub(crate) fn unmark(&mut self, block: BlockNo) -> Result<(), ZoneError>
+        ensures made { IsMade {W = W} (call.Unmark block) 0 self.old self.new result }
+    {
+        if !self.tables.has_pageblock(block) {
+            return Err(ZoneError::Range);
+        }
+        if !self.tables.has_room() {
+            return Err(ZoneError::JournalFull);
+        }
+        if !self.tables.is_marked(block) {
+            return Err(ZoneError::NotMarked);
+        }
+        self.tables.unmark(block);
+        Ok(())
+    }
+}
+
+/// What a call answers that has nothing to tell.
+fn done(made: Result<(), ZoneError>) -> Result<ZoneAnswer, ZoneError>
+    ensures refused { result_err result ≡ result_err made }
+    ensures answer { IfOk result (λ answer. answer ≡ ZoneAnswer.Done) }
+{
+    made.map(|()| ZoneAnswer::Done)
+}

@@ -1,0 +1,124 @@
+//! The steps of rounds: pages are isolated, and their moves end.
+
+ghost use Rattle.std.specs.Prelude.{◌≡◌, ◌↔◌, true, false, length, nat_lt, Some, None, if◌then◌else◌, IsOk, IfOk, IfErr, OnOk, OnErr};
+ghost use Rattle.std.specs.Result.{result_err};
+ghost use Rattle.journal_core.specs.Moves.{out};
+ghost use Rattle.state_core.specs.Ending.{is_own, IsOwnCopy, Ends, ended_as, committed, put_back_to_source};
+ghost use Rattle.state_core.specs.Isolating.{isolate_refusal, next_answer, next_state, Scans};
+ghost use Rattle.state_core.specs.Lawful.{IsValidZone};
+ghost use Rattle.state_core.specs.Packed.{IsPacked};
+ghost use Rattle.state_core.specs.Pairs.{HaveMet, is_calm, next_pair};
+ghost use Rattle.state_core.specs.Rounds.{round_begun};
+ghost use Rattle.state_core.specs.ZoneState.{is_quiet};
+ghost use Rattle.zone_core.specs.Counted.{IsCounted};
+ghost use Rattle.zone_core.specs.Seats.{IsFollowed};
+ghost use Rattle.zone_core.specs.ZoneIdentity.{HasIdentity};
+
+use crate::bare::BareZone;
+use journal_core::Cause;
+use state_core::{Audit, Ended, Next, Stranger, ZoneError};
+use word_core::{CopiedOf, IsolatedOf};
+
+impl<const W: usize> BareZone<W> {
+    /// Begins a round: the migrate finger is set to the bottom of the zone, and the free finger above its top. A round may begin
+    /// while pages are moving, but then it isn't quiet.
+    pub fn begin_round(&mut self)
+        ensures zone { self.new ≡ round_begun self.old }
+        ensures quiet { is_quiet self.new ≡ is_calm self.old }
+        ensures identity { HasIdentity self.old.number self.old.blocks self.new }
+        ensures lawful { IsValidZone self.new }
+    {
+        self.tables.begin_round();
+    }
+
+    /// Isolates the page of the lowest source and notes the highest free frame above it as its target, both in unmarked pageblocks
+    /// between the fingers. The page is moving from here on.
+    ///
+    /// Refused as JournalFull unless the journal has at least two places more than pages are moving, and a serial is left: the
+    /// last one is 2^32 - 2.
+    #[inline(always)]
+    pub fn isolate_next(&mut self) -> Result<Next<IsolatedOf<W>>, ZoneError>
+        ensures refused { result_err result ≡ isolate_refusal self.old }
+        ensures err { OnErr result (self.new ≡ self.old) }
+        ensures answer { IfOk result (λ next. next ≡ next_answer self.old (next_pair self.old)) }
+        ensures ok { OnOk result (self.new ≡ next_state self.old (next_pair self.old)) }
+        // The page is the one of the pair, and where there is no pair the answer is `Met`.
+        ensures pair { IfOk result (λ next. Scans self.old self.new next) }
+        // Where the scanners of a quiet round meet and no page is out, the zone is packed.
+        ensures packed { result ≡ Ok Next.Met → is_quiet self.new ≡ true → length (out self.new.records) ≡ 0 → IsPacked self.new }
+        // A page is never given the highest serial.
+        ensures followed { IfOk result IsFollowed }
+        ensures identity { HasIdentity self.old.number self.old.blocks self.new }
+        ensures lawful { IsValidZone self.new }
+    {
+        if !self.tables.has_room_for_two() || !self.tables.has_serial() {
+            return Err(ZoneError::JournalFull);
+        }
+        let Some(pair) = self.tables.next_pair() else {
+            return Ok(Next::Met);
+        };
+        let page = self.tables.isolate(pair);
+        Ok(Next::Page(page))
+    }
+
+    /// Ends the move of a page with its copy: the page is in its new frame afterwards, or in its old one where it has a pin. A
+    /// copy is handed back unless its page is moving in this zone under its serial and has the same words.
+    #[inline(always)]
+    pub fn commit(&mut self, copied: CopiedOf<W>) -> Result<Ended, Stranger<CopiedOf<W>>>
+        ensures own { IsOk result ↔ IsOwnCopy self.old copied.entry }
+        ensures back { IfErr result (λ stranger. stranger.0 ≡ copied.entry) }
+        ensures err { OnErr result (self.new ≡ self.old) }
+        ensures ended { IfOk result (λ ended. ended ≡ ended_as self.old copied.entry.page.number) }
+        ensures ok { OnOk result (self.new ≡ committed self.old copied.entry.serial copied.entry.page.number) }
+        // Of a moved page the target holds it and the source is free; of one put back it is the other way round.
+        ensures settled { IfOk result (λ ended. Ends self.old self.new copied.entry ended) }
+        // In a quiet round each commit moves its page, and no commit makes a pair.
+        ensures moves { IfOk result (λ ended. is_quiet self.old ≡ true → ended ≡ Ended.Moved) }
+        ensures met { OnOk result (is_quiet self.old ≡ true → HaveMet self.old → HaveMet self.new) }
+        ensures once { OnOk result (is_own self.new copied.entry ≡ false) }
+        ensures identity { HasIdentity self.old.number self.old.blocks self.new }
+        ensures lawful { IsValidZone self.new }
+    {
+        let Some(way) = self.tables.find_move(copied.serial(), copied.page()) else {
+            return Err(Stranger(copied));
+        };
+        if !self.tables.has_words(&way, copied.page()) {
+            return Err(Stranger(copied));
+        }
+        if self.tables.has_pin(way.page) {
+            self.tables.go_back(&way, Cause::Pinned);
+            return Ok(Ended::Back);
+        }
+        self.tables.arrive(&way, copied.page());
+        Ok(Ended::Moved)
+    }
+
+    /// Ends the move of a page that wasn't copied: the page is in its old frame afterwards. A page is handed back unless it is
+    /// moving in this zone under its serial.
+    pub fn put_back(&mut self, isolated: IsolatedOf<W>) -> Result<(), Stranger<IsolatedOf<W>>>
+        ensures own { IsOk result ↔ (is_own self.old isolated.entry ≡ true) }
+        ensures back { IfErr result (λ stranger. stranger.0 ≡ isolated.entry) }
+        ensures err { OnErr result (self.new ≡ self.old) }
+        ensures ok { OnOk result (self.new ≡ put_back_to_source self.old isolated.entry.serial isolated.entry.page.number Cause.NotCopied) }
+        ensures settled { OnOk result (Ends self.old self.new isolated.entry Ended.Back) }
+        ensures once { OnOk result (is_own self.new isolated.entry ≡ false) }
+        ensures identity { HasIdentity self.old.number self.old.blocks self.new }
+        ensures lawful { IsValidZone self.new }
+    {
+        let Some(way) = self.tables.find_move(isolated.serial(), isolated.page()) else {
+            return Err(Stranger(isolated));
+        };
+        self.tables.go_back(&way, Cause::NotCopied);
+        Ok(())
+    }
+
+    /// The counts of pages isolated, moved and put back.
+    ///
+    /// Refused as Out where a page is moving.
+    pub fn audit(&self) -> Result<Audit, ZoneError>
+        ensures refused { result_err result ≡ (if nat_lt 0 (length (out self.now.records)) then Some ZoneError.Out else None) }
+        ensures ok { IfOk result (λ audit. IsCounted self.now audit) }
+    {
+        self.tables.counted().ok_or(ZoneError::Out)
+    }
+}

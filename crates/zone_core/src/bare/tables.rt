@@ -1,0 +1,44 @@
+//! The entries of a zone's addresses, and the states and words of its frames, to be read.
+
+ghost use Rattle.std.specs.Prelude.{◌≡◌, ◌<◌, ℕ, Some, length};
+ghost use Rattle.std.specs.FinMap as map;
+ghost use Rattle.journal_core.specs.History.{last};
+ghost use Rattle.zone_tables.specs.Fits.{EntriesFit, FramesFit, MovableFit, WordsFit};
+ghost use Rattle.state_core.specs.ZoneState.{frame_count, words_frame};
+ghost use Rattle.state_core.specs.declared.placement.Placement.{Placement};
+ghost use Rattle.word_core.specs.Words.{word_of};
+
+use crate::bare::BareZone;
+use scan_core::Frames;
+use table_core::Tables;
+use word_core::WordsOf;
+
+impl<const W: usize> BareZone<W> {
+    /// The entry of each address, and the addresses that are listed under each frame.
+    pub fn tables(&self) -> &Tables
+        ensures entries { EntriesFit result.now.entries self.now }
+        ensures frames { result.now.frames ≡ frame_count self.now }
+    {
+        self.tables.tables()
+    }
+
+    /// The state of each frame, and whether the page that it holds may be taken from it.
+    pub fn frames(&self) -> &Frames
+        ensures states { FramesFit result.now.states self.now }
+        ensures movable { MovableFit result.now.movable self.now }
+    {
+        self.tables.frames()
+    }
+
+    /// The words of each frame. The frame in which a page stands has the words of this page; while a page is moving, the one
+    /// that it left has them.
+    pub fn words(&self) -> &WordsOf<W>
+        ensures words { WordsFit result.now self.now }
+        ensures frames { length result.now ≡ frame_count self.now }
+        // `Words::load` answers the value that was stored last in this word of the page, or 0.
+        ensures last { (page : ℕ) (placement : Placement) (word : ℕ) → map.get self.now.placement page ≡ Some placement
+            → word < self.now.page_size → word_of result.now (words_frame placement) word ≡ last self.now.records page word }
+    {
+        self.tables.words()
+    }
+}
