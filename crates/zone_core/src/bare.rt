@@ -31,7 +31,7 @@ use zone_tables::ZoneTables;
 /// call takes memory.
 #[derive(Drop)]
 pub struct BareZone<const W: usize> {
-    pub(crate) tables: ZoneTables<W>,
+    tables: ZoneTables<W>,
 }
 
 impl<const W: usize> Model for BareZone<W> {

@@ -18,6 +18,7 @@ mod blocks;
 mod bulk;
 mod contents;
 mod making;
+mod rounds;
 mod seats;
 mod sharing;
 mod tables;

@@ -8,7 +8,7 @@ ghost use Rattle.state_core.specs.Pairs.{HaveMet};
 ghost use Rattle.zone_core.specs.ZoneIdentity.{HasIdentity};
 
 use crate::zone::Zone;
-use frame_core::{ClientNo, PageFlags};
+use frame_core::ClientNo;
 use state_core::{ZoneAnswer, ZoneCallOf as Call, ZoneError};
 use std::sync::ledger::Ledger;
 

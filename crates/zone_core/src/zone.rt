@@ -1,18 +1,14 @@
-ghost use Rattle.std.specs.Prelude.{◌≡◌, ◌+◌, ◌/◌, ◌^◌, ◌==◌, ◌≤◌, ◌↔◌, ◌&&◌, ℕ, true, false, length, Option, Some, None, is_some, if◌then◌else◌, IsOk, IfOk, IfErr, OnOk, OnErr};
+ghost use Rattle.std.specs.Prelude.{◌≡◌, ◌+◌, ◌/◌, ◌^◌, ◌≤◌, ◌&&◌, ℕ, true, Option, Some, None, is_some, if◌then◌else◌, IfOk, IfErr, OnOk, OnErr};
 ghost use Rattle.std.specs.Int.RustNames.{bit_and};
 ghost use Rattle.zone_core.specs.Books.{AreFor};
 ghost use Rattle.state_core.specs.Clear.{BlocksAreApart, BlocksAreClear};
 ghost use Rattle.state_core.specs.Lawful.{IsValidZone};
-ghost use Rattle.journal_core.specs.Moves.{isolated, out};
 ghost use Rattle.journal_core.specs.declared.record.Record.{Record};
-ghost use Rattle.state_core.specs.Rounds.{round_begun};
-ghost use Rattle.state_core.specs.Isolating.{isolate_refusal, next_answer, next_state, Scans};
-ghost use Rattle.state_core.specs.Ending.{is_own, IsOwnCopy, Ends, ended_as, committed, put_back_to_source};
 ghost use Rattle.state_core.specs.Looking.{look_of, info_of};
 ghost use Rattle.zone_core.specs.ZoneIdentity.{HasIdentity};
-ghost use Rattle.zone_core.specs.Seats.{IsFollowed, seat_begun, seat_full, seat_noted, seat_ended, audit_refusal, IsAudited, fresh_scan_seat, fresh_end_seat};
+ghost use Rattle.zone_core.specs.Seats.{fresh_scan_seat, fresh_end_seat};
 ghost use Rattle.state_core.specs.Packed.{IsPacked, IsPlacement, unmarked_free, marked_whole, free_runs, left_whole, left_runs, places_now};
-ghost use Rattle.state_core.specs.Pairs.{HaveMet, is_calm, next_pair};
+ghost use Rattle.state_core.specs.Pairs.{HaveMet};
 ghost use Rattle.state_core.specs.Swept.{IsSwept};
 ghost use Rattle.state_core.specs.Opening.{IsOpenable, IsSize, opened_told, opened_with};
 ghost use Rattle.std.specs.Result.{result_err};
@@ -22,15 +18,14 @@ ghost use Rattle.frame_core.specs.PageFlags.{is_unmovable};
 ghost use Rattle.state_core.specs.ZoneState.{frame_count, lowest_free_frame, noted, keeps_quiet, is_quiet};
 
 use crate::bare::BareZone;
-use crate::seats::{Answered, Blanks, EndSeat, ScanSeat};
+use crate::seats::{Blanks, EndSeat, ScanSeat};
 use bitflags::Flags;
 use frame_core::{Address, ClientNo, FrameNo, PageFlags, WordOf, ZoneNo};
-use journal_core::{Cause, Journal};
-use state_core::{Audit, Ended, Info, Look, Next, Stranger, ZoneError};
+use journal_core::Journal;
+use state_core::{Info, Look, ZoneError};
 use std::alloc::Global;
 use std::marker::Model;
 use std::sync::ledger::{Book, Ledger};
-use word_core::{CopiedOf, IsolatedOf};
 
 /// A zone of 1 to 8 pageblocks, whose pages have `W` words: a bare zone with its ledgers. Its type parameters name its opening: the
 /// ledgers of the pages that are isolated, moved and put back. After `open` no call takes memory.
@@ -43,9 +38,9 @@ use word_core::{CopiedOf, IsolatedOf};
 #[derive(Drop)]
 pub struct Zone<const W: usize, I: Ledger, M: Ledger, B: Ledger> {
     pub(crate) bare: BareZone<W>,
-    isolated: Book<I>,
-    moved: Book<M>,
-    back: Book<B>,
+    pub(crate) isolated: Book<I>,
+    pub(crate) moved: Book<M>,
+    pub(crate) back: Book<B>,
 }
 
 impl<const W: usize, I: Ledger, M: Ledger, B: Ledger> Model for Zone<W, I, M, B> {
@@ -228,120 +223,6 @@ impl<const W: usize, I: Ledger, M: Ledger, B: Ledger> Zone<W, I, M, B> {
         self.bare.store(client, address, word, value)
     }
 
-    /// Begins a round: the migrate finger is set to the bottom of the zone, and the free finger above its top. The seat
-    /// counts the round. A round may begin while pages are moving, but then it isn't quiet.
-    pub fn begin_round<N: Ledger>(&mut self, seat: &mut ScanSeat<I, N>)
-        ensures zone { self.new ≡ round_begun self.old }
-        ensures seat { seat.new ≡ seat_begun seat.old }
-        ensures quiet { is_quiet self.new ≡ is_calm self.old }
-        ensures serial { seat.old.count ≡ isolated self.old.records }
-        ensures identity { HasIdentity self.old.number self.old.blocks self.new }
-        ensures lawful { IsValidZone self.new }
-    {
-        seat.tell(&mut self.isolated);
-        self.bare.begin_round();
-        seat.begin(&mut self.isolated);
-    }
-
-    /// Shows that the seat has counted the pages that were isolated, and changes nothing.
-    pub fn show_count<N: Ledger>(&mut self, seat: &mut ScanSeat<I, N>)
-        ensures serial { seat.old.count ≡ isolated self.old.records }
-        ensures same { (self.new ≡ self.old) × (seat.new ≡ seat.old) }
-        ensures lawful { IsValidZone self.new }
-    {
-        seat.tell(&mut self.isolated);
-    }
-
-    /// Isolates the page of the lowest source and notes the highest free frame above it as its target, both in unmarked pageblocks
-    /// between the fingers. The page is moving from here on. The seat counts it, and notes each answer.
-    ///
-    /// Refused as JournalFull unless the journal has at least two places more than pages are moving, and a serial is left: the
-    /// last one is 2^32 - 2. The seat notes this too.
-    #[inline(always)]
-    pub fn isolate_next<N: Ledger>(
-        &mut self,
-        seat: &mut ScanSeat<I, N>,
-    ) -> Result<Next<IsolatedOf<W>>, ZoneError>
-        ensures refused { result_err result ≡ isolate_refusal self.old }
-        ensures err { OnErr result (self.new ≡ self.old) }
-        ensures answer { IfOk result (λ next. next ≡ next_answer self.old (next_pair self.old)) }
-        ensures ok { OnOk result (self.new ≡ next_state self.old (next_pair self.old)) }
-        // The page is the one of the pair, and where there is no pair the answer is `Met`.
-        ensures pair { IfOk result (λ next. Scans self.old self.new next) }
-        // Where the scanners of a quiet round meet and no page is out, the zone is packed.
-        ensures packed { result ≡ Ok Next.Met → is_quiet self.new ≡ true → length (out self.new.records) ≡ 0 → IsPacked self.new }
-        ensures serial { seat.old.count ≡ isolated self.old.records }
-        // A page is never given the highest serial.
-        ensures followed { IfOk result IsFollowed }
-        ensures seat { IfOk result (λ next. seat.new ≡ seat_noted seat.old next) }
-        ensures full { OnErr result (seat.new ≡ seat_full seat.old) }
-        ensures identity { HasIdentity self.old.number self.old.blocks self.new }
-        ensures lawful { IsValidZone self.new }
-    {
-        seat.tell(&mut self.isolated);
-        let answer = self.bare.isolate_next();
-        match &answer {
-            Ok(Next::Page(_)) => seat.count(&mut self.isolated),
-            Ok(Next::Met) => seat.note(&mut self.isolated, Answered::Met),
-            Err(_) => seat.note(&mut self.isolated, Answered::JournalFull),
-        }
-        answer
-    }
-
-    /// Ends the move of a page with its copy: the page is in its new frame afterwards, or in its old one where it has a pin.
-    /// The seat counts it. A copy is handed back unless its page is moving in this zone under its serial and has the same
-    /// words.
-    #[inline(always)]
-    pub fn commit(
-        &mut self,
-        seat: &mut EndSeat<M, B>,
-        copied: CopiedOf<W>,
-    ) -> Result<Ended, Stranger<CopiedOf<W>>>
-        ensures own { IsOk result ↔ IsOwnCopy self.old copied.entry }
-        ensures back { IfErr result (λ stranger. stranger.0 ≡ copied.entry) }
-        ensures err { OnErr result ((self.new ≡ self.old) × (seat.new ≡ seat.old)) }
-        ensures ended { IfOk result (λ ended. ended ≡ ended_as self.old copied.entry.page.number) }
-        ensures ok { OnOk result (self.new ≡ committed self.old copied.entry.serial copied.entry.page.number) }
-        // Of a moved page the target holds it and the source is free; of one put back it is the other way round.
-        ensures settled { IfOk result (λ ended. Ends self.old self.new copied.entry ended) }
-        // In a quiet round each commit moves its page, and no commit makes a pair.
-        ensures moves { IfOk result (λ ended. is_quiet self.old ≡ true → ended ≡ Ended.Moved) }
-        ensures met { OnOk result (is_quiet self.old ≡ true → HaveMet self.old → HaveMet self.new) }
-        ensures once { OnOk result (is_own self.new copied.entry ≡ false) }
-        ensures seat { IfOk result (λ ended. seat.new ≡ seat_ended seat.old ended) }
-        ensures identity { HasIdentity self.old.number self.old.blocks self.new }
-        ensures lawful { IsValidZone self.new }
-    {
-        let ended = self.bare.commit(copied)?;
-        match ended {
-            Ended::Moved => seat.count_moved(&mut self.moved),
-            Ended::Back => seat.count_back(&mut self.back),
-        }
-        Ok(ended)
-    }
-
-    /// Ends the move of a page that wasn't copied: the page is in its old frame afterwards. The seat counts it. A page is
-    /// handed back unless it is moving in this zone under its serial.
-    pub fn put_back(
-        &mut self,
-        seat: &mut EndSeat<M, B>,
-        isolated: IsolatedOf<W>,
-    ) -> Result<(), Stranger<IsolatedOf<W>>>
-        ensures own { IsOk result ↔ (is_own self.old isolated.entry ≡ true) }
-        ensures back { IfErr result (λ stranger. stranger.0 ≡ isolated.entry) }
-        ensures err { OnErr result ((self.new ≡ self.old) × (seat.new ≡ seat.old)) }
-        ensures ok { OnOk result (self.new ≡ put_back_to_source self.old isolated.entry.serial isolated.entry.page.number Cause.NotCopied) }
-        ensures settled { OnOk result (Ends self.old self.new isolated.entry Ended.Back) }
-        ensures once { OnOk result (is_own self.new isolated.entry ≡ false) }
-        ensures seat { OnOk result (seat.new ≡ record seat.old { back = seat.old.back + 1 }) }
-        ensures identity { HasIdentity self.old.number self.old.blocks self.new }
-        ensures lawful { IsValidZone self.new }
-    {
-        self.bare.put_back(isolated)?;
-        seat.count_back(&mut self.back);
-        Ok(())
-    }
-
     /// What is known of the page that an address names: its frame and flags, or its serial while it is moving, and how many pins and
     /// addresses it has.
     ///
@@ -365,35 +246,6 @@ impl<const W: usize, I: Ledger, M: Ledger, B: Ledger> Zone<W, I, M, B> {
         ensures swept { result ≡ true → IsSwept self.now }
     {
         self.bare.quiet()
-    }
-
-    /// The counts of pages isolated, moved and put back, which are those of the two seats.
-    ///
-    /// Refused as Missing where a part of the end seat is missing, else as Out where a page is moving.
-    pub fn audit<N: Ledger>(
-        &mut self,
-        scan: &mut ScanSeat<I, N>,
-        ends: &mut EndSeat<M, B>,
-    ) -> Result<Audit, ZoneError>
-        ensures refused { result_err result ≡ audit_refusal self.old ends.old }
-        ensures ok { IfOk result (λ audit. IsAudited self.old scan.old ends.old audit) }
-        ensures whole { OnOk result (ends.new.parts ≡ 64) }
-        // The seats alone tell whether an audit with a whole end seat passes: its counts have to add up to that of the scan seat.
-        ensures exact { 64 ≤ ends.old.parts → (IsOk result ↔ (ends.old.moved + ends.old.back ≡ scan.old.count)) }
-        ensures most { 64 ≤ ends.old.parts → ends.old.moved + ends.old.back ≤ scan.old.count }
-        ensures same { self.new ≡ self.old }
-        ensures seats { (scan.new ≡ scan.old) × (ends.new ≡ ends.old) }
-        // Where the last answer of a quiet round was that the scanners met, the zone is packed.
-        ensures packed { OnOk result (is_quiet self.new ≡ true → scan.old.last ≡ Some Answered.Met → IsPacked self.new) }
-        ensures serial { scan.old.count ≡ isolated self.old.records }
-        ensures lawful { IsValidZone self.new }
-    {
-        scan.tell(&mut self.isolated);
-        ends.tell(&mut self.moved, &mut self.back);
-        if !ends.is_whole() {
-            return Err(ZoneError::Missing);
-        }
-        self.bare.audit()
     }
 
     /// The number that the zone was opened with.
