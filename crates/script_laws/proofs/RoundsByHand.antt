@@ -1,23 +1,24 @@
 -- A round by hand and a reservation by hand leave a zone in which no page is moving, and change no address and no word.
-use Rattle.std.proofs.Common.{◌≡◌, ℕ, zero, suc, ◌≤◌, Bool, true, false, refl, sym, ap, subst, Option, Some, None}
+use Rattle.std.proofs.Common.{◌≡◌, ℕ, zero, suc, ◌≤◌, Bool, true, false, refl, Option, Some, None}
 use Rattle.std.specs.FinMap as map
-use Rattle.std.specs.Prelude.{if◌then◌else◌, unwrap_or}
+use Rattle.std.specs.Prelude.{if◌then◌else◌}
 use Rattle.outcome_core.specs.Alone.{IsAtRest}
 use Rattle.outcome_core.specs.ByHand.{all_isolated, by_hand, moved_below, moved_if_moving, scan_pair, scan_step, scan_steps}
 use Rattle.outcome_core.proofs.ByHand.{moving_all, moving_isolated, none_by_hand}
 use Rattle.round_core.specs.Rounds.{stop_by_hand}
+use Rattle.state_core.proofs.Calls.{call_lawful}
+use Rattle.state_core.specs.declared.call.ZoneCall.TheVariants.{TakeOrder}
 use Rattle.state_core.specs.declared.error.ZoneError.{ZoneError}
 use Rattle.state_core.specs.declared.error.ZoneError.TheVariants as zone
 use Rattle.state_core.specs.declared.placement.Placement.{Placement}
 use Rattle.state_core.specs.declared.placement.Placement.TheVariants.{At, Moving}
 use Rattle.state_core.specs.declared.round.Pair.{Pair}
-use Rattle.state_core.specs.HandingOut.{take_order_refusal, block_taken}
+use Rattle.state_core.specs.HandingOut.{take_order_refusal}
 use Rattle.state_core.specs.Isolating.{next_state}
 use Rattle.state_core.specs.Rounds.{round_begun}
 use Rattle.state_core.specs.ZoneState.{ZoneState, frame_count}
 use Rattle.huge_core.specs.ByHand.{Reservation, asked, idle_stop, lowest_first, lowest_taken, moves, reserved_by_hand, stopped, taking, with_block, with_round}
 use Rattle.huge_core.specs.declared.report.Stop.TheVariants as stop
-use Rattle.script_laws.proofs.CallsAccepted.{some_run, take_order_lawful}
 use Rattle.script_laws.proofs.PagesMoved.{LeavesCells, leaves_all, leaves_then}
 
 -- no page is moving after it, and each address names the same page, and each word has the same value
@@ -66,11 +67,10 @@ round_rests z rest = record {
 -- A reservation by hand of blocks of an order
 module _ (order : ℕ) (low : 3 ≤ order) (high : order ≤ 9) where
   taken_rests : (z : ZoneState) → IsAtRest z → take_order_refusal z order ≡ None → Rests z (lowest_taken z order)
-  taken_rests z rest accepted =
-      let run = some_run z order accepted in
-      let law = take_order_lawful z order run.0 rest.lawful low high accepted run.1 in
-      subst (λ (first : ℕ). Rests z (block_taken z first order)) (sym (ap (λ (p : Option ℕ). unwrap_or p 0) run.1))
-      (record { rest = record { lawful = law; none_out = rest.none_out }; leaves = record { blocks = refl; names = λ address. refl; words = λ page word. refl } })
+  taken_rests z rest accepted = record {
+    rest = record { lawful = call_lawful 8 (TakeOrder order) 0 z rest.lawful (low, high) accepted; none_out = rest.none_out };
+    leaves = record { blocks = refl; names = λ address. refl; words = λ page word. refl };
+  }
 
   -- blocks are taken, and where none is free it goes on so that it rests
   taking_rests : (none : ℕ → ZoneState → Reservation) → ((left : ℕ) (now : ZoneState) → IsAtRest now → Rests now (none left now).zone) → (n : ℕ) (z : ZoneState) → IsAtRest z → Rests z (taking order n z none).zone
