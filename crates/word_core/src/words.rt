@@ -38,6 +38,13 @@ impl<const W: usize> Words<W> {
         Ok(Words { frames, words })
     }
 
+    /// How many words a page has.
+    pub fn page_words(&self) -> usize
+        ensures { result ≡ W }
+    {
+        W
+    }
+
     /// The value of a word of a frame. The frame has to be one of those that the memory was taken for, here and in each call below.
     pub fn load(&self, frame: FrameNo, word: WordOf<W>) -> u64
         requires { frame < length self.now }

@@ -131,6 +131,14 @@ impl<const W: usize> BareZone<W> {
         self.tables.number()
     }
 
+    /// How many words each page of the zone has.
+    pub fn page_words(&self) -> usize
+        ensures value { result ≡ W }
+        ensures size { self.now.page_size ≡ W }
+    {
+        self.tables.page_words()
+    }
+
     /// How many pageblocks the zone has, 1 to 8.
     pub fn blocks(&self) -> u32
         ensures blocks { result ≡ self.now.blocks }

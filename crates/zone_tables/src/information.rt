@@ -37,6 +37,14 @@ impl<const W: usize> ZoneTables<W> {
         self.number
     }
 
+    /// How many words each page of the zone has.
+    pub fn page_words(&self) -> usize
+        ensures value { result ≡ W }
+        ensures size { self.now.page_size ≡ W }
+    {
+        self.words.page_words()
+    }
+
     /// How many pageblocks the zone has.
     pub fn blocks(&self) -> u32
         ensures { result ≡ self.now.blocks }
