@@ -91,7 +91,7 @@ module _ {t m b m_new b_new : ℕ} {v : ZoneState} (u : ZoneState) (entry : Reco
       let before : is_quiet v ≡ true = sym ((λ i. is_quiet_since (records i) (round i)) ∙ quiet_kept v.records entry v.round keeps begun) ∙ quiet in
       stays before (books.met met before))
 
--- the record of a page without its last address, and the round, are those of one that has another
+-- the records and the round are the same whether or not an address was the last of its page
 same_records : (b : Bool) (z : ZoneState) (page : ℕ) → (if b then without_page z page else z).records ≡ z.records
 same_records true z page = refl
 same_records false z page = refl
@@ -171,7 +171,7 @@ same_met : (o : Option Pair) {v u : ZoneState} → next.Met ≡ next_answer v o 
 same_met None met step = step
 same_met (Some pair) met step = cc
 
--- the books, where the scanner's notes that the scanners met
+-- the books after the answer that the scanners met
 pub booked_met : {t t_new m b : ℕ} {v u : ZoneState} (count : ℕ) (last : Option Answered) (r : Result (Next IsolatedPage) ZoneError) → r ≡ Ok next.Met
     → IfOk r (λ found. found ≡ next_answer v (next_pair v)) → OnOk r (u ≡ next_state v (next_pair v)) → IfOk r (λ found. Scans v u found)
     → AreBooks t m b v → t ≡ scan_amount count last → t_new ≡ scan_amount count (Some answered.Met) → AreBooks t_new m b u

@@ -24,11 +24,8 @@ use std::alloc::Global;
 use std::marker::Model;
 use zone_tables::ZoneTables;
 
-/// A zone of 1 to 8 pageblocks, whose pages have `W` words. It has no ledgers: nothing tells in which calls its pages were isolated
-/// and moved. A `Zone` is a bare zone with its ledgers, and each of its calls does what the call of this name does here.
-///
-/// Each call says what it may be refused as, in the order of the tests. A refused call leaves the zone as it was. After `open` no
-/// call takes memory.
+/// A zone of 1 to 8 pageblocks, whose pages have `W` words, without ledgers. So its type doesn't name its opening, and its calls take no
+/// seats. What is said of refusals, of memory and of the two kinds of journal at `ZoneOf` holds here too.
 #[derive(Drop)]
 pub struct BareZone<const W: usize> {
     tables: ZoneTables<W>,

@@ -1,7 +1,7 @@
 //! A zone: its frames, the pages in them, the addresses that name these pages, and its journal.
 //!
-//! A `BareZone` is a zone without ledgers: its calls with their tests stand there once. A `Zone` is a bare zone with its ledgers. Those
-//! who scan and those who end moves count on them with their seats.
+//! A `BareZone` is a zone without ledgers: the calls with their tests. A `ZoneOf` is a bare zone with its ledgers, by which those who scan
+//! and those who end moves count with their seats.
 //!
 //! Contracts see a zone as one record, the `ZoneState` of `state_core`: the state of a machine without frame tables, words or
 //! counters. The clauses of each call say when it is refused and which step that machine makes, by the definitions of that

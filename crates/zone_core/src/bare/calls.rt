@@ -1,4 +1,6 @@
-//! The calls of clients: each with its tests in their order, and its step.
+//! The calls of clients: each with its tests in their order, and its step. What a call does is said at the method of `Zone` with its
+//! name, and in its row of the tables of calls. One that names no address is the same whichever client makes it, so its contract
+//! says client 0.
 
 ghost use Rattle.std.specs.Prelude.{◌≡◌, ◌^◌, Some, IsTrue, IfOk, OnOk, OnErr};
 ghost use Rattle.std.specs.Result.{result_err};
@@ -18,7 +20,7 @@ use frame_core::{Address, BlockNo, ClientNo, FrameNo, Order, WordOf};
 use state_core::{ZoneAnswer, ZoneCallOf as Call, ZoneError};
 
 impl<const W: usize> BareZone<W> {
-    /// Makes a call of a client, or refuses it. A call that names no address is the same whichever client makes it.
+    /// Makes a call of a client, and may refuse it. A call that names no address is the same whichever client makes it.
     pub fn make(&mut self, client: ClientNo, call: Call<W>) -> Result<ZoneAnswer, ZoneError>
         ensures refused { result_err result ≡ refusal_of call.entry self.old }
         ensures err { OnErr result (self.new ≡ self.old) }
