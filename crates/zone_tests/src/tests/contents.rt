@@ -88,15 +88,23 @@ impl<I: Ledger, N: Ledger, M: Ledger, B: Ledger> Held<I, N, M, B> {
     /// The block is given back, and a page that is mapped there has none of its words. Then the page is gone, and the block is
     /// handed out anew.
     fn holds_a_blank_page(&mut self, rt: &impl Abort) {
-        let at = address(rt, (7, 11));
         assert!(rt; self.zone.give_order(self.first, order(rt, 3)) == Ok(()));
-        let mapped = self
-            .zone
-            .map_at(client(rt), at, PageFlags::empty(), self.first);
+        let mapped = self.zone.map_at(
+            client(rt),
+            address(rt, (7, 11)),
+            PageFlags::empty(),
+            self.first,
+        );
         assert!(rt; mapped == Ok(()));
-        assert!(rt; self.zone.load(client(rt), at, word(rt, 0)) == Ok(0));
-        assert!(rt; self.zone.load(client(rt), at, word(rt, 7)) == Ok(0));
-        assert!(rt; self.zone.unmap(client(rt), at) == Ok(()));
+        let first = self
+            .zone
+            .load(client(rt), address(rt, (7, 11)), word(rt, 0));
+        let last = self
+            .zone
+            .load(client(rt), address(rt, (7, 11)), word(rt, 7));
+        assert!(rt; (first, last) == (Ok(0), Ok(0)));
+        let gone = self.zone.unmap(client(rt), address(rt, (7, 11)));
+        assert!(rt; gone == Ok(()));
         assert!(rt; self.zone.take_order(order(rt, 3)) == Ok(self.first));
     }
 }
