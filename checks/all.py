@@ -12,7 +12,7 @@ import sys
 import time
 
 FOLDER = pathlib.Path(__file__).resolve().parent
-SHARED = ("all", "runs", "machine")  # what isn't a check
+SHARED = ("all", "runs", "machine", "c_programs", "c_machine")  # what isn't a check
 SECONDS = 1800  # that a check may take
 
 

@@ -1,8 +1,8 @@
 """README.md and docs/*.md name what is there, and the README shows what is so.
 
 Each path in backticks is a file or a folder of the repository, or a guide of the kit; a path in a folder `out` is one
-that a build makes. Each word of an identifier in backticks stands in some file of `src` or `specs`, of checks/, bench/
-or launch/, or in crates.txt, and so does each name with an underscore in a block of lines. The parts of
+that a build makes. Each word of an identifier in backticks stands in some file of `src` or `specs`, of checks/, bench/,
+launch/, c/ or bindings/, or in crates.txt, and so does each name with an underscore in a block of lines. The parts of
 `Type::function` stand in one file. Left out are patterns such as `x_refusal` and `IsX`. Links lead to files and
 headings that are there.
 
@@ -29,7 +29,7 @@ from launch import program  # noqa: E402
 
 SECONDS = 120  # that a command of the README may take
 LEFT_OUT = (".git", "out", "__pycache__")
-SOURCES = ["crates/*/src/*", "crates/*/specs/*", "crates.txt", "checks/*", "bench/*", "launch/*", "examples/*"]
+SOURCES = ["crates/*/src/*", "crates/*/specs/*", "crates.txt", "checks/*", "bench/*", "launch/*", "examples/*", "c/*", "bindings/*"]
 TRIED = ("script", "replies", "fault", "rust")
 WORD = re.compile(r"[A-Za-z_]\w+")
 LONG_NAME = re.compile(r"[A-Za-z]\w*_\w+")

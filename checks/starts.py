@@ -131,7 +131,7 @@ def asked_otherwise(repository):
     """A proof proves anew where it is asked to, and knows no other word."""
     proves(repository, "a proof")
     same("a proof anew", (repository.run("prove", "--anew")[:2], repository.calls()), (PROVED, ["ci --anew"]))
-    same("another word", repository.run("prove", "now"), (2, "", "usage: ./prove [--anew]\n"))
+    same("another word", repository.run("prove", "now"), (2, "", "usage: ./prove [--c] [--anew]\n"))
 
 
 def lacks_a_kit(repository):

@@ -47,18 +47,18 @@ def lines_of_crates(root):
     return {line.partition(":")[0].split()[0]: line for line in lines if line}
 
 
-def crates_below(root):
-    """The lines of crates.txt for the program's crate and those of the repository that it stands on."""
+def crates_below(root, top="compactd"):
+    """The lines of crates.txt for a crate, that of the program, and those of the repository that it stands on."""
     lines = lines_of_crates(root)
-    found = ["compactd"]
+    found = [top]
     for crate in found:
         found += [it for it in lines[crate].partition(":")[2].split() if it in lines and it not in found]
     return {crate: lines[crate] for crate in sorted(found)}
 
 
-def digest_of(root):
-    """A digest of all but the kit that a proof of the program reads: what is allowed, the crates, and their files."""
-    crates = crates_below(root)
+def digest_of(root, top="compactd"):
+    """A digest of all but the kit that a proof of a crate reads: what is allowed, the crates, and their files."""
+    crates = crates_below(root, top)
     folders = [root / "crates" / crate / part for crate in crates for part in ("src", "specs", "proofs")]
     files = [root / "HANDLES", *(file for folder in folders for file in sorted(folder.rglob("*")))]
     digest = hashlib.sha256(repr(crates).encode())
@@ -85,12 +85,12 @@ def keep(build, kit, sources):
     note_of(build).write_text(f"{kit}\n{sources}\n{hashlib.sha256(build.read_bytes()).hexdigest()}\n")
 
 
-def install(file, build, kit, sources):
+def install(file, build, kit, sources, mode=0o755):
     """Puts a file in the place of a build, in one step, and notes what it was made from."""
     build.parent.mkdir(parents=True, exist_ok=True)
     beside = build.with_name(f"{build.name}.{os.getpid()}")
     shutil.copy(file, beside)
-    beside.chmod(0o755)
+    beside.chmod(mode)
     os.replace(beside, build)
     keep(build, kit, sources)
 

@@ -115,15 +115,16 @@ impl<const W: usize> Page<W> {
         }
     }
 
-    pub(crate) fn words(&self) -> &[u64; W]
+    /// Its words.
+    pub fn words(&self) -> &[u64; W]
         ensures value { result.now ≡ self.now.words }
         ensures size { length result.now ≡ W }
     {
         &self.words
     }
 
-    /// The page with these words.
-    pub(crate) fn carrying(zone: ZoneNo, number: PageNo, flags: PageFlags, words: [u64; W]) -> Self
+    /// The page with these flags and words.
+    pub fn carrying(zone: ZoneNo, number: PageNo, flags: PageFlags, words: [u64; W]) -> Self
         ensures { result ≡ record { zone = zone; number = number; flags = flags; words = words.entry } }
     {
         Page {

@@ -106,8 +106,9 @@ impl<const W: usize> BareZone<W> {
         Ok(())
     }
 
+    /// Reads a word of the page that an address names: the value that was stored there last, or 0.
     #[inline(always)]
-    pub(crate) fn load(
+    pub fn load(
         &mut self,
         client: ClientNo,
         address: Address,
@@ -124,8 +125,9 @@ impl<const W: usize> BareZone<W> {
         Ok(self.tables.read(client, address, read_from, word))
     }
 
+    /// Writes a word of the page that an address names.
     #[inline(always)]
-    pub(crate) fn store(
+    pub fn store(
         &mut self,
         client: ClientNo,
         address: Address,

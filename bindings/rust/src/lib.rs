@@ -1,0 +1,52 @@
+//! A page pool that makes huge pages by moving pages, over `libcompactd`, whose calls are proved.
+//!
+//! A [`Pool`] is a row of frames, 512 in each of its 1 to 8 pageblocks. A frame holds a page or is free, and an [`Address`] names a page.
+//! When free frames are scattered, [`Pool::compact`] moves pages together, and [`Pool::take_huge`] hands out a block of free frames,
+//! whose words are then the caller's to use.
+//!
+//! ```
+//! use compactd::{Address, PageSize, Pool};
+//!
+//! # fn main() -> Result<(), compactd::Error> {
+//! let mut pool = Pool::open(PageSize::Bytes4096, 2)?;
+//! // A page in each of the two pageblocks: none of them is free as a whole.
+//! let (low, high) = (Address::new(0, 0), Address::new(0, 1));
+//! pool.map_at(0, low, false, 0)?;
+//! pool.map_at(0, high, false, 512)?;
+//! pool.store(0, low, 3, 7)?;
+//! assert_eq!(pool.take_huge(9), Err(compactd::Error::NoBlock));
+//!
+//! pool.compact()?;
+//! let huge = pool.take_huge(9)?;
+//! pool.write_huge(&huge, 0, &[1, 2, 3])?;
+//! assert_eq!(pool.load(0, low, 3)?, 7);
+//! pool.give(huge)?;
+//! # Ok(())
+//! # }
+//! ```
+//!
+//! # What is proved
+//!
+//! Each function of the library is proved to meet its contract: when it is refused and with which number, what it answers, and what it
+//! leaves. This crate, which calls them, isn't proved, nor is the compiler that builds it. It is small, and safe by its types: a handle
+//! is made zeroed and is private, each call borrows the pool alone, and lengths come from slices. So the library gets what its
+//! contracts ask for.
+//!
+//! # Threads
+//!
+//! A `Pool` may be sent to another thread. Threads that share one keep it in a `Mutex`.
+
+#![deny(missing_docs, unsafe_op_in_unsafe_fn)]
+
+mod error;
+mod huge;
+mod moving;
+mod pool;
+mod raw;
+mod record;
+
+pub use error::Error;
+pub use huge::{Huge, Kept};
+pub use moving::Moving;
+pub use pool::{version, Address, Counts, Ends, Look, PageSize, Place, Pool};
+pub use record::Record;

@@ -1,0 +1,92 @@
+//! The calls of the library as C has them.
+
+use std::ffi::c_void;
+
+#[repr(C)]
+pub struct Handle {
+    pub at: *mut c_void,
+}
+
+#[repr(C)]
+#[derive(Clone, Copy, Default)]
+pub struct Counts {
+    pub free: u32,
+    pub pages: u32,
+    pub moving: u32,
+    pub huge: u32,
+    pub whole: u32,
+    pub held: u32,
+}
+
+#[repr(C)]
+#[derive(Clone, Copy, Default)]
+pub struct Ends {
+    pub isolated: u32,
+    pub moved: u32,
+    pub back: u32,
+}
+
+#[repr(C)]
+#[derive(Clone, Copy, Default)]
+pub struct Seen {
+    pub place: u32,
+    pub flags: u32,
+    pub pins: u32,
+    pub maps: u32,
+    pub moving: bool,
+}
+
+#[repr(C)]
+#[derive(Clone, Copy, Default)]
+pub struct Carried {
+    pub serial: u32,
+    pub number: u32,
+    pub flags: u32,
+}
+
+#[repr(C)]
+#[derive(Clone, Copy, Default)]
+pub struct Noted {
+    pub kind: u32,
+    pub client: u32,
+    pub space: u32,
+    pub vpage: u32,
+    pub number: u32,
+    pub other: u32,
+    pub value: u64,
+}
+
+extern "C" {
+    pub fn compactd_open(pool: *mut Handle, page_words: u32, blocks: u32) -> u32;
+    pub fn compactd_open_journal(pool: *mut Handle, page_words: u32, blocks: u32, places: u32) -> u32;
+    pub fn compactd_close(pool: *mut Handle) -> u32;
+    pub fn compactd_map(pool: *mut Handle, client: u32, space: u32, vpage: u32, unmovable: bool, frame: *mut u32) -> u32;
+    pub fn compactd_map_at(pool: *mut Handle, client: u32, space: u32, vpage: u32, unmovable: bool, frame: u32) -> u32;
+    pub fn compactd_load(pool: *mut Handle, client: u32, space: u32, vpage: u32, word: u32, value: *mut u64) -> u32;
+    pub fn compactd_store(pool: *mut Handle, client: u32, space: u32, vpage: u32, word: u32, value: u64) -> u32;
+    pub fn compactd_share(pool: *mut Handle, client: u32, space: u32, vpage: u32, alias_space: u32, alias_vpage: u32) -> u32;
+    pub fn compactd_unmap(pool: *mut Handle, client: u32, space: u32, vpage: u32) -> u32;
+    pub fn compactd_pin(pool: *mut Handle, client: u32, space: u32, vpage: u32) -> u32;
+    pub fn compactd_unpin(pool: *mut Handle, client: u32, space: u32, vpage: u32) -> u32;
+    pub fn compactd_take_order(pool: *mut Handle, order: u32, first: *mut u32) -> u32;
+    pub fn compactd_give_order(pool: *mut Handle, first: u32, order: u32) -> u32;
+    pub fn compactd_mark(pool: *mut Handle, block: u32) -> u32;
+    pub fn compactd_unmark(pool: *mut Handle, block: u32) -> u32;
+    pub fn compactd_read(pool: *mut Handle, client: u32, space: u32, vpage: u32, from: u32, values: *mut u64, count: usize) -> u32;
+    pub fn compactd_write(pool: *mut Handle, client: u32, space: u32, vpage: u32, from: u32, values: *const u64, count: usize) -> u32;
+    pub fn compactd_read_block(pool: *mut Handle, first: u32, order: u32, from: usize, values: *mut u64, count: usize) -> u32;
+    pub fn compactd_write_block(pool: *mut Handle, first: u32, order: u32, from: usize, values: *const u64, count: usize) -> u32;
+    pub fn compactd_info(pool: *mut Handle, counts: *mut Counts) -> u32;
+    pub fn compactd_look(pool: *mut Handle, space: u32, vpage: u32, seen: *mut Seen) -> u32;
+    pub fn compactd_marked(pool: *mut Handle, block: u32, marked: *mut bool) -> u32;
+    pub fn compactd_quiet(pool: *mut Handle, quiet: *mut bool) -> u32;
+    pub fn compactd_audit(pool: *mut Handle, ends: *mut Ends) -> u32;
+    pub fn compactd_compact(pool: *mut Handle, met: *mut bool) -> u32;
+    pub fn compactd_begin_round(pool: *mut Handle) -> u32;
+    pub fn compactd_isolate(pool: *mut Handle, carried: *mut Carried, words: *mut u64, count: usize) -> u32;
+    pub fn compactd_commit(pool: *mut Handle, serial: u32, number: u32, words: *const u64, count: usize, moved: *mut bool) -> u32;
+    pub fn compactd_put_back(pool: *mut Handle, serial: u32, number: u32) -> u32;
+    pub fn compactd_journal(pool: *mut Handle, records: *mut u64, room: *mut u64) -> u32;
+    pub fn compactd_record(pool: *mut Handle, place: usize, record: *mut Noted) -> u32;
+    pub fn compactd_version() -> u32;
+}

@@ -1,0 +1,35 @@
+/* Opens a pool, maps and stores, compacts, takes a huge page and uses its memory. */
+#include "compactd.h"
+
+#include <stdio.h>
+
+int main(void)
+{
+    compactd_pool pool = {0};
+    uint64_t words[2] = {5, 6}, value = 0;
+    uint32_t first = 0;
+    compactd_bool met = 0;
+
+    if (compactd_open(&pool, 512, 2) != COMPACTD_OK)
+        return 1;
+    /* One page in each of the two pageblocks, so that none of them is free as a whole. */
+    compactd_map_at(&pool, 0, 0, 0, 0, 0);
+    compactd_map_at(&pool, 0, 0, 1, 0, 512);
+    compactd_store(&pool, 0, 0, 0, 3, 7);
+    printf("a huge page is refused as %u\n", (unsigned)compactd_take_order(&pool, 9, &first));
+
+    compactd_compact(&pool, &met);
+    if (compactd_take_order(&pool, 9, &first) != COMPACTD_OK)
+        return 1;
+    printf("a huge page from frame %u on\n", (unsigned)first);
+
+    compactd_write_block(&pool, first, 9, 1000, words, 2);
+    words[0] = words[1] = 0;
+    compactd_read_block(&pool, first, 9, 1000, words, 2);
+    printf("its words 1000 and 1001 are %lu and %lu\n", (unsigned long)words[0], (unsigned long)words[1]);
+    compactd_load(&pool, 0, 0, 0, 3, &value);
+    printf("word 3 of the page is %lu\n", (unsigned long)value);
+
+    compactd_close(&pool);
+    return 0;
+}

@@ -1,0 +1,369 @@
+"""Random calls of the library for C are answered as by the machine of `checks/machine.py`.
+
+A million calls are made through `libcompactd.so` and beside them on the machine, with pages of both sizes, with a journal and without one,
+among them rounds, and pages that are carried by hand. After each the number of its refusal is compared, and what it tells; where it is
+refused, what it would have told has to be untouched. Numbers are also out of their ranges. All refusals come up but those of a pool
+that is closed, open already or can't have its memory, which `checks/c_exports.py` tries. At the end the records of each pool are
+compared too."""
+
+import collections
+import ctypes
+import random
+
+import c_programs
+import runs
+from c_machine import ByMachine, Zone
+from machine import Refused
+
+POOLS = 40
+CALLS_OF_A_POOL = 25_000
+TOLD_PLACES = 2**53
+UNTOUCHED = 0xA5  # in each byte where a call may write
+# What random calls can't come to.
+APART = {"MEMORY", "OPEN", "CLOSED"}
+u32, u64, size, flag, byte = ctypes.c_uint32, ctypes.c_uint64, ctypes.c_size_t, ctypes.c_bool, ctypes.c_ubyte
+
+
+class Handle(ctypes.Structure):
+    _fields_ = [("at", ctypes.c_void_p)]
+
+
+class Counts(ctypes.Structure):
+    _fields_ = [(name, u32) for name in ("free", "pages", "moving", "huge", "whole", "held")]
+
+
+class Seen(ctypes.Structure):
+    _fields_ = [*((name, u32) for name in ("place", "flags", "pins", "maps")), ("moving", byte)]
+
+
+class Carried(ctypes.Structure):
+    _fields_ = [(name, u32) for name in ("serial", "number", "flags")]
+
+
+class Noted(ctypes.Structure):
+    _fields_ = [*((name, u32) for name in ("kind", "client", "space", "vpage", "number", "other")), ("value", u64)]
+
+
+class Ends(ctypes.Structure):
+    _fields_ = [(name, u32) for name in ("isolated", "moved", "back")]
+
+
+def loaded():
+    """The library, with what its calls take."""
+    library = ctypes.CDLL(str(c_programs.folder() / "libcompactd.so"))
+    for name, arguments in ARGUMENTS.items():
+        call = getattr(library, f"compactd_{name}")
+        call.argtypes, call.restype = [ctypes.POINTER(Handle), *arguments], u32
+    return library
+
+
+def told(kind):
+    return ctypes.POINTER(kind)
+
+
+ARGUMENTS = {
+    "open": [u32, u32],
+    "open_journal": [u32, u32, u32],
+    "close": [],
+    "map": [u32, u32, u32, flag, told(u32)],
+    "map_at": [u32, u32, u32, flag, u32],
+    "load": [u32, u32, u32, u32, told(u64)],
+    "store": [u32, u32, u32, u32, u64],
+    "share": [u32, u32, u32, u32, u32],
+    "unmap": [u32, u32, u32],
+    "pin": [u32, u32, u32],
+    "unpin": [u32, u32, u32],
+    "take_order": [u32, told(u32)],
+    "give_order": [u32, u32],
+    "mark": [u32],
+    "unmark": [u32],
+    "read": [u32, u32, u32, u32, told(u64), size],
+    "write": [u32, u32, u32, u32, told(u64), size],
+    "read_block": [u32, u32, size, told(u64), size],
+    "write_block": [u32, u32, size, told(u64), size],
+    "info": [told(Counts)],
+    "look": [u32, u32, told(Seen)],
+    "marked": [u32, told(byte)],
+    "quiet": [told(byte)],
+    "audit": [told(Ends)],
+    "compact": [told(byte)],
+    "begin_round": [],
+    "isolate": [told(Carried), told(u64), size],
+    "commit": [u32, u32, told(u64), size, told(byte)],
+    "put_back": [u32, u32],
+    "journal": [told(u64), told(u64)],
+    "record": [size, told(Noted)],
+}
+
+
+# Random calls.
+
+
+class Chooser:
+    """Chooses calls and their arguments: few addresses, so that calls meet, and now and then a number out of its range."""
+
+    def __init__(self, chance, page_words, blocks):
+        self.chance = chance
+        self.page_words = page_words
+        self.frames = 512 * blocks
+        self.blocks = blocks
+        self.pages = chance.choice([20, 200, 4000])
+        self.spaces = chance.choice([1, 8])
+
+    def number(self, count, limit=None):
+        """A number below a count, and once in 200 times one at the limit of its range or far beyond it."""
+        if self.chance.random() < 0.005:
+            return self.chance.choice([limit or count, 2**32 - 1])
+        return self.chance.randrange(count)
+
+    def place(self):
+        return self.number(8), self.number(self.spaces, 8), self.number(self.pages, 4096)
+
+    def is_unmovable(self):
+        return self.chance.random() < 0.05
+
+    def order(self):
+        return self.chance.choice([3, 3, 3, 4, 5, 6, 7, 8, 9, 9, self.number(12)])
+
+    def map(self):
+        return *self.place(), self.is_unmovable()
+
+    def map_at(self):
+        return *self.place(), self.is_unmovable(), self.number(self.frames, 4096)
+
+    def load(self):
+        return *self.place(), self.number(self.page_words)
+
+    def store(self):
+        return *self.place(), self.number(self.page_words), self.chance.getrandbits(64)
+
+    def share(self):
+        return *self.place(), *self.place()[1:]
+
+    unmap = unpin = place
+
+    def pin(self):
+        """Often the same page, so that it gets all the pins that one may have."""
+        return (0, 0, 0) if self.chance.random() < 0.5 else self.place()
+
+    def take_order(self):
+        return (self.order(),)
+
+    def give_order(self):
+        order = self.order()
+        return self.number(self.frames >> min(order, 9), 4096) << min(order, 9), order
+
+    def mark(self):
+        return (self.number(self.blocks, 8),)
+
+    unmark = marked = mark
+
+    def count(self):
+        return self.chance.choice([0, 1, 2, self.page_words, self.chance.randrange(20)])
+
+    def values(self):
+        return [self.chance.getrandbits(64) for _ in range(self.count())]
+
+    def read(self):
+        return *self.place(), self.number(self.page_words), self.count()
+
+    def write(self):
+        return *self.place(), self.number(self.page_words), self.values()
+
+    def part(self):
+        """A block, and a place in it: now and then its last word, or one behind it."""
+        first, order = self.give_order()
+        words = self.page_words << min(order, 9)
+        return first, order, self.chance.choice([0, self.chance.randrange(words), words - 1, words])
+
+    def read_block(self):
+        return *self.part(), self.count()
+
+    def write_block(self):
+        return *self.part(), self.values()
+
+    def info(self):
+        return ()
+
+    quiet = audit = compact = begin_round = info
+
+    def look(self):
+        return self.place()[1:]
+
+
+OFTEN = {
+    **dict.fromkeys(["map", "load", "store", "unmap"], 200),
+    **dict.fromkeys(["map_at", "share", "look", "write", "read"], 60),
+    **dict.fromkeys(["pin", "unpin"], 40),
+    **dict.fromkeys(["take_order", "give_order", "read_block", "write_block"], 15),
+    **dict.fromkeys(["mark", "unmark", "marked", "info", "quiet", "audit"], 5),
+    **dict.fromkeys(["compact", "begin_round"], 1),
+    **dict.fromkeys(["isolate", "commit"], 20),
+    "put_back": 5,
+}
+# The calls that end the quiet of a round where they are accepted.
+LOUD = {"map", "map_at", "share", "unmap", "pin", "unpin", "take_order", "give_order", "mark", "unmark"}
+BY_HAND = {"isolate", "commit", "put_back"}
+
+
+class Beside:
+    """A pool of the library, and the machine beside it."""
+
+    def __init__(self, library, page_words, blocks, places):
+        self.library, self.handle = library, Handle()
+        self.machine = ByMachine(Zone(page_words, blocks, places or TOLD_PLACES))
+        opening = ("open_journal", page_words, blocks, places) if places else ("open", page_words, blocks)
+        if answer := self.call(*opening):
+            raise runs.Failed(f"{opening} is refused {answer}")
+        self.carried = {}  # by their serials: the numbers and the words of the pages that are moving
+
+    def call(self, name, *arguments):
+        return getattr(self.library, f"compactd_{name}")(self.handle, *arguments)
+
+    def answers(self, name, arguments):
+        """What the library answers, and what it tells."""
+        if name.startswith("read"):
+            words = fresh(u64 * (arguments[-1] + 1))
+            return self.call(name, *arguments[:-1], words, arguments[-1]), words
+        if name.startswith("write"):
+            values = arguments[-1]
+            return self.call(name, *arguments[:-1], (u64 * (len(values) + 1))(*values), len(values)), None
+        kinds = [kind._type_ for kind in ARGUMENTS[name] if hasattr(kind, "contents")]
+        places = [fresh(kind) for kind in kinds]
+        return self.call(name, *arguments, *places), places[0] if places else None
+
+    def wanted(self, name, arguments):
+        """The same of the machine."""
+        try:
+            said = getattr(self.machine, name)(*arguments)
+        except Refused as refused:
+            return refused.number, None
+        if name in LOUD:
+            self.machine.zone.is_quiet = False
+        return 0, said
+
+    def compare(self, name, arguments):
+        """Makes a call on both, and returns the number that both answer."""
+        number, said = self.wanted(name, arguments)
+        answer, place = self.answers(name, arguments)
+        found, untouched = value_of(place), value_of(fresh(type(place)) if place is not None else None)
+        if said is None:
+            said = untouched
+        elif name.startswith("read"):
+            said = *said, *untouched[len(said) :]
+        if (answer, found) != (number, said):
+            raise wrong_answer(f"{name}{arguments}", (answer, found), (number, said))
+        return answer
+
+
+    def compare_records(self, places):
+        """Compares the journal with the machine's records, where it is kept; else none is told."""
+        counted = [fresh(u64), fresh(u64)]
+        self.call("journal", *counted)
+        wanted, room = self.machine.zone.records, self.machine.zone.places
+        if [place.value for place in counted] != [len(wanted), room]:
+            raise wrong_answer("journal", [place.value for place in counted], [len(wanted), room])
+        kept = wanted if places else []
+        for at, record in enumerate(kept):
+            noted = fresh(Noted)
+            answer, found = self.call("record", at, noted), value_of(noted)
+            if answer or any(number not in (None, told) for number, told in zip(record, found)):
+                raise wrong_answer(f"record {at}", found, record)
+        if self.call("record", len(kept), fresh(Noted)) != 1:
+            raise runs.Failed("a record is told past the newest, or of a journal that isn't kept")
+
+    # Pages by hand.
+
+    def carry(self, name, chance):
+        """Isolates a page or ends the move of one, and returns the number that both answer."""
+        made = self.isolate(chance) if name == "isolate" else self.end(name, chance)
+        found, wanted = made
+        if found != wanted:
+            raise wrong_answer(name, found, wanted)
+        return found[0]
+
+    def isolate(self, chance):
+        count = chance.choice([0, 8, 512]) if chance.random() < 0.02 else self.machine.zone.page_words
+        carried, words = fresh(Carried), fresh(u64 * (count + 1))
+        number, said = self.wanted("isolate", (count,))
+        answer = self.call("isolate", carried, words, count)
+        if answer == 0:
+            self.carried[carried.serial] = carried.number, list(words)[:count]
+        untouched = value_of(fresh(Carried))[0], value_of(fresh(Carried))[2], value_of(fresh(u64 * (count + 1)))
+        wanted = untouched if said is None else (*said[:2], said[2] + untouched[2][-1:])
+        return (answer, (carried.serial, carried.flags, tuple(words))), (number, wanted)
+
+    def end(self, name, chance):
+        """Ends the move of a page, or of none: now and then with a number or a word that isn't the page's."""
+        serial = chance.choice([*self.carried, 2**32 - 1])
+        own = self.carried.get(serial, (7, [0] * self.machine.zone.page_words))
+        page, words = own[0] + (chance.random() < 0.05), list(own[1])
+        if name == "put_back":
+            number, _ = self.wanted(name, (serial, serial in self.carried and page == own[0]))
+            answer = self.call(name, serial, page)
+            self.forget(serial, answer)
+            return (answer, None), (number, None)
+        words += [0] * (chance.random() < 0.02)
+        words[chance.randrange(len(words))] ^= chance.random() < 0.05
+        is_own = serial in self.carried and (page, words) == own
+        number, said = self.wanted(name, (serial, is_own, len(words)))
+        moved = fresh(byte)
+        answer = self.call(name, serial, page, (u64 * len(words))(*words), len(words), moved)
+        self.forget(serial, answer)
+        return (answer, moved.value), (number, UNTOUCHED if said is None else said)
+
+    def forget(self, serial, answer):
+        if answer == 0:
+            del self.carried[serial]
+
+
+def wrong_answer(call, found, wanted):
+    return runs.Failed(f"{call[:200]}: it answers {str(found)[:200]}, and not {str(wanted)[:200]}")
+
+
+def fresh(kind):
+    """A place where a call may write."""
+    place = kind()
+    ctypes.memset(ctypes.byref(place), UNTOUCHED, ctypes.sizeof(place))
+    return place
+
+
+def value_of(place):
+    """What stands in a place."""
+    if isinstance(place, ctypes.Structure):
+        return tuple(getattr(place, name) for name, _ in place._fields_)
+    if isinstance(place, ctypes.Array):
+        return tuple(place)
+    return None if place is None else place.value
+
+
+def random_calls(seed):
+    """How often each call and each refusal came up among random calls of a pool."""
+    chance = random.Random(seed)
+    page_words, blocks = chance.choice([8, 512]), chance.choice([1, 1, 2, 3, 8])
+    places = chance.choice([None, 300, 5_000, 65_536])
+    library, chooser = loaded(), Chooser(chance, page_words, blocks)
+    pool, found = Beside(library, page_words, blocks, places), collections.Counter()
+    for name in chance.choices(list(OFTEN), list(OFTEN.values()), k=CALLS_OF_A_POOL):
+        answer = pool.carry(name, chance) if name in BY_HAND else pool.compare(name, getattr(chooser, name)())
+        found[name, answer] += 1
+    pool.compare_records(places)
+    if pool.call("close"):
+        raise runs.Failed("the pool can't be closed")
+    return found
+
+
+def main():
+    c_programs.folder()  # once, before the processes part
+    found = collections.Counter()
+    for counted in runs.each(random_calls, range(POOLS)):
+        found += counted
+    numbers = {number for _, number in found}
+    lacking = [name for name, number in c_programs.refusals().items() if name not in APART and number not in numbers]
+    if lacking:
+        raise runs.Failed(f"no random call is refused as {', '.join(lacking)}")
+    return f"{sum(found.values())} random calls are answered as by the machine, {len(numbers) - 1} refusals came up"
+
+
+if __name__ == "__main__":
+    c_programs.start(main)

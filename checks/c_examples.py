@@ -1,0 +1,93 @@
+"""The examples of the library for C write what stands beside them, from C, C++ and Rust, also under AddressSanitizer, UBSan and valgrind.
+
+The archive is linked by name and as pkg-config has it, and the shared library too. The tests and documents of the Rust crate pass, and
+threads that share a pool under one lock are clean under gcc's ThreadSanitizer. The sanitizers see what the C and C++ of the examples
+and the headers do, and the memory that the library asks for and copies, but not its own loads and stores; valgrind sees these too."""
+
+import os
+import pathlib
+import shutil
+import tempfile
+
+import c_programs
+import runs
+from c_programs import BINDING, EXAMPLES
+
+TESTS = runs.ROOT / "c/tests"
+PROGRAMS = [
+    *(EXAMPLES / name for name in ("first.c", "buffers.c", "vm.cpp")),
+    *(TESTS / name for name in ("every_call.c", "four_threads.c", "rounds.c", "owners.cpp")),
+]
+ADDRESSES = ["-fsanitize=address,undefined", "-fno-sanitize-recover=all"]
+THREADS = ["-fsanitize=thread"]
+VALGRIND = ["valgrind", "-q", "--error-exitcode=9", "--leak-check=full", "--errors-for-leak-kinds=all"]
+OF_THREADS = ("buffers.c", "four_threads.c", "rounds.c")
+
+
+def wanted(source):
+    """What a program writes: what stands in the file beside it, or anything where there is none."""
+    file = source.with_suffix(".output")
+    return file.read_bytes() if file.is_file() else None
+
+
+def compare(command, source, how):
+    ran = c_programs.done(command, f"{source.name} {how}")
+    if wanted(source) not in (None, ran.output):
+        raise runs.Failed(f"{source.name} {how} writes\n{c_programs.text(ran.output)}")
+    if ran.error:
+        raise runs.Failed(f"{source.name} {how} writes errors\n{c_programs.text(ran.error)}")
+
+
+def try_program(source, room):
+    """Runs a program, and runs it under each tool that there is. Returns under how many."""
+    plain = c_programs.built(source, room / source.stem)
+    compare([plain], source, "")
+    tried = [("under AddressSanitizer and UBSan", [c_programs.built(source, room / f"{source.stem}_a", ADDRESSES)])]
+    if source.name in OF_THREADS:
+        tried.append(("under ThreadSanitizer", [c_programs.built(source, room / f"{source.stem}_t", THREADS)]))
+    if shutil.which("valgrind"):
+        tried.append(("under valgrind", [*VALGRIND, plain]))
+    for how, command in tried:
+        compare(command, source, how)
+    return len(tried)
+
+
+def try_linking(room):
+    """Links an example by the shared library, and as pkg-config says."""
+    folder, source = c_programs.folder(), EXAMPLES / "first.c"
+    by_name = ["gcc", source, f"-I{folder}", f"-L{folder}", "-lcompactd", f"-Wl,-rpath,{folder}", "-o", room / "shared"]
+    c_programs.done(by_name, "first.c isn't linked with the shared library")
+    compare([room / "shared"], source, "with the shared library")
+    if not shutil.which("pkg-config"):
+        return
+    asked = ["pkg-config", "--cflags", "--libs", "compactd"]
+    told = c_programs.done(asked, "pkg-config", env={**os.environ, "PKG_CONFIG_PATH": str(folder)})
+    c_programs.done(["gcc", source, *c_programs.text(told.output).split(), "-o", room / "packaged"], "as pkg-config has it")
+    compare([room / "packaged"], source, "as pkg-config has it")
+
+
+def try_rust(room):
+    """Builds the crate outside the repository, and runs its tests, those of its documents, and its example."""
+    variables = {**os.environ, "COMPACTD_DIR": str(c_programs.folder()), "CARGO_TARGET_DIR": str(room), "RUSTFLAGS": "-D warnings"}
+    how = {"cwd": BINDING, "env": variables}
+    c_programs.done(["cargo", "test", "-q", "--offline", "--locked"], "the tests of the Rust crate", **how)
+    example = BINDING / "examples/first.rs"
+    ran = c_programs.done(["cargo", "run", "-q", "--offline", "--locked", "--example", "first"], "the example in Rust", **how)
+    if ran.output != wanted(example):
+        raise runs.Failed(f"the example in Rust writes\n{c_programs.text(ran.output)}")
+
+
+def main():
+    with tempfile.TemporaryDirectory() as room:
+        room = pathlib.Path(room)
+        tried = sum(try_program(source, room) for source in PROGRAMS)
+        try_linking(room)
+        rust = "the Rust crate isn't tried, since there is no cargo"
+        if shutil.which("cargo"):
+            try_rust(room / "rust")
+            rust = "the Rust crate's tests and example pass"
+    return f"{len(PROGRAMS)} programs in C and C++ write what they have to, and {tried} times under tools; {rust}"
+
+
+if __name__ == "__main__":
+    c_programs.start(main, "gcc", "g++")

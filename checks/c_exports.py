@@ -1,0 +1,150 @@
+"""The header for C and the archive name the same functions, and the archive has no data that is written and calls nothing but for memory.
+
+Each function of the header takes what the export of its name takes in `crates/compactd_c/src`, in its order, and each structure of
+the header has the fields of one there. Each function of the header is an export of the archive and of the shared library, and there is
+no other export but the three of the kit's heap in the archive. Besides these it names malloc, realloc, free, memcpy, memmove and
+memset alone, so it can neither print nor wait nor end the process. The headers compile from C89 and C++98 on, `compactd.hpp` from
+C++11, without a warning. A program calls each function and gets each refusal, on pools that are closed, open, closed again and closed
+twice, with pages of both sizes. Each request for memory that an opening makes is refused in turn: the answer is 14, the pool is
+closed, and nothing is lost."""
+
+import pathlib
+import re
+import shutil
+import tempfile
+
+import c_programs
+import runs
+
+HEAP = {"rattle_alloc", "rattle_realloc", "rattle_dealloc"}
+CALLED = {"malloc", "realloc", "free", "memcpy", "memmove", "memset"}
+BY_OPENING = "-Wl,--wrap=malloc,--wrap=realloc,--wrap=free"
+STANDARDS = {
+    ("compactd.h", "c"): "c89 c99 c11 c17",
+    ("compactd.h", "c++"): "c++98 c++11 c++17 c++20",
+    ("compactd_round.h", "c"): "c89 c99 c17",
+    ("compactd_round.h", "c++"): "c++98 c++11 c++20",
+    ("compactd.hpp", "c++"): "c++11 c++14 c++17 c++20",
+}
+SOURCES = runs.ROOT / "crates/compactd_c/src"
+POOL = "compactd_pool *"
+NUMBERS = {"u32": "uint32_t", "u64": "uint64_t", "usize": "size_t", "bool": "compactd_bool"}
+# A byte of the kit's heap, whose address stands for memory of no size.
+NOTHING = "nothing"
+
+
+def symbols(file, *options):
+    """The names in a file, under their kinds, as nm has them."""
+    told = c_programs.done(["nm", *options, file], f"nm {file.name}").output.decode()
+    found = {}
+    for kind, name in re.findall(r"^[0-9a-f ]* ([A-Za-z]) (.*)$", told, re.M):
+        found.setdefault(kind, set()).add(name.partition("@")[0])
+    return found
+
+
+def need_same(what, found, allowed):
+    if found != allowed:
+        raise runs.Failed(f"{what}: {sorted(found - allowed)} shouldn't be there, {sorted(allowed - found)} are missing")
+
+
+def compare_names():
+    """The exports, and what is called."""
+    declared, folder = c_programs.exports_of_header(), c_programs.folder()
+    archive, shared = symbols(folder / "libcompactd.a"), symbols(folder / "libcompactd.so", "-D", "--defined-only")
+    need_same("exports of the archive", archive["T"], declared | HEAP)
+    need_same("exports of the shared library", set().union(*shared.values()), declared)
+    if others := archive["U"] - CALLED - HEAP:
+        raise runs.Failed(f"the archive calls {sorted(others)}")
+    written = set().union(*(archive.get(kind, set()) for kind in "bBdDC"))
+    need_same("data that may be written", written, {NOTHING})
+    return declared
+
+
+def of_header():
+    """What each function of the header takes and returns, and the fields of its structures."""
+    text = re.sub(r"/\*.*?\*/", "", (c_programs.HEADERS / "compactd.h").read_text(), flags=re.DOTALL)
+    calls = {}
+    for returned, name, taken in re.findall(r"^(\w+) (compactd_\w+)\(([^)]*)\);", text, re.M):
+        kinds = [re.sub(r"\w+$", "", " ".join(it.split())).strip() for it in taken.split(",")]
+        calls[name] = returned, [] if taken == "void" else kinds
+    structures = re.findall(r"typedef struct (compactd_\w+) \{(.*?)\}", text, re.DOTALL)
+    return calls, {name: re.findall(r"(\w+ \**)(\w+);", fields) for name, fields in structures if f"{name} *" != POOL}
+
+
+def of_sources():
+    """The same of the exports, in the words of C."""
+    text = "".join(re.sub(r"//.*", "", file.read_text()) for file in sorted(SOURCES.rglob("*.rt")))
+    structures = {
+        f"compactd_{name.lower()}": [(f"{NUMBERS[kind]} ", field) for field, kind in re.findall(r"(\w+): (\w+),", fields)]
+        for name, fields in re.findall(r"#\[repr\(C\)\]\s*(?:#\[[^\n]*\]\s*)?pub struct (\w+) \{(.*?)\n\}", text, re.DOTALL)
+        if name != "Pool"
+    }
+    calls = {}
+    for name, taken, returned in re.findall(r'pub extern "C" fn (\w+)\(([^)]*)\)(?: -> (\w+))?', text):
+        kinds = [kind for kind in re.findall(r"\w+: ([^,]+)", taken) if kind.strip() != "Global"]
+        calls[name] = NUMBERS.get(returned, "void"), [it for kind in kinds for it in in_c(" ".join(kind.split()))]
+    return calls, structures
+
+
+def in_c(kind):
+    """The words of C for what an export takes. A slice is a pointer and a count."""
+    const = "" if kind.startswith("&mut ") or not kind.startswith("&") else "const "
+    inner = re.sub(r"^&(mut )?", "", kind)
+    if inner.startswith("["):
+        return [f"{const}{NUMBERS[inner[1:-1]]} *", "size_t"]
+    name = NUMBERS.get(inner, f"compactd_{inner.lower()}")
+    return [f"{const}{name} *" if kind.startswith("&") else name]
+
+
+def compare_types():
+    """What functions take, and the fields of structures, in the header and in the sources of the exports."""
+    for what, of_c, of_rattle in zip(("function", "structure"), of_header(), of_sources()):
+        need_same(f"each {what}", set(of_c), set(of_rattle))
+        if wrong := [f"{name}: {of_c[name]}, and not {of_rattle[name]}" for name in of_c if of_c[name] != of_rattle[name]]:
+            raise runs.Failed("\n".join(wrong))
+
+
+def compile_headers():
+    """The headers by each compiler that there is, by themselves. How many times."""
+    compilers = {"c": ["gcc", "clang"], "c++": ["g++", "clang++"]}
+    commands = [
+        [compiler, f"-std={standard}", "-D_POSIX_C_SOURCE=200809L", *c_programs.STRICT, "-fsyntax-only", "-x", language, source]
+        for (header, language), standards in STANDARDS.items()
+        for standard in standards.split()
+        for compiler in compilers[language]
+        if shutil.which(compiler)
+        for source in [c_programs.HEADERS / header]
+    ]
+    for command in commands:
+        alone = ["-Wno-pragma-once-outside-header"] if command[0].startswith("clang") else []
+        c_programs.done([*command, *alone], f"{pathlib.Path(command[-1]).name} isn't compiled by {command[0]} {command[1]}")
+    return len(commands)
+
+
+def need_every_call(declared):
+    """Each function and each refusal stands in the program that calls them, but MEMORY, which the other one gets."""
+    text, of_memory = ((runs.ROOT / f"c/tests/{name}.c").read_text() for name in ("every_call", "refused_memory"))
+    called = set(re.findall(r"\b(compactd_\w+)\(", text))
+    refused = set(re.findall(r"\bIS\(([A-Z_]+),", text)) | {"OK"} | ({"MEMORY"} if "COMPACTD_MEMORY" in of_memory else set())
+    need_same("functions that are called", called, declared)
+    need_same("refusals that come up", refused, set(c_programs.refusals()))
+
+
+def main():
+    compare_types()
+    declared = compare_names()
+    compiled = compile_headers()
+    need_every_call(declared)
+    with tempfile.TemporaryDirectory() as room:
+        for name, options in (("every_call", []), ("refused_memory", [BY_OPENING])):
+            built = c_programs.built(runs.ROOT / f"c/tests/{name}.c", pathlib.Path(room, name), options)
+            ran = c_programs.done([built], name)
+    requests = re.findall(rb"(\d+) requests", ran.output)
+    return (
+        f"{len(declared)} functions are exported and called, {len(c_programs.refusals()) - 1} refusals come up, the headers are compiled"
+        f" {compiled} times, and each of {sum(map(int, requests))} requests for memory of {len(requests)} openings was refused in turn"
+    )
+
+
+if __name__ == "__main__":
+    c_programs.start(main, "gcc", "g++", "nm")

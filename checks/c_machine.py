@@ -1,0 +1,228 @@
+"""The machine of `checks/machine.py` with the calls of the library for C, in numbers, for `checks/c_calls.py`."""
+
+import machine
+from machine import Refused
+
+MET = 53  # the answer of an isolation where the scanners have met
+
+
+class Zone(machine.Zone):
+    """The machine's zone, with pages of any size and with what C asks in numbers, and with its records: their kinds and numbers, where
+    that of a page stands as None."""
+
+    def __init__(self, page_words, blocks, places):
+        super().__init__(0, blocks, places)
+        self.page_words = page_words
+        self.high = 0  # no round was begun
+        self.is_quiet = False
+        self.moved = self.back = 0
+        self.contents = {}  # by a block's first frame: its words that aren't 0, by their places
+        self.records = []
+
+    def note(self, kind, client=0, address=(0, 0), number=0, other=0, value=0):
+        self.records.append((kind, client, *address, number, other, value))
+
+    def map(self, address, unmovable=False, frame=None):
+        super().map(address, unmovable, frame)
+        page = self.pages[address]
+        page.words = [0] * self.page_words
+        return page.frame
+
+    def begin_round(self):
+        super().begin_round()
+        self.is_quiet = not self.moving and not any(map(self.is_stuck, range(self.size)))
+
+    def is_stuck(self, frame):
+        held = self.frames[frame]
+        is_page = isinstance(held, machine.Page)
+        stays = is_page and (held.unmovable or held.pins > 0)
+        return not self.is_marked(frame) and (stays or held is not None and not is_page)
+
+    def take_next(self):
+        page = super().take_next()
+        if page is not None:
+            self.note(8, number=page.serial, other=None)
+        return page
+
+    def end_move(self, page, is_moved, cause=1):
+        self.note(9 if is_moved else 10, number=page.serial, other=0 if is_moved else cause)
+        super().end_move(page, is_moved)
+        self.moved += is_moved
+        self.back += not is_moved
+
+    def bulk(self, address, start, count):
+        """The page whose words, so many from one on, are read or written."""
+        if start + count > self.page_words:
+            raise Refused(1)
+        self.need_places(count)
+        page = self.need_still_page(address)
+        self.places -= count
+        return page
+
+    def block(self, first, order, start, count):
+        """The words of a block that is handed out."""
+        if (first, order) not in self.handed_out:
+            raise Refused(12)
+        if start + count > 2**order * self.page_words:
+            raise Refused(1)
+        return self.contents[first]
+
+
+def need(*limits):
+    """Refuses a number that isn't below its limit."""
+    if any(number >= limit for number, limit in limits):
+        raise Refused(1)
+
+
+def need_place(client, space, page):
+    need((client, 8), (space, 8), (page, 4096))
+    return space, page
+
+
+def need_order(order):
+    if not 3 <= order <= 9:
+        raise Refused(1)
+
+
+class ByMachine:
+    """The calls on the machine: what each tells, or None."""
+
+    def __init__(self, zone):
+        self.zone = zone
+
+    def map(self, client, space, page, unmovable):
+        frame = self.zone.map(need_place(client, space, page), unmovable)
+        self.zone.note(1, client, (space, page), None)
+        return frame
+
+    def map_at(self, client, space, page, unmovable, frame):
+        need((frame, 4096))
+        self.zone.map(need_place(client, space, page), unmovable, frame)
+        self.zone.note(1, client, (space, page), None)
+
+    def load(self, client, space, page, word):
+        need((word, self.zone.page_words))
+        value = int(self.zone.load(need_place(client, space, page), word)[len("value=") :])
+        self.zone.note(5, client, (space, page), word, value=value)
+        return value
+
+    def store(self, client, space, page, word, value):
+        need((word, self.zone.page_words))
+        self.zone.store(need_place(client, space, page), word, value)
+        self.zone.note(4, client, (space, page), word, value=value)
+
+    def share(self, client, space, page, alias_space, alias_page):
+        self.zone.share(need_place(client, space, page), need_place(client, alias_space, alias_page))
+        self.zone.note(2, client, (space, page), alias_space, alias_page)
+
+    def unmap(self, client, space, page):
+        self.zone.unmap(need_place(client, space, page))
+        self.zone.note(3, client, (space, page))
+
+    def pin(self, client, space, page):
+        self.zone.pin(need_place(client, space, page))
+        self.zone.note(6, client, (space, page))
+
+    def unpin(self, client, space, page):
+        self.zone.unpin(need_place(client, space, page))
+        self.zone.note(7, client, (space, page))
+
+    def take_order(self, order):
+        need_order(order)
+        first = self.zone.hand_out(order)
+        self.zone.contents[first] = {}
+        self.zone.note(11, number=first, other=order)
+        return first
+
+    def give_order(self, first, order):
+        need_order(order)
+        self.zone.give(first, order)
+        self.zone.note(12, number=first, other=order)
+
+    def mark(self, block):
+        self.zone.mark(block)
+        self.zone.note(13, number=block)
+
+    def unmark(self, block):
+        self.zone.unmark(block)
+        self.zone.note(14, number=block)
+
+    def read(self, client, space, page, start, count):
+        need((start, self.zone.page_words))
+        words = tuple(self.zone.bulk(need_place(client, space, page), start, count).words[start : start + count])
+        for word, value in enumerate(words, start):
+            self.zone.note(5, client, (space, page), word, value=value)
+        return words
+
+    def write(self, client, space, page, start, values):
+        need((start, self.zone.page_words))
+        written = self.zone.bulk(need_place(client, space, page), start, len(values))
+        written.words[start : start + len(values)] = values
+        written.dirty |= len(values) > 0
+        for word, value in enumerate(values, start):
+            self.zone.note(4, client, (space, page), word, value=value)
+
+    def read_block(self, first, order, start, count):
+        need((first, 4096))
+        need_order(order)
+        words = self.zone.block(first, order, start, count)
+        return tuple(words.get(at, 0) for at in range(start, start + count))
+
+    def write_block(self, first, order, start, values):
+        need((first, 4096))
+        need_order(order)
+        self.zone.block(first, order, start, len(values)).update(enumerate(values, start))
+
+    def info(self):
+        zone = self.zone
+        counts = zone.free_frames(), zone.page_count(), len(zone.moving), len(zone.handed_out)
+        return *counts, zone.whole_pageblocks(), zone.held()
+
+    def look(self, space, page):
+        page = self.zone.need_page(need_place(0, space, page))
+        uses = page.pins, len(page.addresses)
+        if page.serial is not None:
+            return page.serial, 0, *uses, 1
+        return page.frame, page.unmovable + 2 * page.dirty, *uses, 0
+
+    def marked(self, block):
+        self.zone.need_pageblock(block)
+        return int(block in self.zone.marks)
+
+    def quiet(self):
+        return int(self.zone.is_quiet)
+
+    def audit(self):
+        if self.zone.moving:
+            raise Refused(16)
+        return self.zone.serials, self.zone.moved, self.zone.back
+
+    def compact(self):
+        return int(self.zone.move_all()[1] == "met")
+
+    def begin_round(self):
+        self.zone.begin_round()
+
+    def isolate(self, count):
+        """The serial of the next page, its flags and its words."""
+        if count != self.zone.page_words:
+            raise Refused(1)
+        page = self.zone.take_next()
+        if page is None:
+            raise Refused(MET)
+        return page.serial, 2 * page.dirty, tuple(page.words)
+
+    def commit(self, serial, is_own, count):
+        if count != self.zone.page_words:
+            raise Refused(1)
+        return int(self.end(serial, is_own, self.zone.moving.get(serial) and self.zone.moving[serial].pins == 0))
+
+    def put_back(self, serial, is_own):
+        self.end(serial, is_own, False, 2)
+
+    def end(self, serial, is_own, is_moved, cause=1):
+        if not is_own:
+            raise Refused(13)
+        self.zone.end_move(self.zone.moving[serial], is_moved, cause)
+        self.zone.is_quiet &= is_moved
+        return is_moved

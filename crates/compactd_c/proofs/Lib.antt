@@ -1,0 +1,4 @@
+pub mod Boxed
+pub mod Either
+pub mod Steps
+pub mod Walks

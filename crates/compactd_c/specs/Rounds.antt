@@ -1,0 +1,33 @@
+-- Rounds: those that one thread makes, a page at a time, and the pages that C carries itself.
+use Rattle.std.specs.Prelude.{ℕ, zero, suc, Bool, if◌then◌else◌, is_some, Option, Some, None}
+use Rattle.std.specs.FinMap as map
+use Rattle.journal_core.specs.Moves.{isolated}
+use Rattle.state_core.specs.Ending.{committed}
+use Rattle.state_core.specs.Isolating.{isolate_refusal, isolated_next}
+use Rattle.state_core.specs.Lawful.{is_under}
+use Rattle.state_core.specs.Pairs.{next_pair}
+use Rattle.state_core.specs.ZoneState.{ZoneState}
+use Rattle.state_core.specs.declared.round.Pair.{Pair}
+
+-- a page is moving under this serial
+abbrev pub is_moving : ZoneState → ℕ → ℕ → Bool
+is_moving z number serial = is_under (map.get z.placement number) serial
+
+-- the zone after the page of a pair was isolated, copied and committed
+abbrev pub moved_to : ZoneState → Option Pair → Option ZoneState
+moved_to z None = None
+moved_to z (Some pair) = Some (committed (isolated_next z pair) (isolated z.records) pair.page)
+
+-- the zone after the next page of the round was moved; none where its scanners have met, or the journal has no room for a move
+abbrev pub moved_next : ZoneState → Option ZoneState
+moved_next z = if is_some (isolate_refusal z) then None else moved_to z (next_pair z)
+
+-- the zone that one goes on from, where it has moved a page, and else the one at which it stops
+abbrev pub going_on : (ZoneState → ZoneState) → ZoneState → Option ZoneState → ZoneState
+going_on further z None = z
+going_on further z (Some next) = further next
+
+-- the zone after one page after the other was moved, as long as there is one, and so many at most
+abbrev pub moved_at_most : ℕ → ZoneState → ZoneState
+moved_at_most zero z = z
+moved_at_most (suc most) z = going_on (moved_at_most most) z (moved_next z)

@@ -1,0 +1,353 @@
+//! What C calls: opening and closing, and the calls of a client.
+
+ghost use Rattle.std.specs.Prelude.{◌≡◌, ◌&&◌, nat_lt, None, Some, unwrap_or, IsOk, IfOk, OnOk, OnErr};
+ghost use Rattle.std.specs.Result.{result_err};
+ghost use Rattle.compactd_c.specs.Answers.{answer, left, number_for};
+ghost use Rattle.compactd_c.specs.Asked.{address_of, is_address, is_client, is_order, ranged};
+ghost use Rattle.compactd_c.specs.Kinds.{IsPageSize};
+ghost use Rattle.state_core.specs.Access.{access_refusal, value_at, loaded, stored};
+ghost use Rattle.state_core.specs.HandingOut.{lowest_run, take_order_refusal, give_order_refusal, block_taken, block_given};
+ghost use Rattle.state_core.specs.Mapping.{map_refusal, map_at_refusal, mapped};
+ghost use Rattle.state_core.specs.Marking.{mark_refusal, unmark_refusal, block_marked, block_unmarked};
+ghost use Rattle.state_core.specs.Opening.{IsOpenable, IsSize, opened_told, opened_with};
+ghost use Rattle.state_core.specs.Pinning.{pin_refusal, pinned, unpin_refusal, unpinned};
+ghost use Rattle.state_core.specs.Sharing.{share_refusal, shared};
+ghost use Rattle.state_core.specs.Unmapping.{unmap_refusal, unmapped};
+ghost use Rattle.state_core.specs.ZoneState.{ZoneState, lowest_free_frame};
+
+use crate::asked::Asked;
+use crate::calls::{CLOSED, done, framed, make, number, numbered};
+use crate::pool::Pool;
+use crate::zone::Zone;
+use state_core::ZoneError;
+use std::alloc::Global;
+
+/// The number of an opening of a pool that is open.
+const OPEN: u32 = 52;
+
+/// Opens a closed pool: an empty zone whose pages have 8 or 512 words, with 1 to 8 pageblocks of 512 frames. No record of its history
+/// is kept in memory.
+///
+/// Refused as 52 where the pool is open, as 1 where a number is out of its range, or as 14 where there isn't enough memory.
+#[unsafe(no_mangle)]
+pub extern "C" fn compactd_open(alloc: Global, pool: &mut Pool, words: u32, blocks: u32) -> u32
+    ensures open { ¬ (pool.old.zone ≡ None) → result ≡ 52 }
+    ensures range { pool.old.zone ≡ None → ¬ (IsPageSize words × IsSize blocks) → result ≡ 1 }
+    ensures memory { pool.old.zone ≡ None → IsPageSize words × IsSize blocks → ¬ (result ≡ 0) → result ≡ 14 }
+    ensures zone { result ≡ 0 → pool.new.zone ≡ Some (opened_told words 0 blocks) }
+    ensures kept { ¬ (result ≡ 0) → pool.new.zone ≡ pool.old.zone }
+{
+    if let Some(zone) = pool.take(alloc) {
+        pool.put(alloc, zone);
+        return OPEN;
+    }
+    opened(pool, alloc, Zone::open_told(alloc, words, blocks))
+}
+
+/// Opens a closed pool whose zone keeps its journal: each record of it, at most as many as there are places, 1 to 65,536.
+///
+/// Refused as `compactd_open` is.
+#[unsafe(no_mangle)]
+pub extern "C" fn compactd_open_journal(
+    alloc: Global,
+    pool: &mut Pool,
+    words: u32,
+    blocks: u32,
+    places: u32,
+) -> u32
+    ensures open { ¬ (pool.old.zone ≡ None) → result ≡ 52 }
+    ensures range { pool.old.zone ≡ None → ¬ (IsPageSize words × IsOpenable blocks places) → result ≡ 1 }
+    ensures memory { pool.old.zone ≡ None → IsPageSize words × IsOpenable blocks places → ¬ (result ≡ 0) → result ≡ 14 }
+    ensures zone { result ≡ 0 → pool.new.zone ≡ Some (opened_with words 0 blocks places) }
+    ensures kept { ¬ (result ≡ 0) → pool.new.zone ≡ pool.old.zone }
+{
+    if let Some(zone) = pool.take(alloc) {
+        pool.put(alloc, zone);
+        return OPEN;
+    }
+    opened(pool, alloc, Zone::open(alloc, words, blocks, places))
+}
+
+/// Puts a zone that was opened into a closed pool.
+fn opened(pool: &mut Pool, alloc: Global, zone: Result<Zone, ZoneError>) -> u32
+    requires { pool.old.zone ≡ None }
+    ensures refused { OnErr zone (result ≡ number_for (result_err zone)) }
+    ensures memory { OnOk zone (¬ (result ≡ 0) → result ≡ 14) }
+    ensures zone { result ≡ 0 → IfOk zone (λ zone. pool.new.zone ≡ Some zone) }
+    ensures known { result ≡ 0 → IsOk zone }
+    ensures kept { ¬ (result ≡ 0) → pool.new.zone ≡ None }
+{
+    match zone {
+        Ok(zone) => match Box::new(alloc, zone) {
+            Ok(zone) => {
+                pool.put(alloc, zone);
+                0
+            }
+            Err(_) => number(ZoneError::Memory),
+        },
+        Err(error) => number(error),
+    }
+}
+
+/// Closes a pool: its zone is let go, with all its memory.
+///
+/// Refused as 51 where the pool is closed.
+#[unsafe(no_mangle)]
+pub extern "C" fn compactd_close(alloc: Global, pool: &mut Pool) -> u32
+    ensures answer { result ≡ answer pool.old.zone (λ z. None) }
+    ensures zone { pool.new.zone ≡ None }
+{
+    match pool.take(alloc) {
+        Some(_) => 0,
+        None => CLOSED,
+    }
+}
+
+/// Makes an address name a fresh page in the lowest free frame, and tells this frame. The page holds zeros.
+///
+/// Refused as 1, 2, 5 or 6, or as 51 where the pool is closed.
+#[unsafe(no_mangle)]
+pub extern "C" fn compactd_map(
+    alloc: Global,
+    pool: &mut Pool,
+    client: u32,
+    space: u32,
+    vpage: u32,
+    unmovable: bool,
+    frame: &mut u32,
+) -> u32
+    ensures answer { result ≡ answer pool.old.zone (λ z. ranged (is_client client && is_address space vpage) (map_refusal z (address_of space vpage))) }
+    ensures zone { pool.new.zone ≡ left pool.old.zone (λ z. ranged (is_client client && is_address space vpage) (map_refusal z (address_of space vpage))) (λ z. mapped z client (address_of space vpage) unmovable (unwrap_or (lowest_free_frame z) 0)) }
+    ensures frame { (z : ZoneState) → pool.old.zone ≡ Some z → result ≡ 0 → frame.new ≡ unwrap_or (lowest_free_frame z) 0 }
+    ensures kept { ¬ (result ≡ 0) → frame.new ≡ frame.old }
+{
+    framed(
+        make(
+            pool,
+            alloc,
+            client,
+            Asked::Map {
+                space,
+                vpage,
+                unmovable,
+            },
+        ),
+        frame,
+    )
+}
+
+/// Makes an address name a fresh page in a given frame.
+///
+/// Refused as 1, 2, 5 or 6, or as 51 where the pool is closed.
+#[unsafe(no_mangle)]
+pub extern "C" fn compactd_map_at(
+    alloc: Global,
+    pool: &mut Pool,
+    client: u32,
+    space: u32,
+    vpage: u32,
+    unmovable: bool,
+    frame: u32,
+) -> u32
+    ensures answer { result ≡ answer pool.old.zone (λ z. ranged (is_client client && (is_address space vpage && nat_lt frame 4096)) (map_at_refusal z (address_of space vpage) frame)) }
+    ensures zone { pool.new.zone ≡ left pool.old.zone (λ z. ranged (is_client client && (is_address space vpage && nat_lt frame 4096)) (map_at_refusal z (address_of space vpage) frame)) (λ z. mapped z client (address_of space vpage) unmovable frame) }
+{
+    done(make(
+        pool,
+        alloc,
+        client,
+        Asked::MapAt {
+            space,
+            vpage,
+            unmovable,
+            frame,
+        },
+    ))
+}
+
+/// Reads a word of the page that an address names.
+///
+/// Refused as 1, 2, 3 or 4, or as 51 where the pool is closed.
+#[unsafe(no_mangle)]
+pub extern "C" fn compactd_load(
+    alloc: Global,
+    pool: &mut Pool,
+    client: u32,
+    space: u32,
+    vpage: u32,
+    word: u32,
+    value: &mut u64,
+) -> u32
+    ensures answer { result ≡ answer pool.old.zone (λ z. ranged (is_client client && (is_address space vpage && nat_lt word z.page_size)) (access_refusal z (address_of space vpage))) }
+    ensures zone { pool.new.zone ≡ left pool.old.zone (λ z. ranged (is_client client && (is_address space vpage && nat_lt word z.page_size)) (access_refusal z (address_of space vpage))) (λ z. loaded z client (address_of space vpage) word) }
+    ensures value { (z : ZoneState) → pool.old.zone ≡ Some z → result ≡ 0 → value.new ≡ value_at z (address_of space vpage) word }
+    ensures kept { ¬ (result ≡ 0) → value.new ≡ value.old }
+{
+    let Some(mut zone) = pool.take(alloc) else {
+        return CLOSED;
+    };
+    let answer = zone.load(client, space, vpage, word);
+    pool.put(alloc, zone);
+    match answer {
+        Ok(told) => {
+            *value = told;
+            0
+        }
+        Err(error) => number(error),
+    }
+}
+
+/// Writes a word of the page that an address names.
+///
+/// Refused as 1, 2, 3 or 4, or as 51 where the pool is closed.
+#[unsafe(no_mangle)]
+pub extern "C" fn compactd_store(
+    alloc: Global,
+    pool: &mut Pool,
+    client: u32,
+    space: u32,
+    vpage: u32,
+    word: u32,
+    value: u64,
+) -> u32
+    ensures answer { result ≡ answer pool.old.zone (λ z. ranged (is_client client && (is_address space vpage && nat_lt word z.page_size)) (access_refusal z (address_of space vpage))) }
+    ensures zone { pool.new.zone ≡ left pool.old.zone (λ z. ranged (is_client client && (is_address space vpage && nat_lt word z.page_size)) (access_refusal z (address_of space vpage))) (λ z. stored z client (address_of space vpage) word value) }
+{
+    let Some(mut zone) = pool.take(alloc) else {
+        return CLOSED;
+    };
+    let answer = zone.store(client, space, vpage, word, value);
+    pool.put(alloc, zone);
+    numbered(answer)
+}
+
+/// Makes an alias name the page of an address too. A page has at most 4 addresses.
+///
+/// Refused as 1, 2, 3, 4, 5 or 7, or as 51 where the pool is closed.
+#[unsafe(no_mangle)]
+pub extern "C" fn compactd_share(
+    alloc: Global,
+    pool: &mut Pool,
+    client: u32,
+    space: u32,
+    vpage: u32,
+    alias_space: u32,
+    alias_vpage: u32,
+) -> u32
+    ensures answer { result ≡ answer pool.old.zone (λ z. ranged (is_client client && (is_address space vpage && is_address alias_space alias_vpage)) (share_refusal z (address_of space vpage) (address_of alias_space alias_vpage))) }
+    ensures zone { pool.new.zone ≡ left pool.old.zone (λ z. ranged (is_client client && (is_address space vpage && is_address alias_space alias_vpage)) (share_refusal z (address_of space vpage) (address_of alias_space alias_vpage))) (λ z. shared z client (address_of space vpage) (address_of alias_space alias_vpage)) }
+{
+    done(make(
+        pool,
+        alloc,
+        client,
+        Asked::Share {
+            space,
+            vpage,
+            alias_space,
+            alias_vpage,
+        },
+    ))
+}
+
+/// Makes an address name no page any more.
+///
+/// Refused as 1, 2, 3, 4 or 10, or as 51 where the pool is closed.
+#[unsafe(no_mangle)]
+pub extern "C" fn compactd_unmap(
+    alloc: Global,
+    pool: &mut Pool,
+    client: u32,
+    space: u32,
+    vpage: u32,
+) -> u32
+    ensures answer { result ≡ answer pool.old.zone (λ z. ranged (is_client client && is_address space vpage) (unmap_refusal z (address_of space vpage))) }
+    ensures zone { pool.new.zone ≡ left pool.old.zone (λ z. ranged (is_client client && is_address space vpage) (unmap_refusal z (address_of space vpage))) (λ z. unmapped z client (address_of space vpage)) }
+{
+    done(make(pool, alloc, client, Asked::Unmap { space, vpage }))
+}
+
+/// Pins the page that an address names. No round moves it until each of its pins is taken off.
+///
+/// Refused as 1, 2, 3 or 8, or as 51 where the pool is closed.
+#[unsafe(no_mangle)]
+pub extern "C" fn compactd_pin(
+    alloc: Global,
+    pool: &mut Pool,
+    client: u32,
+    space: u32,
+    vpage: u32,
+) -> u32
+    ensures answer { result ≡ answer pool.old.zone (λ z. ranged (is_client client && is_address space vpage) (pin_refusal z (address_of space vpage))) }
+    ensures zone { pool.new.zone ≡ left pool.old.zone (λ z. ranged (is_client client && is_address space vpage) (pin_refusal z (address_of space vpage))) (λ z. pinned z client (address_of space vpage)) }
+{
+    done(make(pool, alloc, client, Asked::Pin { space, vpage }))
+}
+
+/// Takes a pin off the page that an address names.
+///
+/// Refused as 1, 2, 3 or 9, or as 51 where the pool is closed.
+#[unsafe(no_mangle)]
+pub extern "C" fn compactd_unpin(
+    alloc: Global,
+    pool: &mut Pool,
+    client: u32,
+    space: u32,
+    vpage: u32,
+) -> u32
+    ensures answer { result ≡ answer pool.old.zone (λ z. ranged (is_client client && is_address space vpage) (unpin_refusal z (address_of space vpage))) }
+    ensures zone { pool.new.zone ≡ left pool.old.zone (λ z. ranged (is_client client && is_address space vpage) (unpin_refusal z (address_of space vpage))) (λ z. unpinned z client (address_of space vpage)) }
+{
+    done(make(pool, alloc, client, Asked::Unpin { space, vpage }))
+}
+
+/// Hands out the lowest free block of an order, 3 to 9, and tells its first frame.
+///
+/// Refused as 1, 2 or 11, or as 51 where the pool is closed.
+#[unsafe(no_mangle)]
+pub extern "C" fn compactd_take_order(
+    alloc: Global,
+    pool: &mut Pool,
+    order: u32,
+    first: &mut u32,
+) -> u32
+    ensures answer { result ≡ answer pool.old.zone (λ z. ranged (is_order order) (take_order_refusal z order)) }
+    ensures zone { pool.new.zone ≡ left pool.old.zone (λ z. ranged (is_order order) (take_order_refusal z order)) (λ z. block_taken z (unwrap_or (lowest_run z order) 0) order) }
+    ensures first { (z : ZoneState) → pool.old.zone ≡ Some z → result ≡ 0 → first.new ≡ unwrap_or (lowest_run z order) 0 }
+    ensures kept { ¬ (result ≡ 0) → first.new ≡ first.old }
+{
+    framed(make(pool, alloc, 0, Asked::TakeOrder { order }), first)
+}
+
+/// Takes back a block that was handed out, by its first frame and its order.
+///
+/// Refused as 1, 2 or 12, or as 51 where the pool is closed.
+#[unsafe(no_mangle)]
+pub extern "C" fn compactd_give_order(alloc: Global, pool: &mut Pool, first: u32, order: u32) -> u32
+    ensures answer { result ≡ answer pool.old.zone (λ z. ranged (nat_lt first 4096 && is_order order) (give_order_refusal z first order)) }
+    ensures zone { pool.new.zone ≡ left pool.old.zone (λ z. ranged (nat_lt first 4096 && is_order order) (give_order_refusal z first order)) (λ z. block_given z first order) }
+{
+    done(make(pool, alloc, 0, Asked::GiveOrder { first, order }))
+}
+
+/// Marks a pageblock: rounds take no frame of it.
+///
+/// Refused as 1, 2 or 17, or as 51 where the pool is closed.
+#[unsafe(no_mangle)]
+pub extern "C" fn compactd_mark(alloc: Global, pool: &mut Pool, block: u32) -> u32
+    ensures answer { result ≡ answer pool.old.zone (λ z. ranged (nat_lt block 8) (mark_refusal z block)) }
+    ensures zone { pool.new.zone ≡ left pool.old.zone (λ z. ranged (nat_lt block 8) (mark_refusal z block)) (λ z. block_marked z block) }
+{
+    done(make(pool, alloc, 0, Asked::Mark { block }))
+}
+
+/// Takes the mark of a pageblock off.
+///
+/// Refused as 1, 2 or 18, or as 51 where the pool is closed.
+#[unsafe(no_mangle)]
+pub extern "C" fn compactd_unmark(alloc: Global, pool: &mut Pool, block: u32) -> u32
+    ensures answer { result ≡ answer pool.old.zone (λ z. ranged (nat_lt block 8) (unmark_refusal z block)) }
+    ensures zone { pool.new.zone ≡ left pool.old.zone (λ z. ranged (nat_lt block 8) (unmark_refusal z block)) (λ z. block_unmarked z block) }
+{
+    done(make(pool, alloc, 0, Asked::Unmark { block }))
+}

@@ -1,0 +1,71 @@
+//! What C calls to run rounds, and to make the moves of a round itself.
+
+ghost use Rattle.std.specs.Prelude.{◌≡◌, ◌↔◌, true, length, IsTrue, None, Some};
+ghost use Rattle.compactd_c.specs.Answers.{answer, left};
+ghost use Rattle.compactd_c.specs.Rounds.{is_moving, moved_at_most};
+ghost use Rattle.journal_core.specs.Moves.{out};
+ghost use Rattle.journal_core.specs.declared.record.Cause.{Cause};
+ghost use Rattle.state_core.specs.Ending.{put_back_to_source};
+ghost use Rattle.state_core.specs.Packed.{IsPacked};
+ghost use Rattle.state_core.specs.Pairs.{HaveMet};
+ghost use Rattle.state_core.specs.Rounds.{round_begun};
+ghost use Rattle.state_core.specs.ZoneState.{ZoneState, frame_count, is_quiet};
+
+use crate::calls::{CLOSED, numbered};
+use crate::pool::Pool;
+use std::alloc::Global;
+
+/// Runs a whole round on the thread that calls, and tells whether its scanners met; else the journal had no room for a move.
+///
+/// Refused as 51 where the pool is closed.
+#[unsafe(no_mangle)]
+pub extern "C" fn compactd_compact(alloc: Global, pool: &mut Pool, met: &mut bool) -> u32
+    ensures answer { result ≡ answer pool.old.zone (λ z. None) }
+    ensures zone { pool.new.zone ≡ left pool.old.zone (λ z. None) (λ z. moved_at_most (frame_count z) (round_begun z)) }
+    ensures met { (z : ZoneState) → pool.new.zone ≡ Some z → IsTrue met.new → HaveMet z }
+    // Where nothing was stuck and the scanners met, the zone is packed.
+    ensures packed { (z : ZoneState) → pool.new.zone ≡ Some z → IsTrue met.new → is_quiet z ≡ true → length (out z.records) ≡ 0 → IsPacked z }
+    ensures kept { ¬ (result ≡ 0) → met.new ≡ met.old }
+{
+    let Some(mut zone) = pool.take(alloc) else {
+        return CLOSED;
+    };
+    *met = zone.compact();
+    pool.put(alloc, zone);
+    0
+}
+
+/// Begins a round whose pages C carries itself.
+///
+/// Refused as 51 where the pool is closed.
+#[unsafe(no_mangle)]
+pub extern "C" fn compactd_begin_round(alloc: Global, pool: &mut Pool) -> u32
+    ensures answer { result ≡ answer pool.old.zone (λ z. None) }
+    ensures zone { pool.new.zone ≡ left pool.old.zone (λ z. None) round_begun }
+{
+    let Some(mut zone) = pool.take(alloc) else {
+        return CLOSED;
+    };
+    zone.begin_round();
+    pool.put(alloc, zone);
+    0
+}
+
+/// Ends the move of a page that wasn't copied, by its serial and its number: it is in its old frame afterwards.
+///
+/// Refused as 13 where no such page is moving, or as 51 where the pool is closed.
+#[unsafe(no_mangle)]
+pub extern "C" fn compactd_put_back(alloc: Global, pool: &mut Pool, serial: u32, number: u32) -> u32
+    ensures closed { pool.old.zone ≡ None → result ≡ 51 }
+    ensures own { (z : ZoneState) → pool.old.zone ≡ Some z → (result ≡ 0) ↔ IsTrue (is_moving z number serial) }
+    ensures stranger { (z : ZoneState) → pool.old.zone ≡ Some z → ¬ (result ≡ 0) → result ≡ 13 }
+    ensures zone { (z : ZoneState) → pool.old.zone ≡ Some z → result ≡ 0 → pool.new.zone ≡ Some (put_back_to_source z serial number Cause.NotCopied) }
+    ensures kept { ¬ (result ≡ 0) → pool.new.zone ≡ pool.old.zone }
+{
+    let Some(mut zone) = pool.take(alloc) else {
+        return CLOSED;
+    };
+    let answer = zone.put_back(serial, number);
+    pool.put(alloc, zone);
+    numbered(answer)
+}

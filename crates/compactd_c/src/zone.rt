@@ -1,0 +1,630 @@
+//! A zone whose pages have one of two sizes.
+
+ghost use Rattle.std.specs.Prelude.{◌≡◌, ◌≢◌, ◌≤◌, ◌+◌, ◌↔◌, ◌&&◌, nat_lt, true, ℕ, false, length, reverse, slice_get, is_some, Some, None, IsTrue, IsOk, IfOk, IfErr, OnOk, OnErr, IfSome};
+ghost use Rattle.std.specs.Result.{result_err};
+ghost use Rattle.journal_core.specs.Moves.{isolated, out};
+ghost use Rattle.journal_core.specs.declared.record.Cause.{Cause};
+ghost use Rattle.state_core.specs.Access.{access_refusal, value_at, loaded, stored};
+ghost use Rattle.state_core.specs.Bulk.{bulk_refusal, values_at, loaded_all, stored_all};
+ghost use Rattle.state_core.specs.Contents.{contents_refusal, contents_from, contents_written};
+ghost use Rattle.state_core.specs.Ending.{committed, ended_as, put_back_to_source};
+ghost use Rattle.state_core.specs.Isolating.{next_state};
+ghost use Rattle.state_core.specs.Looking.{look_of, info_of};
+ghost use Rattle.state_core.specs.Marking.{marked_of};
+ghost use Rattle.state_core.specs.Opening.{IsOpenable, IsSize, opened_told, opened_with};
+ghost use Rattle.state_core.specs.Packed.{IsPacked};
+ghost use Rattle.state_core.specs.Pairs.{HaveMet, next_pair};
+ghost use Rattle.state_core.specs.Rounds.{round_begun};
+ghost use Rattle.state_core.specs.ZoneState.{frame_count, is_quiet};
+ghost use Rattle.compactd_c.specs.Asked.{address_of, is_address, is_client, is_block, ranged, refusal_for, answer_for, after_asked};
+ghost use Rattle.compactd_c.specs.Kinds.{IsPageSize};
+ghost use Rattle.compactd_c.specs.Looks.{look_refusal, audit_refusal};
+ghost use Rattle.compactd_c.specs.Records.{record_refused};
+ghost use Rattle.compactd_c.specs.Rounds.{is_moving, moved_next, moved_at_most};
+ghost use Rattle.compactd_c.specs.Carried.{IsOwn, carried_of, words_of, isolate_refused, commit_refused};
+
+use crate::asked::{Asked, address, word_of};
+use crate::carrying::Carried;
+use bitflags::Flags;
+use frame_core::{BlockNo, ClientNo, FrameNo, Order, PageFlags, PageNo, ZoneNo};
+use journal_core::{Journal, Record};
+use state_core::{Audit, Ended, Info, Look, Next, ZoneAnswer, ZoneError};
+use std::alloc::Global;
+use std::marker::Model;
+use word_core::{IsolatedOf, PageOf};
+use zone_core::BareZone;
+
+/// The two kinds of zones.
+#[derive(Drop)]
+pub enum Kind {
+    /// Pages of 64 bytes.
+    Small(BareZone<8>),
+    /// Pages of 4 KiB.
+    Large(BareZone<512>),
+}
+
+/// A zone of either kind.
+#[derive(Drop)]
+pub struct Zone {
+    kind: Kind,
+}
+
+impl Model for Zone {
+    ghost use Rattle.state_core.specs.ZoneCode.{coded_zone};
+    ghost use Rattle.state_core.specs.ZoneState.{ZoneState};
+    ghost use Rattle.compactd_c.specs.Kinds.{state_in};
+
+    ghost Value = { ZoneState };
+
+    ghost coded = { coded_zone };
+
+    ghost view = { λ z. state_in z.kind };
+}
+
+impl Zone {
+    /// An empty zone whose journal is told: pages of 8 or of 512 words, and 1 to 8 pageblocks.
+    pub(crate) fn open_told(alloc: Global, words: u32, blocks: u32) -> Result<Zone, ZoneError>
+        ensures range { ¬ (IsPageSize words × IsSize blocks) → result ≡ Err ZoneError.Range }
+        ensures memory { IsPageSize words × IsSize blocks → IfErr result (λ error. error ≡ ZoneError.Memory) }
+        ensures zone { IfOk result (λ zone. zone ≡ opened_told words 0 blocks) }
+    {
+        let kind = match words {
+            8 => Kind::Small(BareZone::open_told(alloc, lowest(), blocks)?),
+            512 => Kind::Large(BareZone::open_told(alloc, lowest(), blocks)?),
+            _ => return Err(ZoneError::Range),
+        };
+        Ok(Zone { kind })
+    }
+
+    /// An empty zone with so many places in its journal, 1 to 65,536.
+    pub(crate) fn open(
+        alloc: Global,
+        words: u32,
+        blocks: u32,
+        places: u32,
+    ) -> Result<Zone, ZoneError>
+        ensures range { ¬ (IsPageSize words × IsOpenable blocks places) → result ≡ Err ZoneError.Range }
+        ensures memory { IsPageSize words × IsOpenable blocks places → IfErr result (λ error. error ≡ ZoneError.Memory) }
+        ensures zone { IfOk result (λ zone. zone ≡ opened_with words 0 blocks places) }
+    {
+        let kind = match words {
+            8 => Kind::Small(BareZone::open(alloc, lowest(), blocks, places)?),
+            512 => Kind::Large(BareZone::open(alloc, lowest(), blocks, places)?),
+            _ => return Err(ZoneError::Range),
+        };
+        Ok(Zone { kind })
+    }
+
+    /// Makes the call that a client asks for.
+    pub(crate) fn make(&mut self, client: u32, asked: Asked) -> Result<ZoneAnswer, ZoneError>
+        ensures refused { result_err result ≡ refusal_for client asked self.old }
+        ensures err { OnErr result (self.new ≡ self.old) }
+        ensures answer { IfOk result (λ answer. answer ≡ answer_for asked self.old) }
+        ensures ok { OnOk result (self.new ≡ after_asked client asked self.old) }
+    {
+        match &mut self.kind {
+            Kind::Small(zone) => make(zone, client, asked),
+            Kind::Large(zone) => make(zone, client, asked),
+        }
+    }
+
+    /// Reads a word of the page that an address names.
+    pub(crate) fn load(
+        &mut self,
+        client: u32,
+        space: u32,
+        vpage: u32,
+        word: u32,
+    ) -> Result<u64, ZoneError>
+        ensures refused { result_err result ≡ ranged (is_client client && (is_address space vpage && nat_lt word self.old.page_size)) (access_refusal self.old (address_of space vpage)) }
+        ensures err { OnErr result (self.new ≡ self.old) }
+        ensures value { IfOk result (λ value. value ≡ value_at self.old (address_of space vpage) word) }
+        ensures ok { OnOk result (self.new ≡ loaded self.old client (address_of space vpage) word) }
+    {
+        match &mut self.kind {
+            Kind::Small(zone) => load(zone, client, space, vpage, word),
+            Kind::Large(zone) => load(zone, client, space, vpage, word),
+        }
+    }
+
+    /// Writes a word of the page that an address names.
+    pub(crate) fn store(
+        &mut self,
+        client: u32,
+        space: u32,
+        vpage: u32,
+        word: u32,
+        value: u64,
+    ) -> Result<(), ZoneError>
+        ensures refused { result_err result ≡ ranged (is_client client && (is_address space vpage && nat_lt word self.old.page_size)) (access_refusal self.old (address_of space vpage)) }
+        ensures err { OnErr result (self.new ≡ self.old) }
+        ensures ok { OnOk result (self.new ≡ stored self.old client (address_of space vpage) word value) }
+    {
+        match &mut self.kind {
+            Kind::Small(zone) => store(zone, client, space, vpage, word, value),
+            Kind::Large(zone) => store(zone, client, space, vpage, word, value),
+        }
+    }
+
+    /// Reads words of the page that an address names, from one on.
+    pub(crate) fn read(
+        &mut self,
+        client: u32,
+        space: u32,
+        vpage: u32,
+        from: u32,
+        values: &mut [u64],
+    ) -> Result<(), ZoneError>
+        ensures refused { result_err result ≡ ranged (is_client client && (is_address space vpage && nat_lt from self.old.page_size)) (bulk_refusal self.old (address_of space vpage) from (length values.old)) }
+        ensures err { OnErr result ((self.new ≡ self.old) × (values.new ≡ values.old)) }
+        ensures values { OnOk result (values.new ≡ values_at self.old (address_of space vpage) from (length values.old)) }
+        ensures ok { OnOk result (self.new ≡ loaded_all self.old client (address_of space vpage) from (length values.old)) }
+    {
+        match &mut self.kind {
+            Kind::Small(zone) => read(zone, client, space, vpage, from, values),
+            Kind::Large(zone) => read(zone, client, space, vpage, from, values),
+        }
+    }
+
+    /// Writes words of the page that an address names, from one on.
+    pub(crate) fn write(
+        &mut self,
+        client: u32,
+        space: u32,
+        vpage: u32,
+        from: u32,
+        values: &[u64],
+    ) -> Result<(), ZoneError>
+        ensures refused { result_err result ≡ ranged (is_client client && (is_address space vpage && nat_lt from self.old.page_size)) (bulk_refusal self.old (address_of space vpage) from (length values.now)) }
+        ensures err { OnErr result (self.new ≡ self.old) }
+        ensures ok { OnOk result (self.new ≡ stored_all self.old client (address_of space vpage) from values.now) }
+    {
+        match &mut self.kind {
+            Kind::Small(zone) => write(zone, client, space, vpage, from, values),
+            Kind::Large(zone) => write(zone, client, space, vpage, from, values),
+        }
+    }
+
+    /// Reads words of a block that is handed out, from one on.
+    pub(crate) fn read_block(
+        &mut self,
+        first: u32,
+        order: u32,
+        from: usize,
+        values: &mut [u64],
+    ) -> Result<(), ZoneError>
+        ensures refused { result_err result ≡ ranged (is_block first order) (contents_refusal self.old first order from (length values.old)) }
+        ensures err { OnErr result (values.new ≡ values.old) }
+        ensures values { OnOk result (values.new ≡ contents_from self.old first from (length values.old)) }
+        ensures same { self.new ≡ self.old }
+    {
+        let (first, order) = block(first, order).ok_or(ZoneError::Range)?;
+        match &mut self.kind {
+            Kind::Small(zone) => zone.read_block(first, order, from, values),
+            Kind::Large(zone) => zone.read_block(first, order, from, values),
+        }
+    }
+
+    /// Writes words of a block that is handed out, from one on.
+    pub(crate) fn write_block(
+        &mut self,
+        first: u32,
+        order: u32,
+        from: usize,
+        values: &[u64],
+    ) -> Result<(), ZoneError>
+        ensures refused { result_err result ≡ ranged (is_block first order) (contents_refusal self.old first order from (length values.now)) }
+        ensures err { OnErr result (self.new ≡ self.old) }
+        ensures ok { OnOk result (self.new ≡ contents_written self.old first from values.now) }
+    {
+        let (first, order) = block(first, order).ok_or(ZoneError::Range)?;
+        match &mut self.kind {
+            Kind::Small(zone) => zone.write_block(first, order, from, values),
+            Kind::Large(zone) => zone.write_block(first, order, from, values),
+        }
+    }
+
+    /// What is known of the page that an address names.
+    pub(crate) fn look(&self, space: u32, vpage: u32) -> Result<Look, ZoneError>
+        ensures refused { result_err result ≡ ranged (is_address space vpage) (look_refusal self.now (address_of space vpage)) }
+        ensures value { IfOk result (λ look. look_of self.now (address_of space vpage) ≡ Some look) }
+    {
+        let address = address(space, vpage).ok_or(ZoneError::Range)?;
+        match &self.kind {
+            Kind::Small(zone) => zone.look(address),
+            Kind::Large(zone) => zone.look(address),
+        }
+    }
+
+    /// Whether a pageblock is marked.
+    pub(crate) fn marked(&self, block: u32) -> Result<bool, ZoneError>
+        ensures refused { result_err result ≡ ranged (nat_lt block 8 && nat_lt block self.now.blocks) None }
+        ensures value { IfOk result (λ marked. marked_of self.now block ≡ Some marked) }
+    {
+        let block = BlockNo::new(block).ok_or(ZoneError::Range)?;
+        let marked = match &self.kind {
+            Kind::Small(zone) => zone.marked(block),
+            Kind::Large(zone) => zone.marked(block),
+        };
+        marked.ok_or(ZoneError::Range)
+    }
+
+    /// The counts of the zone.
+    pub(crate) fn info(&self) -> Info
+        ensures { result ≡ info_of self.now }
+    {
+        match &self.kind {
+            Kind::Small(zone) => zone.info(),
+            Kind::Large(zone) => zone.info(),
+        }
+    }
+
+    /// Whether the latest round is quiet.
+    pub(crate) fn quiet(&self) -> bool
+        ensures { result ≡ is_quiet self.now }
+    {
+        match &self.kind {
+            Kind::Small(zone) => zone.quiet(),
+            Kind::Large(zone) => zone.quiet(),
+        }
+    }
+
+    /// What became of the pages that were isolated.
+    pub(crate) fn audit(&self) -> Result<Audit, ZoneError>
+        ensures refused { result_err result ≡ audit_refusal self.now }
+        ensures isolated { IfOk result (λ audit. audit.isolated ≡ isolated self.now.records) }
+        ensures ends { IfOk result (λ audit. audit.moved + audit.back ≡ audit.isolated) }
+    {
+        match &self.kind {
+            Kind::Small(zone) => zone.audit(),
+            Kind::Large(zone) => zone.audit(),
+        }
+    }
+
+    /// Begins a round.
+    pub(crate) fn begin_round(&mut self)
+        ensures { self.new ≡ round_begun self.old }
+    {
+        match &mut self.kind {
+            Kind::Small(zone) => zone.begin_round(),
+            Kind::Large(zone) => zone.begin_round(),
+        }
+    }
+
+    /// Ends the move of a page that wasn't copied.
+    pub(crate) fn put_back(&mut self, serial: u32, number: u32) -> Result<(), ZoneError>
+        ensures own { IsOk result ↔ IsTrue (is_moving self.old number serial) }
+        ensures stranger { IfErr result (λ error. error ≡ ZoneError.Stranger) }
+        ensures err { OnErr result (self.new ≡ self.old) }
+        ensures ok { OnOk result (self.new ≡ put_back_to_source self.old serial number Cause.NotCopied) }
+    {
+        match &mut self.kind {
+            Kind::Small(zone) => put_back(zone, serial, number),
+            Kind::Large(zone) => put_back(zone, serial, number),
+        }
+    }
+
+    /// Runs a whole round, and tells whether its scanners met; else the journal was full.
+    pub(crate) fn compact(&mut self) -> bool
+        ensures zone { self.new ≡ moved_at_most (frame_count self.old) (round_begun self.old) }
+        ensures met { IsTrue result → HaveMet self.new }
+        ensures packed { IsTrue result → is_quiet self.new ≡ true → length (out self.new.records) ≡ 0 → IsPacked self.new }
+    {
+        match &mut self.kind {
+            Kind::Small(zone) => compact(zone),
+            Kind::Large(zone) => compact(zone),
+        }
+    }
+
+    /// Isolates the next page of a round, whose words go where C wants them. There is none where the scanners have met.
+    pub(crate) fn isolate(&mut self, words: &mut [u64]) -> Result<Option<Carried>, ZoneError>
+        ensures refused { result_err result ≡ isolate_refused self.old (length words.old) }
+        ensures err { OnErr result ((self.new ≡ self.old) × (words.new ≡ words.old)) }
+        ensures carried { IfOk result (λ carried. carried ≡ carried_of self.old (next_pair self.old)) }
+        ensures words { OnOk result (words.new ≡ words_of self.old (next_pair self.old) words.old) }
+        ensures met { result ≡ Ok None → HaveMet self.old × (words.new ≡ words.old) }
+        ensures ok { OnOk result (self.new ≡ next_state self.old (next_pair self.old)) }
+    {
+        match &mut self.kind {
+            Kind::Small(zone) => isolate(zone, words),
+            Kind::Large(zone) => isolate(zone, words),
+        }
+    }
+
+    /// Ends the move of a page that C copied.
+    pub(crate) fn commit(
+        &mut self,
+        serial: u32,
+        number: u32,
+        words: &[u64],
+    ) -> Result<Ended, ZoneError>
+        ensures own { IsOk result ↔ IsOwn self.old serial number words.now }
+        ensures refused { IfErr result (λ error. error ≡ commit_refused self.old (length words.now)) }
+        ensures err { OnErr result (self.new ≡ self.old) }
+        ensures ended { IfOk result (λ ended. ended ≡ ended_as self.old number) }
+        ensures ok { OnOk result (self.new ≡ committed self.old serial number) }
+    {
+        match &mut self.kind {
+            Kind::Small(zone) => commit(zone, serial, number, words),
+            Kind::Large(zone) => commit(zone, serial, number, words),
+        }
+    }
+
+    /// A record of the journal, by its place.
+    pub(crate) fn record(&self, place: usize) -> Result<Record, ZoneError>
+        ensures refused { result_err result ≡ record_refused self.now place }
+        ensures value { IfOk result (λ entry. slice_get (reverse self.now.records) place ≡ Some entry) }
+    {
+        let Some(records) = self.journal().kept() else {
+            return Err(ZoneError::Range);
+        };
+        match records.get(place) {
+            Some(entry) => Ok(*entry),
+            None => Err(ZoneError::Range),
+        }
+    }
+
+    /// The journal of the zone.
+    pub(crate) fn journal(&self) -> &Journal
+        ensures records { result.now.records ≡ self.now.records }
+        ensures room { result.now.room ≡ self.now.room }
+    {
+        match &self.kind {
+            Kind::Small(zone) => zone.journal(),
+            Kind::Large(zone) => zone.journal(),
+        }
+    }
+}
+
+fn make<const W: usize>(
+    zone: &mut BareZone<W>,
+    client: u32,
+    asked: Asked,
+) -> Result<ZoneAnswer, ZoneError>
+    requires { W ≤ 65536 }
+    ensures refused { result_err result ≡ refusal_for client asked zone.old }
+    ensures err { OnErr result (zone.new ≡ zone.old) }
+    ensures answer { IfOk result (λ answer. answer ≡ answer_for asked zone.old) }
+    ensures ok { OnOk result (zone.new ≡ after_asked client asked zone.old) }
+{
+    let Some(client) = ClientNo::new(client) else {
+        return Err(ZoneError::Range);
+    };
+    let Some(call) = asked.call() else {
+        return Err(ZoneError::Range);
+    };
+    zone.make(client, call)
+}
+
+/// The number of each zone for C, 0: a pool has one zone.
+fn lowest() -> ZoneNo
+    ensures { result ≡ 0 }
+{
+    let Some(number) = ZoneNo::new(0) else {
+        unreachable!();
+    };
+    number
+}
+
+fn load<const W: usize>(
+    zone: &mut BareZone<W>,
+    client: u32,
+    space: u32,
+    vpage: u32,
+    word: u32,
+) -> Result<u64, ZoneError>
+    requires { W ≤ 65536 }
+    ensures refused { result_err result ≡ ranged (is_client client && (is_address space vpage && nat_lt word zone.old.page_size)) (access_refusal zone.old (address_of space vpage)) }
+    ensures err { OnErr result (zone.new ≡ zone.old) }
+    ensures value { IfOk result (λ value. value ≡ value_at zone.old (address_of space vpage) word) }
+    ensures ok { OnOk result (zone.new ≡ loaded zone.old client (address_of space vpage) word) }
+{
+    let client = ClientNo::new(client).ok_or(ZoneError::Range)?;
+    let address = address(space, vpage).ok_or(ZoneError::Range)?;
+    let word = word_of(zone, word).ok_or(ZoneError::Range)?;
+    zone.load(client, address, word)
+}
+
+fn store<const W: usize>(
+    zone: &mut BareZone<W>,
+    client: u32,
+    space: u32,
+    vpage: u32,
+    word: u32,
+    value: u64,
+) -> Result<(), ZoneError>
+    requires { W ≤ 65536 }
+    ensures refused { result_err result ≡ ranged (is_client client && (is_address space vpage && nat_lt word zone.old.page_size)) (access_refusal zone.old (address_of space vpage)) }
+    ensures err { OnErr result (zone.new ≡ zone.old) }
+    ensures ok { OnOk result (zone.new ≡ stored zone.old client (address_of space vpage) word value) }
+{
+    let client = ClientNo::new(client).ok_or(ZoneError::Range)?;
+    let address = address(space, vpage).ok_or(ZoneError::Range)?;
+    let word = word_of(zone, word).ok_or(ZoneError::Range)?;
+    zone.store(client, address, word, value)
+}
+
+fn read<const W: usize>(
+    zone: &mut BareZone<W>,
+    client: u32,
+    space: u32,
+    vpage: u32,
+    from: u32,
+    values: &mut [u64],
+) -> Result<(), ZoneError>
+    requires { W ≤ 65536 }
+    ensures refused { result_err result ≡ ranged (is_client client && (is_address space vpage && nat_lt from zone.old.page_size)) (bulk_refusal zone.old (address_of space vpage) from (length values.old)) }
+    ensures err { OnErr result ((zone.new ≡ zone.old) × (values.new ≡ values.old)) }
+    ensures values { OnOk result (values.new ≡ values_at zone.old (address_of space vpage) from (length values.old)) }
+    ensures ok { OnOk result (zone.new ≡ loaded_all zone.old client (address_of space vpage) from (length values.old)) }
+{
+    let client = ClientNo::new(client).ok_or(ZoneError::Range)?;
+    let address = address(space, vpage).ok_or(ZoneError::Range)?;
+    let from = word_of(zone, from).ok_or(ZoneError::Range)?;
+    zone.read(client, address, from, values)
+}
+
+fn write<const W: usize>(
+    zone: &mut BareZone<W>,
+    client: u32,
+    space: u32,
+    vpage: u32,
+    from: u32,
+    values: &[u64],
+) -> Result<(), ZoneError>
+    requires { W ≤ 65536 }
+    ensures refused { result_err result ≡ ranged (is_client client && (is_address space vpage && nat_lt from zone.old.page_size)) (bulk_refusal zone.old (address_of space vpage) from (length values.now)) }
+    ensures err { OnErr result (zone.new ≡ zone.old) }
+    ensures ok { OnOk result (zone.new ≡ stored_all zone.old client (address_of space vpage) from values.now) }
+{
+    let client = ClientNo::new(client).ok_or(ZoneError::Range)?;
+    let address = address(space, vpage).ok_or(ZoneError::Range)?;
+    let from = word_of(zone, from).ok_or(ZoneError::Range)?;
+    zone.write(client, address, from, values)
+}
+
+fn put_back<const W: usize>(
+    zone: &mut BareZone<W>,
+    serial: u32,
+    number: u32,
+) -> Result<(), ZoneError>
+    requires { W ≤ 65536 }
+    ensures own { IsOk result ↔ IsTrue (is_moving zone.old number serial) }
+    ensures stranger { IfErr result (λ error. error ≡ ZoneError.Stranger) }
+    ensures err { OnErr result (zone.new ≡ zone.old) }
+    ensures ok { OnOk result (zone.new ≡ put_back_to_source zone.old serial number Cause.NotCopied) }
+{
+    let number = page_of(zone, number).ok_or(ZoneError::Stranger)?;
+    let page = PageOf::new(zone.number(), number);
+    match zone.put_back(IsolatedOf::new(serial, page)) {
+        Ok(()) => Ok(()),
+        Err(_) => Err(ZoneError::Stranger),
+    }
+}
+
+fn compact<const W: usize>(zone: &mut BareZone<W>) -> bool
+    requires { W ≤ 65536 }
+    ensures zone { zone.new ≡ moved_at_most (frame_count zone.old) (round_begun zone.old) }
+    ensures met { IsTrue result → HaveMet zone.new }
+    ensures packed { IsTrue result → is_quiet zone.new ≡ true → length (out zone.new.records) ≡ 0 → IsPacked zone.new }
+{
+    let frames = 512 * zone.blocks();
+    zone.begin_round();
+    for done in 0..frames {
+        match move_next(zone) {
+            Step::Moved => {}
+            Step::Met => return true,
+            Step::Full => return false,
+        }
+    }
+    false
+}
+
+/// What came of a step of a round on one thread.
+#[derive(Clone, Copy, PartialEq, Eq)]
+enum Step {
+    /// The next page was moved.
+    Moved,
+    /// The scanners have met.
+    Met,
+    /// The journal has no room for a move.
+    Full,
+}
+
+/// Isolates the next page of the round, copies it and ends its move.
+fn move_next<const W: usize>(zone: &mut BareZone<W>) -> Step
+    requires { W ≤ 65536 }
+    ensures moved { result ≡ Step.Moved → moved_next zone.old ≡ Some zone.new }
+    ensures none { result ≢ Step.Moved → moved_next zone.old ≡ None }
+    ensures same { result ≢ Step.Moved → zone.new ≡ zone.old }
+    ensures met { result ≡ Step.Met → HaveMet zone.new }
+    ensures packed { result ≡ Step.Met → is_quiet zone.new ≡ true → length (out zone.new.records) ≡ 0 → IsPacked zone.new }
+{
+    let page = match zone.isolate_next() {
+        Ok(Next::Page(page)) => page,
+        Ok(Next::Met) => return Step::Met,
+        Err(_) => return Step::Full,
+    };
+    let Ok(_ended) = zone.commit(page.copy_into_new()) else {
+        unreachable!();
+    };
+    Step::Moved
+}
+
+/// A block's first frame and its order, if both are in their ranges.
+fn block(first: u32, order: u32) -> Option<(FrameNo, Order)>
+    ensures some { is_some result ≡ is_block first order }
+    ensures value { IfSome result (λ block. (block.0 ≡ first) × (block.1 ≡ order)) }
+{
+    let first = FrameNo::new(first)?;
+    let order = Order::new(order)?;
+    Some((first, order))
+}
+
+/// A page of the zone, if one may have this number: as many pages as the zone has frames.
+fn page_of<const W: usize>(zone: &BareZone<W>, number: u32) -> Option<PageNo>
+    ensures value { IfSome result (λ page. page ≡ number) }
+    ensures none { result ≡ None → (serial : ℕ) → is_moving zone.now number serial ≡ false }
+{
+    if number >= 512 * zone.blocks() {
+        return None;
+    }
+    PageNo::new(number)
+}
+
+fn isolate<const W: usize>(
+    zone: &mut BareZone<W>,
+    words: &mut [u64],
+) -> Result<Option<Carried>, ZoneError>
+    requires { W ≤ 65536 }
+    ensures refused { result_err result ≡ isolate_refused zone.old (length words.old) }
+    ensures err { OnErr result ((zone.new ≡ zone.old) × (words.new ≡ words.old)) }
+    ensures carried { IfOk result (λ carried. carried ≡ carried_of zone.old (next_pair zone.old)) }
+    ensures words { OnOk result (words.new ≡ words_of zone.old (next_pair zone.old) words.old) }
+    ensures met { result ≡ Ok None → HaveMet zone.old × (words.new ≡ words.old) }
+    ensures ok { OnOk result (zone.new ≡ next_state zone.old (next_pair zone.old)) }
+{
+    if words.len() != zone.page_words() {
+        return Err(ZoneError::Range);
+    }
+    match zone.isolate_next() {
+        Ok(Next::Page(isolated)) => {
+            words.copy_from_slice(isolated.page().words());
+            Ok(Some(Carried {
+                serial: isolated.serial(),
+                number: isolated.page_no().get(),
+                flags: u32::from(isolated.page().flags().bits()),
+            }))
+        }
+        Ok(Next::Met) => Ok(None),
+        Err(error) => Err(error),
+    }
+}
+
+fn commit<const W: usize>(
+    zone: &mut BareZone<W>,
+    serial: u32,
+    number: u32,
+    words: &[u64],
+) -> Result<Ended, ZoneError>
+    requires { W ≤ 65536 }
+    ensures own { IsOk result ↔ IsOwn zone.old serial number words.now }
+    ensures refused { IfErr result (λ error. error ≡ commit_refused zone.old (length words.now)) }
+    ensures err { OnErr result (zone.new ≡ zone.old) }
+    ensures ended { IfOk result (λ ended. ended ≡ ended_as zone.old number) }
+    ensures ok { OnOk result (zone.new ≡ committed zone.old serial number) }
+{
+    if words.len() != zone.page_words() {
+        return Err(ZoneError::Range);
+    }
+    let Some(number) = page_of(zone, number) else {
+        return Err(ZoneError::Stranger);
+    };
+    let mut held = [0; W];
+    held.copy_from_slice(words);
+    let page = PageOf::carrying(zone.number(), number, PageFlags::empty(), held);
+    match zone.commit(IsolatedOf::new(serial, page).copy_into_new()) {
+        Ok(ended) => Ok(ended),
+        Err(_) => Err(ZoneError::Stranger),
+    }
+}

@@ -1,0 +1,140 @@
+"""The library for C: how its archive is built, and the folder that C programs take it from. What `prove`, `.ci/run` and the
+checks share.
+
+`rt ci` proves the crate and leaves no archive. `rt lib` builds one, but first it builds, with its proofs, each library below that
+has no stamp, and kit 13b's `rt ci` leaves libraries without stamps. So where none has one, the archive is built by the kit's
+`rattle build` over these libraries as they are. It proves the crate itself once more, and builds nothing that isn't proved.
+
+The archive that is left has the kit's heap too, which calls malloc, realloc and free, so that a C compiler links it alone.
+
+    python3 -m launch.c_library                 prints the digest of the sources
+    python3 -m launch.c_library built DIGEST    builds the library over what `rt ci` left, and notes the digest"""
+
+import pathlib
+import re
+import shutil
+import subprocess
+import sys
+import tempfile
+
+from launch import program
+
+CRATE = "compactd_c"
+HEADERS = program.ROOT / "c/include"
+FOLDER = program.ROOT / "crates/compactd_c/out/c"
+ARCHIVE = FOLDER / "libcompactd.a"
+SHARED = FOLDER / "libcompactd.so"
+DESCRIPTION = FOLDER / "compactd.pc"
+HEAP = "heap.pic.o"
+# The shared library shows the names of the header alone.
+NAMES = "{ global: compactd_*; local: *; };\n"
+PKG_CONFIG = """prefix=${{pcfiledir}}
+
+Name: compactd
+Description: A page pool, proved, that makes huge pages by moving small ones
+Version: {version}
+Libs: -L${{prefix}} -l:libcompactd.a
+Cflags: -I${{prefix}}
+"""
+
+
+def kit_folder():
+    return pathlib.Path(shutil.which("rt")).resolve().parent.parent
+
+
+def digest_of(root):
+    return program.digest_of(root, CRATE)
+
+
+def is_fresh(kit, sources):
+    """Whether the library is there that this kit made from these sources, with all that C programs need."""
+    return SHARED.is_file() and program.is_fresh(ARCHIVE, kit, sources)
+
+
+# The archive.
+
+
+def libraries_of(root):
+    """The libraries below the crate, and where each lies."""
+    names = [name for name in program.crates_below(root, CRATE) if name != CRATE]
+    return {name: root / f"crates/{name}/out/rlib/{name}.rlib" for name in names}
+
+
+def build_command(root, archive):
+    """The command that builds the archive in the folder of the crate."""
+    kit, found = kit_folder(), libraries_of(root)
+    used = program.lines_of_crates(root)[CRATE].partition(":")[2].split()
+    places = {name: found.get(name, kit / f"rlibs/{name}.rlib") for name in ("std", *used)}
+    words = [kit / "bin/rattle", "build", "--crate-name", CRATE, "src/lib.rt", "--crate-type", "staticlib"]
+    for name, place in places.items():
+        words += ["--extern", f"{name}={place}"]
+    for folder in (kit / "rlibs", *(place.parent for place in found.values())):
+        words += ["-L", f"dependency={folder}"]
+    words += ["--antt-project", kit / "rattle/logic/antt-project.json", "--logic-built", kit / "logic_built"]
+    return [*words, "--jobs", "1", "--links", f"{CRATE}=", "--toolchain", kit / "toolchain", "--backend", "llvm", "-o", archive]
+
+
+def build(root):
+    """Builds the archive from what is proved below a folder, and returns its path."""
+    folder = root / f"crates/{CRATE}"
+    archive = folder / f"out/lib{CRATE}.a"
+    places = libraries_of(root).values()
+    is_left_by_ci = not any((place.parent / "stamp").is_file() for place in places)
+    if is_left_by_ci and not all((place / "format").is_file() for place in places):
+        program.stop(f"the libraries that {CRATE} stands on aren't there: `rt ci` builds them")
+    command = build_command(root, archive) if is_left_by_ci else ["rt", "lib"]
+    archive.parent.mkdir(exist_ok=True)
+    archive.unlink(missing_ok=True)
+    how = {"stdin": subprocess.DEVNULL, "stdout": subprocess.PIPE, "stderr": subprocess.STDOUT, "text": True}
+    built = subprocess.run(command, cwd=folder, errors="replace", **how)
+    if built.returncode or not archive.is_file():
+        program.stop(f"{built.stdout}the archive of {CRATE} isn't built: status {built.returncode}", 1)
+    return archive
+
+
+# The folder that C programs take it from.
+
+
+def run(*command, **how):
+    ran = subprocess.run(command, stdin=subprocess.DEVNULL, stdout=subprocess.PIPE, stderr=subprocess.STDOUT, text=True, **how)
+    if ran.returncode:
+        program.stop(f"{ran.stdout}{pathlib.Path(command[0]).name}: status {ran.returncode}", 1)
+
+
+def version():
+    """The version that the header tells."""
+    found = re.search(r"#define COMPACTD_VERSION_TEXT \"([^\"]+)\"", (HEADERS / "compactd.h").read_text())
+    return found[1]
+
+
+def lay_out():
+    """Copies the headers, and writes the file of pkg-config."""
+    FOLDER.mkdir(parents=True, exist_ok=True)
+    for header in sorted(HEADERS.iterdir()):
+        shutil.copy(header, FOLDER)
+    DESCRIPTION.write_text(PKG_CONFIG.format(version=version()))
+
+
+def install(archive, kit, sources):
+    """Leaves what C programs need of an archive in one folder, and notes what it was made from."""
+    tools = kit_folder() / "toolchain"
+    lay_out()
+    with tempfile.TemporaryDirectory() as room:
+        room = pathlib.Path(room)
+        whole, names, shared = room / ARCHIVE.name, room / "names", room / SHARED.name
+        shutil.copy(archive, whole)
+        run(tools / "bin/llvm-ar", "x", kit_folder() / "c/liblibc_c.a", HEAP, cwd=room)
+        run(tools / "bin/llvm-ar", "rs", whole, HEAP, cwd=room)
+        names.write_text(NAMES)
+        options = ["-shared", "-fPIC", "-fuse-ld=lld", "-nostdlib", f"-Wl,-soname,{SHARED.name}", f"-Wl,--version-script={names}"]
+        of_c = tools / "lib/libc.so.6"
+        run(tools / "bin/clang", *options, "-o", shared, "-Wl,--whole-archive", whole, "-Wl,--no-whole-archive", of_c)
+        shutil.copy(shared, SHARED)
+        program.install(whole, ARCHIVE, kit, sources, 0o644)
+
+
+if __name__ == "__main__":
+    if sys.argv[1:2] == ["built"]:
+        install(build(program.ROOT), program.kit_version(), sys.argv[2])
+    else:
+        print(digest_of(program.ROOT))
