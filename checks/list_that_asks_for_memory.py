@@ -18,8 +18,8 @@ OWNERS = re.compile(r"\b(Vec|VecDeque|Box|String|Rc|Arc|HashMap|BTreeMap|HashSet
 FIELDS = re.compile(r"^(?:pub )?(?:struct|enum|union) .*?^}", re.DOTALL | re.MULTILINE)
 
 FILE = "crates/journal_core/src/journal.rt"
-PUSH = "            Kept::All(records) => records.push(entry),\n"
-PLANTED = "            Kept::All(records) => {{\n{asks}                records.push(entry);\n            }}\n"
+PUSH = "            records.push(entry);\n"
+PLANTED = "{asks}            records.push(entry);\n"
 ASKS = {
     "let _copy = records.clone();": "the method `clone` exists for `FixedVec<Record>`, but its bounds are not met",
     "let _more = records.reserve(1);": "no method named `reserve` found for type `FixedVec<Record>`",

@@ -1,13 +1,13 @@
 -- What the answer of a zone under its lock tells of the zone.
 use Rattle.std.proofs.Common.{◌≡◌, ℕ, List, [], ◌∷◌, ◌++◌, refl, sym, ap, subst, ◌∙◌, append_assoc, Option, None, Some}
-use Rattle.std.specs.Prelude.{Result, Ok, Err, IsSome, IfOk, IfErr, OnOk, slice_get}
+use Rattle.std.specs.Prelude.{Result, Ok, Err, IfOk, IfErr, OnOk}
 use Rattle.std.specs.Result.{result_err}
 use Rattle.halves_core.specs.Told.{Pair, Told, pair_of, written_if}
 use Rattle.journal_core.specs.declared.record.Record.{Record}
 use Rattle.state_core.specs.declared.call.ZoneAnswer.{ZoneAnswer}
 use Rattle.state_core.specs.declared.call.ZoneCall.{ZoneCall}
 use Rattle.state_core.specs.declared.error.ZoneError.{ZoneError}
-use Rattle.state_core.specs.Calls.{refusal_of, answer_of, after}
+use Rattle.state_core.specs.Calls.{refusal_of, answer_of}
 use Rattle.state_core.specs.Lawful.{IsValidZone}
 use Rattle.state_core.specs.ZoneState.{ZoneState}
 use Rattle.round_core.specs.Calls.{IsCall}
@@ -31,37 +31,16 @@ accepted refusal leaves answer zone zone_new lawful (Ok done) is left = record {
 }
 accepted refusal leaves answer zone zone_new lawful (Err error) is left = tt
 
--- the record that a call adds is the newest one
-module _ {client : ℕ} {z z_new : ZoneState} (call : IsCall client z z_new) where
-  pub has_newest : IsSome (slice_get z_new.records 0)
-  has_newest = subst (λ (records : List Record). IsSome (slice_get records 0)) (sym call.more) refl
+-- what was told of the zone before, and the receipt, is what was told of the zone afterwards
+pub told_by : {client : ℕ} {z z_new : ZoneState} (call : IsCall client z z_new) (told : List Record → Option Told) → told z_new.records ≡ written_if call.entry (told z.records)
+    → (stub : Option Told) → told z.records ≡ stub → (receipt : Record) → call.entry ≡ receipt → told z_new.records ≡ written_if receipt stub
+told_by call told tells stub before receipt is = tells ∙ (λ i. written_if (is i) (before i))
 
-  pub newest_is : (receipt : Record) → slice_get z_new.records 0 ≡ Some receipt → call.entry ≡ receipt
-  newest_is receipt is = inner call.entry receipt (subst (λ (records : List Record). slice_get records 0 ≡ Some receipt) call.more is)
-    where
-      inner : (entry other : Record) → Some entry ≡ Some other → entry ≡ other
-      inner entry other same = cc
-
-  pub more_by : (receipt : Record) → slice_get z_new.records 0 ≡ Some receipt → z_new.records ≡ receipt ∷ z.records
-  more_by receipt is = call.more ∙ ap (λ (entry : Record). entry ∷ z.records) (newest_is receipt is)
-
-  -- what was told of the zone before, and the receipt, is what was told of the zone afterwards
-  pub told_by : (told : List Record → Option Told) → told z_new.records ≡ written_if call.entry (told z.records)
-      → (stub : Option Told) → told z.records ≡ stub → (receipt : Record) → slice_get z_new.records 0 ≡ Some receipt → told z_new.records ≡ written_if receipt stub
-  told_by told tells stub before receipt is = tells ∙ (λ i. written_if (newest_is receipt is i) (before i))
-
--- a call was made, and it has this receipt
-pub made : {W : ℕ} (call : ZoneCall W) (client : ℕ) (zone zone_new : ZoneState) → IsValidZone zone → (result : Result (ZoneAnswer × Record) ZoneError)
-    → result_err result ≡ refusal_of call zone → IfOk result (λ m. m.0 ≡ answer_of call zone) → OnOk result (zone_new ≡ after call client zone)
-    → IfOk result (λ m. zone_new.records ≡ m.1 ∷ zone.records) → IfOk result (λ m. IsMade client call m.0 m.1)
-made call client zone zone_new lawful (Ok m) is answer left receipt = record {
-  zone = zone;
-  lawful = lawful;
-  accepted = sym is;
-  answer_is = answer;
-  receipt_is = ap (λ (z : ZoneState). z.records) (sym left) ∙ receipt;
-}
-made call client zone zone_new lawful (Err error) is answer left receipt = tt
+-- a call was made
+pub made : {W : ℕ} (call : ZoneCall W) (zone : ZoneState) → IsValidZone zone → (result : Result (ZoneAnswer × Record) ZoneError)
+    → result_err result ≡ refusal_of call zone → IfOk result (λ m. m.0 ≡ answer_of call zone) → IfOk result (λ m. IsMade call m.0)
+made call zone lawful (Ok m) is answer = record { zone = zone; lawful = lawful; accepted = sym is; answer_is = answer }
+made call zone lawful (Err error) is answer = tt
 
 -- what a client holds: its slip is of this pair, and has the receipts since these
 abbrev pub Holds : Option Pair → List Record → Option Told → List Record → Type 0

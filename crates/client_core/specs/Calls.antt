@@ -1,12 +1,11 @@
 -- What a call under the lock of a zone tells: what the zone was when the call was made, and what it was afterwards.
-use Rattle.std.specs.Prelude.{◌≡◌, ℕ, Bool, ◌∷◌, Option, Some, None, unwrap_or}
+use Rattle.std.specs.Prelude.{◌≡◌, ℕ, Bool, Option, Some, None, unwrap_or}
 use Rattle.frame_core.specs.declared.place.Address.{Address}
-use Rattle.journal_core.specs.declared.record.Record.{Record}
 use Rattle.state_core.specs.declared.call.ZoneAnswer.{ZoneAnswer}
 use Rattle.state_core.specs.declared.call.ZoneCall.{ZoneCall}
 use Rattle.state_core.specs.declared.error.ZoneError.{ZoneError}
 use Rattle.state_core.specs.Access.{value_at, loaded}
-use Rattle.state_core.specs.Calls.{refusal_of, answer_of, after}
+use Rattle.state_core.specs.Calls.{refusal_of, answer_of, record_of}
 use Rattle.state_core.specs.Lawful.{IsValidZone}
 use Rattle.state_core.specs.Mapping.{mapped}
 use Rattle.state_core.specs.ZoneState.{ZoneState, lowest_free_frame, lowest_unused_page}
@@ -23,18 +22,16 @@ pub record IsAccepted {X : Type 0} (refusal : ZoneState → Option ZoneError) (l
   pub zone_new : ZoneState
   pub left : leaves zone answer zone_new
 
--- a client's call was made: some lawful zone didn't refuse it and gave this answer, and the receipt is the record that it left in the
--- journal
-pub record IsMade {W : ℕ} (client : ℕ) (call : ZoneCall W) (answer : ZoneAnswer) (receipt : Record) : Type 0 where
+-- a call was made: some lawful zone didn't refuse it and gave this answer
+pub record IsMade {W : ℕ} (call : ZoneCall W) (answer : ZoneAnswer) : Type 0 where
   pub zone : ZoneState
   pub lawful : IsValidZone zone
   pub accepted : refusal_of call zone ≡ None
   pub answer_is : answer ≡ answer_of call zone
-  pub receipt_is : (after call client zone).records ≡ receipt ∷ zone.records
 
--- a client's call was made, and its receipt is the newest that the client has
+-- a client's call was made, and its receipt, the newest that the client has, is the record that such a call leaves in the journal
 abbrev pub HasMade : {W : ℕ} → Client → ZoneCall W → ZoneAnswer → Client → Type 0
-HasMade old call answer new = (receipt : Record) × IsMade old.number call answer receipt × (new ≡ with_receipt old receipt)
+HasMade old call answer new = IsMade call answer × (new ≡ with_receipt old (record_of call old.number answer))
 
 -- a call was refused: some lawful zone refused it with this error
 pub record IsRefused (refusal : ZoneState → Option ZoneError) (error : ZoneError) : Type 0 where

@@ -204,7 +204,7 @@ impl<J: Telling, T: Receipts> Client<J, T> {
     {
         let unmovable = flags.is_unmovable();
         let call = of_client(ZoneCall::Map { address, unmovable });
-        let ZoneAnswer::Frame(frame) = self.make(rt, shared, call)? else {
+        let ZoneAnswer::Mapped { frame, .. } = self.make(rt, shared, call)? else {
             unreachable!()
         };
         Ok(frame)

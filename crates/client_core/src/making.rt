@@ -1,16 +1,16 @@
 //! A call of a client under the lock of its zone, and how it waits for its page.
 
-ghost use Rattle.std.specs.Prelude.{◌≡◌, ◌≢◌, ◌∷◌, Some, slice_get, IsSome, IsTrue, IfOk, IfErr, OnOk, OnErr};
+ghost use Rattle.std.specs.Prelude.{◌≡◌, ◌≢◌, IsTrue, IfOk, IfErr, OnOk, OnErr};
 ghost use Rattle.std.specs.Result.{result_err};
 ghost use Rattle.halves_core.specs.Told.{pair_of, written_if};
 ghost use Rattle.state_core.specs.declared.error.ZoneError.{ZoneError};
-ghost use Rattle.state_core.specs.Calls.{refusal_of, answer_of, after, is_of_client};
+ghost use Rattle.state_core.specs.Calls.{refusal_of, answer_of, after, is_of_client, record_of};
 ghost use Rattle.state_core.specs.Lawful.{IsValidZone};
 ghost use Rattle.client_core.specs.Calls.{IsMade, IsRefused};
 
 use frame_core::ClientNo;
 use halves_core::{Slip, write_both};
-use journal_core::{Journal, Record};
+use journal_core::Record;
 use round_core::{Keeping, KeptZone, Room};
 use std::sync::Wait;
 use std::sync::ledger::Ledger;
@@ -37,7 +37,8 @@ pub(crate) fn retry_while_moving<K: Keeping, I: Ledger, M: Ledger, B: Ledger, R:
     call: ClientCall,
 ) -> Result<(ZoneAnswer, Record), ZoneError>
     requires allows { K.allows client (pair_of slip.old) }
-    ensures made { IfOk result (λ made. IsMade client call made.0 made.1) }
+    ensures made { IfOk result (λ made. IsMade call made.0) }
+    ensures receipt { IfOk result (λ made. made.1 ≡ record_of call client made.0) }
     ensures slip { IfOk result (λ made. slip.new ≡ written_if made.1 slip.old) }
     ensures err { OnErr result (slip.new ≡ slip.old) }
     ensures refused { IfErr result (IsRefused (refusal_of call)) }
@@ -65,23 +66,13 @@ fn make_kept<K: Keeping, I: Ledger, M: Ledger, B: Ledger>(
     ensures refused { result_err result ≡ refusal_of call room.old }
     ensures answer { IfOk result (λ made. made.0 ≡ answer_of call room.old) }
     ensures ok { OnOk result (room.new ≡ after call client room.old) }
-    ensures receipt { IfOk result (λ made. room.new.records ≡ made.1 ∷ room.old.records) }
+    ensures receipt { IfOk result (λ made. made.1 ≡ record_of call client made.0) }
     ensures slip { IfOk result (λ made. slip.new ≡ written_if made.1 slip.old) }
     ensures err { OnErr result ((room.new ≡ room.old) × (slip.new ≡ slip.old)) }
 {
-    let answer = room.zone.make(client, call.get())?;
-    let receipt = newest(room.zone.journal());
+    let call = call.get();
+    let answer = room.zone.make(client, call)?;
+    let receipt = call.record(client, answer);
     write_both(&mut room.stub, slip, &receipt);
     Ok((answer, receipt))
-}
-
-/// The newest record of a journal.
-fn newest(journal: &Journal) -> Record
-    requires { IsSome (slice_get journal.now.records 0) }
-    ensures { slice_get journal.now.records 0 ≡ Some result }
-{
-    let Some(entry) = journal.last() else {
-        unreachable!();
-    };
-    *entry
 }

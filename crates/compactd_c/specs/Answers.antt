@@ -3,7 +3,7 @@ use Rattle.std.specs.Prelude.{ℕ, if◌then◌else◌, Option, Some, None, is_s
 use Rattle.state_core.specs.ErrorNumber.{number_of}
 use Rattle.state_core.specs.ZoneState.{ZoneState}
 use Rattle.state_core.specs.declared.call.ZoneAnswer.{ZoneAnswer}
-use Rattle.state_core.specs.declared.call.ZoneAnswer.TheVariants.{Frame}
+use Rattle.state_core.specs.declared.call.ZoneAnswer.TheVariants.{Mapped, Frame}
 use Rattle.state_core.specs.declared.error.ZoneError.{ZoneError}
 
 -- 0, or the number of the refusal
@@ -23,6 +23,7 @@ number_in (Err number) = number
 
 -- the frame that an answer tells; what was there before, where it tells none
 abbrev pub frame_in : Result ZoneAnswer ℕ → ℕ → ℕ
+frame_in (Ok (Mapped page frame)) before = frame
 frame_in (Ok (Frame frame)) before = frame
 frame_in told before = before
 

@@ -62,7 +62,7 @@ pub(crate) fn framed(answer: Result<ZoneAnswer, u32>, frame: &mut u32) -> u32
 {
     match answer {
         Ok(told) => {
-            if let ZoneAnswer::Frame(at) = told {
+            if let ZoneAnswer::Frame(at) | ZoneAnswer::Mapped { frame: at, .. } = told {
                 *frame = at.get();
             }
             0

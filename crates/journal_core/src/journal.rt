@@ -1,4 +1,4 @@
-ghost use Rattle.std.specs.Prelude.{◌≡◌, ◌+◌, ◌<◌, ◌≤◌, ◌^◌, [], ◌∷◌, length, slice_get, reverse, IfOk, IfSome, IsSome, IsTrue, ◌↔◌, option_copied};
+ghost use Rattle.std.specs.Prelude.{◌≡◌, ◌+◌, ◌<◌, ◌≤◌, ◌^◌, [], ◌∷◌, length, reverse, IfOk, IfSome, IsSome, IsTrue, ◌↔◌};
 ghost use Rattle.journal_core.specs.Journal.{told_places};
 ghost use Rattle.journal_core.specs.Access.{access_record, with_each};
 
@@ -12,23 +12,15 @@ use told_core::Told;
 /// Records in the order in which they were appended.
 ///
 /// A journal is opened in one of two kinds. One that is kept has memory for all its records, which is taken once, when it is opened.
-/// One that is told keeps the newest record and the number of them: contracts see all records, and no memory has them, so it has room
-/// for 2^53 records, more than a machine makes in a hundred years.
+/// One that is told keeps the number of them alone: contracts see all records, and no memory has them, so it has room for 2^53
+/// records, more than a machine makes in a hundred years.
 #[derive(Drop)]
 pub struct Journal {
     told: Told<Record>,
-    kept: Kept,
+    /// The records, the oldest first, where they are kept.
+    kept: Option<FixedVec<Record>>,
     count: u64,
     places: u64,
-}
-
-/// What a journal has of its records in memory.
-#[derive(Drop)]
-enum Kept {
-    /// All of them, the oldest first.
-    All(FixedVec<Record>),
-    /// The newest alone, once there is one.
-    Newest(Option<Record>),
 }
 
 impl Model for Journal {
@@ -54,7 +46,7 @@ impl Journal {
         let kept = FixedVec::with_room(alloc, places as usize)?;
         Ok(Journal {
             told: Told::nothing(),
-            kept: Kept::All(kept),
+            kept: Some(kept),
             count: 0,
             places: u64::from(places),
         })
@@ -66,7 +58,7 @@ impl Journal {
     {
         Journal {
             told: Told::nothing(),
-            kept: Kept::Newest(None),
+            kept: None,
             count: 0,
             places: 1 << 53,
         }
@@ -99,18 +91,8 @@ impl Journal {
         ensures some { IsSome result ↔ (length self.now.records + self.now.room ≤ 65536) }
     {
         match &self.kept {
-            Kept::All(records) => Some(records),
-            Kept::Newest(_) => None,
-        }
-    }
-
-    /// The newest record, if there is one.
-    pub fn last(&self) -> Option<&Record>
-        ensures { option_copied result ≡ slice_get self.now.records 0 }
-    {
-        match &self.kept {
-            Kept::All(records) => records.last(),
-            Kept::Newest(newest) => newest.as_ref(),
+            Some(records) => Some(records),
+            None => None,
         }
     }
 
@@ -122,9 +104,8 @@ impl Journal {
     {
         self.told.push(&entry);
         self.count += 1;
-        match &mut self.kept {
-            Kept::All(records) => records.push(entry),
-            Kept::Newest(newest) => *newest = Some(entry),
+        if let Some(records) = &mut self.kept {
+            records.push(entry);
         }
     }
 
@@ -136,16 +117,11 @@ impl Journal {
         ensures records { self.new.records ≡ with_each (access_record access.now) from values.now self.old.records }
         ensures room { self.new.room + length values.now ≡ self.old.room }
     {
-        let Some((newest, others)) = values.split_last() else {
-            return;
-        };
-        if let Kept::Newest(kept) = &mut self.kept {
+        if self.kept.is_some() {
+            self.keep_each(access, from, values);
+        } else {
             tell_all(&mut self.told, access, from, values);
             self.count += values.len() as u64;
-            let word = from + others.len() as u16;
-            *kept = Some(access.record(word, *newest));
-        } else {
-            self.keep_each(access, from, values);
         }
     }
 

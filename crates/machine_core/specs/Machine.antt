@@ -78,9 +78,11 @@ abbrev pub looked : WorldState → Option Known → Answered
 looked world None = refused (number_of Unmapped) world
 looked world (Some known) = says (reply.Looked known) world
 
--- the reply for what the zone answered to a call: the value of a load, and the block that was handed out; the frame of a map isn't told
+-- the reply for what the zone answered to a call: the value of a load, and the block that was handed out; the page and the frame of a
+-- map aren't told
 abbrev pub reply_for : ZoneCall 8 → ZoneAnswer → Reply
 reply_for call zone_answer.Done = reply.Done
+reply_for call (zone_answer.Mapped page frame) = reply.Done
 reply_for call (zone_answer.Value x) = reply.Value x
 reply_for (TakeOrder order) (zone_answer.Frame first) = reply.HandedOut first order
 reply_for call (zone_answer.Frame first) = reply.Done

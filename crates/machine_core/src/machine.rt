@@ -385,12 +385,12 @@ fn make<I: Ledger, N: Ledger, M: Ledger, B: Ledger>(
     }
 }
 
-/// The reply for what a zone answered to a call. The frame of a map isn't told.
+/// The reply for what a zone answered to a call. The page and the frame of a map aren't told.
 pub fn reply_for(call: &ZoneCall, answer: ZoneAnswer) -> Reply
     ensures { result ≡ reply_for call.now answer }
 {
     match answer {
-        ZoneAnswer::Done => Reply::Done,
+        ZoneAnswer::Done | ZoneAnswer::Mapped { .. } => Reply::Done,
         ZoneAnswer::Value(value) => Reply::Value(value),
         ZoneAnswer::Frame(first) => match call {
             ZoneCall::TakeOrder { order } => Reply::HandedOut {

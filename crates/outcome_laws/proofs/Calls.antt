@@ -59,7 +59,7 @@ module _ (z w : ZoneState) (same : IsSame z w) where
       (cond (is_some (page_same z w same a i)) (Some Occupied)
       (cond (not (is_free (line z w same i) frame)) (Some NoFrame) None)))
 
-  page_agrees : unwrap_or (lowest_unused_page z) 0 ≡ unwrap_or (lowest_unused_page w) 0
+  pub page_agrees : unwrap_or (lowest_unused_page z) 0 ≡ unwrap_or (lowest_unused_page w) 0
   page_agrees = λ i. unwrap_or (lowest_unused_page (line z w same i)) 0
 
   pub mapped_agrees : (client : ℕ) (a : Address) (unmovable : Bool) (frame : ℕ) → IsSame (mapped z client a unmovable frame) (mapped w client a unmovable frame)

@@ -1,15 +1,15 @@
 -- Two zones that are the same agree on each call, whichever it is.
 use Rattle.std.proofs.Common.{◌≡◌, ℕ, refl, ap, subst, Option}
 use Rattle.std.specs.Prelude.{unwrap_or}
-use Rattle.state_core.specs.declared.call.ZoneAnswer.TheVariants.{Frame, Value}
+use Rattle.state_core.specs.declared.call.ZoneAnswer.TheVariants.{Mapped, Frame, Value}
 use Rattle.state_core.specs.declared.call.ZoneCall.{ZoneCall}
 use Rattle.state_core.specs.declared.call.ZoneCall.TheVariants.{Map, MapAt, Load, Store, Share, Unmap, Pin, Unpin, TakeOrder, GiveOrder, Mark, Unmark}
 use Rattle.state_core.specs.Calls.{refusal_of, answer_of, after}
 use Rattle.state_core.specs.HandingOut.{lowest_run, block_taken}
 use Rattle.state_core.specs.Mapping.{mapped}
-use Rattle.state_core.specs.ZoneState.{ZoneState, lowest_free_frame}
+use Rattle.state_core.specs.ZoneState.{ZoneState, lowest_free_frame, lowest_unused_page}
 use Rattle.outcome_core.specs.Outcome.{IsSame}
-use Rattle.outcome_laws.proofs.Calls.{access_agrees, value_agrees, loaded_agrees, stored_agrees, map_agrees, map_at_agrees, frame_agrees, mapped_agrees, share_agrees, shared_agrees, unmap_agrees, unmapped_agrees, pin_agrees, pinned_agrees, unpin_agrees, unpinned_agrees, take_agrees, run_agrees, taken_agrees, give_agrees, given_agrees, mark_agrees, marked_agrees, unmark_agrees, unmarked_agrees}
+use Rattle.outcome_laws.proofs.Calls.{access_agrees, value_agrees, loaded_agrees, stored_agrees, map_agrees, map_at_agrees, frame_agrees, page_agrees, mapped_agrees, share_agrees, shared_agrees, unmap_agrees, unmapped_agrees, pin_agrees, pinned_agrees, unpin_agrees, unpinned_agrees, take_agrees, run_agrees, taken_agrees, give_agrees, given_agrees, mark_agrees, marked_agrees, unmark_agrees, unmarked_agrees}
 
 module _ (z w : ZoneState) (same : IsSame z w) (W : ℕ) where
   pub refusals_agree : (call : ZoneCall W) → refusal_of call z ≡ refusal_of call w
@@ -29,12 +29,15 @@ module _ (z w : ZoneState) (same : IsSame z w) (W : ℕ) where
   same_frame : unwrap_or (lowest_free_frame z) 0 ≡ unwrap_or (lowest_free_frame w) 0
   same_frame = ap (λ (o : Option ℕ). unwrap_or o 0) (frame_agrees z w same)
 
+  same_page : unwrap_or (lowest_unused_page z) 0 ≡ unwrap_or (lowest_unused_page w) 0
+  same_page = page_agrees z w same
+
   same_run : (order : ℕ) → unwrap_or (lowest_run z order) 0 ≡ unwrap_or (lowest_run w order) 0
   same_run order = ap (λ (o : Option ℕ). unwrap_or o 0) (run_agrees z w same order)
 
   pub answers_agree : (call : ZoneCall W) → answer_of call z ≡ answer_of call w
-  answers_agree (Map address unmovable) = ap Frame same_frame
-  answers_agree (MapAt address unmovable frame) = refl
+  answers_agree (Map address unmovable) = λ i. Mapped (same_page i) (same_frame i)
+  answers_agree (MapAt address unmovable frame) = ap (λ (page : ℕ). Mapped page frame) same_page
   answers_agree (Load address word) = ap Value (value_agrees z w same address word)
   answers_agree (Store address word value) = refl
   answers_agree (Share address alias) = refl

@@ -43,6 +43,7 @@ plain_unless (Some e) w a h = refl
 
 plain_answer : (call : ZoneCall 8) (a : ZoneAnswer) → has_counts (reply_for call a) ≡ false
 plain_answer call zone_answer.Done = refl
+plain_answer call (zone_answer.Mapped page frame) = refl
 plain_answer call (zone_answer.Value x) = refl
 plain_answer (TakeOrder order) (zone_answer.Frame first) = refl
 plain_answer call (zone_answer.Frame first) = refl

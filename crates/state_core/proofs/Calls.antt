@@ -1,11 +1,12 @@
 -- Each call that isn't refused leaves a lawful zone lawful.
 use Rattle.std.proofs.Common.{◌≡◌, ℕ, ◌+◌, ◌<◌, ◌≤◌, Bool, true, false, cond, length, refl, sym, ap, subst, arith, ◌-◌, not, is_some, Option, Some, None, IsSome}
-use Rattle.std.specs.Prelude.{unwrap_or}
+use Rattle.std.specs.Prelude.{IsTrue, ◌∷◌, unwrap_or}
 use Rattle.std.specs.Option.{option_or}
 use Rattle.std.proofs.lemmas.Bool.{not-false, ltb-true, leb-false, eqb-true}
 use Rattle.frame_core.proofs.Searches.{lowest_some}
 use Rattle.frame_core.specs.Address.{InRange}
 use Rattle.frame_core.specs.declared.place.Address.{Address}
+use Rattle.journal_core.specs.declared.record.Record.TheVariants as entry
 use Rattle.journal_core.specs.History.{page_at, maps}
 use Rattle.journal_core.specs.Moves.{out}
 use Rattle.state_core.specs.declared.call.ZoneCall.{ZoneCall}
@@ -14,7 +15,7 @@ use Rattle.state_core.specs.declared.error.ZoneError.{ZoneError}
 use Rattle.state_core.specs.declared.placement.Placement.{Placement}
 use Rattle.state_core.specs.declared.placement.Placement.TheVariants.{At, Moving}
 use Rattle.state_core.specs.Access.{placement_refusal, access_refusal, loaded, stored}
-use Rattle.state_core.specs.Calls.{refusal_of, after, IsInRange}
+use Rattle.state_core.specs.Calls.{refusal_of, answer_of, after, answers, record_of, IsInRange}
 use Rattle.state_core.specs.HandingOut.{is_order, is_run, lowest_run, take_order_refusal, give_order_refusal, block_taken, block_given}
 use Rattle.state_core.specs.Lawful.{IsValidZone}
 use Rattle.state_core.specs.Mapping.{map_refusal, map_at_refusal, mapped}
@@ -207,22 +208,39 @@ call_room W (GiveOrder first order) z accepted = room_passed z (passed _ _ _ (pa
 call_room W (Mark block) z accepted = room_passed z (passed _ _ _ (passed _ _ _ accepted).1).0
 call_room W (Unmark block) z accepted = room_passed z (passed _ _ _ (passed _ _ _ accepted).1).0
 
-one_record : (W : ℕ) (call : ZoneCall W) (client : ℕ) (z : ZoneState) → (length (after call client z).records ≡ length z.records + 1) × ((after call client z).room ≡ z.room - 1)
-one_record W (Unmap address) client z = by_last (λ v. (length v.records ≡ length z.records + 1) × (v.room ≡ z.room - 1)) (is_last z address) _ _ (omega arith, refl) (omega arith, refl)
-one_record W (Map address unmovable) client z = (omega arith, refl)
-one_record W (MapAt address unmovable frame) client z = (omega arith, refl)
-one_record W (Load address word) client z = (omega arith, refl)
-one_record W (Store address word value) client z = (omega arith, refl)
-one_record W (Share address alias) client z = (omega arith, refl)
-one_record W (Pin address) client z = (omega arith, refl)
-one_record W (Unpin address) client z = (omega arith, refl)
-one_record W (TakeOrder order) client z = (omega arith, refl)
-one_record W (GiveOrder first order) client z = (omega arith, refl)
-one_record W (Mark block) client z = (omega arith, refl)
-one_record W (Unmark block) client z = (omega arith, refl)
+-- what a call answers is an answer to it
+pub call_answered : (W : ℕ) (call : ZoneCall W) (z : ZoneState) → IsTrue (answers call (answer_of call z))
+call_answered W (Map address unmovable) z = refl
+call_answered W (MapAt address unmovable frame) z = refl
+call_answered W (Load address word) z = refl
+call_answered W (Store address word value) z = refl
+call_answered W (Share address alias) z = refl
+call_answered W (Unmap address) z = refl
+call_answered W (Pin address) z = refl
+call_answered W (Unpin address) z = refl
+call_answered W (TakeOrder order) z = refl
+call_answered W (GiveOrder first order) z = refl
+call_answered W (Mark block) z = refl
+call_answered W (Unmark block) z = refl
 
-pub call_recorded : (W : ℕ) (call : ZoneCall W) (client : ℕ) (z : ZoneState) → refusal_of call z ≡ None → (length (after call client z).records ≡ length z.records + 1) × ((after call client z).room + 1 ≡ z.room)
-call_recorded W call client z accepted =
-    let one = one_record W call client z in
-    let room = call_room W call z accepted in
-    (one.0, omega (arith, one.1, room))
+-- a call adds the record that it tells with its answer, and takes a place
+call_noted : (W : ℕ) (call : ZoneCall W) (client : ℕ) (z : ZoneState)
+    → ((after call client z).records ≡ record_of call client (answer_of call z) ∷ z.records) × ((after call client z).room ≡ z.room - 1)
+call_noted W (Unmap address) client z = by_last (λ v. (v.records ≡ entry.Unmap client address ∷ z.records) × (v.room ≡ z.room - 1)) (is_last z address) _ _ (refl, refl) (refl, refl)
+call_noted W (Map address unmovable) client z = (refl, refl)
+call_noted W (MapAt address unmovable frame) client z = (refl, refl)
+call_noted W (Load address word) client z = (refl, refl)
+call_noted W (Store address word value) client z = (refl, refl)
+call_noted W (Share address alias) client z = (refl, refl)
+call_noted W (Pin address) client z = (refl, refl)
+call_noted W (Unpin address) client z = (refl, refl)
+call_noted W (TakeOrder order) client z = (refl, refl)
+call_noted W (GiveOrder first order) client z = (refl, refl)
+call_noted W (Mark block) client z = (refl, refl)
+call_noted W (Unmark block) client z = (refl, refl)
+
+pub call_recorded : (W : ℕ) (call : ZoneCall W) (client : ℕ) (z : ZoneState) → (after call client z).records ≡ record_of call client (answer_of call z) ∷ z.records
+call_recorded W call client z = (call_noted W call client z).0
+
+pub call_took : (W : ℕ) (call : ZoneCall W) (client : ℕ) (z : ZoneState) → refusal_of call z ≡ None → (after call client z).room + 1 ≡ z.room
+call_took W call client z accepted = let room = call_room W call z accepted in omega (arith, (call_noted W call client z).1, room)

@@ -1,8 +1,10 @@
--- The calls of a zone in three tables, with a row for each call: why it is refused, what it answers, and what it leaves.
+-- The calls of a zone in four tables, with a row for each call: why it is refused, what it answers, what it leaves, and its record.
 use Rattle.std.specs.Prelude.{ℕ, ◌≤◌, ⊤, Bool, true, false, Option, unwrap_or}
 use Rattle.frame_core.specs.Address.{InRange}
+use Rattle.journal_core.specs.declared.record.Record.{Record}
+use Rattle.journal_core.specs.declared.record.Record.TheVariants as entry
 use Rattle.state_core.specs.declared.call.ZoneAnswer.{ZoneAnswer}
-use Rattle.state_core.specs.declared.call.ZoneAnswer.TheVariants.{Done, Frame, Value}
+use Rattle.state_core.specs.declared.call.ZoneAnswer.TheVariants.{Done, Mapped, Frame, Value}
 use Rattle.state_core.specs.declared.call.ZoneCall.{ZoneCall}
 use Rattle.state_core.specs.declared.call.ZoneCall.TheVariants.{Map, MapAt, Load, Store, Share, Unmap, Pin, Unpin, TakeOrder, GiveOrder, Mark, Unmark}
 use Rattle.state_core.specs.declared.error.ZoneError.{ZoneError}
@@ -13,7 +15,7 @@ use Rattle.state_core.specs.Marking.{mark_refusal, unmark_refusal, block_marked,
 use Rattle.state_core.specs.Pinning.{pin_refusal, unpin_refusal, pinned, unpinned}
 use Rattle.state_core.specs.Sharing.{share_refusal, shared}
 use Rattle.state_core.specs.Unmapping.{unmap_refusal, unmapped}
-use Rattle.state_core.specs.ZoneState.{ZoneState, lowest_free_frame}
+use Rattle.state_core.specs.ZoneState.{ZoneState, lowest_free_frame, lowest_unused_page}
 
 -- why a call is refused, if it is
 abbrev pub refusal_of : {W : ℕ} → ZoneCall W → ZoneState → Option ZoneError
@@ -32,8 +34,8 @@ refusal_of (Unmark block) z = unmark_refusal z block
 
 -- what a call answers that isn't refused
 abbrev pub answer_of : {W : ℕ} → ZoneCall W → ZoneState → ZoneAnswer
-answer_of (Map address unmovable) z = Frame (unwrap_or (lowest_free_frame z) 0)
-answer_of (MapAt address unmovable frame) z = Done
+answer_of (Map address unmovable) z = Mapped (unwrap_or (lowest_unused_page z) 0) (unwrap_or (lowest_free_frame z) 0)
+answer_of (MapAt address unmovable frame) z = Mapped (unwrap_or (lowest_unused_page z) 0) frame
 answer_of (Load address word) z = Value (value_at z address word)
 answer_of (Store address word value) z = Done
 answer_of (Share address alias) z = Done
@@ -59,6 +61,50 @@ after (TakeOrder order) client z = block_taken z (unwrap_or (lowest_run z order)
 after (GiveOrder first order) client z = block_given z first order
 after (Mark block) client z = block_marked z block
 after (Unmark block) client z = block_unmarked z block
+
+-- whether this is an answer to such a call
+abbrev pub answers : {W : ℕ} → ZoneCall W → ZoneAnswer → Bool
+answers (Map address unmovable) (Mapped page frame) = true
+answers (MapAt address unmovable at) (Mapped page frame) = true
+answers (Load address word) (Value value) = true
+answers (TakeOrder order) (Frame first) = true
+answers (Store address word value) Done = true
+answers (Share address alias) Done = true
+answers (Unmap address) Done = true
+answers (Pin address) Done = true
+answers (Unpin address) Done = true
+answers (GiveOrder first order) Done = true
+answers (Mark block) Done = true
+answers (Unmark block) Done = true
+answers call answer = false
+
+-- the page, the value and the first frame that an answer tells, and 0 where it tells none
+abbrev page_in : ZoneAnswer → ℕ
+page_in (Mapped page frame) = page
+page_in _ = 0
+
+abbrev value_in : ZoneAnswer → ℕ
+value_in (Value value) = value
+value_in _ = 0
+
+abbrev first_in : ZoneAnswer → ℕ
+first_in (Frame first) = first
+first_in _ = 0
+
+-- the record that a call of a client leaves that was answered so
+abbrev pub record_of : {W : ℕ} → ZoneCall W → ℕ → ZoneAnswer → Record
+record_of (Map address unmovable) client answer = entry.Map client address (page_in answer)
+record_of (MapAt address unmovable frame) client answer = entry.Map client address (page_in answer)
+record_of (Load address word) client answer = entry.Load client address word (value_in answer)
+record_of (Store address word value) client answer = entry.Store client address word value
+record_of (Share address alias) client answer = entry.Share client address alias
+record_of (Unmap address) client answer = entry.Unmap client address
+record_of (Pin address) client answer = entry.Pin client address
+record_of (Unpin address) client answer = entry.Unpin client address
+record_of (TakeOrder order) client answer = entry.TakeHuge (first_in answer) order
+record_of (GiveOrder first order) client answer = entry.GiveHuge first order
+record_of (Mark block) client answer = entry.Mark block
+record_of (Unmark block) client answer = entry.Unmark block
 
 -- whether a client may make the call beside a round: it names an address
 abbrev pub is_of_client : {W : ℕ} → ZoneCall W → Bool

@@ -1,4 +1,9 @@
-use frame_core::{Address, BlockNo, FrameNo, Order, WordOf};
+ghost use Rattle.std.specs.Prelude.{◌≡◌, IsTrue};
+ghost use Rattle.state_core.specs.Calls.{answers, record_of};
+ghost use Rattle.state_core.specs.declared.call.ZoneAnswer.{ZoneAnswer};
+
+use frame_core::{Address, BlockNo, ClientNo, FrameNo, Order, PageNo, WordOf};
+use journal_core::Record;
 
 /// A call that a client makes on a zone whose pages have `W` words. The calls are this project's own profile.
 #[derive(Clone, Copy, Debug, PartialEq, Eq)]
@@ -66,8 +71,77 @@ pub enum ZoneCall<const W: usize> {
 pub enum ZoneAnswer {
     /// The call was made, and there is nothing to tell.
     Done,
-    /// The frame of a fresh page, or the first frame of a block that was handed out.
+    /// The number of a fresh page, and the frame that it is in.
+    Mapped { page: PageNo, frame: FrameNo },
+    /// The first frame of a block that was handed out.
     Frame(FrameNo),
     /// The value that a load read.
     Value(u64),
+}
+
+impl<const W: usize> ZoneCall<W> {
+    /// The record that the call leaves in the journal, made by this client and answered so. The answer has to be one to such a call.
+    pub fn record(self, client: ClientNo, answer: ZoneAnswer) -> Record
+        requires { IsTrue (answers self answer) }
+        ensures { result ≡ record_of self.entry client answer }
+    {
+        match answer {
+            ZoneAnswer::Done => self.untold(client),
+            ZoneAnswer::Mapped { page, .. } => match self {
+                ZoneCall::Map { address, .. } | ZoneCall::MapAt { address, .. } => Record::Map {
+                    client,
+                    address,
+                    page,
+                },
+                _ => unreachable!(),
+            },
+            ZoneAnswer::Frame(frame) => match self {
+                ZoneCall::TakeOrder { order } => Record::TakeHuge { frame, order },
+                _ => unreachable!(),
+            },
+            ZoneAnswer::Value(value) => match self {
+                ZoneCall::Load { address, word } => Record::Load {
+                    client,
+                    address,
+                    word: word.noted(),
+                    value,
+                },
+                _ => unreachable!(),
+            },
+        }
+    }
+
+    /// The record that a call leaves whose answer tells nothing.
+    fn untold(self, client: ClientNo) -> Record
+        requires { IsTrue (answers self ZoneAnswer.Done) }
+        ensures { result ≡ record_of self.entry client ZoneAnswer.Done }
+    {
+        match self {
+            ZoneCall::Store {
+                address,
+                word,
+                value,
+            } => Record::Store {
+                client,
+                address,
+                word: word.noted(),
+                value,
+            },
+            ZoneCall::Share { address, alias } => Record::Share {
+                client,
+                address,
+                alias,
+            },
+            ZoneCall::Unmap { address } => Record::Unmap { client, address },
+            ZoneCall::Pin { address } => Record::Pin { client, address },
+            ZoneCall::Unpin { address } => Record::Unpin { client, address },
+            ZoneCall::GiveOrder { first, order } => Record::GiveHuge {
+                frame: first,
+                order,
+            },
+            ZoneCall::Mark { block } => Record::Mark { block },
+            ZoneCall::Unmark { block } => Record::Unmark { block },
+            _ => unreachable!(),
+        }
+    }
 }

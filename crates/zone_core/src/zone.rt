@@ -158,7 +158,8 @@ impl<const W: usize, I: Ledger, M: Ledger, B: Ledger> Zone<W, I, M, B> {
         ensures lawful { IsValidZone self.new }
     {
         let unmovable = flags.contains(PageFlags::UNMOVABLE);
-        self.bare.map(client, address, unmovable)
+        let (_page, frame) = self.bare.map(client, address, unmovable)?;
+        Ok(frame)
     }
 
     /// Makes an address name a fresh page in a given frame, as `map` does in the lowest. The flags must not have DIRTY.
@@ -179,7 +180,8 @@ impl<const W: usize, I: Ledger, M: Ledger, B: Ledger> Zone<W, I, M, B> {
         ensures lawful { IsValidZone self.new }
     {
         let unmovable = flags.contains(PageFlags::UNMOVABLE);
-        self.bare.map_at(client, address, unmovable, frame)
+        self.bare.map_at(client, address, unmovable, frame)?;
+        Ok(())
     }
 
     /// Reads a word of the page that an address names: the value that was stored there last, or 0.

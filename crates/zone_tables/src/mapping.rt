@@ -58,12 +58,19 @@ impl<const W: usize> ZoneTables<W> {
         page
     }
 
-    /// Makes an address name a fresh page in a free frame.
-    pub fn place(&mut self, client: ClientNo, address: Address, unmovable: bool, frame: FrameNo)
+    /// Makes an address name a fresh page in a free frame, and answers its number.
+    pub fn place(
+        &mut self,
+        client: ClientNo,
+        address: Address,
+        unmovable: bool,
+        frame: FrameNo,
+    ) -> PageNo
         requires room { IsTrue (has_room self.old) }
         requires vacant { page_at self.old.records address ≡ None }
         requires free { IsTrue (is_free self.old frame) }
         requires within { frame < frame_count self.old }
+        ensures page { lowest_unused_page self.old ≡ Some result }
         ensures step { self.new ≡ mapped self.old client address unmovable frame }
         ensures lawful { IsValidZone self.new }
     {
@@ -78,5 +85,6 @@ impl<const W: usize> ZoneTables<W> {
             address,
             page,
         });
+        page
     }
 }

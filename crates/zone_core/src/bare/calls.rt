@@ -10,13 +10,13 @@ ghost use Rattle.state_core.specs.Clear.{IsClear};
 ghost use Rattle.state_core.specs.HandingOut.{is_run, lowest_run};
 ghost use Rattle.state_core.specs.Lawful.{IsValidZone};
 ghost use Rattle.state_core.specs.Pairs.{HaveMet};
-ghost use Rattle.state_core.specs.ZoneState.{lowest_free_frame};
+ghost use Rattle.state_core.specs.ZoneState.{lowest_free_frame, lowest_unused_page};
 ghost use Rattle.state_core.specs.declared.call.ZoneCall.TheVariants as call;
 ghost use Rattle.zone_core.specs.Made.{IsMade};
 ghost use Rattle.zone_core.specs.ZoneIdentity.{HasIdentity};
 
 use crate::bare::BareZone;
-use frame_core::{Address, BlockNo, ClientNo, FrameNo, Order, WordOf};
+use frame_core::{Address, BlockNo, ClientNo, FrameNo, Order, PageNo, WordOf};
 use state_core::{ZoneAnswer, ZoneCallOf as Call, ZoneError};
 
 impl<const W: usize> BareZone<W> {
@@ -33,13 +33,17 @@ impl<const W: usize> BareZone<W> {
     {
         match call {
             Call::Map { address, unmovable } => {
-                self.map(client, address, unmovable).map(ZoneAnswer::Frame)
+                let (page, frame) = self.map(client, address, unmovable)?;
+                Ok(ZoneAnswer::Mapped { page, frame })
             }
             Call::MapAt {
                 address,
                 unmovable,
                 frame,
-            } => done(self.map_at(client, address, unmovable, frame)),
+            } => {
+                let page = self.map_at(client, address, unmovable, frame)?;
+                Ok(ZoneAnswer::Mapped { page, frame })
+            }
             Call::Load { address, word } => self.load(client, address, word).map(ZoneAnswer::Value),
             Call::Store {
                 address,
@@ -63,9 +67,10 @@ impl<const W: usize> BareZone<W> {
         client: ClientNo,
         address: Address,
         unmovable: bool,
-    ) -> Result<FrameNo, ZoneError>
+    ) -> Result<(PageNo, FrameNo), ZoneError>
         ensures made { IsMade {W = W} (call.Map address unmovable) client self.old self.new result }
-        ensures frame { IfOk result (λ frame. lowest_free_frame self.old ≡ Some frame) }
+        ensures page { IfOk result (λ mapped. lowest_unused_page self.old ≡ Some mapped.0) }
+        ensures frame { IfOk result (λ mapped. lowest_free_frame self.old ≡ Some mapped.1) }
     {
         if !self.tables.has_room() {
             return Err(ZoneError::JournalFull);
@@ -76,8 +81,8 @@ impl<const W: usize> BareZone<W> {
         let Some(frame) = self.tables.find_free() else {
             return Err(ZoneError::NoFrame);
         };
-        self.tables.place(client, address, unmovable, frame);
-        Ok(frame)
+        let page = self.tables.place(client, address, unmovable, frame);
+        Ok((page, frame))
     }
 
     #[inline(always)]
@@ -87,8 +92,9 @@ impl<const W: usize> BareZone<W> {
         address: Address,
         unmovable: bool,
         frame: FrameNo,
-    ) -> Result<(), ZoneError>
+    ) -> Result<PageNo, ZoneError>
         ensures made { IsMade {W = W} (call.MapAt address unmovable frame) client self.old self.new result }
+        ensures page { IfOk result (λ page. lowest_unused_page self.old ≡ Some page) }
     {
         if !self.tables.has_frame(frame) {
             return Err(ZoneError::Range);
@@ -102,8 +108,7 @@ impl<const W: usize> BareZone<W> {
         if !self.tables.is_free(frame) {
             return Err(ZoneError::NoFrame);
         }
-        self.tables.place(client, address, unmovable, frame);
-        Ok(())
+        Ok(self.tables.place(client, address, unmovable, frame))
     }
 
     /// Reads a word of the page that an address names: the value that was stored there last, or 0.

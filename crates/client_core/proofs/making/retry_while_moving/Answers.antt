@@ -6,8 +6,7 @@ use Rattle.client_core.proofs.making.retry_while_moving.Goals as goal
 pub returns-in_default-clause-made : goal.returns-in_default-clause-made
 returns-in_default-clause-made g c =
     let kept = c.make_kept in
-    let is = made c.args.call c.args.client c.deref_mut.result.now kept.new.room kept.ensures.lawful kept.result
-    kept.ensures.refused kept.ensures.answer kept.ensures.ok kept.ensures.receipt in
+    let is = made c.args.call c.deref_mut.result.now kept.ensures.lawful kept.result kept.ensures.refused kept.ensures.answer in
     search (rules, is)
 
 pub returns-in_default-clause-refused : goal.returns-in_default-clause-refused

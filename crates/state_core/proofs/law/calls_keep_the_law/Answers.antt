@@ -1,4 +1,4 @@
-use Rattle.state_core.proofs.Calls.{call_lawful, call_shape, call_recorded}
+use Rattle.state_core.proofs.Calls.{call_lawful, call_shape, call_answered, call_recorded, call_took}
 use Rattle.state_core.proofs.law.calls_keep_the_law.Goals as goal
 
 pub returns-clause-lawful : goal.returns-clause-lawful
@@ -7,5 +7,11 @@ returns-clause-lawful c = call_lawful
 pub returns-clause-identity : goal.returns-clause-identity
 returns-clause-identity c = call_shape
 
+pub returns-clause-answered : goal.returns-clause-answered
+returns-clause-answered c = call_answered
+
 pub returns-clause-recorded : goal.returns-clause-recorded
 returns-clause-recorded c = call_recorded
+
+pub returns-clause-room : goal.returns-clause-room
+returns-clause-room c = call_took

@@ -1,5 +1,4 @@
-use Rattle.std.proofs.Common.{◌≡◌, ℕ, subst, rules}
-use Rattle.client_core.specs.Calls.{IsMade}
+use Rattle.std.proofs.Common.{rules}
 use Rattle.client_core.proofs.Calls.{holds_more}
 use Rattle.client_core.proofs.client.Client.make.Goals as goal
 
@@ -11,9 +10,5 @@ invariant_of-self-2 g c =
 
 pub returns-clause-ok : goal.returns-clause-ok
 returns-clause-ok g c =
-    let receipt = c.in_ok-answer.receipt in
-    let is : c.self.inside.number ≡ c.args.self.now.number = search rules in (
-      receipt,
-      subst (λ (number : ℕ). IsMade number c.args.call c.in_ok-answer.answer receipt) is c.in_ok-answer.ensures.made,
-      search rules,
-    )
+    let more = c.in_ok-answer.ensures.receipt in
+    (c.in_ok-answer.ensures.made, search (rules, more))

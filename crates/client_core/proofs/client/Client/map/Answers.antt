@@ -15,4 +15,4 @@ returns-clause-ok g c =
     let call = Map c.args.address unmovable in
     let is = c.of_client-call.ensures ∙ ap (Map c.args.address) c.is_unmovable-unmovable.ensures in
     let made = made_as c.args.self.now c.make.new.self c.in_ok-frame.field-0 c.of_client-call.result call is c.in_ok-frame.ensures.ok in
-    map_went c.args.self.now c.make.new.self c.in_ok-frame.field-0 c.args.address unmovable c.in-Frame.frame c.in-Frame.is made
+    map_went c.args.self.now c.make.new.self c.in_ok-frame.field-0 c.args.address unmovable c.in-Mapped.page c.in-Mapped.frame c.in-Mapped.is made

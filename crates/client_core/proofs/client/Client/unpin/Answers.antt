@@ -1,6 +1,6 @@
-use Rattle.std.proofs.Common.{refl, rules}
+use Rattle.std.proofs.Common.{rules}
 use Rattle.state_core.specs.declared.call.ZoneCall.TheVariants.{Unpin}
-use Rattle.client_core.proofs.Made.{accepted, failed_as, made_as, receipt_more}
+use Rattle.client_core.proofs.Made.{accepted, failed_as, made_as}
 use Rattle.client_core.proofs.client.Client.unpin.Goals as goal
 
 pub returns-in_err-make-clause-refused : goal.returns-in_err-make-clause-refused
@@ -12,7 +12,7 @@ pub returns-clause-ok : goal.returns-clause-ok
 returns-clause-ok g c =
     let call = Unpin c.args.address in
     let made = made_as c.args.self.now c.make.new.self c.in_ok-make.field-0 c.of_client-call.result call c.of_client-call.ensures c.in_ok-make.ensures.ok in
-    receipt_more c.args.self.now c.make.new.self c.in_ok-make.field-0 call refl made
+    made.1
 
 pub returns-clause-accepted : goal.returns-clause-accepted
 returns-clause-accepted g c =
