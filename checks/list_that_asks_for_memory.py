@@ -49,7 +49,7 @@ def refused(asks):
         text = source.read_text()
         if text.count(PUSH) != 1:
             raise runs.Failed(f"{FILE} has no line to plant others before")
-        planted = PLANTED.format(asks="".join(f"                {line}\n" for line in asks))
+        planted = PLANTED.format(asks="".join(f"            {line}\n" for line in asks))
         source.write_text(text.replace(PUSH, planted))
         checked = runs.finished([runs.rt(), "check"], cwd=source.parent.parent)
     log = (checked.output + checked.error).decode(errors="replace")
