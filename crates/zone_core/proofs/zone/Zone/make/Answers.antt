@@ -1,11 +1,17 @@
-use Rattle.zone_core.specs.Books.{AreBooks}
-use Rattle.zone_core.proofs.StaysBooked.{booked_call, either_way}
+use Rattle.zone_core.specs.Made.{IsMade}
+use Rattle.zone_core.proofs.StaysBooked.{booked_made}
 use Rattle.zone_core.proofs.zone.Zone.make.Goals as goal
 
 pub invariant_of-self : goal.invariant_of-self
 invariant_of-self g c =
-    let left = c.make.ensures in (
-      either_way (AreBooks _ _ _) c.make.result left.err left.ok c.self.invariant.0 (booked_call c.args.client c.args.call c.self.inside.bare c.self.invariant.2.begun c.self.invariant.0),
-      c.self.invariant.1,
-      left.lawful,
-    )
+    let made : IsMade c.args.call c.args.client c.self.inside.bare c.make.new.self c.make.result = record {
+      refused = c.make.ensures.refused;
+      err = c.make.ensures.err;
+      ok = c.make.ensures.ok;
+      identity = c.make.ensures.identity;
+      lawful = c.make.ensures.lawful;
+    } in
+    (booked_made made c.self.invariant.2 c.self.invariant.0, c.self.invariant.1, made.lawful)
+
+pub returns-clause-met : goal.returns-clause-met
+returns-clause-met g c = rw (← c.self.view_is) c.make.ensures.met
