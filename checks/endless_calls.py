@@ -1,7 +1,7 @@
 """A zone whose journal is told makes 100,000,000 calls, and the program has no more memory after them than after the first two. Nine times
 as many calls make no more requests for memory. Two examples that make 10,000,000 calls each, on one thread and with rounds on threads, have
-at most a MiB more in the end than in the first quarter of their time. Beside a zone whose journal is kept, in one run, stores of a told one
-take at most 1.15 of the time, since a clock tells of the host too."""
+at most a MiB more in the end than in the first quarter of their time. Beside a zone whose journal is kept, in one run, a store of a told one
+takes at most 0.9 of the time, and a word that is written in bulk at most half: nothing is done there for the record of each."""
 
 import os
 import pathlib
@@ -16,7 +16,7 @@ EXAMPLES = ("buffer_pool", "vm_pool")
 VALUES = 50_000_000  # each stored, and loaded
 FEW, MANY = 1_000, 9_000  # values, too, while requests are counted: the program's own words are as long
 TURNS = 200
-MOST = 1.15  # of the time of a kept journal
+MOST = {"store": 0.9, "word": 0.5}  # of the time of a kept journal
 SLACK = 64  # kB: what the program's own output may touch for the first time
 SLACK_OF_EXAMPLES = 1024  # kB: the threads of rounds, which begin later; a byte for each call would be 10,000 kB
 
@@ -83,10 +83,11 @@ def peaks_of(example):
     return seen[len(seen) // 4], seen[-1]
 
 
-def times():
-    """Picoseconds of a store where the journal is told, and where it is kept."""
+def shares():
+    """The share of the time of a kept journal that a store and a word written in bulk take where it is told."""
     said = subprocess.run([built("benches"), "calls", str(TURNS)], capture_output=True, text=True, check=True).stdout
-    return tuple(map(int, re.fullmatch(r"stores \d+ told (\d+) kept (\d+)\n", said).groups()))
+    found = re.findall(r"(store|word)s \d+ told (\d+) kept (\d+)\n", said)
+    return {what: int(told) / int(kept) for what, told, kept in found}
 
 
 def compare(what, first, most, slack):
@@ -101,10 +102,10 @@ def main():
     count_requests()
     for example in EXAMPLES:
         compare(example, *peaks_of(example), SLACK_OF_EXAMPLES)
-    told, kept = times()
-    if told > MOST * kept:
-        raise runs.Failed(f"a store takes {told} ps where the journal is told, and {kept} ps where it is kept")
-    return f"memory stays, and a store of a told zone takes {told / kept:.2f} of one of a kept zone"
+    took = shares()
+    if slow := [what for what, most in MOST.items() if took[what] > most]:
+        raise runs.Failed(f"where the journal is told, a {slow[0]} takes {took[slow[0]]:.2f} of the time that it takes where it is kept")
+    return "memory stays, and of the time of a kept zone " + " and ".join(f"a {what} of a told one takes {took[what]:.2f}" for what in MOST)
 
 
 if __name__ == "__main__":
