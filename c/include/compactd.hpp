@@ -301,6 +301,30 @@ public:
         return met;
     }
 
+    // A round whose pages the caller carries: begin_round, then isolate until it returns false, and for each page commit or put_back.
+    void begin_round() { detail::done(compactd_begin_round(raw())); }
+
+    // Isolates the next page of the round, and copies its words, of which there has to be room for as many as a page has. Returns whether
+    // there was a page. It is moving from here on.
+    bool isolate(compactd_carried &page, std::uint64_t *words, std::size_t count)
+    {
+        const std::uint32_t answer = compactd_isolate(raw(), &page, words, count);
+        if (answer != COMPACTD_MET)
+            detail::done(answer);
+        return answer == COMPACTD_OK;
+    }
+
+    // Ends the move of a page with a copy of its words. Returns whether it was moved; else it is in its old frame, since it has a pin.
+    bool commit(const compactd_carried &page, const std::uint64_t *words, std::size_t count)
+    {
+        bool moved = false;
+        detail::done(compactd_commit(raw(), page.serial, page.number, words, count, &moved));
+        return moved;
+    }
+
+    // Ends the move of a page without its copy: it is in its old frame.
+    void put_back(const compactd_carried &page) { detail::done(compactd_put_back(raw(), page.serial, page.number)); }
+
 private:
     std::shared_ptr<detail::Handle> handle_;
 };
