@@ -6,6 +6,12 @@ use crate::Error;
 /// and [`crate::Pool::write_huge`] of the pool that handed it out; any other refuses it as [`Error::NotHuge`].
 ///
 /// [`crate::Pool::give`] gives it back. One that is dropped stays handed out until its pool goes.
+///
+/// ```compile_fail
+/// fn two(huge: compactd::Huge) -> (compactd::Huge, compactd::Huge) {
+///     (huge.clone(), huge)
+/// }
+/// ```
 #[derive(Debug, PartialEq, Eq)]
 #[must_use = "a block that is dropped stays handed out until its pool goes"]
 pub struct Huge {

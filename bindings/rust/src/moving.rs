@@ -2,6 +2,12 @@
 ///
 /// [`crate::Pool::commit`] or [`crate::Pool::put_back`] of its pool ends its move. Where it is dropped instead, the page stays moving
 /// until its pool goes: it can't be read, written, shared or unmapped.
+///
+/// ```compile_fail
+/// fn two(page: compactd::Moving) -> (compactd::Moving, compactd::Moving) {
+///     (page.clone(), page)
+/// }
+/// ```
 #[derive(Debug, PartialEq, Eq)]
 #[must_use = "a page that is dropped stays moving until its pool goes"]
 pub struct Moving {

@@ -107,6 +107,15 @@ pub struct Look {
 /// A pool, which is open until it is dropped.
 ///
 /// A client, 0 to 7, is a number that stands in the record of a call, where a journal is kept, and means nothing else.
+///
+/// It may be sent to another thread. Threads share one by a `Mutex`, and not without it:
+///
+/// ```compile_fail
+/// fn share<T: Sync>(_: &T) {}
+/// fn share_pool(pool: &compactd::Pool) {
+///     share(pool);
+/// }
+/// ```
 pub struct Pool {
     raw: raw::Handle,
     number: u64,
