@@ -22,7 +22,10 @@ PROGRAMS = [
 ]
 ADDRESSES = ["-fsanitize=address,undefined", "-fno-sanitize-recover=all"]
 THREADS = ["-fsanitize=thread"]
-VALGRIND = ["valgrind", "-q", "--error-exitcode=9", "--leak-check=full", "--errors-for-leak-kinds=all"]
+VALGRIND = ["valgrind", "-q", "--error-exitcode=9", "--leak-check=full"]
+OF_C = ["--errors-for-leak-kinds=all"]
+# Rust's library keeps memory of a thread until the program ends.
+OF_RUST = ["--errors-for-leak-kinds=definite", "--show-leak-kinds=definite"]
 OF_THREADS = ("buffers.c", "four_threads.c", "rounds.c")
 IN_RUST = sorted((BINDING / "examples").glob("*.rs"))
 
@@ -49,7 +52,7 @@ def try_program(source, room):
     if source.name in OF_THREADS:
         tried.append(("under ThreadSanitizer", [c_programs.built(source, room / f"{source.stem}_t", THREADS)]))
     if shutil.which("valgrind"):
-        tried.append(("under valgrind", [*VALGRIND, plain]))
+        tried.append(("under valgrind", [*VALGRIND, *OF_C, plain]))
     for how, command in tried:
         compare(command, source, how)
     return len(tried)
@@ -76,7 +79,10 @@ def try_rust(room):
         command = ["cargo", *words, "-q", "--offline", "--locked"]
         c_programs.done(command, f"{' '.join(command[:2])} of the Rust crate", cwd=BINDING, env=variables)
     for source in IN_RUST:
-        compare([room / "debug/examples" / source.stem], source, "")
+        program = room / "debug/examples" / source.stem
+        compare([program], source, "")
+        if shutil.which("valgrind"):
+            compare([*VALGRIND, *OF_RUST, program], source, "under valgrind")
 
 
 def main():
