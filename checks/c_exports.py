@@ -76,14 +76,19 @@ def of_header():
 
 def of_sources():
     """The same of the exports, in the words of C."""
-    text = "".join(re.sub(r"//.*", "", file.read_text()) for file in sorted(SOURCES.rglob("*.rt")))
-    return calls_in(text, r'pub extern "C" fn'), structures_in(text)
+    text = "".join(map(code_of, sorted(SOURCES.rglob("*.rt"))))
+    return calls_in(text, 'pub extern "C" fn'), structures_in(text)
 
 
 def of_binding():
     """The same of what the crate for Rust declares."""
-    text = RAW.read_text()
+    text = code_of(RAW)
     return calls_in(text, "pub fn"), structures_in(text)
+
+
+def code_of(file):
+    """What a file of Rattle or Rust has besides comments."""
+    return re.sub(r"//.*", "", file.read_text())
 
 
 def calls_in(text, declared):
