@@ -1,11 +1,11 @@
 // The page pool for C++, from C++11 on, over compactd.h. A call that is refused throws compactd::Error, which has the number of the
 // refusal, and changes nothing.
 //
-// A Pool closes itself. It can be moved and not copied. A Huge is a block that a pool handed out. It can be moved and not copied, gives the
-// block back when it goes, and keeps the pool's memory until then, even where the Pool has gone before.
+// A Pool can be moved and not copied, and closes when it is destroyed. A Huge is a block that a pool handed out. It can be moved and not
+// copied, and gives the block back when it is destroyed. It keeps the pool's memory until then, also where the Pool was destroyed before.
 //
-// As in C, one call at a time is made on one pool; that a Pool or a Huge goes is such a call. Threads that share a pool use a lock of
-// their own. This header isn't proved. It passes on what it is given to calls that are.
+// As in C, one call at a time is made on one pool. To destroy a Pool or a Huge is such a call. Threads that share a pool make each call
+// under a lock of their own. This header isn't proved. It passes what it is given to calls that are.
 #ifndef COMPACTD_HPP
 #define COMPACTD_HPP
 

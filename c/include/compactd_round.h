@@ -7,7 +7,7 @@
  * compactd_compact is proved as a whole.
  *
  * One round at a time on one pool. A page that is moving answers MOVING to loads, stores, shares and unmaps: the caller tries again
- * later, without the lock in between. compactd_round returns when each page that it took was moved or put back. */
+ * later, without the lock in between. compactd_round returns once none of the pages that it took is moving. */
 #ifndef COMPACTD_ROUND_H
 #define COMPACTD_ROUND_H
 

@@ -5,7 +5,7 @@ use crate::Error;
 /// A block of `2^order` frames that a pool handed out. It can't be cloned. Its words are read and written by [`crate::Pool::read_huge`]
 /// and [`crate::Pool::write_huge`] of the pool that handed it out; any other refuses it as [`Error::NotHuge`].
 ///
-/// [`crate::Pool::give`] gives it back. One that is dropped stays handed out until its pool goes.
+/// [`crate::Pool::give`] gives it back. One that is dropped stays handed out until its pool is dropped.
 ///
 /// ```compile_fail
 /// fn two(huge: compactd::Huge) -> (compactd::Huge, compactd::Huge) {
@@ -13,7 +13,7 @@ use crate::Error;
 /// }
 /// ```
 #[derive(Debug, PartialEq, Eq)]
-#[must_use = "a block that is dropped stays handed out until its pool goes"]
+#[must_use = "a block that is dropped stays handed out until its pool is dropped"]
 pub struct Huge {
     pub(crate) pool: u64,
     pub(crate) first: u32,
