@@ -6,7 +6,7 @@ of the header is an export of the archive and of the shared library, and there i
 archive. Besides these it names malloc, realloc, free, memcpy, memmove and memset alone, so it can neither print nor wait nor end the
 process. The headers compile from C89 and C++98 on, `compactd.hpp` from C++11, without a warning. A program calls each function and gets
 each refusal, on pools that are closed, open, closed again and closed twice, with pages of both sizes. Each request for memory that an
-opening makes is refused in turn: the answer is 14, the pool is closed, and nothing is lost."""
+opening makes is refused in turn: the answer is 14, the pool is closed, and nothing is lost. No other call asks for memory."""
 
 import pathlib
 import re

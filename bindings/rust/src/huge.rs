@@ -37,7 +37,7 @@ impl Huge {
     }
 }
 
-/// A value that a pool refused to take, with the reason. It is still the caller's.
+/// A value that a pool refused to take, with the reason. It is still the caller's. Where `?` makes an [`Error`] of it, it is dropped.
 #[derive(Debug, PartialEq, Eq)]
 pub struct Kept<T> {
     /// Why it was refused.
