@@ -171,7 +171,7 @@ class Chooser:
         return *self.place(), self.number(self.page_words), self.values()
 
     def part(self):
-        """A block, and a place in it: now and then its last word, or one behind it."""
+        """A block, and a place in it: now and then its last word, or the one after that."""
         first, order = self.give_order()
         words = self.page_words << min(order, 9)
         return first, order, self.chance.choice([0, self.chance.randrange(words), words - 1, words])
@@ -254,7 +254,6 @@ class Beside:
         if (answer, found) != (number, said):
             raise wrong_answer(f"{name}{arguments}", (answer, found), (number, said))
         return answer
-
 
     def compare_records(self, places):
         """Compares the journal with the machine's records, where it is kept; else none is told."""

@@ -1,12 +1,12 @@
 """The header for C and the archive name the same functions, and the archive has no data that is written and calls nothing but for memory.
 
 Each function of the header takes what the export of its name takes in `crates/compactd_c/src`, in its order, and each structure of
-the header has the fields of one there. Each function of the header is an export of the archive and of the shared library, and there is
-no other export but the three of the kit's heap in the archive. Besides these it names malloc, realloc, free, memcpy, memmove and
-memset alone, so it can neither print nor wait nor end the process. The headers compile from C89 and C++98 on, `compactd.hpp` from
-C++11, without a warning. A program calls each function and gets each refusal, on pools that are closed, open, closed again and closed
-twice, with pages of both sizes. Each request for memory that an opening makes is refused in turn: the answer is 14, the pool is
-closed, and nothing is lost."""
+the header has the fields of one there; the same holds of `bindings/rust/src/raw.rs`. `compactd.hpp` calls each function. Each function
+of the header is an export of the archive and of the shared library, and there is no other export but the three of the kit's heap in the
+archive. Besides these it names malloc, realloc, free, memcpy, memmove and memset alone, so it can neither print nor wait nor end the
+process. The headers compile from C89 and C++98 on, `compactd.hpp` from C++11, without a warning. A program calls each function and gets
+each refusal, on pools that are closed, open, closed again and closed twice, with pages of both sizes. Each request for memory that an
+opening makes is refused in turn: the answer is 14, the pool is closed, and nothing is lost. No other call asks for memory."""
 
 import pathlib
 import re
@@ -27,8 +27,11 @@ STANDARDS = {
     ("compactd.hpp", "c++"): "c++11 c++14 c++17 c++20",
 }
 SOURCES = runs.ROOT / "crates/compactd_c/src"
+RAW = c_programs.BINDING / "src/raw.rs"
 POOL = "compactd_pool *"
+HANDLES = ("Pool", "Handle")  # its names in Rattle and in Rust
 NUMBERS = {"u32": "uint32_t", "u64": "uint64_t", "usize": "size_t", "bool": "compactd_bool"}
+CALL = r"\b(compactd_\w+)\("
 # A byte of the kit's heap, whose address stands for memory of no size.
 NOTHING = "nothing"
 
@@ -73,34 +76,60 @@ def of_header():
 
 def of_sources():
     """The same of the exports, in the words of C."""
-    text = "".join(re.sub(r"//.*", "", file.read_text()) for file in sorted(SOURCES.rglob("*.rt")))
-    structures = {
-        f"compactd_{name.lower()}": [(f"{NUMBERS[kind]} ", field) for field, kind in re.findall(r"(\w+): (\w+),", fields)]
-        for name, fields in re.findall(r"#\[repr\(C\)\]\s*(?:#\[[^\n]*\]\s*)?pub struct (\w+) \{(.*?)\n\}", text, re.DOTALL)
-        if name != "Pool"
-    }
+    text = "".join(map(code_of, sorted(SOURCES.rglob("*.rt"))))
+    return calls_in(text, 'pub extern "C" fn'), structures_in(text)
+
+
+def of_binding():
+    """The same of what the crate for Rust declares."""
+    text = code_of(RAW)
+    return calls_in(text, "pub fn"), structures_in(text)
+
+
+def code_of(file):
+    """What a file of Rattle or Rust has besides comments."""
+    return re.sub(r"//.*", "", file.read_text())
+
+
+def calls_in(text, declared):
+    """What functions of Rattle or Rust take and return, in the words of C. The kit's `Global` isn't seen in C."""
     calls = {}
-    for name, taken, returned in re.findall(r'pub extern "C" fn (\w+)\(([^)]*)\)(?: -> (\w+))?', text):
+    for name, taken, returned in re.findall(declared + r" (\w+)\(([^)]*)\)(?: -> (\w+))?", text):
         kinds = [kind for kind in re.findall(r"\w+: ([^,]+)", taken) if kind.strip() != "Global"]
         calls[name] = NUMBERS.get(returned, "void"), [it for kind in kinds for it in in_c(" ".join(kind.split()))]
-    return calls, structures
+    return calls
+
+
+def structures_in(text):
+    """The fields of the structures of Rattle or Rust that are laid out as C has them, but the handle's."""
+    found = re.findall(r"#\[repr\(C\)\]\s*(?:#\[[^\n]*\]\s*)?pub struct (\w+) \{(.*?)\n\}", text, re.DOTALL)
+    return {
+        f"compactd_{name.lower()}": [(f"{NUMBERS[kind]} ", field) for field, kind in re.findall(r"(\w+): (\w+),", fields)]
+        for name, fields in found
+        if name not in HANDLES
+    }
 
 
 def in_c(kind):
-    """The words of C for what an export takes. A slice is a pointer and a count."""
-    const = "" if kind.startswith("&mut ") or not kind.startswith("&") else "const "
-    inner = re.sub(r"^&(mut )?", "", kind)
+    """The words of C for what a function takes. A slice is a pointer and a count."""
+    shared, pointer, inner = re.fullmatch(r"(&mut |\*mut |(&|\*const )?)(.*)", kind).group(2, 1, 3)
+    const = "const " if shared else ""
     if inner.startswith("["):
         return [f"{const}{NUMBERS[inner[1:-1]]} *", "size_t"]
-    name = NUMBERS.get(inner, f"compactd_{inner.lower()}")
-    return [f"{const}{name} *" if kind.startswith("&") else name]
+    name = POOL[:-2] if inner in HANDLES else NUMBERS.get(inner, f"compactd_{inner.lower()}")
+    return [f"{const}{name} *" if pointer else name]
 
 
 def compare_types():
-    """What functions take, and the fields of structures, in the header and in the sources of the exports."""
-    for what, of_c, of_rattle in zip(("function", "structure"), of_header(), of_sources()):
-        need_same(f"each {what}", set(of_c), set(of_rattle))
-        if wrong := [f"{name}: {of_c[name]}, and not {of_rattle[name]}" for name in of_c if of_c[name] != of_rattle[name]]:
+    """What functions take, and the fields of structures, in the header, in the sources of the exports and in the crate for Rust."""
+    need_same_types("the exports", of_sources())
+    need_same_types("the crate for Rust", of_binding())
+
+
+def need_same_types(where, declared):
+    for what, of_c, others in zip(("function", "structure"), of_header(), declared):
+        need_same(f"each {what} of {where}", set(others), set(of_c))
+        if wrong := [f"{name}: {of_c[name]}, and in {where} {others[name]}" for name in of_c if of_c[name] != others[name]]:
             raise runs.Failed("\n".join(wrong))
 
 
@@ -122,11 +151,14 @@ def compile_headers():
 
 
 def need_every_call(declared):
-    """Each function and each refusal stands in the program that calls them, but MEMORY, which the other one gets."""
+    """Each function and each refusal stands in the program that calls them, but MEMORY, which the other one gets. The class for C++ calls
+    each function but the one that tells the version."""
     text, of_memory = ((runs.ROOT / f"c/tests/{name}.c").read_text() for name in ("every_call", "refused_memory"))
-    called = set(re.findall(r"\b(compactd_\w+)\(", text))
+    called, by_class = (set(re.findall(CALL, it)) for it in (text, (c_programs.HEADERS / "compactd.hpp").read_text()))
     refused = set(re.findall(r"\bIS\(([A-Z_]+),", text)) | {"OK"} | ({"MEMORY"} if "COMPACTD_MEMORY" in of_memory else set())
     need_same("functions that are called", called, declared)
+    if lacking := declared - by_class - {"compactd_version"}:
+        raise runs.Failed(f"compactd.hpp doesn't call {sorted(lacking)}")
     need_same("refusals that come up", refused, set(c_programs.refusals()))
 
 

@@ -17,7 +17,7 @@
  * - Each pointer is to memory of its type, or to as many words as the call is told, and to nothing else of the same call.
  * - One call at a time on one pool: threads that share a pool make each call under one lock, which is theirs. Calls on different pools
  *   need no lock. A pool may be opened, used and closed by different threads.
- * - An open pool is closed before its handle goes, or its memory is lost.
+ * - An open pool is closed at last; otherwise its memory is lost.
  *
  * No call prints, waits, starts a thread or ends the process. Only compactd_open and compactd_open_journal ask for memory.
  * A pool isn't to be used from a signal handler that may interrupt a call on it. */
@@ -237,7 +237,7 @@ uint32_t compactd_mark(compactd_pool *pool, uint32_t block);
  * Refused: CLOSED; RANGE; JOURNAL_FULL; NOT_MARKED. */
 uint32_t compactd_unmark(compactd_pool *pool, uint32_t block);
 
-/* Being told. No record is written of these calls. */
+/* Questions. No record of them is written. */
 
 /* Tells the counts.
  * Refused: CLOSED. */

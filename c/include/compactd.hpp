@@ -1,11 +1,11 @@
 // The page pool for C++, from C++11 on, over compactd.h. A call that is refused throws compactd::Error, which has the number of the
 // refusal, and changes nothing.
 //
-// A Pool closes itself. It can be moved and not copied. A Huge is a block that a pool handed out. It can be moved and not copied, gives the
-// block back when it goes, and keeps the pool's memory until then, even where the Pool has gone before.
+// A Pool can be moved and not copied, and closes when it is destroyed. A Huge is a block that a pool handed out. It can be moved and not
+// copied, and gives the block back when it is destroyed. It keeps the pool's memory until then, also where the Pool was destroyed before.
 //
-// As in C, one call at a time is made on one pool; that a Pool or a Huge goes is such a call. Threads that share a pool use a lock of
-// their own. This header isn't proved. It passes on what it is given to calls that are.
+// As in C, one call at a time is made on one pool. To destroy a Pool or a Huge is such a call. Threads that share a pool make each call
+// under a lock of their own. This header isn't proved. It passes what it is given to calls that are.
 #ifndef COMPACTD_HPP
 #define COMPACTD_HPP
 
@@ -300,6 +300,30 @@ public:
         detail::done(compactd_compact(raw(), &met));
         return met;
     }
+
+    // A round whose pages the caller carries: begin_round, then isolate until it returns false, and for each page commit or put_back.
+    void begin_round() { detail::done(compactd_begin_round(raw())); }
+
+    // Isolates the next page of the round, and copies its words, of which there has to be room for as many as a page has. Returns whether
+    // there was a page. It is moving from here on.
+    bool isolate(compactd_carried &page, std::uint64_t *words, std::size_t count)
+    {
+        const std::uint32_t answer = compactd_isolate(raw(), &page, words, count);
+        if (answer != COMPACTD_MET)
+            detail::done(answer);
+        return answer == COMPACTD_OK;
+    }
+
+    // Ends the move of a page with a copy of its words. Returns whether it was moved; else it is in its old frame, since it has a pin.
+    bool commit(const compactd_carried &page, const std::uint64_t *words, std::size_t count)
+    {
+        bool moved = false;
+        detail::done(compactd_commit(raw(), page.serial, page.number, words, count, &moved));
+        return moved;
+    }
+
+    // Ends the move of a page without its copy: it is in its old frame.
+    void put_back(const compactd_carried &page) { detail::done(compactd_put_back(raw(), page.serial, page.number)); }
 
 private:
     std::shared_ptr<detail::Handle> handle_;

@@ -81,6 +81,7 @@ static void ranges(compactd_pool *pool, uint32_t page_words)
     IS(RANGE, compactd_store(pool, 0, 0, 0, far, 1));
     IS(RANGE, compactd_read(pool, 0, 0, 0, page_words, words, 0));
     IS(RANGE, compactd_read(pool, 0, 0, 0, 1, words, page_words));
+    IS(RANGE, compactd_read(pool, 0, 0, 0, far, words, 2));
     IS(RANGE, compactd_write(pool, 0, 0, 0, page_words - 1, words, 2));
     IS(RANGE, compactd_share(pool, 0, 0, 0, 0, 4096));
     IS(RANGE, compactd_unmap(pool, 0, 8, 0));
@@ -121,6 +122,8 @@ static void pages(compactd_pool *pool, uint32_t page_words)
     words[0] = words[1] = words[2] = 9;
     OK(compactd_read(pool, 0, 7, 4095, 0, words, 3));
     HOLDS(words[0] == 0 && words[1] == 3 && words[2] == 4);
+    OK(compactd_read(pool, 0, 7, 4095, page_words - 1, words, 0));
+    OK(compactd_write(pool, 0, 7, 4095, page_words - 1, words, 0));
     OK(compactd_share(pool, 0, 7, 4095, 0, 1));
     OK(compactd_share(pool, 0, 0, 1, 0, 2));
     OK(compactd_share(pool, 0, 0, 1, 0, 3));
@@ -160,6 +163,10 @@ static void blocks(compactd_pool *pool, uint32_t page_words)
     HOLDS(words[0] == 5);
     IS(RANGE, compactd_read_block(pool, 0, 9, last, words, 2));
     IS(RANGE, compactd_write_block(pool, 0, 9, last + 1, words, 1));
+    IS(RANGE, compactd_read_block(pool, 0, 9, (size_t)-1, words, 2)); /* where they end wraps */
+    IS(RANGE, compactd_write_block(pool, 0, 9, (size_t)-1, words, 2));
+    OK(compactd_read_block(pool, 0, 9, last + 1, words, 0));
+    IS(RANGE, compactd_read_block(pool, 0, 9, last + 2, words, 0));
     IS(NOT_HUGE, compactd_read_block(pool, 0, 8, 0, words, 1));
     IS(NOT_HUGE, compactd_write_block(pool, 8, 3, 0, words, 1));
     IS(NOT_HUGE, compactd_give_order(pool, 0, 8));
@@ -190,6 +197,9 @@ static void carried(compactd_pool *pool, uint32_t page_words)
     IS(MOVING, compactd_load(pool, 0, 1, 0, 1, &value));
     IS(MOVING, compactd_store(pool, 0, 1, 0, 1, 7));
     IS(MOVING, compactd_unmap(pool, 0, 1, 0));
+    IS(MOVING, compactd_share(pool, 0, 1, 0, 1, 9));
+    IS(MOVING, compactd_read(pool, 0, 1, 0, 0, words, 0));
+    IS(MOVING, compactd_write(pool, 0, 1, 0, 0, words, 1));
     IS(OUT, compactd_audit(pool, &ends));
     OK(compactd_look(pool, 1, 0, &seen));
     HOLDS(seen.moving && seen.place == 0 && seen.flags == 0);

@@ -5,6 +5,7 @@
 #include <memory>
 #include <type_traits>
 #include <utility>
+#include <vector>
 
 using compactd::Address;
 using compactd::Error;
@@ -86,6 +87,67 @@ void huge_pages()
     HOLDS(found == 6);
 }
 
+// A value that is moved into itself stays what it is.
+template <typename Owner> void move_into_itself(Owner &owner)
+{
+    Owner &same = owner;
+    owner = std::move(same);
+}
+
+void moves_into_themselves()
+{
+    Pool pool(PageSize::bytes64, 1);
+    Huge huge = pool.take_huge(3);
+    move_into_itself(pool);
+    move_into_itself(huge);
+    HOLDS(pool.info().huge == 1 && huge.order() == 3);
+    huge.give();
+    HOLDS(pool.info().free == 512);
+}
+
+// A pool that goes while others are moved over it, and blocks of it are still there.
+void pools_that_go()
+{
+    Pool pool(PageSize::bytes64, 1);
+    std::vector<Huge> blocks;
+    for (int at = 0; at < 64; at++)
+        blocks.push_back(pool.take_huge(3));
+    HOLDS(refusal([&] { blocks.push_back(pool.take_huge(3)); }) == COMPACTD_NO_BLOCK && blocks.size() == 64);
+    pool = Pool(PageSize::bytes64, 1);
+    HOLDS(pool.info().free == 512);
+    std::uint64_t word = 4;
+    blocks[63].write(0, &word, 1);
+    blocks.erase(blocks.begin(), blocks.begin() + 63);
+    word = 0;
+    blocks[0].read(0, &word, 1);
+    HOLDS(word == 4 && blocks[0].first() == 504);
+}
+
+void pages_by_hand()
+{
+    Pool pool(PageSize::bytes64, 1);
+    const Address low = {0, 0}, high = {0, 1};
+    pool.map(0, low);
+    pool.map(0, high);
+    pool.store(0, low, 1, 9);
+    compactd_carried page;
+    std::uint64_t words[8];
+    HOLDS(!pool.isolate(page, words, 8)); // no round was begun
+    pool.begin_round();
+    HOLDS(refusal([&] { pool.isolate(page, words, 7); }) == COMPACTD_RANGE);
+    HOLDS(pool.isolate(page, words, 8) && words[1] == 9);
+    HOLDS(refusal([&] { pool.audit(); }) == COMPACTD_OUT);
+    words[1] = 8;
+    HOLDS(refusal([&] { pool.commit(page, words, 8); }) == COMPACTD_STRANGER);
+    words[1] = 9;
+    HOLDS(pool.commit(page, words, 8) && pool.isolate(page, words, 8));
+    pool.put_back(page);
+    HOLDS(refusal([&] { pool.put_back(page); }) == COMPACTD_STRANGER && !pool.isolate(page, words, 8));
+    HOLDS(pool.look(low).place == 511 && pool.look(high).place == 1 && pool.audit().back == 1);
+    pool.begin_round();
+    HOLDS(pool.isolate(page, words, 8)); // the pool goes while a page of it is moving
+}
+
 void journals()
 {
     Pool pool(PageSize::bytes64, 1, 2);
@@ -102,6 +164,9 @@ int main()
 {
     pools();
     huge_pages();
+    moves_into_themselves();
+    pools_that_go();
+    pages_by_hand();
     journals();
     std::printf("%s\n", is_well ? "pools and huge pages are owned as they should be" : "something is otherwise");
     return is_well ? 0 : 1;

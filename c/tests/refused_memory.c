@@ -1,5 +1,6 @@
 /* Refuses each request for memory that an opening makes, one in each try. The opening has to answer MEMORY, to leave the pool closed, and
- * to give back what it had. It is linked with malloc, realloc and free wrapped. Prints how many requests an opening makes. */
+ * to give back what it had. No call on a pool that is open may ask for memory. It is linked with malloc, realloc and free wrapped. Prints
+ * how many requests an opening makes. */
 #include "compactd.h"
 
 #include <stdio.h>
@@ -51,6 +52,52 @@ static uint32_t open_pool(compactd_pool *pool, uint32_t page_words, uint32_t pla
     return places ? compactd_open_journal(pool, page_words, 8, places) : compactd_open(pool, page_words, 8);
 }
 
+/* Makes each call on an open pool, but those that open and close. Where its journal is full some are refused. */
+static void make_calls(compactd_pool *pool, uint32_t page_words)
+{
+    static uint64_t words[512];
+    compactd_carried carried = {0, 0, 0};
+    compactd_counts counts;
+    compactd_noted noted;
+    compactd_seen seen;
+    compactd_ends ends;
+    compactd_bool is_so;
+    uint64_t records, room;
+    uint32_t page, first = 0;
+
+    for (page = 1; page < 1000; page++)
+        compactd_map(pool, 0, 0, page, 0, &first);
+    compactd_map_at(pool, 0, 1, 0, 0, 4095);
+    compactd_share(pool, 0, 0, 1, 1, 1);
+    compactd_store(pool, 0, 0, 1, 7, 7);
+    compactd_load(pool, 0, 0, 1, 7, words);
+    compactd_write(pool, 0, 0, 2, 0, words, page_words);
+    compactd_read(pool, 0, 0, 2, 0, words, page_words);
+    compactd_pin(pool, 0, 0, 3);
+    compactd_unpin(pool, 0, 0, 3);
+    compactd_mark(pool, 7);
+    compactd_marked(pool, 7, &is_so);
+    compactd_unmark(pool, 7);
+    compactd_begin_round(pool);
+    if (compactd_isolate(pool, &carried, words, page_words) == COMPACTD_OK)
+        compactd_commit(pool, carried.serial, carried.number, words, page_words, &is_so);
+    if (compactd_isolate(pool, &carried, words, page_words) == COMPACTD_OK)
+        compactd_put_back(pool, carried.serial, carried.number);
+    compactd_unmap(pool, 0, 0, 4);
+    compactd_compact(pool, &is_so);
+    if (compactd_take_order(pool, 9, &first) == COMPACTD_OK) {
+        compactd_write_block(pool, first, 9, 0, words, page_words);
+        compactd_read_block(pool, first, 9, 0, words, page_words);
+        compactd_give_order(pool, first, 9);
+    }
+    compactd_info(pool, &counts);
+    compactd_look(pool, 0, 1, &seen);
+    compactd_quiet(pool, &is_so);
+    compactd_audit(pool, &ends);
+    compactd_journal(pool, &records, &room);
+    compactd_record(pool, 0, &noted);
+}
+
 static int try_each(uint32_t page_words, uint32_t places)
 {
     compactd_pool pool = {0};
@@ -62,11 +109,14 @@ static int try_each(uint32_t page_words, uint32_t places)
         requests = 0;
         answer = open_pool(&pool, page_words, places);
         if (requests < refused) {
-            if (answer != COMPACTD_OK || compactd_map(&pool, 0, 0, 0, 0, &frame) || frame != 0 || requests >= refused)
+            const long opening = requests;
+
+            if (answer != COMPACTD_OK || compactd_map(&pool, 0, 0, 0, 0, &frame) || frame != 0)
                 return 0;
-            compactd_close(&pool);
-            printf("%ld requests, %ld held\n", requests, held);
-            return held == 0;
+            refused = 0;
+            make_calls(&pool, page_words);
+            printf("%ld requests, %ld after it, %ld held\n", opening, requests - opening, held);
+            return requests == opening && compactd_close(&pool) == COMPACTD_OK && held == 0;
         }
         if (answer != COMPACTD_MEMORY || held != 0)
             return 0;

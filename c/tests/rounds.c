@@ -1,9 +1,46 @@
-/* Rounds of compactd_round.h leave each page where a round on one thread leaves it, with any number of copiers, and end as they should where
- * the pool is closed, where the number of words isn't that of its pages, and where its journal is full. */
+/* Rounds of compactd_round.h leave each page where a round on one thread leaves it, with any number of copiers, also where threads can't be
+ * started. They end as they should, with no page that is moving, where the pool is closed, where the number of words isn't that of its
+ * pages, where its journal is full, where a copy has another word, and where another thread ends the move of a page. */
 #include "compactd.h"
-#include "compactd_round.h"
 
+#include <errno.h>
+#include <pthread.h>
 #include <stdio.h>
+#include <string.h>
+
+/* What the header calls instead of pthread_create: only so many threads can be started. */
+static unsigned startable = 100;
+
+static int start(pthread_t *thread, const pthread_attr_t *attributes, void *(*run)(void *), void *given)
+{
+    if (startable == 0)
+        return EAGAIN;
+    startable--;
+    return pthread_create(thread, attributes, run, given);
+}
+
+/* What becomes of every tenth copy. */
+enum trouble { NO_TROUBLE, IS_CHANGED, IS_ENDED };
+static enum trouble trouble = NO_TROUBLE;
+
+/* What the header calls instead of compactd_commit. */
+static uint32_t commit(compactd_pool *pool, uint32_t serial, uint32_t number, const uint64_t *words, size_t count, compactd_bool *moved)
+{
+    uint64_t changed[512];
+
+    memcpy(changed, words, count * sizeof words[0]);
+    if (trouble == IS_CHANGED && serial % 10 == 0)
+        changed[count - 1] ^= 1;
+    if (trouble == IS_ENDED && serial % 10 == 0)
+        compactd_put_back(pool, serial, number);
+    return compactd_commit(pool, serial, number, changed, count, moved);
+}
+
+#define pthread_create start
+#define compactd_commit commit
+#include "compactd_round.h"
+#undef pthread_create
+#undef compactd_commit
 
 #define PAGES 1024
 #define KEPT 256
@@ -45,7 +82,7 @@ static int are_same(compactd_pool *left, compactd_pool *right)
     return is_well;
 }
 
-static int try_copiers(uint32_t page_words, unsigned copiers)
+static int try_copiers(uint32_t page_words, unsigned copiers, unsigned threads)
 {
     compactd_pool alone = {0}, pool = {0};
     compactd_round_ends told;
@@ -55,10 +92,29 @@ static int try_copiers(uint32_t page_words, unsigned copiers)
 
     is_well = is_well && fill(&alone) && fill(&pool);
     is_well &= compactd_compact(&alone, &met) == COMPACTD_OK && met;
+    startable = threads;
     is_well &= compactd_round(&pool, page_words, &lock, copiers, &told) == COMPACTD_OK;
+    startable = 100;
     is_well &= compactd_audit(&pool, &ends) == COMPACTD_OK && ends.moved == told.moved && told.moved > 0 && told.back == 0;
     is_well &= ends.isolated == told.isolated && are_same(&alone, &pool);
     compactd_close(&alone);
+    compactd_close(&pool);
+    return is_well;
+}
+
+/* The pool doesn't take every tenth copy. No page is moving then, and each has its word. */
+static int try_trouble(unsigned copiers, enum trouble kind)
+{
+    compactd_pool pool = {0};
+    compactd_round_ends told;
+    compactd_ends ends;
+    int is_well = compactd_open(&pool, 8, 2) == COMPACTD_OK && fill(&pool);
+
+    trouble = kind;
+    is_well &= compactd_round(&pool, 8, &lock, copiers, &told) == COMPACTD_STRANGER;
+    trouble = NO_TROUBLE;
+    is_well &= compactd_audit(&pool, &ends) == COMPACTD_OK && ends.isolated == told.isolated && ends.moved == told.moved;
+    is_well &= ends.back > 0 && told.back == (kind == IS_CHANGED ? ends.back : 0) && are_same(&pool, &pool);
     compactd_close(&pool);
     return is_well;
 }
@@ -79,18 +135,29 @@ static int try_full_journal(unsigned copiers)
     return is_well;
 }
 
-int main(void)
+/* Rounds that are refused at once. */
+static int try_refused(void)
 {
-    static const unsigned copiers[] = {0, 1, 2, 4, 16, 40};
     compactd_pool pool = {0};
     compactd_round_ends told;
-    unsigned at;
     int is_well = compactd_round(&pool, 8, &lock, 2, &told) == COMPACTD_CLOSED && told.isolated == 0;
 
     is_well &= compactd_open(&pool, 8, 1) == COMPACTD_OK && compactd_round(&pool, 512, &lock, 2, &told) == COMPACTD_RANGE;
+    is_well &= compactd_round(&pool, 0xFFFFFFFFu, &lock, 2, &told) == COMPACTD_RANGE && told.isolated == 0;
     compactd_close(&pool);
-    for (at = 0; at < sizeof copiers / sizeof copiers[0]; at++)
-        is_well &= try_copiers(8, copiers[at]) & try_copiers(512, copiers[at]) & try_full_journal(copiers[at]);
+    return is_well;
+}
+
+int main(void)
+{
+    static const unsigned copiers[] = {0, 1, 2, 4, 16, 40};
+    unsigned at;
+    int is_well = try_refused();
+
+    for (at = 0; at < sizeof copiers / sizeof copiers[0]; at++) {
+        is_well &= try_copiers(8, copiers[at], 100) & try_copiers(512, copiers[at], 100) & try_copiers(8, 4, at);
+        is_well &= try_full_journal(copiers[at]) & try_trouble(copiers[at], IS_CHANGED) & try_trouble(copiers[at], IS_ENDED);
+    }
     printf("%s\n", is_well ? "rounds are as those of one thread" : "a round is another");
     return is_well ? 0 : 1;
 }

@@ -5,9 +5,15 @@ use crate::Error;
 /// A block of `2^order` frames that a pool handed out. It can't be cloned. Its words are read and written by [`crate::Pool::read_huge`]
 /// and [`crate::Pool::write_huge`] of the pool that handed it out; any other refuses it as [`Error::NotHuge`].
 ///
-/// [`crate::Pool::give`] gives it back. One that is dropped stays handed out until its pool goes.
+/// [`crate::Pool::give`] gives it back. One that is dropped stays handed out until its pool is dropped.
+///
+/// ```compile_fail
+/// fn two(huge: compactd::Huge) -> (compactd::Huge, compactd::Huge) {
+///     (huge.clone(), huge)
+/// }
+/// ```
 #[derive(Debug, PartialEq, Eq)]
-#[must_use = "a block that is dropped stays handed out until its pool goes"]
+#[must_use = "a block that is dropped stays handed out until its pool is dropped"]
 pub struct Huge {
     pub(crate) pool: u64,
     pub(crate) first: u32,
@@ -31,7 +37,7 @@ impl Huge {
     }
 }
 
-/// A value that a pool refused to take, with the reason. It is still the caller's.
+/// A value that a pool refused to take, with the reason. It is still the caller's. Where `?` makes an [`Error`] of it, it is dropped.
 #[derive(Debug, PartialEq, Eq)]
 pub struct Kept<T> {
     /// Why it was refused.

@@ -48,5 +48,6 @@ mod record;
 pub use error::Error;
 pub use huge::{Huge, Kept};
 pub use moving::Moving;
-pub use pool::{version, Address, Counts, Ends, Look, PageSize, Place, Pool};
+pub use pool::{version, Address, Look, PageSize, Place, Pool};
+pub use raw::{Counts, Ends};
 pub use record::Record;

@@ -1,9 +1,15 @@
 /// A page that is moving, with its words. It can't be cloned. It may be sent to another thread.
 ///
 /// [`crate::Pool::commit`] or [`crate::Pool::put_back`] of its pool ends its move. Where it is dropped instead, the page stays moving
-/// until its pool goes: it can't be read, written, shared or unmapped.
+/// until its pool is dropped: it can't be read, written, shared or unmapped.
+///
+/// ```compile_fail
+/// fn two(page: compactd::Moving) -> (compactd::Moving, compactd::Moving) {
+///     (page.clone(), page)
+/// }
+/// ```
 #[derive(Debug, PartialEq, Eq)]
-#[must_use = "a page that is dropped stays moving until its pool goes"]
+#[must_use = "a page that is dropped stays moving until its pool is dropped"]
 pub struct Moving {
     pub(crate) pool: u64,
     pub(crate) serial: u32,

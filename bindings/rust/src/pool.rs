@@ -3,7 +3,7 @@ use std::ptr::null_mut;
 use std::sync::atomic::{AtomicU64, Ordering};
 
 use crate::raw;
-use crate::{Error, Huge, Kept, Moving, Record};
+use crate::{Counts, Ends, Error, Huge, Kept, Moving, Record};
 
 /// The number that the next pool gets, by which it knows its blocks again.
 static NEXT: AtomicU64 = AtomicU64::new(0);
@@ -46,34 +46,6 @@ impl Address {
     }
 }
 
-/// The counts of a pool.
-#[derive(Clone, Copy, Debug, PartialEq, Eq)]
-pub struct Counts {
-    /// Free frames.
-    pub free: u32,
-    /// Pages in use, moving ones too.
-    pub pages: u32,
-    /// Moving pages.
-    pub moving: u32,
-    /// Blocks that are handed out.
-    pub huge: u32,
-    /// Pageblocks whose 512 frames are all free.
-    pub whole: u32,
-    /// Frames of the blocks that are handed out.
-    pub held: u32,
-}
-
-/// What became of the pages that were taken in rounds, since the pool was opened.
-#[derive(Clone, Copy, Debug, PartialEq, Eq)]
-pub struct Ends {
-    /// How many were taken.
-    pub isolated: u32,
-    /// How many were moved.
-    pub moved: u32,
-    /// How many were put back.
-    pub back: u32,
-}
-
 /// Where a page is.
 #[derive(Clone, Copy, Debug, PartialEq, Eq)]
 pub enum Place {
@@ -107,6 +79,15 @@ pub struct Look {
 /// A pool, which is open until it is dropped.
 ///
 /// A client, 0 to 7, is a number that stands in the record of a call, where a journal is kept, and means nothing else.
+///
+/// It may be sent to another thread. Threads share one by a `Mutex`, and not without it:
+///
+/// ```compile_fail
+/// fn share<T: Sync>(_: &T) {}
+/// fn share_pool(pool: &compactd::Pool) {
+///     share(pool);
+/// }
+/// ```
 pub struct Pool {
     raw: raw::Handle,
     number: u64,
@@ -309,10 +290,9 @@ impl Pool {
 
     /// The counts.
     pub fn info(&mut self) -> Counts {
-        let mut told = raw::Counts::default();
-        is_done(unsafe { raw::compactd_info(&mut self.raw, &mut told) });
-        let raw::Counts { free, pages, moving, huge, whole, held } = told;
-        Counts { free, pages, moving, huge, whole, held }
+        let mut counts = Counts::default();
+        is_done(unsafe { raw::compactd_info(&mut self.raw, &mut counts) });
+        counts
     }
 
     /// What is known of the page that an address names.
@@ -350,10 +330,9 @@ impl Pool {
     ///
     /// Refused as [`Error::Out`].
     pub fn audit(&mut self) -> Result<Ends, Error> {
-        let mut ends = raw::Ends::default();
+        let mut ends = Ends::default();
         done(unsafe { raw::compactd_audit(&mut self.raw, &mut ends) })?;
-        let raw::Ends { isolated, moved, back } = ends;
-        Ok(Ends { isolated, moved, back })
+        Ok(ends)
     }
 
     /// How many records were written since it was opened, and how many places are left. A pool that keeps no records counts them too.

@@ -7,22 +7,33 @@ pub struct Handle {
     pub at: *mut c_void,
 }
 
+/// The counts of a pool.
 #[repr(C)]
-#[derive(Clone, Copy, Default)]
+#[derive(Clone, Copy, Debug, Default, PartialEq, Eq)]
 pub struct Counts {
+    /// Free frames.
     pub free: u32,
+    /// Pages in use, moving ones too.
     pub pages: u32,
+    /// Moving pages.
     pub moving: u32,
+    /// Blocks that are handed out.
     pub huge: u32,
+    /// Pageblocks whose 512 frames are all free.
     pub whole: u32,
+    /// Frames of the blocks that are handed out.
     pub held: u32,
 }
 
+/// What became of the pages that were taken in rounds, since the pool was opened.
 #[repr(C)]
-#[derive(Clone, Copy, Default)]
+#[derive(Clone, Copy, Debug, Default, PartialEq, Eq)]
 pub struct Ends {
+    /// How many were taken.
     pub isolated: u32,
+    /// How many were moved.
     pub moved: u32,
+    /// How many were put back.
     pub back: u32,
 }
 

@@ -1,54 +1,40 @@
 use crate::raw::Noted;
 use crate::Address;
 
-/// A record of a journal.
+/// A record of a journal. Its numbers are those that the call was given or that it told.
 #[derive(Clone, Copy, Debug, PartialEq, Eq)]
 #[non_exhaustive]
+#[allow(missing_docs)] // the names of the fields say what they are
 pub enum Record {
     /// The address names a fresh page, with this number.
-    #[allow(missing_docs)]
     Map { client: u32, address: Address, page: u32 },
     /// The alias names the page of the address too.
-    #[allow(missing_docs)]
     Share { client: u32, address: Address, alias: Address },
     /// The address names no page any more.
-    #[allow(missing_docs)]
     Unmap { client: u32, address: Address },
     /// A word was written.
-    #[allow(missing_docs)]
     Store { client: u32, address: Address, word: u32, value: u64 },
     /// A word was read, and had this value.
-    #[allow(missing_docs)]
     Load { client: u32, address: Address, word: u32, value: u64 },
     /// The page got a pin.
-    #[allow(missing_docs)]
     Pin { client: u32, address: Address },
     /// A pin of the page was taken off.
-    #[allow(missing_docs)]
     Unpin { client: u32, address: Address },
     /// The page was isolated, under this serial.
-    #[allow(missing_docs)]
     Isolate { serial: u32, page: u32 },
     /// The page that was isolated under this serial is in its new frame.
-    #[allow(missing_docs)]
     Moved { serial: u32 },
     /// It is in its old frame: it had a pin, or it was put back without its words.
-    #[allow(missing_docs)]
     Back { serial: u32, had_pin: bool },
     /// A block was handed out.
-    #[allow(missing_docs)]
     Take { first: u32, order: u32 },
     /// A block was taken back.
-    #[allow(missing_docs)]
     Give { first: u32, order: u32 },
     /// The pageblock was marked.
-    #[allow(missing_docs)]
     Mark { block: u32 },
     /// The mark of the pageblock was taken off.
-    #[allow(missing_docs)]
     Unmark { block: u32 },
     /// A record of a kind that this crate doesn't know.
-    #[allow(missing_docs)]
     Other { kind: u32 },
 }
 

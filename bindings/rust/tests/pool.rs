@@ -47,6 +47,39 @@ fn keeps_the_moving_page_of_another_pool() {
 }
 
 #[test]
+fn goes_while_a_page_is_moving() {
+    let (mut gone, mut pool) = (pool(), pool());
+    gone.map(0, AT, false).unwrap();
+    gone.begin_round();
+    let page = gone.isolate().unwrap().unwrap();
+    drop(gone);
+    let Err(Kept { error, value: page }) = pool.commit(page) else { panic!("another pool took the page") };
+    assert_eq!((error, page.words()), (Error::Stranger, &[0; 8][..]));
+}
+
+#[test]
+fn keeps_a_page_moving_that_is_dropped() {
+    let mut pool = pool();
+    pool.map(0, AT, false).unwrap();
+    pool.begin_round();
+    drop(pool.isolate().unwrap());
+    assert_eq!(pool.isolate(), Ok(None));
+    assert_eq!((pool.info().moving, pool.audit()), (1, Err(Error::Out)));
+    pool.compact().unwrap();
+    assert_eq!(pool.unmap(0, AT), Err(Error::Moving));
+}
+
+#[test]
+fn refuses_words_whose_end_wraps() {
+    let mut pool = pool();
+    let huge = pool.take_huge(3).unwrap();
+    assert_eq!(pool.read_huge(&huge, usize::MAX, &mut [0, 0]), Err(Error::Range));
+    assert_eq!(pool.write_huge(&huge, usize::MAX, &[0]), Err(Error::Range));
+    assert_eq!(pool.read_huge(&huge, 64, &mut []), Ok(()));
+    assert_eq!(pool.read(0, AT, u32::MAX, &mut [0, 0]), Err(Error::Range));
+}
+
+#[test]
 fn carries_pages_on_other_threads() {
     let mut pool = pool();
     for page in 0..100 {

@@ -5,7 +5,7 @@ ghost use Rattle.compactd_c.specs.Answers.{answer};
 ghost use Rattle.compactd_c.specs.Asked.{address_of, is_address, ranged};
 ghost use Rattle.compactd_c.specs.Looks.{look_refusal, audit_refusal};
 ghost use Rattle.compactd_c.specs.Told.{counts_of, seen_of};
-ghost use Rattle.journal_core.specs.Moves.{isolated};
+ghost use Rattle.journal_core.specs.Moves.{isolated, moved, put_back};
 ghost use Rattle.state_core.specs.Looking.{look_of, info_of};
 ghost use Rattle.state_core.specs.Marking.{marked_of};
 ghost use Rattle.state_core.specs.ZoneState.{ZoneState, is_quiet};
@@ -203,6 +203,8 @@ pub extern "C" fn compactd_audit(alloc: Global, pool: &mut Pool, ends: &mut Ends
     ensures answer { result ≡ answer pool.old.zone audit_refusal }
     ensures zone { pool.new.zone ≡ pool.old.zone }
     ensures isolated { (z : ZoneState) → pool.old.zone ≡ Some z → result ≡ 0 → ends.new.isolated ≡ isolated z.records }
+    ensures moved { (z : ZoneState) → pool.old.zone ≡ Some z → result ≡ 0 → ends.new.moved ≡ moved z.records }
+    ensures back { (z : ZoneState) → pool.old.zone ≡ Some z → result ≡ 0 → ends.new.back ≡ put_back z.records }
     ensures ends { result ≡ 0 → ends.new.moved + ends.new.back ≡ ends.new.isolated }
     ensures kept { ¬ (result ≡ 0) → ends.new ≡ ends.old }
 {

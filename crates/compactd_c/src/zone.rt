@@ -1,8 +1,8 @@
 //! A zone whose pages have one of two sizes.
 
-ghost use Rattle.std.specs.Prelude.{◌≡◌, ◌≢◌, ◌≤◌, ◌+◌, ◌↔◌, ◌&&◌, nat_lt, true, ℕ, false, length, reverse, slice_get, is_some, Some, None, IsTrue, IsOk, IfOk, IfErr, OnOk, OnErr, IfSome};
+ghost use Rattle.std.specs.Prelude.{◌≡◌, ◌≢◌, ◌≤◌, ◌↔◌, ◌&&◌, nat_lt, true, ℕ, false, length, reverse, slice_get, is_some, Some, None, IsTrue, IsOk, IfOk, IfErr, OnOk, OnErr, IfSome};
 ghost use Rattle.std.specs.Result.{result_err};
-ghost use Rattle.journal_core.specs.Moves.{isolated, out};
+ghost use Rattle.journal_core.specs.Moves.{out};
 ghost use Rattle.journal_core.specs.declared.record.Cause.{Cause};
 ghost use Rattle.state_core.specs.Access.{access_refusal, value_at, loaded, stored};
 ghost use Rattle.state_core.specs.Bulk.{bulk_refusal, values_at, loaded_all, stored_all};
@@ -16,6 +16,7 @@ ghost use Rattle.state_core.specs.Packed.{IsPacked};
 ghost use Rattle.state_core.specs.Pairs.{HaveMet, next_pair};
 ghost use Rattle.state_core.specs.Rounds.{round_begun};
 ghost use Rattle.state_core.specs.ZoneState.{frame_count, is_quiet};
+ghost use Rattle.zone_core.specs.Counted.{IsCounted};
 ghost use Rattle.compactd_c.specs.Asked.{address_of, is_address, is_client, is_block, ranged, refusal_for, answer_for, after_asked};
 ghost use Rattle.compactd_c.specs.Kinds.{IsPageSize};
 ghost use Rattle.compactd_c.specs.Looks.{look_refusal, audit_refusal};
@@ -272,8 +273,7 @@ impl Zone {
     /// What became of the pages that were isolated.
     pub(crate) fn audit(&self) -> Result<Audit, ZoneError>
         ensures refused { result_err result ≡ audit_refusal self.now }
-        ensures isolated { IfOk result (λ audit. audit.isolated ≡ isolated self.now.records) }
-        ensures ends { IfOk result (λ audit. audit.moved + audit.back ≡ audit.isolated) }
+        ensures counted { IfOk result (λ audit. IsCounted self.now audit) }
     {
         match &self.kind {
             Kind::Small(zone) => zone.audit(),
