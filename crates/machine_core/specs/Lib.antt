@@ -3,3 +3,4 @@ pub mod Machine
 pub mod OneThread
 pub mod Refusals
 pub mod Replies
+pub mod Stage

@@ -15,6 +15,7 @@ use play_core::{Answers, Block, Respond};
 use state_core::{Ended, Look, ZoneAnswer, ZoneCall, ZoneError};
 use std::alloc::{AllocError, Global};
 use std::marker::Model;
+use std::mem::replace;
 use std::sync::ledger::Ledger;
 use text_core::{
     BlockCount, Call, Calls, Command, PoolBlocks, PoolStopped, Repeated, Reply, Series, zone_of,
@@ -22,13 +23,22 @@ use text_core::{
 use world_core::{Finished, Scanned, World, WorldError};
 use zone_core::Blanks;
 
-/// What a script works on: no zone yet, with what it takes to open one, or the world of the one zone that it opened. A machine
-/// that has a world has no allocator, so no command on its zone can ask for memory.
+/// What a script works on. A machine whose zone is open has no allocator, so no command on the zone can ask for memory.
 #[derive(Drop)]
 pub struct Machine<I: Ledger, N: Ledger, M: Ledger, B: Ledger> {
     places: u32,
-    opening: Option<Opening>,
-    world: Option<World<I, N, M, B>>,
+    zone: Stage<World<I, N, M, B>>,
+}
+
+/// What has become of the one zone of a script, whose world is `W`.
+#[derive(Drop)]
+enum Stage<W> {
+    /// It wasn't opened yet.
+    Closed(Opening),
+    /// It is open.
+    Open(W),
+    /// It was opened, and its world was given away; or there was no memory for it.
+    Gone,
 }
 
 /// What it takes to open a zone. The first opening uses it up.
@@ -39,21 +49,21 @@ struct Opening {
 }
 
 impl<I: Ledger, N: Ledger, M: Ledger, B: Ledger> Model for Machine<I, N, M, B> {
-    ghost use Rattle.std.specs.Prelude.{◌≡◌, ◌<◌, ◌≤◌, None};
-    ghost use Rattle.std.specs.Option.{ForSome};
+    ghost use Rattle.std.specs.Prelude.{◌<◌, ◌≤◌};
     ghost use Rattle.zone_core.specs.Books.{AreFor};
     ghost use Rattle.std.specs.Coded.{codes};
     ghost use Rattle.state_core.specs.ZoneCode.{coded_zone};
     ghost use Rattle.machine_core.specs.OneThread.{OneThread};
+    ghost use Rattle.machine_core.specs.Stage.{IfClosed, world_in};
 
     ghost Value = { OneThread };
 
     ghost coded = { Prim.hlevel (codes, coded_zone) };
 
-    ghost view = { λ m. record { places = m.places; world = m.world } };
+    ghost view = { λ m. record { places = m.places; world = world_in m.zone } };
 
-    ghost invariant = { λ m. (0 < m.places) × (m.places ≤ 65536) × ForSome m.world (λ _. m.opening ≡ None)
-        × ForSome m.opening (λ o. AreFor o.blanks I.name I.parts N.name N.parts M.name M.parts B.name B.parts) };
+    ghost invariant = { λ m. (0 < m.places) × (m.places ≤ 65536)
+        × IfClosed m.zone (λ o. AreFor o.blanks I.name I.parts N.name N.parts M.name M.parts B.name B.parts) };
 }
 
 impl<I: Ledger, N: Ledger, M: Ledger, B: Ledger> Respond for Machine<I, N, M, B> {
@@ -82,8 +92,7 @@ impl<I: Ledger, N: Ledger, M: Ledger, B: Ledger> Machine<I, N, M, B> {
     {
         Machine {
             places,
-            opening: Some(Opening { alloc, blanks }),
-            world: None,
+            zone: Stage::Closed(Opening { alloc, blanks }),
         }
     }
 
@@ -116,10 +125,10 @@ impl<I: Ledger, N: Ledger, M: Ledger, B: Ledger> Machine<I, N, M, B> {
         ensures places { OnOk result (self.new.places ≡ self.old.places) }
         ensures memory { OnErr result (self.old.world ≡ None) }
     {
-        if self.world.is_some() {
+        if self.world().is_some() {
             return Ok(Refusal::AlreadyOpen.reply());
         }
-        let Some(Opening { alloc, blanks }) = self.opening.take() else {
+        let Stage::Closed(Opening { alloc, blanks }) = replace(&mut self.zone, Stage::Gone) else {
             return Err(AllocError);
         };
         let Ok(world) = World::open(alloc, zone, blocks.get(), self.places, blanks) else {
@@ -133,8 +142,8 @@ impl<I: Ledger, N: Ledger, M: Ledger, B: Ledger> Machine<I, N, M, B> {
     pub fn compact(&self, zone: ZoneNo) -> Reply
         ensures { record { reply = result; world = self.now.world } ≡ compact_on zone self.now.world }
     {
-        match &self.world {
-            Some(world) if world.zone().number() == zone => {
+        match &self.zone {
+            Stage::Open(world) if world.zone().number() == zone => {
                 (if world.is_open() {
                     Refusal::OpenRound
                 } else {
@@ -162,8 +171,10 @@ impl<I: Ledger, N: Ledger, M: Ledger, B: Ledger> Machine<I, N, M, B> {
         ensures answer { record { reply = result; world = self.new.world } ≡ pool_on zone count blocks self.old.world }
         ensures places { self.new.places ≡ self.old.places }
     {
-        match &mut self.world {
-            Some(world) if world.zone().number() == zone => answer_pool(world, count, blocks),
+        match &mut self.zone {
+            Stage::Open(world) if world.zone().number() == zone => answer_pool(
+                world, count, blocks,
+            ),
             _ => Refusal::OtherZone.reply(),
         }
     }
@@ -174,7 +185,10 @@ impl<I: Ledger, N: Ledger, M: Ledger, B: Ledger> Machine<I, N, M, B> {
         ensures some { IfSome result (λ world. self.now.world ≡ Some world.now) }
         ensures none { IfNone result (self.now.world ≡ None) }
     {
-        self.world.as_ref()
+        match &self.zone {
+            Stage::Open(world) => Some(world),
+            Stage::Closed(_) | Stage::Gone => None,
+        }
     }
 
     /// Gives away the world of the zone with this number, if it is the open one and no hand round is open.
@@ -184,20 +198,30 @@ impl<I: Ledger, N: Ledger, M: Ledger, B: Ledger> Machine<I, N, M, B> {
         ensures left { IfSome result (λ _. self.new ≡ single_at_first self.old.places) }
         ensures none { IfNone result ((self.new ≡ self.old) × (is_at_rest zone self.old.world ≡ false)) }
     {
-        let world = self.world.take()?;
-        if world.zone().number() == zone && !world.is_open() {
-            return Some(world);
+        if !self.is_at_rest(zone) {
+            return None;
         }
-        self.give_world(world);
-        None
+        match replace(&mut self.zone, Stage::Gone) {
+            Stage::Open(world) => Some(world),
+            Stage::Closed(_) | Stage::Gone => unreachable!(),
+        }
+    }
+
+    /// Whether the zone with this number is open, and no hand round is.
+    fn is_at_rest(&self, zone: ZoneNo) -> bool
+        ensures { result ≡ is_at_rest zone self.now.world }
+    {
+        match &self.zone {
+            Stage::Open(world) => zone == world.zone().number() && !world.is_open(),
+            Stage::Closed(_) | Stage::Gone => false,
+        }
     }
 
     /// Gives the machine a world, which replaces the one that it has, if it has one. It can open no zone from then on.
     pub fn give_world(&mut self, world: World<I, N, M, B>)
         ensures { self.new ≡ record self.old { world = Some world } }
     {
-        self.opening = None;
-        self.world = Some(world);
+        self.zone = Stage::Open(world);
     }
 
     /// Answers calls on the zone with this number, if it is the open one.
@@ -205,8 +229,8 @@ impl<I: Ledger, N: Ledger, M: Ledger, B: Ledger> Machine<I, N, M, B> {
         ensures answer { record { reply = reply.new; world = self.new.world } ≡ step_on zone calls self.old.world }
         ensures places { self.new.places ≡ self.old.places }
     {
-        match &mut self.world {
-            Some(world) if world.zone().number() == zone => answer_all(world, calls, reply),
+        match &mut self.zone {
+            Stage::Open(world) if world.zone().number() == zone => answer_all(world, calls, reply),
             _ => *reply = Refusal::OtherZone.reply(),
         }
     }
