@@ -9,7 +9,7 @@ use Rattle.state_core.specs.ZoneState.{ZoneState}
 use Rattle.state_core.proofs.Calls.{call_recorded}
 use Rattle.round_core.specs.Calls.{is_of, IsCall}
 
-own_record : {W : ℕ} (call : ZoneCall W) (client : ℕ) (answer : ZoneAnswer) → IsTrue (is_of_client call) → is_of client (record_of call client answer) ≡ true
+pub own_record : {W : ℕ} (call : ZoneCall W) (client : ℕ) (answer : ZoneAnswer) → IsTrue (is_of_client call) → is_of client (record_of call client answer) ≡ true
 own_record (Map address unmovable) client answer own = eq-eqb client client refl
 own_record (MapAt address unmovable frame) client answer own = eq-eqb client client refl
 own_record (Load address word) client answer own = eq-eqb client client refl

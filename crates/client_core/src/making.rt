@@ -4,7 +4,7 @@ ghost use Rattle.std.specs.Prelude.{◌≡◌, ◌≢◌, IsTrue, IfOk, IfErr, O
 ghost use Rattle.std.specs.Result.{result_err};
 ghost use Rattle.halves_core.specs.Told.{pair_of, written_if};
 ghost use Rattle.state_core.specs.declared.error.ZoneError.{ZoneError};
-ghost use Rattle.state_core.specs.Calls.{refusal_of, answer_of, after, is_of_client, record_of};
+ghost use Rattle.state_core.specs.Calls.{refusal_of, answer_of, after, answers, is_of_client, record_of};
 ghost use Rattle.state_core.specs.Lawful.{IsValidZone};
 ghost use Rattle.client_core.specs.Calls.{IsMade, IsRefused};
 
@@ -70,9 +70,16 @@ fn make_kept<K: Keeping, I: Ledger, M: Ledger, B: Ledger>(
     ensures slip { IfOk result (λ made. slip.new ≡ written_if made.1 slip.old) }
     ensures err { OnErr result ((room.new ≡ room.old) × (slip.new ≡ slip.old)) }
 {
-    let call = call.get();
-    let answer = room.zone.make(client, call)?;
-    let receipt = call.record(client, answer);
+    let answer = room.zone.make(client, call.get())?;
+    let receipt = receipt_of(call, client, &answer);
     write_both(&mut room.stub, slip, &receipt);
     Ok((answer, receipt))
+}
+
+/// The record of a call with its answer.
+fn receipt_of(call: ClientCall, client: ClientNo, answer: &ZoneAnswer) -> Record
+    requires { IsTrue (answers call answer.now) }
+    ensures { result ≡ record_of call client answer.now }
+{
+    call.get().record(client, *answer)
 }
