@@ -1,25 +1,80 @@
 -- A round that moves one page after the other.
-use Rattle.std.proofs.Common.{◌≡◌, ℕ, zero, suc, ◌+◌, ◌-◌, ◌<◌, refl, sym, ap, subst, ◌∙◌, arith}
-use Rattle.std.specs.Prelude.{Option, Some, None}
-use Rattle.state_core.specs.Isolating.{isolated_next, next_answer, next_state}
-use Rattle.state_core.specs.Ending.{IsOwnCopy}
+use Rattle.std.proofs.Common.{◌≡◌, ℕ, zero, suc, ◌-◌, ◌<◌, ◌≤◌, refl, sym, ap, subst, ◌∙◌, arith, cond}
+use Rattle.std.specs.Prelude.{Bool, true, false, nat_eq, is_some, Option, Some, None}
+use Rattle.journal_core.specs.History.{pins}
+use Rattle.journal_core.specs.Moves.{isolated}
+use Rattle.state_core.specs.Isolating.{isolate_refusal, isolated_next, next_answer, next_state}
+use Rattle.state_core.specs.Ending.{IsOwnCopy, committed}
+use Rattle.state_core.specs.Pairs.{next_pair}
 use Rattle.state_core.specs.ZoneState.{ZoneState}
+use Rattle.state_core.specs.declared.error.ZoneError.{ZoneError}
 use Rattle.state_core.specs.declared.moves.Next.TheVariants as answer
 use Rattle.state_core.specs.declared.round.Pair.{Pair}
 use Rattle.state_core.proofs.Carried.{own_fresh}
+use Rattle.state_core.proofs.Facts.{room_and_serial}
 use Rattle.word_core.specs.Page.{IsolatedPage}
-use Rattle.compactd_c.specs.Rounds.{moved_next, going_on, moved_at_most}
+use Rattle.compactd_c.specs.Rounds.{moved_to, moved_next, going_on, moved_at_most, all_moved}
 
 -- it stays where it stopped, however many moves it may still make
 pub stays : (most : ℕ) (z : ZoneState) → moved_next z ≡ None → moved_at_most most z ≡ z
 stays zero z stopped = refl
 stays (suc most) z stopped = ap (going_on (moved_at_most most) z) stopped
 
--- each move is one of those that it may make
-pub goes_on : (most made : ℕ) (z next : ZoneState) → made < most → moved_next z ≡ Some next → moved_at_most (most - made) z ≡ moved_at_most (most - (made + 1)) next
-goes_on most made z next low moved =
-    let left : most - made ≡ suc (most - (made + 1)) = omega (arith, low) in
-    ap (λ (n : ℕ). moved_at_most n z) left ∙ ap (going_on (moved_at_most (most - (made + 1))) z) moved
+by_either : (b : Bool) (x y : ZoneState) (n : ℕ) → x.room ≡ n → y.room ≡ n → (cond b x y).room ≡ n
+by_either true x y n one other = one
+by_either false x y n one other = other
+
+-- the end of a move takes a place of the journal
+committed_took : (z : ZoneState) (serial page : ℕ) → (committed z serial page).room ≡ z.room - 1
+committed_took z serial page = by_either (nat_eq (pins z.records page) 0) _ _ (z.room - 1) refl refl
+
+took_by : (z next : ZoneState) (refusal : Option ZoneError) (o : Option Pair) → isolate_refusal z ≡ refusal
+    → cond (is_some refusal) None (moved_to z o) ≡ Some next → next.room < z.room
+took_by z next (Some error) o is moved = absurd cc
+took_by z next None None is moved = absurd cc
+took_by z next None (Some pair) is moved =
+    let left : committed (isolated_next z pair) (isolated z.records) pair.page ≡ next = cc in
+    let spare = room_and_serial z is in
+    omega (arith, spare.0, ap (λ (w : ZoneState). w.room) left, committed_took (isolated_next z pair) (isolated z.records) pair.page)
+
+-- each move takes places of the journal
+pub took : (z next : ZoneState) → moved_next z ≡ Some next → next.room < z.room
+took z next moved = took_by z next (isolate_refusal z) (next_pair z) refl moved
+
+none_left_by : (z : ZoneState) (o : Option ZoneState) → moved_next z ≡ o → z.room ≤ 0 → o ≡ None
+none_left_by z None is none = refl
+none_left_by z (Some next) is none = absurd (omega (arith, took z next is))
+
+-- no page is moved where the journal has no place left
+none_left : (z : ZoneState) → z.room ≤ 0 → moved_next z ≡ None
+none_left z none = none_left_by z (moved_next z) refl none
+
+either_way : (f g : ZoneState → ZoneState) (z : ZoneState) (o : Option ZoneState) → ((next : ZoneState) → o ≡ Some next → f next ≡ g next) → going_on f z o ≡ going_on g z o
+either_way f g z None same = refl
+either_way f g z (Some next) same = same next refl
+
+-- so many moves are enough as the journal has places left: more make no difference
+pub enough : (n m : ℕ) (z : ZoneState) → z.room ≤ n → z.room ≤ m → moved_at_most n z ≡ moved_at_most m z
+enough zero zero z low high = refl
+enough zero (suc m) z low high = sym (stays (suc m) z (none_left z low))
+enough (suc n) zero z low high = stays (suc n) z (none_left z high)
+enough (suc n) (suc m) z low high =
+    either_way (moved_at_most n) (moved_at_most m) z (moved_next z)
+    (λ (next : ZoneState) (moved : moved_next z ≡ Some next).
+    let less = took z next moved in
+    enough n m next (omega (arith, less, low)) (omega (arith, less, high)))
+
+-- a move is one of all
+pub all_further : (z next : ZoneState) → moved_next z ≡ Some next → all_moved z ≡ all_moved next
+all_further z next moved =
+    let less = took z next moved in
+    enough z.room (suc z.room) z (omega arith) (omega arith)
+    ∙ ap (going_on (moved_at_most z.room) z) moved
+    ∙ enough z.room next.room next (omega (arith, less)) (omega arith)
+
+-- all were moved where there is no further move
+pub all_done : (z : ZoneState) → moved_next z ≡ None → all_moved z ≡ z
+all_done z stopped = stays z.room z stopped
 
 -- a page that was just isolated is its own copy
 pub own_isolated : (z z_new : ZoneState) (p : IsolatedPage) (o : Option Pair) → answer.Page p ≡ next_answer z o → z_new ≡ next_state z o → IsOwnCopy z_new p

@@ -31,3 +31,8 @@ going_on further z (Some next) = further next
 abbrev pub moved_at_most : ℕ → ZoneState → ZoneState
 moved_at_most zero z = z
 moved_at_most (suc most) z = going_on (moved_at_most most) z (moved_next z)
+
+-- the zone after one page after the other was moved, as long as there is one: each move takes places of the journal, so there
+-- are at most as many moves as it has places left
+abbrev pub all_moved : ZoneState → ZoneState
+all_moved z = moved_at_most z.room z

@@ -1,15 +1,17 @@
 //! What C calls to run rounds, and to make the moves of a round itself.
 
-ghost use Rattle.std.specs.Prelude.{◌≡◌, ◌↔◌, true, length, IsTrue, None, Some};
+ghost use Rattle.std.specs.Prelude.{◌≡◌, ◌↔◌, true, false, length, IsTrue, None, Some};
 ghost use Rattle.compactd_c.specs.Answers.{answer, left};
-ghost use Rattle.compactd_c.specs.Rounds.{is_moving, moved_at_most};
+ghost use Rattle.compactd_c.specs.Rounds.{is_moving, all_moved};
 ghost use Rattle.journal_core.specs.Moves.{out};
 ghost use Rattle.journal_core.specs.declared.record.Cause.{Cause};
 ghost use Rattle.state_core.specs.Ending.{put_back_to_source};
+ghost use Rattle.state_core.specs.Isolating.{isolate_refusal};
 ghost use Rattle.state_core.specs.Packed.{IsPacked};
 ghost use Rattle.state_core.specs.Pairs.{HaveMet};
 ghost use Rattle.state_core.specs.Rounds.{round_begun};
-ghost use Rattle.state_core.specs.ZoneState.{ZoneState, frame_count, is_quiet};
+ghost use Rattle.state_core.specs.ZoneState.{ZoneState, is_quiet};
+ghost use Rattle.state_core.specs.declared.error.ZoneError.{ZoneError};
 
 use crate::calls::{CLOSED, numbered};
 use crate::pool::Pool;
@@ -21,8 +23,9 @@ use std::alloc::Global;
 #[unsafe(no_mangle)]
 pub extern "C" fn compactd_compact(alloc: Global, pool: &mut Pool, met: &mut bool) -> u32
     ensures answer { result ≡ answer pool.old.zone (λ z. None) }
-    ensures zone { pool.new.zone ≡ left pool.old.zone (λ z. None) (λ z. moved_at_most (frame_count z) (round_begun z)) }
+    ensures zone { pool.new.zone ≡ left pool.old.zone (λ z. None) (λ z. all_moved (round_begun z)) }
     ensures met { (z : ZoneState) → pool.new.zone ≡ Some z → IsTrue met.new → HaveMet z }
+    ensures full { (z : ZoneState) → pool.new.zone ≡ Some z → (met.new ≡ false) ↔ (isolate_refusal z ≡ Some ZoneError.JournalFull) }
     // Where nothing was stuck and the scanners met, the zone is packed.
     ensures packed { (z : ZoneState) → pool.new.zone ≡ Some z → IsTrue met.new → is_quiet z ≡ true → length (out z.records) ≡ 0 → IsPacked z }
     ensures kept { ¬ (result ≡ 0) → met.new ≡ met.old }

@@ -8,20 +8,20 @@ ghost use Rattle.state_core.specs.Access.{access_refusal, value_at, loaded, stor
 ghost use Rattle.state_core.specs.Bulk.{bulk_refusal, values_at, loaded_all, stored_all};
 ghost use Rattle.state_core.specs.Contents.{contents_refusal, contents_from, contents_written};
 ghost use Rattle.state_core.specs.Ending.{committed, ended_as, put_back_to_source};
-ghost use Rattle.state_core.specs.Isolating.{next_state};
+ghost use Rattle.state_core.specs.Isolating.{isolate_refusal, next_state};
 ghost use Rattle.state_core.specs.Looking.{look_of, info_of};
 ghost use Rattle.state_core.specs.Marking.{marked_of};
 ghost use Rattle.state_core.specs.Opening.{IsOpenable, IsSize, opened_told, opened_with};
 ghost use Rattle.state_core.specs.Packed.{IsPacked};
 ghost use Rattle.state_core.specs.Pairs.{HaveMet, next_pair};
 ghost use Rattle.state_core.specs.Rounds.{round_begun};
-ghost use Rattle.state_core.specs.ZoneState.{frame_count, is_quiet};
+ghost use Rattle.state_core.specs.ZoneState.{is_quiet};
 ghost use Rattle.zone_core.specs.Counted.{IsCounted};
 ghost use Rattle.compactd_c.specs.Asked.{address_of, is_address, is_client, is_block, ranged, refusal_for, answer_for, after_asked};
 ghost use Rattle.compactd_c.specs.Kinds.{IsPageSize};
 ghost use Rattle.compactd_c.specs.Looks.{look_refusal, audit_refusal};
 ghost use Rattle.compactd_c.specs.Records.{record_refused};
-ghost use Rattle.compactd_c.specs.Rounds.{is_moving, moved_next, moved_at_most};
+ghost use Rattle.compactd_c.specs.Rounds.{is_moving, moved_next, all_moved};
 ghost use Rattle.compactd_c.specs.Carried.{IsOwn, carried_of, words_of, isolate_refused, commit_refused};
 
 use crate::asked::{Asked, address, word_of};
@@ -306,8 +306,9 @@ impl Zone {
 
     /// Runs a whole round, and tells whether its scanners met; else the journal was full.
     pub(crate) fn compact(&mut self) -> bool
-        ensures zone { self.new ≡ moved_at_most (frame_count self.old) (round_begun self.old) }
+        ensures zone { self.new ≡ all_moved (round_begun self.old) }
         ensures met { IsTrue result → HaveMet self.new }
+        ensures full { (result ≡ false) ↔ (isolate_refusal self.new ≡ Some ZoneError.JournalFull) }
         ensures packed { IsTrue result → is_quiet self.new ≡ true → length (out self.new.records) ≡ 0 → IsPacked self.new }
     {
         match &mut self.kind {
@@ -504,20 +505,19 @@ fn put_back<const W: usize>(
 
 fn compact<const W: usize>(zone: &mut BareZone<W>) -> bool
     requires { W ≤ 65536 }
-    ensures zone { zone.new ≡ moved_at_most (frame_count zone.old) (round_begun zone.old) }
+    ensures zone { zone.new ≡ all_moved (round_begun zone.old) }
     ensures met { IsTrue result → HaveMet zone.new }
+    ensures full { (result ≡ false) ↔ (isolate_refusal zone.new ≡ Some ZoneError.JournalFull) }
     ensures packed { IsTrue result → is_quiet zone.new ≡ true → length (out zone.new.records) ≡ 0 → IsPacked zone.new }
 {
-    let frames = 512 * zone.blocks();
     zone.begin_round();
-    for done in 0..frames {
+    loop {
         match move_next(zone) {
             Step::Moved => {}
             Step::Met => return true,
             Step::Full => return false,
         }
     }
-    false
 }
 
 /// What came of a step of a round on one thread.
@@ -538,6 +538,7 @@ fn move_next<const W: usize>(zone: &mut BareZone<W>) -> Step
     ensures none { result ≢ Step.Moved → moved_next zone.old ≡ None }
     ensures same { result ≢ Step.Moved → zone.new ≡ zone.old }
     ensures met { result ≡ Step.Met → HaveMet zone.new }
+    ensures full { (result ≡ Step.Full) ↔ (isolate_refusal zone.old ≡ Some ZoneError.JournalFull) }
     ensures packed { result ≡ Step.Met → is_quiet zone.new ≡ true → length (out zone.new.records) ≡ 0 → IsPacked zone.new }
 {
     let page = match zone.isolate_next() {
