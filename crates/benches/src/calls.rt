@@ -1,8 +1,10 @@
-//! Stores and loads of a zone whose journal is told, and stores beside those of zones whose journals are kept.
+//! Stores and loads of a zone whose journal is told, and stores, one by one and in bulk, beside those of zones whose journals are kept.
 
 ghost use Rattle.zone_core.specs.Books.{AreFor};
 
-use crate::opening::{Opening, open, open_told, page};
+mod bulk;
+
+use crate::opening::{open, open_told, page};
 use crate::times::nanos_since;
 use bitflags::Flags;
 use frame_core::{Address, ClientNo, PageFlags, WordNo};
@@ -15,6 +17,13 @@ use zone_core::{Blanks, Zone};
 
 /// The stores that a kept journal has places for, besides the map of their page.
 const KEPT_STORES: u32 = 65_535;
+
+/// What becomes of the records of a zone's journal.
+#[derive(Clone, Copy)]
+enum Journal {
+    Told,
+    Kept,
+}
 
 /// Who stores to a word of a page, and loads it.
 #[derive(Clone, Copy)]
@@ -87,24 +96,38 @@ fn call_told<I: Ledger, N: Ledger, M: Ledger, B: Ledger, R: Print + Alloc>(
 ) -> io::Result<()>
     requires blanks { AreFor blanks I.name I.parts N.name N.parts M.name M.parts B.name B.parts }
 {
-    let Some(Opening { mut zone, .. }) = open_told::<I, N, M, B>(alloc, blanks) else {
+    match open_told::<I, N, M, B>(alloc, blanks) {
+        Some(mut opening) => show_same(rt, &mut opening.zone, values),
+        None => Ok(()),
+    }
+}
+
+/// Calls a zone that has no pages.
+fn show_same<I: Ledger, M: Ledger, B: Ledger, R: Print + Alloc>(
+    rt: &R,
+    zone: &mut Zone<I, M, B>,
+    values: u32,
+) -> io::Result<()> {
+    let Some(user) = User::of(zone) else {
         return Ok(());
     };
-    let Some(user) = User::of(&mut zone) else {
-        return Ok(());
-    };
-    println!(rt; "true {} of 1", user.use_all(&mut zone, 1))?;
-    println!(rt; "true {} of {values}", user.use_all(&mut zone, values))
+    println!(rt; "true {} of 1", user.use_all(zone, 1))?;
+    println!(rt; "true {} of {values}", user.use_all(zone, values))
 }
 
 /// How many stores took how many nanoseconds.
-#[derive(Clone, Copy, Default)]
+#[derive(Clone, Copy)]
 struct Timed {
     stores: u32,
     nanos: u64,
 }
 
 impl Timed {
+    const NOTHING: Timed = Timed {
+        stores: 0,
+        nanos: 0,
+    };
+
     fn and(self, more: Timed) -> Timed {
         Timed {
             stores: self.stores.saturating_add(more.stores),
@@ -118,44 +141,76 @@ impl Timed {
     }
 }
 
-/// Picoseconds that a store takes where the journal is told, and where it is kept, by turns: a kept journal is full after each turn.
+/// How long stores took where the journal is told, and where it is kept.
+#[derive(Clone, Copy)]
+struct Both {
+    told: Timed,
+    kept: Timed,
+}
+
+impl Both {
+    const NOTHING: Both = Both {
+        told: Timed::NOTHING,
+        kept: Timed::NOTHING,
+    };
+
+    fn and(self, told: Timed, kept: Timed) -> Both {
+        Both {
+            told: self.told.and(told),
+            kept: self.kept.and(kept),
+        }
+    }
+
+    /// Writes picoseconds, under a name for what was stored.
+    fn show(&self, rt: &impl Print, name: &str) -> io::Result<()> {
+        let Both { told, kept } = self;
+        println!(rt;
+            "{name} {} told {} kept {}",
+            told.stores,
+            told.each(),
+            kept.each()
+        )
+    }
+}
+
+/// Picoseconds that a store takes, and a word that is written in bulk, where the journal is told and where it is kept, by turns: a kept
+/// journal is full after each turn.
 pub fn show_times<R: Print + Alloc + Clock>(rt: &R, alloc: Global, turns: u32) -> io::Result<()> {
-    let (mut told, mut kept) = (Timed::default(), Timed::default());
+    let (mut stores, mut words) = (Both::NOTHING, Both::NOTHING);
     for _turn in 0..turns {
-        told = told.and(time_told::<Brand, Brand, Brand, Brand, R>(rt, alloc, Blanks::new())?);
-        kept = kept.and(time_kept::<Brand, Brand, Brand, Brand, R>(rt, alloc, Blanks::new())?);
+        stores = stores.and(
+            time(rt, alloc, Journal::Told)?,
+            time(rt, alloc, Journal::Kept)?,
+        );
+        words = words.and(
+            bulk::time(rt, alloc, Journal::Told)?,
+            bulk::time(rt, alloc, Journal::Kept)?,
+        );
     }
-    println!(rt;
-        "stores {} told {} kept {}",
-        told.stores,
-        told.each(),
-        kept.each()
-    )
+    stores.show(rt, "stores")?;
+    words.show(rt, "words")
 }
 
-fn time_told<I: Ledger, N: Ledger, M: Ledger, B: Ledger, R: Clock>(
+/// How long stores take in a zone that is opened for them.
+fn time<R: Clock>(rt: &R, alloc: Global, journal: Journal) -> io::Result<Timed> {
+    time_opened::<Brand, Brand, Brand, Brand, R>(rt, alloc, journal, Blanks::new())
+}
+
+fn time_opened<I: Ledger, N: Ledger, M: Ledger, B: Ledger, R: Clock>(
     rt: &R,
     alloc: Global,
+    journal: Journal,
     blanks: Blanks,
 ) -> io::Result<Timed>
     requires blanks { AreFor blanks I.name I.parts N.name N.parts M.name M.parts B.name B.parts }
 {
-    match open_told::<I, N, M, B>(alloc, blanks) {
-        Some(Opening { mut zone, .. }) => time_stores(rt, &mut zone),
-        None => Ok(Timed::default()),
-    }
-}
-
-fn time_kept<I: Ledger, N: Ledger, M: Ledger, B: Ledger, R: Clock>(
-    rt: &R,
-    alloc: Global,
-    blanks: Blanks,
-) -> io::Result<Timed>
-    requires blanks { AreFor blanks I.name I.parts N.name N.parts M.name M.parts B.name B.parts }
-{
-    match open::<I, N, M, B>(alloc, blanks) {
-        Some(Opening { mut zone, .. }) => time_stores(rt, &mut zone),
-        None => Ok(Timed::default()),
+    let opened = match journal {
+        Journal::Told => open_told::<I, N, M, B>(alloc, blanks),
+        Journal::Kept => open::<I, N, M, B>(alloc, blanks),
+    };
+    match opened {
+        Some(mut opening) => time_stores(rt, &mut opening.zone),
+        None => Ok(Timed::NOTHING),
     }
 }
 
@@ -165,7 +220,7 @@ fn time_stores<I: Ledger, M: Ledger, B: Ledger, R: Clock>(
     zone: &mut Zone<I, M, B>,
 ) -> io::Result<Timed> {
     let Some(user) = User::of(zone) else {
-        return Ok(Timed::default());
+        return Ok(Timed::NOTHING);
     };
     let start = Instant::now(rt)?;
     let stores = user.store_all(zone, KEPT_STORES);

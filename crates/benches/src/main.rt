@@ -1,8 +1,8 @@
 //! Measures rounds, clients beside rounds, the hand-over of pages, and calls of zones whose journals are told, each beside the same work
-//! done otherwise. The first word says which: `rounds`, `clients`, `hands` or `calls`. With no further word it prints what they did, which is the same in every run; with a number
-//! it prints how long they take. `rounds alone N` and `rounds filled N` do a part of the work N times, to be counted from outside.
-//! `calls told N` makes N stores and as many loads in a zone whose journal is told. Without any word it prints what rounds, clients and
-//! hands did, and a thousand such calls.
+//! done otherwise. The first word says which: `rounds`, `clients`, `hands` or `calls`. With no further word it prints what they did, which
+//! is the same in every run; with a number it prints how long they take. `rounds alone N` and `rounds filled N` do a part of the work N
+//! times, to be counted from outside. `calls told N` makes N stores and as many loads in a zone whose journal is told. Without any word it
+//! prints what rounds, clients and hands did, and a thousand such calls.
 #![tactic(auto)]
 
 mod calls;
@@ -12,7 +12,7 @@ mod opening;
 mod rounds;
 mod times;
 
-use anyhow::{Context, Result, bail};
+use anyhow::{Context, Error, Result, anyhow};
 use std::alloc::Global;
 use std::env::Args;
 use std::sync::Wait;
@@ -47,28 +47,68 @@ fn show<R: Threads + Wait + Print + Alloc + Clock + Sync>(
     subject: &str,
     mut words: Args,
 ) -> Result<()> {
-    let (first, second) = (words.next(), words.next());
-    match (subject, first, second) {
-        ("rounds", None, _) => rounds::show_moves(rt, alloc)?,
-        ("rounds", Some(times), None) => rounds::show_times(rt, alloc, number_in(times.as_str())?)?,
-        ("rounds", Some(part), Some(times)) => {
-            rounds::show_part(rt, alloc, part.as_str(), number_in(times.as_str())?)?
+    match (words.next(), words.next()) {
+        (None, _) => show_doings(rt, alloc, subject),
+        (Some(times), None) => show_times(rt, alloc, subject, times.as_str()),
+        (Some(part), Some(times)) => {
+            show_part(rt, alloc, subject, part.as_str(), times.as_str())
         }
-        ("clients", None, _) => clients::show_settled(rt, alloc)?,
-        ("clients", Some(times), None) => {
-            clients::show_times(rt, alloc, number_in(times.as_str())?)?
-        }
-        ("calls", Some(turns), None) => calls::show_times(rt, alloc, number_in(turns.as_str())?)?,
-        ("calls", Some(_), Some(values)) => {
-            calls::show_calls(rt, alloc, number_in(values.as_str())?)?
-        }
-        ("hands", None, _) => hands::show_loads(rt, alloc)?,
-        ("hands", Some(pages), None) => hands::show_times(rt, alloc, number_in(pages.as_str())?)?,
-        _ => bail!("wanted: rounds, clients, hands or calls, and then a number"),
+    }
+}
+
+/// What a subject does.
+fn show_doings<R: Threads + Wait + Print + Alloc + Clock + Sync>(
+    rt: &R,
+    alloc: Global,
+    subject: &str,
+) -> Result<()> {
+    match subject {
+        "rounds" => rounds::show_moves(rt, alloc)?,
+        "clients" => clients::show_settled(rt, alloc)?,
+        "hands" => hands::show_loads(rt, alloc)?,
+        _ => return Err(usage()),
+    }
+    Ok(())
+}
+
+/// How long a subject takes.
+fn show_times<R: Threads + Wait + Print + Alloc + Clock + Sync>(
+    rt: &R,
+    alloc: Global,
+    subject: &str,
+    times: &str,
+) -> Result<()> {
+    match subject {
+        "rounds" => rounds::show_times(rt, alloc, number_in(times)?)?,
+        "clients" => clients::show_times(rt, alloc, number_in(times)?)?,
+        "calls" => calls::show_times(rt, alloc, number_in(times)?)?,
+        "hands" => hands::show_times(rt, alloc, number_in(times)?)?,
+        _ => return Err(usage()),
+    }
+    Ok(())
+}
+
+/// What a part of a subject does.
+fn show_part<R: Print + Alloc + Clock>(
+    rt: &R,
+    alloc: Global,
+    subject: &str,
+    part: &str,
+    times: &str,
+) -> Result<()> {
+    match (subject, part) {
+        ("rounds", part) => rounds::show_part(rt, alloc, part, number_in(times)?)?,
+        ("calls", "told") => calls::show_calls(rt, alloc, number_in(times)?)?,
+        _ => return Err(usage()),
     }
     Ok(())
 }
 
 fn number_in(word: &str) -> Result<u32> {
     word.parse::<u32>().ok().context("a number is wanted")
+}
+
+/// What is told where no such thing can be shown.
+fn usage() -> Error {
+    anyhow!("wanted: rounds, clients, hands or calls, and then a number")
 }
