@@ -99,14 +99,14 @@ fn shorter_call_of(rt: &impl Abort, step: Step) -> ZoneCall {
 }
 
 /// What the method of a step answers where its call was answered so.
-fn told(step: Step, answer: Result<ZoneAnswer, ZoneError>) -> Answer {
+fn told(step: &Step, answer: Result<ZoneAnswer, ZoneError>) -> Answer {
     match answer {
         Ok(answer) => accepted(step, answer),
         Err(error) => Answer::Refused(error),
     }
 }
 
-fn accepted(step: Step, answer: ZoneAnswer) -> Answer {
+fn accepted(step: &Step, answer: ZoneAnswer) -> Answer {
     match answer {
         ZoneAnswer::Done => Answer::Done,
         ZoneAnswer::Mapped { frame, .. } => match step {
@@ -155,7 +155,7 @@ fn by_values<I: Ledger, N: Ledger, M: Ledger, B: Ledger>(
     for (number, row) in ROWS.iter().enumerate() {
         let (step, want) = *row;
         let answer = zone.make(client(rt), call_of(rt, step));
-        assert!(rt; told(step, answer) == want, "value {number}");
+        assert!(rt; told(&row.0, answer) == want, "value {number}");
     }
     records(rt, &zone)
 }
