@@ -58,45 +58,52 @@ fn open<I: Ledger, N: Ledger, M: Ledger, B: Ledger>(
     Some(zone)
 }
 
+/// Who writes the page of a zone, from a word on.
+#[derive(Clone, Copy)]
+struct Writer {
+    client: ClientNo,
+    address: Address,
+    first: WordOf<WORDS>,
+}
+
+impl Writer {
+    /// The writer whose page is mapped in a zone that has none.
+    fn of<I: Ledger, M: Ledger, B: Ledger>(zone: &mut LargeZone<I, M, B>) -> Option<Writer> {
+        let writer = Writer {
+            client: ClientNo::new(0)?,
+            address: page(0)?,
+            first: WordOf::new(0)?,
+        };
+        let _frame = zone
+            .map(writer.client, writer.address, PageFlags::empty())
+            .ok()?;
+        Some(writer)
+    }
+
+    /// Writes all words of the page, again and again. How many writes were accepted.
+    fn write_all<I: Ledger, M: Ledger, B: Ledger>(&self, zone: &mut LargeZone<I, M, B>) -> u32 {
+        let values = [5; WORDS];
+        let mut written = 0u32;
+        for _write in 0..WRITES {
+            let call = zone.write(self.client, self.address, self.first, &values);
+            written = written.saturating_add(u32::from(call.is_ok()));
+        }
+        written
+    }
+}
+
 fn time_writes<I: Ledger, M: Ledger, B: Ledger, R: Clock>(
     rt: &R,
     zone: &mut LargeZone<I, M, B>,
 ) -> io::Result<Timed> {
-    let Some((client, address)) = map_page(zone) else {
+    let Some(writer) = Writer::of(zone) else {
         return Ok(Timed::NOTHING);
     };
     let start = Instant::now(rt)?;
-    let written = write_all(zone, client, address);
+    let written = writer.write_all(zone);
     let nanos = nanos_since(rt, &start)?;
     Ok(Timed {
         stores: written.saturating_mul(WORDS as u32),
         nanos,
     })
-}
-
-/// Maps the page of a zone that has none. Who writes it, and its address.
-fn map_page<I: Ledger, M: Ledger, B: Ledger>(
-    zone: &mut LargeZone<I, M, B>,
-) -> Option<(ClientNo, Address)> {
-    let (client, address) = (ClientNo::new(0)?, page(0)?);
-    let _frame = zone.map(client, address, PageFlags::empty()).ok()?;
-    Some((client, address))
-}
-
-/// Writes all words of the page, again and again. How many writes were accepted.
-fn write_all<I: Ledger, M: Ledger, B: Ledger>(
-    zone: &mut LargeZone<I, M, B>,
-    client: ClientNo,
-    address: Address,
-) -> u32 {
-    let Some(first) = WordOf::new(0) else {
-        return 0;
-    };
-    let values = [5; WORDS];
-    let mut written = 0u32;
-    for _write in 0..WRITES {
-        let call = zone.write(client, address, first, &values);
-        written = written.saturating_add(u32::from(call.is_ok()));
-    }
-    written
 }
