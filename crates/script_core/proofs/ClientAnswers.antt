@@ -29,7 +29,7 @@ length-client_answers old new (c ∷ clients) (a ∷ answers) told = ap suc (len
 
 -- a client has the same number after a call
 number_made : (old new : Client) (call : ZoneCall 8) (result : Result ZoneAnswer ClientError) → IsMade old call result new → new.number ≡ old.number
-number_made old new call (Ok answer) made = ap (λ (c : Client). c.number) made.2
+number_made old new call (Ok answer) made = ap (λ (c : Client). c.number) made.1
 number_made old new call (Err error) made = ap (λ (c : Client). c.number) made.same
 
 -- and after a line
