@@ -7,3 +7,4 @@ pub mod Rounds
 pub mod Runs
 pub mod Alone
 pub mod Scanning
+pub mod PuttingBack

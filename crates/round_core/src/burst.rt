@@ -1,11 +1,12 @@
 //! Steps of many pages under one hold of the lock.
 
-ghost use Rattle.std.specs.Prelude.{◌≡◌, ◌+◌, ◌<◌, [], length, Some, None, IfSome, IfNone, OnSome};
+ghost use Rattle.std.specs.Prelude.{◌≡◌, ◌+◌, ◌<◌, ◌≤◌, [], length, Some, None, IfSome, IfNone, OnSome};
 ghost use Rattle.std.specs.VecDeque.{deque_capacity};
 ghost use Rattle.journal_core.specs.Moves.{isolated};
 ghost use Rattle.state_core.specs.Lawful.{IsValidZone};
 ghost use Rattle.word_core.specs.Serials.{HasSerialsFrom};
 ghost use Rattle.zone_core.specs.ZoneIdentity.{HasIdentity};
+ghost use Rattle.round_core.specs.PuttingBack.{all_put_back};
 ghost use Rattle.round_core.specs.Rounds.{answer_at};
 
 use crate::keeping::Keeping;
@@ -67,6 +68,33 @@ pub(crate) fn commit_burst<K: Keeping, I: Ledger, M: Ledger, B: Ledger>(
 {
     while let Some(copy) = copies.pop_front() {
         if let Err(refused) = zone.commit(seat, copy) {
+            stranger = least(stranger, Some(refused.0.serial()));
+        }
+    }
+    stranger
+}
+
+/// Puts all pages back, in their order. The answer is the least serial of those that were refused, if there is one.
+pub(crate) fn put_back_burst<K: Keeping, I: Ledger, M: Ledger, B: Ledger>(
+    zone: &mut Zone<I, M, B>,
+    seat: &mut EndSeat<M, B>,
+    pages: &mut VecDeque<Isolated>,
+) -> Option<Serial>
+    requires lawful { IsValidZone zone.old }
+    requires keeps { K.keeps zone.old }
+    ensures keeps { K.keeps zone.new }
+    ensures told { K.told zone.new.records ≡ K.told zone.old.records }
+    ensures put_back { result ≡ None → zone.new ≡ all_put_back zone.old pages.old.items }
+    ensures back { result ≡ None → seat.new.back ≡ seat.old.back + length pages.old.items }
+    ensures seat { (seat.new.parts ≡ seat.old.parts) × (seat.new.moved ≡ seat.old.moved) × (seat.old.back ≤ seat.new.back) }
+    ensures pages { pages.new.items ≡ [] }
+    ensures room { deque_capacity pages.new ≡ deque_capacity pages.old }
+    ensures identity { HasIdentity zone.old.number zone.old.blocks zone.new }
+    ensures lawful { IsValidZone zone.new }
+{
+    let mut stranger = None;
+    while let Some(page) = pages.pop_front() {
+        if let Err(refused) = zone.put_back(seat, page) {
             stranger = least(stranger, Some(refused.0.serial()));
         }
     }

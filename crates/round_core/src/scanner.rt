@@ -17,9 +17,6 @@ use std::sync::ledger::Ledger;
 use word_core::Isolated;
 use zone_core::{EndSeat, ScanSeat};
 
-#[cfg(test)]
-mod tests;
-
 /// Isolates pages and gives them, as many at once as the empty list has room for, until the scanners meet or the journal is
 /// full. Where the takers are gone, the pages that nobody took are put back, and the answer is an `Err`: with the least serial of
 /// those that the zone refused, if there is one.
@@ -87,8 +84,8 @@ fn give_all<K: Keeping, I: Ledger, M: Ledger, B: Ledger, G: Gate, R: Wait>(
     let share = division.share(pages.len(), giver.most());
     while let Some(batch) = first_of(pages, share) {
         if let Err(refused) = giver.give_all(rt, batch) {
-            let stranger = put_back_batch(rt, shared, ends, refused);
-            return Err(put_back_all(rt, shared, ends, pages, stranger));
+            put_in_front(pages, refused);
+            return Err(shared.put_back_burst(rt, ends, pages));
         }
     }
     Ok(())
@@ -116,38 +113,13 @@ fn first_of(pages: &mut VecDeque<Isolated>, share: usize) -> Option<Batch<Isolat
     Some(batch)
 }
 
-/// Puts the pages of a batch back. The answer is the least serial of those that the zone refused, if there is one.
-fn put_back_batch<K: Keeping, I: Ledger, M: Ledger, B: Ledger, R: Wait>(
-    rt: &R,
-    shared: &KeptZone<K, I, M, B>,
-    ends: &mut EndSeat<M, B>,
-    mut batch: Batch<Isolated>,
-) -> Option<Serial>
-    ensures ends { (ends.new.parts ≡ ends.old.parts) × (ends.new.moved ≡ ends.old.moved) × (ends.old.back ≤ ends.new.back) }
-    ensures back { result ≡ None → ends.new.back ≡ ends.old.back + length batch.items }
-{
-    let mut stranger = None;
-    while let Some(page) = batch.pop_at(0) {
-        stranger = shared.put_back(rt, ends, page, stranger);
-    }
-    stranger
-}
-
-/// Puts all pages back. The answer is the least serial of those that the zone refused now or before, if there is one.
-fn put_back_all<K: Keeping, I: Ledger, M: Ledger, B: Ledger, R: Wait>(
-    rt: &R,
-    shared: &KeptZone<K, I, M, B>,
-    ends: &mut EndSeat<M, B>,
-    pages: &mut VecDeque<Isolated>,
-    mut stranger: Option<Serial>,
-) -> Option<Serial>
-    ensures ends { (ends.new.parts ≡ ends.old.parts) × (ends.new.moved ≡ ends.old.moved) × (ends.old.back ≤ ends.new.back) }
-    ensures pages { pages.new.items ≡ [] }
-    ensures back { result ≡ None → (stranger ≡ None) × (ends.new.back ≡ ends.old.back + length pages.old.items) }
+/// Puts the pages of a batch in front of the others, in their order.
+fn put_in_front(pages: &mut VecDeque<Isolated>, mut batch: Batch<Isolated>)
+    requires room { length pages.old.items + length batch.items ≤ deque_capacity pages.old }
+    ensures pages { pages.new.items ≡ batch.items ++ pages.old.items }
     ensures room { deque_capacity pages.new ≡ deque_capacity pages.old }
 {
-    while let Some(page) = pages.pop_front() {
-        stranger = shared.put_back(rt, ends, page, stranger);
+    while let Some(page) = batch.pop() {
+        pages.push_front_reserved(page);
     }
-    stranger
 }

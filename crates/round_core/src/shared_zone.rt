@@ -1,6 +1,6 @@
 ghost use Rattle.std.specs.Prelude.{◌≡◌, ◌<◌, ◌≤◌};
 
-use crate::burst::{commit_burst, isolate_burst, least};
+use crate::burst::{commit_burst, isolate_burst, put_back_burst};
 use crate::keeping::{Keeping, Open};
 use crate::round::Stop;
 use frame_core::Serial;
@@ -234,24 +234,22 @@ impl<K: Keeping, I: Ledger, M: Ledger, B: Ledger> KeptZone<K, I, M, B> {
         stranger
     }
 
-    /// Ends the move of a page that wasn't copied, and wakes the threads that wait for the end of a move. The answer is the least
-    /// serial of those that were refused now or before, if there is one.
-    pub(crate) fn put_back<R: Wait>(
+    /// Ends the moves of pages that weren't copied, in their order, and wakes the threads that wait for the end of a move. The answer
+    /// is the least serial of those that were refused, if there is one.
+    pub(crate) fn put_back_burst<R: Wait>(
         &self,
         rt: &R,
         seat: &mut EndSeat<M, B>,
-        page: Isolated,
-        stranger: Option<Serial>,
+        pages: &mut VecDeque<Isolated>,
     ) -> Option<Serial>
+        ensures pages { pages.new.items ≡ [] }
+        ensures room { deque_capacity pages.new ≡ deque_capacity pages.old }
         ensures seat { (seat.new.parts ≡ seat.old.parts) × (seat.new.moved ≡ seat.old.moved) × (seat.old.back ≤ seat.new.back) }
-        ensures back { result ≡ None → (stranger ≡ None) × (seat.new.back ≡ seat.old.back + 1) }
+        ensures back { result ≡ None → seat.new.back ≡ seat.old.back + length pages.old.items }
     {
         let mut room = self.lock(rt);
-        let ended = room.zone.put_back(seat, page);
+        let stranger = put_back_burst::<K, I, M, B>(&mut room.zone, seat, pages);
         self.tell_ended(&mut room);
-        match ended {
-            Ok(()) => stranger,
-            Err(refused) => least(stranger, Some(refused.0.serial())),
-        }
+        stranger
     }
 }

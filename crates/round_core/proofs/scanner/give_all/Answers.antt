@@ -38,9 +38,9 @@ loop-batch-preserved g c =
 pub returns-in-Err-clause-left : goal.returns-in-Err-clause-left
 returns-in-Err-clause-left g c is =
     let old = c.loop-batch.invariant in
-    let none : c.put_back_all.result ≡ None = cc in
-    let all = c.put_back_all.ensures.back none in
-    let some = c.put_back_batch-stranger.ensures.back all.0 in
+    let none : c.put_back_burst.result ≡ None = cc in
+    let all = c.put_back_burst.ensures.back none in
+    let put = ap length c.put_in_front.ensures.pages in
     let refused : length c.in-Err.refused.items ≡ length c.in-Some.batch.items = (λ i. length (c.in-Err.ensures.back i).items) in
     let given = ap (λ (v : Giver). length v.given) c.in-Err.ensures.err in
     let ends = ap (λ (v : EndSeat). v.back) old.ends in
@@ -48,13 +48,14 @@ returns-in-Err-clause-left g c is =
     let first = ap length c.in-Some.ensures.first in
     omega (
       arith,
-      all.1,
-      some,
+      all,
+      put,
       refused,
       given,
       ends,
       before,
       first,
+      length-append c.in-Err.refused.items c.first_of.new.pages.items,
       length-append c.loop-batch.giver.given c.loop-batch.pages.items,
       length-append c.args.giver.now.given c.args.pages.now.items,
       length-append c.in-Some.batch.items c.first_of.new.pages.items,
