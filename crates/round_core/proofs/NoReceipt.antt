@@ -1,5 +1,5 @@
 -- The steps of a round are no receipts.
-use Rattle.std.proofs.Common.{◌≡◌, ℕ, Bool, true, false, if◌then◌else◌, List, ◌∷◌, refl, ap, ◌∙◌, nat_eq}
+use Rattle.std.proofs.Common.{◌≡◌, ℕ, Bool, true, false, if◌then◌else◌, List, ◌∷◌, refl, nat_eq}
 use Rattle.journal_core.specs.declared.record.Cause.{Cause}
 use Rattle.journal_core.specs.declared.record.Cause.TheVariants.{Pinned}
 use Rattle.journal_core.specs.declared.record.Record.{Record}

@@ -43,17 +43,13 @@ pub(crate) fn scan_all<K: Keeping, I: Ledger, N: Ledger, M: Ledger, B: Ledger, G
     // Where the zone refused none, each page that was counted was given or put back.
     ensures left { result ≡ Err None → giver.new.base + length giver.new.given + ends.new.back ≡ scan.new.count + ends.old.back }
 {
-    let stop = shared.begin_burst(rt, scan, pages);
-    give_all(rt, shared, ends, giver, pages, division, gate)?;
-    if let Some(stop) = stop {
-        return Ok(stop);
-    }
+    let mut stop = shared.begin_burst(rt, scan, pages);
     for _ in rt.forever() {
-        let stop = shared.isolate_burst(rt, scan, pages);
         give_all(rt, shared, ends, giver, pages, division, gate)?;
         if let Some(stop) = stop {
             return Ok(stop);
         }
+        stop = shared.isolate_burst(rt, scan, pages);
     }
     unreachable!()
 }

@@ -1,16 +1,22 @@
-use Rattle.std.proofs.Common.{◌≡◌, ◌+◌, ◌<◌, ◌≤◌, []}
+use Rattle.std.proofs.Common.{◌≡◌, ◌+◌, ◌<◌, ◌≤◌, length, false, Some, IfSome, IfNone}
 use Rattle.std.specs.VecDeque.{deque_capacity}
-use Rattle.round_core.specs.Crews.{IsNext}
+use Rattle.word_core.specs.Serials.{HasSerialsFrom}
+use Rattle.round_core.specs.Rounds.{answer_at}
 use Rattle.round_core.specs.Scanning.{HasBegun}
 use Rattle.round_core.proofs.scanner.scan_all.Given as goal
 
 abbrev pub invariant-loop : goal.invariant-loop
 invariant-loop g l = record {
-  next : IsNext l.scan.count l.giver;
-  pages : (l.pages.items ≡ []) × (0 < deque_capacity l.pages);
+  open_still : l.giver.closed ≡ false;
+  -- the pages that are to be given next are the last that were isolated
+  serials : HasSerialsFrom (l.giver.base + length l.giver.given) l.pages.items;
+  count : l.scan.count ≡ l.giver.base + length l.giver.given + length l.pages.items;
+  places : 0 < deque_capacity l.pages;
   giver : l.giver ≡ record l.fn.giver { given = l.giver.given };
   rounds : l.scan.rounds ≡ l.fn.scan.rounds + 1;
   ends : (l.ends.parts ≡ l.fn.ends.parts) × (l.ends.moved ≡ l.fn.ends.moved) × (l.fn.ends.back ≤ l.ends.back);
   back : l.ends.back ≡ l.fn.ends.back;
-  goes_on : HasBegun g.K.Keeping.begins_at l.scan.count;
+  stopped : IfSome l.stop (λ stop. l.scan.last ≡ Some (answer_at stop));
+  stops : IfSome l.stop (λ stop. g.K.Keeping.stops_at l.scan.count stop);
+  goes_on : IfNone l.stop (HasBegun g.K.Keeping.begins_at l.scan.count);
 }
