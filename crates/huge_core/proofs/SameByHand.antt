@@ -8,8 +8,8 @@ use Rattle.outcome_core.proofs.Records.{isolated_same, isolated-without_ends}
 use Rattle.outcome_core.specs.Alone.{IsAtRest}
 use Rattle.outcome_core.specs.ByHand.{all_isolated, by_hand}
 use Rattle.outcome_core.specs.Outcome.{Outcome, IsSame}
-use Rattle.outcome_laws.proofs.Calls.{take_agrees, run_agrees, taken_agrees}
-use Rattle.outcome_laws.proofs.Rounds.{by_hand_agrees}
+use Rattle.outcome_core.proofs.Calls.{take_agrees, run_agrees, taken_agrees}
+use Rattle.outcome_core.proofs.Rounds.{by_hand_agrees}
 use Rattle.round_core.specs.Rounds.{stop_for, stop_by_hand}
 use Rattle.state_core.specs.declared.error.ZoneError.{ZoneError}
 use Rattle.state_core.specs.declared.error.ZoneError.TheVariants.{JournalFull as JournalIsFull, NoBlock as NoBlockIsFree}

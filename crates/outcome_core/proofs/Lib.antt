@@ -7,3 +7,8 @@ pub mod ByHand
 pub mod Alone
 pub mod Steps
 pub mod Packed
+pub mod Same
+pub mod Calls
+pub mod EachCall
+pub mod Rounds
+pub mod Moves

@@ -1,3 +1,4 @@
 pub mod ByHand
 pub mod Outcome
 pub mod Alone
+pub mod Fingers

@@ -1,4 +1,4 @@
-//! Each function has a law for its contract, and does nothing.
+//! Laws over a round and what it comes to.
 
 ghost use Rattle.std.specs.Prelude.{◌≡◌, ℕ, true, Some, None, []};
 ghost use Rattle.std.specs.FinMap as map;

@@ -17,11 +17,11 @@ use Rattle.state_core.specs.Rounds.{round_begun}
 use Rattle.state_core.specs.ZoneState.{ZoneState}
 use Rattle.outcome_core.specs.Outcome.{IsSame}
 use Rattle.outcome_core.proofs.Records.{isolated_same}
-use Rattle.outcome_laws.specs.Fingers.{IsSameInRound}
-use Rattle.outcome_laws.proofs.Calls.{look_agrees, info_agrees}
-use Rattle.outcome_laws.proofs.EachCall.{answers_agree, refusals_agree, same_after}
-use Rattle.outcome_laws.proofs.Moves.{LeavesFingers, begun_agrees, committed_agrees, committed_leaves, ended_agrees, isolate_agrees}
-use Rattle.outcome_laws.proofs.Moves.{next_agrees, page_of_agrees, pair_agrees, put_back_agrees, stays_in_round}
+use Rattle.outcome_core.specs.Fingers.{IsSameInRound}
+use Rattle.outcome_core.proofs.Calls.{look_agrees, info_agrees}
+use Rattle.outcome_core.proofs.EachCall.{answers_agree, refusals_agree, same_after}
+use Rattle.outcome_core.proofs.Moves.{LeavesFingers, begun_agrees, committed_agrees, committed_leaves, ended_agrees, isolate_agrees}
+use Rattle.outcome_core.proofs.Moves.{next_agrees, page_of_agrees, pair_agrees, put_back_agrees, stays_in_round}
 use Rattle.world_core.specs.declared.hand.Finished.{Finished}
 use Rattle.world_core.specs.declared.hand.Hand.{Hand}
 use Rattle.world_core.specs.declared.hand.Hand.TheVariants.{Empty, Page, Copy as CopyOf}

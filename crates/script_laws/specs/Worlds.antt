@@ -2,7 +2,7 @@
 use Rattle.std.specs.Prelude.{◌≡◌, true}
 use Rattle.world_core.specs.World.{WorldState}
 use Rattle.outcome_core.specs.Outcome.{IsSame}
-use Rattle.outcome_laws.specs.Fingers.{IsSameInRound}
+use Rattle.outcome_core.specs.Fingers.{IsSameInRound}
 
 -- the worlds are the same but for the order in which moves ended, and for the seats, of which no reply tells
 pub record IsSameWorld (v w : WorldState) : Type 0 where
