@@ -83,8 +83,8 @@ pub const CASES: [Case; 40] = [
     Case {
         name: "two pages in two hands",
         arguments: &[],
-        script: "zone 0 1\nmap 0 0 0\nmap 0 0 1\nscan 0\nscan 0\nscan 0\ntake 0 1\ntake 0 2\ntake 0 3\ncopy 0 2\nfinish 0 2\ncopy 0 1\nfinish 0 1\nshut 0\n",
-        replies: "ok\nok\nok\nserial=0\nserial=1\nmet\nserial=0\nserial=1\nrefused 45\nok\nmoved serial=1\nok\nmoved serial=0\nback=0\n",
+        script: "zone 0 1\nmap 0 0 0\nmap 0 0 1\nscan 0\nscan 0\nscan 0\ntake 0 1\ntake 0 2\ntake 0 3\ncopy 0 2\nfinish 0 2\ncopy 0 1\nfinish 0 1\ncopy 0 1\nshut 0\n",
+        replies: "ok\nok\nok\nserial=0\nserial=1\nmet\nserial=0\nserial=1\nrefused 45\nok\nmoved serial=1\nok\nmoved serial=0\nrefused 45\nback=0\n",
         faults: "",
         status: 0,
     },
@@ -339,12 +339,20 @@ pub const CASES: [Case; 40] = [
 ];
 
 /// Runs with clients beside rounds.
-pub const CLIENTS: [Case; 14] = [
+pub const CLIENTS: [Case; 15] = [
     Case {
         name: "a client stores and loads in a page that is moved",
         arguments: &[],
         script: "zone 0 1\nmap 0 0 0\nduring 0\nstore 0 0 0 3 5\nload 0 0 0 3\nstore 0 0 0 3 6\nload 0 0 0 3\nend\nlook 0 0 0\n",
         replies: "ok\nok\nok\nvalue=5\nok\nvalue=6\nisolated=1 moved=1 back=0 stopped=met\nframe=511 dirty=1 unmovable=0 pins=0 maps=1\n",
+        faults: "",
+        status: 0,
+    },
+    Case {
+        name: "a round beside a client takes no block",
+        arguments: &[],
+        script: "zone 0 2\nmap 0 0 0\nduring 0\nload 0 0 0 0\nend\ninfo 0\n",
+        replies: "ok\nok\nvalue=0\nisolated=1 moved=1 back=0 stopped=met\nfree=1023 pages=1 moving=0 huge=0 whole=1\n",
         faults: "",
         status: 0,
     },

@@ -3,8 +3,9 @@
 use super::cases::{CLIENTS, CUT_LINE, FIRST_PAGE};
 use super::fakes::{Full, Limited, Pieces};
 use super::{Outcome, Wanted, played, words_of};
-use script_core::{Sink, Text, program};
+use script_core::{Sink, Source, Text, program};
 use std::alloc::{AllocError, Global};
+use std::io::Read;
 use std::sync::Wait;
 use std::test::Fail;
 use std::thread::Threads;
@@ -23,6 +24,18 @@ fn reads_a_few_bytes_at_a_time(rt: HostRuntime) -> Result<(), Fail> {
         }
     }
     Ok(())
+}
+
+#[test]
+fn a_source_gives_what_its_reader_gives(rt: HostRuntime) {
+    let mut source = Source::new(Pieces {
+        rest: b"zone".as_slice(),
+        size: 4,
+        calls: usize::MAX,
+    });
+    let mut bytes = [0; 4];
+    assert!(rt; source.read(&mut bytes).ok() == Some(4));
+    assert!(rt; bytes == *b"zone");
 }
 
 #[test]

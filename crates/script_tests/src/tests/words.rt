@@ -1,7 +1,9 @@
 //! What the program makes of the words that it is started with.
 
 use super::cases::FIRST_PAGE;
-use super::played;
+use super::{played, words_of};
+use options_core::given_options;
+use script_core::Options;
 use std::test::Fail;
 
 #[test]
@@ -20,6 +22,28 @@ fn refuses_arguments(rt: HostRuntime) -> Result<(), Fail> {
         assert!(rt; found.replies.is_empty(), "{arguments:?}");
         assert!(rt; found.faults.starts_with(b"error: "), "{arguments:?}");
         assert_eq!(rt; found.status, 2, "{arguments:?}");
+    }
+    Ok(())
+}
+
+/// Arguments, and the copiers, the capacity and the places of the journal that they give.
+const GIVEN: [(&[&str], usize, usize, u32); 4] = [
+    (&[], 2, 8, 65536),
+    (&["--copiers", "3"], 3, 8, 65536),
+    (&["--capacity", "5"], 2, 5, 65536),
+    (&["--journal", "7"], 2, 8, 7),
+];
+
+#[test]
+fn reads_each_option_for_itself(rt: HostRuntime) -> Result<(), Fail> {
+    for (arguments, copiers, capacity, journal) in GIVEN.iter() {
+        let found = given_options(rt.alloc(), Ok(words_of(rt.alloc(), arguments)?));
+        let wanted = Options {
+            copiers: *copiers,
+            capacity: *capacity,
+            journal: *journal,
+        };
+        assert!(rt; found.ok() == Some(wanted));
     }
     Ok(())
 }
