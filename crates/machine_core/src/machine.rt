@@ -356,12 +356,14 @@ fn repeat<I: Ledger, N: Ledger, M: Ledger, B: Ledger>(
 {
     let client = script_client();
     match repeated {
-        Repeated::Map => world
-            .map(client, address, PageFlags::of(false, false))
-            .map_or_else(zone_refusal, |_| Reply::Done),
-        Repeated::Unmap => world
-            .unmap(client, address)
-            .map_or_else(zone_refusal, |()| Reply::Done),
+        Repeated::Map => match world.map(client, address, PageFlags::of(false, false)) {
+            Ok(_) => Reply::Done,
+            Err(error) => zone_refusal(error),
+        },
+        Repeated::Unmap => match world.unmap(client, address) {
+            Ok(()) => Reply::Done,
+            Err(error) => zone_refusal(error),
+        },
     }
 }
 
@@ -431,7 +433,10 @@ fn tell_done(outcome: Result<(), ZoneError>, reply: &mut Reply)
     ensures ok { OnOk outcome (reply.new ≡ Reply.Done) }
     ensures err { IfErr outcome (λ error. reply.new ≡ Reply.Refused (number_of error)) }
 {
-    *reply = outcome.map_or_else(zone_refusal, |()| Reply::Done);
+    *reply = match outcome {
+        Ok(()) => Reply::Done,
+        Err(error) => zone_refusal(error),
+    };
 }
 
 /// Writes the reply with what is known of a page, or a refusal.
@@ -439,7 +444,10 @@ fn tell_look(outcome: Result<Look, ZoneError>, reply: &mut Reply)
     ensures ok { IfOk outcome (λ look. reply.new ≡ Reply.Looked look) }
     ensures err { IfErr outcome (λ error. reply.new ≡ Reply.Refused (number_of error)) }
 {
-    *reply = outcome.map_or_else(zone_refusal, Reply::Looked);
+    *reply = match outcome {
+        Ok(look) => Reply::Looked(look),
+        Err(error) => zone_refusal(error),
+    };
 }
 
 /// Writes the reply with the pageblock that was handed out, or a refusal.
@@ -447,7 +455,10 @@ fn tell_block(outcome: Result<BlockNo, ZoneError>, reply: &mut Reply)
     ensures ok { IfOk outcome (λ block. reply.new ≡ Reply.Block block) }
     ensures err { IfErr outcome (λ error. reply.new ≡ Reply.Refused (number_of error)) }
 {
-    *reply = outcome.map_or_else(zone_refusal, Reply::Block);
+    *reply = match outcome {
+        Ok(block) => Reply::Block(block),
+        Err(error) => zone_refusal(error),
+    };
 }
 
 /// Writes the reply with what a scan found, or a refusal.
@@ -455,7 +466,10 @@ fn tell_scan(outcome: Result<Scanned, WorldError>, reply: &mut Reply)
     ensures ok { IfOk outcome (λ scanned. reply.new ≡ found scanned) }
     ensures err { IfErr outcome (λ error. reply.new ≡ Reply.Refused (world_number_of error)) }
 {
-    *reply = outcome.map_or_else(world_refusal, scan_reply);
+    *reply = match outcome {
+        Ok(scanned) => scan_reply(scanned),
+        Err(error) => world_refusal(error),
+    };
 }
 
 /// Writes the reply with the serial of the page that a hand took, or a refusal.
@@ -463,7 +477,10 @@ fn tell_serial(outcome: Result<Serial, WorldError>, reply: &mut Reply)
     ensures ok { IfOk outcome (λ serial. reply.new ≡ Reply.Serial serial) }
     ensures err { IfErr outcome (λ error. reply.new ≡ Reply.Refused (world_number_of error)) }
 {
-    *reply = outcome.map_or_else(world_refusal, Reply::Serial);
+    *reply = match outcome {
+        Ok(serial) => Reply::Serial(serial),
+        Err(error) => world_refusal(error),
+    };
 }
 
 /// Writes the reply that a hand copied its page, or a refusal.
@@ -471,7 +488,10 @@ fn tell_copy(outcome: Result<(), WorldError>, reply: &mut Reply)
     ensures ok { OnOk outcome (reply.new ≡ Reply.Done) }
     ensures err { IfErr outcome (λ error. reply.new ≡ Reply.Refused (world_number_of error)) }
 {
-    *reply = outcome.map_or_else(world_refusal, |()| Reply::Done);
+    *reply = match outcome {
+        Ok(()) => Reply::Done,
+        Err(refused) => world_refusal(refused),
+    };
 }
 
 /// Writes the reply with how a move ended, or a refusal.
@@ -479,7 +499,10 @@ fn tell_end(outcome: Result<Finished, WorldError>, reply: &mut Reply)
     ensures ok { IfOk outcome (λ finished. reply.new ≡ ending finished.serial finished.ended) }
     ensures err { IfErr outcome (λ error. reply.new ≡ Reply.Refused (world_number_of error)) }
 {
-    *reply = outcome.map_or_else(world_refusal, end_reply);
+    *reply = match outcome {
+        Ok(finished) => end_reply(finished),
+        Err(error) => world_refusal(error),
+    };
 }
 
 /// Writes the reply with how many pages were put back, or a refusal.
@@ -487,7 +510,10 @@ fn tell_shut(outcome: Result<u32, WorldError>, reply: &mut Reply)
     ensures ok { IfOk outcome (λ count. reply.new ≡ Reply.Shut count) }
     ensures err { IfErr outcome (λ error. reply.new ≡ Reply.Refused (world_number_of error)) }
 {
-    *reply = outcome.map_or_else(world_refusal, Reply::Shut);
+    *reply = match outcome {
+        Ok(count) => Reply::Shut(count),
+        Err(error) => world_refusal(error),
+    };
 }
 
 /// The reply for a refusal of the zone.

@@ -42,13 +42,13 @@ use Rattle.machine_core.specs.Machine.{Answered, Step, answered, calls_step, com
 use Rattle.machine_core.specs.OneThread.{IsStep, is_at_rest}
 use Rattle.play_core.specs.Script.{Answer, Numbered}
 use Rattle.client_core.specs.Receipts.{Client}
-use Rattle.script_laws.specs.ByHand.{count_by_hand, pool_by_hand, pool_stopped_as, reservation_reply, round_by_hand, step_by_hand, stopped_as, work_by_hand}
-use Rattle.script_laws.specs.Worlds.{IsSameWorld}
-use Rattle.script_laws.proofs.ByHand.{closed_orderly, closed_rests}
-use Rattle.script_laws.proofs.CommandsInRange.{AreInRange}
-use Rattle.script_laws.proofs.RoundsByHand.{reserved_rests}
-use Rattle.script_laws.proofs.Runs.{keeps_calls, opened_orderly}
-use Rattle.script_laws.proofs.Worlds.{calls_alike}
+use Rattle.script_core.specs.MachineByHand.{count_by_hand, pool_by_hand, pool_stopped_as, reservation_reply, round_by_hand, step_by_hand, stopped_as, work_by_hand}
+use Rattle.script_core.specs.Worlds.{IsSameWorld}
+use Rattle.script_core.proofs.MachineByHand.{closed_orderly, closed_rests}
+use Rattle.script_core.proofs.CommandsInRange.{AreInRange}
+use Rattle.script_core.proofs.RoundsByHand.{reserved_rests}
+use Rattle.script_core.proofs.Runs.{keeps_calls, opened_orderly}
+use Rattle.script_core.proofs.Worlds.{calls_alike}
 use Rattle.script_core.specs.ByHand.{Followed, To, NoLonger, IsNoBlock, IsByHandStep, IsReplyByHand, IsUnbegun, HasFailed, OpensByHand}
 use Rattle.script_core.specs.WithThreads.{AsksMemory, ComesToByHand, IsBlockFor, IsDoneByHand, IsPoolOn, IsRoundOn, IsStepAt, IsStepBy, IsThreadedStep, IsWorkStep, Settles, WithThreads, is_threaded, left_by, round_reply, threaded_at_first, told_of}
 use Rattle.script_core.proofs.Pools.{whole_behind}

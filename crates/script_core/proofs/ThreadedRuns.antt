@@ -22,7 +22,7 @@ use Rattle.script_core.specs.WithThreads.{AsksMemory, IsBlockFor, IsUnthreaded, 
 use Rattle.script_core.specs.ByHand.{IsAloneScript, IsByHandStep, OpensByHand, To}
 use Rattle.script_core.proofs.Following.{Follows, IsFollowable, all_followable, asks_follows, first_follows, step_follows}
 use Rattle.script_core.proofs.RunsAs.{Goes, answered_as, ends_as, total_as}
-use Rattle.script_laws.proofs.CommandsInRange.{commands_ranged}
+use Rattle.script_core.proofs.CommandsInRange.{commands_ranged}
 use Rattle.machine_core.proofs.SingleRuns.{single_ends, single_output, single_totals}
 use Rattle.play_core.proofs.Variants.{known_weaker}
 

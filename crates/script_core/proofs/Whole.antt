@@ -10,7 +10,7 @@ use Rattle.text_core.specs.declared.reply.Reply.{Reply}
 use Rattle.text_core.specs.declared.reply.Reply.TheVariants as reply
 use Rattle.play_core.specs.Runs.{Replied}
 use Rattle.play_core.specs.Script.{Answer, Numbered}
-use Rattle.script_laws.specs.ByHand.{answers_by_hand_from, step_by_hand}
+use Rattle.script_core.specs.MachineByHand.{answers_by_hand_from, step_by_hand}
 use Rattle.script_core.specs.ByHand.{Followed, To, IsByHandStep, IsUnbegun, HasFailed, NoneRefused, tells_refusal}
 
 -- a round that wasn't begun tells its refusal

@@ -11,7 +11,7 @@ use Rattle.text_core.specs.declared.reply.Reply.TheVariants as reply
 use Rattle.machine_core.specs.Machine.{opens}
 use Rattle.play_core.specs.Runs.{Asking, Rule}
 use Rattle.play_core.specs.Script.{Answer, Numbered, commands_of}
-use Rattle.script_laws.specs.ByHand.{step_by_hand}
+use Rattle.script_core.specs.MachineByHand.{step_by_hand}
 
 -- how far a machine with threads is followed by the machine by hand: to the world of that one, or no longer
 pub data Followed : Type 0 where

@@ -3,3 +3,8 @@ pub mod Clients
 pub mod WithThreads
 pub mod Status
 pub mod Stops
+pub mod MachineByHand
+pub mod Counts
+pub mod Profile2
+pub mod Values
+pub mod Worlds

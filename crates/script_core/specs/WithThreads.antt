@@ -33,7 +33,7 @@ use Rattle.text_core.specs.Grammar.{zone_of}
 use Rattle.client_core.specs.Receipts.{IsToldBeside, Agrees, Client}
 use Rattle.client_core.specs.Settling.{HasKeptJournal}
 use Rattle.script_core.specs.Clients.{AreClientAnswers}
-use Rattle.script_laws.specs.ByHand.{count_by_hand, pool_stopped_as, stopped_as}
+use Rattle.script_core.specs.MachineByHand.{count_by_hand, pool_stopped_as, stopped_as}
 use Rattle.play_core.specs.Script.{Answer, ClientLine, Numbered, commands_of}
 use Rattle.machine_core.specs.OneThread.{IsStep, Opens, OneThread, is_at_rest, number_is_at_rest, single_at_first}
 

@@ -8,7 +8,7 @@ ghost use Rattle.zone_core.specs.ZoneIdentity.{HasIdentity};
 ghost use Rattle.machine_core.specs.Refusals.{number_of};
 ghost use Rattle.play_core.specs.Script.{command_in_block};
 ghost use Rattle.script_core.specs.WithThreads.{ComesToByHand, IsBlockFor, IsNothingRun, IsPoolOn, IsRoundBeside, IsRoundOn, IsSettledReply, IsStepBy, IsThreadedStep, IsTurnBeside, IsUnstarted, broken_refusal, broken_reply, is_threaded, left_by, pool_reply, round_reply, threaded_at_first, told_of};
-ghost use Rattle.script_laws.specs.ByHand.{pool_stopped_as, stopped_as};
+ghost use Rattle.script_core.specs.MachineByHand.{pool_stopped_as, stopped_as};
 
 use crate::alone::BaseMachine;
 use crate::beside::{ClientAndRound, ClientTurn, compact_beside};

@@ -15,7 +15,7 @@ use Rattle.text_core.specs.declared.command.Call.TheVariants as call
 use Rattle.text_core.specs.declared.command.Calls.TheVariants.{Zone as OfZone, One}
 use Rattle.text_core.specs.declared.command.Series.{Series}
 use Rattle.text_core.specs.declared.command.Command.{Command}
-use Rattle.text_core.specs.declared.command.Command.TheVariants.{Open, On, Pool as PoolOn, Profile2, During as RoundBeside}
+use Rattle.text_core.specs.declared.command.Command.TheVariants.{Open, On, Pool as PoolOn, Profile2}
 use Rattle.text_core.specs.declared.pool.PoolBlocks.{PoolBlocks}
 use Rattle.text_core.specs.declared.pool.PoolBlocks.TheVariants.{Pageblocks, OfOrder}
 use Rattle.text_core.specs.declared.error.ScriptError.{ScriptError}

@@ -5,7 +5,7 @@ use std::marker::Model;
 const BLOCKS: u32 = 8;
 
 /// A number of blocks, 1 to 8: of a zone's pageblocks, or of the blocks that a pool is asked for.
-#[derive(Clone, Copy, Debug, PartialEq, Eq, PartialOrd, Ord, Hash)]
+#[derive(Clone, Copy, Debug)]
 pub struct BlockCount {
     count: u8,
 }

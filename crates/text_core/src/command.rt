@@ -5,7 +5,7 @@ use frame_core::{Address, BlockNo, HandNo, SpaceNo, ZoneNo};
 use state_core::{ClientCall, ZoneCall};
 
 /// A command of a script.
-#[derive(Clone, Copy, Debug, PartialEq, Eq)]
+#[derive(Clone, Copy, Debug)]
 pub enum Command {
     /// Opens a zone with this many pageblocks.
     Open {
@@ -38,7 +38,7 @@ pub enum Command {
 }
 
 /// The calls of one command.
-#[derive(Clone, Copy, Debug, PartialEq, Eq)]
+#[derive(Clone, Copy, Debug)]
 pub enum Calls {
     /// A call that the zone answers by itself.
     Zone(ZoneCall),
@@ -49,7 +49,7 @@ pub enum Calls {
 
 /// The same call for `count` pages of a space, the first one at `first`, and each `step` pages after the one before.
 /// `first` and `step` may be any numbers, so a page may lie outside the space.
-#[derive(Clone, Copy, Debug, PartialEq, Eq)]
+#[derive(Clone, Copy, Debug)]
 pub struct Series {
     pub call: Repeated,
     pub space: SpaceNo,
@@ -67,7 +67,7 @@ pub enum Repeated {
 }
 
 /// A call on a zone that isn't a `ZoneCall`.
-#[derive(Clone, Copy, Debug, PartialEq, Eq)]
+#[derive(Clone, Copy, Debug)]
 pub enum Call {
     Info,
     /// As `Info`, with the number of frames that are handed out.
@@ -85,7 +85,7 @@ pub enum Call {
 }
 
 /// What a line of a block says.
-#[derive(Clone, Copy, Debug, PartialEq, Eq)]
+#[derive(Clone, Copy, Debug)]
 pub enum BlockLine {
     /// A call of the client, or none where an argument is out of its range.
     Client(Option<ClientCall>),

@@ -5,7 +5,7 @@ use std::marker::Model;
 const PAGES: u32 = 4096;
 
 /// The number of pages that a series of calls is for, 0 to 4096.
-#[derive(Clone, Copy, Debug, PartialEq, Eq, PartialOrd, Ord, Hash)]
+#[derive(Clone, Copy, Debug)]
 pub struct PageCount {
     count: u16,
 }

@@ -4,7 +4,7 @@ ghost use Rattle.text_core.specs.Pool.{pool_order, told_as};
 use frame_core::{FrameNo, Order, block_of};
 
 /// Which blocks a pool reserves, and how its reply names them.
-#[derive(Clone, Copy, Debug, PartialEq, Eq)]
+#[derive(Clone, Copy, Debug)]
 pub enum PoolBlocks {
     /// Pageblocks, named by their numbers.
     Pageblocks,
@@ -35,7 +35,7 @@ impl PoolBlocks {
 }
 
 /// Why a pool stopped.
-#[derive(Clone, Copy, Debug, PartialEq, Eq)]
+#[derive(Clone, Copy, Debug)]
 pub enum PoolStopped {
     /// It has as many blocks as it was asked for.
     Enough,

@@ -4,7 +4,7 @@ ghost use Rattle.text_core.specs.Profile.{profile_told};
 use crate::command::Command;
 
 /// By which profile a script is read. Its first line that isn't skipped decides.
-#[derive(Clone, Copy, Debug, PartialEq, Eq)]
+#[derive(Clone, Copy, Debug)]
 pub enum Profile {
     /// No line has decided yet.
     Untold,

@@ -1,6 +1,6 @@
-ghost use Rattle.std.specs.Prelude.{◌≡◌, ◌+◌, ◌*◌, ◌≤◌, ◌++◌, length, decimal, IfNone, IfSome};
+ghost use Rattle.std.specs.Prelude.{◌≡◌, ◌+◌, ◌*◌, ◌≤◌, ◌++◌, length, decimal, IfSome};
 ghost use Rattle.arrayvec.specs.ArrayString.{array_string_len};
-ghost use Rattle.text_core.specs.Reply.{IsOneLine, behind_commas, counts_text, look_text, newlines, numbers_text, pool_name, pool_stopped_text, pool_text, round_text, text_of, uses_text};
+ghost use Rattle.text_core.specs.Reply.{IsOneLine, behind_commas, counts_text, look_text, numbers_text, pool_name, pool_stopped_text, pool_text, round_text, stopped_text, text_of, uses_text};
 
 use crate::pool::{PoolBlocks, PoolStopped};
 use arrayvec::{ArrayString, ArrayVec};
@@ -10,7 +10,7 @@ use itoa::Buffer;
 use state_core::{Info, Look};
 
 /// The reply to a command.
-#[derive(Debug, Drop, PartialEq, Eq)]
+#[derive(Debug, Drop)]
 pub enum Reply {
     Done,
     /// The value of a word.
@@ -62,7 +62,7 @@ pub enum Reply {
 }
 
 /// Why a round stopped.
-#[derive(Clone, Copy, Debug, PartialEq, Eq)]
+#[derive(Clone, Copy, Debug)]
 pub enum Stopped {
     /// The scanners met: no page may be taken that has a frame to go to.
     Met,
@@ -134,7 +134,6 @@ pub fn push_reply<const N: usize>(text: &mut ArrayString<N>, reply: &Reply)
 fn push_counts<const N: usize>(text: &mut ArrayString<N>, info: Info)
     requires { array_string_len text.old + 133 ≤ N }
     ensures text { text.new.bytes ≡ text.old.bytes ++ counts_text info }
-    ensures lines { newlines text.new.bytes ≡ newlines text.old.bytes }
     ensures len { array_string_len text.new ≤ array_string_len text.old + 133 }
 {
     push_field(text, "free=", u64::from(info.free));
@@ -149,7 +148,6 @@ fn push_counts<const N: usize>(text: &mut ArrayString<N>, info: Info)
 fn push_look<const N: usize>(text: &mut ArrayString<N>, look: Look)
     requires { array_string_len text.old + 136 ≤ N }
     ensures text { text.new.bytes ≡ text.old.bytes ++ look_text look }
-    ensures lines { newlines text.new.bytes ≡ newlines text.old.bytes }
     ensures len { array_string_len text.new ≤ array_string_len text.old + 136 }
 {
     match look {
@@ -179,7 +177,6 @@ fn push_look<const N: usize>(text: &mut ArrayString<N>, look: Look)
 fn push_uses<const N: usize>(text: &mut ArrayString<N>, pins: u8, maps: u8)
     requires { array_string_len text.old + 52 ≤ N }
     ensures text { text.new.bytes ≡ text.old.bytes ++ uses_text pins maps }
-    ensures lines { newlines text.new.bytes ≡ newlines text.old.bytes }
     ensures len { array_string_len text.new ≤ array_string_len text.old + 52 }
 {
     push_field(text, " pins=", u64::from(pins));
@@ -196,15 +193,22 @@ fn push_round<const N: usize>(
 )
     requires { array_string_len text.old + 102 ≤ N }
     ensures text { text.new.bytes ≡ text.old.bytes ++ round_text isolated moved back stopped }
-    ensures lines { newlines text.new.bytes ≡ newlines text.old.bytes }
     ensures len { array_string_len text.new ≤ array_string_len text.old + 102 }
 {
     push_field(text, "isolated=", u64::from(isolated));
     push_field(text, " moved=", u64::from(moved));
     push_field(text, " back=", u64::from(back));
+    text.push_str(stopped_word(stopped));
+}
+
+/// Why a round stopped, as its reply tells it.
+fn stopped_word(stopped: Stopped) -> &'static str
+    ensures text { result.now ≡ stopped_text stopped }
+    ensures len { length result.now ≤ 20 }
+{
     match stopped {
-        Stopped::Met => push_word(text, " stopped=met"),
-        Stopped::JournalFull => push_word(text, " stopped=journalfull"),
+        Stopped::Met => " stopped=met",
+        Stopped::JournalFull => " stopped=journalfull",
     }
 }
 
@@ -219,7 +223,6 @@ fn push_pool<const N: usize>(
     requires few { length got.now ≤ 8 }
     requires room { array_string_len text.old + 137 ≤ N }
     ensures text { text.new.bytes ≡ text.old.bytes ++ pool_text blocks got.now rounds stopped }
-    ensures lines { newlines text.new.bytes ≡ newlines text.old.bytes }
     ensures len { array_string_len text.new ≤ array_string_len text.old + 137 }
 {
     push_field(text, "got=", got.len() as u64);
@@ -233,14 +236,13 @@ fn push_pool<const N: usize>(
 fn push_pool_stopped<const N: usize>(text: &mut ArrayString<N>, stopped: PoolStopped)
     requires { array_string_len text.old + 29 ≤ N }
     ensures text { text.new.bytes ≡ text.old.bytes ++ pool_stopped_text stopped }
-    ensures lines { newlines text.new.bytes ≡ newlines text.old.bytes }
     ensures len { array_string_len text.new ≤ array_string_len text.old + 29 }
 {
     match stopped {
-        PoolStopped::Enough => push_word(text, " stopped=enough"),
-        PoolStopped::NoBlock => push_word(text, " stopped=noblock"),
-        PoolStopped::Rounds => push_word(text, " stopped=rounds"),
-        PoolStopped::JournalFull => push_word(text, " stopped=journalfull"),
+        PoolStopped::Enough => text.push_str(" stopped=enough"),
+        PoolStopped::NoBlock => text.push_str(" stopped=noblock"),
+        PoolStopped::Rounds => text.push_str(" stopped=rounds"),
+        PoolStopped::JournalFull => text.push_str(" stopped=journalfull"),
         PoolStopped::Refused(number) => push_field(text, " stopped=", u64::from(number)),
     }
 }
@@ -249,12 +251,11 @@ fn push_pool_stopped<const N: usize>(text: &mut ArrayString<N>, stopped: PoolSto
 fn push_pool_name<const N: usize>(text: &mut ArrayString<N>, blocks: PoolBlocks)
     requires { array_string_len text.old + 8 ≤ N }
     ensures text { text.new.bytes ≡ text.old.bytes ++ pool_name blocks }
-    ensures lines { newlines text.new.bytes ≡ newlines text.old.bytes }
     ensures len { array_string_len text.new ≡ array_string_len text.old + 8 }
 {
     match blocks {
-        PoolBlocks::Pageblocks => push_word(text, " blocks="),
-        PoolBlocks::OfOrder(_) => push_word(text, " frames="),
+        PoolBlocks::Pageblocks => text.push_str(" blocks="),
+        PoolBlocks::OfOrder(_) => text.push_str(" frames="),
     }
 }
 
@@ -263,11 +264,10 @@ fn push_numbers<const N: usize>(text: &mut ArrayString<N>, numbers: &[u16])
     requires few { length numbers.now ≤ 8 }
     requires room { array_string_len text.old + 48 ≤ N }
     ensures text { text.new.bytes ≡ text.old.bytes ++ numbers_text numbers.now }
-    ensures lines { newlines text.new.bytes ≡ newlines text.old.bytes }
     ensures len { array_string_len text.new ≤ array_string_len text.old + 48 }
 {
     let [first, more @ ..] = numbers else {
-        push_word(text, "-");
+        text.push_str("-");
         return;
     };
     push_short(text, *first);
@@ -278,11 +278,10 @@ fn push_numbers<const N: usize>(text: &mut ArrayString<N>, numbers: &[u16])
 fn push_behind_commas<const N: usize>(text: &mut ArrayString<N>, numbers: &[u16])
     requires { array_string_len text.old + 6 * length numbers.now ≤ N }
     ensures text { text.new.bytes ≡ text.old.bytes ++ behind_commas numbers.now }
-    ensures lines { newlines text.new.bytes ≡ newlines text.old.bytes }
     ensures len { array_string_len text.new ≤ array_string_len text.old + 6 * length numbers.now }
 {
     for number in numbers {
-        push_word(text, ",");
+        text.push_str(",");
         push_short(text, *number);
     }
 }
@@ -291,7 +290,6 @@ fn push_behind_commas<const N: usize>(text: &mut ArrayString<N>, numbers: &[u16]
 fn push_short<const N: usize>(text: &mut ArrayString<N>, number: u16)
     requires { array_string_len text.old + 5 ≤ N }
     ensures text { text.new.bytes ≡ text.old.bytes ++ decimal number }
-    ensures lines { newlines text.new.bytes ≡ newlines text.old.bytes }
     ensures len { array_string_len text.new ≤ array_string_len text.old + 5 }
 {
     text.push_str(Buffer::new().format(number));
@@ -302,7 +300,6 @@ fn push_short<const N: usize>(text: &mut ArrayString<N>, number: u16)
 fn push_field<const N: usize>(text: &mut ArrayString<N>, name: &str, number: u64)
     requires { array_string_len text.old + length name.now + 20 ≤ N }
     ensures text { text.new.bytes ≡ text.old.bytes ++ name.now ++ decimal number }
-    ensures lines { newlines text.new.bytes ≡ newlines text.old.bytes + newlines name.now }
     ensures len { array_string_len text.new ≤ array_string_len text.old + length name.now + 20 }
 {
     text.push_str(name);
@@ -314,7 +311,6 @@ fn push_field<const N: usize>(text: &mut ArrayString<N>, name: &str, number: u64
 fn push_number<const N: usize>(text: &mut ArrayString<N>, number: u64)
     requires { array_string_len text.old + 20 ≤ N }
     ensures text { text.new.bytes ≡ text.old.bytes ++ decimal number }
-    ensures lines { newlines text.new.bytes ≡ newlines text.old.bytes }
     ensures len { array_string_len text.new ≤ array_string_len text.old + 20 }
 {
     match digit(number) {
@@ -329,7 +325,6 @@ fn push_number<const N: usize>(text: &mut ArrayString<N>, number: u64)
 fn digit(number: u64) -> Option<&'static str>
     ensures below { IfSome result (λ digit. digit.now ≡ decimal number) }
     ensures one { IfSome result (λ digit. length digit.now ≡ 1) }
-    ensures none { IfNone result (10 ≤ number) }
 {
     match number {
         0 => Some("0"),
@@ -350,19 +345,8 @@ fn digit(number: u64) -> Option<&'static str>
 fn push_digits<const N: usize>(text: &mut ArrayString<N>, number: u64)
     requires { array_string_len text.old + 20 ≤ N }
     ensures text { text.new.bytes ≡ text.old.bytes ++ decimal number }
-    ensures lines { newlines text.new.bytes ≡ newlines text.old.bytes }
     ensures len { array_string_len text.new ≤ array_string_len text.old + 20 }
 {
     let mut digits = Buffer::new();
     text.push_str(digits.format(number));
-}
-
-/// Appends a word.
-fn push_word<const N: usize>(text: &mut ArrayString<N>, word: &str)
-    requires { array_string_len text.old + length word.now ≤ N }
-    ensures text { text.new.bytes ≡ text.old.bytes ++ word.now }
-    ensures lines { newlines text.new.bytes ≡ newlines text.old.bytes + newlines word.now }
-    ensures len { array_string_len text.new ≡ array_string_len text.old + length word.now }
-{
-    text.push_str(word);
 }

@@ -1,4 +1,4 @@
-ghost use Rattle.std.specs.Prelude.{◌≡◌, ℕ, ◌<◌, ◌≤◌, ◌↔◌, bytes_eq, nat_eq, false, codes, IfNone, IfSome, IsFalse, IsTrue, length, List, position, [], ◌∷◌, ◌+◌, ◌++◌, MatchOption, None, Some};
+ghost use Rattle.std.specs.Prelude.{◌≡◌, ◌≢◌, ℕ, ◌<◌, ◌≤◌, ◌↔◌, bytes_eq, nat_eq, false, codes, IfNone, IfSome, IsFalse, IsTrue, length, List, position, [], ◌∷◌, ◌+◌, ◌++◌, MatchOption, None, Some};
 ghost use Rattle.std.specs.Char.{is_ascii_digit};
 ghost use Rattle.text_core.specs.Arguments.{number_first};
 ghost use Rattle.text_core.specs.declared.token.Token.TheVariants.{Number};
@@ -6,7 +6,7 @@ ghost use Rattle.std.specs.List.{starts_with};
 ghost use Rattle.text_core.specs.Token.{behind_word, first_word, keyword_of, lexemes, number_of, token_of, tokens};
 
 /// What a word of a line means: a number, a keyword, or nothing of the language.
-#[derive(Clone, Copy, Debug, Default, PartialEq, Eq)]
+#[derive(Clone, Copy)]
 pub(crate) enum Token {
     Number(u64),
     Zone,
@@ -37,7 +37,6 @@ pub(crate) enum Token {
     During,
     End,
     /// Anything else.
-    #[default]
     Other,
 }
 
@@ -58,34 +57,81 @@ impl Token {
 fn keyword(bytes: &[u8]) -> Token
     ensures { result ≡ keyword_of bytes.now }
 {
+    match bytes.len() {
+        3 => word_of_three(bytes),
+        4 => word_of_four(bytes),
+        5 => word_of_five(bytes),
+        _ => long_word(bytes),
+    }
+}
+
+/// The keyword that three bytes are.
+#[inline(always)]
+fn word_of_three(bytes: &[u8]) -> Token
+    requires { length bytes.now ≡ 3 }
+    ensures { result ≡ keyword_of bytes.now }
+{
+    match bytes {
+        b"map" => Token::Map,
+        b"pin" => Token::Pin,
+        b"end" => Token::End,
+        _ => Token::Other,
+    }
+}
+
+/// The keyword that four bytes are.
+#[inline(always)]
+fn word_of_four(bytes: &[u8]) -> Token
+    requires { length bytes.now ≡ 4 }
+    ensures { result ≡ keyword_of bytes.now }
+{
     match bytes {
         b"zone" => Token::Zone,
-        b"map" => Token::Map,
-        b"mapat" => Token::MapAt,
-        b"store" => Token::Store,
         b"load" => Token::Load,
         b"info" => Token::Info,
-        b"unmovable" => Token::Unmovable,
         b"scan" => Token::Scan,
         b"take" => Token::Take,
         b"copy" => Token::Copy,
-        b"finish" => Token::Finish,
         b"shut" => Token::Shut,
         b"look" => Token::Look,
-        b"share" => Token::Share,
-        b"unmap" => Token::Unmap,
-        b"pin" => Token::Pin,
-        b"unpin" => Token::Unpin,
         b"huge" => Token::Huge,
         b"give" => Token::Give,
         b"fill" => Token::Fill,
         b"thin" => Token::Thin,
         b"mark" => Token::Mark,
-        b"unmark" => Token::Unmark,
-        b"compact" => Token::Compact,
         b"pool" => Token::Pool,
+        _ => Token::Other,
+    }
+}
+
+/// The keyword that five bytes are.
+#[inline(always)]
+fn word_of_five(bytes: &[u8]) -> Token
+    requires { length bytes.now ≡ 5 }
+    ensures { result ≡ keyword_of bytes.now }
+{
+    match bytes {
+        b"mapat" => Token::MapAt,
+        b"store" => Token::Store,
+        b"share" => Token::Share,
+        b"unmap" => Token::Unmap,
+        b"unpin" => Token::Unpin,
+        _ => Token::Other,
+    }
+}
+
+/// The keyword that fewer than three bytes or more than five are.
+#[inline(always)]
+fn long_word(bytes: &[u8]) -> Token
+    requires { (length bytes.now ≢ 3) × (length bytes.now ≢ 4) × (length bytes.now ≢ 5) }
+    ensures { result ≡ keyword_of bytes.now }
+{
+    match bytes {
+        b"finish" => Token::Finish,
+        b"unmark" => Token::Unmark,
         b"during" => Token::During,
-        b"end" => Token::End,
+        b"compact" => Token::Compact,
+        b"unmovable" => Token::Unmovable,
         _ => Token::Other,
     }
 }

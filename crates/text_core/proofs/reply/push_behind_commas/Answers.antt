@@ -1,4 +1,4 @@
-use Rattle.std.proofs.Common.{◌≡◌, ◌∙◌, ◌++◌, List, ℕ, take, get_or, refl, sym, ap, append_assoc, append-nil, decimal, arith}
+use Rattle.std.proofs.Common.{◌≡◌, ◌∙◌, ◌++◌, List, ℕ, take, get_or, sym, ap, append_assoc, append-nil, decimal, arith}
 use Rattle.std.specs.Prelude.{codes}
 use Rattle.std.proofs.lemmas.List.{take_all}
 use Rattle.text_core.specs.Reply.{behind_commas}
@@ -8,7 +8,6 @@ use Rattle.text_core.proofs.reply.push_behind_commas.Goals as goal
 pub loop-number-init : goal.loop-number-init
 loop-number-init g c = record {
   text = sym (append-nil c.args.text.now.bytes);
-  lines = refl;
   len = omega arith;
 }
 
@@ -20,13 +19,12 @@ loop-number-preserved g c =
     let so_far : List ℕ = behind_commas (take l.number-index numbers) in
     let more : List ℕ = codes "," ++ decimal (get_or numbers l.number-index 0) in
     let told : c.push_short.new.text.bytes ≡ l.text.bytes ++ more =
-    c.push_short.ensures.text ∙ ap (λ (r : List ℕ). r ++ decimal (get_or numbers l.number-index 0)) c.push_word.ensures.text
+    c.push_short.ensures.text ∙ ap (λ (r : List ℕ). r ++ decimal (get_or numbers l.number-index 0)) c.push_str.ensures.bytes
     ∙ append_assoc l.text.bytes (codes ",") (decimal (get_or numbers l.number-index 0)) in
     record {
       text = told ∙ ap (λ (r : List ℕ). r ++ more) l.invariant.text ∙ append_assoc old so_far more
           ∙ ap (λ (r : List ℕ). old ++ r) (sym (behind_commas-next numbers l.number-index c.loop-number-test.true));
-      lines = omega (arith, c.push_short.ensures.lines, c.push_word.ensures.lines, l.invariant.lines);
-      len = omega (arith, c.push_short.ensures.len, c.push_word.ensures.len, l.invariant.len);
+      len = omega (arith, c.push_short.ensures.len, c.push_str.ensures.len, l.invariant.len);
     }
 
 pub returns-clause-text : goal.returns-clause-text

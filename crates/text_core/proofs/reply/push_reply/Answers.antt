@@ -1,9 +1,8 @@
-use Rattle.std.proofs.Common.{◌≡◌, ◌∙◌, ◌≤◌, ◌++◌, ◌∷◌, [], List, ℕ, length, length-append, append_assoc, append-nil, refl, subst, sym, ap, decimal, arith}
+use Rattle.std.proofs.Common.{◌≡◌, ◌∙◌, ◌++◌, [], List, ℕ, append_assoc, append-nil, sym, ap, decimal, arith}
 use Rattle.std.proofs.lemmas.Grind.{common_steps}
 use Rattle.std.specs.Prelude.{codes}
-use Rattle.text_core.specs.Reply.{IsOneLine, counts_text, newlines, pool_text, round_text, text_of}
-use Rattle.text_core.specs.declared.reply.Reply.{Reply}
-use Rattle.text_core.proofs.Newlines.{newlines-append, one_line_behind, text_of-some}
+use Rattle.text_core.specs.Reply.{counts_text, pool_text, round_text, text_of}
+use Rattle.text_core.proofs.Newlines.{text_lines}
 use Rattle.text_core.proofs.reply.push_reply.Goals as goal
 use Rattle.text_core.proofs.reply.push_reply.Goals.{in-Value, in-Info, in-InfoWithHeld, in-Serial, in-Met, in-Moved, in-PutBack, in-Shut, in-Looked, in-Block, in-HandedOut, in-AllDone, in-DoneUntil, in-Round, in-Pool, in-Refused}
 
@@ -17,10 +16,6 @@ field_more old text before after name n m so_far more same =
 one_field : (old after name rest : List ℕ) (n m : ℕ) → after ≡ old ++ name ++ decimal n → n ≡ m → after ++ rest ≡ old ++ (name ++ decimal m ++ rest)
 one_field old after name rest n m more same =
     ap (λ (r : List ℕ). r ++ rest) (field_more old [] old after name n m (sym (append-nil old)) more same) ∙ append_assoc old (name ++ decimal m) rest
-
--- `ok` is one line
-pub returns-in-Done-clause-line : goal.returns-in-Done-clause-line
-returns-in-Done-clause-line g c = subst (λ (r : Reply). IsOneLine (text_of r)) (sym c.in-Done.is) (record { body = codes "ok"; ends = refl; one = refl })
 
 pub returns-clause-text : goal.returns-clause-text
 returns-clause-text g c =
@@ -72,29 +67,8 @@ returns-clause-text g c =
       | in-Refused w ↦ let t0 = w.push_field-in-Refused.ensures.text in let is = w.text-is in grind (arith, common_steps, all, is, t0)
     ]
 
+pub returns-in-Done-clause-line : goal.returns-in-Done-clause-line
+returns-in-Done-clause-line g c = text_lines c.args.reply.now
+
 pub returns-clause-line : goal.returns-clause-line
-returns-clause-line g c =
-    let old = c.args.text.now.bytes in
-    let mid = c.match-reply.text.bytes in
-    let text = text_of c.args.reply.now in
-    let all : old ++ text ≡ mid ++ 10 ∷ [] = sym (returns-clause-text g c) ∙ c.push_str-2.ensures.bytes in
-    let longer : length old ≤ length mid = omega (arith, ap length all, length-append old text, length-append mid (10 ∷ []), text_of-some c.args.reply.now) in
-    let same : newlines mid ≡ newlines old = elim c.match-reply.branch [
-      | in-Value w ↦ omega (arith, w.push_field.ensures.lines, ap (λ t. newlines t.bytes) w.text-is)
-      | in-Info w ↦ omega (arith, w.push_counts.ensures.lines, ap (λ t. newlines t.bytes) w.text-is)
-      | in-InfoWithHeld w ↦ omega (arith, w.push_counts-in-InfoWithHeld.ensures.lines, w.push_field-in-InfoWithHeld.ensures.lines, ap (λ t. newlines t.bytes) w.text-is)
-      | in-Serial w ↦ omega (arith, w.push_field-in-Serial.ensures.lines, ap (λ t. newlines t.bytes) w.text-is)
-      | in-Met w ↦ omega (arith, ap newlines w.push_str-in-Met.ensures.bytes, newlines-append old (codes "met"), ap (λ t. newlines t.bytes) w.text-is)
-      | in-Moved w ↦ omega (arith, w.push_field-in-Moved.ensures.lines, ap (λ t. newlines t.bytes) w.text-is)
-      | in-PutBack w ↦ omega (arith, w.push_field-in-PutBack.ensures.lines, ap newlines w.push_str-in-PutBack.ensures.bytes, newlines-append w.push_field-in-PutBack.new.text.bytes (codes " cause=1"), ap (λ t. newlines t.bytes) w.text-is)
-      | in-Shut w ↦ omega (arith, w.push_field-in-Shut.ensures.lines, ap (λ t. newlines t.bytes) w.text-is)
-      | in-Looked w ↦ omega (arith, w.push_look.ensures.lines, ap (λ t. newlines t.bytes) w.text-is)
-      | in-Block w ↦ omega (arith, w.push_field-in-Block.ensures.lines, ap (λ t. newlines t.bytes) w.text-is)
-      | in-HandedOut w ↦ omega (arith, w.push_field-in-HandedOut.ensures.lines, w.push_field-in-HandedOut-2.ensures.lines, ap (λ t. newlines t.bytes) w.text-is)
-      | in-AllDone w ↦ omega (arith, w.push_field-in-AllDone.ensures.lines, ap (λ t. newlines t.bytes) w.text-is)
-      | in-DoneUntil w ↦ omega (arith, w.push_field-in-DoneUntil.ensures.lines, w.push_field-in-DoneUntil-2.ensures.lines, ap (λ t. newlines t.bytes) w.text-is)
-      | in-Round w ↦ omega (arith, w.push_round.ensures.lines, ap (λ t. newlines t.bytes) w.text-is)
-      | in-Pool w ↦ omega (arith, w.push_pool.ensures.lines, ap (λ t. newlines t.bytes) w.text-is)
-      | in-Refused w ↦ omega (arith, w.push_field-in-Refused.ensures.lines, ap (λ t. newlines t.bytes) w.text-is)
-    ] in
-    one_line_behind old mid text all same longer
+returns-clause-line g c = text_lines c.args.reply.now

@@ -28,7 +28,7 @@ use Rattle.text_core.specs.declared.reply.Reply.TheVariants as reply
 use Rattle.text_core.specs.Grammar.{address_of}
 use Rattle.text_core.proofs.Ranges.{IsCallInRange, in_space}
 use Rattle.machine_core.specs.Machine.{Answered, by_hand, call_at, call_step, copied, ending, found, looked, page_step, reply_for, reply_for_huge, says, series_from, unless, unless_refused, zone_step}
-use Rattle.script_laws.proofs.PagesMoved.{copied_leaves, finished_leaves, opened_leaves, scanned_leaves, shut_leaves, taken_leaves}
+use Rattle.script_core.proofs.PagesMoved.{copied_leaves, finished_leaves, opened_leaves, scanned_leaves, shut_leaves, taken_leaves}
 
 -- a world after some calls is orderly and has the same number of pageblocks
 pub record Keeps (w after : WorldState) : Type 0 where

@@ -16,14 +16,14 @@ use Rattle.text_core.proofs.Ranges.{IsInRange}
 use Rattle.machine_core.specs.Machine.{Step, answered, call_step, calls_step, declined, step, during_on}
 use Rattle.play_core.specs.Script.{Numbered, commands_of, parts_of, by}
 use Rattle.machine_core.specs.Replies.{answers_of}
-use Rattle.script_laws.specs.ByHand.{answers_by_hand, step_by_hand}
-use Rattle.script_laws.specs.Counts.{AddsUpTo, CountsAddUp, frames_in, frames_of}
+use Rattle.script_core.specs.MachineByHand.{answers_by_hand, step_by_hand}
+use Rattle.script_core.specs.Counts.{AddsUpTo, CountsAddUp, frames_in, frames_of}
 use Rattle.text_core.specs.Grammar.{zone_of}
-use Rattle.script_laws.proofs.ByHand.{machine_by_hand}
-use Rattle.script_laws.proofs.CommandsInRange.{AreInRange, commands_ranged}
-use Rattle.script_laws.proofs.Machines.{Goes, IsMachine, answers_by, answers_to, is_of_rounds, runs_rounds}
-use Rattle.script_laws.proofs.Replies.{has_counts, plain_call, plain_make, plain_series}
-use Rattle.script_laws.proofs.Runs.{goes_by, one_thread, opened_orderly}
+use Rattle.script_core.proofs.MachineByHand.{machine_by_hand}
+use Rattle.script_core.proofs.CommandsInRange.{AreInRange, commands_ranged}
+use Rattle.script_core.proofs.Machines.{Goes, IsMachine, answers_by, answers_to, is_of_rounds, runs_rounds}
+use Rattle.script_core.proofs.Replies.{has_counts, plain_call, plain_make, plain_series}
+use Rattle.script_core.proofs.Runs.{goes_by, one_thread, opened_orderly}
 use Rattle.text_core.specs.declared.profile.Profile.TheVariants.{Untold}
 
 adds_plain : (frames : Option ℕ) (r : Reply) → has_counts r ≡ false → AddsUpTo frames r

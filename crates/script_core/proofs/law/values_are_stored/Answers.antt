@@ -1,5 +1,5 @@
-use Rattle.script_laws.proofs.ValuesStored.{values_stored, values_stored_by_hand}
-use Rattle.script_laws.proofs.law.values_are_stored.Goals as goal
+use Rattle.script_core.proofs.ValuesStored.{values_stored, values_stored_by_hand}
+use Rattle.script_core.proofs.law.values_are_stored.Goals as goal
 
 pub returns-clause-one_thread : goal.returns-clause-one_thread
 returns-clause-one_thread c = λ places input range. values_stored places range input

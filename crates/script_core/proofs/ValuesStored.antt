@@ -41,16 +41,16 @@ use Rattle.text_core.proofs.Ranges.{IsInRange}
 use Rattle.machine_core.specs.Machine.{Answered, Step, answered, by_hand, call_at, call_step, calls_step, copied, declined, ending, found, looked, make_step, page_step, reply_for, says, series_from, step, unless, unless_refused, during_on}
 use Rattle.play_core.specs.Script.{Numbered, commands_of, parts_of, by}
 use Rattle.machine_core.specs.Replies.{answers_of}
-use Rattle.script_laws.specs.ByHand.{answers_by_hand, step_by_hand}
-use Rattle.script_laws.specs.Values.{IsLastStored, ValuesAreStored, accepted, accepted_count, called, repeated, told}
-use Rattle.script_laws.proofs.ByHand.{machine_by_hand}
-use Rattle.script_laws.proofs.CallsAccepted.{accessed_page, fresh_number, mapped_is}
-use Rattle.script_laws.proofs.CommandsInRange.{AreInRange, commands_ranged}
-use Rattle.script_laws.proofs.Machines.{Goes, IsMachine, answers_by, answers_to, by_rounds, is_of_rounds, runs_rounds}
-use Rattle.script_laws.proofs.Matching.{Match, match_empty, match_mapped, match_same, match_shared, match_stored, match_unmapped}
-use Rattle.script_laws.proofs.PagesMoved.{LeavesCells, copied_leaves, finished_leaves, leaves_all, opened_leaves, scanned_leaves, shut_leaves, taken_leaves}
-use Rattle.script_laws.proofs.Runs.{goes_by, one_thread, opened_orderly}
-use Rattle.script_laws.proofs.Steps.{keeps_page_step}
+use Rattle.script_core.specs.MachineByHand.{answers_by_hand, step_by_hand}
+use Rattle.script_core.specs.Values.{IsLastStored, ValuesAreStored, accepted, accepted_count, called, repeated, told}
+use Rattle.script_core.proofs.MachineByHand.{machine_by_hand}
+use Rattle.script_core.proofs.CallsAccepted.{accessed_page, fresh_number, mapped_is}
+use Rattle.script_core.proofs.CommandsInRange.{AreInRange, commands_ranged}
+use Rattle.script_core.proofs.Machines.{Goes, IsMachine, answers_by, answers_to, by_rounds, is_of_rounds, runs_rounds}
+use Rattle.script_core.proofs.Matching.{Match, match_empty, match_mapped, match_same, match_shared, match_stored, match_unmapped}
+use Rattle.script_core.proofs.PagesMoved.{LeavesCells, copied_leaves, finished_leaves, leaves_all, opened_leaves, scanned_leaves, shut_leaves, taken_leaves}
+use Rattle.script_core.proofs.Runs.{goes_by, one_thread, opened_orderly}
+use Rattle.script_core.proofs.Steps.{keeps_page_step}
 
 -- an answer to a call made after this history has the value of the history, and the world after it matches the history after it
 record Tells (older : List Record) (c : Calls) (a : Answered) : Type 0 where

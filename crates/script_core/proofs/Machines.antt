@@ -9,8 +9,8 @@ use Rattle.text_core.specs.declared.reply.Reply.TheVariants as reply
 use Rattle.text_core.proofs.Ranges.{IsInRange}
 use Rattle.machine_core.specs.Machine.{Step, step}
 use Rattle.play_core.specs.Script.{Answer, Numbered, commands_of}
-use Rattle.script_laws.proofs.PagesMoved.{LeavesCells}
-use Rattle.script_laws.proofs.Steps.{Keeps}
+use Rattle.script_core.proofs.PagesMoved.{LeavesCells}
+use Rattle.script_core.proofs.Steps.{Keeps}
 
 -- whether a command is a round or a pool
 abbrev pub runs_rounds : Command → Bool

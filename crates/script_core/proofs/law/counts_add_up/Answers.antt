@@ -1,5 +1,5 @@
-use Rattle.script_laws.proofs.CountsAdded.{counts_added, counts_added_by_hand}
-use Rattle.script_laws.proofs.law.counts_add_up.Goals as goal
+use Rattle.script_core.proofs.CountsAdded.{counts_added, counts_added_by_hand}
+use Rattle.script_core.proofs.law.counts_add_up.Goals as goal
 
 pub returns-clause-one_thread : goal.returns-clause-one_thread
 returns-clause-one_thread c = λ places input range. counts_added places range input

@@ -30,12 +30,12 @@ use Rattle.play_core.specs.declared.error.Fault.{Fault}
 use Rattle.play_core.specs.declared.error.Fault.TheVariants.{Syntax}
 use Rattle.play_core.specs.declared.error.RunError.{RunError}
 use Rattle.play_core.proofs.Lines.{Parts, parts-line, parts_are}
-use Rattle.script_laws.specs.ByHand.{answers_by_hand, step_by_hand}
-use Rattle.script_laws.specs.Profile2.{IsSameInProfile2, behind_profile_2, fault_in_profile_1, with_held}
-use Rattle.script_laws.proofs.ByHand.{machine_by_hand}
-use Rattle.script_laws.proofs.Machines.{IsMachine, answers_by, answers_to, by_rounds, is_of_rounds, runs_rounds}
-use Rattle.script_laws.proofs.Replies.{has_counts, plain_call, plain_make, plain_series}
-use Rattle.script_laws.proofs.Runs.{one_thread}
+use Rattle.script_core.specs.MachineByHand.{answers_by_hand, step_by_hand}
+use Rattle.script_core.specs.Profile2.{IsSameInProfile2, behind_profile_2, fault_in_profile_1, with_held}
+use Rattle.script_core.proofs.MachineByHand.{machine_by_hand}
+use Rattle.script_core.proofs.Machines.{IsMachine, answers_by, answers_to, by_rounds, is_of_rounds, runs_rounds}
+use Rattle.script_core.proofs.Replies.{has_counts, plain_call, plain_make, plain_series}
+use Rattle.script_core.proofs.Runs.{one_thread}
 
 abbrev further : Answer → Answer
 further a = record { line = a.line + 1; reply = with_held a.reply }

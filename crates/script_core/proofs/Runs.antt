@@ -13,11 +13,11 @@ use Rattle.text_core.specs.declared.command.Command.TheVariants.{Open, On, Compa
 use Rattle.text_core.specs.declared.pool.PoolBlocks.{PoolBlocks}
 use Rattle.text_core.proofs.Ranges.{HasOrder, IsInRange}
 use Rattle.machine_core.specs.Machine.{Step, answered, calls_step, declined, pool_step, reply_for, step, during_on}
-use Rattle.script_laws.proofs.Machines.{Goes, GoesOn, IsMachine, by_rounds, is_of_rounds, runs_rounds}
-use Rattle.script_laws.proofs.PagesMoved.{leaves_all}
-use Rattle.script_laws.proofs.Pools.{keeps_pool, pool_leaves, pool_replies}
+use Rattle.script_core.proofs.Machines.{Goes, GoesOn, IsMachine, by_rounds, is_of_rounds, runs_rounds}
+use Rattle.script_core.proofs.PagesMoved.{leaves_all}
+use Rattle.script_core.proofs.PoolSteps.{keeps_pool, pool_leaves, pool_replies}
 use Rattle.text_core.specs.Grammar.{zone_of}
-use Rattle.script_laws.proofs.Steps.{Keeps, keeps_all, keeps_call, keeps_series, keeps_zone_step}
+use Rattle.script_core.proofs.Steps.{Keeps, keeps_all, keeps_call, keeps_series, keeps_zone_step}
 
 pub keeps_calls : (w : WorldState) → IsOrderly w → (zone : ℕ) (c : Calls) → IsInRange (On zone c) → Keeps w (calls_step w c).world
 keeps_calls w o zone (Zone call) r = keeps_zone_step w o call (reply_for call) r

@@ -16,10 +16,10 @@ use Rattle.text_core.specs.declared.reply.Reply.{Reply}
 use Rattle.text_core.specs.Pool.{pool_order}
 use Rattle.text_core.proofs.Ranges.{HasOrder, IsInRange}
 use Rattle.machine_core.specs.Machine.{Answered, answered, declined, refused, says, step}
-use Rattle.script_laws.specs.ByHand.{left_by_hand, pool_by_hand, round_by_hand, step_by_hand, unless_open, work_by_hand}
-use Rattle.script_laws.proofs.Machines.{Goes, GoesOn, IsMachine, by_rounds, is_of_rounds, runs_rounds}
-use Rattle.script_laws.proofs.RoundsByHand.{Rests, reserved_rests, round_rests}
-use Rattle.script_laws.proofs.Runs.{goes_by, refusal_goes_on}
+use Rattle.script_core.specs.MachineByHand.{left_by_hand, pool_by_hand, round_by_hand, step_by_hand, unless_open, work_by_hand}
+use Rattle.script_core.proofs.Machines.{Goes, GoesOn, IsMachine, by_rounds, is_of_rounds, runs_rounds}
+use Rattle.script_core.proofs.RoundsByHand.{Rests, reserved_rests, round_rests}
+use Rattle.script_core.proofs.Runs.{goes_by, refusal_goes_on}
 
 -- a world in which no hand round is open and no page is moving is orderly
 pub closed_orderly : (zone : ZoneState) (scan : ScanSeat) (ends : EndSeat) → IsAtRest zone → ends.parts ≡ 64 → IsOrderly (world_closed zone scan ends)

@@ -19,7 +19,7 @@ use Rattle.state_core.specs.Rounds.{round_begun}
 use Rattle.state_core.specs.ZoneState.{ZoneState, frame_count}
 use Rattle.huge_core.specs.ByHand.{Reservation, asked, idle_stop, lowest_first, lowest_taken, moves, reserved_by_hand, stopped, taking, with_block, with_round}
 use Rattle.huge_core.specs.declared.report.Stop.TheVariants as stop
-use Rattle.script_laws.proofs.PagesMoved.{LeavesCells, leaves_all, leaves_then}
+use Rattle.script_core.proofs.PagesMoved.{LeavesCells, leaves_all, leaves_then}
 
 -- no page is moving after it, and each address names the same page, and each word has the same value
 pub record Rests (z after : ZoneState) : Type 0 where

@@ -1,5 +1,5 @@
-use Rattle.script_laws.proofs.LockStep.{same_in_profile_2, same_in_profile_2_by_hand}
-use Rattle.script_laws.proofs.law.profile_2_keeps_replies.Goals as goal
+use Rattle.script_core.proofs.LockStep.{same_in_profile_2, same_in_profile_2_by_hand}
+use Rattle.script_core.proofs.law.profile_2_keeps_replies.Goals as goal
 
 pub returns-clause-one_thread : goal.returns-clause-one_thread
 returns-clause-one_thread c = same_in_profile_2

@@ -9,9 +9,9 @@ use Rattle.text_core.specs.declared.pool.PoolBlocks.{PoolBlocks}
 use Rattle.text_core.specs.Pool.{pool_order, told_as}
 use Rattle.text_core.proofs.Ranges.{HasOrder}
 use Rattle.machine_core.specs.Machine.{Answered, next_first, pool_from, pool_step, refused, unless_stopped}
-use Rattle.script_laws.proofs.Machines.{is_of_rounds}
-use Rattle.script_laws.proofs.PagesMoved.{LeavesCells, leaves_all, leaves_then}
-use Rattle.script_laws.proofs.Steps.{Keeps, keeps_all, keeps_then, keeps_zone}
+use Rattle.script_core.proofs.Machines.{is_of_rounds}
+use Rattle.script_core.proofs.PagesMoved.{LeavesCells, leaves_all, leaves_then}
+use Rattle.script_core.proofs.Steps.{Keeps, keeps_all, keeps_then, keeps_zone}
 
 module _ (blocks : PoolBlocks) where
   abbrev order : ℕ

@@ -38,7 +38,7 @@ use Rattle.text_core.specs.declared.reply.Reply.TheVariants as reply
 use Rattle.text_core.specs.Grammar.{address_of}
 use Rattle.machine_core.specs.Machine.{Answered, by_hand, call_at, call_step, calls_step, copied, ending, found}
 use Rattle.machine_core.specs.Machine.{looked, page_step, reply_for, reply_for_huge, says, series_from, unless, unless_refused, zone_step}
-use Rattle.script_laws.specs.Worlds.{IsSameWorld}
+use Rattle.script_core.specs.Worlds.{IsSameWorld}
 
 -- the same reply, and worlds that are the same
 pub record Alike (a b : Answered) : Type 0 where

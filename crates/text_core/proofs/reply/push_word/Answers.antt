@@ -1,7 +1,0 @@
-use Rattle.std.proofs.Common.{ap, arith}
-use Rattle.text_core.specs.Reply.{newlines}
-use Rattle.text_core.proofs.Newlines.{newlines-append}
-use Rattle.text_core.proofs.reply.push_word.Goals as goal
-
-pub returns-clause-lines : goal.returns-clause-lines
-returns-clause-lines g c = omega (arith, ap newlines c.push_str.ensures.bytes, newlines-append c.args.text.now.bytes c.args.word.now)
