@@ -5,6 +5,7 @@ mod counts;
 mod draws;
 mod lists;
 mod moving;
+mod opened;
 mod refusals;
 mod sizes;
 mod steps;

@@ -42,45 +42,71 @@ fn states(rt: &(impl Abort + AllocGlobal), frames: &Frames) -> Vec<FrameState> {
     states
 }
 
-fn assert_told(rt: &impl Abort, told: Info, states: &[FrameState]) {
-    assert_used(rt, told, states);
-    assert_moving(rt, told, states);
-    let free = states.iter().filter(|state| is_free(state)).count();
-    let whole = states
-        .chunks(512)
-        .filter(|block| block.iter().all(is_free))
-        .count();
-    assert!(rt; (told.free as usize, told.whole as usize) == (free, whole));
+/// How many frames are used for each purpose.
+#[derive(Drop)]
+struct Uses {
+    free: u32,
+    pages: u32,
+    sources: u32,
+    targets: u32,
+    held: u32,
 }
 
-/// The counts of pages, and of frames in blocks that are handed out.
-fn assert_used(rt: &impl Abort, told: Info, states: &[FrameState]) {
-    let pages = states
-        .iter()
-        .filter(|state| matches!(state, FrameState::Holds(_) | FrameState::Source(_)))
-        .count();
-    let held = states
-        .iter()
-        .filter(|state| matches!(state, FrameState::Huge))
-        .count();
-    assert!(rt; (told.pages as usize, told.held as usize) == (pages, held));
+impl Uses {
+    fn none() -> Uses {
+        Uses {
+            free: 0,
+            pages: 0,
+            sources: 0,
+            targets: 0,
+            held: 0,
+        }
+    }
+
+    fn of(states: &[FrameState]) -> Uses {
+        let mut uses = Uses::none();
+        for state in states {
+            uses.add(state);
+        }
+        uses
+    }
+
+    fn add(&mut self, state: &FrameState) {
+        match state {
+            FrameState::Free => self.free = self.free.saturating_add(1),
+            FrameState::Holds(_) => self.pages = self.pages.saturating_add(1),
+            FrameState::Source(_) => self.sources = self.sources.saturating_add(1),
+            FrameState::Target(_) => self.targets = self.targets.saturating_add(1),
+            FrameState::Huge => self.held = self.held.saturating_add(1),
+        }
+    }
 }
 
 /// A page that is moving has two frames.
-fn assert_moving(rt: &impl Abort, told: Info, states: &[FrameState]) {
-    let sources = states
-        .iter()
-        .filter(|state| matches!(state, FrameState::Source(_)))
-        .count();
-    let targets = states
-        .iter()
-        .filter(|state| matches!(state, FrameState::Target(_)))
-        .count();
-    assert!(rt; (told.moving as usize, told.moving as usize) == (sources, targets));
+fn assert_told(rt: &impl Abort, told: Info, states: &[FrameState]) {
+    let uses = Uses::of(states);
+    assert!(rt; (told.free, told.held) == (uses.free, uses.held));
+    assert!(rt; told.pages == uses.pages.saturating_add(uses.sources));
+    assert!(rt; (told.moving, told.moving) == (uses.sources, uses.targets));
+    assert!(rt; told.whole == whole_blocks(states));
 }
 
 fn is_free(state: &FrameState) -> bool {
     *state == FrameState::Free
+}
+
+fn are_free(run: &[FrameState]) -> bool {
+    run.iter().all(is_free)
+}
+
+fn whole_blocks(states: &[FrameState]) -> u32 {
+    let mut count = 0_u32;
+    for block in states.chunks(512) {
+        if are_free(block) {
+            count = count.saturating_add(1);
+        }
+    }
+    count
 }
 
 /// How many blocks are handed out, as the records of a journal tell.
@@ -96,24 +122,30 @@ fn blocks_out(records: &[Record]) -> usize {
     count
 }
 
+fn place_of(frame: Option<FrameNo>) -> Option<usize> {
+    Some(frame?.get() as usize)
+}
+
 /// The set of frames that are free has just those, and knows the lowest.
 fn assert_free(rt: &impl Abort, frames: &Frames, states: &[FrameState]) {
     for number in 0..frames.len() {
         let state = states.get(number as usize).expect(rt, "a frame");
         assert!(rt; frames.is_free(frame(rt, number)) == is_free(state));
     }
-    let lowest = frames.lowest_free().map(|frame| frame.get() as usize);
-    assert!(rt; lowest == states.iter().position(is_free));
+    assert!(rt; place_of(frames.lowest_free()) == states.iter().position(is_free));
 }
 
 /// The first run of an order is the lowest aligned one whose frames are all free.
 fn assert_run(rt: &impl Abort, frames: &Frames, states: &[FrameState], number: u32) {
     let order = order(rt, number);
-    let size = order.frames() as usize;
-    let mut runs = states.chunks(size);
-    let lowest = runs.position(|run| run.iter().all(is_free));
-    let first = frames.first_run(order).map(|frame| frame.get() as usize);
-    assert!(rt; first.map(|first| (first / size, first % size)) == lowest.map(|place| (place, 0)));
+    let first = place_of(frames.first_run(order));
+    assert!(rt; first == first_run(states, order.frames() as usize));
+}
+
+fn first_run(states: &[FrameState], size: usize) -> Option<usize>
+    requires { 0 < size }
+{
+    states.chunks(size).position(are_free)?.checked_mul(size)
 }
 
 /// The number of a page that was just mapped is the lowest that no other page has.
@@ -121,12 +153,19 @@ fn assert_newest(rt: &impl Abort, records: &[Record], states: &[FrameState]) {
     let Some(Record::Map { page, .. }) = records.last() else {
         return;
     };
-    let newest = *page;
-    let lower = states
-        .iter()
-        .filter_map(|state| page_in(records, state))
-        .filter(|page| *page < newest);
-    assert!(rt; lower.count() == newest.get() as usize);
+    assert!(rt; pages_below(records, states, *page) == page.get());
+}
+
+/// How many pages have a lower number.
+fn pages_below(records: &[Record], states: &[FrameState], number: PageNo) -> u32 {
+    let mut count = 0_u32;
+    for state in states {
+        match page_in(records, state) {
+            Some(page) if page < number => count = count.saturating_add(1),
+            _ => {}
+        }
+    }
+    count
 }
 
 /// The page that a frame holds, or that left it.

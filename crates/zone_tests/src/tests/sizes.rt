@@ -3,81 +3,17 @@
 ghost use Rattle.std.specs.Prelude.{◌<◌, ◌≤◌};
 ghost use Rattle.zone_core.specs.Books.{AreFor};
 
-use super::{address, client, hand};
+use super::opened::{Opened, page};
+use super::{client, hand};
 use bitflags::Flags;
 use frame_core::{PageFlags, WordOf, ZoneNo};
 use std::marker::Brand;
 use std::process::Abort;
 use std::sync::ledger::Ledger;
 use world_core::{Finished, Scanned, WorldOf};
-use zone_core::{Blanks, EndSeat, Ended, Next, ScanSeat, ZoneError, ZoneOf};
+use zone_core::{Blanks, Ended, ZoneError};
 
-/// A zone of one pageblock with a page in frame 0, and its seats.
-#[derive(Drop)]
-struct Paged<const W: usize, I: Ledger, N: Ledger, M: Ledger, B: Ledger> {
-    zone: ZoneOf<W, I, M, B>,
-    scan: ScanSeat<I, N>,
-    ends: EndSeat<M, B>,
-}
-
-impl<const W: usize, I: Ledger, N: Ledger, M: Ledger, B: Ledger> Paged<W, I, N, M, B> {
-    fn of(rt: &(impl Abort + AllocGlobal), places: u32, blanks: Blanks) -> Self
-        requires blanks { AreFor blanks I.name I.parts N.name N.parts M.name M.parts B.name B.parts }
-        requires size { W ≤ 65536 }
-    {
-        let number = ZoneNo::new(3).expect(rt, "a zone");
-        let opened = ZoneOf::<W, I, M, B>::open::<N>(rt.alloc(), number, 1, places, blanks);
-        let (mut zone, scan, ends) = opened.expect(rt, "a zone");
-        assert!(rt;
-            zone.map(client(rt), address(rt, (7, 9)), PageFlags::empty())
-                .is_ok()
-        );
-        Paged { zone, scan, ends }
-    }
-
-    fn write(&mut self, rt: &impl Abort, from: WordOf<W>, values: &[u64]) -> Result<(), ZoneError> {
-        self.zone
-            .write(client(rt), address(rt, (7, 9)), from, values)
-    }
-
-    fn read(
-        &mut self,
-        rt: &impl Abort,
-        from: WordOf<W>,
-        values: &mut [u64],
-    ) -> Result<(), ZoneError> {
-        self.zone
-            .read(client(rt), address(rt, (7, 9)), from, values)
-    }
-
-    fn load(&mut self, rt: &impl Abort, word: WordOf<W>) -> Result<u64, ZoneError> {
-        self.zone.load(client(rt), address(rt, (7, 9)), word)
-    }
-
-    /// A page whose words all differ is moved, and has each of them afterwards.
-    fn moves_its_words(&mut self, rt: &impl Abort)
-        requires { W ≤ 65536 }
-    {
-        let first = WordOf::new(0).expect(rt, "a word");
-        let words = words_that_differ::<W>();
-        assert!(rt; self.write(rt, first, &words) == Ok(()));
-        self.zone.begin_round(&mut self.scan);
-        let Ok(Next::Page(page)) = self.zone.isolate_next(&mut self.scan) else {
-            panic!(rt; "no page is isolated");
-        };
-        let mut read = [0; W];
-        assert!(rt; self.read(rt, first, &mut read) == Err(ZoneError::Moving));
-        let Ok(Ended::Moved) = self.zone.commit(&mut self.ends, page.copy_into_new()) else {
-            panic!(rt; "the page isn't moved");
-        };
-        assert!(rt; self.read(rt, first, &mut read) == Ok(()));
-        assert!(rt; read == words);
-        for number in 0..W {
-            let word = WordOf::new(number as u32).expect(rt, "a word");
-            assert!(rt; self.load(rt, word) == Ok(u64::MAX - number as u64));
-        }
-    }
-
+impl<const W: usize, I: Ledger, N: Ledger, M: Ledger, B: Ledger> Opened<W, I, N, M, B> {
     /// Words that go past the page are refused, and nothing is read or written.
     fn refuses_words_past_the_page(&mut self, rt: &impl Abort)
         requires { (0 < W) × (W ≤ 65536) }
@@ -105,17 +41,6 @@ impl<const W: usize, I: Ledger, N: Ledger, M: Ledger, B: Ledger> Paged<W, I, N, 
         assert!(rt; self.write(rt, first, &words[1..]) == Ok(()));
         assert!(rt; self.zone.journal().len() == W as u64);
     }
-
-    /// Whatever is tried but a move by hand.
-    fn undergoes(&mut self, rt: &impl Abort, trial: Trial)
-        requires { (0 < W) × (W ≤ 65536) }
-    {
-        match trial {
-            Trial::MovesItsWords => self.moves_its_words(rt),
-            Trial::RefusesWordsPastThePage => self.refuses_words_past_the_page(rt),
-            _ => self.needs_a_place_for_each_word(rt),
-        }
-    }
 }
 
 /// As many words as a page has, no two alike.
@@ -136,7 +61,7 @@ fn read_page<const W: usize, I: Ledger, N: Ledger, M: Ledger, B: Ledger>(
     requires { W ≤ 65536 }
 {
     let first = WordOf::new(0).expect(rt, "a word");
-    world.read(client(rt), address(rt, (7, 9)), first, values)
+    world.read(client(rt), page(rt), first, values)
 }
 
 /// Writes all words of the page of a world.
@@ -148,7 +73,7 @@ fn write_page<const W: usize, I: Ledger, N: Ledger, M: Ledger, B: Ledger>(
     requires { W ≤ 65536 }
 {
     let first = WordOf::new(0).expect(rt, "a word");
-    world.write(client(rt), address(rt, (7, 9)), first, values)
+    world.write(client(rt), page(rt), first, values)
 }
 
 /// Hand 1 moves the page of a world. Meanwhile the page can't be read.
@@ -170,6 +95,20 @@ fn moves_the_page<const W: usize, I: Ledger, N: Ledger, M: Ledger, B: Ledger>(
     assert!(rt; world.finish(hand) == Ok(moved));
 }
 
+/// Each word of the page of a world is the one that was written there.
+fn loads_each_word<const W: usize, I: Ledger, N: Ledger, M: Ledger, B: Ledger>(
+    rt: &impl Abort,
+    world: &mut WorldOf<W, I, N, M, B>,
+)
+    requires { W ≤ 65536 }
+{
+    for number in 0..W {
+        let word = WordOf::new(number as u32).expect(rt, "a word");
+        let loaded = world.load(client(rt), page(rt), word);
+        assert!(rt; loaded == Ok(u64::MAX - number as u64));
+    }
+}
+
 /// A page that hand 1 moves has each of its words afterwards.
 fn keeps_its_words<const W: usize, I: Ledger, N: Ledger, M: Ledger, B: Ledger>(
     rt: &impl Abort,
@@ -183,6 +122,7 @@ fn keeps_its_words<const W: usize, I: Ledger, N: Ledger, M: Ledger, B: Ledger>(
     let mut read = [0; W];
     assert!(rt; read_page(rt, world, &mut read) == Ok(()));
     assert!(rt; read == words);
+    loads_each_word(rt, world);
 }
 
 /// The last word of the page of a world takes another value.
@@ -193,8 +133,8 @@ fn stores_to_the_last_word<const W: usize, I: Ledger, N: Ledger, M: Ledger, B: L
     requires { (0 < W) × (W ≤ 65536) }
 {
     let last = WordOf::new((W - 1) as u32).expect(rt, "a word");
-    assert!(rt; world.store(client(rt), address(rt, (7, 9)), last, 7) == Ok(()));
-    assert!(rt; world.load(client(rt), address(rt, (7, 9)), last) == Ok(7));
+    assert!(rt; world.store(client(rt), page(rt), last, 7) == Ok(()));
+    assert!(rt; world.load(client(rt), page(rt), last) == Ok(7));
 }
 
 /// Maps a page in a world that was just opened, and has a hand move it.
@@ -204,7 +144,7 @@ fn moves_by_hand<const W: usize, I: Ledger, N: Ledger, M: Ledger, B: Ledger>(
 )
     requires { (0 < W) × (W ≤ 65536) }
 {
-    let mapped = world.map(client(rt), address(rt, (7, 9)), PageFlags::empty());
+    let mapped = world.map(client(rt), page(rt), PageFlags::empty());
     assert!(rt; mapped.is_ok());
     keeps_its_words(rt, world);
     stores_to_the_last_word(rt, world);
@@ -222,6 +162,34 @@ fn tries_by_hand<const W: usize, I: Ledger, N: Ledger, M: Ledger, B: Ledger>(
     let number = ZoneNo::new(3).expect(rt, "a zone");
     let opened = WorldOf::<W, I, N, M, B>::open(rt.alloc(), number, 1, 4096, blanks);
     moves_by_hand(rt, &mut opened.expect(rt, "a world"));
+}
+
+/// Tries each with a zone or a world of its own.
+fn tries_with<const W: usize, I: Ledger, N: Ledger, M: Ledger, B: Ledger>(
+    rt: &(impl Abort + AllocGlobal),
+    trial: Trial,
+    blanks: Blanks,
+)
+    requires blanks { AreFor blanks I.name I.parts N.name N.parts M.name M.parts B.name B.parts }
+    requires size { (0 < W) × (W ≤ 65536) }
+{
+    match trial {
+        Trial::RefusesWordsPastThePage => {
+            Opened::<W, I, N, M, B>::of(rt, 4096, blanks).refuses_words_past_the_page(rt)
+        }
+        Trial::NeedsAPlaceForEachWord => {
+            Opened::<W, I, N, M, B>::of(rt, W as u32, blanks).needs_a_place_for_each_word(rt)
+        }
+        Trial::MovesByHand => tries_by_hand::<W, I, N, M, B>(rt, blanks),
+    }
+}
+
+/// What is tried with a zone or a world that was just opened.
+#[derive(Clone, Copy)]
+enum Trial {
+    RefusesWordsPastThePage,
+    NeedsAPlaceForEachWord,
+    MovesByHand,
 }
 
 /// How many words the pages have.
@@ -249,33 +217,6 @@ fn tries<I: Ledger, N: Ledger, M: Ledger, B: Ledger>(
     }
 }
 
-/// What is tried with a zone or a world that was just opened.
-#[derive(Clone, Copy)]
-enum Trial {
-    MovesItsWords,
-    RefusesWordsPastThePage,
-    NeedsAPlaceForEachWord,
-    MovesByHand,
-}
-
-fn tries_with<const W: usize, I: Ledger, N: Ledger, M: Ledger, B: Ledger>(
-    rt: &(impl Abort + AllocGlobal),
-    trial: Trial,
-    blanks: Blanks,
-)
-    requires blanks { AreFor blanks I.name I.parts N.name N.parts M.name M.parts B.name B.parts }
-    requires size { (0 < W) × (W ≤ 65536) }
-{
-    if let Trial::MovesByHand = trial {
-        return tries_by_hand::<W, I, N, M, B>(rt, blanks);
-    }
-    let places = match trial {
-        Trial::NeedsAPlaceForEachWord => W as u32,
-        _ => 4096,
-    };
-    Paged::<W, I, N, M, B>::of(rt, places, blanks).undergoes(rt, trial);
-}
-
 #[test]
 fn pages_have_any_size(rt: HostRuntime) {
     for size in [
@@ -285,7 +226,6 @@ fn pages_have_any_size(rt: HostRuntime) {
         Size::FiveHundredTwelve,
     ] {
         for trial in [
-            Trial::MovesItsWords,
             Trial::RefusesWordsPastThePage,
             Trial::NeedsAPlaceForEachWord,
             Trial::MovesByHand,

@@ -6,6 +6,7 @@ use super::counts::{assert_counts, assert_pages};
 use super::draws::Draws;
 use super::lists::{assert_lists, assert_walks, walked};
 use super::steps::{Answer, Step};
+use super::values::ROWS;
 use super::world::OpenWorld;
 use std::marker::Brand;
 use std::process::Abort;
@@ -20,7 +21,11 @@ struct Case {
     rows: &'static [(Step, Answer)],
 }
 
-const CASES: [Case; 4] = [
+const CASES: [Case; 5] = [
+    Case {
+        name: "calls that are made as values too",
+        rows: &ROWS,
+    },
     Case {
         name: "a page has four addresses at most",
         rows: &[
