@@ -18,7 +18,7 @@ use std::process::Abort;
 use steps::Name;
 
 fn client(rt: &impl Abort) -> ClientNo {
-    ClientNo::new(0).expect(rt, "a client")
+    ClientNo::new(2).expect(rt, "a client")
 }
 
 fn address(rt: &impl Abort, name: Name) -> Address {

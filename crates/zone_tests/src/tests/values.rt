@@ -5,10 +5,12 @@ ghost use Rattle.zone_core.specs.Books.{AreFor};
 use super::steps::{Answer, Name, Step};
 use super::{address, block, client, frame, order, word};
 use frame_core::ZoneNo;
+use journal_core::Record;
 use std::marker::Brand;
 use std::process::Abort;
 use std::sync::ledger::Ledger;
-use zone_core::{Blanks, Zone, ZoneAnswer, ZoneCall, ZoneError};
+use world_core::World;
+use zone_core::{Blanks, ZoneAnswer, ZoneCall, ZoneError};
 
 /// Calls of a zone of one pageblock that was just opened, each with its answer. They are made by the methods of their names too, as a
 /// case of `walks`.
@@ -117,7 +119,7 @@ fn accepted(step: &Step, answer: ZoneAnswer) -> Answer {
     }
 }
 
-/// Makes the calls as values, each of which that is accepted has one record.
+/// Makes the calls as values in a world. Each that is accepted has one record, and it names the client.
 fn makes_values<I: Ledger, N: Ledger, M: Ledger, B: Ledger>(
     rt: &(impl Abort + AllocGlobal),
     blanks: Blanks,
@@ -125,14 +127,22 @@ fn makes_values<I: Ledger, N: Ledger, M: Ledger, B: Ledger>(
     requires blanks { AreFor blanks I.name I.parts N.name N.parts M.name M.parts B.name B.parts }
 {
     let number = ZoneNo::new(3).expect(rt, "a zone");
-    let opened = Zone::<I, M, B>::open::<N>(rt.alloc(), number, 1, 64, blanks);
-    let (mut zone, _scan, _ends) = opened.expect(rt, "a zone");
+    let opened = World::<I, N, M, B>::open(rt.alloc(), number, 1, 64, blanks);
+    let mut world = opened.expect(rt, "a world");
     for (number, row) in ROWS.iter().enumerate() {
         let (step, want) = *row;
-        let answer = zone.make(client(rt), call_of(rt, step));
+        let answer = world.make(client(rt), call_of(rt, step));
         assert!(rt; told(&row.0, answer) == want, "value {number}");
     }
-    assert!(rt; zone.journal().len() == 13);
+    let records = world.zone().journal().kept().expect(rt, "a kept journal");
+    let load = Record::Load {
+        client: client(rt),
+        address: address(rt, (0, 0)),
+        word: 3,
+        value: 5,
+    };
+    assert!(rt; records.get(4) == Some(&load));
+    assert!(rt; records.len() == 13);
 }
 
 #[test]

@@ -4,6 +4,7 @@ use super::steps::{Answer, Name, Step, blocked, done, framed, looked, refused, v
 use super::{address, block, client, frame, hand, order, word};
 use bitflags::Flags;
 use frame_core::{PageFlags, ZoneNo};
+use std::marker::Brand;
 use std::process::Abort;
 use std::sync::ledger::Ledger;
 use world_core::{Scanned, World};
@@ -145,4 +146,27 @@ impl<I: Ledger, N: Ledger, M: Ledger, B: Ledger> OpenWorld<I, N, M, B> {
             Err(error) => refused(error),
         }
     }
+}
+
+/// A world is handed back as it was where its round is open, and comes apart once it is shut.
+fn comes_apart<I: Ledger, N: Ledger, M: Ledger, B: Ledger>(
+    rt: &(impl Abort + AllocGlobal),
+    blanks: Blanks,
+)
+    requires blanks { AreFor blanks I.name I.parts N.name N.parts M.name M.parts B.name B.parts }
+{
+    let opened = OpenWorld::<I, N, M, B>::of(rt, 1, 64, blanks);
+    let mut world = opened.world;
+    assert!(rt; world.scan() == Ok(Scanned::Met));
+    let Err(mut world) = world.split() else {
+        panic!(rt; "a world whose round is open comes apart");
+    };
+    assert!(rt; world.is_open());
+    assert!(rt; world.shut() == Ok(0));
+    assert!(rt; world.split().is_ok());
+}
+
+#[test]
+fn a_world_comes_apart_at_rest(rt: HostRuntime) {
+    comes_apart::<Brand, Brand, Brand, Brand>(&rt, Blanks::new());
 }
