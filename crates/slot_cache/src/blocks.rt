@@ -11,7 +11,7 @@ use zone_core::ZoneError;
 const ROOM: u32 = 576;
 
 /// When rounds of compaction are run.
-#[derive(Clone, Copy, PartialEq)]
+#[derive(Clone, Copy)]
 pub enum Rounds {
     Never,
     /// Where no pageblock is whole.
@@ -22,14 +22,22 @@ impl<I: Ledger, N: Ledger, M: Ledger, B: Ledger> Cache<I, N, M, B> {
     /// Evicts objects to make room for a pageblock, and hands one out. None where no pageblock is whole then.
     pub fn take_pageblock(&mut self, rounds: Rounds) -> Result<Option<BlockNo>, Trouble> {
         self.make_room(ROOM)?;
-        if self.zone.info().whole == 0 && rounds == Rounds::AsNeeded {
-            compact(&mut self.zone, &mut self.seats)?;
+        if matches!(rounds, Rounds::AsNeeded) {
+            self.make_whole()?;
         }
         match self.zone.take_huge() {
             Ok(block) => Ok(Some(block)),
             Err(ZoneError::NoBlock) => Ok(None),
             Err(error) => Err(Trouble::Zone(error)),
         }
+    }
+
+    /// Runs a round where no pageblock is whole.
+    fn make_whole(&mut self) -> Result<(), Trouble> {
+        if self.zone.info().whole == 0 {
+            compact(&mut self.zone, &mut self.seats)?;
+        }
+        Ok(())
     }
 
     /// Takes a pageblock back that was handed out.

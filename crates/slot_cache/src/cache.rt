@@ -37,13 +37,16 @@ impl<I: Ledger, N: Ledger, M: Ledger, B: Ledger> Cache<I, N, M, B> {
         requires blanks { AreFor blanks I.name I.parts N.name N.parts M.name M.parts B.name B.parts }
     {
         let number = ZoneNo::new(0).ok_or(Trouble::Range)?;
+        let client = ClientNo::new(0).ok_or(Trouble::Range)?;
+        let first = WordNo::new(0).ok_or(Trouble::Range)?;
+        let clock = Clock::new(alloc)?;
         let (zone, scan, ends) = Zone::<I, M, B>::open_told::<N>(alloc, number, BLOCKS, blanks)?;
         Ok(Cache {
             zone,
             seats: Seats { scan, ends },
-            clock: Clock::new(alloc)?,
-            client: ClientNo::new(0).ok_or(Trouble::Range)?,
-            first: WordNo::new(0).ok_or(Trouble::Range)?,
+            clock,
+            client,
+            first,
             hits: 0,
             evictions: 0,
         })
@@ -99,20 +102,22 @@ impl<I: Ledger, N: Ledger, M: Ledger, B: Ledger> Cache<I, N, M, B> {
     /// Evicts an object that wasn't used lately. Those that are pinned stay.
     fn evict(&mut self) -> Result<(), Trouble> {
         for _passed in 0..=PINNED {
-            let key = self.clock.next_unused().ok_or(Trouble::Stuck)?;
-            if self.unmap(key)? {
-                self.clock.note_eviction(key);
-                self.evictions = self.evictions.saturating_add(1);
+            if self.evict_next()? {
                 return Ok(());
             }
         }
         Err(Trouble::Stuck)
     }
 
-    /// Unmaps the slot of an object. False where it is pinned.
-    fn unmap(&mut self, key: u32) -> Result<bool, Trouble> {
+    /// Evicts the next object that wasn't used lately. False where it is pinned.
+    fn evict_next(&mut self) -> Result<bool, Trouble> {
+        let key = self.clock.next_unused().ok_or(Trouble::Stuck)?;
         match self.zone.unmap(self.client, address_of(key)?) {
-            Ok(()) => Ok(true),
+            Ok(()) => {
+                self.clock.note_eviction(key);
+                self.evictions = self.evictions.saturating_add(1);
+                Ok(true)
+            }
             Err(ZoneError::Pinned) => Ok(false),
             Err(error) => Err(Trouble::Zone(error)),
         }

@@ -11,6 +11,7 @@ mod traffic;
 mod trouble;
 
 use blocks::Rounds;
+use std::alloc::Global;
 use std::io;
 use std::marker::Brand;
 use traffic::{Outcome, run};
@@ -18,26 +19,42 @@ use trouble::Trouble;
 use zone_core::Blanks;
 
 fn main(rt: HostRuntime) -> io::Result<()> {
-    let without = run::<Brand, Brand, Brand, Brand>(rt.alloc(), Rounds::Never, Blanks::new());
-    show(&rt, "without rounds", without)?;
-    let with = run::<Brand, Brand, Brand, Brand>(rt.alloc(), Rounds::AsNeeded, Blanks::new());
-    show(&rt, "with rounds", with)
+    show(&rt, "without rounds", outcome_of(rt.alloc(), Rounds::Never))?;
+    show(&rt, "with rounds", outcome_of(rt.alloc(), Rounds::AsNeeded))
+}
+
+/// What becomes of the requests in a zone that is opened for them.
+fn outcome_of(alloc: Global, rounds: Rounds) -> Result<Outcome, Trouble> {
+    run::<Brand, Brand, Brand, Brand>(alloc, rounds, Blanks::new())
 }
 
 fn show<R: Print>(rt: &R, how: &str, outcome: Result<Outcome, Trouble>) -> io::Result<()> {
+    match outcome {
+        Ok(outcome) => show_outcome(rt, how, &outcome),
+        Err(trouble) => println!(rt; "{how}: failed: {trouble}"),
+    }
+}
+
+fn show_outcome<R: Print>(rt: &R, how: &str, outcome: &Outcome) -> io::Result<()> {
     let Outcome {
         requests,
         hits,
         evictions,
         moves,
+        ..
+    } = outcome;
+    println!(rt; "{how}: {requests} requests, {hits} hits, {evictions} evictions, {moves} moves")?;
+    show_blocks(rt, how, outcome)
+}
+
+/// What became of the pageblocks that were asked for, and of the objects.
+fn show_blocks<R: Print>(rt: &R, how: &str, outcome: &Outcome) -> io::Result<()> {
+    let Outcome {
         asked,
         got,
         objects,
-    } = match outcome {
-        Ok(outcome) => outcome,
-        Err(trouble) => return println!(rt; "{how}: failed: {trouble}"),
-    };
-    println!(rt; "{how}: {requests} requests, {hits} hits, {evictions} evictions, {moves} moves")?;
+        ..
+    } = outcome;
     println!(rt; "{how}: {got} of {asked} pageblocks were got")?;
     println!(rt;
         "{how}: at each hit, and of {objects} objects at the end, each word was as it was stored"

@@ -74,24 +74,35 @@ impl<I: Ledger, N: Ledger, M: Ledger, B: Ledger> Traffic<I, N, M, B> {
     /// Makes all requests, and asks for all pageblocks.
     fn pass_all(&mut self, rounds: Rounds) -> Result<Outcome, Trouble> {
         for _asked in 0..ASKED {
-            self.request_all()?;
-            let block = self.cache.take_pageblock(rounds)?;
-            self.request_all()?;
-            self.give_back(block)?;
+            self.pass(rounds)?;
         }
         self.outcome()
     }
 
-    /// Requests objects, and lets a slow reader pin one now and then.
+    /// Makes requests before a pageblock is asked for and after that.
+    fn pass(&mut self, rounds: Rounds) -> Result<(), Trouble> {
+        self.request_all()?;
+        let block = self.cache.take_pageblock(rounds)?;
+        self.request_all()?;
+        self.give_back(block)
+    }
+
+    /// Requests objects.
     fn request_all(&mut self) -> Result<(), Trouble> {
         for number in 0..REQUESTS {
-            let key = self.keys.draw();
-            self.cache.request(key)?;
-            if number % PINNED_FOR == 0 {
-                self.pin(key)?;
-            }
+            self.request(number)?;
         }
         self.requests = self.requests.saturating_add(REQUESTS);
+        Ok(())
+    }
+
+    /// Requests an object. A slow reader pins it now and then.
+    fn request(&mut self, number: u32) -> Result<(), Trouble> {
+        let key = self.keys.draw();
+        self.cache.request(key)?;
+        if number % PINNED_FOR == 0 {
+            self.pin(key)?;
+        }
         Ok(())
     }
 
@@ -114,14 +125,16 @@ impl<I: Ledger, N: Ledger, M: Ledger, B: Ledger> Traffic<I, N, M, B> {
     }
 
     fn outcome(&mut self) -> Result<Outcome, Trouble> {
+        let moves = self.cache.moves()?;
+        let objects = self.cache.count()?;
         Ok(Outcome {
             requests: self.requests,
             hits: self.cache.hits,
             evictions: self.cache.evictions,
-            moves: self.cache.moves()?,
+            moves,
             asked: ASKED,
             got: self.got,
-            objects: self.cache.count()?,
+            objects,
         })
     }
 }

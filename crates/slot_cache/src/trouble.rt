@@ -3,7 +3,7 @@ use thiserror::Error;
 use zone_core::ZoneError;
 
 /// What can go wrong.
-#[derive(Clone, Copy, Debug, PartialEq, Eq, Error)]
+#[derive(Clone, Copy, Debug, Error)]
 pub enum Trouble {
     #[error("out of memory")]
     Memory,

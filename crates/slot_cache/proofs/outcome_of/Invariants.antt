@@ -1,4 +1,4 @@
-use Rattle.slot_cache.proofs.main.Given as goal
+use Rattle.slot_cache.proofs.outcome_of.Given as goal
 
 abbrev pub ghosts-run-I-Ledger : goal.ghosts-run-I-Ledger
 ghosts-run-I-Ledger a = record { name = a.blanks.isolated.name; parts = a.blanks.isolated.parts }
