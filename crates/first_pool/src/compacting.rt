@@ -3,7 +3,7 @@ ghost use Rattle.zone_core.specs.Books.{AreFor};
 use crate::numbers::{address, client, frame, word};
 use anyhow::{Context, Result};
 use bitflags::Flags;
-use frame_core::{BlockNo, PageFlags, ZoneNo};
+use frame_core::{Address, BlockNo, FrameNo, PageFlags, ZoneNo};
 use round_core::{NoGate, compact_alone};
 use std::alloc::Global;
 use std::sync::Wait;
@@ -42,11 +42,20 @@ pub struct Seen {
 
 /// Maps a page in each of two pageblocks, and stores 7 in a word of the lower one. The answer is how many pageblocks are whole then.
 fn map_two_pages<I: Ledger, M: Ledger, B: Ledger>(zone: &mut Zone<I, M, B>) -> Result<u32> {
-    let (low, high) = (address(0, 10)?, address(0, 11)?);
-    zone.map_at(client(0)?, low, PageFlags::empty(), frame(0)?)?;
-    zone.map_at(client(0)?, high, PageFlags::empty(), frame(512)?)?;
-    zone.store(client(0)?, low, word(3)?, 7)?;
+    map_page(zone, address(0, 10)?, frame(0)?)?;
+    map_page(zone, address(0, 11)?, frame(512)?)?;
+    zone.store(client(0)?, address(0, 10)?, word(3)?, 7)?;
     Ok(zone.info().whole)
+}
+
+/// Maps a fresh page in a frame.
+fn map_page<I: Ledger, M: Ledger, B: Ledger>(
+    zone: &mut Zone<I, M, B>,
+    address: Address,
+    frame: FrameNo,
+) -> Result<()> {
+    zone.map_at(client(0)?, address, PageFlags::empty(), frame)?;
+    Ok(())
 }
 
 /// Moves two pages into one pageblock, by a round of two copiers, and takes the other pageblock.
