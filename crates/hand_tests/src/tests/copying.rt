@@ -6,18 +6,19 @@ use hand_core::{Batch, Came, DoneSender, DoneTaker, done_open, done_open_in_batc
 use std::alloc::Global;
 use std::process::Abort;
 use std::sync::Wait;
-use std::thread::{Threads, join};
+use std::sync::atomic::{AtomicU32, Ordering};
+use std::thread::{Threads, join, map_vec};
 use word_core::Copied;
 
 const COPIES: u32 = 150;
 
 // The copy of a page whose serial tells its sender.
-fn copied(sender: u32, number: u32) -> Option<Copied> {
-    Some(isolated(sender.checked_mul(1000)?.checked_add(number)?, number)?.copy_into_new())
-}
-
-fn copy_of<R: Abort>(rt: &R, sender: u32, number: u32) -> Copied {
-    copied(sender, number).expect(rt, "in range")
+fn copy_of<R: Abort>(rt: &R, sender: u32, number: u32) -> Copied
+    requires { (sender < 5) × (number < 1000) }
+{
+    isolated(sender * 1000 + number, number)
+        .expect(rt, "in range")
+        .copy_into_new()
 }
 
 fn assert_is_copy<R: Abort>(rt: &R, copy: Copied, serial: u32, number: u32) {
@@ -26,60 +27,53 @@ fn assert_is_copy<R: Abort>(rt: &R, copy: Copied, serial: u32, number: u32) {
 }
 
 // Sends copies of the pages 0 to 149, and closes.
-fn send_all<R: Wait>(rt: &R, mut sender: DoneSender, number: u32) -> (DoneSender, bool)
-    requires { sender.closed ≡ false }
-    ensures { result.0.way ≡ sender.way }
+fn send_all<R: Wait + Abort>(rt: &R, mut sender: DoneSender, number: u32) -> DoneSender
+    requires open { sender.closed ≡ false }
+    requires number { number < 5 }
+    ensures { result.way ≡ sender.way }
 {
     for page in 0..COPIES {
-        let Some(copy) = copied(number, page) else {
-            return (sender, false);
-        };
-        if sender.send(rt, copy).is_err() {
-            return (sender, false);
-        }
+        assert!(rt; sender.send(rt, copy_of(rt, number, page)).is_ok());
     }
-    let closed = sender.close(rt).is_ok();
-    (sender, closed)
+    assert!(rt; sender.close(rt).is_ok());
+    sender
 }
 
-fn send_by_two<R: Threads + Wait + Sync>(
+// All senders, four at most, send under numbers of their own, each on a thread of its own.
+fn send_by_all<R: Threads + Wait + Abort + Sync>(
     rt: &R,
-    one: DoneSender,
-    two: DoneSender,
-    number: u32,
-) -> ((DoneSender, bool), (DoneSender, bool))
-    requires open { (one.closed ≡ false) × (two.closed ≡ false) }
-    requires number { number < 4 }
-    ensures { (result.0.0.way ≡ one.way) × (result.1.0.way ≡ two.way) }
+    senders: Vec<DoneSender>,
+) -> Vec<DoneSender>
+    requires { All (λ s. s.closed ≡ false) senders.items }
+    ensures { (way : _) → All (λ s. s.way ≡ way) senders.items → All (λ s. s.way ≡ way) result.items }
 {
-    join(
+    let numbers = AtomicU32::new(0);
+    map_vec(
         rt,
-        move || -> (DoneSender, bool)
-            requires { one.closed ≡ false }
-            ensures { result.0.way ≡ one.way }
-        { send_all(rt, one, number) },
-        move || -> (DoneSender, bool)
-            requires { (two.closed ≡ false) × (number < 4) }
-            ensures { result.0.way ≡ two.way }
-        { send_all(rt, two, number + 1) },
+        senders,
+        &|sender: DoneSender| -> DoneSender
+            requires { sender.closed ≡ false }
+            ensures { result.way ≡ sender.way }
+        { send_all(rt, sender, numbers.fetch_add(1, Ordering::SeqCst) % 4) },
     )
+    .expect(rt, "memory")
 }
 
-// Takes copies up to the end, and says whether it came.
-fn take_all<R: Wait>(rt: &R, alloc: Global, mut taker: DoneTaker) -> (DoneTaker, Vec<Copied>, bool)
+// Takes copies up to the end. Those of each sender come whole and in its order.
+fn take_all<R: Wait + Abort>(rt: &R, mut taker: DoneTaker) -> DoneTaker
     requires { has_ended taker ≡ false }
-    ensures way { result.0.way ≡ taker.way }
-    ensures ended { result.2 ≡ true → has_ended result.0 ≡ true }
+    ensures way { result.way ≡ taker.way }
+    ensures ended { has_ended result ≡ true }
 {
-    let mut copies = Vec::new(alloc);
+    let mut next = [0; 4];
     for _ in rt.forever() {
-        let copy = match taker.take(rt) {
-            Came::Copy(copy) => copy,
-            Came::End => return (taker, copies, true),
-            Came::Gone => return (taker, copies, false),
-        };
-        if copies.push(copy).is_err() {
-            return (taker, copies, false);
+        match taker.take(rt) {
+            Came::Copy(copy) => assert_next(rt, copy, &mut next),
+            Came::End => {
+                assert!(rt; next == [COPIES; 4], "a copy is missing");
+                return taker;
+            }
+            Came::Gone => panic!(rt; "the senders are gone"),
         }
     }
     unreachable!()
@@ -91,127 +85,52 @@ fn opened<R: Wait + Abort>(
     senders: usize,
     cap: usize,
 ) -> (Vec<DoneSender>, DoneTaker)
-    ensures senders { All (λ s. (s.way ≡ result.1.way) × (s.closed ≡ false)) result.0.items }
+    ensures way { All (λ s. s.way ≡ result.1.way) result.0.items }
+    ensures open { All (λ s. s.closed ≡ false) result.0.items }
     ensures taker { has_ended result.1 ≡ false }
 {
     done_open(rt, alloc, senders, cap).expect(rt, "a queue")
 }
 
-fn last_sender<R: Abort>(rt: &R, taker: &DoneTaker, senders: &mut Vec<DoneSender>) -> DoneSender
-    requires { All (λ s. (s.way ≡ taker.now.way) × (s.closed ≡ false)) senders.old.items }
-    ensures last { (result.way ≡ taker.now.way) × (result.closed ≡ false) }
-    ensures others { All (λ s. (s.way ≡ taker.now.way) × (s.closed ≡ false)) senders.new.items }
+fn last_sender<R: Abort>(rt: &R, senders: &mut Vec<DoneSender>) -> DoneSender
+    requires { All (λ s. s.closed ≡ false) senders.old.items }
+    ensures last { result.closed ≡ false }
+    ensures others { All (λ s. s.closed ≡ false) senders.new.items }
 {
     senders.pop().expect(rt, "a sender")
-}
-
-fn last_two<R: Abort>(
-    rt: &R,
-    taker: &DoneTaker,
-    senders: &mut Vec<DoneSender>,
-) -> (DoneSender, DoneSender)
-    requires { All (λ s. (s.way ≡ taker.now.way) × (s.closed ≡ false)) senders.old.items }
-    ensures ways { (result.0.way ≡ taker.now.way) × (result.1.way ≡ taker.now.way) }
-    ensures open { (result.0.closed ≡ false) × (result.1.closed ≡ false) }
-    ensures others { All (λ s. (s.way ≡ taker.now.way) × (s.closed ≡ false)) senders.new.items }
-{
-    let two = last_sender(rt, taker, senders);
-    let one = last_sender(rt, taker, senders);
-    (one, two)
-}
-
-// Each sender's copies came whole and in its order.
-fn assert_in_order<R: Abort>(rt: &R, copies: Vec<Copied>) {
-    assert!(rt; copies.len() == 600);
-    let mut next = [0; 4];
-    for copy in copies {
-        assert_next(rt, copy, &mut next);
-    }
-    assert!(rt;
-        next.iter().all(|number| *number == COPIES),
-        "a copy is missing"
-    );
 }
 
 // The copy is the next of its sender.
 fn assert_next<R: Abort>(rt: &R, copy: Copied, next: &mut [u32; 4]) {
     let serial = copy.serial();
-    let sender = (serial / 1000) as usize;
-    assert!(rt; sender < next.len());
-    let number = next[sender];
+    let Some(number) = next.get_mut((serial / 1000) as usize) else {
+        panic!(rt; "no sender has {serial}");
+    };
     assert!(rt;
-        number < COPIES && serial % 1000 == number,
+        serial % 1000 == *number,
         "{serial} came in the place of {number}"
     );
     assert!(rt;
-        is_page(&copy.into_page(), number),
+        is_page(&copy.into_page(), *number),
         "another copy came under {serial}"
     );
-    next[sender] = number + 1;
+    *number = number.saturating_add(1);
 }
 
 fn from_four_senders<R: Threads + Wait + Abort + Sync>(rt: &R, alloc: Global, cap: usize) {
-    let (mut senders, taker) = opened(rt, alloc, 4, cap);
-    let back = last_two(rt, &taker, &mut senders);
-    let front = last_two(rt, &taker, &mut senders);
-    let ((taker, copies, ended), (front, back)) = join(
+    let (senders, taker) = opened(rt, alloc, 4, cap);
+    let (taker, senders) = join(
         rt,
-        move || -> (DoneTaker, Vec<Copied>, bool)
+        move || -> DoneTaker
             requires { has_ended taker ≡ false }
-            ensures { (result.0.way ≡ taker.way) × (result.2 ≡ true → has_ended result.0 ≡ true) }
-        { take_all(rt, alloc, taker) },
-        move || -> (
-            ((DoneSender, bool), (DoneSender, bool)),
-            ((DoneSender, bool), (DoneSender, bool)),
-        )
-            requires { (front.0.closed ≡ false) × (front.1.closed ≡ false) × (back.0.closed ≡ false) × (back.1.closed ≡ false) }
-            ensures { (result.0.0.0.way ≡ front.0.way) × (result.0.1.0.way ≡ front.1.way) × (result.1.0.0.way ≡ back.0.way) × (result.1.1.0.way ≡ back.1.way) }
-        { send_by_four(rt, front, back) },
+            ensures { (result.way ≡ taker.way) × (has_ended result ≡ true) }
+        { take_all(rt, taker) },
+        move || -> Vec<DoneSender>
+            requires { All (λ s. s.closed ≡ false) senders.items }
+            ensures { (way : _) → All (λ s. s.way ≡ way) senders.items → All (λ s. s.way ≡ way) result.items }
+        { send_by_all(rt, senders) },
     );
-    assert!(rt; ended);
-    assert_in_order(rt, copies);
-    let (one, two) = closed_by_two(rt, front);
-    let (three, four) = closed_by_two(rt, back);
-    let senders = vec![in alloc; one, two, three, four].expect(rt, "memory");
     done_settle(taker, senders);
-}
-
-// Both senders put their marks.
-fn closed_by_two<R: Abort>(
-    rt: &R,
-    done: ((DoneSender, bool), (DoneSender, bool)),
-) -> (DoneSender, DoneSender)
-    ensures { (result.0.way ≡ done.0.0.way) × (result.1.way ≡ done.1.0.way) }
-{
-    let ((one, one_closed), (two, two_closed)) = done;
-    assert!(rt; one_closed && two_closed);
-    (one, two)
-}
-
-fn send_by_four<R: Threads + Wait + Sync>(
-    rt: &R,
-    front: (DoneSender, DoneSender),
-    back: (DoneSender, DoneSender),
-) -> (
-    ((DoneSender, bool), (DoneSender, bool)),
-    ((DoneSender, bool), (DoneSender, bool)),
-)
-    requires front { (front.0.closed ≡ false) × (front.1.closed ≡ false) }
-    requires back { (back.0.closed ≡ false) × (back.1.closed ≡ false) }
-    ensures front { (result.0.0.0.way ≡ front.0.way) × (result.0.1.0.way ≡ front.1.way) }
-    ensures back { (result.1.0.0.way ≡ back.0.way) × (result.1.1.0.way ≡ back.1.way) }
-{
-    join(
-        rt,
-        move || -> ((DoneSender, bool), (DoneSender, bool))
-            requires { (front.0.closed ≡ false) × (front.1.closed ≡ false) }
-            ensures { (result.0.0.way ≡ front.0.way) × (result.1.0.way ≡ front.1.way) }
-        { send_by_two(rt, front.0, front.1, 0) },
-        move || -> ((DoneSender, bool), (DoneSender, bool))
-            requires { (back.0.closed ≡ false) × (back.1.closed ≡ false) }
-            ensures { (result.0.0.way ≡ back.0.way) × (result.1.0.way ≡ back.1.way) }
-        { send_by_two(rt, back.0, back.1, 2) },
-    )
 }
 
 #[test]
@@ -234,7 +153,7 @@ fn copy_back<R: Wait + Abort>(rt: &R, sender: &mut DoneSender, copy: Copied) -> 
 #[test]
 fn hands_the_copy_back_where_the_taker_is_gone(rt: HostRuntime) {
     let (mut senders, taker) = opened(&rt, rt.alloc(), 2, 1);
-    let mut one = last_sender(&rt, &taker, &mut senders);
+    let mut one = last_sender(&rt, &mut senders);
     drop(taker);
     let copy = copy_back(&rt, &mut one, copy_of(&rt, 0, 3));
     assert_is_copy(&rt, copy, 3, 3);
@@ -246,8 +165,9 @@ fn opened_for_two<R: Wait + Abort>(rt: &R, alloc: Global) -> ((DoneSender, DoneS
     ensures taker { has_ended result.1 ≡ false }
 {
     let (mut senders, taker) = opened(rt, alloc, 2, 4);
-    let both = last_two(rt, &taker, &mut senders);
-    (both, taker)
+    let two = last_sender(rt, &mut senders);
+    let one = last_sender(rt, &mut senders);
+    ((one, two), taker)
 }
 
 fn taken_copy<R: Wait + Abort>(rt: &R, taker: &mut DoneTaker) -> Copied

@@ -6,20 +6,13 @@ use hand_core::{Batch, Giver, Taker, Takers, Took, open, open_in_batches, settle
 use std::alloc::Global;
 use std::process::Abort;
 use std::sync::Wait;
-use std::thread::{Threads, join};
+use std::sync::atomic::{AtomicU32, Ordering};
+use std::thread::{Threads, join, map_vec};
 use word_core::Isolated;
 
 const BASE: u32 = 5;
 
 const PAGES: u32 = 600;
-
-// A taker with the pages that it took, and whether an end mark came after them.
-#[derive(Drop)]
-struct Done {
-    taker: Taker,
-    pages: Vec<Isolated>,
-    ended: bool,
-}
 
 fn page_of<R: Abort>(rt: &R, serial: u32, number: u32) -> Isolated
     ensures { result.serial ≡ serial }
@@ -27,93 +20,38 @@ fn page_of<R: Abort>(rt: &R, serial: u32, number: u32) -> Isolated
     isolated(serial, number).expect(rt, "in range")
 }
 
-// Gives pages with the numbers 0 to count - 1, and closes.
-fn give_all<R: Wait>(rt: &R, mut giver: Giver, base: u32, count: u32) -> (Giver, bool)
+// Gives all pages, and closes.
+fn give_all<R: Wait + Abort>(rt: &R, mut giver: Giver) -> Giver
     requires open { giver.closed ≡ false }
-    requires fresh { (giver.given ≡ []) × (giver.base ≡ base) }
-    requires room { base + count < 2 ^ 32 }
-    ensures { result.0.hand_over ≡ giver.hand_over }
+    requires fresh { (giver.given ≡ []) × (giver.base ≡ BASE) }
+    ensures { result.hand_over ≡ giver.hand_over }
 {
-    for number in 0..count {
-        let Some(page) = isolated(base + number, number) else {
-            return (giver, false);
-        };
-        if giver.give(rt, page).is_err() {
-            return (giver, false);
-        }
+    for number in 0..PAGES {
+        let page = page_of(rt, BASE + number, number);
+        assert!(rt; giver.give(rt, page).is_ok());
     }
-    let closed = giver.close(rt).is_ok();
-    (giver, closed)
+    assert!(rt; giver.close(rt).is_ok());
+    giver
 }
 
-// Takes pages up to the end mark.
-fn take_all<R: Wait>(rt: &R, alloc: Global, mut taker: Taker) -> Done
+// Takes pages up to the end mark, each of a higher serial than the one before it, and counts each.
+fn take_all<R: Wait + Abort>(rt: &R, mut taker: Taker, seen: &[AtomicU32]) -> Taker
     requires { taker.ended ≡ false }
-    ensures { result.taker.hand_over ≡ taker.hand_over }
+    ensures { result.hand_over ≡ taker.hand_over }
 {
-    let mut pages = Vec::new(alloc);
+    let mut next = BASE;
     for _ in rt.forever() {
-        let page = match taker.take(rt) {
-            Took::Page(page) => page,
-            Took::End => {
-                return Done {
-                    taker,
-                    pages,
-                    ended: true,
-                };
-            }
-            Took::Gone => {
-                return Done {
-                    taker,
-                    pages,
-                    ended: false,
-                };
-            }
-        };
-        if pages.push(page).is_err() {
-            return Done {
-                taker,
-                pages,
-                ended: false,
-            };
+        match taker.take(rt) {
+            Took::Page(page) => next = note_page(rt, page, next, seen),
+            Took::End => return taker,
+            Took::Gone => panic!(rt; "the giver is gone"),
         }
     }
     unreachable!()
 }
 
-// Two takers on threads of their own take pages up to their end marks.
-fn take_by_two<R: Threads + Wait + Sync>(
-    rt: &R,
-    alloc: Global,
-    one: Taker,
-    two: Taker,
-) -> (Done, Done)
-    requires { (one.ended ≡ false) × (two.ended ≡ false) }
-    ensures { (result.0.taker.hand_over ≡ one.hand_over) × (result.1.taker.hand_over ≡ two.hand_over) }
-{
-    join(
-        rt,
-        move || -> Done
-            requires { one.ended ≡ false }
-            ensures { result.taker.hand_over ≡ one.hand_over }
-        { take_all(rt, alloc, one) },
-        move || -> Done
-            requires { two.ended ≡ false }
-            ensures { result.taker.hand_over ≡ two.hand_over }
-        { take_all(rt, alloc, two) },
-    )
-}
-
-// Notes each page of a strictly rising list, with its number and words.
-fn note_list<R: Abort>(rt: &R, list: Vec<Isolated>, seen: &mut Vec<bool>) {
-    let mut next = BASE;
-    for page in list {
-        next = note_page(rt, page, next, seen);
-    }
-}
-
-// Notes the page, whose serial is at least `next`, and returns the serial after it.
-fn note_page<R: Abort>(rt: &R, page: Isolated, next: u32, seen: &mut Vec<bool>) -> u32 {
+// Counts the page, whose serial is at least `next`, and returns the serial after it.
+fn note_page<R: Abort>(rt: &R, page: Isolated, next: u32, seen: &[AtomicU32]) -> u32 {
     let serial = page.serial();
     assert!(rt;
         BASE <= serial && next <= serial && serial < BASE + PAGES,
@@ -124,18 +62,48 @@ fn note_page<R: Abort>(rt: &R, page: Isolated, next: u32, seen: &mut Vec<bool>) 
         is_page(&page.into_page(), number),
         "another page came under {serial}"
     );
-    let at = number as usize;
-    assert!(rt; at < seen.len() && !seen[at], "{serial} came twice");
-    seen[at] = true;
+    let times = seen
+        .get(number as usize)
+        .expect(rt, "a page of the hand-over");
+    assert!(rt;
+        times.fetch_add(1, Ordering::SeqCst) == 0,
+        "{serial} came twice"
+    );
     serial + 1
 }
 
-fn nothing_seen<R: Abort>(rt: &R, alloc: Global) -> Vec<bool> {
-    Vec::from_elem(alloc, false, PAGES as usize).expect(rt, "memory")
+// All takers take pages, each on a thread of its own.
+fn take_by_all<R: Threads + Wait + Abort + Sync>(
+    rt: &R,
+    takers: Takers,
+    seen: &[AtomicU32],
+) -> Takers
+    requires { All (λ t. t.ended ≡ false) takers.items }
+    ensures { (h : _) → All (λ t. t.hand_over ≡ h) takers.items → All (λ t. t.hand_over ≡ h) result.items }
+{
+    map_vec(
+        rt,
+        takers,
+        &|taker: Taker| -> Taker
+            requires { taker.ended ≡ false }
+            ensures { result.hand_over ≡ taker.hand_over }
+        { take_all(rt, taker, seen) },
+    )
+    .expect(rt, "memory")
 }
 
-fn assert_all_seen<R: Abort>(rt: &R, seen: &Vec<bool>) {
-    assert!(rt; seen.iter().all(|seen| *seen), "a page is missing");
+fn nothing_seen<R: Abort>(rt: &R, alloc: Global) -> Vec<AtomicU32> {
+    let mut seen = Vec::new(alloc);
+    for _ in 0..PAGES {
+        seen.push(AtomicU32::new(0)).expect(rt, "memory");
+    }
+    seen
+}
+
+fn assert_all_seen<R: Abort>(rt: &R, seen: &[AtomicU32]) {
+    for times in seen {
+        assert!(rt; times.load(Ordering::SeqCst) == 1, "a page is missing");
+    }
 }
 
 fn opened<R: Wait + Abort>(
@@ -146,17 +114,10 @@ fn opened<R: Wait + Abort>(
     cap: usize,
 ) -> (Giver, Vec<Taker>)
     ensures giver { (result.0.closed ≡ false) × (result.0.given ≡ []) × (result.0.base ≡ base) }
-    ensures takers { All (λ t. (t.hand_over ≡ result.0.hand_over) × (t.ended ≡ false)) result.1.items }
+    ensures takers { All (λ t. t.hand_over ≡ result.0.hand_over) result.1.items }
+    ensures going { All (λ t. t.ended ≡ false) result.1.items }
 {
     open(rt, alloc, base, takers, cap).expect(rt, "a hand-over")
-}
-
-fn next_taker<R: Abort>(rt: &R, giver: &Giver, takers: &mut Vec<Taker>) -> Taker
-    requires { All (λ t. (t.hand_over ≡ giver.now.hand_over) × (t.ended ≡ false)) takers.old.items }
-    ensures next { (result.hand_over ≡ giver.now.hand_over) × (result.ended ≡ false) }
-    ensures others { All (λ t. (t.hand_over ≡ giver.now.hand_over) × (t.ended ≡ false)) takers.new.items }
-{
-    takers.pop().expect(rt, "a taker")
 }
 
 fn opened_for_one<R: Wait + Abort>(rt: &R, alloc: Global, base: u32, cap: usize) -> (Giver, Taker)
@@ -164,19 +125,8 @@ fn opened_for_one<R: Wait + Abort>(rt: &R, alloc: Global, base: u32, cap: usize)
     ensures taker { (result.1.hand_over ≡ result.0.hand_over) × (result.1.ended ≡ false) }
 {
     let (giver, mut takers) = opened(rt, alloc, base, 1, cap);
-    let one = next_taker(rt, &giver, &mut takers);
+    let one = takers.pop().expect(rt, "a taker");
     (giver, one)
-}
-
-fn next_two<R: Abort>(rt: &R, giver: &Giver, takers: &mut Vec<Taker>) -> (Taker, Taker)
-    requires { All (λ t. (t.hand_over ≡ giver.now.hand_over) × (t.ended ≡ false)) takers.old.items }
-    ensures hand_over { (result.0.hand_over ≡ giver.now.hand_over) × (result.1.hand_over ≡ giver.now.hand_over) }
-    ensures going { (result.0.ended ≡ false) × (result.1.ended ≡ false) }
-    ensures others { All (λ t. (t.hand_over ≡ giver.now.hand_over) × (t.ended ≡ false)) takers.new.items }
-{
-    let one = next_taker(rt, giver, takers);
-    let two = next_taker(rt, giver, takers);
-    (one, two)
 }
 
 // The giver and all its takers settle: so many pages were handed over from `base` on.
@@ -204,61 +154,23 @@ fn assert_settles_with_one<R: Abort>(
     assert_settles(rt, giver, takers, base, count);
 }
 
-// Notes what an ended taker took.
-fn note_done<R: Abort>(rt: &R, done: Done, seen: &mut Vec<bool>) -> Taker
-    ensures { result.hand_over ≡ done.taker.hand_over }
-{
-    let Done {
-        taker,
-        pages,
-        ended,
-    } = done;
-    assert!(rt; ended);
-    note_list(rt, pages, seen);
-    taker
-}
-
-fn to_one_taker<R: Threads + Wait + Abort + Sync>(rt: &R, alloc: Global, cap: usize) {
-    let (giver, one) = opened_for_one(rt, alloc, BASE, cap);
-    let ((giver, closed), one) = join(
+// Gives all pages to so many takers.
+fn to_takers<R: Threads + Wait + Abort + Sync>(rt: &R, alloc: Global, takers: usize, cap: usize) {
+    let (giver, takers) = opened(rt, alloc, BASE, takers, cap);
+    let counts = nothing_seen(rt, alloc);
+    let seen = counts.as_slice();
+    let (giver, takers) = join(
         rt,
-        move || -> (Giver, bool)
+        move || -> Giver
             requires { (giver.closed ≡ false) × (giver.given ≡ []) × (giver.base ≡ BASE) }
-            ensures { result.0.hand_over ≡ giver.hand_over }
-        { give_all(rt, giver, BASE, PAGES) },
-        move || -> Done
-            requires { one.ended ≡ false }
-            ensures { result.taker.hand_over ≡ one.hand_over }
-        { take_all(rt, alloc, one) },
+            ensures { result.hand_over ≡ giver.hand_over }
+        { give_all(rt, giver) },
+        move || -> Takers
+            requires { All (λ t. t.ended ≡ false) takers.items }
+            ensures { (h : _) → All (λ t. t.hand_over ≡ h) takers.items → All (λ t. t.hand_over ≡ h) result.items }
+        { take_by_all(rt, takers, seen) },
     );
-    assert!(rt; closed);
-    let mut seen = nothing_seen(rt, alloc);
-    let one = note_done(rt, one, &mut seen);
-    assert_all_seen(rt, &seen);
-    let takers = vec![in alloc; one].expect(rt, "memory");
-    assert_settles_with_all(rt, giver, takers);
-}
-
-fn to_two_takers<R: Threads + Wait + Abort + Sync>(rt: &R, alloc: Global, cap: usize) {
-    let (giver, mut takers) = opened(rt, alloc, BASE, 2, cap);
-    let (one, two) = next_two(rt, &giver, &mut takers);
-    let ((giver, closed), (one, two)) = join(
-        rt,
-        move || -> (Giver, bool)
-            requires { (giver.closed ≡ false) × (giver.given ≡ []) × (giver.base ≡ BASE) }
-            ensures { result.0.hand_over ≡ giver.hand_over }
-        { give_all(rt, giver, BASE, PAGES) },
-        move || -> (Done, Done)
-            requires { (one.ended ≡ false) × (two.ended ≡ false) }
-            ensures { (result.0.taker.hand_over ≡ one.hand_over) × (result.1.taker.hand_over ≡ two.hand_over) }
-        { take_by_two(rt, alloc, one, two) },
-    );
-    assert!(rt; closed);
-    let mut seen = nothing_seen(rt, alloc);
-    let one = note_done(rt, one, &mut seen);
-    let two = note_done(rt, two, &mut seen);
-    assert_all_seen(rt, &seen);
-    let takers = vec![in alloc; one, two].expect(rt, "memory");
+    assert_all_seen(rt, seen);
     assert_settles_with_all(rt, giver, takers);
 }
 
@@ -274,69 +186,12 @@ fn assert_settles_with_all<R: Abort>(rt: &R, giver: Giver, mut takers: Takers)
     assert_settles(rt, giver, takers, BASE, PAGES);
 }
 
-fn to_four_takers<R: Threads + Wait + Abort + Sync>(rt: &R, alloc: Global, cap: usize) {
-    let (giver, mut takers) = opened(rt, alloc, BASE, 4, cap);
-    let front = next_two(rt, &giver, &mut takers);
-    let back = next_two(rt, &giver, &mut takers);
-    let ((giver, closed), (front, back)) = join(
-        rt,
-        move || -> (Giver, bool)
-            requires { (giver.closed ≡ false) × (giver.given ≡ []) × (giver.base ≡ BASE) }
-            ensures { result.0.hand_over ≡ giver.hand_over }
-        { give_all(rt, giver, BASE, PAGES) },
-        move || -> ((Done, Done), (Done, Done))
-            requires { (front.0.ended ≡ false) × (front.1.ended ≡ false) × (back.0.ended ≡ false) × (back.1.ended ≡ false) }
-            ensures { (result.0.0.taker.hand_over ≡ front.0.hand_over) × (result.0.1.taker.hand_over ≡ front.1.hand_over) × (result.1.0.taker.hand_over ≡ back.0.hand_over) × (result.1.1.taker.hand_over ≡ back.1.hand_over) }
-        { take_by_four(rt, alloc, front, back) },
-    );
-    assert!(rt; closed);
-    let mut seen = nothing_seen(rt, alloc);
-    let (one, two) = note_both(rt, front, &mut seen);
-    let (three, four) = note_both(rt, back, &mut seen);
-    assert_all_seen(rt, &seen);
-    let takers = vec![in alloc; one, two, three, four].expect(rt, "memory");
-    assert_settles_with_all(rt, giver, takers);
-}
-
-fn note_both<R: Abort>(rt: &R, done: (Done, Done), seen: &mut Vec<bool>) -> (Taker, Taker)
-    ensures { (result.0.hand_over ≡ done.0.taker.hand_over) × (result.1.hand_over ≡ done.1.taker.hand_over) }
-{
-    let (one, two) = done;
-    let one = note_done(rt, one, seen);
-    let two = note_done(rt, two, seen);
-    (one, two)
-}
-
-fn take_by_four<R: Threads + Wait + Sync>(
-    rt: &R,
-    alloc: Global,
-    front: (Taker, Taker),
-    back: (Taker, Taker),
-) -> ((Done, Done), (Done, Done))
-    requires front { (front.0.ended ≡ false) × (front.1.ended ≡ false) }
-    requires back { (back.0.ended ≡ false) × (back.1.ended ≡ false) }
-    ensures front { (result.0.0.taker.hand_over ≡ front.0.hand_over) × (result.0.1.taker.hand_over ≡ front.1.hand_over) }
-    ensures back { (result.1.0.taker.hand_over ≡ back.0.hand_over) × (result.1.1.taker.hand_over ≡ back.1.hand_over) }
-{
-    join(
-        rt,
-        move || -> (Done, Done)
-            requires { (front.0.ended ≡ false) × (front.1.ended ≡ false) }
-            ensures { (result.0.taker.hand_over ≡ front.0.hand_over) × (result.1.taker.hand_over ≡ front.1.hand_over) }
-        { take_by_two(rt, alloc, front.0, front.1) },
-        move || -> (Done, Done)
-            requires { (back.0.ended ≡ false) × (back.1.ended ≡ false) }
-            ensures { (result.0.taker.hand_over ≡ back.0.hand_over) × (result.1.taker.hand_over ≡ back.1.hand_over) }
-        { take_by_two(rt, alloc, back.0, back.1) },
-    )
-}
-
 #[test]
 fn hands_600_pages_to_one_two_and_four_takers(rt: HostRuntime) {
     for cap in [1, 3, 64] {
-        to_one_taker(&rt, rt.alloc(), cap);
-        to_two_takers(&rt, rt.alloc(), cap);
-        to_four_takers(&rt, rt.alloc(), cap);
+        for takers in [1, 2, 4] {
+            to_takers(&rt, rt.alloc(), takers, cap);
+        }
     }
 }
 
@@ -395,7 +250,7 @@ fn opened_for_threes<R: Wait + Abort>(rt: &R, alloc: Global) -> (Giver, Taker)
     ensures taker { (result.1.hand_over ≡ result.0.hand_over) × (result.1.ended ≡ false) }
 {
     let (giver, mut takers) = open_in_batches(rt, alloc, BASE, 1, 6, 3).expect(rt, "a hand-over");
-    let one = next_taker(rt, &giver, &mut takers);
+    let one = takers.pop().expect(rt, "a taker");
     (giver, one)
 }
 
