@@ -7,7 +7,7 @@ mod moving;
 mod runs;
 
 use array::rate_of_array;
-use runs::{Outcome, Waits, beside_rounds, rate_at_rest, wait_beside_rounds};
+use runs::{Outcome, Plan, Spread, Work, run};
 use std::alloc::Global;
 use std::io;
 use std::marker::Brand;
@@ -26,7 +26,7 @@ pub fn show_settled<R: Threads + Wait + Print + Alloc + Clock + Sync>(
     alloc: Global,
 ) -> io::Result<()> {
     for count in COUNTS {
-        let settled = beside(rt, alloc, count).settled;
+        let settled = make_calls(rt, alloc, count, 8).settled;
         println!(rt; "clients {count} calls {settled}")?;
     }
     Ok(())
@@ -69,23 +69,42 @@ fn show_waits<R: Threads + Wait + Print + Alloc + Clock + Sync>(
 ) -> io::Result<()> {
     println!(rt; "room median 99th greatest")?;
     for cap in CAPS {
-        let Waits {
+        let Spread {
             median,
             high,
             greatest,
-        } = waits_of(rt, alloc, cap);
+        } = make_loads(rt, alloc, cap).times;
         println!(rt; "{cap:>4} {median:>6} {high:>4} {greatest:>8}")?;
     }
     Ok(())
 }
 
 /// Thousands of calls in a second, and the most pages that were moved meanwhile.
-#[derive(Clone, Copy, Default)]
+#[derive(Clone, Copy)]
 struct Rates {
     array: u64,
     rest: u64,
     rounds: u64,
     moved: u32,
+}
+
+impl Rates {
+    const NONE: Rates = Rates {
+        array: 0,
+        rest: 0,
+        rounds: 0,
+        moved: 0,
+    };
+
+    /// The better of each.
+    fn or(self, other: Rates) -> Rates {
+        Rates {
+            array: self.array.max(other.array),
+            rest: self.rest.max(other.rest),
+            rounds: self.rounds.max(other.rounds),
+            moved: self.moved.max(other.moved),
+        }
+    }
 }
 
 /// The best of so many times.
@@ -95,42 +114,52 @@ fn best_rates<R: Threads + Wait + Clock + Sync>(
     count: u32,
     times: u32,
 ) -> Rates {
-    let mut best = Rates::default();
+    let mut best = Rates::NONE;
     for _time in 0..times {
-        let Outcome { rate, moved, .. } = beside(rt, alloc, count);
-        best = Rates {
-            array: best.array.max(rate_of_array(rt, count).unwrap_or(0)),
-            rest: best.rest.max(at_rest(rt, alloc, count)),
-            rounds: best.rounds.max(rate),
-            moved: best.moved.max(moved),
-        };
+        best = best.or(measure(rt, alloc, count));
     }
     best
 }
 
-/// How many thousands of calls clients make in a second, of a zone at rest.
-fn at_rest<R: Threads + Wait + Clock + Sync>(rt: &R, alloc: Global, count: u32) -> u64 {
-    rate_at_rest::<Brand, Brand, Brand, Brand, Brand, R>(rt, alloc, count, Blanks::new()).unwrap_or(
-        0,
-    )
+fn measure<R: Threads + Wait + Clock + Sync>(rt: &R, alloc: Global, count: u32) -> Rates {
+    let beside = make_calls(rt, alloc, count, 8);
+    Rates {
+        array: rate_of_array(rt, count).unwrap_or(0),
+        rest: make_calls(rt, alloc, count, 0).rate(),
+        rounds: beside.rate(),
+        moved: beside.moved,
+    }
 }
 
-/// What clients do beside rounds.
-fn beside<R: Threads + Wait + Clock + Sync>(rt: &R, alloc: Global, count: u32) -> Outcome {
-    beside_rounds::<Brand, Brand, Brand, Brand, Brand, R>(
-        rt,
-        alloc,
-        count,
-        Blanks::new(),
-    ).unwrap_or_default()
+/// What clients do beside rounds whose queues have so much room, or at rest where they have none.
+fn make_calls<R: Threads + Wait + Clock + Sync>(
+    rt: &R,
+    alloc: Global,
+    clients: u32,
+    room: usize,
+) -> Outcome {
+    let work = Work::Calls;
+    let plan = Plan {
+        clients,
+        work,
+        room,
+    };
+    outcome_of(rt, alloc, plan)
 }
 
 /// How long loads take beside rounds whose queues have so much room.
-fn waits_of<R: Threads + Wait + Clock + Sync>(rt: &R, alloc: Global, cap: usize) -> Waits {
-    wait_beside_rounds::<Brand, Brand, Brand, Brand, Brand, R>(
-        rt,
-        alloc,
-        cap,
-        Blanks::new(),
-    ).unwrap_or_default()
+fn make_loads<R: Threads + Wait + Clock + Sync>(rt: &R, alloc: Global, room: usize) -> Outcome {
+    let work = Work::Loads;
+    let plan = Plan {
+        clients: 1,
+        work,
+        room,
+    };
+    outcome_of(rt, alloc, plan)
+}
+
+fn outcome_of<R: Threads + Wait + Clock + Sync>(rt: &R, alloc: Global, plan: Plan) -> Outcome {
+    run::<Brand, Brand, Brand, Brand, Brand, R>(rt, alloc, plan, Blanks::new()).unwrap_or(
+        Outcome::NOTHING,
+    )
 }

@@ -10,6 +10,7 @@ mod clients;
 mod hands;
 mod opening;
 mod rounds;
+mod settings;
 mod times;
 
 use anyhow::{Context, Error, Result, anyhow};
@@ -27,7 +28,7 @@ fn main(rt: HostRuntime) -> Result<()> {
         show_all(&rt, rt.alloc())?;
         return Ok(());
     };
-    show(&rt, rt.alloc(), subject.as_str(), words)
+    show(&rt, rt.alloc(), Subject::named(subject.as_str())?, words)
 }
 
 /// What rounds, clients and hands did.
@@ -41,15 +42,37 @@ fn show_all<R: Threads + Wait + Print + Alloc + Clock + Sync>(
     calls::show_calls(rt, alloc, 1000)
 }
 
+/// What is measured.
+#[derive(Clone, Copy)]
+enum Subject {
+    Rounds,
+    Clients,
+    Hands,
+    Calls,
+}
+
+impl Subject {
+    /// The subject that a word names.
+    fn named(word: &str) -> Result<Subject> {
+        match word {
+            "rounds" => Ok(Subject::Rounds),
+            "clients" => Ok(Subject::Clients),
+            "hands" => Ok(Subject::Hands),
+            "calls" => Ok(Subject::Calls),
+            _ => Err(usage()),
+        }
+    }
+}
+
 fn show<R: Threads + Wait + Print + Alloc + Clock + Sync>(
     rt: &R,
     alloc: Global,
-    subject: &str,
+    subject: Subject,
     mut words: Args,
 ) -> Result<()> {
     match (words.next(), words.next()) {
         (None, _) => show_doings(rt, alloc, subject),
-        (Some(times), None) => show_times(rt, alloc, subject, times.as_str()),
+        (Some(times), None) => show_times(rt, alloc, subject, number_in(times.as_str())?),
         (Some(part), Some(times)) => {
             show_part(rt, alloc, subject, part.as_str(), times.as_str())
         }
@@ -60,48 +83,46 @@ fn show<R: Threads + Wait + Print + Alloc + Clock + Sync>(
 fn show_doings<R: Threads + Wait + Print + Alloc + Clock + Sync>(
     rt: &R,
     alloc: Global,
-    subject: &str,
+    subject: Subject,
 ) -> Result<()> {
-    match subject {
-        "rounds" => rounds::show_moves(rt, alloc)?,
-        "clients" => clients::show_settled(rt, alloc)?,
-        "hands" => hands::show_loads(rt, alloc)?,
-        _ => return Err(usage()),
-    }
-    Ok(())
+    let shown = match subject {
+        Subject::Rounds => rounds::show_moves(rt, alloc),
+        Subject::Clients => clients::show_settled(rt, alloc),
+        Subject::Hands => hands::show_loads(rt, alloc),
+        Subject::Calls => return Err(usage()),
+    };
+    Ok(shown?)
 }
 
 /// How long a subject takes.
 fn show_times<R: Threads + Wait + Print + Alloc + Clock + Sync>(
     rt: &R,
     alloc: Global,
-    subject: &str,
-    times: &str,
+    subject: Subject,
+    times: u32,
 ) -> Result<()> {
-    match subject {
-        "rounds" => rounds::show_times(rt, alloc, number_in(times)?)?,
-        "clients" => clients::show_times(rt, alloc, number_in(times)?)?,
-        "calls" => calls::show_times(rt, alloc, number_in(times)?)?,
-        "hands" => hands::show_times(rt, alloc, number_in(times)?)?,
-        _ => return Err(usage()),
-    }
-    Ok(())
+    let shown = match subject {
+        Subject::Rounds => rounds::show_times(rt, alloc, times),
+        Subject::Clients => clients::show_times(rt, alloc, times),
+        Subject::Hands => hands::show_times(rt, alloc, times),
+        Subject::Calls => calls::show_times(rt, alloc, times),
+    };
+    Ok(shown?)
 }
 
 /// What a part of a subject does.
 fn show_part<R: Print + Alloc + Clock>(
     rt: &R,
     alloc: Global,
-    subject: &str,
+    subject: Subject,
     part: &str,
     times: &str,
 ) -> Result<()> {
     match (subject, part) {
-        ("rounds", part) => rounds::show_part(rt, alloc, part, number_in(times)?)?,
-        ("calls", "told") => calls::show_calls(rt, alloc, number_in(times)?)?,
-        _ => return Err(usage()),
+        (Subject::Rounds, part) => rounds::show_part(rt, alloc, part, number_in(times)?),
+        (Subject::Calls, "told") => Ok(calls::show_calls(rt, alloc, number_in(times)?)?),
+        _ => Err(usage()),
     }
-    Ok(())
 }
 
 fn number_in(word: &str) -> Result<u32> {

@@ -3,6 +3,7 @@
 mod alone;
 mod timed;
 
+use crate::settings::SETTINGS;
 use crate::times::Times;
 use alone::{fill_alone, move_alone};
 use std::alloc::Global;
@@ -14,20 +15,14 @@ use std::time::Clock;
 use timed::run_round;
 use zone_core::Blanks;
 
-const COPIERS: [usize; 3] = [1, 2, 4];
-
-const CAPS: [usize; 3] = [1, 8, 64];
-
 /// What the rounds move, which doesn't depend on the schedule.
 pub fn show_moves<R: Threads + Wait + Print + Alloc + Clock + Sync>(
     rt: &R,
     alloc: Global,
 ) -> io::Result<()> {
-    for copiers in COPIERS {
-        for cap in CAPS {
-            let moved = best_round(rt, alloc, copiers, cap, 1)?.moved;
-            println!(rt; "copiers {copiers} room {cap} moved {moved}")?;
-        }
+    for (copiers, cap) in SETTINGS {
+        let moved = best_round(rt, alloc, copiers, cap, 1)?.moved;
+        println!(rt; "copiers {copiers} room {cap} moved {moved}")?;
     }
     Ok(())
 }
@@ -42,15 +37,23 @@ pub fn show_times<R: Threads + Wait + Print + Alloc + Clock + Sync>(
     let (whole, each) = (alone.whole / 1000, alone.each());
     println!(rt; "copiers room us ns/page percent us/empty")?;
     println!(rt; "     -    - {whole:>4} {each:>5}     100")?;
-    for copiers in COPIERS {
-        for cap in CAPS {
-            let round = best_round(rt, alloc, copiers, cap, times)?;
-            let percent = round.whole.saturating_mul(100) / alone.whole.max(1);
-            let (whole, each, empty) = (round.whole / 1000, round.each(), round.empty / 1000);
-            println!(rt; "{copiers:>6} {cap:>4} {whole:>4} {each:>5} {percent:>7} {empty:>8}")?;
-        }
+    for (copiers, cap) in SETTINGS {
+        let round = best_round(rt, alloc, copiers, cap, times)?;
+        show_round(rt, copiers, cap, round, alone)?;
     }
     Ok(())
+}
+
+fn show_round<R: Print>(
+    rt: &R,
+    copiers: usize,
+    cap: usize,
+    round: Times,
+    alone: Times,
+) -> io::Result<()> {
+    let percent = round.whole.saturating_mul(100) / alone.whole.max(1);
+    let (whole, each, empty) = (round.whole / 1000, round.each(), round.empty / 1000);
+    println!(rt; "{copiers:>6} {cap:>4} {whole:>4} {each:>5} {percent:>7} {empty:>8}")
 }
 
 /// Does the work of the zone alone so many times, or only fills the zone for it.

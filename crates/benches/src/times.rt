@@ -45,6 +45,6 @@ pub fn nanos_since(rt: &impl Clock, start: &Instant) -> io::Result<u64> {
 }
 
 /// How many thousands of calls that is in a second.
-pub fn thousands(calls: u32, nanos: u64) -> u64 {
-    u64::from(calls).saturating_mul(1_000_000) / nanos.max(1)
+pub fn thousands(calls: usize, nanos: u64) -> u64 {
+    (calls as u64).saturating_mul(1_000_000) / nanos.max(1)
 }

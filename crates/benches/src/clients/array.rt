@@ -13,7 +13,7 @@ pub fn rate_of_array<R: Threads + Wait + Clock + Sync>(rt: &R, count: u32) -> Op
     let start = Instant::now(rt).ok()?;
     array.use_all(rt, count);
     let nanos = nanos_since(rt, &start).ok()?;
-    Some(thousands(CALLS.saturating_mul(count), nanos))
+    Some(thousands(CALLS.saturating_mul(count) as usize, nanos))
 }
 
 /// Eight words for each page.

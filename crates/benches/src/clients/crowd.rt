@@ -4,105 +4,95 @@ use super::filled::PAGES;
 use crate::opening::page;
 use crate::times::nanos_since;
 use client_core::Client;
-use frame_core::{ClientNo, WordNo};
+use frame_core::WordNo;
 use round_core::{SharedZone, ZoneIdentity};
 use std::alloc::Global;
 use std::sync::Wait;
 use std::sync::ledger::Ledger;
-use std::thread::{Threads, join};
+use std::thread::{Threads, for_each_mut, join};
 use std::time::{Clock, Instant};
 
 /// Calls that each client makes.
 pub const CALLS: u32 = 8192;
 
-/// So many clients, with the numbers from 1 on.
-pub fn clients(alloc: Global, count: u32) -> Option<Vec<Client>> {
-    let mut clients = Vec::new(alloc);
-    for number in 0..count {
-        let number = ClientNo::new(number.saturating_add(1))?;
-        clients.push(Client::new(alloc, number)).ok()?;
-    }
-    Some(clients)
-}
+/// Loads whose times are taken.
+const LOADS: u32 = 10_000;
 
 /// The word of a client.
 fn word_of(client: &Client) -> Option<WordNo> {
     WordNo::new(client.number().get())
 }
 
-/// At most four clients, each on a thread of its own.
-pub fn use_all<
+/// Lets at most four clients make their calls, each on a thread of its own. How long all calls take, in nanoseconds.
+pub fn time_calls<
+    K: ZoneIdentity + Send + Sync,
+    I: Ledger + Send + Sync,
+    M: Ledger + Send + Sync,
+    B: Ledger + Send + Sync,
+    R: Threads + Wait + Clock + Sync,
+>(
+    rt: &R,
+    alloc: Global,
+    shared: &SharedZone<K, I, M, B>,
+    clients: &mut [Client],
+) -> Option<Vec<u64>> {
+    let start = Instant::now(rt).ok()?;
+    use_all(rt, shared, clients);
+    let nanos = nanos_since(rt, &start).ok()?;
+    Vec::from_array(alloc, [nanos]).ok()
+}
+
+/// Lets each client make its calls, one half of them beside the other.
+fn use_all<
     K: ZoneIdentity + Send + Sync,
     I: Ledger + Send + Sync,
     M: Ledger + Send + Sync,
     B: Ledger + Send + Sync,
     R: Threads + Wait + Sync,
->(rt: &R, shared: &SharedZone<K, I, M, B>, clients: &mut [Client]) -> Option<()> {
+>(rt: &R, shared: &SharedZone<K, I, M, B>, clients: &mut [Client]) {
     let (low, high) = clients.split_at_mut(clients.len() / 2);
-    let (low, high) = join(
+    join(
         rt,
-        move || -> Option<()> { use_two(rt, shared, low) },
-        move || -> Option<()> { use_two(rt, shared, high) },
+        move || use_two(rt, shared, low),
+        move || use_two(rt, shared, high),
     );
-    low.and(high)
 }
 
-/// At most two clients.
+/// Lets at most two clients make their calls.
 fn use_two<
     K: ZoneIdentity + Send + Sync,
     I: Ledger + Send + Sync,
     M: Ledger + Send + Sync,
     B: Ledger + Send + Sync,
     R: Threads + Wait + Sync,
->(rt: &R, shared: &SharedZone<K, I, M, B>, clients: &mut [Client]) -> Option<()> {
-    match clients {
-        [] => Some(()),
-        [client] => use_pages(rt, shared, client),
-        [low, high, ..] => {
-            let (low, high) = join(
-                rt,
-                move || -> Option<()> { use_pages(rt, shared, low) },
-                move || -> Option<()> { use_pages(rt, shared, high) },
-            );
-            low.and(high)
-        }
-    }
+>(rt: &R, shared: &SharedZone<K, I, M, B>, clients: &mut [Client]) {
+    for_each_mut(rt, clients, 2, &|_, client| use_pages(rt, shared, client));
 }
 
-/// Stores to the client's word of each page and loads it, by turns.
+/// Stores to the client's word of each page and loads it, by turns, until a call is refused.
 fn use_pages<K: ZoneIdentity, I: Ledger, M: Ledger, B: Ledger, R: Wait>(
     rt: &R,
     shared: &SharedZone<K, I, M, B>,
     client: &mut Client,
-) -> Option<()> {
+) {
     for turn in 0..CALLS / 2 {
-        store(rt, shared, client, turn)?;
-        load(rt, shared, client, turn)?;
+        if use_page(rt, shared, client, turn).is_none() {
+            break;
+        }
     }
-    Some(())
 }
 
-/// Stores to the client's word of the page whose turn it is.
-fn store<K: ZoneIdentity, I: Ledger, M: Ledger, B: Ledger, R: Wait>(
-    rt: &R,
-    shared: &SharedZone<K, I, M, B>,
-    client: &mut Client,
-    turn: u32,
-) -> Option<()> {
-    let word = word_of(client)?;
-    client
-        .store(rt, shared, page(turn % PAGES)?, word, u64::from(turn))
-        .ok()
-}
-
-/// Loads the client's word of the page whose turn it is.
-fn load<K: ZoneIdentity, I: Ledger, M: Ledger, B: Ledger, R: Wait>(
+/// Stores to the client's word of the page whose turn it is, and loads it.
+fn use_page<K: ZoneIdentity, I: Ledger, M: Ledger, B: Ledger, R: Wait>(
     rt: &R,
     shared: &SharedZone<K, I, M, B>,
     client: &mut Client,
     turn: u32,
 ) -> Option<u64> {
     let word = word_of(client)?;
+    client
+        .store(rt, shared, page(turn % PAGES)?, word, u64::from(turn))
+        .ok()?;
     client.load(rt, shared, page(turn % PAGES)?, word).ok()
 }
 
@@ -112,15 +102,23 @@ pub fn time_loads<K: ZoneIdentity, I: Ledger, M: Ledger, B: Ledger, R: Wait + Cl
     alloc: Global,
     shared: &SharedZone<K, I, M, B>,
     client: &mut Client,
-    loads: u32,
 ) -> Option<Vec<u64>> {
-    let word = word_of(client)?;
     let mut nanos = Vec::new(alloc);
-    for load in 0..loads {
-        let address = page(load % PAGES)?;
-        let start = Instant::now(rt).ok()?;
-        client.load(rt, shared, address, word).ok()?;
-        nanos.push(nanos_since(rt, &start).ok()?).ok()?;
+    for load in 0..LOADS {
+        nanos.push(time_load(rt, shared, client, load)?).ok()?;
     }
     Some(nanos)
+}
+
+/// How long a load of the client's word of the page takes whose turn it is, in nanoseconds.
+fn time_load<K: ZoneIdentity, I: Ledger, M: Ledger, B: Ledger, R: Wait + Clock>(
+    rt: &R,
+    shared: &SharedZone<K, I, M, B>,
+    client: &mut Client,
+    turn: u32,
+) -> Option<u64> {
+    let (word, address) = (word_of(client)?, page(turn % PAGES)?);
+    let start = Instant::now(rt).ok()?;
+    client.load(rt, shared, address, word).ok()?;
+    nanos_since(rt, &start).ok()
 }

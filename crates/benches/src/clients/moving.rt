@@ -14,7 +14,7 @@ use zone_core::Seats;
 const COPIERS: usize = 2;
 
 /// Frees the frames after the pages of the clients, and moves the pages there by a round, again and again, until the clients have
-/// ended or the pages stand at the top. How many pages were moved.
+/// ended or the pages stand at the top. How many pages were moved. No round is run where the queues have no room.
 pub fn run_rounds<
     K: ZoneIdentity + Send + Sync,
     I: Ledger + Send + Sync,
@@ -31,10 +31,10 @@ pub fn run_rounds<
     cap: usize,
     ended: &AtomicBool,
 ) -> Option<u32> {
-    if cap == 0 || cap > 64 {
-        return None;
-    }
     let mut moved = 0u32;
+    if cap == 0 || cap > 64 {
+        return Some(moved);
+    }
     for round in 1..FRAMES / PAGES {
         if ended.load(Ordering::SeqCst) {
             break;

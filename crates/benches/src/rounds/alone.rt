@@ -22,11 +22,17 @@ pub fn half_full<I: Ledger, N: Ledger, M: Ledger, B: Ledger>(
 ) -> Option<Opening<I, N, M, B>>
     requires blanks { AreFor blanks I.name I.parts N.name N.parts M.name M.parts B.name B.parts }
 {
-    let Opening { mut zone, seats } = open::<I, N, M, B>(alloc, blanks)?;
+    let mut opening = open::<I, N, M, B>(alloc, blanks)?;
+    map_pages(&mut opening.zone)?;
+    Some(opening)
+}
+
+/// Maps a page to each frame of the lower half.
+fn map_pages<I: Ledger, M: Ledger, B: Ledger>(zone: &mut Zone<I, M, B>) -> Option<()> {
     for number in 0..PAGES {
-        map_page(&mut zone, number)?;
+        map_page(zone, number)?;
     }
-    Some(Opening { zone, seats })
+    Some(())
 }
 
 /// The virtual page of this number names a fresh page at the lowest free frame.
@@ -44,15 +50,20 @@ pub fn move_alone<I: Ledger, N: Ledger, M: Ledger, B: Ledger, R: Clock>(
 ) -> io::Result<Times>
     requires blanks { AreFor blanks I.name I.parts N.name N.parts M.name M.parts B.name B.parts }
 {
-    let Some(opening) = half_full::<I, N, M, B>(alloc, blanks) else {
-        return Ok(Times::NONE);
-    };
-    let Opening {
-        mut zone,
-        mut seats,
-    } = opening;
+    match half_full::<I, N, M, B>(alloc, blanks) {
+        Some(mut opening) => time_moves(rt, &mut opening.zone, &mut opening.seats),
+        None => Ok(Times::NONE),
+    }
+}
+
+/// How long it takes to move what can be moved.
+fn time_moves<I: Ledger, N: Ledger, M: Ledger, B: Ledger, R: Clock>(
+    rt: &R,
+    zone: &mut Zone<I, M, B>,
+    seats: &mut Seats<I, N, M, B>,
+) -> io::Result<Times> {
     let start = Instant::now(rt)?;
-    let moved = move_all(&mut zone, &mut seats);
+    let moved = move_all(zone, seats);
     let whole = nanos_since(rt, &start)?;
     Ok(Times {
         moved,

@@ -30,10 +30,10 @@ pub fn run_round<
     if copiers == 0 || copiers > 4 || cap == 0 || cap > 64 {
         return Ok(Times::NONE);
     }
-    let Some(Opening { zone, seats }) = half_full::<I, N, M, B>(alloc, blanks) else {
+    let Some(Opening { zone, mut seats }) = half_full::<I, N, M, B>(alloc, blanks) else {
         return Ok(Times::NONE);
     };
-    time_rounds::<Brand, I, N, M, B, R>(rt, alloc, zone, seats, copiers, cap)
+    time_rounds::<Brand, I, N, M, B, R>(rt, alloc, zone, &mut seats, copiers, cap)
 }
 
 /// How long both rounds take over a zone of the identity that the type names.
@@ -48,7 +48,7 @@ fn time_rounds<
     rt: &R,
     alloc: Global,
     zone: Zone<I, M, B>,
-    mut seats: Seats<I, N, M, B>,
+    seats: &mut Seats<I, N, M, B>,
     copiers: usize,
     cap: usize,
 ) -> io::Result<Times>
@@ -57,11 +57,33 @@ fn time_rounds<
     requires identity { HasIdentity K.number K.blocks zone }
 {
     let shared = SharedZone::<K, I, M, B>::new(zone);
+    time_both(rt, alloc, &shared, seats, copiers, cap)
+}
+
+/// How long a round takes, and one after it.
+fn time_both<
+    K: ZoneIdentity + Send + Sync,
+    I: Ledger + Send + Sync,
+    N: Ledger,
+    M: Ledger + Send + Sync,
+    B: Ledger + Send + Sync,
+    R: Threads + Wait + Clock + Sync,
+>(
+    rt: &R,
+    alloc: Global,
+    shared: &SharedZone<K, I, M, B>,
+    seats: &mut Seats<I, N, M, B>,
+    copiers: usize,
+    cap: usize,
+) -> io::Result<Times>
+    requires copiers { (0 < copiers) × (copiers ≤ 4) }
+    requires cap { (0 < cap) × (cap ≤ 64) }
+{
     let start = Instant::now(rt)?;
-    let moved = moved_by(rt, alloc, &shared, &mut seats, copiers, cap);
+    let moved = moved_by(rt, alloc, shared, seats, copiers, cap);
     let whole = nanos_since(rt, &start)?;
     let start = Instant::now(rt)?;
-    let _none = moved_by(rt, alloc, &shared, &mut seats, copiers, cap);
+    let _none = moved_by(rt, alloc, shared, seats, copiers, cap);
     let empty = nanos_since(rt, &start)?;
     Ok(Times {
         moved,
