@@ -78,8 +78,7 @@ fn own_row(profile: Profile, keyword: Token, number: u64, arguments: &[u8]) -> O
     }
 }
 
-/// The command by the rows that only profile 2 has. Here as below, each row with two arguments or more that isn't a client's call has a
-/// function of its own.
+/// The command by the rows that only profile 2 has. Here as below, each row with two arguments or more has a function of its own.
 fn row_of_profile_2(keyword: Token, zone: Option<ZoneNo>, arguments: &[u8]) -> Option<Command>
     ensures { result ≡ row_of_profile_2 keyword zone (tokens arguments.now) }
 {
@@ -111,15 +110,20 @@ fn order_pool_row(zone: Option<ZoneNo>, arguments: &[u8]) -> Option<Command>
     Some(pool(zone, blocks(n), order(k).map(PoolBlocks::OfOrder)))
 }
 
-/// The command by the rows that both profiles have: the rows of a client's calls come last.
+/// The command by the rows that both profiles have.
 fn row(keyword: Token, zone: Option<ZoneNo>, arguments: &[u8]) -> Option<Command>
     ensures { result ≡ row_of keyword zone (tokens arguments.now) }
 {
     use Token::{
-        Compact, Copy, Fill, Finish, Give, Huge, Info, Look, Pool, Scan, Shut, Take, Thin, Zone,
+        Compact, Copy, Fill, Finish, Give, Huge, Info, Load, Look, Map, MapAt, Pin, Pool, Scan,
+        Share, Shut, Store, Take, Thin, Unmap, Unpin, Zone,
     };
     match keyword {
         Zone => Some(open(zone, blocks(one_number(arguments)?))),
+        Map => map_row(zone, arguments),
+        MapAt => map_at_row(zone, arguments),
+        Store => store_row(zone, arguments),
+        Load => load_row(zone, arguments),
         Info if is_end(arguments) => Some(on(zone, Some(Call::Info))),
         Scan if is_end(arguments) => Some(on(zone, Some(Call::Scan))),
         Take => Some(on(zone, hand(one_number(arguments)?).map(Call::Take))),
@@ -127,6 +131,10 @@ fn row(keyword: Token, zone: Option<ZoneNo>, arguments: &[u8]) -> Option<Command
         Finish => Some(on(zone, hand(one_number(arguments)?).map(Call::Finish))),
         Shut if is_end(arguments) => Some(on(zone, Some(Call::Shut))),
         Look => look_row(zone, arguments),
+        Share => share_row(zone, arguments),
+        Unmap => unmap_row(zone, arguments),
+        Pin => pin_row(zone, arguments),
+        Unpin => unpin_row(zone, arguments),
         Huge if is_end(arguments) => Some(on(zone, Some(Call::Huge))),
         Give => Some(on(zone, pageblock(one_number(arguments)?).map(Call::Give))),
         Fill => fill_row(zone, arguments),
@@ -137,7 +145,7 @@ fn row(keyword: Token, zone: Option<ZoneNo>, arguments: &[u8]) -> Option<Command
             blocks(one_number(arguments)?),
             Some(PoolBlocks::Pageblocks),
         )),
-        _ => on_row(zone, client_row(keyword, arguments)),
+        _ => None,
     }
 }
 
@@ -200,12 +208,68 @@ fn client_row(keyword: Token, arguments: &[u8]) -> Option<Option<ClientCall>>
     }
 }
 
+/// `map Z S V`, with or without `unmovable`.
+fn map_row(zone: Option<ZoneNo>, arguments: &[u8]) -> Option<Command>
+    ensures { result ≡ row_of Token.Map zone (tokens arguments.now) }
+{
+    on_row(zone, client_row(Token::Map, arguments))
+}
+
+/// `mapat Z S V F`, with or without `unmovable`.
+fn map_at_row(zone: Option<ZoneNo>, arguments: &[u8]) -> Option<Command>
+    ensures { result ≡ row_of Token.MapAt zone (tokens arguments.now) }
+{
+    on_row(zone, client_row(Token::MapAt, arguments))
+}
+
+/// `store Z S V W X`.
+fn store_row(zone: Option<ZoneNo>, arguments: &[u8]) -> Option<Command>
+    ensures { result ≡ row_of Token.Store zone (tokens arguments.now) }
+{
+    on_row(zone, client_row(Token::Store, arguments))
+}
+
+/// `load Z S V W`.
+fn load_row(zone: Option<ZoneNo>, arguments: &[u8]) -> Option<Command>
+    ensures { result ≡ row_of Token.Load zone (tokens arguments.now) }
+{
+    on_row(zone, client_row(Token::Load, arguments))
+}
+
 /// `look Z S V`.
 fn look_row(zone: Option<ZoneNo>, arguments: &[u8]) -> Option<Command>
     ensures { result ≡ row_of Token.Look zone (tokens arguments.now) }
 {
     let (s, v) = two_numbers(arguments)?;
     Some(on(zone, address(s, v).map(Call::Look)))
+}
+
+/// `share Z S V S2 V2`.
+fn share_row(zone: Option<ZoneNo>, arguments: &[u8]) -> Option<Command>
+    ensures { result ≡ row_of Token.Share zone (tokens arguments.now) }
+{
+    on_row(zone, client_row(Token::Share, arguments))
+}
+
+/// `unmap Z S V`.
+fn unmap_row(zone: Option<ZoneNo>, arguments: &[u8]) -> Option<Command>
+    ensures { result ≡ row_of Token.Unmap zone (tokens arguments.now) }
+{
+    on_row(zone, client_row(Token::Unmap, arguments))
+}
+
+/// `pin Z S V`.
+fn pin_row(zone: Option<ZoneNo>, arguments: &[u8]) -> Option<Command>
+    ensures { result ≡ row_of Token.Pin zone (tokens arguments.now) }
+{
+    on_row(zone, client_row(Token::Pin, arguments))
+}
+
+/// `unpin Z S V`.
+fn unpin_row(zone: Option<ZoneNo>, arguments: &[u8]) -> Option<Command>
+    ensures { result ≡ row_of Token.Unpin zone (tokens arguments.now) }
+{
+    on_row(zone, client_row(Token::Unpin, arguments))
 }
 
 /// `fill Z S V N`.
