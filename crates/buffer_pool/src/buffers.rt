@@ -6,10 +6,9 @@ use crate::file::WORDS;
 use crate::trouble::Trouble;
 use bitflags::Flags;
 use frame_core::{Address, BlockNo, ClientNo, FrameNo, PageFlags, SpaceNo, VPage, WordOf, ZoneNo};
-use solo_core::compact;
 use std::alloc::Global;
 use std::sync::ledger::Ledger;
-use zone_core::{Answered, Blanks, Look, Seats, ZoneError, ZoneOf};
+use zone_core::{Answered, Blanks, Look, Seats, ZoneError, ZoneOf, compact};
 
 const PAGEBLOCKS: u32 = 8;
 

@@ -2,8 +2,8 @@
 use Rattle.std.proofs.Common.{◌≡◌, ℕ, List, [], ◌∷◌, ◌++◌, refl, sym, ap, subst, ◌∙◌, append_assoc, Option, None, Some}
 use Rattle.std.specs.Prelude.{Result, Ok, Err, IfOk, IfErr, OnOk}
 use Rattle.std.specs.Result.{result_err}
-use Rattle.halves_core.specs.Told.{Pair, Told, pair_of, written_if}
-use Rattle.journal_core.specs.declared.record.Record.{Record}
+use Rattle.hand_core.specs.Told.{Pair, Told, pair_of, written_if}
+use Rattle.frame_core.specs.declared.record.Record.{Record}
 use Rattle.state_core.specs.declared.call.ZoneAnswer.{ZoneAnswer}
 use Rattle.state_core.specs.declared.call.ZoneCall.{ZoneCall}
 use Rattle.state_core.specs.declared.error.ZoneError.{ZoneError}

@@ -2,8 +2,8 @@
 use Rattle.std.proofs.Common.{◌≡◌, ℕ, Bool, false, refl, sym, ap, subst, ◌∙◌, Option, None, Some}
 use Rattle.std.specs.Prelude.{IfErr, Result, is_none, is_some, not, unwrap_or}
 use Rattle.frame_core.specs.declared.place.Address.{Address}
-use Rattle.journal_core.specs.declared.record.Record.TheVariants as entry
-use Rattle.journal_core.specs.History.{page_at}
+use Rattle.frame_core.specs.declared.record.Record.TheVariants as entry
+use Rattle.frame_core.specs.History.{page_at}
 use Rattle.state_core.specs.declared.call.ZoneAnswer.{ZoneAnswer}
 use Rattle.state_core.specs.declared.call.ZoneAnswer.TheVariants.{Mapped, Value}
 use Rattle.state_core.specs.declared.call.ZoneCall.{ZoneCall}

@@ -5,10 +5,10 @@ use Rattle.std.specs.Result.{result_err}
 use Rattle.std.proofs.lemmas.Bool.Decides.{leb_tells}
 use Rattle.std.proofs.lemmas.List.FromFn.{length-map-range_with_len}
 use Rattle.frame_core.specs.declared.place.Address.{Address}
-use Rattle.journal_core.specs.declared.record.Record.{Record}
-use Rattle.journal_core.specs.declared.record.Record.TheVariants.{Load, Store}
-use Rattle.journal_core.specs.Moves.{out}
-use Rattle.halves_core.specs.Told.{Pair, Told, pair_of, written_if}
+use Rattle.frame_core.specs.declared.record.Record.{Record}
+use Rattle.frame_core.specs.declared.record.Record.TheVariants.{Load, Store}
+use Rattle.frame_core.specs.Moves.{out}
+use Rattle.hand_core.specs.Told.{Pair, Told, pair_of, written_if}
 use Rattle.state_core.specs.declared.error.ZoneError.{ZoneError}
 use Rattle.state_core.specs.declared.placement.Placement.{Placement}
 use Rattle.state_core.specs.declared.placement.Placement.TheVariants.{At, Moving}

@@ -5,9 +5,9 @@ use Rattle.std.specs.List.{filter}
 use Rattle.std.proofs.Math.Seq.{drop-append_seam}
 use Rattle.std.proofs.lemmas.List.{reverse-append}
 use Rattle.std.proofs.lemmas.List.Elements.{filter-append}
-use Rattle.journal_core.specs.declared.record.Record.{Record}
-use Rattle.journal_core.specs.declared.record.Record.TheVariants.{Isolate, Moved, Back}
-use Rattle.halves_core.specs.Told.{Pair, Told, written_if}
+use Rattle.frame_core.specs.declared.record.Record.{Record}
+use Rattle.frame_core.specs.declared.record.Record.TheVariants.{Isolate, Moved, Back}
+use Rattle.hand_core.specs.Told.{Pair, Told, written_if}
 use Rattle.state_core.specs.ZoneState.{ZoneState}
 use Rattle.round_core.specs.Calls.{IsAddedBeside, IsCall, is_of, is_of_round}
 use Rattle.client_core.specs.Receipts.{AreSince, Client, IsToldBeside, records_of}

@@ -1,8 +1,8 @@
 -- The receipts of a read or a write of several words in one call, and what such a read answers and leaves.
 use Rattle.std.specs.Prelude.{◌≡◌, ℕ, ◌+◌, true, List, [], ◌∷◌, Option}
 use Rattle.frame_core.specs.declared.place.Address.{Address}
-use Rattle.journal_core.specs.declared.record.Record.{Record}
-use Rattle.halves_core.specs.Told.{Told, written_if}
+use Rattle.frame_core.specs.declared.record.Record.{Record}
+use Rattle.hand_core.specs.Told.{Told, written_if}
 use Rattle.round_core.specs.Calls.{is_of}
 use Rattle.state_core.specs.Bulk.{values_at, loaded_all}
 use Rattle.state_core.specs.Lawful.{IsValidZone}

@@ -1,8 +1,8 @@
 -- What contracts see of a client, and what it means that its receipts are its records in a journal.
 use Rattle.std.specs.Prelude.{◌≡◌, ℕ, List, [], ◌∷◌, ◌++◌, Option, None, Some, reverse}
 use Rattle.std.specs.List.{filter}
-use Rattle.journal_core.specs.declared.record.Record.{Record}
-use Rattle.halves_core.specs.Told.{Told}
+use Rattle.frame_core.specs.declared.record.Record.{Record}
+use Rattle.hand_core.specs.Told.{Told}
 use Rattle.round_core.specs.Calls.{IsAddedBeside, is_of}
 
 -- a client: its number, and the receipts of its accepted calls, the oldest first

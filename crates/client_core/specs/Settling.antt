@@ -1,6 +1,6 @@
 -- Where clients and a journal differ, and what is not settled then.
 use Rattle.std.specs.Prelude.{◌≡◌, ◌≢◌, ℕ, ◌+◌, ◌≤◌, List, length, take, slice_get, All, IsSomeAnd}
-use Rattle.journal_core.specs.declared.record.Record.{Record}
+use Rattle.frame_core.specs.declared.record.Record.{Record}
 use Rattle.state_core.specs.ZoneState.{ZoneState}
 use Rattle.client_core.specs.Receipts.{Client, records_of, Agrees}
 use Rattle.client_core.specs.declared.settling.Mismatch.{Mismatch}

@@ -1,6 +1,6 @@
 ghost use Rattle.std.specs.Prelude.{◌≡◌, ◌≢◌, ℕ, [], Some, IfOk, IfErr, OnOk, OnErr};
 ghost use Rattle.std.specs.Int.RustNames.{bit_and};
-ghost use Rattle.journal_core.specs.declared.record.Record.TheVariants.{Map, Share, Unmap, Store, Load, Pin, Unpin};
+ghost use Rattle.frame_core.specs.declared.record.Record.TheVariants.{Map, Share, Unmap, Store, Load, Pin, Unpin};
 ghost use Rattle.frame_core.specs.PageFlags.{is_unmovable};
 ghost use Rattle.state_core.specs.Access.{access_refusal, stored};
 ghost use Rattle.state_core.specs.Calls.{refusal_of};
@@ -10,7 +10,7 @@ ghost use Rattle.state_core.specs.Sharing.{share_refusal, shared as shared_by};
 ghost use Rattle.state_core.specs.Unmapping.{unmap_refusal, unmapped};
 ghost use Rattle.client_core.specs.Calls.{HasMade, IsAccepted, IsFailed, leaving, loading, mapping, mapping_lowest};
 ghost use Rattle.client_core.specs.Receipts.{AreSince, with_receipt};
-ghost use Rattle.halves_core.specs.Told.{pair_of};
+ghost use Rattle.hand_core.specs.Told.{pair_of};
 
 mod bulk;
 
@@ -18,15 +18,13 @@ use crate::error::ClientError;
 use crate::making::{of_client, retry_while_moving};
 use crate::receipts::Receipts;
 use crate::telling::{Telling, Untold};
-use frame_core::{Address, ClientNo, FrameNo, PageFlags, WordNo};
-use halves_core::Slip;
-use journal_core::Record;
+use frame_core::{Address, ClientNo, FrameNo, PageFlags, Record, Told, WordNo};
+use hand_core::Slip;
 use round_core::{Keeping, KeptZone};
 use std::alloc::{AllocError, Global};
 use std::marker::{Model, PhantomData};
 use std::sync::Wait;
 use std::sync::ledger::Ledger;
-use told_core::Told;
 use zone_core::{ClientCall, ZoneAnswer, ZoneCall, ZoneError};
 
 /// Makes calls of a shared zone under one number, and has a receipt for each call that was accepted: its record.
@@ -53,7 +51,7 @@ pub type ToldClient = Client<Untold, Told<Record>>;
 
 impl<J: Telling, T: Receipts> Model for Client<J, T> {
     ghost use Rattle.std.specs.Prelude.{◌≡◌};
-    ghost use Rattle.halves_core.specs.Told.{pair_of};
+    ghost use Rattle.hand_core.specs.Told.{pair_of};
     ghost use Rattle.client_core.specs.Receipts.{Client as Seen, AreSince};
 
     ghost Value = { Seen };

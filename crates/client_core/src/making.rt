@@ -2,15 +2,14 @@
 
 ghost use Rattle.std.specs.Prelude.{◌≡◌, ◌≢◌, IsTrue, IfOk, IfErr, OnOk, OnErr};
 ghost use Rattle.std.specs.Result.{result_err};
-ghost use Rattle.halves_core.specs.Told.{pair_of, written_if};
+ghost use Rattle.hand_core.specs.Told.{pair_of, written_if};
 ghost use Rattle.state_core.specs.declared.error.ZoneError.{ZoneError};
 ghost use Rattle.state_core.specs.Calls.{refusal_of, answer_of, after, answers, is_of_client, record_of};
 ghost use Rattle.state_core.specs.Lawful.{IsValidZone};
 ghost use Rattle.client_core.specs.Calls.{IsMade, IsRefused};
 
-use frame_core::ClientNo;
-use halves_core::{Slip, write_both};
-use journal_core::Record;
+use frame_core::{ClientNo, Record};
+use hand_core::{Slip, write_both};
 use round_core::{Keeping, KeptZone, Room};
 use std::sync::Wait;
 use std::sync::ledger::Ledger;

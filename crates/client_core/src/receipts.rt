@@ -1,13 +1,12 @@
 //! Where the receipts of a client go.
 
 ghost use Rattle.std.specs.Prelude.{◌≡◌, ℕ, ◌+◌, ◌≤◌, List, [], ◌∷◌, ◌++◌, length, reverse, vec_len, vec_capacity, ⊤, OnOk, OnErr};
-ghost use Rattle.journal_core.specs.declared.record.Record.{Record};
-ghost use Rattle.journal_core.specs.Access.{access_record};
+ghost use Rattle.frame_core.specs.declared.record.Record.{Record};
+ghost use Rattle.frame_core.specs.Access.{access_record};
 ghost use Rattle.client_core.specs.Bulk.{records_each};
 
-use journal_core::{Access, Record};
+use frame_core::{Access, Record, Told};
 use std::alloc::AllocError;
-use told_core::Told;
 
 /// Where the receipts of a client go: into a list, or to contracts alone. Contracts see the same receipts in both.
 pub trait Receipts: Drop {

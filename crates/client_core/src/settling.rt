@@ -6,8 +6,7 @@ ghost use Rattle.client_core.specs.Settling.{HasKeptJournal, IsFirstDifference, 
 ghost use Rattle.client_core.specs.Errors.{number_of_unsettled};
 
 use crate::client::Client;
-use frame_core::ClientNo;
-use journal_core::Record;
+use frame_core::{ClientNo, Record};
 use std::sync::ledger::Ledger;
 use thiserror::Error;
 use zone_core::Zone;

@@ -1,6 +1,6 @@
 ghost use Rattle.std.specs.Prelude.{List, [], Option, None};
-ghost use Rattle.journal_core.specs.declared.record.Record.{Record};
-ghost use Rattle.halves_core.specs.Told.{Pair};
+ghost use Rattle.frame_core.specs.declared.record.Record.{Record};
+ghost use Rattle.hand_core.specs.Told.{Pair};
 
 use std::marker::Brand;
 

@@ -1,8 +1,8 @@
 -- A round that moves one page after the other.
 use Rattle.std.proofs.Common.{◌≡◌, ℕ, zero, suc, ◌-◌, ◌<◌, ◌≤◌, refl, sym, ap, subst, ◌∙◌, arith, cond}
 use Rattle.std.specs.Prelude.{Bool, true, false, nat_eq, is_some, Option, Some, None}
-use Rattle.journal_core.specs.History.{pins}
-use Rattle.journal_core.specs.Moves.{isolated}
+use Rattle.frame_core.specs.History.{pins}
+use Rattle.frame_core.specs.Moves.{isolated}
 use Rattle.state_core.specs.Isolating.{isolate_refusal, isolated_next, next_answer, next_state}
 use Rattle.state_core.specs.Ending.{IsOwnCopy, committed}
 use Rattle.state_core.specs.Pairs.{next_pair}
@@ -12,7 +12,7 @@ use Rattle.state_core.specs.declared.moves.Next.TheVariants as answer
 use Rattle.state_core.specs.declared.round.Pair.{Pair}
 use Rattle.state_core.proofs.Carried.{own_fresh}
 use Rattle.state_core.proofs.Facts.{room_and_serial}
-use Rattle.word_core.specs.Page.{IsolatedPage}
+use Rattle.frame_core.specs.Page.{IsolatedPage}
 use Rattle.compactd_c.specs.Rounds.{moved_to, moved_next, going_on, moved_at_most, all_moved}
 
 -- it stays where it stopped, however many moves it may still make

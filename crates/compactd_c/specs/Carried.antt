@@ -1,6 +1,6 @@
 -- Pages that C carries: what it gets of one that is isolated, and what it brings back.
 use Rattle.std.specs.Prelude.{◌≡◌, ℕ, List, length, nat_eq, is_some, if◌then◌else◌, Option, Some, None}
-use Rattle.journal_core.specs.Moves.{isolated}
+use Rattle.frame_core.specs.Moves.{isolated}
 use Rattle.state_core.specs.Carrying.{flags_of, words_now}
 use Rattle.state_core.specs.Ending.{IsOwnCopy}
 use Rattle.state_core.specs.Isolating.{isolate_refusal}
@@ -9,7 +9,7 @@ use Rattle.state_core.specs.ZoneState.{ZoneState}
 use Rattle.state_core.specs.declared.error.ZoneError.{ZoneError}
 use Rattle.state_core.specs.declared.error.ZoneError.TheVariants.{Range, Stranger}
 use Rattle.state_core.specs.declared.round.Pair.{Pair}
-use Rattle.word_core.specs.Page.{IsolatedPage}
+use Rattle.frame_core.specs.Page.{IsolatedPage}
 use Rattle.compactd_c.specs.Answers.{number_for}
 use Rattle.compactd_c.specs.declared.carrying.Carried.{Carried}
 

@@ -1,7 +1,7 @@
 -- When a pool refuses to tell something.
 use Rattle.std.specs.Prelude.{if◌then◌else◌, is_some, length, nat_lt, Option, Some, None}
 use Rattle.frame_core.specs.declared.place.Address.{Address}
-use Rattle.journal_core.specs.Moves.{out}
+use Rattle.frame_core.specs.Moves.{out}
 use Rattle.state_core.specs.Looking.{look_of}
 use Rattle.state_core.specs.ZoneState.{ZoneState}
 use Rattle.state_core.specs.declared.error.ZoneError.{ZoneError}

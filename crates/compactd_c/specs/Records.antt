@@ -1,10 +1,10 @@
 -- The records of a journal, as C sees them.
 use Rattle.std.specs.Prelude.{ℕ, ◌+◌, ◌&&◌, length, nat_lt, nat_le, if◌then◌else◌, Option, Some, None}
 use Rattle.frame_core.specs.declared.place.Address.{Address}
-use Rattle.journal_core.specs.declared.record.Cause.{Cause}
-use Rattle.journal_core.specs.declared.record.Cause.TheVariants.{Pinned, NotCopied}
-use Rattle.journal_core.specs.declared.record.Record.{Record}
-use Rattle.journal_core.specs.declared.record.Record.TheVariants.{Map, Share, Unmap, Store, Load, Pin, Unpin, Isolate, Moved, Back, TakeHuge, GiveHuge, Mark, Unmark}
+use Rattle.frame_core.specs.declared.record.Cause.{Cause}
+use Rattle.frame_core.specs.declared.record.Cause.TheVariants.{Pinned, NotCopied}
+use Rattle.frame_core.specs.declared.record.Record.{Record}
+use Rattle.frame_core.specs.declared.record.Record.TheVariants.{Map, Share, Unmap, Store, Load, Pin, Unpin, Isolate, Moved, Back, TakeHuge, GiveHuge, Mark, Unmark}
 use Rattle.state_core.specs.ZoneState.{ZoneState}
 use Rattle.state_core.specs.declared.error.ZoneError.{ZoneError}
 use Rattle.state_core.specs.declared.error.ZoneError.TheVariants.{Range}

@@ -1,7 +1,7 @@
 -- Rounds: those that one thread makes, a page at a time, and the pages that C carries itself.
 use Rattle.std.specs.Prelude.{ℕ, zero, suc, Bool, if◌then◌else◌, is_some, Option, Some, None}
 use Rattle.std.specs.FinMap as map
-use Rattle.journal_core.specs.Moves.{isolated}
+use Rattle.frame_core.specs.Moves.{isolated}
 use Rattle.state_core.specs.Ending.{committed}
 use Rattle.state_core.specs.Isolating.{isolate_refusal, isolated_next}
 use Rattle.state_core.specs.Lawful.{is_under}

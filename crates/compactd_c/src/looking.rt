@@ -5,7 +5,7 @@ ghost use Rattle.compactd_c.specs.Answers.{answer};
 ghost use Rattle.compactd_c.specs.Asked.{address_of, is_address, ranged};
 ghost use Rattle.compactd_c.specs.Looks.{look_refusal, audit_refusal};
 ghost use Rattle.compactd_c.specs.Told.{counts_of, seen_of};
-ghost use Rattle.journal_core.specs.Moves.{isolated, moved, put_back};
+ghost use Rattle.frame_core.specs.Moves.{isolated, moved, put_back};
 ghost use Rattle.state_core.specs.Looking.{look_of, info_of};
 ghost use Rattle.state_core.specs.Marking.{marked_of};
 ghost use Rattle.state_core.specs.ZoneState.{ZoneState, is_quiet};

@@ -8,7 +8,7 @@ ghost use Rattle.state_core.specs.ZoneState.{ZoneState};
 
 use crate::calls::{CLOSED, number as number_for};
 use crate::pool::Pool;
-use journal_core::{Cause, Record};
+use frame_core::{Cause, Record};
 use std::alloc::Global;
 
 /// A record of the journal. Numbers that its kind doesn't have are 0.

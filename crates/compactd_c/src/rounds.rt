@@ -3,8 +3,8 @@
 ghost use Rattle.std.specs.Prelude.{◌≡◌, ◌↔◌, true, false, length, IsTrue, None, Some};
 ghost use Rattle.compactd_c.specs.Answers.{answer, left};
 ghost use Rattle.compactd_c.specs.Rounds.{is_moving, all_moved};
-ghost use Rattle.journal_core.specs.Moves.{out};
-ghost use Rattle.journal_core.specs.declared.record.Cause.{Cause};
+ghost use Rattle.frame_core.specs.Moves.{out};
+ghost use Rattle.frame_core.specs.declared.record.Cause.{Cause};
 ghost use Rattle.state_core.specs.Ending.{put_back_to_source};
 ghost use Rattle.state_core.specs.Isolating.{isolate_refusal};
 ghost use Rattle.state_core.specs.Packed.{IsPacked};

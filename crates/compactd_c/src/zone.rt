@@ -2,8 +2,8 @@
 
 ghost use Rattle.std.specs.Prelude.{◌≡◌, ◌≢◌, ◌≤◌, ◌↔◌, ◌&&◌, nat_lt, true, ℕ, false, length, reverse, slice_get, is_some, Some, None, IsTrue, IsOk, IfOk, IfErr, OnOk, OnErr, IfSome};
 ghost use Rattle.std.specs.Result.{result_err};
-ghost use Rattle.journal_core.specs.Moves.{out};
-ghost use Rattle.journal_core.specs.declared.record.Cause.{Cause};
+ghost use Rattle.frame_core.specs.Moves.{out};
+ghost use Rattle.frame_core.specs.declared.record.Cause.{Cause};
 ghost use Rattle.state_core.specs.Access.{access_refusal, value_at, loaded, stored};
 ghost use Rattle.state_core.specs.Bulk.{bulk_refusal, values_at, loaded_all, stored_all};
 ghost use Rattle.state_core.specs.Contents.{contents_refusal, contents_from, contents_written};
@@ -27,12 +27,13 @@ ghost use Rattle.compactd_c.specs.Carried.{IsOwn, carried_of, words_of, isolate_
 use crate::asked::{Asked, address, word_of};
 use crate::carrying::Carried;
 use bitflags::Flags;
-use frame_core::{BlockNo, ClientNo, FrameNo, Order, PageFlags, PageNo, ZoneNo};
-use journal_core::{Journal, Record};
+use frame_core::{
+    BlockNo, ClientNo, FrameNo, IsolatedOf, Journal, Order, PageFlags, PageNo, PageOf, Record,
+    ZoneNo,
+};
 use state_core::{Audit, Ended, Info, Look, Next, ZoneAnswer, ZoneError};
 use std::alloc::Global;
 use std::marker::Model;
-use word_core::{IsolatedOf, PageOf};
 use zone_core::BareZone;
 
 /// The two kinds of zones.

@@ -1,2 +1,7 @@
-pub mod Searches
+pub mod Each
+pub mod Ends
+mod FlatRows
 pub mod Lists
+pub mod Maps
+pub mod OnTheWay
+pub mod Searches

@@ -1,136 +1,139 @@
-ghost use Rattle.std.specs.Prelude.{◌≡◌, ℕ, ◌<◌, ◌≤◌, ◌↔◌, IsSome, IfSome};
-
+use crate::flags::PageFlags;
+use crate::numbers::{PageNo, WordNo as WordOf};
+use crate::place::ZoneNo;
+use bitflags::Flags;
 use std::marker::Model;
 
-/// A word's number in a page of `W` words.
-#[derive(Clone, Copy, Debug, PartialEq, Eq, PartialOrd, Ord, Hash)]
-pub struct WordNo<const W: usize> {
-    word: u16,
+/// A page of a zone, of `W` words: its number, its flags and its words.
+#[derive(Drop, Debug)]
+pub struct Page<const W: usize> {
+    words: [u64; W],
+    number: PageNo,
+    zone: ZoneNo,
+    flags: PageFlags,
 }
 
-impl<const W: usize> Model for WordNo<W> {
-    ghost Value = { ℕ };
+impl<const W: usize> Model for Page<W> {
+    ghost use Rattle.std.specs.Prelude.{◌≡◌, length};
+    ghost use Rattle.frame_core.specs.Page.{Page as Seen};
 
-    ghost view = { λ n. n.word };
+    ghost Value = { Seen };
 
-    ghost invariant = { λ n. n.word < W };
+    ghost view = { λ p. record { zone = p.zone; number = p.number; flags = p.flags; words = p.words } };
 
-    ghost inverse = { λ n. record { word = n } };
+    ghost invariant = { λ p. length p.words ≡ W };
 }
 
-impl<const W: usize> WordNo<W> {
-    /// The number as one of those below `W`, which is at most 65,536. None where it is out of this range.
-    pub fn new(number: u32) -> Option<Self>
-        requires { W ≤ 65536 }
-        ensures valid { IsSome result ↔ (number < W) }
-        ensures value { IfSome result (λ n. n ≡ number) }
+/// A blank page: page 0 of zone 0, with no flags, and all its words 0. It fills the empty places of a list whose capacity
+/// is fixed.
+impl<const W: usize> Default for Page<W> {
+    ghost use Rattle.std.specs.Prelude.{◌≡◌};
+    ghost use Rattle.frame_core.specs.Page.{blank_page};
+
+    ghost is_default = { λ p. p ≡ blank_page W 0 0 };
+
+    fn default() -> Self {
+        let Some(zone) = ZoneNo::new(0) else {
+            unreachable!()
+        };
+        let Some(number) = PageNo::new(0) else {
+            unreachable!()
+        };
+        Page::new(zone, number)
+    }
+}
+
+impl<const W: usize> Page<W> {
+    ghost use Rattle.std.specs.Prelude.{◌≡◌, slice_index, slice_set, length};
+    ghost use Rattle.frame_core.specs.Page.{blank_page};
+
+    /// The page with no flags, and all its words 0.
+    pub fn new(zone: ZoneNo, number: PageNo) -> Self
+        ensures { result ≡ blank_page W zone number }
     {
-        if (number as usize) < W {
-            Some(WordNo {
-                word: number as u16,
-            })
-        } else {
-            None
+        Page {
+            zone,
+            number,
+            flags: PageFlags::empty(),
+            words: [0; W],
         }
     }
 
-    /// The number, below `W`.
-    pub fn get(self) -> u32
-        ensures value { result ≡ self.entry }
-        ensures range { result < W }
+    /// The number of its zone.
+    pub fn zone(&self) -> ZoneNo
+        ensures { result ≡ self.now.zone }
     {
-        u32::from(self.word)
+        self.zone
     }
 
-    /// The number, as a record has it.
-    pub fn noted(self) -> u16
-        ensures value { result ≡ self.entry }
-        ensures range { result < W }
+    /// Its number in its zone.
+    pub fn number(&self) -> PageNo
+        ensures { result ≡ self.now.number }
     {
-        self.word
+        self.number
     }
-}
 
-const PAGES: u32 = 4096;
-
-/// A page's number in its zone, 0 to 4095.
-#[derive(Clone, Copy, Debug, PartialEq, Eq, PartialOrd, Ord, Hash)]
-pub struct PageNo {
-    page: u16,
-}
-
-impl Model for PageNo {
-    ghost Value = { ℕ };
-
-    ghost view = { λ n. n.page };
-
-    ghost invariant = { λ n. n.page < 4096 };
-
-    ghost inverse = { λ n. record { page = n } };
-}
-
-impl PageNo {
-    /// The number as one of 0 to 4095. None where it is out of this range.
-    pub fn new(number: u32) -> Option<Self>
-        ensures valid { IsSome result ↔ (number < 4096) }
-        ensures value { IfSome result (λ n. n ≡ number) }
+    /// Its flags.
+    pub fn flags(&self) -> PageFlags
+        ensures { result ≡ self.now.flags }
     {
-        if number < PAGES {
-            Some(PageNo {
-                page: number as u16,
-            })
-        } else {
-            None
+        self.flags
+    }
+
+    /// Gives it these flags in place of those that it has.
+    pub fn set_flags(&mut self, flags: PageFlags)
+        ensures { self.new ≡ record self.old { flags = flags } }
+    {
+        self.flags = flags;
+    }
+
+    /// The value of one of its words.
+    pub fn word(&self, word: WordOf<W>) -> u64
+        ensures { result ≡ slice_index self.now.words word.entry }
+    {
+        self.words[word.get() as usize]
+    }
+
+    /// Gives one of its words another value.
+    pub fn set_word(&mut self, word: WordOf<W>, value: u64)
+        ensures { self.new ≡ record self.old { words = slice_set self.old.words word.entry value } }
+    {
+        self.words[word.get() as usize] = value;
+    }
+
+    /// Copies the flags and each word into a new page. The copy has the same zone and number.
+    pub fn copy_into_new(self) -> Page<W>
+        ensures { result ≡ self.entry }
+    {
+        let mut words = [0; W];
+        for word in 0..W {
+            words[word] = self.words[word];
+        }
+        Page {
+            zone: self.zone,
+            number: self.number,
+            flags: self.flags,
+            words,
         }
     }
 
-    /// The number, 0 to 4095.
-    pub fn get(self) -> u32
-        ensures value { result ≡ self }
-        ensures range { result < 4096 }
+    /// Its words.
+    pub fn words(&self) -> &[u64; W]
+        ensures value { result.now ≡ self.now.words }
+        ensures size { length result.now ≡ W }
     {
-        u32::from(self.page)
+        &self.words
     }
-}
 
-const CLIENTS: u32 = 8;
-
-/// A client's number, 0 to 7.
-#[derive(Clone, Copy, Debug, PartialEq, Eq, PartialOrd, Ord, Hash)]
-pub struct ClientNo {
-    client: u8,
-}
-
-impl Model for ClientNo {
-    ghost Value = { ℕ };
-
-    ghost view = { λ n. n.client };
-
-    ghost invariant = { λ n. n.client < 8 };
-
-    ghost inverse = { λ n. record { client = n } };
-}
-
-impl ClientNo {
-    /// The number as one of 0 to 7. None where it is out of this range.
-    pub fn new(number: u32) -> Option<Self>
-        ensures valid { IsSome result ↔ (number < 8) }
-        ensures value { IfSome result (λ n. n ≡ number) }
+    /// The page with these flags and words.
+    pub fn carrying(zone: ZoneNo, number: PageNo, flags: PageFlags, words: [u64; W]) -> Self
+        ensures { result ≡ record { zone = zone; number = number; flags = flags; words = words.entry } }
     {
-        if number < CLIENTS {
-            Some(ClientNo {
-                client: number as u8,
-            })
-        } else {
-            None
+        Page {
+            words,
+            number,
+            zone,
+            flags,
         }
-    }
-
-    /// The number, 0 to 7.
-    pub fn get(self) -> u32
-        ensures value { result ≡ self }
-        ensures range { result < 8 }
-    {
-        u32::from(self.client)
     }
 }

@@ -1,4 +1,4 @@
-use crate::page::PageNo;
+use crate::numbers::PageNo;
 
 /// The number of an isolated page: 0, 1, 2, .. over a zone's life.
 pub type Serial = u32;

@@ -6,4 +6,5 @@ pub mod Hands
 pub mod Messages
 pub mod PageSteps
 pub mod Serials
+mod Steps
 pub mod Totals

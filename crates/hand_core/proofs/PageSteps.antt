@@ -11,11 +11,11 @@ use mathlib.Core.Option.{some, some-ne-none}
 use lib.ListN.{get_elem?}
 use Rattle.crossbeam_channel.specs.Fifo.{Pushes, Pops, Forks, Merges, Learns}
 use Rattle.atomic_table.proofs.Lists.{at_set}
-use Rattle.word_core.specs.Page.{IsolatedPage}
+use Rattle.frame_core.specs.Page.{IsolatedPage}
 use Rattle.hand_core.specs.declared.page_queue.Note.{Note}
 use Rattle.hand_core.specs.declared.page_queue.Note.TheVariants.{Pages, Mark}
 use Rattle.hand_core.specs.declared.page_queue.Known.{Known}
-use Rattle.word_core.specs.Serials.{HasSerialsFrom, IsRising}
+use Rattle.frame_core.specs.Serials.{HasSerialsFrom, IsRising}
 use Rattle.hand_core.specs.PageQueue.{giver_knows, taker_knows, total, all_off, all_ended, InOrder, after_put, after_take, Takes, joined, nothing_known, Settles}
 use Rattle.hand_core.specs.Batches.{Batch, pages_of}
 use Rattle.hand_core.specs.Queue.{Each}

@@ -8,8 +8,8 @@ use Rattle.std.proofs.Math.Seq.{get_or-append_seam, take-append_seam, drop-appen
 use Rattle.std.specs.List.{range_with_len}
 use Rattle.std.specs.List.Sorted.{IsStrictlyIncreasing}
 use Rattle.std.proofs.lemmas.List.Elements.{All-map, All-take, All-drop, All-cons, All-nil, All-append}
-use Rattle.word_core.specs.Page.{IsolatedPage}
-use Rattle.word_core.specs.Serials.{serials_of, HasSerialsFrom, IsRising}
+use Rattle.frame_core.specs.Page.{IsolatedPage}
+use Rattle.frame_core.specs.Serials.{serials_of, HasSerialsFrom, IsRising}
 
 -- the numbers from a first one on, with one more
 range_with_len-suc : (first count : ℕ) → range_with_len first (suc count) ≡ range_with_len first count ++ (first + count) ∷ []

@@ -2,7 +2,7 @@
 use Rattle.std.specs.Prelude.{List, length, ◌-◌, take}
 use Rattle.std.specs.List.{flat_map}
 use Rattle.arrayvec.specs.ArrayVec.{ArrayVec}
-use Rattle.word_core.specs.Page.{IsolatedPage}
+use Rattle.frame_core.specs.Page.{IsolatedPage}
 
 -- a batch: pages or copies that are in a queue together, in their order
 abbrev pub Batch : Type 0

@@ -7,7 +7,7 @@ use Rattle.hand_core.specs.declared.done_taker.DoneTaker.TheInside as taker
 use Rattle.hand_core.specs.declared.copy_queue.Message.{Message}
 use Rattle.hand_core.specs.CopyEnds.{has_mark, copies_in}
 use Rattle.hand_core.specs.Batches.{Batch}
-use Rattle.word_core.specs.Page.{IsolatedPage}
+use Rattle.frame_core.specs.Page.{IsolatedPage}
 
 -- the sender's pass is a seat at its channel, it sent no batch of more copies than one may have, and it put no mark unless it is
 -- closed

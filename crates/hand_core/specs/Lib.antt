@@ -1,11 +1,13 @@
+pub mod Batches
 pub mod CopyEnds
 pub mod CopyInvariants
 pub mod CopyQueue
 pub mod CopyRoom
 pub mod Errors
 pub mod HandedOver
-pub mod Batches
 pub mod PageEnds
 pub mod PageInvariants
 pub mod PageQueue
+pub mod Parts
 pub mod Queue
+pub mod Told

@@ -2,8 +2,8 @@
 use Rattle.std.specs.Prelude.{◌≡◌, ◌+◌, ◌^◌, ◌<◌, ◌≤◌, true, false, if◌then◌else◌, List, [], ◌++◌, length}
 use Rattle.crossbeam_channel.specs.Claims.{view, IsSeatAt}
 use Rattle.crossbeam_channel.specs.Ends.{sends_on, receives_on}
-use Rattle.word_core.specs.Page.{IsolatedPage}
-use Rattle.word_core.specs.Serials.{HasSerialsFrom, IsRising}
+use Rattle.frame_core.specs.Page.{IsolatedPage}
+use Rattle.frame_core.specs.Serials.{HasSerialsFrom, IsRising}
 use Rattle.hand_core.specs.declared.giver.Giver.TheInside as giver
 use Rattle.hand_core.specs.declared.taker.Taker.TheInside as taker
 

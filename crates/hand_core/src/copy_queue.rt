@@ -2,8 +2,8 @@
 
 use crate::batch::Batch;
 use crossbeam_channel::protocol::{Join, Lesson, Outcome, Protocol, Split};
+use frame_core::Copied;
 use std::collections::LinkedList;
-use word_core::Copied;
 
 /// A message in the queue: a batch of copies or an end mark, under the number of its sender.
 #[derive(Drop)]

@@ -3,10 +3,10 @@ use crate::copy_queue::{Account, Message, Sends, Turns};
 use crate::error::Gone;
 use crate::patience;
 use crossbeam_channel::{Pass, RuledSender};
+use frame_core::Copied;
 use std::alloc::Global;
 use std::marker::Model;
 use std::sync::Wait;
-use word_core::Copied;
 
 /// A sending end of the queue of copies.
 #[derive(Drop)]

@@ -8,10 +8,10 @@ use crate::copy_queue::{Account, Message, Receives, Turns};
 use crate::patience;
 use arrayvec::IntoIter;
 use crossbeam_channel::{Pass, RecvError, RuledReceiver, TryRecvError};
+use frame_core::Copied;
 use std::alloc::Global;
 use std::marker::Model;
 use std::sync::Wait;
-use word_core::Copied;
 
 /// The taking end of the queue of copies.
 #[derive(Drop)]

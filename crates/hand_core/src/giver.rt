@@ -1,16 +1,15 @@
 ghost use Rattle.std.specs.Prelude.{◌≡◌, ◌+◌, ◌^◌, ◌≤◌, length};
-ghost use Rattle.word_core.specs.Serials.{HasSerialsFrom};
+ghost use Rattle.frame_core.specs.Serials.{HasSerialsFrom};
 
 use crate::batch::Batch;
 use crate::error::Gone;
 use crate::page_queue::{Known, Note, Ordered, Puts};
 use crate::patience;
 use crossbeam_channel::{Pass, RuledSender};
-use frame_core::Serial;
+use frame_core::{Isolated, Serial};
 use std::alloc::Global;
 use std::marker::Model;
 use std::sync::Wait;
-use word_core::Isolated;
 
 /// The giving end of a hand-over of pages.
 #[derive(Drop)]
@@ -44,7 +43,7 @@ impl Model for Giver {
 
 impl Giver {
     ghost use Rattle.std.specs.Prelude.{◌≡◌, ◌+◌, ◌<◌, ◌≤◌, ◌++◌, ◌∷◌, [], true, false, length, OnOk, OnErr, IfErr};
-    ghost use Rattle.word_core.specs.Serials.{HasSerialsFrom};
+    ghost use Rattle.frame_core.specs.Serials.{HasSerialsFrom};
 
     /// Puts a page at the back of the queue, and waits for room. Its serial has to be the next one, and the giver not
     /// closed. Where every taker is gone, the page is handed back.

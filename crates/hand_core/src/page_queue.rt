@@ -2,8 +2,8 @@
 
 use crate::batch::Batch;
 use crossbeam_channel::protocol::{Join, Lesson, Outcome, Protocol, Split};
+use frame_core::Isolated;
 use std::collections::LinkedList;
-use word_core::Isolated;
 
 /// A message in the queue: a batch of pages or an end mark.
 #[derive(Drop)]

@@ -3,7 +3,7 @@ ghost use Rattle.std.specs.List.{range_with_len};
 ghost use Rattle.std.specs.List.Sorted.{IsPermutation};
 ghost use Rattle.hand_core.specs.HandedOver.{Holds};
 ghost use Rattle.hand_core.specs.PageEnds.{off, taken_by, have_ended};
-ghost use Rattle.word_core.specs.Serials.{serials_of, IsRising};
+ghost use Rattle.frame_core.specs.Serials.{serials_of, IsRising};
 ghost use Rattle.hand_core.specs.declared.page_queue.Note.{Note};
 
 use crate::giver::Giver;

@@ -2,10 +2,10 @@ use crate::page_queue::{Gets, Known, Note, Ordered};
 use crate::patience;
 use arrayvec::IntoIter;
 use crossbeam_channel::{Pass, RuledReceiver};
+use frame_core::Isolated;
 use std::alloc::Global;
 use std::marker::Model;
 use std::sync::Wait;
-use word_core::Isolated;
 
 /// A taking end of a hand-over of pages.
 #[derive(Drop)]
@@ -51,7 +51,7 @@ enum PageMessage {
 
 impl Taker {
     ghost use Rattle.std.specs.Prelude.{◌≡◌, ◌≢◌, ◌++◌, ◌∷◌, ◌↔◌, [], true, false, IfSome, IfNone};
-    ghost use Rattle.word_core.specs.Serials.{IsRising};
+    ghost use Rattle.frame_core.specs.Serials.{IsRising};
     ghost use Rattle.hand_core.specs.PageEnds.{IsAnswered, off};
 
     /// Takes the next page, and waits for it. Nothing more is taken after an end mark.

@@ -3,8 +3,7 @@ ghost use Rattle.std.specs.Prelude.{◌≡◌, IfSome};
 mod copying;
 mod handing;
 
-use frame_core::{PageNo, Serial, WordNo, ZoneNo};
-use word_core::{Isolated, Page};
+use frame_core::{Isolated, Page, PageNo, Serial, WordNo, ZoneNo};
 
 const LAST_WORD: u32 = 7;
 

@@ -1,10 +1,10 @@
 -- A collector that has a zone alone goes on as a reservation by hand does: it takes blocks, and runs rounds that move pages.
 use Rattle.std.proofs.Common.{◌≡◌, ℕ, zero, suc, ◌+◌, ◌-◌, ◌<◌, ◌≤◌, Bool, true, false, if◌then◌else◌, List, [], ◌∷◌, ◌++◌, length, refl, sym, ap, subst, ◌∙◌, arith, append_assoc, length-append, Option, Some, None, unwrap_or}
 use Rattle.std.proofs.lemmas.Bool.Decides.{nat_tests}
-use Rattle.journal_core.specs.Moves.{isolated, out}
-use Rattle.outcome_core.specs.Alone.{IsAtRest}
-use Rattle.outcome_core.specs.ByHand.{by_hand}
-use Rattle.outcome_core.specs.Outcome.{IsSame}
+use Rattle.frame_core.specs.Moves.{isolated, out}
+use Rattle.zone_core.specs.Alone.{IsAtRest}
+use Rattle.zone_core.specs.ByHand.{by_hand}
+use Rattle.zone_core.specs.Outcome.{IsSame}
 use Rattle.round_core.specs.Rounds.{stop_by_hand}
 use Rattle.round_core.specs.declared.round.Round.{Round}
 use Rattle.state_core.specs.declared.error.ZoneError.{ZoneError}

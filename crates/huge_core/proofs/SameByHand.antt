@@ -2,14 +2,14 @@
 use Rattle.std.proofs.Common.{◌≡◌, ℕ, zero, suc, ◌+◌, ◌-◌, ◌^◌, ◌≤◌, ◌&&◌, Bool, true, false, cond, nat_lt, List, ◌∷◌, ◌++◌, length, refl, sym, ap, subst, ◌∙◌, arith, Option, Some, None, is_none, unwrap_or, if◌then◌else◌, not}
 use Rattle.std.proofs.lemmas.Bool.Decides.{nat_tests}
 use Rattle.frame_core.proofs.Searches.{lowest_some}
-use Rattle.journal_core.specs.Moves.{isolated, out}
-use Rattle.outcome_core.proofs.ByHand.{moving_isolated, moving_all, none_by_hand, outcome_all}
-use Rattle.outcome_core.proofs.Records.{isolated_same, isolated-without_ends}
-use Rattle.outcome_core.specs.Alone.{IsAtRest}
-use Rattle.outcome_core.specs.ByHand.{all_isolated, by_hand}
-use Rattle.outcome_core.specs.Outcome.{Outcome, IsSame}
-use Rattle.outcome_core.proofs.Calls.{take_agrees, run_agrees, taken_agrees}
-use Rattle.outcome_core.proofs.Rounds.{by_hand_agrees}
+use Rattle.frame_core.specs.Moves.{isolated, out}
+use Rattle.zone_core.proofs.ByHand.{moving_isolated, moving_all, none_by_hand, outcome_all}
+use Rattle.zone_core.proofs.Records.{isolated_same, isolated-without_ends}
+use Rattle.zone_core.specs.Alone.{IsAtRest}
+use Rattle.zone_core.specs.ByHand.{all_isolated, by_hand}
+use Rattle.zone_core.specs.Outcome.{Outcome, IsSame}
+use Rattle.zone_core.proofs.Calls.{take_agrees, run_agrees, taken_agrees}
+use Rattle.zone_core.proofs.Rounds.{by_hand_agrees}
 use Rattle.round_core.specs.Rounds.{stop_for, stop_by_hand}
 use Rattle.state_core.specs.declared.error.ZoneError.{ZoneError}
 use Rattle.state_core.specs.declared.error.ZoneError.TheVariants.{JournalFull as JournalIsFull, NoBlock as NoBlockIsFree}

@@ -4,8 +4,8 @@ use Rattle.std.specs.FinMap as map
 use Rattle.std.specs.Prelude.{Result, Err, IfErr}
 use Rattle.std.proofs.lemmas.Bool.{false_from_ne_true, false≢true}
 use Rattle.arrayvec.specs.ArrayVec.{ArrayVec}
-use Rattle.outcome_core.specs.ByHand.{by_hand}
-use Rattle.outcome_core.specs.Outcome.{IsSame}
+use Rattle.zone_core.specs.ByHand.{by_hand}
+use Rattle.zone_core.specs.Outcome.{IsSame}
 use Rattle.round_core.specs.Kept.{LockInvariant}
 use Rattle.round_core.specs.Rounds.{stop_by_hand, IsWant, IsBroken, IsRefusedEarly}
 use Rattle.round_core.specs.declared.error.RoundError.{RoundError}

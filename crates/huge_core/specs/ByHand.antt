@@ -1,8 +1,8 @@
 -- A reservation by hand: blocks are taken one after the other, the lowest free one each time. Where none is free a round by hand is run.
 use Rattle.std.specs.Prelude.{◌≡◌, ℕ, zero, suc, ◌+◌, Bool, nat_lt, if◌then◌else◌, ◌-◌, List, [], ◌∷◌, ◌++◌, length, ⊤, Option, Some, None, unwrap_or}
-use Rattle.journal_core.specs.Moves.{isolated}
-use Rattle.outcome_core.specs.ByHand.{by_hand}
-use Rattle.outcome_core.specs.Outcome.{IsSame}
+use Rattle.frame_core.specs.Moves.{isolated}
+use Rattle.zone_core.specs.ByHand.{by_hand}
+use Rattle.zone_core.specs.Outcome.{IsSame}
 use Rattle.round_core.specs.Rounds.{IsWant, stop_by_hand}
 use Rattle.round_core.specs.declared.round.Stop.{Stop as RoundStop}
 use Rattle.round_core.specs.declared.round.Stop.TheVariants as round

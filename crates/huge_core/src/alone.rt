@@ -2,7 +2,7 @@ ghost use Rattle.std.specs.Prelude.{◌≡◌, ◌<◌, ◌≤◌, ◌↔◌, So
 ghost use Rattle.arrayvec.specs.ArrayVec.{array_vec_len};
 ghost use Rattle.huge_core.specs.ByHand.{HasFilled, IsReservedByHand};
 ghost use Rattle.huge_core.specs.Reserving.{HasRun, IsGot};
-ghost use Rattle.outcome_core.specs.Alone.{IsAtRest};
+ghost use Rattle.zone_core.specs.Alone.{IsAtRest};
 ghost use Rattle.round_core.specs.Kept.{LockInvariant};
 ghost use Rattle.state_core.specs.HandingOut.{take_order_refusal};
 ghost use Rattle.state_core.specs.Lawful.{IsValidZone};

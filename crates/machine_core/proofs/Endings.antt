@@ -3,14 +3,14 @@ use Rattle.std.proofs.Common.{◌≡◌, ℕ, IsTrue, List, Option, Some, Result
 use Rattle.std.specs.Prelude.{IfErr, IfOk, IfSome}
 use Rattle.std.specs.Io.KnownBytes.{Appends}
 use Rattle.std.proofs.lemmas.Result.{MatchResult-weaker}
-use Rattle.play_core.specs.declared.error.Fault.{Fault}
-use Rattle.play_core.specs.declared.error.Fault.TheVariants.{Syntax, LongLine, Read, Write, Memory}
-use Rattle.play_core.specs.declared.error.RunError.{RunError}
-use Rattle.play_core.specs.declared.totals.Totals.{Totals}
+use Rattle.text_core.specs.declared.fault.Fault.{Fault}
+use Rattle.text_core.specs.declared.fault.Fault.TheVariants.{Syntax, LongLine, Read, Write, Memory}
+use Rattle.text_core.specs.declared.fault.RunError.{RunError}
+use Rattle.text_core.specs.declared.totals.Totals.{Totals}
 use Rattle.machine_core.specs.Ends.{EndsIn, FailsBehind, LacksMemory, is_of_script, is_over}
-use Rattle.play_core.specs.Script.{StopsIn, fault_of}
+use Rattle.text_core.specs.Script.{StopsIn, fault_of}
 use Rattle.machine_core.specs.Replies.{answers_of, output_of}
-use Rattle.play_core.proofs.Variants.{known_weaker}
+use Rattle.text_core.proofs.Variants.{known_weaker}
 
 module _ (places : ℕ) (left left_new old new : Option (List ℕ)) where
   fault_says : (f : Fault) (input : List ℕ) (e : RunError) → IsTrue (is_of_script f) → EndsIn f places input e left left_new old new → (fault_of input ≡ Some e) × Appends old new (output_of places input)

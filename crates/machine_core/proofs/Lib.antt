@@ -1,4 +1,11 @@
+pub mod Carrying
+pub mod Closing
 pub mod Endings
+pub mod HandsTaking
+pub mod Holding
+pub mod MovesEnded
+pub mod Orderly
 pub mod Pooling
 pub mod SeriesOfCalls
 pub mod SingleRuns
+pub mod Standing

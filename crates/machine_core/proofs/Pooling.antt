@@ -3,7 +3,7 @@ use Rattle.std.proofs.Common.{◌≡◌, ◌∙◌, ℕ, suc, List, [], ◌∷�
 use Rattle.std.specs.Prelude.{unwrap_or}
 use Rattle.state_core.specs.declared.error.ZoneError.{ZoneError}
 use Rattle.state_core.specs.HandingOut.{block_taken, lowest_run, take_order_refusal}
-use Rattle.world_core.specs.World.{WorldState, with_zone}
+use Rattle.machine_core.specs.World.{WorldState, with_zone}
 use Rattle.text_core.specs.declared.pool.PoolBlocks.{PoolBlocks}
 use Rattle.text_core.specs.Pool.{pool_order, told_as}
 use Rattle.machine_core.specs.Machine.{next_first, pool_from, pooled, says, stopped_by, unless_stopped}

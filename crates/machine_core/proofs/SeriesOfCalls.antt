@@ -1,6 +1,6 @@
 -- The calls of a series, one after the other.
 use Rattle.std.proofs.Common.{◌≡◌, ◌∙◌, ℕ, suc, ◌+◌, refl, sym, ap}
-use Rattle.world_core.specs.World.{WorldState}
+use Rattle.machine_core.specs.World.{WorldState}
 use Rattle.text_core.specs.declared.command.Repeated.{Repeated}
 use Rattle.text_core.specs.declared.reply.Reply.{Reply}
 use Rattle.text_core.specs.declared.reply.Reply.TheVariants as reply

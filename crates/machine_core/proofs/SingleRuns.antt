@@ -3,20 +3,20 @@ use Rattle.std.proofs.Common.{◌≡◌, ◌⊎◌, ℕ, IsTrue, List, [], ◌�
 use Rattle.std.specs.Prelude.{IfErr, IfOk, IfSome, OnOk, Result}
 use Rattle.std.specs.Io.KnownBytes.{Appends}
 use Rattle.std.proofs.lemmas.Result.{MatchResult-weaker}
-use Rattle.world_core.specs.World.{WorldState}
+use Rattle.machine_core.specs.World.{WorldState}
 use Rattle.text_core.specs.Reply.{newlines}
-use Rattle.play_core.specs.declared.error.Fault.{Fault}
-use Rattle.play_core.specs.declared.error.Fault.TheVariants.{Syntax, LongLine, Read, Write, Memory}
-use Rattle.play_core.specs.declared.error.RunError.{RunError}
-use Rattle.play_core.specs.declared.totals.Totals.{Totals}
+use Rattle.text_core.specs.declared.fault.Fault.{Fault}
+use Rattle.text_core.specs.declared.fault.Fault.TheVariants.{Syntax, LongLine, Read, Write, Memory}
+use Rattle.text_core.specs.declared.fault.RunError.{RunError}
+use Rattle.text_core.specs.declared.totals.Totals.{Totals}
 use Rattle.machine_core.specs.Ends.{EndsIn, IsOpening}
-use Rattle.play_core.specs.Script.{StopsIn, Answer, IsBeginning, Numbered, commands_of, texts}
+use Rattle.text_core.specs.Script.{StopsIn, Answer, IsBeginning, Numbered, commands_of, texts}
 use Rattle.machine_core.specs.Machine.{Step, opens, step}
-use Rattle.play_core.specs.Runs.{Begins, IsAnswered, IsAsking, IsEnded, IsStopped, IsTotal, Replied}
+use Rattle.text_core.specs.Runs.{Begins, IsAnswered, IsAsking, IsEnded, IsStopped, IsTotal, Replied}
 use Rattle.machine_core.specs.Replies.{answers_from, answers_of, output_of, totals_of, world_behind}
 use Rattle.machine_core.specs.OneThread.{IsSingleStep, Opens, OneThread, single_at_first}
-use Rattle.play_core.proofs.Waiting.{stops_more}
-use Rattle.play_core.proofs.Variants.{known_weaker}
+use Rattle.text_core.proofs.Waiting.{stops_more}
+use Rattle.text_core.proofs.Variants.{known_weaker}
 
 -- the replies to commands and to more commands after them
 answers_from-append : (places : ℕ) (w : Option WorldState) (xs ys : List Numbered) → answers_from places w (xs ++ ys) ≡ answers_from places w xs ++ answers_from places (world_behind places w xs) ys

@@ -1,13 +1,13 @@
 -- How a run may end.
 use Rattle.std.specs.Prelude.{◌≡◌, ℕ, ◌+◌, ◌⊎◌, Bool, true, false, IsTrue, List, ◌∷◌, ◌++◌, Option, Some, None, IfSome, Result, Ok, Err}
 use Rattle.std.specs.Io.KnownBytes.{Appends, Consumes}
-use Rattle.play_core.specs.declared.error.Fault.{Fault}
-use Rattle.play_core.specs.declared.error.Fault.TheVariants.{Syntax, LongLine, Read, Write, Memory}
-use Rattle.play_core.specs.declared.error.RunError.{RunError}
-use Rattle.play_core.specs.declared.totals.Totals.{Totals}
+use Rattle.text_core.specs.declared.fault.Fault.{Fault}
+use Rattle.text_core.specs.declared.fault.Fault.TheVariants.{Syntax, LongLine, Read, Write, Memory}
+use Rattle.text_core.specs.declared.fault.RunError.{RunError}
+use Rattle.text_core.specs.declared.totals.Totals.{Totals}
 use Rattle.machine_core.specs.Machine.{opens}
 use Rattle.text_core.specs.Reply.{newlines}
-use Rattle.play_core.specs.Script.{StopsIn, IsBeginning, IsOfEnd, Numbered, commands_of, fault_of, texts}
+use Rattle.text_core.specs.Script.{StopsIn, IsBeginning, IsOfEnd, Numbered, commands_of, fault_of, texts}
 use Rattle.machine_core.specs.Replies.{answers_from, answers_of, output_of, world_behind}
 
 -- whether a fault is in the script itself

@@ -1,6 +1,9 @@
+pub mod Carried
 pub mod Ends
+pub mod ErrorNumber
 pub mod Machine
 pub mod OneThread
 pub mod Refusals
 pub mod Replies
 pub mod Stage
+pub mod World

@@ -7,9 +7,9 @@ use Rattle.state_core.specs.declared.call.ZoneCall.{ZoneCall}
 use Rattle.state_core.specs.declared.call.ZoneCall.TheVariants.{Map, Unmap, TakeOrder, GiveOrder}
 use Rattle.state_core.specs.declared.error.ZoneError.{ZoneError}
 use Rattle.state_core.specs.declared.error.ZoneError.TheVariants.{JournalFull, Unmapped}
-use Rattle.world_core.specs.declared.hand.Finished.{Finished}
-use Rattle.world_core.specs.declared.hand.Scanned.{Scanned}
-use Rattle.world_core.specs.declared.hand.Scanned.TheVariants as scan
+use Rattle.machine_core.specs.declared.hand.Finished.{Finished}
+use Rattle.machine_core.specs.declared.hand.Scanned.{Scanned}
+use Rattle.machine_core.specs.declared.hand.Scanned.TheVariants as scan
 use Rattle.state_core.specs.declared.moves.Ended.{Ended}
 use Rattle.state_core.specs.declared.moves.Ended.TheVariants as ended
 use Rattle.state_core.specs.declared.information.Look.{Look as Known}
@@ -17,7 +17,7 @@ use Rattle.state_core.specs.ErrorNumber.{number_of}
 use Rattle.state_core.specs.Looking.{look_of, info_of}
 use Rattle.state_core.specs.Calls.{refusal_of, answer_of, after}
 use Rattle.state_core.specs.HandingOut.{take_order_refusal, lowest_run, block_taken}
-use Rattle.world_core.specs.World.{WorldState, world_opened, with_zone, scan_refusal, scan_stopped, scan_answer, scanned, take_step, copy_step, finish_step, shut_step}
+use Rattle.machine_core.specs.World.{WorldState, world_opened, with_zone, scan_refusal, scan_stopped, scan_answer, scanned, take_step, copy_step, finish_step, shut_step}
 use Rattle.text_core.specs.declared.command.Call.{Call}
 use Rattle.text_core.specs.declared.command.Call.TheVariants.{Info, InfoWithHeld, Scan, Take, Copy, Finish, Shut, Look, Huge, Give}
 use Rattle.text_core.specs.declared.command.Calls.{Calls}

@@ -1,10 +1,10 @@
 -- A machine on one thread: it answers a command as the machine's step says.
 use Rattle.std.specs.Prelude.{◌≡◌, ℕ, Bool, false, not, ◌&&◌, nat_eq, IsTrue, List, [], ◌∷◌, Option, Some, None}
-use Rattle.world_core.specs.World.{WorldState}
+use Rattle.machine_core.specs.World.{WorldState}
 use Rattle.text_core.specs.declared.command.Command.{Command}
 use Rattle.text_core.specs.declared.reply.Reply.{Reply}
 use Rattle.machine_core.specs.Machine.{opens, step}
-use Rattle.play_core.specs.Script.{Answer, Numbered}
+use Rattle.text_core.specs.Script.{Answer, Numbered}
 
 -- a machine: the number of places that the journal of its zone has, and the world of that zone, if it opened one
 pub record OneThread : Type 0 where

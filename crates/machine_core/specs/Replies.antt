@@ -1,10 +1,10 @@
 -- What is written for a script on one thread.
 use Rattle.std.specs.Prelude.{ℕ, List, [], ◌∷◌, length, Option, None}
-use Rattle.world_core.specs.World.{WorldState}
-use Rattle.play_core.specs.declared.totals.Totals.{Totals}
+use Rattle.machine_core.specs.World.{WorldState}
+use Rattle.text_core.specs.declared.totals.Totals.{Totals}
 use Rattle.text_core.specs.Reply.{newlines}
 use Rattle.machine_core.specs.Machine.{step}
-use Rattle.play_core.specs.Script.{Answer, Numbered, commands_of, texts}
+use Rattle.text_core.specs.Script.{Answer, Numbered, commands_of, texts}
 
 -- the machine's replies to commands, where it has this world before the first of them
 abbrev pub answers_from : ℕ → Option WorldState → List Numbered → List Answer

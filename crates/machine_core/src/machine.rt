@@ -5,22 +5,24 @@ ghost use Rattle.machine_core.specs.OneThread.{is_at_rest};
 ghost use Rattle.text_core.specs.Grammar.{address_of, zone_of};
 ghost use Rattle.text_core.specs.declared.reply.Reply.TheVariants as reply;
 ghost use Rattle.zone_core.specs.Books.{AreFor};
-ghost use Rattle.world_core.specs.ErrorNumber.{world_number_of};
+ghost use Rattle.machine_core.specs.ErrorNumber.{world_number_of};
 ghost use Rattle.state_core.specs.ErrorNumber.{number_of};
 
+use crate::World;
+use crate::hand::{Finished, Scanned};
 use crate::refusal::Refusal;
+use crate::world::WorldError;
 use arrayvec::ArrayVec;
 use frame_core::{Address, BlockNo, ClientNo, PageFlags, Serial, SpaceNo, VPage, ZoneNo};
-use play_core::{Answers, Block, Respond};
 use state_core::{Ended, Look, ZoneAnswer, ZoneCall, ZoneError};
 use std::alloc::{AllocError, Global};
 use std::marker::Model;
 use std::mem::replace;
 use std::sync::ledger::Ledger;
 use text_core::{
-    BlockCount, Call, Calls, Command, PoolBlocks, PoolStopped, Repeated, Reply, Series, zone_of,
+    Answers, Block, BlockCount, Call, Calls, Command, PoolBlocks, PoolStopped, Repeated, Reply,
+    Respond, Series, zone_of,
 };
-use world_core::{Finished, Scanned, World, WorldError};
 use zone_core::Blanks;
 
 /// What a script works on. A machine whose zone is open has no allocator, so no command on the zone can ask for memory.

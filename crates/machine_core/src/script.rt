@@ -1,18 +1,18 @@
 ghost use Rattle.std.specs.Prelude.{◌≡◌, ◌≢◌, ◌+◌, ◌<◌, ◌≤◌, IfErr, IfOk, IfSome, IsTrue, OnOk, OnSome, None, Some, false, length};
 ghost use Rattle.std.specs.Io.KnownBytes.{Appends};
 ghost use Rattle.zone_core.specs.Books.{AreFor};
-ghost use Rattle.play_core.specs.declared.error.Fault.{Fault};
+ghost use Rattle.text_core.specs.declared.fault.Fault.{Fault};
 ghost use Rattle.machine_core.specs.Ends.{EndsIn, FailsBehind, LacksMemory, is_of_script, is_over};
-ghost use Rattle.play_core.specs.Script.{StopsIn, fault_of};
-ghost use Rattle.play_core.specs.Streams.{CannotReadOn};
+ghost use Rattle.text_core.specs.Script.{StopsIn, fault_of};
+ghost use Rattle.text_core.specs.Streams.{CannotReadOn};
 ghost use Rattle.machine_core.specs.Replies.{answers_of, output_of, totals_of};
 
 use crate::machine::Machine;
 use crate::options::Options;
-use play_core::{Input, Output, RunError, Text, Totals, play};
 use std::alloc::Global;
 use std::marker::Brand;
 use std::sync::ledger::Ledger;
+use text_core::{Input, Output, RunError, Text, Totals, play};
 use zone_core::Blanks;
 
 /// Runs a script: reads its lines, answers its commands and writes the replies, up to its end or to its first fault. A round is

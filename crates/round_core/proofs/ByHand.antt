@@ -2,14 +2,14 @@
 use Rattle.std.proofs.Common.{◌≡◌, ◌+◌, ◌≤◌, ◌↔◌, inl, inr, sym, ap, subst, ◌∙◌, arith, true, refl, Option, Some, None, IsOk, IfOk, OnOk}
 use Rattle.std.specs.Prelude.{Result, Ok, Err}
 use Rattle.std.proofs.lemmas.Bool.{cases_eq, cases_lt}
-use Rattle.journal_core.specs.Moves.{isolated}
-use Rattle.outcome_core.specs.Alone.{IsAtRest, KeepsAlone, KeepsScanning}
-use Rattle.outcome_core.specs.ByHand.{all_isolated, by_hand, scan_pair}
-use Rattle.outcome_core.specs.Outcome.{IsSame}
-use Rattle.outcome_core.proofs.Alone.{alone_exact, alone_goes_on, alone_stops, alone_unbegun}
-use Rattle.outcome_core.proofs.Packed.{packed_exact}
-use Rattle.outcome_core.proofs.Records.{isolated_same}
-use Rattle.outcome_core.proofs.Scanner.{refusal_same}
+use Rattle.frame_core.specs.Moves.{isolated}
+use Rattle.zone_core.specs.Alone.{IsAtRest, KeepsAlone, KeepsScanning}
+use Rattle.zone_core.specs.ByHand.{all_isolated, by_hand, scan_pair}
+use Rattle.zone_core.specs.Outcome.{IsSame}
+use Rattle.zone_core.proofs.Alone.{alone_exact, alone_goes_on, alone_stops, alone_unbegun}
+use Rattle.zone_core.proofs.Packed.{packed_exact}
+use Rattle.zone_core.proofs.Records.{isolated_same}
+use Rattle.zone_core.proofs.Scanner.{refusal_same}
 use Rattle.state_core.specs.declared.error.ZoneError.{ZoneError}
 use Rattle.state_core.specs.declared.information.Audit.{Audit}
 use Rattle.state_core.specs.Isolating.{isolate_refusal}

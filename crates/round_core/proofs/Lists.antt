@@ -1,7 +1,7 @@
 -- Lists of serials, and the takers whose pages they tell.
 use Rattle.std.proofs.Common.{◌≡◌, ℕ, List, [], ◌∷◌, ◌++◌, map, Bool, true, false, ◌&&◌, refl, ap, sym, ◌∙◌}
 use Rattle.std.proofs.lemmas.List.{map-append}
-use Rattle.word_core.specs.Serials.{serials_of}
+use Rattle.frame_core.specs.Serials.{serials_of}
 use Rattle.hand_core.specs.PageEnds.{Taker}
 use Rattle.round_core.specs.Crews.{AreListed}
 

@@ -1,13 +1,13 @@
 -- The steps of a round are no receipts.
 use Rattle.std.proofs.Common.{◌≡◌, ℕ, Bool, true, false, if◌then◌else◌, List, ◌∷◌, refl, nat_eq}
-use Rattle.journal_core.specs.declared.record.Cause.{Cause}
-use Rattle.journal_core.specs.declared.record.Cause.TheVariants.{Pinned}
-use Rattle.journal_core.specs.declared.record.Record.{Record}
-use Rattle.journal_core.specs.declared.record.Record.TheVariants.{Isolate, Moved, Back}
-use Rattle.journal_core.specs.History.{pins}
-use Rattle.journal_core.specs.Moves.{isolated}
-use Rattle.outcome_core.specs.ByHand.{scan_step}
-use Rattle.outcome_core.proofs.Scanning.{by_scan}
+use Rattle.frame_core.specs.declared.record.Cause.{Cause}
+use Rattle.frame_core.specs.declared.record.Cause.TheVariants.{Pinned}
+use Rattle.frame_core.specs.declared.record.Record.{Record}
+use Rattle.frame_core.specs.declared.record.Record.TheVariants.{Isolate, Moved, Back}
+use Rattle.frame_core.specs.History.{pins}
+use Rattle.frame_core.specs.Moves.{isolated}
+use Rattle.zone_core.specs.ByHand.{scan_step}
+use Rattle.zone_core.proofs.Scanning.{by_scan}
 use Rattle.state_core.specs.Ending.{committed, moved_to_target, put_back_to_source}
 use Rattle.state_core.specs.Lawful.{IsValidZone}
 use Rattle.state_core.specs.ZoneState.{ZoneState}

@@ -5,7 +5,7 @@ use Rattle.std.specs.List.Sorted.{IsPermutation, IsStrictlyIncreasing}
 use Rattle.std.proofs.lemmas.List.{map-append}
 use Rattle.std.proofs.lemmas.List.Concat.{flat_map-cons}
 use Rattle.std.proofs.lemmas.List.Elements.{All-map}
-use Rattle.word_core.specs.Serials.{serials_of, IsRising}
+use Rattle.frame_core.specs.Serials.{serials_of, IsRising}
 use Rattle.hand_core.specs.PageEnds.{Taker, taken_by}
 use Rattle.round_core.specs.Crews.{AreListed}
 use Rattle.round_core.specs.Rounds.{AreShared}

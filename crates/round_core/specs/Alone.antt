@@ -1,9 +1,9 @@
 -- How the scanner of a round stops, and goes on, where nobody else has the zone.
 use Rattle.std.specs.Prelude.{◌≡◌, ℕ}
-use Rattle.journal_core.specs.Moves.{isolated}
+use Rattle.frame_core.specs.Moves.{isolated}
 use Rattle.state_core.specs.ZoneState.{ZoneState}
-use Rattle.outcome_core.specs.Alone.{IsAtRest}
-use Rattle.outcome_core.specs.ByHand.{all_isolated}
+use Rattle.zone_core.specs.Alone.{IsAtRest}
+use Rattle.zone_core.specs.ByHand.{all_isolated}
 use Rattle.round_core.specs.Rounds.{stop_by_hand}
 use Rattle.round_core.specs.declared.round.Stop.{Stop}
 

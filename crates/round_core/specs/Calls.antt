@@ -1,8 +1,8 @@
 -- The calls of clients, as the journal tells them, and what a round beside a client adds to the journal.
 use Rattle.std.specs.Prelude.{◌≡◌, ℕ, Bool, true, false, ◌||◌, List, ◌∷◌, ◌++◌, nat_eq}
 use Rattle.std.specs.List.{AllByRecursion}
-use Rattle.journal_core.specs.declared.record.Record.{Record}
-use Rattle.journal_core.specs.declared.record.Record.TheVariants.{Map, Share, Unmap, Store, Load, Pin, Unpin, Isolate, Moved, Back}
+use Rattle.frame_core.specs.declared.record.Record.{Record}
+use Rattle.frame_core.specs.declared.record.Record.TheVariants.{Map, Share, Unmap, Store, Load, Pin, Unpin, Isolate, Moved, Back}
 use Rattle.state_core.specs.ZoneState.{ZoneState}
 
 -- whether a record is of a call of the client with this number

@@ -1,6 +1,6 @@
 -- What a copier hands back.
 use Rattle.std.specs.Prelude.{◌≡◌, true, false, ◌⊎◌}
-use Rattle.word_core.specs.Serials.{serials_of}
+use Rattle.frame_core.specs.Serials.{serials_of}
 use Rattle.hand_core.specs.PageEnds.{Taker}
 use Rattle.hand_core.specs.CopyEnds.{DoneSender}
 use Rattle.round_core.specs.declared.copier.Carried.{Carried}

@@ -1,6 +1,6 @@
 -- What the ends of the queues are when a round starts, and what the copiers together hand back.
 use Rattle.std.specs.Prelude.{◌≡◌, ◌+◌, ℕ, false, [], List, map, length}
-use Rattle.word_core.specs.Serials.{serials_of}
+use Rattle.frame_core.specs.Serials.{serials_of}
 use Rattle.hand_core.specs.PageEnds.{Giver, Taker, HandOver}
 use Rattle.hand_core.specs.CopyEnds.{DoneSender}
 

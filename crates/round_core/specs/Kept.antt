@@ -1,8 +1,8 @@
 -- What the lock of a zone keeps.
 use Rattle.std.specs.Prelude.{◌≡◌, ℕ, ◌<◌, true, false, []}
 use Rattle.std.specs.FinMap as map
-use Rattle.journal_core.specs.Moves.{ends_of, out}
-use Rattle.journal_core.specs.Truth.{IsTruthful}
+use Rattle.frame_core.specs.Moves.{ends_of, out}
+use Rattle.frame_core.specs.Truth.{IsTruthful}
 use Rattle.state_core.specs.Lawful.{IsValidZone}
 use Rattle.state_core.specs.ZoneState.{ZoneState, takes_up, is_held}
 

@@ -2,7 +2,7 @@
 use Rattle.std.specs.Prelude.{◌≡◌, ◌≢◌, ℕ, ◌+◌, ◌<◌, List, map, All, ⊤, Option, Some, None, Result, Err, IfErr, ◌↔◌, ◌⊎◌}
 use Rattle.std.specs.List.{flat_map, range_with_len}
 use Rattle.std.specs.List.Sorted.{IsPermutation, IsStrictlyIncreasing}
-use Rattle.outcome_core.specs.ByHand.{all_isolated}
+use Rattle.zone_core.specs.ByHand.{all_isolated}
 use Rattle.state_core.specs.declared.error.ZoneError.{ZoneError}
 use Rattle.state_core.specs.declared.information.Audit.{Audit}
 use Rattle.state_core.specs.Isolating.{isolate_refusal}

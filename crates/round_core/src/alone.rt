@@ -1,7 +1,7 @@
 ghost use Rattle.std.specs.Prelude.{◌≡◌, ◌+◌, ◌<◌, ◌≤◌, true, None, IfOk, OnOk};
-ghost use Rattle.journal_core.specs.Moves.{isolated};
-ghost use Rattle.outcome_core.specs.ByHand.{by_hand};
-ghost use Rattle.outcome_core.specs.Outcome.{IsSame};
+ghost use Rattle.frame_core.specs.Moves.{isolated};
+ghost use Rattle.zone_core.specs.ByHand.{by_hand};
+ghost use Rattle.zone_core.specs.Outcome.{IsSame};
 ghost use Rattle.round_core.specs.Kept.{LockInvariant};
 ghost use Rattle.round_core.specs.Rounds.{IsRound, IsRefusedEarly, IsBroken, stop_by_hand};
 ghost use Rattle.state_core.specs.Packed.{IsPacked};

@@ -2,19 +2,18 @@
 
 ghost use Rattle.std.specs.Prelude.{◌≡◌, ◌+◌, ◌<◌, ◌≤◌, [], length, Some, None, IfSome, IfNone, OnSome};
 ghost use Rattle.std.specs.VecDeque.{deque_capacity};
-ghost use Rattle.journal_core.specs.Moves.{isolated};
+ghost use Rattle.frame_core.specs.Moves.{isolated};
 ghost use Rattle.state_core.specs.Lawful.{IsValidZone};
-ghost use Rattle.word_core.specs.Serials.{HasSerialsFrom};
+ghost use Rattle.frame_core.specs.Serials.{HasSerialsFrom};
 ghost use Rattle.zone_core.specs.ZoneIdentity.{HasIdentity};
 ghost use Rattle.round_core.specs.PuttingBack.{all_put_back};
 ghost use Rattle.round_core.specs.Rounds.{answer_at};
 
 use crate::keeping::Keeping;
 use crate::round::Stop;
-use frame_core::Serial;
+use frame_core::{Copied, Isolated, Serial};
 use std::collections::VecDeque;
 use std::sync::ledger::Ledger;
-use word_core::{Copied, Isolated};
 use zone_core::{EndSeat, Next, ScanSeat, Zone};
 
 /// Isolates pages into the empty list, in their order, until the list is full. Where it stops before, the answer says why.

@@ -6,14 +6,13 @@ use crate::keeping::Keeping;
 use crate::memory::CopierParts;
 use crate::shared_zone::KeptZone;
 use crate::stack::stack;
-use frame_core::Serial;
+use frame_core::{Copied, Serial};
 use hand_core::{Came, DoneTaker};
 use std::collections::VecDeque;
 use std::marker::PhantomData;
 use std::sync::Wait;
 use std::sync::ledger::Ledger;
 use std::thread::{Promise, PromisedHandle, Scope, Threads};
-use word_core::Copied;
 use zone_core::EndSeat;
 
 /// What the committer hands back: its part of the end seat, the least serial that was refused, and whether it came to

@@ -13,13 +13,12 @@ use crate::memory::{Bursts, CopierParts, CopierResults, Memory};
 use crate::round::Stop;
 use crate::scanner::scan_all;
 use crate::shared_zone::KeptZone;
-use frame_core::Serial;
+use frame_core::{Copied, Isolated, Serial};
 use hand_core::{DoneTaker, Giver};
 use std::collections::VecDeque;
 use std::sync::Wait;
 use std::sync::ledger::Ledger;
 use std::thread::{Scope, Threads};
-use word_core::{Copied, Isolated};
 use zone_core::{EndSeat, ScanSeat, Seats};
 
 /// How a round ran: why its scanner stopped, and what its threads handed back.

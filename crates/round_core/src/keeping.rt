@@ -1,11 +1,11 @@
 ghost use Rattle.std.specs.Prelude.{◌≡◌, ℕ, List, ◌∷◌, Option, Some, None, true, refl, ⊤};
 ghost use Rattle.std.specs.FinMap as map;
-ghost use Rattle.journal_core.specs.History.{pins};
-ghost use Rattle.journal_core.specs.Moves.{isolated};
-ghost use Rattle.journal_core.specs.declared.record.Cause.{Cause};
-ghost use Rattle.journal_core.specs.declared.record.Record.{Record};
-ghost use Rattle.halves_core.specs.Told.{Pair, Told, pair_of, written_if};
-ghost use Rattle.outcome_core.specs.ByHand.{scan_pair, scan_step};
+ghost use Rattle.frame_core.specs.History.{pins};
+ghost use Rattle.frame_core.specs.Moves.{isolated};
+ghost use Rattle.frame_core.specs.declared.record.Cause.{Cause};
+ghost use Rattle.frame_core.specs.declared.record.Record.{Record};
+ghost use Rattle.hand_core.specs.Told.{Pair, Told, pair_of, written_if};
+ghost use Rattle.zone_core.specs.ByHand.{scan_pair, scan_step};
 ghost use Rattle.round_core.specs.Calls.{IsCall, is_of_round};
 ghost use Rattle.round_core.specs.Rounds.{stop_for};
 ghost use Rattle.round_core.specs.Scanning.{HasBegun};

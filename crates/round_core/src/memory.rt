@@ -8,13 +8,12 @@ ghost use Rattle.round_core.specs.Runs.{IsFresh, IsEmpty, IsReady};
 
 use crate::copier::Copier;
 use crate::division::Division;
-use frame_core::Serial;
+use frame_core::{Copied, Isolated, Serial};
 use hand_core::{
     DoneSender, DoneTaker, Giver, HandError, Taker, Takers, done_open_in_batches, open_in_batches,
 };
 use std::alloc::{AllocError, Global};
 use std::collections::VecDeque;
-use word_core::{Copied, Isolated};
 
 /// The memory of a round: its queues and lists.
 #[derive(Drop)]

@@ -1,6 +1,6 @@
 ghost use Rattle.std.specs.Prelude.{◌≡◌, ◌+◌, ◌++◌, ◌<◌, ◌≤◌, [], false, Some, None, Err, length, IfSome, IfNone, OnSome, IfOk, OnOk};
 ghost use Rattle.std.specs.VecDeque.{deque_capacity};
-ghost use Rattle.word_core.specs.Serials.{HasSerialsFrom};
+ghost use Rattle.frame_core.specs.Serials.{HasSerialsFrom};
 ghost use Rattle.round_core.specs.Crews.{IsNext};
 ghost use Rattle.round_core.specs.Rounds.{answer_at};
 
@@ -9,12 +9,11 @@ use crate::gate::{Gate, Point, tell_all};
 use crate::keeping::Keeping;
 use crate::round::Stop;
 use crate::shared_zone::KeptZone;
-use frame_core::Serial;
+use frame_core::{Isolated, Serial};
 use hand_core::{Batch, Giver};
 use std::collections::VecDeque;
 use std::sync::Wait;
 use std::sync::ledger::Ledger;
-use word_core::Isolated;
 use zone_core::{EndSeat, ScanSeat};
 
 /// Isolates pages and gives them, as many at once as the empty list has room for, until the scanners meet or the journal is

@@ -3,14 +3,13 @@ ghost use Rattle.std.specs.Prelude.{◌≡◌, ◌<◌, ◌≤◌};
 use crate::burst::{commit_burst, isolate_burst, put_back_burst};
 use crate::keeping::{Keeping, Open};
 use crate::round::Stop;
-use frame_core::Serial;
-use halves_core::Stub;
+use frame_core::{Copied, Isolated, Serial};
+use hand_core::Stub;
 use hand_core::patience::{TRIES, pause};
 use std::collections::VecDeque;
 use std::marker::{Model, PhantomData};
 use std::sync::ledger::Ledger;
 use std::sync::{Condvar, Mutex, MutexGuard, Wait};
-use word_core::{Copied, Isolated};
 use zone_core::{EndSeat, ScanSeat, Zone};
 
 /// What is under the lock: a zone, the stub of its client's receipts where they are kept, and whether a thread waits for the end of a
@@ -71,7 +70,7 @@ pub type SharedZone<K, I, M, B> = KeptZone<Open<K>, I, M, B>;
 impl<K: Keeping, I: Ledger, M: Ledger, B: Ledger> KeptZone<K, I, M, B> {
     ghost use Rattle.std.specs.Prelude.{◌≡◌, ◌+◌, ◌<◌, ◌≤◌, [], length, Some, None, IfSome, IfNone, OnSome};
     ghost use Rattle.std.specs.VecDeque.{deque_capacity};
-    ghost use Rattle.word_core.specs.Serials.{HasSerialsFrom};
+    ghost use Rattle.frame_core.specs.Serials.{HasSerialsFrom};
     ghost use Rattle.zone_core.specs.Seats.{seat_begun};
     ghost use Rattle.round_core.specs.Kept.{LockInvariant};
     ghost use Rattle.round_core.specs.Rounds.{answer_at};

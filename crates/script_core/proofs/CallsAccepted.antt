@@ -3,7 +3,7 @@ use Rattle.std.proofs.Common.{◌≡◌, ℕ, Bool, refl, ap, Option, Some, None
 use Rattle.std.specs.Prelude.{IsSome, unwrap_or}
 use Rattle.std.specs.FinMap as map
 use Rattle.frame_core.specs.declared.place.Address.{Address}
-use Rattle.journal_core.specs.History.{page_at}
+use Rattle.frame_core.specs.History.{page_at}
 use Rattle.state_core.specs.declared.placement.Placement.TheVariants.{At}
 use Rattle.state_core.specs.Access.{access_refusal}
 use Rattle.state_core.specs.Lawful.{IsValidZone}
@@ -11,7 +11,7 @@ use Rattle.state_core.specs.Mapping.{mapped, placed}
 use Rattle.state_core.specs.ZoneState.{ZoneState, lowest_free_frame, lowest_unused_page}
 use Rattle.state_core.proofs.Facts.{page_named}
 use Rattle.state_core.proofs.Finding.{unused_is, unused_left}
-use Rattle.world_core.proofs.Carrying.{accessed_at}
+use Rattle.machine_core.proofs.Carrying.{accessed_at}
 
 -- the number of a fresh page, which names no page yet
 pub record Fresh (z : ZoneState) (page : ℕ) : Type 0 where

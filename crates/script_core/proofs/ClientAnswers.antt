@@ -6,7 +6,7 @@ use Rattle.client_core.specs.declared.error.ClientError.{ClientError}
 use Rattle.client_core.specs.Receipts.{Client}
 use Rattle.text_core.specs.declared.reply.Reply.{Reply}
 use Rattle.script_core.specs.Clients.{AreClientAnswers, IsClientReply, IsMade}
-use Rattle.play_core.specs.Script.{Answer, ClientLine}
+use Rattle.text_core.specs.Script.{Answer, ClientLine}
 
 -- one more line is answered
 pub client_answers_more : (old mid new : Client) (clients : List ClientLine) (answers : List Answer) (c : ClientLine) (a : Answer)

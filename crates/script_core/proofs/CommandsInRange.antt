@@ -11,9 +11,9 @@ use Rattle.text_core.specs.declared.profile.Profile.{Profile}
 use Rattle.text_core.specs.Line.{line_within, line_of}
 use Rattle.text_core.specs.Profile.{profile_told}
 use Rattle.text_core.proofs.Ranges.{IsInRange, SaysInRange, line_ranged}
-use Rattle.play_core.specs.declared.error.Fault.{Fault}
-use Rattle.play_core.specs.declared.error.Fault.TheVariants.{Syntax}
-use Rattle.play_core.specs.Script.{Block, Came, ClientLine, Numbered, Reading, client_comes, command_comes, comes_in, comes_outside, comes_within, commands_from, line_comes, onto, onto_commands, reading_behind, within}
+use Rattle.text_core.specs.declared.fault.Fault.{Fault}
+use Rattle.text_core.specs.declared.fault.Fault.TheVariants.{Syntax}
+use Rattle.text_core.specs.Script.{Block, Came, ClientLine, Numbered, Reading, client_comes, command_comes, comes_in, comes_outside, comes_within, commands_from, line_comes, onto, onto_commands, reading_behind, within}
 
 abbrev pub AreInRange : List Numbered → Type 0
 AreInRange commands = AllByRecursion (λ c. IsInRange c.command) commands

@@ -3,7 +3,7 @@ use Rattle.std.proofs.Common.{◌≡◌, ℕ, ◌*◌, ◌<◌, ◌≤◌, Bool,
 use Rattle.std.specs.Prelude.{nat_eq, if◌then◌else◌}
 use Rattle.std.specs.List.{AllByRecursion}
 use Rattle.std.specs.Option.{option_or}
-use Rattle.world_core.specs.World.{IsOrderly, WorldState, world_opened}
+use Rattle.machine_core.specs.World.{IsOrderly, WorldState, world_opened}
 use Rattle.text_core.specs.declared.command.Call.{Call}
 use Rattle.text_core.specs.declared.command.Call.TheVariants.{Info, InfoWithHeld}
 use Rattle.text_core.specs.declared.command.Calls.{Calls}
@@ -14,7 +14,7 @@ use Rattle.text_core.specs.declared.reply.Reply.{Reply}
 use Rattle.text_core.specs.declared.reply.Reply.TheVariants as reply
 use Rattle.text_core.proofs.Ranges.{IsInRange}
 use Rattle.machine_core.specs.Machine.{Step, answered, call_step, calls_step, declined, step, during_on}
-use Rattle.play_core.specs.Script.{Numbered, commands_of, parts_of, by}
+use Rattle.text_core.specs.Script.{Numbered, commands_of, parts_of, by}
 use Rattle.machine_core.specs.Replies.{answers_of}
 use Rattle.script_core.specs.MachineByHand.{answers_by_hand, step_by_hand}
 use Rattle.script_core.specs.Counts.{AddsUpTo, CountsAddUp, frames_in, frames_of}

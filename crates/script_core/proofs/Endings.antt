@@ -9,7 +9,7 @@ use Rattle.clap.specs.declared.error.Error.{Error}
 use Rattle.clap.specs.declared.error.kind.ErrorKind.{ErrorKind}
 use Rattle.clap.specs.declared.error.kind.ErrorKind.TheVariants.{DisplayHelp, DisplayVersion, OutOfMemory}
 use Rattle.script_core.specs.Status.{status_of}
-use Rattle.options_core.specs.CommandLine.{is_help}
+use Rattle.script_core.specs.CommandLine.{is_help}
 use Rattle.script_core.specs.Stops.{FailsIn}
 
 left_false : (a b : Bool) → (a || b) ≡ false → a ≡ false

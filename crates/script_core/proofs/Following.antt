@@ -3,19 +3,19 @@ use Rattle.std.proofs.Common.{◌≡◌, ℕ, ◌-◌, ◌<◌, ◌≤◌, Bool,
 use Rattle.std.specs.Prelude.{⊤, IfOk, IsTrue, Result, Ok, Err, map, nat_eq, nat_lt, replicate, if◌then◌else◌}
 use Rattle.std.specs.List.{AllByRecursion, list_any}
 use Rattle.std.proofs.lemmas.Bool.{and_parts, eq-eqb, false≢true, false_from_ne_true, or_parts, true≢false}
-use Rattle.journal_core.specs.Moves.{out}
+use Rattle.frame_core.specs.Moves.{out}
 use Rattle.state_core.specs.declared.error.ZoneError.{ZoneError}
 use Rattle.state_core.specs.declared.error.ZoneError.TheVariants.{Missing, Out}
 use Rattle.state_core.specs.Lawful.{IsValidZone}
 use Rattle.state_core.specs.ZoneState.{ZoneState}
-use Rattle.outcome_core.specs.Alone.{IsAtRest}
-use Rattle.outcome_core.specs.ByHand.{by_hand}
-use Rattle.outcome_core.specs.Outcome.{IsSame}
-use Rattle.outcome_core.proofs.Records.{isolated_same}
+use Rattle.zone_core.specs.Alone.{IsAtRest}
+use Rattle.zone_core.specs.ByHand.{by_hand}
+use Rattle.zone_core.specs.Outcome.{IsSame}
+use Rattle.zone_core.proofs.Records.{isolated_same}
 use Rattle.zone_core.specs.Seats.{ScanSeat, EndSeat, audit_refusal}
-use Rattle.world_core.specs.World.{IsOrderly, WorldState, is_in, is_in_hand, serial_in, waits, world_closed, world_opened}
-use Rattle.world_core.specs.declared.hand.Hand.{Hand}
-use Rattle.world_core.specs.declared.hand.Hand.TheVariants.{Empty, Page, Copy as CopyOf}
+use Rattle.machine_core.specs.World.{IsOrderly, WorldState, is_in, is_in_hand, serial_in, waits, world_closed, world_opened}
+use Rattle.machine_core.specs.declared.hand.Hand.{Hand}
+use Rattle.machine_core.specs.declared.hand.Hand.TheVariants.{Empty, Page, Copy as CopyOf}
 use Rattle.round_core.specs.declared.error.RoundError.{RoundError}
 use Rattle.round_core.specs.declared.error.RoundError.TheVariants.{Memory, NoWorker, Broken, Stranger}
 use Rattle.round_core.specs.declared.round.Round.{Round}
@@ -40,7 +40,7 @@ use Rattle.text_core.specs.Pool.{pool_order, told_as}
 use Rattle.text_core.proofs.Ranges.{HasOrder, IsInRange}
 use Rattle.machine_core.specs.Machine.{Answered, Step, answered, calls_step, compact_on, declined, opens, pool_from, pool_on, refused, step}
 use Rattle.machine_core.specs.OneThread.{IsStep, is_at_rest}
-use Rattle.play_core.specs.Script.{Answer, Numbered}
+use Rattle.text_core.specs.Script.{Answer, Numbered}
 use Rattle.client_core.specs.Receipts.{Client}
 use Rattle.script_core.specs.MachineByHand.{count_by_hand, pool_by_hand, pool_stopped_as, reservation_reply, round_by_hand, step_by_hand, stopped_as, work_by_hand}
 use Rattle.script_core.specs.Worlds.{IsSameWorld}

@@ -4,7 +4,7 @@ use Rattle.std.specs.Prelude.{codes, map, nat_eq, nat_lt, option_map, ⊤, if◌
 use Rattle.std.proofs.lemmas.List.{length-map, map-append}
 use Rattle.std.specs.Option.{option_or}
 use Rattle.state_core.specs.declared.call.ZoneCall.{ZoneCall}
-use Rattle.world_core.specs.World.{WorldState}
+use Rattle.machine_core.specs.World.{WorldState}
 use Rattle.text_core.specs.declared.command.Call.{Call}
 use Rattle.text_core.specs.declared.command.Call.TheVariants as call
 use Rattle.text_core.specs.declared.command.Calls.{Calls}
@@ -24,12 +24,12 @@ use Rattle.text_core.specs.Profile.{profile_told}
 use Rattle.text_core.proofs.Profiles as rows
 use Rattle.text_core.proofs.Profiles.{SayAlike, call_in_profile_2, lines_alike}
 use Rattle.machine_core.specs.Machine.{Step, answered, call_step, calls_step, declined, step, step_on, during_on}
-use Rattle.play_core.specs.Script.{Answer, Numbered, commands_from, cut_fault, fault_from, fault_of, line_fault, onto_commands, parts_of, Block, Came, ClientLine, Reading, by, client_comes, command_comes, command_in_block, comes_in, comes_outside, comes_within, commands_of, line_comes, onto, open_fault, reading_behind, within}
+use Rattle.text_core.specs.Script.{Answer, Numbered, commands_from, cut_fault, fault_from, fault_of, line_fault, onto_commands, parts_of, Block, Came, ClientLine, Reading, by, client_comes, command_comes, command_in_block, comes_in, comes_outside, comes_within, commands_of, line_comes, onto, open_fault, reading_behind, within}
 use Rattle.machine_core.specs.Replies.{answers_of}
-use Rattle.play_core.specs.declared.error.Fault.{Fault}
-use Rattle.play_core.specs.declared.error.Fault.TheVariants.{Syntax}
-use Rattle.play_core.specs.declared.error.RunError.{RunError}
-use Rattle.play_core.proofs.Lines.{Parts, parts-line, parts_are}
+use Rattle.text_core.specs.declared.fault.Fault.{Fault}
+use Rattle.text_core.specs.declared.fault.Fault.TheVariants.{Syntax}
+use Rattle.text_core.specs.declared.fault.RunError.{RunError}
+use Rattle.text_core.proofs.Lines.{Parts, parts-line, parts_are}
 use Rattle.script_core.specs.MachineByHand.{answers_by_hand, step_by_hand}
 use Rattle.script_core.specs.Profile2.{IsSameInProfile2, behind_profile_2, fault_in_profile_1, with_held}
 use Rattle.script_core.proofs.MachineByHand.{machine_by_hand}

@@ -2,13 +2,13 @@
 use Rattle.std.proofs.Common.{◌≡◌, ℕ, ◌*◌, Bool, true, false, refl, ap, Option, Some, None}
 use Rattle.std.specs.Prelude.{nat_eq, if◌then◌else◌}
 use Rattle.std.specs.List.{list_any}
-use Rattle.journal_core.proofs.OnTheWay.{none_out}
+use Rattle.frame_core.proofs.OnTheWay.{none_out}
 use Rattle.state_core.specs.ZoneState.{ZoneState}
-use Rattle.outcome_core.specs.Alone.{IsAtRest}
-use Rattle.outcome_core.specs.ByHand.{by_hand}
-use Rattle.world_core.specs.World.{IsOrderly, WorldState, world_closed}
+use Rattle.zone_core.specs.Alone.{IsAtRest}
+use Rattle.zone_core.specs.ByHand.{by_hand}
+use Rattle.machine_core.specs.World.{IsOrderly, WorldState, world_closed}
 use Rattle.zone_core.specs.Seats.{ScanSeat, EndSeat}
-use Rattle.world_core.proofs.Closing.{carried_closed}
+use Rattle.machine_core.proofs.Closing.{carried_closed}
 use Rattle.text_core.specs.declared.command.Command.{Command}
 use Rattle.text_core.specs.declared.command.Command.TheVariants.{Compact, Pool}
 use Rattle.text_core.specs.declared.pool.PoolBlocks.{PoolBlocks}

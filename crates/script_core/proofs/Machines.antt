@@ -1,6 +1,6 @@
 -- What the laws ask of a machine: what its rounds and its pools leave, and what they reply. All else it does as on one thread.
 use Rattle.std.proofs.Common.{◌≡◌, ℕ, Bool, true, false, List, [], ◌∷◌, Option, Some, None}
-use Rattle.world_core.specs.World.{IsOrderly, WorldState}
+use Rattle.machine_core.specs.World.{IsOrderly, WorldState}
 use Rattle.text_core.specs.declared.command.Command.{Command}
 use Rattle.text_core.specs.declared.command.Command.TheVariants.{Compact, Pool}
 use Rattle.text_core.specs.declared.pool.PoolBlocks.{PoolBlocks}
@@ -8,7 +8,7 @@ use Rattle.text_core.specs.declared.reply.Reply.{Reply}
 use Rattle.text_core.specs.declared.reply.Reply.TheVariants as reply
 use Rattle.text_core.proofs.Ranges.{IsInRange}
 use Rattle.machine_core.specs.Machine.{Step, step}
-use Rattle.play_core.specs.Script.{Answer, Numbered, commands_of}
+use Rattle.text_core.specs.Script.{Answer, Numbered, commands_of}
 use Rattle.script_core.proofs.PagesMoved.{LeavesCells}
 use Rattle.script_core.proofs.Steps.{Keeps}
 

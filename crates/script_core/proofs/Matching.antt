@@ -4,9 +4,9 @@ use Rattle.std.specs.Prelude.{◌&&◌, if◌then◌else◌}
 use Rattle.std.proofs.lemmas.Bool.{cases_Bool, cond-true, cond-false, eq-eqb, ne_eqb}
 use Rattle.std.proofs.lemmas.Option.{same_Some}
 use Rattle.frame_core.specs.declared.place.Address.{Address}
-use Rattle.journal_core.specs.declared.record.Record.{Record}
-use Rattle.journal_core.specs.declared.record.Record.TheVariants.{Map, Share, Unmap, Store}
-use Rattle.journal_core.specs.History.{is_page, last, names, page_at, same_address}
+use Rattle.frame_core.specs.declared.record.Record.{Record}
+use Rattle.frame_core.specs.declared.record.Record.TheVariants.{Map, Share, Unmap, Store}
+use Rattle.frame_core.specs.History.{is_page, last, names, page_at, same_address}
 
 pub record Match (journal history : List Record) : Type 0 where
   -- an address that names no page in the journal names none in the history

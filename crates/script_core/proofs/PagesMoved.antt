@@ -5,18 +5,18 @@ use Rattle.std.specs.List.{list_all}
 use Rattle.std.specs.Option.{option_and_then}
 use Rattle.std.proofs.lemmas.Option.{same_Some, some_pair_parts}
 use Rattle.frame_core.specs.declared.place.Address.{Address}
-use Rattle.journal_core.specs.declared.record.Cause.TheVariants.{Pinned, NotCopied}
-use Rattle.journal_core.specs.History.{page_at, last, pins}
-use Rattle.journal_core.specs.Moves.{page_of}
+use Rattle.frame_core.specs.declared.record.Cause.TheVariants.{Pinned, NotCopied}
+use Rattle.frame_core.specs.History.{page_at, last, pins}
+use Rattle.frame_core.specs.Moves.{page_of}
 use Rattle.state_core.specs.declared.round.Pair.{Pair}
 use Rattle.state_core.specs.Ending.{moved_to_target, put_back_to_source}
 use Rattle.state_core.specs.Pairs.{next_pair}
 use Rattle.state_core.specs.Rounds.{round_begun}
 use Rattle.state_core.specs.ZoneState.{ZoneState}
-use Rattle.world_core.specs.declared.hand.Finished.{Finished}
-use Rattle.world_core.specs.declared.hand.Hand.{Hand}
-use Rattle.world_core.specs.declared.hand.Hand.TheVariants.{Empty, Page, Copy}
-use Rattle.world_core.specs.World.{WorldState, all_put_back, copy_in, copy_step, finish_step, finished_as, finished_by, is_empty, isolated_by, page_in, round_opened, scanned, shut, shut_step, take_step, taken_by, with_hand}
+use Rattle.machine_core.specs.declared.hand.Finished.{Finished}
+use Rattle.machine_core.specs.declared.hand.Hand.{Hand}
+use Rattle.machine_core.specs.declared.hand.Hand.TheVariants.{Empty, Page, Copy}
+use Rattle.machine_core.specs.World.{WorldState, all_put_back, copy_in, copy_step, finish_step, finished_as, finished_by, is_empty, isolated_by, page_in, round_opened, scanned, shut, shut_step, take_step, taken_by, with_hand}
 
 -- a call makes no address name another page, and stores nothing
 pub record LeavesCells (z after : ZoneState) : Type 0 where

@@ -4,7 +4,7 @@ use Rattle.std.specs.Prelude.{if◌then◌else◌}
 use Rattle.state_core.specs.declared.call.ZoneCall.TheVariants.{TakeOrder}
 use Rattle.state_core.specs.declared.error.ZoneError.{ZoneError}
 use Rattle.state_core.specs.HandingOut.{take_order_refusal, block_taken}
-use Rattle.world_core.specs.World.{IsOrderly, WorldState, with_zone}
+use Rattle.machine_core.specs.World.{IsOrderly, WorldState, with_zone}
 use Rattle.text_core.specs.declared.pool.PoolBlocks.{PoolBlocks}
 use Rattle.text_core.specs.Pool.{pool_order, told_as}
 use Rattle.text_core.proofs.Ranges.{HasOrder}

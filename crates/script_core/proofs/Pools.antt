@@ -3,10 +3,10 @@ use Rattle.std.proofs.Common.{◌≡◌, ◌∙◌, ℕ, ◌+◌, ◌<◌, ◌�
 use Rattle.std.specs.Prelude.{◌↔◌}
 use Rattle.state_core.specs.declared.error.ZoneError.{ZoneError}
 use Rattle.state_core.specs.ZoneState.{ZoneState}
-use Rattle.outcome_core.specs.Alone.{IsAtRest}
+use Rattle.zone_core.specs.Alone.{IsAtRest}
 use Rattle.zone_core.specs.Seats.{ScanSeat, EndSeat, audit_refusal}
 use Rattle.zone_core.specs.ZoneIdentity.{HasIdentity}
-use Rattle.world_core.specs.World.{WorldState}
+use Rattle.machine_core.specs.World.{WorldState}
 use Rattle.round_core.specs.declared.round.Round.{Round}
 use Rattle.round_core.specs.Kept.{LockInvariant}
 use Rattle.round_core.specs.Rounds.{IsRefusedEarly}

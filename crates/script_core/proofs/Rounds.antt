@@ -2,14 +2,14 @@
 use Rattle.std.proofs.Common.{◌≡◌, ℕ, ◌+◌, ◌≤◌, ◌⊎◌, Bool, true, false, List, [], ◌∷◌, refl, sym, ap, subst, ◌∙◌, inl, inr, arith, Option, Some, None, Result, Ok, Err}
 use Rattle.std.specs.Prelude.{IfOk, OnOk, nat_eq}
 use Rattle.std.proofs.lemmas.Bool.Decides.{nat_tests}
-use Rattle.journal_core.specs.Moves.{isolated}
-use Rattle.outcome_core.specs.ByHand.{by_hand}
-use Rattle.outcome_core.specs.Outcome.{IsSame}
+use Rattle.frame_core.specs.Moves.{isolated}
+use Rattle.zone_core.specs.ByHand.{by_hand}
+use Rattle.zone_core.specs.Outcome.{IsSame}
 use Rattle.state_core.specs.declared.error.ZoneError.{ZoneError}
 use Rattle.state_core.specs.ZoneState.{ZoneState}
 use Rattle.zone_core.specs.Seats.{ScanSeat, EndSeat, audit_refusal}
 use Rattle.zone_core.specs.ZoneIdentity.{HasIdentity}
-use Rattle.world_core.specs.World.{WorldState, world_closed}
+use Rattle.machine_core.specs.World.{WorldState, world_closed}
 use Rattle.round_core.specs.declared.error.RoundError.{RoundError}
 use Rattle.round_core.specs.declared.error.RoundError.TheVariants.{Memory, NoWorker, Broken, Stranger}
 use Rattle.round_core.specs.declared.round.Round.{Round}
@@ -21,7 +21,7 @@ use Rattle.text_core.specs.declared.command.Command.TheVariants.{During}
 use Rattle.text_core.specs.declared.reply.Reply.{Reply}
 use Rattle.text_core.specs.Grammar.{zone_of}
 use Rattle.client_core.specs.Receipts.{Client}
-use Rattle.play_core.specs.Script.{Answer, ClientLine, Numbered, command_of_line}
+use Rattle.text_core.specs.Script.{Answer, ClientLine, Numbered, command_of_line}
 use Rattle.machine_core.specs.OneThread.{IsStep, OneThread}
 use Rattle.script_core.specs.WithThreads.{ComesToByHand, IsBlockFor, IsNothingRun, IsReplyStep, IsRoundBeside, IsRoundOver, IsStepAt, IsStepBy, IsThreadedStep, IsTurnBeside, IsUnstarted, IsWorkOn, IsWorkStep, Settles, WithThreads, broken_reply, is_threaded, left_by}
 use Rattle.machine_core.specs.OneThread.{is_at_rest, number_is_at_rest}

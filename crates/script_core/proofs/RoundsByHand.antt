@@ -2,9 +2,9 @@
 use Rattle.std.proofs.Common.{◌≡◌, ℕ, zero, suc, ◌≤◌, Bool, true, false, refl, Option, Some, None}
 use Rattle.std.specs.FinMap as map
 use Rattle.std.specs.Prelude.{if◌then◌else◌}
-use Rattle.outcome_core.specs.Alone.{IsAtRest}
-use Rattle.outcome_core.specs.ByHand.{all_isolated, by_hand, moved_below, moved_if_moving, scan_pair, scan_step, scan_steps}
-use Rattle.outcome_core.proofs.ByHand.{moving_all, moving_isolated, none_by_hand}
+use Rattle.zone_core.specs.Alone.{IsAtRest}
+use Rattle.zone_core.specs.ByHand.{all_isolated, by_hand, moved_below, moved_if_moving, scan_pair, scan_step, scan_steps}
+use Rattle.zone_core.proofs.ByHand.{moving_all, moving_isolated, none_by_hand}
 use Rattle.round_core.specs.Rounds.{stop_by_hand}
 use Rattle.state_core.proofs.Calls.{call_lawful}
 use Rattle.state_core.specs.declared.call.ZoneCall.TheVariants.{TakeOrder}

@@ -4,8 +4,8 @@ use Rattle.std.specs.Prelude.{nat_eq, if◌then◌else◌}
 use Rattle.state_core.specs.Opening.{opened}
 use Rattle.state_core.proofs.Opened.{opened_lawful}
 use Rattle.zone_core.specs.Seats.{fresh_end_seat, fresh_scan_seat}
-use Rattle.world_core.specs.World.{IsOrderly, WorldState, world_opened}
-use Rattle.world_core.proofs.Closing.{carried_closed}
+use Rattle.machine_core.specs.World.{IsOrderly, WorldState, world_opened}
+use Rattle.machine_core.proofs.Closing.{carried_closed}
 use Rattle.text_core.specs.declared.command.Calls.{Calls}
 use Rattle.text_core.specs.declared.command.Calls.TheVariants.{Zone, One, Series as SeriesOf}
 use Rattle.text_core.specs.declared.command.Command.{Command}

@@ -2,13 +2,13 @@
 use Rattle.std.proofs.Common.{◌≡◌, ◌⊎◌, ℕ, List, [], ◌∷◌, ◌++◌, refl, sym, subst, inl, inr, Option, Some, None}
 use Rattle.std.specs.List.{AllByRecursion}
 use Rattle.std.specs.Io.KnownBytes.{Consumes}
-use Rattle.play_core.specs.declared.error.Fault.{Fault}
-use Rattle.play_core.specs.declared.error.Fault.TheVariants.{Syntax, LongLine, Read, Write, Memory}
-use Rattle.play_core.specs.declared.error.RunError.{RunError}
-use Rattle.play_core.specs.declared.totals.Totals.{Totals}
-use Rattle.play_core.specs.Runs.{Asking, Begins, IsAnswered, IsAsking, IsEnded, IsTotal, Replied, Rule}
-use Rattle.play_core.specs.Script.{Answer, IsBeginning, Numbered, commands_of}
-use Rattle.play_core.proofs.Beginnings.{all_before, all_of_beginning}
+use Rattle.text_core.specs.declared.fault.Fault.{Fault}
+use Rattle.text_core.specs.declared.fault.Fault.TheVariants.{Syntax, LongLine, Read, Write, Memory}
+use Rattle.text_core.specs.declared.fault.RunError.{RunError}
+use Rattle.text_core.specs.declared.totals.Totals.{Totals}
+use Rattle.text_core.specs.Runs.{Asking, Begins, IsAnswered, IsAsking, IsEnded, IsTotal, Replied, Rule}
+use Rattle.text_core.specs.Script.{Answer, IsBeginning, Numbered, commands_of}
+use Rattle.text_core.proofs.Beginnings.{all_before, all_of_beginning}
 
 -- the other machine gives the same answers, and is afterwards as it should be beside the first
 pub record Goes {S T : Type 0} (to : Rule T) (R : S → T → Type 0) (b : T) (c : Numbered) (answers : List Answer) (after : S) : Type 0 where

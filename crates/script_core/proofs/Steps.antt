@@ -12,13 +12,13 @@ use Rattle.state_core.specs.declared.information.Look.{Look}
 use Rattle.state_core.specs.Looking.{look_of}
 use Rattle.state_core.specs.Calls.{IsInRange, refusal_of, after}
 use Rattle.state_core.proofs.Calls.{call_lawful}
-use Rattle.world_core.specs.declared.hand.Finished.{Finished}
+use Rattle.machine_core.specs.declared.hand.Finished.{Finished}
 use Rattle.zone_core.specs.Seats.{seat_full}
-use Rattle.world_core.specs.World.{IsOrderly, WorldState, copy_step, finish_step, round_opened, scan_answer, scan_refusal, scan_stopped, scanned, shut_step, take_step, with_zone}
-use Rattle.world_core.proofs.Carrying.{call_leaves}
-use Rattle.world_core.proofs.HandsTaking.{orderly_copied, orderly_taken}
-use Rattle.world_core.proofs.MovesEnded.{orderly_finished, orderly_shut}
-use Rattle.world_core.proofs.Orderly.{orderly_isolated, orderly_noted, orderly_round_opened, orderly_with_zone}
+use Rattle.machine_core.specs.World.{IsOrderly, WorldState, copy_step, finish_step, round_opened, scan_answer, scan_refusal, scan_stopped, scanned, shut_step, take_step, with_zone}
+use Rattle.machine_core.proofs.Carrying.{call_leaves}
+use Rattle.machine_core.proofs.HandsTaking.{orderly_copied, orderly_taken}
+use Rattle.machine_core.proofs.MovesEnded.{orderly_finished, orderly_shut}
+use Rattle.machine_core.proofs.Orderly.{orderly_isolated, orderly_noted, orderly_round_opened, orderly_with_zone}
 use Rattle.text_core.specs.declared.command.Call.{Call}
 use Rattle.text_core.specs.declared.command.Call.TheVariants.{Info, InfoWithHeld, Scan, Take, Copy, Finish, Shut, Look as LookAt, Huge, Give}
 use Rattle.text_core.specs.declared.command.Repeated.{Repeated}

@@ -7,15 +7,15 @@ use Rattle.std.specs.Io.KnownBytes.{Appends}
 use Rattle.std.proofs.lemmas.Result.{MatchResult-weaker}
 use Rattle.text_core.specs.declared.command.Command.{Command}
 use Rattle.text_core.specs.declared.command.Command.TheVariants.{Open, On, Compact, Pool, During, Profile2, OutOfRange}
-use Rattle.world_core.specs.World.{WorldState}
+use Rattle.machine_core.specs.World.{WorldState}
 use Rattle.text_core.specs.declared.profile.Profile.TheVariants.{Untold}
 use Rattle.text_core.specs.declared.reply.Reply.{Reply}
-use Rattle.play_core.specs.declared.error.Fault.{Fault}
-use Rattle.play_core.specs.declared.error.RunError.{RunError}
-use Rattle.play_core.specs.declared.totals.Totals.{Totals}
+use Rattle.text_core.specs.declared.fault.Fault.{Fault}
+use Rattle.text_core.specs.declared.fault.RunError.{RunError}
+use Rattle.text_core.specs.declared.totals.Totals.{Totals}
 use Rattle.machine_core.specs.Ends.{EndsIn}
-use Rattle.play_core.specs.Runs.{IsAnswered, IsEnded, IsTotal}
-use Rattle.play_core.specs.Script.{Answer, Numbered, by, commands_of, parts_of}
+use Rattle.text_core.specs.Runs.{IsAnswered, IsEnded, IsTotal}
+use Rattle.text_core.specs.Script.{Answer, Numbered, by, commands_of, parts_of}
 use Rattle.machine_core.specs.Replies.{output_of, totals_of}
 use Rattle.machine_core.specs.OneThread.{IsSingleStep, OneThread, IsStep, Opens, single_at_first}
 use Rattle.script_core.specs.WithThreads.{AsksMemory, IsBlockFor, IsUnthreaded, IsStepAt, IsThreadedStep, IsUnthreadedScript, WithThreads, threaded_at_first}
@@ -24,7 +24,7 @@ use Rattle.script_core.proofs.Following.{Follows, IsFollowable, all_followable, 
 use Rattle.script_core.proofs.RunsAs.{Goes, answered_as, ends_as, total_as}
 use Rattle.script_core.proofs.CommandsInRange.{commands_ranged}
 use Rattle.machine_core.proofs.SingleRuns.{single_ends, single_output, single_totals}
-use Rattle.play_core.proofs.Variants.{known_weaker}
+use Rattle.text_core.proofs.Variants.{known_weaker}
 
 -- a command is answered as on one thread
 abbrev IsAlone : WithThreads → Numbered → List Answer → WithThreads → Type 0

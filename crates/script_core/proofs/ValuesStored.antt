@@ -3,9 +3,9 @@ use Rattle.std.proofs.Common.{◌≡◌, ℕ, zero, suc, ◌+◌, ◌*◌, ◌<�
 use Rattle.std.specs.Prelude.{◌&&◌, nat_eq, nat_lt, if◌then◌else◌, unwrap_or, IsSome}
 use Rattle.std.proofs.lemmas.Option.{same_Some}
 use Rattle.frame_core.specs.declared.place.Address.{Address}
-use Rattle.journal_core.specs.declared.record.Record.{Record}
-use Rattle.journal_core.specs.declared.record.Record.TheVariants as record_of
-use Rattle.journal_core.specs.History.{last, page_at}
+use Rattle.frame_core.specs.declared.record.Record.{Record}
+use Rattle.frame_core.specs.declared.record.Record.TheVariants as record_of
+use Rattle.frame_core.specs.History.{last, page_at}
 use Rattle.state_core.specs.declared.call.ZoneCall.{ZoneCall}
 use Rattle.state_core.specs.declared.call.ZoneCall.TheVariants.{Map, MapAt, Load, Store, Share, Unmap, Pin, Unpin, TakeOrder, GiveOrder, Mark, Unmark}
 use Rattle.state_core.specs.declared.error.ZoneError.{ZoneError}
@@ -19,13 +19,13 @@ use Rattle.state_core.specs.Mapping.{mapped}
 use Rattle.state_core.specs.Unmapping.{is_last, unmapped, without_page}
 use Rattle.state_core.specs.ZoneState.{ZoneState, lowest_free_frame, noted}
 use Rattle.state_core.proofs.Placed.{clash}
-use Rattle.world_core.proofs.Carrying.{frame_left, frame_left_at}
-use Rattle.world_core.specs.declared.hand.Finished.{Finished}
-use Rattle.world_core.specs.declared.hand.Scanned.{Scanned}
-use Rattle.world_core.specs.declared.hand.Scanned.TheVariants as scan
+use Rattle.machine_core.proofs.Carrying.{frame_left, frame_left_at}
+use Rattle.machine_core.specs.declared.hand.Finished.{Finished}
+use Rattle.machine_core.specs.declared.hand.Scanned.{Scanned}
+use Rattle.machine_core.specs.declared.hand.Scanned.TheVariants as scan
 use Rattle.state_core.specs.declared.moves.Ended.{Ended}
 use Rattle.state_core.specs.declared.moves.Ended.TheVariants as ended
-use Rattle.world_core.specs.World.{IsOrderly, WorldState, copy_step, finish_step, scan_answer, scan_refusal, scan_stopped, scanned, shut_step, take_step, with_zone, world_opened}
+use Rattle.machine_core.specs.World.{IsOrderly, WorldState, copy_step, finish_step, scan_answer, scan_refusal, scan_stopped, scanned, shut_step, take_step, with_zone, world_opened}
 use Rattle.text_core.specs.declared.command.Call.{Call}
 use Rattle.text_core.specs.declared.command.Call.TheVariants.{Info, InfoWithHeld, Scan, Take, Copy, Finish, Shut, Look as LookAt, Huge, Give}
 use Rattle.text_core.specs.declared.command.Calls.{Calls}
@@ -39,7 +39,7 @@ use Rattle.text_core.specs.declared.reply.Reply.TheVariants as reply
 use Rattle.text_core.specs.Grammar.{address_of, zone_of}
 use Rattle.text_core.proofs.Ranges.{IsInRange}
 use Rattle.machine_core.specs.Machine.{Answered, Step, answered, by_hand, call_at, call_step, calls_step, copied, declined, ending, found, looked, make_step, page_step, reply_for, says, series_from, step, unless, unless_refused, during_on}
-use Rattle.play_core.specs.Script.{Numbered, commands_of, parts_of, by}
+use Rattle.text_core.specs.Script.{Numbered, commands_of, parts_of, by}
 use Rattle.machine_core.specs.Replies.{answers_of}
 use Rattle.script_core.specs.MachineByHand.{answers_by_hand, step_by_hand}
 use Rattle.script_core.specs.Values.{IsLastStored, ValuesAreStored, accepted, accepted_count, called, repeated, told}

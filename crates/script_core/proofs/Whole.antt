@@ -2,14 +2,14 @@
 use Rattle.std.proofs.Common.{◌≡◌, ℕ, ◌≤◌, true, ◌&&◌, List, [], ◌∷◌, ◌++◌, sym, ap, subst, ◌∙◌, inl, inr, Option}
 use Rattle.std.specs.Prelude.{nat_le}
 use Rattle.std.proofs.lemmas.Bool.{le-leb, true≢false}
-use Rattle.world_core.specs.World.{WorldState}
+use Rattle.machine_core.specs.World.{WorldState}
 use Rattle.text_core.specs.declared.command.Command.{Command}
 use Rattle.text_core.specs.declared.command.Command.TheVariants.{Open, On, Compact, Pool, During, Profile2, OutOfRange}
 use Rattle.text_core.specs.declared.pool.PoolStopped.TheVariants as pool_stopped
 use Rattle.text_core.specs.declared.reply.Reply.{Reply}
 use Rattle.text_core.specs.declared.reply.Reply.TheVariants as reply
-use Rattle.play_core.specs.Runs.{Replied}
-use Rattle.play_core.specs.Script.{Answer, Numbered}
+use Rattle.text_core.specs.Runs.{Replied}
+use Rattle.text_core.specs.Script.{Answer, Numbered}
 use Rattle.script_core.specs.MachineByHand.{answers_by_hand_from, step_by_hand}
 use Rattle.script_core.specs.ByHand.{Followed, To, IsByHandStep, IsUnbegun, HasFailed, NoneRefused, tells_refusal}
 

@@ -3,8 +3,8 @@ use Rattle.std.proofs.Common.{◌≡◌, ℕ, zero, suc, ◌+◌, ◌-◌, ◌*�
 use Rattle.std.specs.Prelude.{slice_get, slice_set, unwrap_or}
 use Rattle.std.specs.List.{list_all}
 use Rattle.frame_core.specs.declared.place.Address.{Address}
-use Rattle.journal_core.specs.declared.record.Cause.TheVariants.{NotCopied}
-use Rattle.journal_core.specs.Moves.{page_of}
+use Rattle.frame_core.specs.declared.record.Cause.TheVariants.{NotCopied}
+use Rattle.frame_core.specs.Moves.{page_of}
 use Rattle.state_core.specs.declared.call.ZoneAnswer.{ZoneAnswer}
 use Rattle.state_core.specs.declared.call.ZoneCall.{ZoneCall}
 use Rattle.state_core.specs.declared.call.ZoneCall.TheVariants.{TakeOrder, GiveOrder}
@@ -15,19 +15,19 @@ use Rattle.state_core.specs.Ending.{ended_as, committed, put_back_to_source}
 use Rattle.state_core.specs.Calls.{after}
 use Rattle.state_core.specs.Rounds.{round_begun}
 use Rattle.state_core.specs.ZoneState.{ZoneState}
-use Rattle.outcome_core.specs.Outcome.{IsSame}
-use Rattle.outcome_core.proofs.Records.{isolated_same}
-use Rattle.outcome_core.specs.Fingers.{IsSameInRound}
-use Rattle.outcome_core.proofs.Calls.{look_agrees, info_agrees}
-use Rattle.outcome_core.proofs.EachCall.{answers_agree, refusals_agree, same_after}
-use Rattle.outcome_core.proofs.Moves.{LeavesFingers, begun_agrees, committed_agrees, committed_leaves, ended_agrees, isolate_agrees}
-use Rattle.outcome_core.proofs.Moves.{next_agrees, page_of_agrees, pair_agrees, put_back_agrees, stays_in_round}
-use Rattle.world_core.specs.declared.hand.Finished.{Finished}
-use Rattle.world_core.specs.declared.hand.Hand.{Hand}
-use Rattle.world_core.specs.declared.hand.Hand.TheVariants.{Empty, Page, Copy as CopyOf}
-use Rattle.world_core.specs.World.{WorldState, all_put_back, copy_in, finished_as, finished_by, finished_in, hand_of, is_empty, isolated_by}
-use Rattle.world_core.proofs.Carrying.{call_leaves}
-use Rattle.world_core.specs.World.{page_in, round_opened, scan_refusal, scan_stopped, scanned_by, shut, taken_by, with_hand, with_zone}
+use Rattle.zone_core.specs.Outcome.{IsSame}
+use Rattle.zone_core.proofs.Records.{isolated_same}
+use Rattle.zone_core.specs.Fingers.{IsSameInRound}
+use Rattle.zone_core.proofs.Calls.{look_agrees, info_agrees}
+use Rattle.zone_core.proofs.EachCall.{answers_agree, refusals_agree, same_after}
+use Rattle.zone_core.proofs.Moves.{LeavesFingers, begun_agrees, committed_agrees, committed_leaves, ended_agrees, isolate_agrees}
+use Rattle.zone_core.proofs.Moves.{next_agrees, page_of_agrees, pair_agrees, put_back_agrees, stays_in_round}
+use Rattle.machine_core.specs.declared.hand.Finished.{Finished}
+use Rattle.machine_core.specs.declared.hand.Hand.{Hand}
+use Rattle.machine_core.specs.declared.hand.Hand.TheVariants.{Empty, Page, Copy as CopyOf}
+use Rattle.machine_core.specs.World.{WorldState, all_put_back, copy_in, finished_as, finished_by, finished_in, hand_of, is_empty, isolated_by}
+use Rattle.machine_core.proofs.Carrying.{call_leaves}
+use Rattle.machine_core.specs.World.{page_in, round_opened, scan_refusal, scan_stopped, scanned_by, shut, taken_by, with_hand, with_zone}
 use Rattle.text_core.specs.declared.command.Call.{Call}
 use Rattle.text_core.specs.declared.command.Call.TheVariants.{Info, InfoWithHeld, Scan, Take, Copy, Finish, Shut, Look as LookAt, Huge, Give}
 use Rattle.text_core.specs.declared.command.Calls.{Calls}

@@ -2,15 +2,15 @@
 -- the first pool that was refused a round.
 use Rattle.std.specs.Prelude.{◌≡◌, ℕ, ◌≤◌, ◌⊎◌, Bool, false, ◌&&◌, nat_le, IsTrue, List, [], ◌∷◌, Option, ⊤}
 use Rattle.std.specs.List.{AllByRecursion}
-use Rattle.world_core.specs.World.{WorldState}
+use Rattle.machine_core.specs.World.{WorldState}
 use Rattle.text_core.specs.declared.command.Command.{Command}
 use Rattle.text_core.specs.declared.command.Command.TheVariants.{Compact, Pool, During}
 use Rattle.text_core.specs.declared.pool.PoolStopped.TheVariants as pool_stopped
 use Rattle.text_core.specs.declared.reply.Reply.{Reply}
 use Rattle.text_core.specs.declared.reply.Reply.TheVariants as reply
 use Rattle.machine_core.specs.Machine.{opens}
-use Rattle.play_core.specs.Runs.{Asking, Rule}
-use Rattle.play_core.specs.Script.{Answer, Numbered, commands_of}
+use Rattle.text_core.specs.Runs.{Asking, Rule}
+use Rattle.text_core.specs.Script.{Answer, Numbered, commands_of}
 use Rattle.script_core.specs.MachineByHand.{step_by_hand}
 
 -- how far a machine with threads is followed by the machine by hand: to the world of that one, or no longer

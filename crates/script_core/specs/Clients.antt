@@ -12,7 +12,7 @@ use Rattle.client_core.specs.Receipts.{Client}
 use Rattle.text_core.specs.declared.reply.Reply.{Reply}
 use Rattle.text_core.specs.declared.reply.Reply.TheVariants.{Refused}
 use Rattle.machine_core.specs.Machine.{reply_for}
-use Rattle.play_core.specs.Script.{Answer, ClientLine}
+use Rattle.text_core.specs.Script.{Answer, ClientLine}
 
 -- a call failed for want of memory, or because a zone refused it, and the client has no receipt of it
 pub record IsRefusedCall (old : Client) (call : ZoneCall 8) (error : ClientError) (new : Client) : Type 0 where

@@ -6,7 +6,7 @@ use Rattle.text_core.specs.declared.command.Command.{Command}
 use Rattle.text_core.specs.declared.command.Command.TheVariants.{Open}
 use Rattle.text_core.specs.declared.reply.Reply.{Reply}
 use Rattle.text_core.specs.declared.reply.Reply.TheVariants as reply
-use Rattle.play_core.specs.Script.{Answer, Numbered}
+use Rattle.text_core.specs.Script.{Answer, Numbered}
 
 -- the number of frames of the zone that a command opens, if it opens one: each pageblock has 512
 abbrev pub frames_in : Command → Option ℕ

@@ -1,10 +1,11 @@
 pub mod ByHand
 pub mod Clients
-pub mod WithThreads
+pub mod CommandLine
+pub mod Counts
+pub mod MachineByHand
+pub mod Profile2
 pub mod Status
 pub mod Stops
-pub mod MachineByHand
-pub mod Counts
-pub mod Profile2
 pub mod Values
+pub mod WithThreads
 pub mod Worlds

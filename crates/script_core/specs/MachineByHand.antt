@@ -1,7 +1,7 @@
 -- The machine of a script that makes its rounds by hand: its replies are a function of the script.
 use Rattle.std.specs.Prelude.{ℕ, ◌-◌, nat_eq, if◌then◌else◌, List, [], ◌∷◌, map, Option, Some, None}
-use Rattle.journal_core.specs.Moves.{isolated}
-use Rattle.outcome_core.specs.ByHand.{by_hand}
+use Rattle.frame_core.specs.Moves.{isolated}
+use Rattle.zone_core.specs.ByHand.{by_hand}
 use Rattle.round_core.specs.Errors.{number_of}
 use Rattle.round_core.specs.Rounds.{stop_by_hand}
 use Rattle.round_core.specs.declared.round.Stop.{Stop}
@@ -20,9 +20,9 @@ use Rattle.text_core.specs.declared.reply.Reply.{Reply}
 use Rattle.text_core.specs.declared.reply.Reply.TheVariants as reply
 use Rattle.text_core.specs.declared.reply.Stopped.{Stopped}
 use Rattle.text_core.specs.declared.reply.Stopped.TheVariants as stopped
-use Rattle.world_core.specs.World.{WorldState, world_closed}
+use Rattle.machine_core.specs.World.{WorldState, world_closed}
 use Rattle.machine_core.specs.Machine.{Answered, Step, answered, declined, refused, says, step}
-use Rattle.play_core.specs.Script.{Answer, Numbered, commands_of}
+use Rattle.text_core.specs.Script.{Answer, Numbered, commands_of}
 
 -- why a round stopped, for its reply
 abbrev pub stopped_as : Stop → Stopped

@@ -3,8 +3,8 @@ use Rattle.std.specs.Prelude.{◌≡◌, ℕ, ◌+◌, List, ◌∷◌, ◌++◌
 use Rattle.text_core.specs.declared.profile.Profile.TheVariants.{One}
 use Rattle.text_core.specs.declared.reply.Reply.{Reply}
 use Rattle.text_core.specs.declared.reply.Reply.TheVariants as reply
-use Rattle.play_core.specs.declared.error.RunError.{RunError}
-use Rattle.play_core.specs.Script.{Answer, by, fault_from, fault_of, parts_of}
+use Rattle.text_core.specs.declared.fault.RunError.{RunError}
+use Rattle.text_core.specs.Script.{Answer, by, fault_from, fault_of, parts_of}
 
 -- the first fault of an input where each line is read by profile 1, so that `profile 2` is a fault too
 abbrev pub fault_in_profile_1 : List ℕ → Option RunError

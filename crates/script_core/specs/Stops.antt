@@ -1,12 +1,12 @@
 -- How a run stops before the end of its script, and what the writer for faults is told of it.
 use Rattle.std.specs.Prelude.{◌≡◌, ◌⊎◌, ℕ, Bool, IsTrue, List, ◌++◌, codes, decimal, take, Option, IfSome, None}
 use Rattle.std.specs.Io.KnownBytes.{Appends, Keeps}
-use Rattle.play_core.specs.declared.error.Fault.TheVariants.{Read, Write, Memory}
-use Rattle.play_core.specs.declared.error.RunError.{RunError}
+use Rattle.text_core.specs.declared.fault.Fault.TheVariants.{Read, Write, Memory}
+use Rattle.text_core.specs.declared.fault.RunError.{RunError}
 use Rattle.machine_core.specs.Ends.{EndsIn}
-use Rattle.play_core.specs.Runs.{IsEnded}
-use Rattle.play_core.specs.ErrorNumber.{fault_number}
-use Rattle.play_core.specs.Streams.{CannotReadOn}
+use Rattle.text_core.specs.Runs.{IsEnded}
+use Rattle.text_core.specs.FaultNumber.{fault_number}
+use Rattle.text_core.specs.Streams.{CannotReadOn}
 use Rattle.script_core.specs.ByHand.{IsAloneScript, IsByHandStep, OpensByHand, To}
 use Rattle.script_core.specs.WithThreads.{AsksMemory, IsThreadedStep, IsUnthreadedScript, threaded_at_first}
 

@@ -1,8 +1,8 @@
 -- The values in the replies to loads are those that were stored.
 use Rattle.std.specs.Prelude.{◌≡◌, ℕ, zero, suc, ◌+◌, List, [], ◌∷◌, length, ⊤, IsSomeAnd}
-use Rattle.journal_core.specs.declared.record.Record.{Record}
-use Rattle.journal_core.specs.declared.record.Record.TheVariants as record_of
-use Rattle.journal_core.specs.History.{page_at, last}
+use Rattle.frame_core.specs.declared.record.Record.{Record}
+use Rattle.frame_core.specs.declared.record.Record.TheVariants as record_of
+use Rattle.frame_core.specs.History.{page_at, last}
 use Rattle.state_core.specs.declared.call.ZoneCall.{ZoneCall}
 use Rattle.state_core.specs.declared.call.ZoneCall.TheVariants.{Map, MapAt, Store, Load, Share, Unmap}
 use Rattle.text_core.specs.declared.command.Calls.{Calls}
@@ -13,7 +13,7 @@ use Rattle.text_core.specs.declared.command.Command.TheVariants.{On}
 use Rattle.text_core.specs.declared.reply.Reply.{Reply}
 use Rattle.text_core.specs.declared.reply.Reply.TheVariants as reply
 use Rattle.machine_core.specs.Machine.{call_at}
-use Rattle.play_core.specs.Script.{Answer, Numbered}
+use Rattle.text_core.specs.Script.{Answer, Numbered}
 
 -- a history with what an accepted call adds to it, the newest record first: a page for an address, or a stored value. A fresh
 -- page is named by the number of records before it.

@@ -4,12 +4,12 @@ use Rattle.std.specs.Prelude.{◌≡◌, ◌↔◌, ◌++◌, ◌⊎◌, ℕ, �
 use Rattle.std.specs.List.{AllByRecursion}
 use Rattle.state_core.specs.declared.error.ZoneError.{ZoneError}
 use Rattle.state_core.specs.ZoneState.{ZoneState}
-use Rattle.outcome_core.specs.Alone.{IsAtRest}
-use Rattle.outcome_core.specs.ByHand.{by_hand}
-use Rattle.outcome_core.specs.Outcome.{IsSame}
+use Rattle.zone_core.specs.Alone.{IsAtRest}
+use Rattle.zone_core.specs.ByHand.{by_hand}
+use Rattle.zone_core.specs.Outcome.{IsSame}
 use Rattle.zone_core.specs.Seats.{ScanSeat, EndSeat, audit_refusal}
 use Rattle.zone_core.specs.ZoneIdentity.{HasIdentity}
-use Rattle.world_core.specs.World.{WorldState, world_closed}
+use Rattle.machine_core.specs.World.{WorldState, world_closed}
 use Rattle.huge_core.specs.declared.collector.Collector.{Collector}
 use Rattle.huge_core.specs.declared.report.Report.{Report}
 use Rattle.huge_core.specs.declared.report.Stop.{Stop as PoolStop}
@@ -34,7 +34,7 @@ use Rattle.client_core.specs.Receipts.{IsToldBeside, Agrees, Client}
 use Rattle.client_core.specs.Settling.{HasKeptJournal}
 use Rattle.script_core.specs.Clients.{AreClientAnswers}
 use Rattle.script_core.specs.MachineByHand.{count_by_hand, pool_stopped_as, stopped_as}
-use Rattle.play_core.specs.Script.{Answer, ClientLine, Numbered, commands_of}
+use Rattle.text_core.specs.Script.{Answer, ClientLine, Numbered, commands_of}
 use Rattle.machine_core.specs.OneThread.{IsStep, Opens, OneThread, is_at_rest, number_is_at_rest, single_at_first}
 
 -- a machine with threads: the machine as on one thread, the number of the zone that a round left broken, if one did, and

@@ -1,8 +1,8 @@
 -- Worlds that no reply tells apart.
 use Rattle.std.specs.Prelude.{◌≡◌, true}
-use Rattle.world_core.specs.World.{WorldState}
-use Rattle.outcome_core.specs.Outcome.{IsSame}
-use Rattle.outcome_core.specs.Fingers.{IsSameInRound}
+use Rattle.machine_core.specs.World.{WorldState}
+use Rattle.zone_core.specs.Outcome.{IsSame}
+use Rattle.zone_core.specs.Fingers.{IsSameInRound}
 
 -- the worlds are the same but for the order in which moves ended, and for the seats, of which no reply tells
 pub record IsSameWorld (v w : WorldState) : Type 0 where

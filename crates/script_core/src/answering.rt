@@ -1,14 +1,13 @@
 ghost use Rattle.std.specs.Prelude.{◌≡◌, None, IfOk, OnErr};
 ghost use Rattle.text_core.specs.declared.command.Command.TheVariants.{Compact, Pool};
-ghost use Rattle.play_core.specs.Script.{command_in_block};
+ghost use Rattle.text_core.specs.Script.{command_in_block};
 ghost use Rattle.script_core.specs.WithThreads.{AsksMemory, IsBlockFor, IsStepBy, IsThreadedStep, is_threaded};
 
 use crate::alone::BaseMachine;
 use crate::threaded::{broken_reply, broken_reply_to_block};
 use frame_core::ZoneNo;
-use play_core::{Answers, Block, Respond};
 use std::alloc::AllocError;
-use text_core::{BlockCount, Command, PoolBlocks, Reply};
+use text_core::{Answers, Block, BlockCount, Command, PoolBlocks, Reply, Respond};
 
 /// A machine with threads that answers a script. It answers by itself what a machine on one thread answers. For a round, for a pool
 /// and for a block it has three calls, which start the threads.

@@ -2,7 +2,7 @@
 
 ghost use Rattle.std.specs.Prelude.{◌≡◌, ◌≤◌, [], Some, IfOk, IfSome, IfNone, vec_len, vec_capacity};
 ghost use Rattle.client_core.specs.Receipts.{AreSince, IsToldBeside};
-ghost use Rattle.halves_core.specs.Told.{pair_of};
+ghost use Rattle.hand_core.specs.Told.{pair_of};
 ghost use Rattle.round_core.specs.Calls.{IsAddedBeside};
 ghost use Rattle.round_core.specs.Kept.{LockInvariant};
 ghost use Rattle.round_core.specs.Rounds.{IsRefusedEarly, IsRound};
@@ -10,9 +10,8 @@ ghost use Rattle.zone_core.specs.ZoneIdentity.{HasIdentity};
 ghost use Rattle.script_core.specs.Clients.{AreClientAnswers, IsClientReply};
 
 use client_core::{Client, Telling, Untold};
-use halves_core::{Slip, Stub};
+use hand_core::{Slip, Stub};
 use machine_core::{Options, Refusal, reply_for};
-use play_core::{Answer, ClientLine};
 use round_core::{Keeping, KeptZone, NoGate, Round, RoundError, compact};
 use std::alloc::Global;
 use std::marker::Brand;
@@ -21,7 +20,7 @@ use std::sync::Wait;
 use std::sync::ledger::Ledger;
 use std::thread;
 use std::thread::{Promise, PromisedHandle, Scope, Threads};
-use text_core::Reply;
+use text_core::{Answer, ClientLine, Reply};
 use zone_core::{ClientCall, Seats, Zone};
 
 /// A client with the lines whose calls it makes, and an empty list with room for their answers.

@@ -3,15 +3,15 @@
 ghost use Rattle.std.specs.Prelude.{◌≡◌, ℕ, ◌<◌, ◌≤◌, [], List, None};
 ghost use Rattle.machine_core.specs.Machine.{calls_step};
 ghost use Rattle.machine_core.specs.Replies.{answers_of};
-ghost use Rattle.play_core.specs.Script.{commands_of, Answer, Numbered};
+ghost use Rattle.text_core.specs.Script.{commands_of, Answer, Numbered};
 ghost use Rattle.script_core.specs.MachineByHand.{answers_by_hand, answers_by_hand_from};
 ghost use Rattle.script_core.specs.Counts.{CountsAddUp};
 ghost use Rattle.script_core.specs.Profile2.{IsSameInProfile2, fault_in_profile_1};
 ghost use Rattle.script_core.specs.Values.{ValuesAreStored};
 ghost use Rattle.script_core.specs.Worlds.{IsSameWorld};
 ghost use Rattle.text_core.specs.declared.command.Calls.{Calls};
-ghost use Rattle.world_core.specs.World.{WorldState};
-ghost use Rattle.play_core.specs.Runs.{Replied};
+ghost use Rattle.machine_core.specs.World.{WorldState};
+ghost use Rattle.text_core.specs.Runs.{Replied};
 ghost use Rattle.script_core.specs.ByHand.{Followed, IsByHandStep, NoneRefused, To};
 
 /// Each value in a reply is the last one that was stored before it, through whatever address, in that word of that page

@@ -2,12 +2,12 @@ ghost use Rattle.std.specs.Prelude.{◌≡◌, ◌+◌, ◌≤◌, IfErr, IfOk, 
 ghost use Rattle.std.specs.Io.KnownBytes.{Appends};
 ghost use Rattle.zone_core.specs.Books.{AreFor};
 ghost use Rattle.text_core.specs.declared.command.Command.TheVariants.{Compact, Pool};
-ghost use Rattle.play_core.specs.declared.error.Fault.{Fault};
+ghost use Rattle.text_core.specs.declared.fault.Fault.{Fault};
 ghost use Rattle.machine_core.specs.Ends.{EndsIn};
-ghost use Rattle.play_core.specs.Runs.{IsAnswered, IsEnded, IsTotal};
-ghost use Rattle.play_core.specs.Script.{command_in_block, fault_of};
+ghost use Rattle.text_core.specs.Runs.{IsAnswered, IsEnded, IsTotal};
+ghost use Rattle.text_core.specs.Script.{command_in_block, fault_of};
 ghost use Rattle.machine_core.specs.Replies.{output_of, totals_of};
-ghost use Rattle.play_core.specs.Streams.{CannotReadOn};
+ghost use Rattle.text_core.specs.Streams.{CannotReadOn};
 ghost use Rattle.script_core.specs.ByHand.{IsAloneScript, IsByHandStep, OpensByHand, To};
 ghost use Rattle.script_core.specs.WithThreads.{AsksMemory, IsBlockFor, IsStepBy, IsThreadedStep, IsUnthreadedScript, is_threaded, threaded_at_first};
 
@@ -16,13 +16,12 @@ use crate::threaded::WithThreads;
 use crate::watched::{NoWatch, Watch, Watched};
 use frame_core::ZoneNo;
 use machine_core::Options;
-use play_core::{Block, Input, Output, RunError, Totals, play};
 use std::alloc::Global;
 use std::marker::Brand;
 use std::sync::Wait;
 use std::sync::ledger::Ledger;
 use std::thread::Threads;
-use text_core::{BlockCount, PoolBlocks};
+use text_core::{Block, BlockCount, Input, Output, PoolBlocks, RunError, Totals, play};
 use zone_core::Blanks;
 
 /// Runs a script as `run` does, but its rounds and pools on threads, and the calls of a client during the round of a block. These calls

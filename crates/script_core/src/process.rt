@@ -1,28 +1,28 @@
 ghost use Rattle.std.specs.Prelude.{◌≡◌, ◌≢◌, ◌+◌, ◌≤◌, ◌⊎◌, [], false, true, None, IfOk, IfErr, IfSome};
 ghost use Rattle.std.specs.Io.KnownBytes.{Appends, Keeps};
 ghost use Rattle.clap.specs.Words.{kind_of};
-ghost use Rattle.options_core.specs.CommandLine.{texts_of, refusal_of, journal_of, is_help, asks_help, asks_only_help};
+ghost use Rattle.script_core.specs.CommandLine.{texts_of, refusal_of, journal_of, is_help, asks_help, asks_only_help};
 ghost use Rattle.script_core.specs.Status.{status_of};
 ghost use Rattle.script_core.specs.Stops.{LacksMemory, Stops};
-ghost use Rattle.play_core.specs.Runs.{IsAnswered};
-ghost use Rattle.play_core.specs.Script.{fault_of};
+ghost use Rattle.text_core.specs.Runs.{IsAnswered};
+ghost use Rattle.text_core.specs.Script.{fault_of};
 ghost use Rattle.machine_core.specs.Replies.{output_of};
 ghost use Rattle.script_core.specs.ByHand.{IsAloneScript, IsByHandStep, To};
 ghost use Rattle.script_core.specs.WithThreads.{IsThreadedStep, IsUnthreadedScript, threaded_at_first};
 
 use crate::on_threads::run_on_threads;
+use crate::options::given_options;
 use crate::report::report;
 use clap::Error;
 use clap::error::ErrorKind;
 use machine_core::Options;
-use options_core::given_options;
-use play_core::{Fault, Input, Output, RunError};
 use std::alloc::Global;
 use std::env::Args;
 use std::io;
 use std::io::Write;
 use std::sync::Wait;
 use std::thread::Threads;
+use text_core::{Fault, Input, Output, RunError};
 
 /// The exit statuses.
 const DONE: u8 = 0;

@@ -5,7 +5,7 @@ ghost use Rattle.script_core.specs.Stops.{Tells, fault_line};
 
 use arrayvec::ArrayVec;
 use itoa::Buffer;
-use play_core::{Output, RunError, write_out};
+use text_core::{Output, RunError, write_out};
 
 /// Writes the line of a fault. Where the write fails, nothing more is done.
 pub(crate) fn report<F: Output>(faults: &mut F, error: RunError)

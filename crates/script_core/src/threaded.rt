@@ -6,7 +6,7 @@ ghost use Rattle.zone_core.specs.Books.{AreFor};
 ghost use Rattle.zone_core.specs.Seats.{audit_refusal};
 ghost use Rattle.zone_core.specs.ZoneIdentity.{HasIdentity};
 ghost use Rattle.machine_core.specs.Refusals.{number_of};
-ghost use Rattle.play_core.specs.Script.{command_in_block};
+ghost use Rattle.text_core.specs.Script.{command_in_block};
 ghost use Rattle.script_core.specs.WithThreads.{ComesToByHand, IsBlockFor, IsNothingRun, IsPoolOn, IsRoundBeside, IsRoundOn, IsSettledReply, IsStepBy, IsThreadedStep, IsTurnBeside, IsUnstarted, broken_refusal, broken_reply, is_threaded, left_by, pool_reply, round_reply, threaded_at_first, told_of};
 ghost use Rattle.script_core.specs.MachineByHand.{pool_stopped_as, stopped_as};
 
@@ -15,10 +15,9 @@ use crate::beside::{ClientAndRound, ClientTurn, compact_beside};
 use arrayvec::ArrayVec;
 use client_core::{Client, settle_clients};
 use frame_core::{ClientNo, Order, ZoneNo};
-use halves_core::{Slip, Stub};
+use hand_core::{Slip, Stub};
 use huge_core::{Collector, Huge, Report, Stop as PoolStop, reserve_alone};
-use machine_core::{Machine, Options, Refusal};
-use play_core::{Answer, Answers, Block};
+use machine_core::{Machine, Options, Refusal, Rest, World};
 use round_core::{NoGate, Round, RoundError, Stop, compact_alone};
 use std::alloc::{AllocError, Global};
 use std::marker::Model;
@@ -26,8 +25,9 @@ use std::slice;
 use std::sync::Wait;
 use std::sync::ledger::Ledger;
 use std::thread::Threads;
-use text_core::{BlockCount, Command, PoolBlocks, PoolStopped, Reply, Stopped, zone_of};
-use world_core::{Rest, World};
+use text_core::{
+    Answer, Answers, Block, BlockCount, Command, PoolBlocks, PoolStopped, Reply, Stopped, zone_of,
+};
 use zone_core::{Audit, Blanks, Seats, Zone, ZoneError};
 
 /// How many rounds a pool may run.

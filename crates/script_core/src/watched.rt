@@ -2,10 +2,9 @@
 
 use crate::answering::Dispatcher;
 use crate::threaded::WithThreads;
-use play_core::{Answer, Answers, Block, Respond};
 use std::alloc::AllocError;
 use std::sync::ledger::Ledger;
-use text_core::{Command, Reply};
+use text_core::{Answer, Answers, Block, Command, Reply, Respond};
 use zone_core::Zone;
 
 /// What watches the run of a script. The zone that is open, if one is, is lent to it before each command and after it. A block is one

@@ -3,9 +3,8 @@
 use crate::cache::Cache;
 use crate::trouble::Trouble;
 use frame_core::BlockNo;
-use solo_core::compact;
 use std::sync::ledger::Ledger;
-use zone_core::ZoneError;
+use zone_core::{ZoneError, compact};
 
 /// How many frames the cache leaves free when a pageblock is asked for: one in eight more than a pageblock has.
 const ROOM: u32 = 576;

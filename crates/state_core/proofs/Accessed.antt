@@ -2,9 +2,9 @@
 use Rattle.std.proofs.Common.{◌≡◌, ℕ, ◌<◌, length, refl, sym, subst, Option, Some, IsSomeAnd}
 use Rattle.std.specs.Prelude.{unwrap_or}
 use Rattle.frame_core.specs.declared.place.Address.{Address}
-use Rattle.journal_core.specs.declared.record.Record.TheVariants.{Load, Store}
-use Rattle.journal_core.specs.History.{last}
-use Rattle.journal_core.specs.Moves.{out}
+use Rattle.frame_core.specs.declared.record.Record.TheVariants.{Load, Store}
+use Rattle.frame_core.specs.History.{last}
+use Rattle.frame_core.specs.Moves.{out}
 use Rattle.state_core.specs.declared.placement.Placement.TheVariants.{At}
 use Rattle.state_core.specs.Lawful.{IsValidZone}
 use Rattle.state_core.specs.Access.{value_at, loaded, stored}

@@ -6,9 +6,9 @@ use Rattle.std.proofs.lemmas.Bool.{not-false, ltb-true, leb-false, eqb-true}
 use Rattle.frame_core.proofs.Searches.{lowest_some}
 use Rattle.frame_core.specs.Address.{InRange}
 use Rattle.frame_core.specs.declared.place.Address.{Address}
-use Rattle.journal_core.specs.declared.record.Record.TheVariants as entry
-use Rattle.journal_core.specs.History.{page_at, maps}
-use Rattle.journal_core.specs.Moves.{out}
+use Rattle.frame_core.specs.declared.record.Record.TheVariants as entry
+use Rattle.frame_core.specs.History.{page_at, maps}
+use Rattle.frame_core.specs.Moves.{out}
 use Rattle.state_core.specs.declared.call.ZoneCall.{ZoneCall}
 use Rattle.state_core.specs.declared.call.ZoneCall.TheVariants.{Map, MapAt, Load, Store, Share, Unmap, Pin, Unpin, TakeOrder, GiveOrder, Mark, Unmark}
 use Rattle.state_core.specs.declared.error.ZoneError.{ZoneError}

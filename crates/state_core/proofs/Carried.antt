@@ -5,13 +5,13 @@ use Rattle.std.specs.List.{range_with_len}
 use Rattle.std.specs.FinMap as map
 use Rattle.std.proofs.lemmas.Bool.{and_parts, and_from, both_ways, eq-eqb, eqb-true, ne_eqb}
 use Rattle.frame_core.specs.declared.place.Address.{Address}
-use Rattle.journal_core.specs.declared.record.Cause.{Cause}
-use Rattle.journal_core.specs.declared.record.Cause.TheVariants.{Pinned}
-use Rattle.journal_core.specs.declared.record.Record.{Record}
-use Rattle.journal_core.specs.declared.record.Record.TheVariants.{Unmap, Moved, Back}
-use Rattle.journal_core.specs.History.{page_at, is_page, names, last, pins}
-use Rattle.journal_core.specs.Moves.{isolated, page_of}
-use Rattle.word_core.specs.Page.{IsolatedPage}
+use Rattle.frame_core.specs.declared.record.Cause.{Cause}
+use Rattle.frame_core.specs.declared.record.Cause.TheVariants.{Pinned}
+use Rattle.frame_core.specs.declared.record.Record.{Record}
+use Rattle.frame_core.specs.declared.record.Record.TheVariants.{Unmap, Moved, Back}
+use Rattle.frame_core.specs.History.{page_at, is_page, names, last, pins}
+use Rattle.frame_core.specs.Moves.{isolated, page_of}
+use Rattle.frame_core.specs.Page.{IsolatedPage}
 use Rattle.state_core.specs.declared.round.Pair.{Pair}
 use Rattle.state_core.specs.declared.placement.Placement.{Placement}
 use Rattle.state_core.specs.declared.placement.Placement.TheVariants.{At, Moving}

@@ -11,7 +11,7 @@ use Rattle.state_core.specs.Pairs.{HaveMet}
 use Rattle.state_core.specs.Swept.{IsSwept}
 use Rattle.state_core.specs.ZoneState.{ZoneState}
 use Rattle.state_core.proofs.Entries.{get_insert_same, get_insert_other}
-use Rattle.word_core.specs.Words.{put_from}
+use Rattle.frame_core.specs.Words.{put_from}
 
 -- values that are put among the words leave as many words
 pub length_put_from : (words : List ℕ) (from : ℕ) (values : List ℕ) → from + length values ≤ length words → length (put_from words from values) ≡ length words

@@ -7,13 +7,13 @@ use Rattle.std.proofs.Math.Bool.{or-false}
 use Rattle.std.proofs.lemmas.Bool.{both_ways, eq-eqb, eqb-true, ne_eqb, or_left, or_right}
 use Rattle.std.proofs.lemmas.Option.{same_Some}
 use Rattle.frame_core.specs.Below.{count_below}
-use Rattle.journal_core.proofs.OnTheWay.{still_out, ended_out, length_without}
-use Rattle.journal_core.specs.declared.record.Cause.{Cause}
-use Rattle.journal_core.specs.declared.record.Cause.TheVariants.{Pinned, NotCopied}
-use Rattle.journal_core.specs.declared.record.Record.{Record}
-use Rattle.journal_core.specs.declared.record.Record.TheVariants.{Moved, Back}
-use Rattle.journal_core.specs.History.{pins}
-use Rattle.journal_core.specs.Moves.{out, is_out, without, page_of, IsWellEnded}
+use Rattle.frame_core.proofs.OnTheWay.{still_out, ended_out, length_without}
+use Rattle.frame_core.specs.declared.record.Cause.{Cause}
+use Rattle.frame_core.specs.declared.record.Cause.TheVariants.{Pinned, NotCopied}
+use Rattle.frame_core.specs.declared.record.Record.{Record}
+use Rattle.frame_core.specs.declared.record.Record.TheVariants.{Moved, Back}
+use Rattle.frame_core.specs.History.{pins}
+use Rattle.frame_core.specs.Moves.{out, is_out, without, page_of, IsWellEnded}
 use Rattle.state_core.specs.declared.placement.Placement.{Placement}
 use Rattle.state_core.specs.declared.placement.Placement.TheVariants.{At, Moving}
 use Rattle.state_core.specs.Lawful.{IsValidZone, is_under}

@@ -12,9 +12,9 @@ use Rattle.std.proofs.lemmas.Option.{none-some, same_Some}
 use Rattle.frame_core.proofs.Searches.{count_from_all, count_from_full, lowest_is, lowest_none, lowest_some, lowest_before, no_lowest, none_some, some_at, some_more, some_one}
 use Rattle.frame_core.specs.Below.{lowest, one_if, some_below, count_from}
 use Rattle.frame_core.specs.Order.{is_aligned}
-use Rattle.journal_core.specs.declared.record.Record.TheVariants.{TakeHuge, GiveHuge}
-use Rattle.journal_core.specs.Blocks.{handed_out_by}
-use Rattle.journal_core.specs.Moves.{out}
+use Rattle.frame_core.specs.declared.record.Record.TheVariants.{TakeHuge, GiveHuge}
+use Rattle.frame_core.specs.Blocks.{handed_out_by}
+use Rattle.frame_core.specs.Moves.{out}
 use Rattle.state_core.specs.declared.placement.Placement.TheVariants.{At}
 use Rattle.state_core.specs.Clear.{BlocksAreClear}
 use Rattle.state_core.specs.HandingOut.{has_block, is_run, lowest_run, block_taken, block_given}

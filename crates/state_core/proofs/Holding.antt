@@ -4,8 +4,8 @@ use Rattle.std.specs.FinMap as map
 use Rattle.std.proofs.lemmas.Bool.{both_ways}
 pub use Rattle.std.proofs.lemmas.Bool.{false_from_ne_true as when_not}
 use Rattle.frame_core.proofs.Searches.{lowest_is, lowest_none, lowest_some}
-use Rattle.journal_core.proofs.OnTheWay.{out_empty}
-use Rattle.journal_core.specs.Moves.{out}
+use Rattle.frame_core.proofs.OnTheWay.{out_empty}
+use Rattle.frame_core.specs.Moves.{out}
 use Rattle.state_core.specs.declared.placement.Placement.{Placement}
 use Rattle.state_core.specs.declared.placement.Placement.TheVariants.{At, Moving}
 use Rattle.state_core.specs.Lawful.{IsValidZone, is_under}

@@ -5,10 +5,10 @@ use Rattle.std.proofs.lemmas.Bool.{and_parts, both_ways, cond-true, cond-false, 
 use Rattle.std.proofs.lemmas.Bool.Decides.{eqb_tells}
 use Rattle.std.proofs.lemmas.Option.{same_Some}
 use Rattle.frame_core.specs.Below.{count_below}
-use Rattle.journal_core.proofs.OnTheWay.{out_below, not_moving}
-use Rattle.journal_core.specs.declared.record.Record.TheVariants.{Isolate}
-use Rattle.journal_core.specs.History.{pins}
-use Rattle.journal_core.specs.Moves.{isolated, out, is_out, page_of}
+use Rattle.frame_core.proofs.OnTheWay.{out_below, not_moving}
+use Rattle.frame_core.specs.declared.record.Record.TheVariants.{Isolate}
+use Rattle.frame_core.specs.History.{pins}
+use Rattle.frame_core.specs.Moves.{isolated, out, is_out, page_of}
 use Rattle.state_core.specs.declared.round.Pair.{Pair}
 use Rattle.state_core.specs.declared.placement.Placement.{Placement}
 use Rattle.state_core.specs.declared.placement.Placement.TheVariants.{At, Moving}

@@ -1,10 +1,10 @@
 -- A page is isolated, and its move ends: the zone stays lawful, and swept while its latest round is quiet.
 use Rattle.std.proofs.Common.{◌≡◌, ℕ, ◌+◌, subst, sym, ap, refl, arith, Some, None}
 use Rattle.std.specs.FinMap as map
-use Rattle.journal_core.specs.declared.record.Cause.{Cause}
-use Rattle.journal_core.specs.declared.record.Record.TheVariants.{Isolate, Moved, Back}
-use Rattle.journal_core.specs.History.{pins}
-use Rattle.journal_core.specs.Moves.{isolated}
+use Rattle.frame_core.specs.declared.record.Cause.{Cause}
+use Rattle.frame_core.specs.declared.record.Record.TheVariants.{Isolate, Moved, Back}
+use Rattle.frame_core.specs.History.{pins}
+use Rattle.frame_core.specs.Moves.{isolated}
 use Rattle.state_core.specs.declared.placement.Placement.TheVariants.{At, Moving}
 use Rattle.state_core.specs.declared.round.Pair.{Pair}
 use Rattle.state_core.specs.Carrying.{relocated}

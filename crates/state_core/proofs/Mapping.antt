@@ -7,10 +7,10 @@ use Rattle.std.proofs.lemmas.Option.{same_Some}
 use Rattle.frame_core.specs.Address.{InRange}
 use Rattle.frame_core.specs.Below.{one_if, count_below}
 use Rattle.frame_core.specs.declared.place.Address.{Address}
-use Rattle.journal_core.proofs.Maps.{one_address, maps_changed, maps_none}
-use Rattle.journal_core.specs.declared.record.Record.TheVariants.{Map}
-use Rattle.journal_core.specs.History.{same_address, page_at, is_page, names, maps, pins}
-use Rattle.journal_core.specs.Moves.{out}
+use Rattle.frame_core.proofs.Maps.{one_address, maps_changed, maps_none}
+use Rattle.frame_core.specs.declared.record.Record.TheVariants.{Map}
+use Rattle.frame_core.specs.History.{same_address, page_at, is_page, names, maps, pins}
+use Rattle.frame_core.specs.Moves.{out}
 use Rattle.state_core.specs.declared.placement.Placement.TheVariants.{At}
 use Rattle.state_core.specs.Lawful.{IsValidZone, is_under}
 use Rattle.state_core.specs.Mapping.{placed}

@@ -3,13 +3,13 @@ use Rattle.std.proofs.Common.{◌≡◌, ◌≢◌, ℕ, ◌+◌, ◌-◌, ◌<�
 use Rattle.std.specs.FinMap as map
 use Rattle.frame_core.specs.Below.{count_below}
 use Rattle.frame_core.specs.declared.place.Address.{Address}
-use Rattle.journal_core.specs.declared.record.Cause.{Cause}
-use Rattle.journal_core.specs.declared.record.Record.{Record}
-use Rattle.journal_core.specs.declared.record.Record.TheVariants.{Isolate, Moved, Back}
-use Rattle.journal_core.specs.Blocks.{handed_out_by, is_marked_by}
-use Rattle.journal_core.specs.History.{page_at, last, dirty, pins, maps}
-use Rattle.journal_core.specs.Moves.{isolated, out, IsWellEnded}
-use Rattle.journal_core.specs.Truth.{IsTruthful}
+use Rattle.frame_core.specs.declared.record.Cause.{Cause}
+use Rattle.frame_core.specs.declared.record.Record.{Record}
+use Rattle.frame_core.specs.declared.record.Record.TheVariants.{Isolate, Moved, Back}
+use Rattle.frame_core.specs.Blocks.{handed_out_by, is_marked_by}
+use Rattle.frame_core.specs.History.{page_at, last, dirty, pins, maps}
+use Rattle.frame_core.specs.Moves.{isolated, out, IsWellEnded}
+use Rattle.frame_core.specs.Truth.{IsTruthful}
 use Rattle.state_core.specs.declared.placement.Placement.{Placement}
 use Rattle.state_core.specs.Lawful.{IsValidZone, is_under}
 use Rattle.state_core.specs.Carrying.{relocated}

@@ -4,11 +4,11 @@ use Rattle.std.specs.Prelude.{◌↔◌}
 use Rattle.std.specs.FinMap as map
 use Rattle.frame_core.specs.Address.{InRange}
 use Rattle.frame_core.specs.declared.place.Address.{Address}
-use Rattle.journal_core.specs.declared.record.Record.{Record}
-use Rattle.journal_core.specs.Blocks.{handed_out_by, is_marked_by}
-use Rattle.journal_core.specs.History.{page_at, maps, pins}
-use Rattle.journal_core.specs.Moves.{isolated, out, IsWellEnded}
-use Rattle.journal_core.specs.Truth.{IsTruthful}
+use Rattle.frame_core.specs.declared.record.Record.{Record}
+use Rattle.frame_core.specs.Blocks.{handed_out_by, is_marked_by}
+use Rattle.frame_core.specs.History.{page_at, maps, pins}
+use Rattle.frame_core.specs.Moves.{isolated, out, IsWellEnded}
+use Rattle.frame_core.specs.Truth.{IsTruthful}
 use Rattle.state_core.specs.Lawful.{IsValidZone}
 use Rattle.state_core.specs.Swept.{SweptIfQuiet}
 use Rattle.state_core.specs.ZoneState.{ZoneState, noted}

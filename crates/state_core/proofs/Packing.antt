@@ -6,7 +6,7 @@ use Rattle.std.proofs.lemmas.Bool.{both_ways, eqb-true, false_from_ne_true, true
 use Rattle.std.proofs.lemmas.Bool.Decides.{eqb_tells, leb_tells}
 use Rattle.frame_core.proofs.Searches.{some_one, lowest_some, lowest_before, no_lowest, count_same, count_stay, count_up, count_next}
 use Rattle.frame_core.specs.Below.{count_below}
-use Rattle.journal_core.specs.Moves.{out}
+use Rattle.frame_core.specs.Moves.{out}
 use Rattle.state_core.specs.declared.placement.Placement.{Placement}
 use Rattle.state_core.specs.declared.placement.Placement.TheVariants.{At, Moving}
 use Rattle.state_core.specs.Lawful.{IsValidZone}

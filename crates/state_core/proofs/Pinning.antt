@@ -4,9 +4,9 @@ use Rattle.std.proofs.lemmas.Bool.{eq-eqb, ne_eqb}
 use Rattle.std.proofs.lemmas.Bool.Decides.{eqb_tells}
 use Rattle.frame_core.specs.Below.{one_if}
 use Rattle.frame_core.specs.declared.place.Address.{Address}
-use Rattle.journal_core.specs.declared.record.Record.TheVariants.{Pin, Unpin}
-use Rattle.journal_core.specs.History.{page_at, is_page, pins}
-use Rattle.journal_core.specs.Moves.{out}
+use Rattle.frame_core.specs.declared.record.Record.TheVariants.{Pin, Unpin}
+use Rattle.frame_core.specs.History.{page_at, is_page, pins}
+use Rattle.frame_core.specs.Moves.{out}
 use Rattle.state_core.specs.Lawful.{IsValidZone}
 use Rattle.state_core.specs.Pinning.{pinned, unpinned}
 use Rattle.state_core.specs.ZoneState.{ZoneState}

@@ -10,11 +10,11 @@ use Rattle.frame_core.proofs.Searches.{some_at, some_none, none_some, count_more
 use Rattle.frame_core.specs.Address.{InRange}
 use Rattle.frame_core.specs.Below.{one_if, some_below, count_below}
 use Rattle.frame_core.specs.declared.place.Address.{Address}
-use Rattle.journal_core.specs.declared.record.Record.{Record}
-use Rattle.journal_core.specs.Blocks.{handed_out_by, is_marked_by}
-use Rattle.journal_core.specs.History.{page_at, maps, pins}
-use Rattle.journal_core.specs.Moves.{isolated, out, is_out, page_of, IsWellEnded}
-use Rattle.journal_core.specs.Truth.{IsTruthful}
+use Rattle.frame_core.specs.declared.record.Record.{Record}
+use Rattle.frame_core.specs.Blocks.{handed_out_by, is_marked_by}
+use Rattle.frame_core.specs.History.{page_at, maps, pins}
+use Rattle.frame_core.specs.Moves.{isolated, out, is_out, page_of, IsWellEnded}
+use Rattle.frame_core.specs.Truth.{IsTruthful}
 use Rattle.state_core.specs.declared.placement.Placement.{Placement}
 use Rattle.state_core.specs.declared.placement.Placement.TheVariants.{At, Moving}
 use Rattle.state_core.specs.Lawful.{IsValidZone, is_under}

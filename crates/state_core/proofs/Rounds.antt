@@ -4,7 +4,7 @@ use Rattle.state_core.specs.Rounds.{round_begun}
 use Rattle.std.proofs.lemmas.Bool.{and_right, eq-eqb}
 use Rattle.std.proofs.lemmas.Option.{same_Some}
 use Rattle.frame_core.proofs.Searches.{some_at, none_some}
-use Rattle.journal_core.specs.Moves.{out}
+use Rattle.frame_core.specs.Moves.{out}
 use Rattle.state_core.specs.declared.round.RoundStart.{RoundStart}
 use Rattle.state_core.specs.Lawful.{IsValidZone}
 use Rattle.state_core.specs.Pairs.{is_stuck, is_calm}

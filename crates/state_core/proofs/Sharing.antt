@@ -6,10 +6,10 @@ use Rattle.std.proofs.lemmas.Bool.Decides.{eqb_tells}
 use Rattle.frame_core.specs.Address.{InRange}
 use Rattle.frame_core.specs.Below.{one_if}
 use Rattle.frame_core.specs.declared.place.Address.{Address}
-use Rattle.journal_core.proofs.Maps.{one_address, maps_changed}
-use Rattle.journal_core.specs.declared.record.Record.TheVariants.{Share}
-use Rattle.journal_core.specs.History.{same_address, page_at, is_page, maps}
-use Rattle.journal_core.specs.Moves.{out}
+use Rattle.frame_core.proofs.Maps.{one_address, maps_changed}
+use Rattle.frame_core.specs.declared.record.Record.TheVariants.{Share}
+use Rattle.frame_core.specs.History.{same_address, page_at, is_page, maps}
+use Rattle.frame_core.specs.Moves.{out}
 use Rattle.state_core.specs.declared.placement.Placement.TheVariants.{At}
 use Rattle.state_core.specs.Lawful.{IsValidZone}
 use Rattle.state_core.specs.Sharing.{shared}

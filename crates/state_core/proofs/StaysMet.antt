@@ -4,8 +4,8 @@ use Rattle.std.specs.FinMap as map
 use Rattle.std.proofs.lemmas.Bool.{both_ways, eq-eqb}
 use Rattle.std.proofs.lemmas.Bool.Decides.{eqb_tells}
 use Rattle.frame_core.specs.declared.place.Address.{Address}
-use Rattle.journal_core.specs.declared.record.Record.TheVariants.{Moved}
-use Rattle.journal_core.specs.History.{pins}
+use Rattle.frame_core.specs.declared.record.Record.TheVariants.{Moved}
+use Rattle.frame_core.specs.History.{pins}
 use Rattle.state_core.specs.declared.placement.Placement.{Placement}
 use Rattle.state_core.specs.declared.placement.Placement.TheVariants.{At, Moving}
 use Rattle.state_core.specs.Access.{loaded, stored}

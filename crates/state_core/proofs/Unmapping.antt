@@ -7,10 +7,10 @@ use Rattle.std.proofs.lemmas.Bool.{and_from, both_ways, cases_Bool, cond-true, c
 use Rattle.std.proofs.lemmas.Bool.Decides.{eqb_tells}
 use Rattle.frame_core.specs.Below.{one_if, count_below}
 use Rattle.frame_core.specs.declared.place.Address.{Address}
-use Rattle.journal_core.proofs.Maps.{maps_changed, maps_some}
-use Rattle.journal_core.specs.declared.record.Record.TheVariants.{Unmap}
-use Rattle.journal_core.specs.History.{same_address, page_at, is_page, maps}
-use Rattle.journal_core.specs.Moves.{out}
+use Rattle.frame_core.proofs.Maps.{maps_changed, maps_some}
+use Rattle.frame_core.specs.declared.record.Record.TheVariants.{Unmap}
+use Rattle.frame_core.specs.History.{same_address, page_at, is_page, maps}
+use Rattle.frame_core.specs.Moves.{out}
 use Rattle.state_core.specs.declared.placement.Placement.TheVariants.{At}
 use Rattle.state_core.specs.Lawful.{IsValidZone, is_under}
 use Rattle.state_core.specs.Unmapping.{is_last, without_page, unmapped}

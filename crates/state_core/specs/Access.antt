@@ -1,13 +1,13 @@
 -- A load and a store: when they are refused, what a load answers, and what they leave.
 use Rattle.std.specs.Prelude.{ℕ, not, if◌then◌else◌, Option, Some, None, unwrap_or}
 use Rattle.frame_core.specs.declared.place.Address.{Address}
-use Rattle.journal_core.specs.History.{page_at, last}
+use Rattle.frame_core.specs.History.{page_at, last}
 use Rattle.state_core.specs.declared.placement.Placement.{Placement}
 use Rattle.state_core.specs.declared.placement.Placement.TheVariants.{At, Moving as IsolatedPage}
 use Rattle.state_core.specs.declared.error.ZoneError.{ZoneError}
 use Rattle.state_core.specs.declared.error.ZoneError.TheVariants.{JournalFull, Unmapped, Moving}
 use Rattle.state_core.specs.ZoneState.{ZoneState, has_room, placement_at, noted}
-use Rattle.journal_core.specs.declared.record.Record.TheVariants.{Store, Load}
+use Rattle.frame_core.specs.declared.record.Record.TheVariants.{Store, Load}
 
 -- why a page with this placement can't be read or written: it is nowhere, or moving
 abbrev pub placement_refusal : Option Placement → Option ZoneError

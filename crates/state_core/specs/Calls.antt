@@ -1,8 +1,8 @@
 -- The calls of a zone in four tables, with a row for each call: why it is refused, what it answers, what it leaves, and its record.
 use Rattle.std.specs.Prelude.{ℕ, ◌≤◌, ⊤, Bool, true, false, Option, unwrap_or}
 use Rattle.frame_core.specs.Address.{InRange}
-use Rattle.journal_core.specs.declared.record.Record.{Record}
-use Rattle.journal_core.specs.declared.record.Record.TheVariants as entry
+use Rattle.frame_core.specs.declared.record.Record.{Record}
+use Rattle.frame_core.specs.declared.record.Record.TheVariants as entry
 use Rattle.state_core.specs.declared.call.ZoneAnswer.{ZoneAnswer}
 use Rattle.state_core.specs.declared.call.ZoneAnswer.TheVariants.{Done, Mapped, Frame, Value}
 use Rattle.state_core.specs.declared.call.ZoneCall.{ZoneCall}

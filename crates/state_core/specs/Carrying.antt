@@ -5,9 +5,9 @@ use Rattle.std.specs.FinMap as map
 use Rattle.std.specs.FinSet as set
 use Rattle.frame_core.specs.declared.flags.PageFlags.{PageFlags}
 use Rattle.frame_core.specs.PageFlags.{page_flags}
-use Rattle.journal_core.specs.declared.record.Record.{Record}
-use Rattle.journal_core.specs.History.{last, dirty}
-use Rattle.word_core.specs.Page.{Page}
+use Rattle.frame_core.specs.declared.record.Record.{Record}
+use Rattle.frame_core.specs.History.{last, dirty}
+use Rattle.frame_core.specs.Page.{Page}
 use Rattle.state_core.specs.declared.placement.Placement.{Placement}
 use Rattle.state_core.specs.ZoneState.{ZoneState, noted}
 

@@ -6,7 +6,7 @@ use Rattle.state_core.specs.declared.error.ZoneError.{ZoneError}
 use Rattle.state_core.specs.declared.error.ZoneError.TheVariants.{Range, NotHuge}
 use Rattle.state_core.specs.HandingOut.{is_order}
 use Rattle.state_core.specs.ZoneState.{ZoneState}
-use Rattle.word_core.specs.Words.{put_from}
+use Rattle.frame_core.specs.Words.{put_from}
 
 -- why reading or writing this many words, from one on, of a block of this order from this first frame on is refused, if it
 -- is: no such block is handed out, or they go past its last word

@@ -2,11 +2,11 @@
 use Rattle.std.specs.Prelude.{◌≡◌, ◌≢◌, ℕ, ◌<◌, Bool, true, ◌&&◌, nat_eq, if◌then◌else◌, Option, Some, ⊤}
 use Rattle.std.specs.FinMap as map
 use Rattle.frame_core.specs.declared.place.Address.{Address}
-use Rattle.journal_core.specs.declared.record.Cause.{Cause}
-use Rattle.journal_core.specs.declared.record.Cause.TheVariants.{Pinned, NotCopied}
-use Rattle.journal_core.specs.declared.record.Record.TheVariants.{Moved as WasMoved, Back as WasPutBack}
-use Rattle.journal_core.specs.History.{page_at, pins}
-use Rattle.word_core.specs.Page.{IsolatedPage}
+use Rattle.frame_core.specs.declared.record.Cause.{Cause}
+use Rattle.frame_core.specs.declared.record.Cause.TheVariants.{Pinned, NotCopied}
+use Rattle.frame_core.specs.declared.record.Record.TheVariants.{Moved as WasMoved, Back as WasPutBack}
+use Rattle.frame_core.specs.History.{page_at, pins}
+use Rattle.frame_core.specs.Page.{IsolatedPage}
 use Rattle.state_core.specs.declared.moves.Ended.{Ended}
 use Rattle.state_core.specs.declared.moves.Ended.TheVariants as ended
 use Rattle.state_core.specs.declared.placement.Placement.{Placement}

@@ -3,7 +3,7 @@ use Rattle.std.specs.Prelude.{ℕ, ◌+◌, ◌*◌, ◌^◌, Bool, false, not, 
 use Rattle.std.specs.FinMap as map
 use Rattle.frame_core.specs.Below.{lowest, count_from}
 use Rattle.frame_core.specs.Order.{is_aligned}
-use Rattle.journal_core.specs.declared.record.Record.TheVariants.{TakeHuge, GiveHuge}
+use Rattle.frame_core.specs.declared.record.Record.TheVariants.{TakeHuge, GiveHuge}
 use Rattle.state_core.specs.declared.error.ZoneError.{ZoneError}
 use Rattle.state_core.specs.declared.error.ZoneError.TheVariants.{Range, JournalFull, NoBlock, NotHuge}
 use Rattle.state_core.specs.ZoneState.{ZoneState, frame_count, has_room, is_free, noted}

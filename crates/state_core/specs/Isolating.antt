@@ -2,9 +2,9 @@
 use Rattle.std.specs.Prelude.{◌≡◌, ◌≢◌, ℕ, ◌+◌, ◌-◌, ◌^◌, Bool, ◌&&◌, length, nat_lt, if◌then◌else◌, Option, Some, None}
 use Rattle.std.specs.FinMap as map
 use Rattle.frame_core.specs.declared.place.Address.{Address}
-use Rattle.journal_core.specs.declared.record.Record.TheVariants.{Isolate}
-use Rattle.journal_core.specs.History.{page_at}
-use Rattle.journal_core.specs.Moves.{isolated, out}
+use Rattle.frame_core.specs.declared.record.Record.TheVariants.{Isolate}
+use Rattle.frame_core.specs.History.{page_at}
+use Rattle.frame_core.specs.Moves.{isolated, out}
 use Rattle.state_core.specs.declared.error.ZoneError.{ZoneError}
 use Rattle.state_core.specs.declared.error.ZoneError.TheVariants.{JournalFull}
 use Rattle.state_core.specs.declared.moves.Next.{Next}
@@ -14,7 +14,7 @@ use Rattle.state_core.specs.declared.placement.Placement.TheVariants.{Moving}
 use Rattle.state_core.specs.Pairs.{IsPair, HaveMet}
 use Rattle.state_core.specs.ZoneState.{ZoneState}
 use Rattle.state_core.specs.Carrying.{page_now, relocated}
-use Rattle.word_core.specs.Page.{IsolatedPage}
+use Rattle.frame_core.specs.Page.{IsolatedPage}
 
 -- whether the journal has a place for an isolation and one for its end, besides those for the ends of the pages that are out
 abbrev pub has_room_for_two : ZoneState → Bool

@@ -3,8 +3,8 @@ use Rattle.std.specs.Prelude.{ℕ, length, None, is_some, Option, Some}
 use Rattle.std.specs.FinMap as map
 use Rattle.frame_core.specs.Below.{count_below}
 use Rattle.frame_core.specs.declared.place.Address.{Address}
-use Rattle.journal_core.specs.History.{page_at, pins, maps}
-use Rattle.journal_core.specs.Moves.{out}
+use Rattle.frame_core.specs.History.{page_at, pins, maps}
+use Rattle.frame_core.specs.Moves.{out}
 use Rattle.state_core.specs.declared.placement.Placement.TheVariants.{At, Moving}
 use Rattle.state_core.specs.declared.information.Info.{Info}
 use Rattle.state_core.specs.ZoneState.{ZoneState, frame_count, is_free, is_held, is_whole}

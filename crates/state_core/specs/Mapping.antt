@@ -1,14 +1,14 @@
 -- The calls that make an address name a fresh page: when they are refused, and what they leave.
 use Rattle.std.specs.Prelude.{ℕ, not, nat_lt, if◌then◌else◌, Option, Some, None, is_none, is_some, Bool, unwrap_or}
 use Rattle.frame_core.specs.declared.place.Address.{Address}
-use Rattle.journal_core.specs.History.{page_at}
+use Rattle.frame_core.specs.History.{page_at}
 use Rattle.state_core.specs.declared.placement.Placement.TheVariants.{At}
 use Rattle.state_core.specs.declared.error.ZoneError.{ZoneError}
 use Rattle.state_core.specs.declared.error.ZoneError.TheVariants.{Range, JournalFull, Occupied, NoFrame}
 use Rattle.state_core.specs.ZoneState.{ZoneState, frame_count, has_room, is_free, lowest_free_frame, lowest_unused_page, noted}
 use Rattle.std.specs.FinMap as map
 use Rattle.std.specs.FinSet as set
-use Rattle.journal_core.specs.declared.record.Record.TheVariants.{Map}
+use Rattle.frame_core.specs.declared.record.Record.TheVariants.{Map}
 
 -- why a map at the lowest free frame is refused, if it is
 abbrev pub map_refusal : ZoneState → Address → Option ZoneError

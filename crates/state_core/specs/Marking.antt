@@ -2,7 +2,7 @@
 -- leave.
 use Rattle.std.specs.Prelude.{ℕ, Bool, not, nat_lt, if◌then◌else◌, Option, Some, None}
 use Rattle.std.specs.FinSet as set
-use Rattle.journal_core.specs.declared.record.Record.TheVariants.{Mark, Unmark}
+use Rattle.frame_core.specs.declared.record.Record.TheVariants.{Mark, Unmark}
 use Rattle.state_core.specs.declared.error.ZoneError.{ZoneError}
 use Rattle.state_core.specs.declared.error.ZoneError.TheVariants.{Range, JournalFull, Marked, NotMarked}
 use Rattle.state_core.specs.ZoneState.{ZoneState, has_room, noted}

@@ -1,6 +1,6 @@
 -- The calls that open a zone: with a journal that is kept, or with one that only contracts are told.
 use Rattle.std.specs.Prelude.{ℕ, ◌<◌, ◌≤◌, None, []}
-use Rattle.journal_core.specs.Journal.{told_places}
+use Rattle.frame_core.specs.Journal.{told_places}
 use Rattle.state_core.specs.ZoneState.{ZoneState}
 use Rattle.std.specs.FinMap as map
 use Rattle.std.specs.FinSet as set

@@ -4,8 +4,8 @@ use Rattle.std.specs.Prelude.{◌≡◌, ℕ, ◌/◌, ◌<◌, ◌≤◌, Bool,
 use Rattle.std.specs.FinMap as map
 use Rattle.std.specs.FinSet as set
 use Rattle.frame_core.specs.Below.{lowest, highest, some_below}
-use Rattle.journal_core.specs.History.{pins}
-use Rattle.journal_core.specs.Moves.{out}
+use Rattle.frame_core.specs.History.{pins}
+use Rattle.frame_core.specs.Moves.{out}
 use Rattle.state_core.specs.declared.round.Pair.{Pair}
 use Rattle.state_core.specs.declared.placement.Placement.{Placement}
 use Rattle.state_core.specs.declared.placement.Placement.TheVariants.{At, Moving}

@@ -1,8 +1,8 @@
 -- The calls that pin a page and take a pin off: when they are refused, and what they leave. They may name a page also while it is moving.
 use Rattle.std.specs.Prelude.{ℕ, not, nat_eq, nat_le, if◌then◌else◌, Option, Some, None, is_none, unwrap_or}
 use Rattle.frame_core.specs.declared.place.Address.{Address}
-use Rattle.journal_core.specs.declared.record.Record.TheVariants.{Pin, Unpin}
-use Rattle.journal_core.specs.History.{page_at, pins}
+use Rattle.frame_core.specs.declared.record.Record.TheVariants.{Pin, Unpin}
+use Rattle.frame_core.specs.History.{page_at, pins}
 use Rattle.state_core.specs.declared.error.ZoneError.{ZoneError}
 use Rattle.state_core.specs.declared.error.ZoneError.TheVariants.{JournalFull, Unmapped, PinFull, NotPinned}
 use Rattle.state_core.specs.ZoneState.{ZoneState, has_room, noted}

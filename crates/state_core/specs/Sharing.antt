@@ -2,8 +2,8 @@
 use Rattle.std.specs.Prelude.{ℕ, not, nat_le, if◌then◌else◌, Option, Some, None, is_some, unwrap_or}
 use Rattle.std.specs.Option.{option_or}
 use Rattle.frame_core.specs.declared.place.Address.{Address}
-use Rattle.journal_core.specs.declared.record.Record.TheVariants.{Share}
-use Rattle.journal_core.specs.History.{page_at, maps}
+use Rattle.frame_core.specs.declared.record.Record.TheVariants.{Share}
+use Rattle.frame_core.specs.History.{page_at, maps}
 use Rattle.state_core.specs.declared.error.ZoneError.{ZoneError}
 use Rattle.state_core.specs.declared.error.ZoneError.TheVariants.{JournalFull, Occupied, ShareFull}
 use Rattle.state_core.specs.Access.{placement_refusal}

@@ -4,8 +4,8 @@ use Rattle.std.specs.FinMap as map
 use Rattle.std.specs.FinSet as set
 use Rattle.std.specs.Option.{option_or}
 use Rattle.frame_core.specs.declared.place.Address.{Address}
-use Rattle.journal_core.specs.declared.record.Record.TheVariants.{Unmap}
-use Rattle.journal_core.specs.History.{page_at}
+use Rattle.frame_core.specs.declared.record.Record.TheVariants.{Unmap}
+use Rattle.frame_core.specs.History.{page_at}
 use Rattle.state_core.specs.declared.error.ZoneError.{ZoneError}
 use Rattle.state_core.specs.declared.error.ZoneError.TheVariants.{JournalFull, Pinned}
 use Rattle.state_core.specs.Access.{placement_refusal}

@@ -4,8 +4,8 @@ use Rattle.std.specs.Coded.{Coded, code_by, coded×, coded_ℕ, coded_list, code
 use Rattle.std.specs.FinMap as map
 use Rattle.std.specs.FinSet as set
 use Rattle.std.specs.Ordering.{nat_cmp}
-use Rattle.journal_core.specs.declared.record.Record.{Record}
-use Rattle.journal_core.specs.contracts.record.Record as record_row
+use Rattle.frame_core.specs.declared.record.Record.{Record}
+use Rattle.frame_core.specs.contracts.record.Record as record_row
 use Rattle.state_core.specs.declared.placement.Placement.{Placement}
 use Rattle.state_core.specs.declared.round.RoundStart.{RoundStart}
 use Rattle.state_core.specs.contracts.placement.Placement as placement_row

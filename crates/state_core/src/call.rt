@@ -2,8 +2,7 @@ ghost use Rattle.std.specs.Prelude.{◌≡◌, IsTrue};
 ghost use Rattle.state_core.specs.Calls.{answers, record_of};
 ghost use Rattle.state_core.specs.declared.call.ZoneAnswer.{ZoneAnswer};
 
-use frame_core::{Address, BlockNo, ClientNo, FrameNo, Order, PageNo, WordOf};
-use journal_core::Record;
+use frame_core::{Address, BlockNo, ClientNo, FrameNo, Order, PageNo, Record, WordOf};
 
 /// A call that a client makes on a zone whose pages have `W` words. The calls are this project's own profile.
 #[derive(Clone, Copy, Debug, PartialEq, Eq)]

@@ -1,5 +1,5 @@
+use frame_core::Isolated;
 use thiserror::Error;
-use word_core::Isolated;
 
 /// What the scanner found.
 #[derive(Drop, Debug)]

@@ -1,3 +1,18 @@
+pub mod Alone
+pub mod ByHand
+pub mod Calls
+pub mod Coming
+pub mod EachCall
+pub mod Ending
+pub mod Moves
+mod OneThread
+pub mod Packed
+pub mod Records
+pub mod Rounds
+pub mod Same
+pub mod Scanner
+pub mod Scanning
 pub mod Seated
 pub mod StaysBooked
+pub mod Steps
 mod WordsAtOnce

@@ -6,10 +6,10 @@ use Rattle.std.proofs.lemmas.Bool.{eq-eqb, both_ways, ltb-true, ltb-false}
 use Rattle.std.proofs.lemmas.List.{nil_from_length}
 use Rattle.std.specs.Option.{ok_or}
 use Rattle.std.specs.Result.{result_err}
-use Rattle.journal_core.specs.declared.record.Record.{Record}
-use Rattle.journal_core.specs.Moves.{isolated, moved, put_back, out}
-use Rattle.journal_core.proofs.Ends.{is_balanced, ended_once as each_once}
-use Rattle.word_core.specs.Page.{IsolatedPage}
+use Rattle.frame_core.specs.declared.record.Record.{Record}
+use Rattle.frame_core.specs.Moves.{isolated, moved, put_back, out}
+use Rattle.frame_core.proofs.Ends.{is_balanced, ended_once as each_once}
+use Rattle.frame_core.specs.Page.{IsolatedPage}
 use Rattle.state_core.specs.declared.error.ZoneError.{ZoneError}
 use Rattle.state_core.specs.declared.error.ZoneError.TheVariants.{Out}
 use Rattle.state_core.specs.declared.information.Audit.{Audit}

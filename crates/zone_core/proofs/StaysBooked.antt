@@ -3,12 +3,12 @@ use Rattle.std.proofs.Common.{◌≡◌, ℕ, ◌+◌, ◌*◌, ◌≤◌, Bool,
 use Rattle.std.specs.Prelude.{unwrap_or, nat_eq, Result, Ok, Err, IfOk, OnOk, OnErr}
 use Rattle.std.proofs.lemmas.Bool.{both_ways}
 use Rattle.frame_core.specs.declared.place.Address.{Address}
-use Rattle.journal_core.specs.declared.record.Cause.{Cause}
-use Rattle.journal_core.specs.declared.record.Cause.TheVariants.{Pinned}
-use Rattle.journal_core.specs.declared.record.Record.{Record}
-use Rattle.journal_core.specs.declared.record.Record.TheVariants as entry
-use Rattle.journal_core.specs.History.{page_at, pins}
-use Rattle.journal_core.specs.Moves.{isolated, moved, put_back}
+use Rattle.frame_core.specs.declared.record.Cause.{Cause}
+use Rattle.frame_core.specs.declared.record.Cause.TheVariants.{Pinned}
+use Rattle.frame_core.specs.declared.record.Record.{Record}
+use Rattle.frame_core.specs.declared.record.Record.TheVariants as entry
+use Rattle.frame_core.specs.History.{page_at, pins}
+use Rattle.frame_core.specs.Moves.{isolated, moved, put_back}
 use Rattle.state_core.specs.declared.call.ZoneCall.{ZoneCall}
 use Rattle.state_core.specs.declared.call.ZoneCall.TheVariants.{Map, MapAt, Load, Store, Share, Unmap, Pin, Unpin, TakeOrder, GiveOrder, Mark, Unmark}
 use Rattle.state_core.specs.declared.error.ZoneError.{ZoneError}
@@ -27,7 +27,7 @@ use Rattle.state_core.specs.Lawful.{IsValidZone}
 use Rattle.state_core.specs.Pairs.{HaveMet, next_pair}
 use Rattle.state_core.specs.Unmapping.{is_last, without_page}
 use Rattle.state_core.specs.ZoneState.{ZoneState, is_quiet, is_quiet_since, keeps_quiet, lowest_unused_page, noted}
-use Rattle.word_core.specs.Page.{IsolatedPage}
+use Rattle.frame_core.specs.Page.{IsolatedPage}
 use Rattle.state_core.proofs.Quiet.{begun_more, quiet_ended, quiet_kept}
 use Rattle.state_core.proofs.StaysMet.{met_loaded, met_stored}
 use Rattle.zone_core.specs.Books.{AreBooks}

@@ -1,6 +1,6 @@
 -- How the ledgers of a zone stand for its journal.
 use Rattle.std.specs.Prelude.{◌≡◌, ℕ, true, Option, Some}
-use Rattle.journal_core.specs.Moves.{isolated as isolated_of, moved as moved_of, put_back}
+use Rattle.frame_core.specs.Moves.{isolated as isolated_of, moved as moved_of, put_back}
 use Rattle.state_core.specs.Pairs.{HaveMet}
 use Rattle.state_core.specs.ZoneState.{ZoneState, is_quiet}
 use Rattle.zone_core.specs.Seats.{scan_amount}

@@ -1,7 +1,7 @@
 -- What an audit of a zone tells where no seats are looked at.
 use Rattle.std.specs.Prelude.{◌≡◌, ◌+◌, []}
-use Rattle.journal_core.specs.Ends.{AreEndedOnce}
-use Rattle.journal_core.specs.Moves.{isolated, moved, put_back, out}
+use Rattle.frame_core.specs.Ends.{AreEndedOnce}
+use Rattle.frame_core.specs.Moves.{isolated, moved, put_back, out}
 use Rattle.state_core.specs.declared.information.Audit.{Audit}
 use Rattle.state_core.specs.ZoneState.{ZoneState}
 

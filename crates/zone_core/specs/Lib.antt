@@ -1,5 +1,10 @@
+pub mod Alone
 pub mod Books
+pub mod ByHand
 pub mod Counted
+pub mod Fingers
 pub mod Made
+pub mod OneThread
+pub mod Outcome
 pub mod Seats
 pub mod ZoneIdentity

@@ -1,7 +1,7 @@
 -- What contracts see of the seats of a zone, and what the calls with a seat note in it.
 use Rattle.std.specs.Prelude.{◌≡◌, ℕ, ◌+◌, ◌*◌, ◌<◌, ◌^◌, ⊤, length, not, nat_eq, nat_lt, if◌then◌else◌, [], Option, Some, None}
-use Rattle.journal_core.specs.Moves.{isolated, moved, put_back, out}
-use Rattle.journal_core.specs.Ends.{AreEndedOnce}
+use Rattle.frame_core.specs.Moves.{isolated, moved, put_back, out}
+use Rattle.frame_core.specs.Ends.{AreEndedOnce}
 use Rattle.state_core.specs.declared.error.ZoneError.{ZoneError}
 use Rattle.state_core.specs.declared.error.ZoneError.TheVariants.{Missing, Out}
 use Rattle.state_core.specs.declared.information.Audit.{Audit}
@@ -10,7 +10,7 @@ use Rattle.state_core.specs.declared.moves.Next.TheVariants as next
 use Rattle.state_core.specs.declared.moves.Ended.{Ended}
 use Rattle.state_core.specs.declared.moves.Ended.TheVariants as ended
 use Rattle.state_core.specs.ZoneState.{ZoneState}
-use Rattle.word_core.specs.Page.{IsolatedPage}
+use Rattle.frame_core.specs.Page.{IsolatedPage}
 use Rattle.zone_core.specs.declared.seats.Answered.{Answered}
 use Rattle.zone_core.specs.declared.seats.Answered.TheVariants as answered
 

@@ -1,7 +1,7 @@
 //! A zone without ledgers.
 
 ghost use Rattle.std.specs.Prelude.{◌≡◌, ◌+◌, ◌/◌, ◌^◌, ◌≤◌, ◌&&◌, ℕ, true, Option, Some, None, is_some, if◌then◌else◌, IfOk, IfErr};
-ghost use Rattle.journal_core.specs.declared.record.Record.{Record};
+ghost use Rattle.frame_core.specs.declared.record.Record.{Record};
 ghost use Rattle.state_core.specs.Clear.{BlocksAreApart, BlocksAreClear};
 ghost use Rattle.state_core.specs.Lawful.{IsValidZone};
 ghost use Rattle.state_core.specs.Looking.{look_of, info_of};
@@ -17,8 +17,7 @@ mod rounds;
 mod tables;
 mod words;
 
-use frame_core::{Address, BlockNo, ZoneNo};
-use journal_core::Journal;
+use frame_core::{Address, BlockNo, Journal, ZoneNo};
 use state_core::{Info, Look, ZoneError};
 use std::alloc::Global;
 use std::marker::Model;

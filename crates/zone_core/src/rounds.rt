@@ -2,7 +2,7 @@
 
 ghost use Rattle.std.specs.Prelude.{◌≡◌, ◌+◌, ◌≤◌, ◌↔◌, true, false, length, Some, IsOk, IfOk, IfErr, OnOk, OnErr};
 ghost use Rattle.state_core.specs.Lawful.{IsValidZone};
-ghost use Rattle.journal_core.specs.Moves.{isolated, out};
+ghost use Rattle.frame_core.specs.Moves.{isolated, out};
 ghost use Rattle.state_core.specs.Rounds.{round_begun};
 ghost use Rattle.state_core.specs.Isolating.{isolate_refusal, next_answer, next_state, Scans};
 ghost use Rattle.state_core.specs.Ending.{is_own, IsOwnCopy, Ends, ended_as, committed, put_back_to_source};
@@ -15,10 +15,9 @@ ghost use Rattle.state_core.specs.ZoneState.{is_quiet};
 
 use crate::seats::{Answered, EndSeat, ScanSeat};
 use crate::zone::Zone;
-use journal_core::Cause;
+use frame_core::{Cause, CopiedOf, IsolatedOf};
 use state_core::{Audit, Ended, Next, Stranger, ZoneError};
 use std::sync::ledger::Ledger;
-use word_core::{CopiedOf, IsolatedOf};
 
 impl<const W: usize, I: Ledger, M: Ledger, B: Ledger> Zone<W, I, M, B> {
     /// Begins a round: the migrate finger is set to the bottom of the zone, and the free finger above its top. The seat

@@ -2,17 +2,17 @@
 
 ghost use Rattle.std.specs.Prelude.{◌≡◌, ◌<◌, ℕ, Some, length};
 ghost use Rattle.std.specs.FinMap as map;
-ghost use Rattle.journal_core.specs.History.{last};
+ghost use Rattle.frame_core.specs.History.{last};
 ghost use Rattle.zone_tables.specs.Fits.{EntriesFit, FramesFit, MovableFit, WordsFit};
 ghost use Rattle.state_core.specs.ZoneState.{frame_count, words_frame};
 ghost use Rattle.state_core.specs.declared.placement.Placement.{Placement};
-ghost use Rattle.word_core.specs.Words.{word_of};
+ghost use Rattle.frame_core.specs.Words.{word_of};
 
 use crate::zone::Zone;
+use frame_core::WordsOf;
 use scan_core::Frames;
 use std::sync::ledger::Ledger;
 use table_core::Tables;
-use word_core::WordsOf;
 
 impl<const W: usize, I: Ledger, M: Ledger, B: Ledger> Zone<W, I, M, B> {
     /// The entry of each address, and the addresses that are listed under each frame.

@@ -3,7 +3,7 @@ ghost use Rattle.std.specs.Int.RustNames.{bit_and};
 ghost use Rattle.zone_core.specs.Books.{AreFor};
 ghost use Rattle.state_core.specs.Clear.{BlocksAreApart, BlocksAreClear};
 ghost use Rattle.state_core.specs.Lawful.{IsValidZone};
-ghost use Rattle.journal_core.specs.declared.record.Record.{Record};
+ghost use Rattle.frame_core.specs.declared.record.Record.{Record};
 ghost use Rattle.state_core.specs.Looking.{look_of, info_of};
 ghost use Rattle.zone_core.specs.ZoneIdentity.{HasIdentity};
 ghost use Rattle.zone_core.specs.Seats.{fresh_scan_seat, fresh_end_seat};
@@ -20,8 +20,7 @@ ghost use Rattle.state_core.specs.ZoneState.{frame_count, lowest_free_frame, not
 use crate::bare::BareZone;
 use crate::seats::{Blanks, EndSeat, ScanSeat};
 use bitflags::Flags;
-use frame_core::{Address, ClientNo, FrameNo, PageFlags, WordOf, ZoneNo};
-use journal_core::Journal;
+use frame_core::{Address, ClientNo, FrameNo, Journal, PageFlags, WordOf, ZoneNo};
 use state_core::{Info, Look, ZoneError};
 use std::alloc::Global;
 use std::marker::Model;

@@ -1,6 +1,6 @@
 ghost use Rattle.std.specs.Prelude.{◌≡◌, ◌≢◌, ◌≤◌, None, IfSome, OnOk};
 ghost use Rattle.std.specs.Io.KnownBytes.{Keeps};
-ghost use Rattle.play_core.specs.Script.{fault_of};
+ghost use Rattle.text_core.specs.Script.{fault_of};
 
 use crate::album::{Album, AlbumError, Panel};
 use crate::drawing::draw;

@@ -13,8 +13,8 @@ use Rattle.frame_core.specs.Below.{lowest, count_from, some_below}
 use Rattle.frame_core.specs.Order.{is_aligned}
 use Rattle.frame_core.specs.declared.state.FrameState.{FrameState}
 use Rattle.frame_core.specs.declared.state.FrameState.TheVariants.{Free, Holds, Source, Target, Huge}
-use Rattle.journal_core.specs.declared.record.Record.TheVariants.{TakeHuge, GiveHuge}
-use Rattle.journal_core.specs.Moves.{out}
+use Rattle.frame_core.specs.declared.record.Record.TheVariants.{TakeHuge, GiveHuge}
+use Rattle.frame_core.specs.Moves.{out}
 use Rattle.scan_core.specs.Frames.{free_at, huge_at, is_huge_state}
 use Rattle.scan_core.specs.NumberSet.{all_from}
 use Rattle.scan_core.specs.Runs as runs

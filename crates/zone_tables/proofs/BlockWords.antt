@@ -11,7 +11,7 @@ use Rattle.state_core.specs.Contents.{contents_of, contents_written}
 use Rattle.state_core.specs.Lawful.{IsValidZone}
 use Rattle.state_core.specs.ZoneState.{ZoneState}
 use Rattle.state_core.proofs.Contents.{has_contents, lawful_contents_written}
-use Rattle.word_core.specs.Words.{block_words, HasBlock, put_from}
+use Rattle.frame_core.specs.Words.{block_words, HasBlock, put_from}
 use Rattle.zone_tables.specs.Contents.{words_held}
 use Rattle.zone_tables.specs.Fits.{WordsFit}
 use Rattle.zone_tables.specs.Sound.{IsSound, state_of}

@@ -11,15 +11,15 @@ use Rattle.frame_core.proofs.Lists.{slice_get_set_same, slice_get_set_other, sli
 use Rattle.frame_core.specs.declared.place.Address.{Address}
 use Rattle.frame_core.specs.declared.state.FrameState.{FrameState}
 use Rattle.frame_core.specs.declared.state.FrameState.TheVariants.{Holds}
-use Rattle.journal_core.proofs.Maps.{no_test}
-use Rattle.journal_core.specs.declared.record.Record.TheVariants.{Map}
-use Rattle.journal_core.specs.History.{same_address, page_at, last, dirty, pins}
+use Rattle.frame_core.proofs.Maps.{no_test}
+use Rattle.frame_core.specs.declared.record.Record.TheVariants.{Map}
+use Rattle.frame_core.specs.History.{same_address, page_at, last, dirty, pins}
 use Rattle.zone_tables.specs.History.{History, told}
 use Rattle.table_core.specs.declared.entry.Entry.{Entry}
 use Rattle.table_core.specs.declared.entry.Entry.TheVariants.{Present}
 use Rattle.table_core.specs.Tables.{Tables, ChangesOnly}
-use Rattle.word_core.specs.Page.{blank_words}
-use Rattle.word_core.specs.Words.{words_of, with_words}
+use Rattle.frame_core.specs.Page.{blank_words}
+use Rattle.frame_core.specs.Words.{words_of, with_words}
 use Rattle.zone_tables.specs.declared.note.PageNote.{PageNote}
 use Rattle.zone_tables.specs.declared.zone.ZoneTables.TheInside.{Inside}
 use Rattle.state_core.specs.declared.placement.Placement.{Placement}

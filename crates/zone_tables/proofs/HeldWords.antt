@@ -20,7 +20,7 @@ use Rattle.state_core.specs.ZoneState.{ZoneState, covers, is_held, takes_up, wor
 use Rattle.state_core.proofs.Entries.{get_insert_same, get_insert_other}
 use Rattle.state_core.proofs.Facts.{takes_own}
 use Rattle.state_core.proofs.HandingOut.{held_of, in_block, in_block_from}
-use Rattle.word_core.specs.Words.{joined, HasBlock, words_of}
+use Rattle.frame_core.specs.Words.{joined, HasBlock, words_of}
 use Rattle.zone_tables.specs.Contents.{words_held, contents_at}
 use Rattle.zone_tables.specs.HandedOut.{order_of}
 use Rattle.zone_tables.specs.Sound.{IsSound, state_of}

@@ -8,9 +8,9 @@ use Rattle.std.proofs.lemmas.Bool.Decides.{eqb_tells}
 use Rattle.frame_core.proofs.Searches.{pairs_same_below, pairs_none, some_none}
 use Rattle.frame_core.specs.Address.{InRange}
 use Rattle.frame_core.specs.declared.place.Address.{Address}
-use Rattle.journal_core.proofs.OnTheWay.{out_below}
-use Rattle.journal_core.specs.History.{page_at, is_page, names, maps}
-use Rattle.journal_core.specs.Moves.{isolated}
+use Rattle.frame_core.proofs.OnTheWay.{out_below}
+use Rattle.frame_core.specs.History.{page_at, is_page, names, maps}
+use Rattle.frame_core.specs.Moves.{isolated}
 use Rattle.table_core.specs.declared.entry.Entry.{Entry}
 use Rattle.table_core.specs.declared.entry.Entry.TheVariants.{Present, Migration}
 use Rattle.table_core.specs.Tables.{entry_at, is_listed, count_listed}

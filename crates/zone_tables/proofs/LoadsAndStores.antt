@@ -10,13 +10,13 @@ use Rattle.std.proofs.lemmas.Option.{slice_get_within, get_or_from_slice_get}
 use Rattle.frame_core.proofs.Lists.{slice_get_set_same, slice_get_set_other}
 use Rattle.frame_core.specs.declared.place.Address.{Address}
 use Rattle.frame_core.specs.declared.state.FrameState.TheVariants.{Holds}
-use Rattle.journal_core.proofs.Maps.{no_test}
-use Rattle.journal_core.specs.declared.record.Record.TheVariants.{Store}
-use Rattle.journal_core.specs.History.{page_at, is_page, last, dirty, pins, maps}
+use Rattle.frame_core.proofs.Maps.{no_test}
+use Rattle.frame_core.specs.declared.record.Record.TheVariants.{Store}
+use Rattle.frame_core.specs.History.{page_at, is_page, last, dirty, pins, maps}
 use Rattle.zone_tables.specs.History.{History, told}
-use Rattle.journal_core.specs.Moves.{out}
+use Rattle.frame_core.specs.Moves.{out}
 use Rattle.table_core.specs.declared.entry.Entry.TheVariants.{Absent, Present, Migration}
-use Rattle.word_core.specs.Words.{words_of, word_of, with_word}
+use Rattle.frame_core.specs.Words.{words_of, word_of, with_word}
 use Rattle.state_core.specs.declared.error.ZoneError.TheVariants.{Unmapped, Moving as IsMoving}
 use Rattle.zone_tables.specs.declared.note.PageNote.{PageNote}
 use Rattle.zone_tables.specs.declared.zone.ZoneTables.TheInside.{Inside}

@@ -4,8 +4,8 @@ use Rattle.std.specs.Prelude.{Option, slice_set, slice_index_or, unwrap_or}
 use Rattle.std.proofs.lemmas.List.{length-set}
 use Rattle.std.proofs.lemmas.Option.{slice_get_past}
 use Rattle.frame_core.proofs.Lists.{slice_get_set_same, slice_get_set_other}
-use Rattle.journal_core.specs.declared.record.Record.TheVariants.{Mark, Unmark}
-use Rattle.journal_core.specs.Moves.{out}
+use Rattle.frame_core.specs.declared.record.Record.TheVariants.{Mark, Unmark}
+use Rattle.frame_core.specs.Moves.{out}
 use Rattle.zone_tables.specs.declared.zone.ZoneTables.TheInside.{Inside}
 use Rattle.zone_tables.specs.History.{History, told}
 use Rattle.zone_tables.specs.Sound.{IsSound, state_of}

@@ -8,11 +8,11 @@ use Rattle.std.proofs.lemmas.List.{length-set}
 use Rattle.frame_core.proofs.Lists.{slice_get_set_same, slice_get_set_other}
 use Rattle.frame_core.specs.declared.state.FrameState.{FrameState}
 use Rattle.frame_core.specs.declared.state.FrameState.TheVariants.{Free, Holds, Source, Target}
-use Rattle.journal_core.specs.declared.record.Cause.{Cause}
-use Rattle.journal_core.specs.declared.record.Record.TheVariants.{Moved, Back}
+use Rattle.frame_core.specs.declared.record.Cause.{Cause}
+use Rattle.frame_core.specs.declared.record.Record.TheVariants.{Moved, Back}
 use Rattle.scan_core.specs.Frames.{Frames, free_at, is_free_state, is_way_state, way_at}
-use Rattle.word_core.specs.Words.{words_of, with_words}
-use Rattle.journal_core.specs.Moves.{out}
+use Rattle.frame_core.specs.Words.{words_of, with_words}
+use Rattle.frame_core.specs.Moves.{out}
 use Rattle.state_core.specs.declared.placement.Placement.TheVariants.{At, Moving}
 use Rattle.zone_tables.specs.Fits.{state_by, FramesFit, WordsFit}
 use Rattle.state_core.specs.Lawful.{IsValidZone}

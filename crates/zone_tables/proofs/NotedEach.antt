@@ -2,11 +2,11 @@
 use Rattle.std.proofs.Common.{◌≡◌, ℕ, ◌+◌, ◌-◌, ◌≤◌, true, List, [], ◌∷◌, length, refl, ap, ◌∙◌, arith}
 use Rattle.std.specs.Prelude.{Option, Some}
 use Rattle.frame_core.specs.declared.place.Address.{Address}
-use Rattle.journal_core.specs.declared.access.Access.{Access}
-use Rattle.journal_core.specs.declared.access.AccessKind.{AccessKind}
-use Rattle.journal_core.specs.declared.access.AccessKind.TheVariants as kind
-use Rattle.journal_core.specs.declared.record.Record.{Record}
-use Rattle.journal_core.specs.Access.{access_record, with_each}
+use Rattle.frame_core.specs.declared.access.Access.{Access}
+use Rattle.frame_core.specs.declared.access.AccessKind.{AccessKind}
+use Rattle.frame_core.specs.declared.access.AccessKind.TheVariants as kind
+use Rattle.frame_core.specs.declared.record.Record.{Record}
+use Rattle.frame_core.specs.Access.{access_record, with_each}
 use Rattle.state_core.specs.declared.round.RoundStart.{RoundStart}
 use Rattle.state_core.specs.ZoneState.{keeps_quiet, is_quiet_since}
 use Rattle.state_core.proofs.Quiet.{begun_more, quiet_kept}

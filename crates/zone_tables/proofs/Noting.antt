@@ -5,8 +5,8 @@ use Rattle.std.specs.Option.{option_and_then}
 use Rattle.std.specs.FinMap as map
 use Rattle.std.proofs.lemmas.Option.{slice_get_within}
 use Rattle.frame_core.specs.declared.state.FrameState.{FrameState}
-use Rattle.journal_core.specs.declared.record.Record.{Record}
-use Rattle.journal_core.specs.History.{last, dirty, pins, maps}
+use Rattle.frame_core.specs.declared.record.Record.{Record}
+use Rattle.frame_core.specs.History.{last, dirty, pins, maps}
 use Rattle.scan_core.specs.Frames.{Frames}
 use Rattle.table_core.specs.Tables.{Tables}
 use Rattle.state_core.specs.Lawful.{IsValidZone}

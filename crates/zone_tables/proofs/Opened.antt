@@ -10,8 +10,8 @@ use Rattle.frame_core.proofs.Lists.{slice_get_replicate}
 use Rattle.frame_core.specs.declared.state.FrameState.{FrameState}
 use Rattle.frame_core.specs.declared.state.FrameState.TheVariants.{Free}
 use Rattle.table_core.specs.Tables.{IsBlank}
-use Rattle.word_core.specs.Page.{blank_words}
-use Rattle.word_core.specs.Words.{words_of}
+use Rattle.frame_core.specs.Page.{blank_words}
+use Rattle.frame_core.specs.Words.{words_of}
 use Rattle.zone_tables.specs.declared.note.PageNote.{PageNote}
 use Rattle.zone_tables.specs.Moves.{Moves}
 use Rattle.zone_tables.proofs.Copies.{copies, no_placement, all_movable, no_order}
@@ -19,7 +19,7 @@ use Rattle.zone_tables.specs.declared.zone.ZoneTables.TheInside.{Inside}
 use Rattle.state_core.specs.declared.placement.Placement.{Placement}
 use Rattle.state_core.specs.declared.placement.Placement.TheVariants.{At, Moving}
 use Rattle.state_core.specs.Opening.{opened_with, IsSize}
-use Rattle.journal_core.specs.Journal.{told_places}
+use Rattle.frame_core.specs.Journal.{told_places}
 use Rattle.zone_tables.specs.Fits.{state_by}
 use Rattle.zone_tables.specs.Sound.{state_of, IsSound}
 use Rattle.scan_core.specs.Frames.{Frames, all_free, true_at}

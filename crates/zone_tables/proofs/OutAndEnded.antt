@@ -1,8 +1,8 @@
 -- How many pages are out.
 use Rattle.std.proofs.Common.{◌≡◌, ℕ, ◌+◌, ◌<◌, List, length, arith}
-use Rattle.journal_core.proofs.Ends.{is_balanced}
-use Rattle.journal_core.specs.declared.record.Record.{Record}
-use Rattle.journal_core.specs.Moves.{out, IsWellEnded}
+use Rattle.frame_core.proofs.Ends.{is_balanced}
+use Rattle.frame_core.specs.declared.record.Record.{Record}
+use Rattle.frame_core.specs.Moves.{out, IsWellEnded}
 use Rattle.zone_tables.specs.Fits.{MovesFit}
 use Rattle.zone_tables.specs.Moves.{Moves}
 

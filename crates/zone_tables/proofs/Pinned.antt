@@ -4,10 +4,10 @@ use Rattle.std.specs.Prelude.{Option, Some, IsSome, slice_get, ◌&&◌}
 use Rattle.std.specs.FinMap as map
 use Rattle.std.specs.FinSet as set
 use Rattle.frame_core.specs.declared.place.Address.{Address}
-use Rattle.journal_core.specs.declared.record.Record.{Record}
-use Rattle.journal_core.specs.declared.record.Record.TheVariants.{Pin, Unpin}
-use Rattle.journal_core.specs.History.{page_at, pins}
-use Rattle.journal_core.specs.Moves.{out}
+use Rattle.frame_core.specs.declared.record.Record.{Record}
+use Rattle.frame_core.specs.declared.record.Record.TheVariants.{Pin, Unpin}
+use Rattle.frame_core.specs.History.{page_at, pins}
+use Rattle.frame_core.specs.Moves.{out}
 use Rattle.scan_core.specs.Frames.{Frames}
 use Rattle.state_core.specs.declared.placement.Placement.{Placement}
 use Rattle.state_core.specs.Lawful.{IsValidZone}

@@ -10,8 +10,8 @@ use Rattle.frame_core.proofs.Searches.{some_at}
 use Rattle.frame_core.specs.Below.{some_below}
 use Rattle.frame_core.specs.declared.state.FrameState.{FrameState}
 use Rattle.frame_core.specs.declared.state.FrameState.TheVariants.{Free, Holds, Source, Target}
-use Rattle.journal_core.specs.History.{last, dirty, pins, maps}
-use Rattle.word_core.specs.Words.{words_of}
+use Rattle.frame_core.specs.History.{last, dirty, pins, maps}
+use Rattle.frame_core.specs.Words.{words_of}
 use Rattle.state_core.proofs.Facts.{takes_own}
 use Rattle.state_core.proofs.Placed.{untrue}
 use Rattle.state_core.specs.declared.placement.Placement.{Placement}

@@ -4,7 +4,7 @@ use Rattle.std.specs.Prelude.{Some, slice_get}
 use Rattle.std.specs.Option.{option_and_then}
 use Rattle.std.specs.FinMap as map
 use Rattle.frame_core.specs.declared.place.Address.{Address}
-use Rattle.journal_core.specs.declared.record.Record.TheVariants.{Share}
+use Rattle.frame_core.specs.declared.record.Record.TheVariants.{Share}
 use Rattle.table_core.specs.declared.entry.Entry.TheVariants.{Present}
 use Rattle.table_core.specs.Tables.{Tables, ChangesOnly}
 use Rattle.state_core.specs.declared.placement.Placement.TheVariants.{At}

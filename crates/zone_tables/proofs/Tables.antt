@@ -13,9 +13,9 @@ use Rattle.frame_core.specs.PageFlags.{page_flags}
 use Rattle.frame_core.specs.declared.flags.PageFlags.{PageFlags}
 use Rattle.frame_core.specs.declared.state.FrameState.{FrameState}
 use Rattle.frame_core.specs.declared.state.FrameState.TheVariants.{Free, Holds, Source, Target, Huge}
-use Rattle.journal_core.specs.History.{page_at, last, pins, maps}
+use Rattle.frame_core.specs.History.{page_at, last, pins, maps}
 use Rattle.table_core.specs.declared.entry.Entry.TheVariants.{Migration}
-use Rattle.word_core.specs.Words.{words_of}
+use Rattle.frame_core.specs.Words.{words_of}
 use Rattle.state_core.specs.declared.information.Look.TheVariants as look
 use Rattle.zone_tables.specs.declared.note.PageNote.{PageNote}
 use Rattle.zone_tables.specs.declared.zone.ZoneTables.TheInside.{Inside}

@@ -8,8 +8,8 @@ use Rattle.std.proofs.lemmas.List.{length-set}
 use Rattle.frame_core.proofs.Lists.{slice_get_set_same, slice_get_set_other}
 use Rattle.frame_core.specs.declared.place.Address.{Address}
 use Rattle.frame_core.specs.declared.state.FrameState.TheVariants.{Free}
-use Rattle.journal_core.specs.declared.record.Record.TheVariants.{Unmap}
-use Rattle.journal_core.specs.History.{same_address, page_at, maps, pins}
+use Rattle.frame_core.specs.declared.record.Record.TheVariants.{Unmap}
+use Rattle.frame_core.specs.History.{same_address, page_at, maps, pins}
 use Rattle.table_core.specs.declared.entry.Entry.TheVariants.{Absent}
 use Rattle.table_core.specs.Tables.{Tables, ChangesOnly}
 use Rattle.scan_core.specs.Frames.{Frames}

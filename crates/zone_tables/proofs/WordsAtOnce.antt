@@ -8,10 +8,10 @@ use Rattle.std.proofs.lemmas.List.FromFn.{take-map-range_with_len}
 use Rattle.std.proofs.lemmas.Option.{slice_get_within, unwrap_or-slice_get}
 use Rattle.frame_core.proofs.Lists.{slice_get_set_same}
 use Rattle.frame_core.specs.declared.place.Address.{Address}
-use Rattle.journal_core.specs.declared.record.Record.TheVariants.{Load, Store}
-use Rattle.journal_core.specs.History.{page_at, last}
-use Rattle.journal_core.specs.Moves.{out}
-use Rattle.word_core.specs.Words.{words_of, words_from, put_from, with_word, with_words}
+use Rattle.frame_core.specs.declared.record.Record.TheVariants.{Load, Store}
+use Rattle.frame_core.specs.History.{page_at, last}
+use Rattle.frame_core.specs.Moves.{out}
+use Rattle.frame_core.specs.Words.{words_of, words_from, put_from, with_word, with_words}
 use Rattle.state_core.specs.declared.placement.Placement.TheVariants.{At}
 use Rattle.state_core.specs.Access.{value_at, loaded, stored}
 use Rattle.state_core.specs.Bulk.{values_at, loaded_all, stored_all}

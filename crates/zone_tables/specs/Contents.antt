@@ -3,7 +3,7 @@ use Rattle.std.specs.Prelude.{ℕ, ◌*◌, ◌^◌, Bool, true, false, List, Op
 use Rattle.std.specs.Option.{option_map}
 use Rattle.zone_tables.specs.HandedOut.{order_of}
 use Rattle.scan_core.specs.Frames.{true_at}
-use Rattle.word_core.specs.Words.{block_words}
+use Rattle.frame_core.specs.Words.{block_words}
 
 -- the words of a block of this order, from this first frame on: those of its frames, or zeros where it wasn't cleared since it was
 -- handed out

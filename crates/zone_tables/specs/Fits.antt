@@ -6,13 +6,13 @@ use Rattle.frame_core.specs.Address.{InRange}
 use Rattle.frame_core.specs.declared.place.Address.{Address}
 use Rattle.frame_core.specs.declared.state.FrameState.{FrameState}
 use Rattle.frame_core.specs.declared.state.FrameState.TheVariants.{Free, Holds, Source, Target, Huge}
-use Rattle.journal_core.specs.declared.record.Record.{Record}
-use Rattle.journal_core.specs.History.{last, dirty, pins, maps}
-use Rattle.journal_core.specs.Moves.{isolated, moved, put_back}
+use Rattle.frame_core.specs.declared.record.Record.{Record}
+use Rattle.frame_core.specs.History.{last, dirty, pins, maps}
+use Rattle.frame_core.specs.Moves.{isolated, moved, put_back}
 use Rattle.table_core.specs.declared.entry.Entry.{Entry}
 use Rattle.table_core.specs.declared.entry.Entry.TheVariants.{Absent, Present, Migration}
 use Rattle.table_core.specs.Tables.{entry_at}
-use Rattle.word_core.specs.Words.{words_of}
+use Rattle.frame_core.specs.Words.{words_of}
 use Rattle.zone_tables.specs.Moves.{Moves}
 use Rattle.zone_tables.specs.declared.note.PageNote.{PageNote}
 use Rattle.state_core.specs.declared.placement.Placement.{Placement}

@@ -1,8 +1,8 @@
 -- The records of a zone, and how its latest round began.
 use Rattle.std.specs.Prelude.{ℕ, ◌+◌, ◌-◌, List, [], ◌∷◌, Option}
 use Rattle.frame_core.specs.declared.place.Address.{Address}
-use Rattle.journal_core.specs.declared.record.Record.{Record}
-use Rattle.journal_core.specs.declared.record.Record.TheVariants.{Load, Store}
+use Rattle.frame_core.specs.declared.record.Record.{Record}
+use Rattle.frame_core.specs.declared.record.Record.TheVariants.{Load, Store}
 use Rattle.state_core.specs.declared.round.RoundStart.{RoundStart}
 
 -- the journal of a zone, and its latest round

@@ -1,7 +1,7 @@
 //! Reading and writing the words of pages.
 
 ghost use Rattle.std.specs.Prelude.{◌≡◌, Some, IsSome, IsTrue, IfOk};
-ghost use Rattle.journal_core.specs.History.{page_at};
+ghost use Rattle.frame_core.specs.History.{page_at};
 ghost use Rattle.state_core.specs.Lawful.{IsValidZone};
 ghost use Rattle.state_core.specs.Access.{placement_refusal, value_at, loaded, stored};
 ghost use Rattle.state_core.specs.Isolating.{has_room_for_two, has_serial};
@@ -10,8 +10,7 @@ ghost use Rattle.state_core.specs.ZoneState.{has_room, placement_at};
 ghost use Rattle.state_core.specs.declared.placement.Placement.TheVariants.{At};
 
 use crate::zone::ZoneTables;
-use frame_core::{Address, ClientNo, FrameNo, WordOf};
-use journal_core::Record;
+use frame_core::{Address, ClientNo, FrameNo, Record, WordOf};
 use state_core::ZoneError;
 use table_core::Entry;
 

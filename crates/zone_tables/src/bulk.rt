@@ -8,8 +8,7 @@ ghost use Rattle.state_core.specs.ZoneState.{placement_at};
 ghost use Rattle.state_core.specs.declared.placement.Placement.TheVariants.{At};
 
 use crate::zone::ZoneTables;
-use frame_core::{Address, ClientNo, FrameNo, WordOf};
-use journal_core::{Access, AccessKind};
+use frame_core::{Access, AccessKind, Address, ClientNo, FrameNo, WordOf};
 use state_core::ZoneError;
 
 impl<const W: usize> ZoneTables<W> {

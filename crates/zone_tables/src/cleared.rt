@@ -4,12 +4,11 @@ ghost use Rattle.std.specs.Prelude.{◌≡◌, ◌+◌, ◌^◌, ◌<◌, ◌≤
 ghost use Rattle.std.specs.List.{All};
 ghost use Rattle.zone_tables.specs.Contents.{words_held};
 ghost use Rattle.scan_core.specs.Frames.{true_at};
-ghost use Rattle.word_core.specs.Words.{HasBlock};
+ghost use Rattle.frame_core.specs.Words.{HasBlock};
 
-use frame_core::{FixedVec, FrameNo, Order};
+use frame_core::{FixedVec, FrameNo, Order, WordsOf};
 use std::alloc::{AllocError, Global};
 use std::marker::Model;
-use word_core::WordsOf;
 
 /// Whether the words of each block were cleared since it was handed out, by its first frame. A block is cleared when it is first
 /// read or written, so that handing it out costs no more than its records.

@@ -2,8 +2,8 @@
 
 ghost use Rattle.std.specs.Prelude.{◌≡◌, ◌<◌, ◌+◌, ◌↔◌, length, nat_lt, nat_eq, not, true, IsTrue, IsSome, IfSome, Some, IfOk};
 ghost use Rattle.std.specs.FinMap as map;
-ghost use Rattle.journal_core.specs.History.{pins};
-ghost use Rattle.journal_core.specs.Moves.{out, isolated, moved, put_back};
+ghost use Rattle.frame_core.specs.History.{pins};
+ghost use Rattle.frame_core.specs.Moves.{out, isolated, moved, put_back};
 ghost use Rattle.state_core.specs.Lawful.{IsValidZone};
 ghost use Rattle.state_core.specs.Ending.{HasCause, IsSettled, is_own, moved_to_target, put_back_to_source};
 ghost use Rattle.state_core.specs.Carrying.{words_now};
@@ -11,10 +11,8 @@ ghost use Rattle.state_core.specs.ZoneState.{is_quiet};
 ghost use Rattle.state_core.specs.declared.placement.Placement.TheVariants.{Moving};
 
 use crate::zone::ZoneTables;
-use frame_core::{FrameNo, PageNo, Serial};
-use journal_core::{Cause, Record};
+use frame_core::{Cause, FrameNo, PageNo, PageOf, Record, Serial};
 use state_core::{Audit, Placement};
-use word_core::PageOf;
 
 /// A moving page, with its serial and its two frames.
 #[derive(Clone, Copy)]

@@ -7,8 +7,7 @@ ghost use Rattle.state_core.specs.Lawful.{IsValidZone};
 ghost use Rattle.state_core.specs.ZoneState.{has_room};
 
 use crate::zone::ZoneTables;
-use frame_core::{FrameNo, Order};
-use journal_core::Record;
+use frame_core::{FrameNo, Order, Record};
 
 impl<const W: usize> ZoneTables<W> {
     /// Whether a block of this order may begin at a frame: it is aligned, and all of it is in the zone.

@@ -1,12 +1,12 @@
 //! The journal of a zone, and whether its latest round is quiet.
 
 ghost use Rattle.std.specs.Prelude.{◌≡◌, ◌+◌, ◌<◌, ◌≤◌, [], length, None, Some, IfOk};
-ghost use Rattle.journal_core.specs.Access.{access_record};
-ghost use Rattle.journal_core.specs.Journal.{told_places};
+ghost use Rattle.frame_core.specs.Access.{access_record};
+ghost use Rattle.frame_core.specs.Journal.{told_places};
 ghost use Rattle.zone_tables.specs.History.{told, told_each};
 ghost use Rattle.state_core.specs.ZoneState.{keeps_quiet, is_quiet_since};
 
-use journal_core::{Access, Journal, Record};
+use frame_core::{Access, Journal, Record};
 use state_core::RoundStart;
 use std::alloc::{AllocError, Global};
 use std::marker::Model;

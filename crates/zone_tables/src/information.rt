@@ -7,12 +7,10 @@ ghost use Rattle.state_core.specs.ZoneState.{frame_count};
 ghost use Rattle.zone_tables.specs.Fits.{EntriesFit, FramesFit, MovableFit, WordsFit};
 
 use crate::zone::ZoneTables;
-use frame_core::ZoneNo;
-use journal_core::Journal;
+use frame_core::{Journal, WordsOf, ZoneNo};
 use scan_core::Frames;
 use state_core::Info;
 use table_core::Tables;
-use word_core::WordsOf;
 
 impl<const W: usize> ZoneTables<W> {
     /// The counts of the zone.

@@ -2,7 +2,7 @@
 
 ghost use Rattle.std.specs.Prelude.{◌≡◌, ◌+◌, ◌<◌, ℕ, length, IsSome, IfSome, IfNone, None, Some, true};
 ghost use Rattle.std.specs.FinMap as map;
-ghost use Rattle.journal_core.specs.Moves.{isolated, out};
+ghost use Rattle.frame_core.specs.Moves.{isolated, out};
 ghost use Rattle.state_core.specs.Lawful.{IsValidZone};
 ghost use Rattle.state_core.specs.Rounds.{round_begun};
 ghost use Rattle.state_core.specs.Carrying.{flags_of, page_now};
@@ -13,11 +13,9 @@ ghost use Rattle.state_core.specs.ZoneState.{frame_count};
 ghost use Rattle.state_core.specs.declared.placement.Placement.TheVariants.{At};
 
 use crate::zone::ZoneTables;
-use frame_core::{FrameNo, FrameState, PageFlags, PageNo};
-use journal_core::Record;
+use frame_core::{FrameNo, FrameState, IsolatedOf, PageFlags, PageNo, Record};
 use scan_core::{Fingers, Step};
 use state_core::{Pair, Placement};
-use word_core::IsolatedOf;
 
 impl<const W: usize> ZoneTables<W> {
     /// The page that a frame holds, if it holds one that isn't moving.

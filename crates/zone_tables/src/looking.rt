@@ -2,7 +2,7 @@
 
 ghost use Rattle.std.specs.Prelude.{◌≡◌, Some, IsSome, IfSome};
 ghost use Rattle.std.specs.FinMap as map;
-ghost use Rattle.journal_core.specs.History.{page_at, pins, maps};
+ghost use Rattle.frame_core.specs.History.{page_at, pins, maps};
 ghost use Rattle.state_core.specs.Looking.{look_by, look_of};
 ghost use Rattle.state_core.specs.Pinning.{pins_at};
 ghost use Rattle.state_core.specs.Sharing.{maps_at};

@@ -1,15 +1,14 @@
 //! Making an address name a fresh page.
 
 ghost use Rattle.std.specs.Prelude.{◌≡◌, ◌<◌, nat_lt, Some, None, IsTrue, IsSome, IfSome, is_some};
-ghost use Rattle.journal_core.specs.History.{page_at};
+ghost use Rattle.frame_core.specs.History.{page_at};
 ghost use Rattle.state_core.specs.Lawful.{IsValidZone};
 ghost use Rattle.state_core.specs.Mapping.{mapped};
 ghost use Rattle.state_core.specs.ZoneState.{frame_count, has_room, is_free, lowest_free_frame, lowest_unused_page};
 
 use crate::note::PageNote;
 use crate::zone::ZoneTables;
-use frame_core::{Address, ClientNo, FrameNo, PageNo};
-use journal_core::Record;
+use frame_core::{Address, ClientNo, FrameNo, PageNo, Record};
 use table_core::Entry;
 
 impl<const W: usize> ZoneTables<W> {

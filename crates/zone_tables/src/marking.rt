@@ -7,8 +7,7 @@ ghost use Rattle.state_core.specs.Marking.{block_marked, block_unmarked};
 ghost use Rattle.state_core.specs.ZoneState.{has_room};
 
 use crate::zone::ZoneTables;
-use frame_core::BlockNo;
-use journal_core::Record;
+use frame_core::{BlockNo, Record};
 
 impl<const W: usize> ZoneTables<W> {
     /// Whether the zone has a pageblock.

@@ -1,5 +1,5 @@
 ghost use Rattle.std.specs.Prelude.{◌≡◌, ◌≤◌, [], None, IfOk, IfErr};
-ghost use Rattle.journal_core.specs.Journal.{told_places};
+ghost use Rattle.frame_core.specs.Journal.{told_places};
 ghost use Rattle.state_core.specs.Lawful.{IsValidZone};
 ghost use Rattle.state_core.specs.Opening.{IsOpenable, IsSize, opened_told, opened_with};
 
@@ -9,12 +9,11 @@ use crate::history::History;
 use crate::moves::Moves;
 use crate::notes::Notes;
 use crate::zone::ZoneTables;
-use frame_core::ZoneNo;
+use frame_core::{WordsOf, ZoneNo};
 use scan_core::{Fingers, Frames};
 use state_core::ZoneError;
 use std::alloc::Global;
 use table_core::Tables;
-use word_core::WordsOf;
 
 impl<const W: usize> ZoneTables<W> {
     /// An empty zone whose journal keeps its records in this many places, or the error Memory where there isn't enough memory for

@@ -2,7 +2,7 @@
 
 ghost use Rattle.std.specs.Prelude.{◌≡◌, ◌<◌, ℕ, true, nat_eq, not, ◌&&◌, Some, IsSome, IsTrue};
 ghost use Rattle.scan_core.specs.Frames.{holds_at};
-ghost use Rattle.journal_core.specs.History.{page_at};
+ghost use Rattle.frame_core.specs.History.{page_at};
 ghost use Rattle.state_core.specs.Lawful.{IsValidZone};
 ghost use Rattle.state_core.specs.Pinning.{pins_at, pinned, unpinned};
 ghost use Rattle.state_core.specs.ZoneState.{has_room};
@@ -11,8 +11,7 @@ ghost use Rattle.zone_tables.specs.Notes.{movable_by};
 
 use crate::note::PageNote;
 use crate::zone::ZoneTables;
-use frame_core::{Address, ClientNo};
-use journal_core::Record;
+use frame_core::{Address, ClientNo, Record};
 use scan_core::Frames;
 use state_core::Placement;
 

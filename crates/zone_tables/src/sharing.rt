@@ -1,15 +1,14 @@
 //! A second address for a page.
 
 ghost use Rattle.std.specs.Prelude.{◌≡◌, ◌<◌, None, Some, IsTrue};
-ghost use Rattle.journal_core.specs.History.{page_at};
+ghost use Rattle.frame_core.specs.History.{page_at};
 ghost use Rattle.state_core.specs.Lawful.{IsValidZone};
 ghost use Rattle.state_core.specs.Sharing.{maps_at, shared};
 ghost use Rattle.state_core.specs.ZoneState.{has_room, placement_at};
 ghost use Rattle.state_core.specs.declared.placement.Placement.TheVariants.{At};
 
 use crate::zone::ZoneTables;
-use frame_core::{Address, ClientNo, FrameNo};
-use journal_core::Record;
+use frame_core::{Address, ClientNo, FrameNo, Record};
 
 impl<const W: usize> ZoneTables<W> {
     /// Makes an alias name the page of an address too.

@@ -2,8 +2,8 @@
 
 ghost use Rattle.std.specs.Prelude.{◌≡◌, ◌≢◌, ℕ, Some, IsTrue};
 ghost use Rattle.std.specs.FinMap as map;
-ghost use Rattle.journal_core.specs.History.{page_at, maps};
-ghost use Rattle.journal_core.specs.declared.record.Record.TheVariants.{Unmap};
+ghost use Rattle.frame_core.specs.History.{page_at, maps};
+ghost use Rattle.frame_core.specs.declared.record.Record.TheVariants.{Unmap};
 ghost use Rattle.state_core.specs.Lawful.{IsValidZone};
 ghost use Rattle.state_core.specs.Unmapping.{unmapped, without_page};
 ghost use Rattle.state_core.specs.ZoneState.{has_room, placement_at, noted};
@@ -11,8 +11,7 @@ ghost use Rattle.state_core.specs.declared.placement.Placement.TheVariants.{At};
 
 use crate::note::PageNote;
 use crate::zone::ZoneTables;
-use frame_core::{Address, ClientNo, FrameNo, PageNo};
-use journal_core::Record;
+use frame_core::{Address, ClientNo, FrameNo, PageNo, Record};
 
 impl<const W: usize> ZoneTables<W> {
     /// Makes an address name no page any more. A page that has no address left isn't in use.

@@ -5,11 +5,10 @@ use crate::handed_out::HandedOut;
 use crate::history::History;
 use crate::moves::Moves;
 use crate::notes::Notes;
-use frame_core::ZoneNo;
+use frame_core::{WordsOf, ZoneNo};
 use scan_core::{Fingers, Frames};
 use std::marker::Model;
 use table_core::Tables;
-use word_core::WordsOf;
 
 /// A zone of pages of `W` words, without the ledgers that name its opening.
 #[derive(Drop)]

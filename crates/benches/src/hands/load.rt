@@ -1,7 +1,6 @@
 ghost use Rattle.std.specs.Prelude.{◌≡◌, IfSome};
 
-use frame_core::{PageNo, Serial, ZoneNo};
-use word_core::{Isolated, Page};
+use frame_core::{Isolated, Page, PageNo, Serial, ZoneNo};
 
 /// How many pages arrived, and the sum of their numbers.
 #[derive(Clone, Copy)]

@@ -2,10 +2,10 @@
 
 use super::load::{Load, page_of};
 use crossbeam_channel::{Receiver, Sender, bounded};
+use frame_core::Isolated;
 use std::alloc::Global;
 use std::sync::Wait;
 use std::thread::{Threads, join, map_vec};
-use word_core::Isolated;
 
 type Pages = Receiver<Isolated, Global>;
 

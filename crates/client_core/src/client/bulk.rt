@@ -2,11 +2,11 @@
 
 ghost use Rattle.std.specs.Prelude.{◌≡◌, ◌≢◌, ℕ, ◌+◌, ◌≤◌, List, ◌++◌, Option, length, IfOk, IfErr, OnOk, OnErr};
 ghost use Rattle.std.specs.Result.{result_err};
-ghost use Rattle.journal_core.specs.Access.{access_record};
-ghost use Rattle.journal_core.specs.declared.access.Access.{Access};
-ghost use Rattle.journal_core.specs.declared.access.AccessKind.TheVariants as kind;
-ghost use Rattle.journal_core.specs.declared.record.Record.TheVariants.{Load, Store};
-ghost use Rattle.halves_core.specs.Told.{pair_of};
+ghost use Rattle.frame_core.specs.Access.{access_record};
+ghost use Rattle.frame_core.specs.declared.access.Access.{Access};
+ghost use Rattle.frame_core.specs.declared.access.AccessKind.TheVariants as kind;
+ghost use Rattle.frame_core.specs.declared.record.Record.TheVariants.{Load, Store};
+ghost use Rattle.hand_core.specs.Told.{pair_of};
 ghost use Rattle.state_core.specs.declared.error.ZoneError.{ZoneError};
 ghost use Rattle.state_core.specs.Bulk.{bulk_refusal, stored_all};
 ghost use Rattle.state_core.specs.Lawful.{IsValidZone};
@@ -20,9 +20,8 @@ use crate::client::Client;
 use crate::error::ClientError;
 use crate::receipts::Receipts;
 use crate::telling::Telling;
-use frame_core::{Address, ClientNo, WordNo};
-use halves_core::{Slip, Stub, write_both};
-use journal_core::{Access, AccessKind};
+use frame_core::{Access, AccessKind, Address, ClientNo, WordNo};
+use hand_core::{Slip, Stub, write_both};
 use round_core::{Keeping, KeptZone, Room};
 use std::sync::Wait;
 use std::sync::ledger::Ledger;

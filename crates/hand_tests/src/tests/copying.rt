@@ -2,13 +2,13 @@ ghost use Rattle.std.specs.Prelude.{◌≡◌, ◌<◌, true, false, All};
 ghost use Rattle.hand_core.specs.CopyEnds.{has_ended};
 
 use super::{is_page, isolated};
+use frame_core::Copied;
 use hand_core::{Batch, Came, DoneSender, DoneTaker, done_open, done_open_in_batches, done_settle};
 use std::alloc::Global;
 use std::process::Abort;
 use std::sync::Wait;
 use std::sync::atomic::{AtomicU32, Ordering};
 use std::thread::{Threads, join, map_vec};
-use word_core::Copied;
 
 const COPIES: u32 = 150;
 

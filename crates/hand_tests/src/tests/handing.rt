@@ -1,14 +1,14 @@
 ghost use Rattle.std.specs.Prelude.{◌≡◌, ◌+◌, ◌<◌, ◌^◌, [], false, length, All};
-ghost use Rattle.word_core.specs.Serials.{HasSerialsFrom};
+ghost use Rattle.frame_core.specs.Serials.{HasSerialsFrom};
 
 use super::{is_page, isolated};
+use frame_core::Isolated;
 use hand_core::{Batch, Giver, Taker, Takers, Took, open, open_in_batches, settle};
 use std::alloc::Global;
 use std::process::Abort;
 use std::sync::Wait;
 use std::sync::atomic::{AtomicU32, Ordering};
 use std::thread::{Threads, join, map_vec};
-use word_core::Isolated;
 
 const BASE: u32 = 5;
 

@@ -1,12 +1,11 @@
 ghost use Rattle.std.specs.Prelude.{◌≡◌, [], false, IfSome};
 ghost use Rattle.hand_core.specs.CopyEnds.{has_ended};
 
-use frame_core::{PageNo, Serial, WordNo, ZoneNo};
+use frame_core::{Isolated, Page, PageNo, Serial, WordNo, ZoneNo};
 use hand_core::{Came, DoneTaker, Giver, Took, done_open, open};
 use round_core::{NoGate, carry};
 use std::process::Abort;
 use std::sync::Wait;
-use word_core::{Isolated, Page};
 
 // The page of this number, whose last word is the number plus 7.
 fn isolated(serial: Serial, number: u32) -> Option<Isolated>

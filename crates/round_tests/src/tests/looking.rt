@@ -1,7 +1,7 @@
 use super::gates::linger;
 use super::opening::{Opening, counts_of, round_of};
 use super::{Run, runs};
-use journal_core::Record;
+use frame_core::Record;
 use round_core::{Gate, Keeping, Open, Point, SharedZone, ZoneIdentity};
 use std::process::Abort;
 use std::sync::Wait;

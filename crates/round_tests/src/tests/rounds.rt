@@ -1,12 +1,12 @@
 use super::calls::{Answer, Call, made};
 use super::opening::{Opening, counts_of, round_of};
 use super::{Run, runs};
+use frame_core::Isolated;
 use round_core::{NoGate, Round, RoundError, Stop, ZoneIdentity};
 use std::process::Abort;
 use std::sync::Wait;
 use std::sync::ledger::Ledger;
 use std::thread::Threads;
-use word_core::Isolated;
 use zone_core::{Next, ZoneError};
 
 /// The lists rise, and together they are the round's serials.

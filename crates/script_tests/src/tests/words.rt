@@ -2,8 +2,7 @@
 
 use super::cases::FIRST_PAGE;
 use super::{played, words_of};
-use options_core::given_options;
-use script_core::Options;
+use script_core::{Options, given_options};
 use std::test::Fail;
 
 #[test]

@@ -2,7 +2,7 @@
 
 ghost use Rattle.std.specs.Prelude.{◌≡◌, ◌↔◌, true, false, length, nat_lt, Some, None, if◌then◌else◌, IsOk, IfOk, IfErr, OnOk, OnErr};
 ghost use Rattle.std.specs.Result.{result_err};
-ghost use Rattle.journal_core.specs.Moves.{out};
+ghost use Rattle.frame_core.specs.Moves.{out};
 ghost use Rattle.state_core.specs.Ending.{is_own, IsOwnCopy, Ends, ended_as, committed, put_back_to_source};
 ghost use Rattle.state_core.specs.Isolating.{isolate_refusal, next_answer, next_state, Scans};
 ghost use Rattle.state_core.specs.Lawful.{IsValidZone};
@@ -15,9 +15,8 @@ ghost use Rattle.zone_core.specs.Seats.{IsFollowed};
 ghost use Rattle.zone_core.specs.ZoneIdentity.{HasIdentity};
 
 use crate::bare::BareZone;
-use journal_core::Cause;
+use frame_core::{Cause, CopiedOf, IsolatedOf};
 use state_core::{Audit, Ended, Next, Stranger, ZoneError};
-use word_core::{CopiedOf, IsolatedOf};
 
 impl<const W: usize> BareZone<W> {
     /// Begins a round: the migrate finger is set to the bottom of the zone, and the free finger above its top. A round may begin

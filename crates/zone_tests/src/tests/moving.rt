@@ -2,10 +2,9 @@
 
 use super::opened::{Opened, Trial, page, tries};
 use super::{client, word};
-use frame_core::{PageNo, ZoneNo};
+use frame_core::{Isolated, Page, PageNo, ZoneNo};
 use std::process::Abort;
 use std::sync::ledger::Ledger;
-use word_core::{Isolated, Page};
 use zone_core::{Audit, EndSeat, Ended, Info, Look, Stranger, ZoneError};
 
 const WORDS: [u64; 8] = [0, u64::MAX, 1, 2, 3, 5, 8, 13];

@@ -5,11 +5,10 @@ ghost use Rattle.zone_core.specs.Books.{AreFor};
 
 use super::{address, client};
 use bitflags::Flags;
-use frame_core::{Address, PageFlags, WordOf, ZoneNo};
+use frame_core::{Address, IsolatedOf, PageFlags, WordOf, ZoneNo};
 use std::marker::Brand;
 use std::process::Abort;
 use std::sync::ledger::Ledger;
-use word_core::IsolatedOf;
 use zone_core::{Blanks, EndSeat, Next, ScanSeat, ZoneError, ZoneOf};
 
 /// Zone 3, of one pageblock with pages of so many words, its seats, and a page in frame 0.

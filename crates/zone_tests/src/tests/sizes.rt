@@ -7,10 +7,10 @@ use super::opened::{Opened, page};
 use super::{client, hand};
 use bitflags::Flags;
 use frame_core::{PageFlags, WordOf, ZoneNo};
+use machine_core::{Finished, Scanned, WorldOf};
 use std::marker::Brand;
 use std::process::Abort;
 use std::sync::ledger::Ledger;
-use world_core::{Finished, Scanned, WorldOf};
 use zone_core::{Blanks, Ended, ZoneError};
 
 impl<const W: usize, I: Ledger, N: Ledger, M: Ledger, B: Ledger> Opened<W, I, N, M, B> {

@@ -1,7 +1,7 @@
 //! Calls of a world with plain numbers, and their answers, for tables of tests.
 
 use frame_core::{BlockNo, FrameNo, Serial};
-use world_core::WorldError;
+use machine_core::WorldError;
 use zone_core::{Look, ZoneError};
 
 /// An address: a space and a virtual page.

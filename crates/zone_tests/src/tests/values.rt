@@ -4,12 +4,11 @@ ghost use Rattle.zone_core.specs.Books.{AreFor};
 
 use super::steps::{Answer, Name, Step};
 use super::{address, block, client, frame, order, word};
-use frame_core::ZoneNo;
-use journal_core::Record;
+use frame_core::{Record, ZoneNo};
+use machine_core::World;
 use std::marker::Brand;
 use std::process::Abort;
 use std::sync::ledger::Ledger;
-use world_core::World;
 use zone_core::{Blanks, ZoneAnswer, ZoneCall, ZoneError};
 
 /// Calls of a zone of one pageblock that was just opened, each with its answer. They are made by the methods of their names too, as a

@@ -4,10 +4,10 @@ use super::steps::{Answer, Name, Step, blocked, done, framed, looked, refused, v
 use super::{address, block, client, frame, hand, order, word};
 use bitflags::Flags;
 use frame_core::{PageFlags, ZoneNo};
+use machine_core::{Scanned, World};
 use std::marker::Brand;
 use std::process::Abort;
 use std::sync::ledger::Ledger;
-use world_core::{Scanned, World};
 use zone_core::{Blanks, Ended, Zone};
 
 /// World 3, which was just opened.

@@ -1,6 +1,6 @@
 use Rattle.std.proofs.Common.{◌≡◌, ap, ◌∙◌, sym, subst, rules}
 use Rattle.std.specs.Prelude.{IsTrue}
-use Rattle.halves_core.specs.Told.{pair_of}
+use Rattle.hand_core.specs.Told.{pair_of}
 use Rattle.state_core.specs.declared.call.ZoneAnswer.{ZoneAnswer}
 use Rattle.state_core.specs.declared.call.ZoneCall.{ZoneCall}
 use Rattle.state_core.specs.Calls.{after, answer_of, answers, is_of_client, record_of}

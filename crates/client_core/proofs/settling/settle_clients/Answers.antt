@@ -4,7 +4,7 @@ use Rattle.std.specs.Prelude.{All, Some, slice_get}
 use Rattle.std.specs.List.{filter}
 use Rattle.std.proofs.lemmas.List.{take_all}
 use Rattle.std.proofs.lemmas.List.Elements.{All-more}
-use Rattle.journal_core.specs.declared.record.Record.{Record}
+use Rattle.frame_core.specs.declared.record.Record.{Record}
 use Rattle.round_core.specs.Calls.{is_of}
 use Rattle.client_core.specs.Receipts.{Agrees, records_of}
 use Rattle.client_core.specs.Settling.{HasKeptJournal, IsFirstDifference}

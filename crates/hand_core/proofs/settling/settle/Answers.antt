@@ -2,9 +2,9 @@ use Rattle.std.proofs.Common.{rules, ◌≡◌, length, ap, sym, ◌∙◌, subs
 use Rattle.std.specs.List.{range_with_len}
 use Rattle.std.specs.List.Sorted.{IsPermutation}
 use Rattle.std.proofs.lemmas.List.Sorted.{IsPermutation-map}
-use Rattle.word_core.specs.Page.{IsolatedPage}
+use Rattle.frame_core.specs.Page.{IsolatedPage}
 use Rattle.hand_core.specs.PageEnds.{Giver, taken_by}
-use Rattle.word_core.specs.Serials.{serials_of, HasSerialsFrom}
+use Rattle.frame_core.specs.Serials.{serials_of, HasSerialsFrom}
 use Rattle.hand_core.proofs.settling.settle.Goals as goal
 
 pub returns-clause-serials : goal.returns-clause-serials

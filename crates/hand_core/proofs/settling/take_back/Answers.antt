@@ -5,7 +5,7 @@ use Rattle.crossbeam_channel.specs.Claims.{view}
 use Rattle.hand_core.specs.declared.page_queue.Known.{Known}
 use Rattle.hand_core.specs.PageEnds.{Giver, Taker, off, taken_by}
 use Rattle.hand_core.specs.Batches.{before_hand}
-use Rattle.word_core.specs.Serials.{IsRising}
+use Rattle.frame_core.specs.Serials.{IsRising}
 use Rattle.std.proofs.lemmas.List.Elements.{All-cons, All-pop}
 use Rattle.hand_core.proofs.HandedOver.{all_have_ended, handed_over}
 use Rattle.hand_core.proofs.Hands.{all_answered}

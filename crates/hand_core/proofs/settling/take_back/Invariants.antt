@@ -4,7 +4,7 @@ use Rattle.crossbeam_channel.specs.Claims.{view, IsSeatAt}
 use Rattle.crossbeam_channel.specs.Ends.{sends_on}
 use Rattle.hand_core.specs.PageEnds.{Taker, off, taken_by}
 use Rattle.hand_core.specs.Queue.{name_of}
-use Rattle.word_core.specs.Serials.{IsRising}
+use Rattle.frame_core.specs.Serials.{IsRising}
 use Rattle.hand_core.proofs.settling.take_back.Given as goal
 
 -- the takers that the loop has passed, whose lists the giver knows now

@@ -1,6 +1,6 @@
 use Rattle.std.proofs.Common.{◌<◌, ◌≤◌, ◌-◌, All}
 use Rattle.arrayvec.specs.ArrayVec.{array_vec_len}
-use Rattle.outcome_core.specs.Alone.{IsAtRest}
+use Rattle.zone_core.specs.Alone.{IsAtRest}
 use Rattle.state_core.specs.Lawful.{IsValidZone}
 use Rattle.zone_core.specs.ZoneIdentity.{HasIdentity}
 use Rattle.huge_core.specs.ByHand.{HasFilled}

@@ -1,7 +1,7 @@
 use Rattle.std.proofs.Common.{◌≡◌, ◌∙◌, ◌+◌, ◌-◌, ◌++◌, ◌∷◌, [], ℕ, List, suc, sym, ap, arith}
 use Rattle.std.specs.Result.{result_err}
 use Rattle.arrayvec.specs.ArrayVec.{array_vec_len}
-use Rattle.world_core.specs.World.{WorldState, with_zone}
+use Rattle.machine_core.specs.World.{WorldState, with_zone}
 use Rattle.state_core.specs.HandingOut.{block_taken, lowest_run, take_order_refusal}
 use Rattle.text_core.specs.Pool.{told_as}
 use Rattle.machine_core.specs.Machine.{pool_from, pooled, says, stopped_by}

@@ -1,10 +1,10 @@
 use Rattle.std.proofs.Common.{◌≡◌, ◌+◌, ◌≤◌, ◌↔◌, sym, subst, ◌∙◌, ap, IsOk, IfOk}
-use Rattle.journal_core.specs.Moves.{isolated}
+use Rattle.frame_core.specs.Moves.{isolated}
 use Rattle.state_core.specs.Lawful.{IsValidZone}
 use Rattle.state_core.specs.ZoneState.{ZoneState}
 use Rattle.zone_core.specs.Seats.{ScanSeat, EndSeat, IsAudited}
 use Rattle.round_core.specs.Rounds.{IsBroken}
-use Rattle.outcome_core.specs.Outcome.{IsSame}
+use Rattle.zone_core.specs.Outcome.{IsSame}
 use Rattle.round_core.proofs.ByHand.{IsByHand, result_by_hand, same_unbegun, if_same, if_counted, if_none_back, if_stopped, if_packed, known_on}
 use Rattle.round_core.proofs.alone.compact_alone.Goals as goal
 use Rattle.round_core.proofs.alone.compact_alone.Given.{Over}

@@ -1,7 +1,7 @@
 use Rattle.std.proofs.Common.{◌≡◌, refl, None}
-use Rattle.journal_core.specs.Moves.{isolated}
-use Rattle.outcome_core.specs.Alone.{IsAtRest, KeepsAlone, KeepsScanning}
-use Rattle.outcome_core.proofs.Alone.{alone_begins, alone_lets_go, alone_scans, alone_unpinned, alone_commits, alone_puts_back}
+use Rattle.frame_core.specs.Moves.{isolated}
+use Rattle.zone_core.specs.Alone.{IsAtRest, KeepsAlone, KeepsScanning}
+use Rattle.zone_core.proofs.Alone.{alone_begins, alone_lets_go, alone_scans, alone_unpinned, alone_commits, alone_puts_back}
 use Rattle.round_core.specs.Alone.{StopsAlone}
 use Rattle.round_core.proofs.ByHand.{goes_on_alone, stops_alone}
 use Rattle.round_core.proofs.alone.compact_alone.Given as goal

@@ -1,8 +1,8 @@
 use Rattle.std.proofs.Common.{rules, ◌≡◌, ◌+◌, ◌∷◌, [], length, refl, sym, ap, subst, ◌∙◌, arith, length-append}
 use Rattle.std.specs.Prelude.{Option, None, Some}
-use Rattle.word_core.specs.Page.{IsolatedPage}
-use Rattle.word_core.specs.Serials.{HasSerialsFrom}
-use Rattle.journal_core.specs.Moves.{isolated}
+use Rattle.frame_core.specs.Page.{IsolatedPage}
+use Rattle.frame_core.specs.Serials.{HasSerialsFrom}
+use Rattle.frame_core.specs.Moves.{isolated}
 use Rattle.state_core.specs.declared.moves.Next.TheVariants.{Page}
 use Rattle.state_core.specs.declared.round.Pair.{Pair}
 use Rattle.state_core.specs.Isolating.{next_answer, next_state}
@@ -12,7 +12,7 @@ use Rattle.zone_core.specs.Seats.{ScanSeat, seat_noted}
 use Rattle.hand_core.proofs.Serials.{serials-snoc}
 use Rattle.round_core.specs.Rounds.{stop_for}
 use Rattle.round_core.specs.declared.round.Stop.TheVariants as Stopped
-use Rattle.outcome_core.proofs.Steps.{stepped, met_none, met_stops}
+use Rattle.zone_core.proofs.Steps.{stepped, met_none, met_stops}
 use Rattle.round_core.proofs.NoReceipt.{scan_tells_none}
 use Rattle.round_core.proofs.burst.isolate_burst.Goals as goal
 

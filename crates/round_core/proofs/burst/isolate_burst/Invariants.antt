@@ -1,8 +1,8 @@
 use Rattle.std.proofs.Common.{◌≡◌, ◌+◌, ◌-◌, length}
 use Rattle.std.specs.VecDeque.{deque_capacity}
-use Rattle.journal_core.specs.Moves.{isolated}
+use Rattle.frame_core.specs.Moves.{isolated}
 use Rattle.state_core.specs.Lawful.{IsValidZone}
-use Rattle.word_core.specs.Serials.{HasSerialsFrom}
+use Rattle.frame_core.specs.Serials.{HasSerialsFrom}
 use Rattle.zone_core.specs.ZoneIdentity.{HasIdentity}
 use Rattle.round_core.proofs.burst.isolate_burst.Given as goal
 

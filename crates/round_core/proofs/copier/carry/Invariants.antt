@@ -1,5 +1,5 @@
 use Rattle.std.proofs.Common.{◌≡◌, ◌++◌, ◌<◌, false, [], length}
-use Rattle.word_core.specs.Serials.{serials_of}
+use Rattle.frame_core.specs.Serials.{serials_of}
 use Rattle.round_core.proofs.copier.carry.Given as goal
 
 -- the list has the serials of the pages taken so far, and their copies were sent, except for those kept while more pages are in hand

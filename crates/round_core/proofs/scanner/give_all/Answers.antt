@@ -1,5 +1,5 @@
 use Rattle.std.proofs.Common.{◌≡◌, ◌+◌, ◌++◌, length, ap, sym, ◌∙◌, subst, append_assoc, length-append, arith, None}
-use Rattle.word_core.specs.Serials.{HasSerialsFrom}
+use Rattle.frame_core.specs.Serials.{HasSerialsFrom}
 use Rattle.zone_core.specs.Seats.{EndSeat}
 use Rattle.hand_core.specs.PageEnds.{Giver}
 use Rattle.hand_core.proofs.Serials.{serials_front, serials_behind}

@@ -1,6 +1,6 @@
 use Rattle.std.proofs.Common.{◌≡◌, ◌+◌, ◌++◌, length}
 use Rattle.std.specs.VecDeque.{deque_capacity}
-use Rattle.word_core.specs.Serials.{HasSerialsFrom}
+use Rattle.frame_core.specs.Serials.{HasSerialsFrom}
 use Rattle.round_core.proofs.scanner.give_all.Given as goal
 
 -- what was given and what is left are the pages that there were

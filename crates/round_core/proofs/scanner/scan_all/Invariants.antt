@@ -1,6 +1,6 @@
 use Rattle.std.proofs.Common.{◌≡◌, ◌+◌, ◌<◌, ◌≤◌, length, false, Some, IfSome, IfNone}
 use Rattle.std.specs.VecDeque.{deque_capacity}
-use Rattle.word_core.specs.Serials.{HasSerialsFrom}
+use Rattle.frame_core.specs.Serials.{HasSerialsFrom}
 use Rattle.round_core.specs.Rounds.{answer_at}
 use Rattle.round_core.specs.Scanning.{HasBegun}
 use Rattle.round_core.proofs.scanner.scan_all.Given as goal

@@ -1,7 +1,7 @@
 use Rattle.std.proofs.Common.{◌≡◌, Some, refl, sym, ap, ◌∙◌}
 use Rattle.client_core.specs.Receipts.{Client}
 use Rattle.client_core.proofs.Since.{told_if, told_newer_first}
-use Rattle.halves_core.specs.Told.{Told}
+use Rattle.hand_core.specs.Told.{Told}
 use Rattle.round_core.proofs.Beside.{added_none}
 use Rattle.script_core.proofs.beside.compact_beside.Goals as goal
 

@@ -4,7 +4,7 @@ use Rattle.state_core.specs.declared.call.ZoneCall.{ZoneCall}
 use Rattle.text_core.specs.declared.reply.Reply.{Reply}
 use Rattle.std.specs.Prelude.{Option}
 use Rattle.script_core.specs.Clients.{AreClientAnswers, IsClientReply}
-use Rattle.play_core.specs.Script.{Answer, ClientLine}
+use Rattle.text_core.specs.Script.{Answer, ClientLine}
 use Rattle.script_core.proofs.ClientAnswers.{client_answers_more, still_allowed}
 use Rattle.script_core.proofs.beside.play_lines.Goals as goal
 

@@ -1,5 +1,5 @@
 use Rattle.script_core.specs.WithThreads.{AsksMemory, IsThreadedStep, threaded_at_first}
-use Rattle.play_core.proofs.Carried.{ends_carried, totals_carried}
+use Rattle.text_core.proofs.Carried.{ends_carried, totals_carried}
 use Rattle.script_core.proofs.on_threads.run_threaded.Goals as goal
 
 pub returns-clause-total : goal.returns-clause-total

@@ -2,7 +2,7 @@ use Rattle.std.proofs.Common.{◌∙◌, ℕ, inl, subst, sym, None}
 use Rattle.std.specs.Prelude.{IfSome}
 use Rattle.std.proofs.lemmas.Result.{IfOk-weaker}
 use Rattle.clap.specs.Words.{kind_of}
-use Rattle.play_core.specs.Runs.{IsAnswered}
+use Rattle.text_core.specs.Runs.{IsAnswered}
 use Rattle.script_core.specs.ByHand.{IsAloneScript, IsByHandStep, To}
 use Rattle.script_core.proofs.Endings.{helped, no_help, one_lacks_memory, refused, two_is_no_help, two_refuses}
 use Rattle.script_core.proofs.process.program.Goals as goal

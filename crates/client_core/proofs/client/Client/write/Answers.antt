@@ -1,5 +1,5 @@
 use Rattle.std.proofs.Common.{◌≡◌, ℕ, length, subst, rules}
-use Rattle.journal_core.specs.declared.record.Record.TheVariants.{Store}
+use Rattle.frame_core.specs.declared.record.Record.TheVariants.{Store}
 use Rattle.state_core.specs.Bulk.{bulk_refusal, stored_all}
 use Rattle.client_core.specs.Bulk.{records_each}
 use Rattle.client_core.specs.Calls.{IsAccepted, leaving}

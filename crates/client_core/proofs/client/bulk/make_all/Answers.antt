@@ -1,6 +1,6 @@
 use Rattle.std.proofs.Common.{rules}
-use Rattle.journal_core.specs.Access.{access_record}
-use Rattle.halves_core.specs.Told.{pair_of}
+use Rattle.frame_core.specs.Access.{access_record}
+use Rattle.hand_core.specs.Told.{pair_of}
 use Rattle.client_core.specs.Bulk.{records_each}
 use Rattle.client_core.proofs.ManyCalls.{kept_by}
 use Rattle.client_core.proofs.client.bulk.make_all.Goals as goal

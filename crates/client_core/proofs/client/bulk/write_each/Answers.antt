@@ -1,5 +1,5 @@
 use Rattle.std.proofs.Common.{rules}
-use Rattle.journal_core.specs.Access.{access_record}
+use Rattle.frame_core.specs.Access.{access_record}
 use Rattle.client_core.specs.Bulk.{records_each}
 use Rattle.client_core.proofs.ManyCalls.{none_written, no_slip_written}
 use Rattle.client_core.proofs.client.bulk.write_each.Goals as goal

@@ -1,6 +1,6 @@
 use Rattle.std.proofs.Common.{◌≡◌, ◌+◌, drop}
-use Rattle.halves_core.specs.Told.{pair_of}
-use Rattle.journal_core.specs.Access.{access_record}
+use Rattle.hand_core.specs.Told.{pair_of}
+use Rattle.frame_core.specs.Access.{access_record}
 use Rattle.client_core.specs.Bulk.{records_each, written_all}
 use Rattle.client_core.proofs.client.bulk.write_each.Given as goal
 

@@ -1,5 +1,5 @@
 use Rattle.std.proofs.Common.{◌≡◌, ◌+◌, ◌++◌, drop, reverse}
-use Rattle.journal_core.specs.Access.{access_record}
+use Rattle.frame_core.specs.Access.{access_record}
 use Rattle.client_core.specs.Bulk.{records_each}
 use Rattle.client_core.proofs.receipts.ToldRecordReceipts.add_each.Given as goal
 

@@ -1,6 +1,6 @@
 use Rattle.std.proofs.Common.{◌≡◌, ◌+◌, ◌≤◌, ◌++◌, length, drop}
 use Rattle.std.specs.Prelude.{vec_len, vec_capacity}
-use Rattle.journal_core.specs.Access.{access_record}
+use Rattle.frame_core.specs.Access.{access_record}
 use Rattle.client_core.specs.Bulk.{records_each}
 use Rattle.client_core.proofs.receipts.VecRecordReceipts.add_each.Given as goal
 

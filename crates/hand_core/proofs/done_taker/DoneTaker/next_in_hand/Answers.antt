@@ -1,7 +1,7 @@
 use Rattle.std.proofs.Common.{◌≡◌, ◌∷◌, ◌++◌, [], List, IfSome, subst}
 use Rattle.std.specs.Option.{option_to_list}
 use Rattle.crossbeam_channel.specs.Claims.{view}
-use Rattle.word_core.specs.Page.{IsolatedPage}
+use Rattle.frame_core.specs.Page.{IsolatedPage}
 use Rattle.hand_core.specs.CopyEnds.{DoneTaker, copies_in, copies_taken}
 use Rattle.hand_core.specs.Batches.{before_hand}
 use Rattle.hand_core.proofs.Hands.{hand_step, next_taken}

@@ -3,7 +3,7 @@ use Rattle.std.proofs.Math.Nat.{max-le}
 use Rattle.crossbeam_channel.specs.Claims.{view}
 use Rattle.hand_core.specs.declared.page_queue.Known.{Known}
 use Rattle.hand_core.specs.PageEnds.{Giver}
-use Rattle.word_core.specs.Serials.{HasSerialsFrom}
+use Rattle.frame_core.specs.Serials.{HasSerialsFrom}
 use Rattle.hand_core.proofs.Serials.{serials-append}
 use Rattle.hand_core.proofs.Hands.{fits}
 use Rattle.hand_core.proofs.PageSteps.{pages_in}

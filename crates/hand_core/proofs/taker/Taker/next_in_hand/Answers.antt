@@ -1,8 +1,8 @@
 use Rattle.std.proofs.Common.{◌≡◌, ◌++◌, ◌∷◌, [], Bool, List, None, Some, Option, MatchOption, IfSome, ap, sym, ◌∙◌, subst}
 use Rattle.std.specs.Option.{option_to_list}
 use Rattle.crossbeam_channel.specs.Claims.{view}
-use Rattle.word_core.specs.Page.{IsolatedPage}
-use Rattle.word_core.specs.Serials.{IsRising}
+use Rattle.frame_core.specs.Page.{IsolatedPage}
+use Rattle.frame_core.specs.Serials.{IsRising}
 use Rattle.hand_core.specs.Batches.{before_hand}
 use Rattle.hand_core.specs.PageEnds.{Taker, HandOver, off}
 use Rattle.hand_core.proofs.Hands.{hand_whole, hand_step, empty_step, next_taken}

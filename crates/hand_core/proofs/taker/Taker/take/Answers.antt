@@ -1,5 +1,5 @@
 use Rattle.std.proofs.Common.{◌≡◌, ◌≢◌, ◌∷◌, [], true, List, ap, sym, refl, ◌∙◌}
-use Rattle.word_core.specs.Page.{IsolatedPage}
+use Rattle.frame_core.specs.Page.{IsolatedPage}
 use Rattle.hand_core.specs.PageEnds.{Taker}
 use Rattle.hand_core.proofs.taker.Taker.take.Goals as goal
 

@@ -1,7 +1,7 @@
 use Rattle.std.proofs.Common.{ap, sym, ◌∙◌}
 use Rattle.std.proofs.lemmas.Result.{IfOk-weaker}
 use Rattle.text_core.specs.Grammar.{zone_of}
-use Rattle.play_core.specs.Script.{command_in_block}
+use Rattle.text_core.specs.Script.{command_in_block}
 use Rattle.machine_core.specs.OneThread.{OneThread}
 use Rattle.script_core.specs.WithThreads.{WithThreads}
 use Rattle.script_core.proofs.Rounds.{block_for, block_step}

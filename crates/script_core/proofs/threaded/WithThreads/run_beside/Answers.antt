@@ -1,6 +1,6 @@
 use Rattle.std.proofs.Common.{rules, refl, ap, inl, inr, arith, ◌∙◌}
 use Rattle.std.proofs.lemmas.Option.{MatchOption-at_none}
-use Rattle.play_core.specs.Script.{command_in_block}
+use Rattle.text_core.specs.Script.{command_in_block}
 use Rattle.script_core.specs.WithThreads.{WithThreads}
 use Rattle.script_core.proofs.ClientAnswers.{length-client_answers}
 use Rattle.script_core.proofs.Rounds.{turn_of}

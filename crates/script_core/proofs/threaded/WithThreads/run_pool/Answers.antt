@@ -2,7 +2,7 @@ use Rattle.std.proofs.Common.{◌≡◌, ◌∙◌, ℕ, length, subst, arith}
 use Rattle.std.specs.Prelude.{◌↔◌}
 use Rattle.huge_core.specs.ByHand.{IsReservedByHand}
 use Rattle.huge_core.specs.declared.report.Stop.TheVariants as stop
-use Rattle.outcome_core.specs.Alone.{IsAtRest}
+use Rattle.zone_core.specs.Alone.{IsAtRest}
 use Rattle.script_core.proofs.Pools.{pool_done}
 use Rattle.script_core.proofs.threaded.WithThreads.run_pool.Goals as goal
 

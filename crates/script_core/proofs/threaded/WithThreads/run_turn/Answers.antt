@@ -3,7 +3,7 @@ use Rattle.std.proofs.lemmas.Option.{MatchOption-at_none, MatchOption-at_some}
 use Rattle.client_core.specs.Receipts.{IsToldBeside}
 use Rattle.state_core.specs.ZoneState.{ZoneState}
 use Rattle.zone_core.specs.Seats.{audit_refusal}
-use Rattle.play_core.specs.Script.{Answer}
+use Rattle.text_core.specs.Script.{Answer}
 use Rattle.script_core.specs.Clients.{AreClientAnswers}
 use Rattle.script_core.specs.WithThreads.{WithThreads, left_by}
 use Rattle.script_core.proofs.Rounds.{nothing_ran, round_over}

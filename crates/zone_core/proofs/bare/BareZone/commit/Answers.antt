@@ -1,8 +1,8 @@
 use Rattle.std.proofs.Common.{rules, ◌∙◌, ap, subst, sym}
 use Rattle.std.specs.FinMap as map
-use Rattle.journal_core.specs.declared.record.Cause.TheVariants.{Pinned}
-use Rattle.journal_core.specs.declared.record.Record.TheVariants.{Moved, Back}
-use Rattle.word_core.specs.Page.{Page}
+use Rattle.frame_core.specs.declared.record.Cause.TheVariants.{Pinned}
+use Rattle.frame_core.specs.declared.record.Record.TheVariants.{Moved, Back}
+use Rattle.frame_core.specs.Page.{Page}
 use Rattle.state_core.specs.Ending.{is_own, source_of, target_of, moved_to_target}
 use Rattle.state_core.specs.Pairs.{HaveMet}
 use Rattle.state_core.specs.ZoneState.{ZoneState, is_quiet}

@@ -1,5 +1,5 @@
 use Rattle.std.proofs.Common.{rules, ◌≡◌, ◌∙◌, ap, length, subst, sym, arith}
-use Rattle.journal_core.specs.Moves.{out}
+use Rattle.frame_core.specs.Moves.{out}
 use Rattle.state_core.specs.declared.information.Info.{Info}
 use Rattle.state_core.specs.Lawful.{IsValidZone}
 use Rattle.state_core.specs.Looking.{info_of}

@@ -1,8 +1,8 @@
 use Rattle.std.proofs.Common.{◌∙◌, ℕ, ap, subst, sym, arith}
 use Rattle.std.specs.Prelude.{Some}
 use Rattle.std.specs.FinMap as map
-use Rattle.journal_core.specs.History.{page_at}
-use Rattle.word_core.specs.Page.{IsolatedPage}
+use Rattle.frame_core.specs.History.{page_at}
+use Rattle.frame_core.specs.Page.{IsolatedPage}
 use Rattle.state_core.specs.declared.placement.Placement.TheVariants.{Moving}
 use Rattle.state_core.specs.Isolating.{isolated_next}
 use Rattle.state_core.specs.Lawful.{IsValidZone}

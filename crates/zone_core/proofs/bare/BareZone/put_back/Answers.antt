@@ -1,8 +1,8 @@
 use Rattle.std.proofs.Common.{rules, ◌∙◌, ap, sym}
 use Rattle.std.specs.FinMap as map
-use Rattle.journal_core.specs.declared.record.Cause.TheVariants.{NotCopied}
-use Rattle.journal_core.specs.declared.record.Record.TheVariants.{Back}
-use Rattle.word_core.specs.Page.{Page}
+use Rattle.frame_core.specs.declared.record.Cause.TheVariants.{NotCopied}
+use Rattle.frame_core.specs.declared.record.Record.TheVariants.{Back}
+use Rattle.frame_core.specs.Page.{Page}
 use Rattle.state_core.specs.Ending.{is_own, source_of}
 use Rattle.state_core.specs.ZoneState.{ZoneState}
 use Rattle.zone_core.proofs.Seated.{ended_once, ended_in}

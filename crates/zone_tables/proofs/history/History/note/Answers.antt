@@ -1,6 +1,6 @@
 use Rattle.std.proofs.Common.{◌∙◌, length, List, sym, ap, arith}
 use Rattle.std.specs.Prelude.{◌&&◌}
-use Rattle.journal_core.specs.declared.record.Record.{Record}
+use Rattle.frame_core.specs.declared.record.Record.{Record}
 use Rattle.state_core.specs.ZoneState.{keeps_quiet, is_quiet_since}
 use Rattle.state_core.proofs.Quiet.{quiet_next}
 use Rattle.zone_tables.proofs.history.History.note.Goals as goal

@@ -1,6 +1,6 @@
 use Rattle.std.proofs.Common.{◌≡◌, ◌-◌, ◌≤◌, List, length, ap, sym, subst, ◌∙◌, arith}
-use Rattle.journal_core.specs.declared.record.Record.{Record}
-use Rattle.journal_core.specs.Access.{access_record}
+use Rattle.frame_core.specs.declared.record.Record.{Record}
+use Rattle.frame_core.specs.Access.{access_record}
 use Rattle.state_core.specs.ZoneState.{is_quiet_since}
 use Rattle.zone_tables.specs.History.{History, told_each}
 use Rattle.zone_tables.proofs.NotedEach.{each_is, each_quiet, each_begun}

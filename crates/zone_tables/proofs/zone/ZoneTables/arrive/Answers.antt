@@ -3,7 +3,7 @@ use Rattle.std.specs.Prelude.{Some, is_some, length, nat_eq, slice_set, false}
 use Rattle.std.specs.FinMap as map
 use Rattle.std.proofs.lemmas.Bool.{eq-eqb, or_right}
 use Rattle.frame_core.specs.declared.state.FrameState.TheVariants.{Free, Holds}
-use Rattle.journal_core.specs.declared.record.Record.TheVariants.{Moved}
+use Rattle.frame_core.specs.declared.record.Record.TheVariants.{Moved}
 use Rattle.scan_core.specs.Frames.{Frames}
 use Rattle.state_core.specs.Pairs.{can_move}
 use Rattle.zone_tables.proofs.Tables.{placement_seen, words_seen, note_seen, movable_seen}

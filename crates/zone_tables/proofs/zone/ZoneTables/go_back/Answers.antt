@@ -1,7 +1,7 @@
 use Rattle.std.proofs.Common.{◌≡◌, ◌∙◌, ◌+◌, ◌∷◌, ℕ, refl, ap, subst, sym, arith}
 use Rattle.std.specs.Prelude.{Some, is_some, slice_set}
 use Rattle.frame_core.specs.declared.state.FrameState.TheVariants.{Free, Holds}
-use Rattle.journal_core.specs.declared.record.Record.TheVariants.{Back}
+use Rattle.frame_core.specs.declared.record.Record.TheVariants.{Back}
 use Rattle.scan_core.specs.Frames.{Frames}
 use Rattle.state_core.specs.Pairs.{can_move}
 use Rattle.zone_tables.proofs.Tables.{placement_seen, note_seen, movable_seen}

@@ -2,7 +2,7 @@ use Rattle.std.proofs.Common.{◌≡◌, ◌∙◌, subst, sym, arith}
 use Rattle.state_core.specs.declared.placement.Placement.TheVariants.{Moving}
 use Rattle.state_core.specs.Carrying.{words_now}
 use Rattle.zone_tables.specs.Sound.{IsSound}
-use Rattle.word_core.specs.Words.{words_of}
+use Rattle.frame_core.specs.Words.{words_of}
 use Rattle.state_core.proofs.Facts.{frame_within}
 use Rattle.zone_tables.proofs.Tables.{words_seen}
 use Rattle.zone_tables.proofs.zone.ZoneTables.has_words.Goals as goal

@@ -2,7 +2,7 @@ use Rattle.std.proofs.Common.{◌∙◌, inl, inr, not, length, ap, subst, sym}
 use Rattle.std.specs.Prelude.{nat_eq, ◌&&◌}
 use Rattle.std.proofs.lemmas.Bool.Decides.{eqb_tells}
 use Rattle.frame_core.specs.Below.{some_below}
-use Rattle.journal_core.specs.Moves.{out as out_now}
+use Rattle.frame_core.specs.Moves.{out as out_now}
 use Rattle.state_core.specs.Pairs.{is_stuck}
 use Rattle.state_core.specs.ZoneState.{frame_count}
 use Rattle.zone_tables.specs.Sound.{IsSound}

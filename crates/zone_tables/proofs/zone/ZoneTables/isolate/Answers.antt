@@ -2,8 +2,8 @@ use Rattle.std.proofs.Common.{get_or, ◌≡◌, ◌∙◌, ◌+◌, ◌∷◌, 
 use Rattle.std.specs.Prelude.{Some, false, is_some, slice_get, slice_set, unwrap_or}
 use Rattle.std.proofs.lemmas.Option.{slice_get-get_or}
 use Rattle.frame_core.specs.declared.state.FrameState.TheVariants.{Source, Target}
-use Rattle.journal_core.specs.declared.record.Record.TheVariants.{Isolate}
-use Rattle.journal_core.specs.Moves.{isolated}
+use Rattle.frame_core.specs.declared.record.Record.TheVariants.{Isolate}
+use Rattle.frame_core.specs.Moves.{isolated}
 use Rattle.table_core.specs.declared.entry.Entry.TheVariants.{Present, Migration}
 use Rattle.table_core.specs.Tables.{Replaces}
 use Rattle.zone_tables.specs.declared.zone.ZoneTables.TheInside.{Inside}

@@ -1,5 +1,5 @@
 use Rattle.std.proofs.Common.{◌≡◌, ◌∙◌, ap, subst, sym, arith}
-use Rattle.journal_core.specs.declared.record.Record.TheVariants.{Load}
+use Rattle.frame_core.specs.declared.record.Record.TheVariants.{Load}
 use Rattle.state_core.specs.declared.placement.Placement.TheVariants.{At}
 use Rattle.zone_tables.specs.History.{told}
 use Rattle.state_core.specs.ZoneState.{ZoneState}

@@ -1,6 +1,6 @@
 use Rattle.std.proofs.Common.{◌≡◌, ℕ, ◌+◌, ◌-◌, List, length, take, drop, sym, ap, subst, ◌∙◌, arith}
 use Rattle.state_core.specs.ZoneState.{ZoneState}
-use Rattle.word_core.specs.Words.{block_words}
+use Rattle.frame_core.specs.Words.{block_words}
 use Rattle.zone_tables.specs.Sound.{IsSound}
 use Rattle.zone_tables.proofs.BlockFrames.{order_held}
 use Rattle.zone_tables.proofs.BlockWords.{rows_sized, words_read, read_view, read_sound}

@@ -1,5 +1,5 @@
 use Rattle.std.proofs.Common.{◌≡◌, ℕ, length, leb-true, ap, subst, sym, ◌∙◌, arith}
-use Rattle.word_core.specs.Words.{words_from}
+use Rattle.frame_core.specs.Words.{words_from}
 use Rattle.state_core.specs.Bulk.{values_at, loaded_all}
 use Rattle.state_core.specs.ZoneState.{ZoneState}
 use Rattle.zone_tables.specs.History.{History, told_loads}

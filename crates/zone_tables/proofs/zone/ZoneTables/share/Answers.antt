@@ -1,7 +1,7 @@
 use Rattle.std.proofs.Common.{◌∙◌, ℕ, ◌+◌, ap, subst, arith}
 use Rattle.std.specs.Prelude.{Option, slice_set, unwrap_or, is_some}
-use Rattle.journal_core.specs.declared.record.Record.TheVariants.{Share}
-use Rattle.journal_core.specs.History.{maps}
+use Rattle.frame_core.specs.declared.record.Record.TheVariants.{Share}
+use Rattle.frame_core.specs.History.{maps}
 use Rattle.state_core.specs.declared.placement.Placement.TheVariants.{At}
 use Rattle.state_core.proofs.Facts.{frame_within, page_stands, spare}
 use Rattle.state_core.proofs.Sharing.{CanShare}

@@ -1,6 +1,6 @@
 use Rattle.std.proofs.Common.{◌∙◌, ◌-◌, ap, subst, arith}
 use Rattle.std.specs.Prelude.{slice_set, is_some}
-use Rattle.journal_core.specs.declared.record.Record.TheVariants.{Unmap}
+use Rattle.frame_core.specs.declared.record.Record.TheVariants.{Unmap}
 use Rattle.state_core.specs.declared.placement.Placement.TheVariants.{At}
 use Rattle.state_core.proofs.Facts.{not_none, spare}
 use Rattle.zone_tables.specs.Sound.{IsSound}

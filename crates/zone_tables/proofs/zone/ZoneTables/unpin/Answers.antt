@@ -1,7 +1,7 @@
 use Rattle.std.proofs.Common.{◌∙◌, ℕ, ◌-◌, ap, subst, sym, arith}
 use Rattle.std.specs.Prelude.{Option, slice_set, unwrap_or, is_some}
-use Rattle.journal_core.specs.declared.record.Record.TheVariants.{Unpin}
-use Rattle.journal_core.specs.History.{pins}
+use Rattle.frame_core.specs.declared.record.Record.TheVariants.{Unpin}
+use Rattle.frame_core.specs.History.{pins}
 use Rattle.state_core.proofs.Facts.{spare}
 use Rattle.zone_tables.specs.declared.note.PageNote.{PageNote}
 use Rattle.zone_tables.specs.Notes.{movable_by}

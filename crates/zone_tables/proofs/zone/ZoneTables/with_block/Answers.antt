@@ -5,7 +5,7 @@ use Rattle.std.specs.Fn.{FnOnceReturnsAtMut}
 use Rattle.state_core.specs.Contents.{contents_of}
 use Rattle.state_core.specs.ZoneState.{ZoneState}
 use Rattle.state_core.proofs.Contents.{length_contents}
-use Rattle.word_core.specs.Words.{block_words, HasBlock, put_from}
+use Rattle.frame_core.specs.Words.{block_words, HasBlock, put_from}
 use Rattle.zone_tables.specs.Sound.{IsSound}
 use Rattle.zone_tables.proofs.BlockFrames.{order_held}
 use Rattle.zone_tables.proofs.BlockWords.{put_whole, words_read, write_view, write_sound}

@@ -6,7 +6,7 @@ use Rattle.zone_tables.specs.declared.zone.ZoneTables.TheInside.{Inside}
 use Rattle.zone_tables.specs.Sound.{IsSound, state_of}
 use Rattle.state_core.specs.Access.{stored}
 use Rattle.zone_tables.specs.History.{told}
-use Rattle.journal_core.specs.declared.record.Record.TheVariants.{Store}
+use Rattle.frame_core.specs.declared.record.Record.TheVariants.{Store}
 use Rattle.state_core.specs.ZoneState.{ZoneState}
 use Rattle.zone_tables.proofs.LoadsAndStores.{Storing, resident, store_view, store_sound}
 use Rattle.state_core.proofs.Facts.{spare, frame_within, not_none}

@@ -2,7 +2,7 @@ use Rattle.std.proofs.Common.{◌≡◌, ℕ, ◌<◌, List, length, leb-true, t
 use Rattle.std.specs.Prelude.{Option, Some, slice_set, is_some}
 use Rattle.std.specs.FinMap as map
 use Rattle.std.proofs.lemmas.Bool.Decides.{eqb_tells}
-use Rattle.word_core.specs.Words.{words_of, with_words, put_from}
+use Rattle.frame_core.specs.Words.{words_of, with_words, put_from}
 use Rattle.state_core.specs.declared.placement.Placement.TheVariants.{At}
 use Rattle.state_core.specs.Bulk.{stored_all}
 use Rattle.state_core.specs.ZoneState.{ZoneState}

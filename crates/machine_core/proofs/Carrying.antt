@@ -1,0 +1,376 @@
+-- What a world carries stays its own when its zone changes.
+use Rattle.std.proofs.Common.{◌≡◌, ◌≢◌, ℕ, zero, suc, ◌+◌, ◌*◌, ◌<◌, Bool, true, false, cond, not, List, [], ◌∷◌, ◌++◌, length, ◌⊎◌, inl, inr, refl, sym, ap, subst, ◌∙◌, arith}
+use Rattle.std.specs.Prelude.{Option, Some, None, IsSome, is_none, Result, Ok, Err, IfOk, OnOk, OnErr, map as each, replicate, slice_get, slice_set, unwrap_or, nat_eq, nat_lt, is_some, if◌then◌else◌}
+use Rattle.std.specs.FinMap as map
+use Rattle.std.specs.List.{list_any}
+use Rattle.std.specs.Option.{option_or}
+use Rattle.std.proofs.lemmas.Bool.{eq-eqb, ltb-true, not-false, or_left, or_right}
+use Rattle.std.proofs.lemmas.Bool.Decides.{eqb_tells}
+use Rattle.std.proofs.lemmas.List.{length-set, map-set, length-map}
+use Rattle.std.proofs.lemmas.Option.{slice_get_within}
+use Rattle.frame_core.proofs.Lists.{slice_get_set_same, slice_get_set_other}
+use Rattle.frame_core.specs.declared.place.Address.{Address}
+use Rattle.frame_core.specs.History.{page_at}
+use Rattle.frame_core.specs.Moves.{isolated, out}
+use Rattle.frame_core.specs.Page.{IsolatedPage}
+use Rattle.frame_core.specs.Serials.{serials_of}
+use Rattle.state_core.specs.declared.call.ZoneCall.{ZoneCall}
+use Rattle.state_core.specs.declared.call.ZoneCall.TheVariants.{Map, MapAt, Load, Store, Share, Unmap, Pin, Unpin, TakeOrder, GiveOrder, Mark, Unmark}
+use Rattle.state_core.specs.declared.error.ZoneError.{ZoneError}
+use Rattle.state_core.specs.declared.error.ZoneError.TheVariants.{Range, JournalFull, Occupied, NoFrame}
+use Rattle.machine_core.specs.declared.hand.Hand.TheVariants as hand
+use Rattle.machine_core.specs.declared.hands.Held.TheVariants.{Nothing, Page, Copy}
+use Rattle.machine_core.specs.Carried.{InHand, hand_as, page_held, copy_held, is_nothing, world_of, IsCarried}
+use Rattle.state_core.specs.declared.moves.Next.TheVariants.{Page as Found, Met}
+use Rattle.state_core.specs.declared.round.Pair.{Pair}
+use Rattle.state_core.specs.declared.placement.Placement.{Placement}
+use Rattle.state_core.specs.declared.placement.Placement.TheVariants.{At, Moving}
+use Rattle.state_core.specs.Lawful.{IsValidZone}
+use Rattle.state_core.specs.Pairs.{next_pair}
+use Rattle.state_core.specs.Ending.{IsOwnCopy}
+use Rattle.state_core.specs.Carrying.{page_now}
+use Rattle.state_core.specs.Rounds.{round_begun}
+use Rattle.state_core.specs.Isolating.{isolate_refusal, isolated_next, next_answer, next_state, Scans}
+use Rattle.zone_core.specs.Seats.{ScanSeat, EndSeat, seat_begun, seat_noted}
+use Rattle.std.specs.Result.{result_err}
+use Rattle.state_core.specs.Access.{placement_refusal, access_refusal, loaded, stored}
+use Rattle.state_core.specs.Calls.{refusal_of, after}
+use Rattle.state_core.specs.Bulk.{has_room_for, bulk_refusal, loaded_all, stored_all}
+use Rattle.state_core.specs.Mapping.{map_refusal, map_at_refusal, mapped, placed}
+use Rattle.state_core.specs.Unmapping.{is_last}
+use Rattle.state_core.specs.HandingOut.{block_taken}
+use Rattle.machine_core.specs.World.{WorldState, IsOrderly, isolated_by}
+use Rattle.state_core.specs.ZoneState.{ZoneState, frame_count, has_room, is_free, placement_at, lowest_free_frame, lowest_unused_page}
+use Rattle.state_core.proofs.Finding.{some_lowest, unused_left, unused_is}
+use Rattle.state_core.proofs.Carried.{own_begun, own_loaded, own_stored, own_placed, own_isolated, own_fresh, own_shared, own_unmapped, own_pinned, own_unpinned, own_block_taken, own_block_given, own_marked, own_unmarked}
+use Rattle.state_core.proofs.Facts.{not_none}
+use Rattle.machine_core.proofs.Orderly.{orderly_with_zone, orderly_round_opened, orderly_noted, orderly_isolated}
+
+-- Lists of what hands hold
+pub each_set : (held : List InHand) (i : ℕ) (x : InHand) → each hand_as (slice_set held i x) ≡ slice_set (each hand_as held) i (hand_as x)
+each_set held i x = map-set hand_as held i x
+
+pub set_twice : (held : List InHand) (i : ℕ) (x y : InHand) → slice_set (slice_set held i x) i y ≡ slice_set held i y
+set_twice [] i x y = refl
+set_twice (h ∷ held) zero x y = refl
+set_twice (h ∷ held) (suc i) x y = ap (λ (t : List InHand). h ∷ t) (set_twice held i x y)
+
+-- what contracts see of a hand is what the hand holds
+pub seen_at : (held : List InHand) (i : ℕ) → unwrap_or (slice_get (each hand_as held) i) hand.Empty ≡ hand_as (unwrap_or (slice_get held i) Nothing)
+seen_at [] i = refl
+seen_at (h ∷ held) zero = refl
+seen_at (h ∷ held) (suc i) = seen_at held i
+
+pub seen_some : (held : List InHand) (i : ℕ) (h : InHand) → slice_get held i ≡ Some h → unwrap_or (slice_get (each hand_as held) i) hand.Empty ≡ hand_as h
+seen_some held i h e = seen_at held i ∙ ap (λ (o : Option InHand). hand_as (unwrap_or o Nothing)) e
+
+-- after place i got x, each place has x or what it had
+pub held_after : (held : List InHand) (i j : ℕ) (x y : InHand) → slice_get (slice_set held i x) j ≡ Some y → ((j ≡ i) × (x ≡ y)) ⊎ ((j ≢ i) × (slice_get held j ≡ Some y))
+held_after held i j x y e = elim (eqb_tells j i) [
+  | inl same ↦ (
+      let within : i < length held = omega (arith, slice_get_within (slice_set held i x) j y e, length-set held i x, same.1) in
+      let both : Some x ≡ Some y = sym (slice_get_set_same held i j x same.1 within) ∙ e in
+      inl (same.1, cc))
+  | inr other ↦ inr (other.1, sym (slice_get_set_other held i j x other.1) ∙ e)
+]
+
+pub is_page_held : (o : Option InHand) (p : IsolatedPage) → page_held (unwrap_or o Nothing) ≡ Some p → o ≡ Some (Page p)
+is_page_held None p e = cc
+is_page_held (Some Nothing) p e = cc
+is_page_held (Some (Page q)) p e = let same : q ≡ p = cc in ap (λ (x : IsolatedPage). Some (Page x)) same
+is_page_held (Some (Copy q)) p e = cc
+
+pub is_copy_held : (o : Option InHand) (p : IsolatedPage) → copy_held (unwrap_or o Nothing) ≡ Some p → o ≡ Some (Copy p)
+is_copy_held None p e = cc
+is_copy_held (Some Nothing) p e = cc
+is_copy_held (Some (Page q)) p e = cc
+is_copy_held (Some (Copy q)) p e = let same : q ≡ p = cc in ap (λ (x : IsolatedPage). Some (Copy x)) same
+
+pub page_same : {p q : IsolatedPage} → ◌≡◌ {A = InHand} (Page p) (Page q) → p ≡ q
+page_same {p} {q} e = cc
+
+pub copy_same : {p q : IsolatedPage} → ◌≡◌ {A = InHand} (Copy p) (Copy q) → p ≡ q
+copy_same {p} {q} e = cc
+
+pub page_no_copy : {p q : IsolatedPage} → ◌≡◌ {A = InHand} (Page p) (Copy q) → ⊥
+page_no_copy {p} {q} e = cc
+
+pub copy_no_page : {p q : IsolatedPage} → ◌≡◌ {A = InHand} (Copy p) (Page q) → ⊥
+copy_no_page {p} {q} e = cc
+
+pub nothing_no_page : {q : IsolatedPage} → ◌≡◌ {A = InHand} Nothing (Page q) → ⊥
+nothing_no_page {q} e = cc
+
+pub nothing_no_copy : {q : IsolatedPage} → ◌≡◌ {A = InHand} Nothing (Copy q) → ⊥
+nothing_no_copy {q} e = cc
+
+pub true_not_false : (b : Bool) → b ≡ true → b ≡ false → ⊥
+true_not_false b t f = let bad : true ≡ false = sym t ∙ f in cc
+
+pub no_page : (n i : ℕ) (p : IsolatedPage) → slice_get {X = InHand} (replicate n Nothing) i ≡ Some (Page p) → ⊥
+no_page zero i p e = cc
+no_page (suc n) zero p e = cc
+no_page (suc n) (suc i) p e = no_page n i p e
+
+pub no_copy : (n i : ℕ) (p : IsolatedPage) → slice_get {X = InHand} (replicate n Nothing) i ≡ Some (Copy p) → ⊥
+no_copy zero i p e = cc
+no_copy (suc n) zero p e = cc
+no_copy (suc n) (suc i) p e = no_copy n i p e
+
+pub nothing_is : (h : InHand) → is_nothing h ≡ true → h ≡ Nothing
+nothing_is Nothing e = refl
+nothing_is (Page p) e = cc
+nothing_is (Copy p) e = cc
+
+pub waits_at : (list : List IsolatedPage) (i : ℕ) (p : IsolatedPage) → slice_get list i ≡ Some p → list_any (nat_eq p.serial) (serials_of list) ≡ true
+waits_at [] i p e = cc
+waits_at (q ∷ list) zero p e = let same : q ≡ p = cc in or_left (nat_eq p.serial q.serial) _ (eq-eqb p.serial q.serial (ap (λ x. x.serial) (sym same)))
+waits_at (q ∷ list) (suc i) p e = or_right (nat_eq p.serial q.serial) _ (waits_at list i p e)
+
+-- What a world carries when its zone changes.
+module _ (zone next : ZoneState) (scan : ScanSeat) (ends : EndSeat) (is_open : Bool) (list : List IsolatedPage) (held : List InHand) (capacity : ℕ) (was : IsCarried zone scan ends is_open list held capacity) where
+  pub carried_with : (seat : ScanSeat) (opened : Bool) → IsOrderly (world_of next seat ends opened list held) → ((p : IsolatedPage) → IsOwnCopy zone p → IsOwnCopy next p) → next.blocks ≡ zone.blocks → IsCarried next seat ends opened list held capacity
+  carried_with seat opened orderly own blocks = record {
+    orderly = orderly;
+    waiting = λ i p e. own p (was.waiting i p e);
+    pages = λ i p e. own p (was.pages i p e);
+    copies = λ i p e. own p (was.copies i p e);
+    room = was.room ∙ ap (λ n. 256 * n) (sym blocks);
+  }
+
+-- the seat of the scanner notes something
+pub carried_noted : (zone : ZoneState) (scan : ScanSeat) (ends : EndSeat) (is_open : Bool) (list : List IsolatedPage) (held : List InHand) (capacity : ℕ) → IsCarried zone scan ends is_open list held capacity → (seat : ScanSeat) → IsCarried zone seat ends is_open list held capacity
+carried_noted zone scan ends is_open list held capacity was seat =
+    carried_with zone zone scan ends is_open list held capacity was seat is_open (orderly_noted (world_of zone scan ends is_open list held) seat was.orderly) (λ p own. own) refl
+
+-- A round opens, and a page is isolated.
+pub carried_opened : (zone : ZoneState) (scan : ScanSeat) (ends : EndSeat) (is_open : Bool) (list : List IsolatedPage) (held : List InHand) (capacity : ℕ) → IsCarried zone scan ends is_open list held capacity → is_open ≡ false → IsCarried (round_begun zone) (seat_begun scan) ends true list held capacity
+carried_opened zone scan ends is_open list held capacity was closed =
+    carried_with zone (round_begun zone) scan ends is_open list held capacity was (seat_begun scan) true orderly (own_begun zone) refl where
+      orderly : IsOrderly (world_of (round_begun zone) (seat_begun scan) ends true list held)
+      orderly = subst (λ (b : Bool). IsOrderly (record { zone = if b then zone else round_begun zone; scan = if b then scan else seat_begun scan; ends = ends; is_open = true; waiting = serials_of list; hands = each hand_as held })) closed
+          (orderly_round_opened (world_of zone scan ends is_open list held) was.orderly)
+
+serials_more : (list : List IsolatedPage) (p : IsolatedPage) → serials_of (list ++ p ∷ []) ≡ serials_of list ++ p.serial ∷ []
+serials_more [] p = refl
+serials_more (q ∷ list) p = ap (λ (t : List ℕ). q.serial ∷ t) (serials_more list p)
+
+one_more : (list : List IsolatedPage) (p : IsolatedPage) (i : ℕ) (q : IsolatedPage) → slice_get (list ++ p ∷ []) i ≡ Some q → (slice_get list i ≡ Some q) ⊎ (p ≡ q)
+one_more [] p zero q e = inr cc
+one_more [] p (suc i) q e = cc
+one_more (x ∷ list) p zero q e = inl e
+one_more (x ∷ list) p (suc i) q e = one_more list p i q e
+
+-- what `isolate_next` says of the page that it answers
+pub record IsTaken (zone next : ZoneState) (p : IsolatedPage) : Type 0 where
+  pub pair : Pair
+  pub is : next_pair zone ≡ Some pair
+  pub page : p ≡ record { serial = isolated zone.records; page = page_now zone pair.page }
+  pub state : next ≡ isolated_next zone pair
+
+pub is_taken : (zone next : ZoneState) (p : IsolatedPage) → Found p ≡ next_answer zone (next_pair zone) → next ≡ next_state zone (next_pair zone) → IsTaken zone next p
+is_taken zone next p answer state = by_pair (next_pair zone) refl answer state where
+  by_pair : (o : Option Pair) → next_pair zone ≡ o → Found p ≡ next_answer zone o → next ≡ next_state zone o → IsTaken zone next p
+  by_pair None is answer state = cc
+  by_pair (Some pair) is answer state = record { pair = pair; is = is; page = cc; state = state }
+
+pub met_same : (zone next : ZoneState) → Met ≡ next_answer zone (next_pair zone) → next ≡ next_state zone (next_pair zone) → next ≡ zone
+met_same zone next answer state = by_pair (next_pair zone) answer state where
+  by_pair : (o : Option Pair) → Met ≡ next_answer zone o → next ≡ next_state zone o → next ≡ zone
+  by_pair None answer state = state
+  by_pair (Some pair) answer state = cc
+
+module _ (zone next : ZoneState) (scan : ScanSeat) (ends : EndSeat) (is_open : Bool) (list : List IsolatedPage) (held : List InHand) (capacity : ℕ) (p : IsolatedPage) (was : IsCarried zone scan ends is_open list held capacity) (opened : is_open ≡ true) (room : isolate_refusal zone ≡ None) (take : IsTaken zone next p) (scans : Scans zone next (Found p)) where
+  abbrev scanning : WorldState
+  scanning = world_of zone scan ends is_open list held
+
+  abbrev seat_counted : ScanSeat
+  seat_counted = seat_noted scan (Found p)
+
+  at_source : map.get zone.placement take.pair.page ≡ Some (At scans.source)
+  at_source = ap (λ (q : IsolatedPage). map.get zone.placement q.page.number) (sym take.page) ∙ scans.pair.from.here
+
+  pub world_is : isolated_by scanning (next_pair zone) ≡ world_of next seat_counted ends is_open (list ++ p ∷ []) held
+  world_is =
+      ap (isolated_by scanning) take.is
+      ∙ (λ i. record { zone = sym take.state i; scan = seat_counted; ends = ends; is_open = is_open; waiting = serials_of list ++ sym (ap (λ (q : IsolatedPage). q.serial) take.page) i ∷ []; hands = each hand_as held })
+      ∙ ap (λ (waiting : List ℕ). record { zone = next; scan = seat_counted; ends = ends; is_open = is_open; waiting = waiting; hands = each hand_as held }) (sym (serials_more list p))
+
+  own_then : (q : IsolatedPage) → IsOwnCopy zone q → IsOwnCopy next q
+  own_then q own = subst (λ (v : ZoneState). IsOwnCopy v q) (sym take.state) (own_isolated zone take.pair scans.source at_source q own)
+
+  own_now : IsOwnCopy next p
+  own_now =
+      subst (λ (v : ZoneState). IsOwnCopy v p) (sym take.state)
+      (subst (IsOwnCopy (isolated_next zone take.pair)) (sym take.page) (own_fresh zone take.pair))
+
+  blocks_then : next.blocks ≡ zone.blocks
+  blocks_then = ap (λ (v : ZoneState). v.blocks) take.state
+
+  pub carried_scanned : IsCarried next seat_counted ends is_open (list ++ p ∷ []) held capacity
+  carried_scanned = record {
+    orderly = subst IsOrderly world_is (orderly_isolated scanning was.orderly opened room);
+    waiting = λ i q e. elim (one_more list p i q e) [
+      | inl old ↦ own_then q (was.waiting i q old)
+      | inr fresh ↦ subst (IsOwnCopy next) fresh own_now
+    ];
+    pages = λ i q e. own_then q (was.pages i q e);
+    copies = λ i q e. own_then q (was.copies i q e);
+    room = was.room ∙ ap (λ n. 256 * n) (sym blocks_then);
+  }
+
+  -- the list has a place for one more page
+  pub place_left : length list < capacity
+  place_left =
+      omega (arith, was.room, was.orderly.few.0, was.orderly.few.1, length-map list (λ (q : IsolatedPage). q.serial), scans.pair.from.low, scans.pair.to.low, scans.pair.to.high)
+
+-- Calls of the zone that leave moving pages as they are.
+-- a call that isn't refused passed each test
+passed : (b : Bool) (error : ZoneError) (o : Option ZoneError) → cond b (Some error) o ≡ None → (b ≡ false) × (o ≡ None)
+passed true error o e = cc
+passed false error o e = (refl, e)
+
+at_then : (o : Option Placement) → placement_refusal o ≡ None → (frame : ℕ) × (o ≡ Some (At frame))
+at_then None e = cc
+at_then (Some (At frame)) e = (frame, refl)
+at_then (Some (Moving serial source target)) e = cc
+
+option_or_none : {A : Type 0} (o other : Option A) → option_or o other ≡ None → o ≡ None
+option_or_none None other e = refl
+option_or_none (Some x) other e = cc
+
+some_if : (o : Option ℕ) → is_none o ≡ false → IsSome o
+some_if None e = cc
+some_if (Some n) e = not_none (Some n) n refl
+
+-- a page that an accepted access finds is in a frame
+pub accessed_at : (z : ZoneState) (address : Address) → access_refusal z address ≡ None → (frame : ℕ) × (placement_at z address ≡ Some (At frame))
+accessed_at z address accepted = let room = passed (not (has_room z)) JournalFull _ accepted in at_then _ room.1
+
+-- an accepted map finds a free frame
+pub frame_left : (z : ZoneState) (address : Address) → map_refusal z address ≡ None → IsSome (lowest_free_frame z)
+frame_left z address accepted =
+    let room = passed (not (has_room z)) JournalFull _ accepted in
+    let vacant = passed (is_some (page_at z.records address)) Occupied _ room.1 in
+    let some = passed (is_none (lowest_free_frame z)) NoFrame _ vacant.1 in
+    some_if _ some.0
+
+pub frame_left_at : (z : ZoneState) (address : Address) (frame : ℕ) → map_at_refusal z address frame ≡ None → IsSome (lowest_free_frame z)
+frame_left_at z address frame accepted =
+    let within = passed (not (nat_lt frame (frame_count z))) Range _ accepted in
+    let room = passed (not (has_room z)) JournalFull _ within.1 in
+    let vacant = passed (is_some (page_at z.records address)) Occupied _ room.1 in
+    let free = passed (not (is_free z frame)) NoFrame _ vacant.1 in
+    some_lowest z frame (not-false _ free.0) (ltb-true _ _ (not-false _ within.0))
+
+-- a call leaves the moving pages and the fingers as they are
+pub record LeavesMoves (zone after : ZoneState) : Type 0 where
+  pub same_out : out after.records ≡ out zone.records
+  pub migrate : after.migrate ≡ zone.migrate
+  pub free : after.free ≡ zone.free
+  pub blocks : after.blocks ≡ zone.blocks
+
+-- an unmap leaves what it leaves whether or not the address was the page's last
+by_last : (P : ZoneState → Type 0) (b : Bool) (gone kept : ZoneState) → P gone → P kept → P (if b then gone else kept)
+by_last P true gone kept last more = last
+by_last P false gone kept last more = more
+
+pub call_leaves : {W : ℕ} (call : ZoneCall W) (client : ℕ) (z : ZoneState) → LeavesMoves z (after call client z)
+call_leaves (Unmap address) client z =
+    by_last (LeavesMoves z) (is_last z address) _ _ (record { same_out = refl; migrate = refl; free = refl; blocks = refl }) (record { same_out = refl; migrate = refl; free = refl; blocks = refl })
+call_leaves (Map address unmovable) client z = record { same_out = refl; migrate = refl; free = refl; blocks = refl }
+call_leaves (MapAt address unmovable frame) client z = record { same_out = refl; migrate = refl; free = refl; blocks = refl }
+call_leaves (Load address word) client z = record { same_out = refl; migrate = refl; free = refl; blocks = refl }
+call_leaves (Store address word value) client z = record { same_out = refl; migrate = refl; free = refl; blocks = refl }
+call_leaves (Share address alias) client z = record { same_out = refl; migrate = refl; free = refl; blocks = refl }
+call_leaves (Pin address) client z = record { same_out = refl; migrate = refl; free = refl; blocks = refl }
+call_leaves (Unpin address) client z = record { same_out = refl; migrate = refl; free = refl; blocks = refl }
+call_leaves (TakeOrder order) client z = record { same_out = refl; migrate = refl; free = refl; blocks = refl }
+call_leaves (GiveOrder first order) client z = record { same_out = refl; migrate = refl; free = refl; blocks = refl }
+call_leaves (Mark block) client z = record { same_out = refl; migrate = refl; free = refl; blocks = refl }
+call_leaves (Unmark block) client z = record { same_out = refl; migrate = refl; free = refl; blocks = refl }
+
+-- a copy of a moving page stays the zone's own
+own_mapped : (z : ZoneState) (client : ℕ) (address : Address) (unmovable : Bool) (frame : ℕ) → IsValidZone z → IsSome (lowest_free_frame z) → (p : IsolatedPage) → IsOwnCopy z p → IsOwnCopy (mapped z client address unmovable frame) p
+own_mapped z client address unmovable frame law free = by_page (lowest_unused_page z) refl where
+  by_page : (o : Option ℕ) → lowest_unused_page z ≡ o → (p : IsolatedPage) → IsOwnCopy z p → IsOwnCopy (placed z client address unmovable (unwrap_or o 0) frame) p
+  by_page None none = absurd (unused_left z law free none)
+  by_page (Some page) unused = own_placed z client address unmovable page frame (unused_is z page unused).1
+
+own_called : {W : ℕ} (call : ZoneCall W) (client : ℕ) (z : ZoneState) → IsValidZone z → refusal_of call z ≡ None → (p : IsolatedPage) → IsOwnCopy z p → IsOwnCopy (after call client z) p
+own_called (Map address unmovable) client z law accepted = own_mapped z client address unmovable _ law (frame_left z address accepted)
+own_called (MapAt address unmovable frame) client z law accepted = own_mapped z client address unmovable frame law (frame_left_at z address frame accepted)
+own_called (Load address word) client z law accepted = own_loaded z client address word
+own_called (Store address word value) client z law accepted = let at = accessed_at z address accepted in own_stored z client address word value at.0 at.1
+own_called (Share address alias) client z law accepted = own_shared z client address alias
+own_called (Unmap address) client z law accepted =
+    let room = passed (not (has_room z)) JournalFull _ accepted in
+    let at = at_then _ (option_or_none (placement_refusal (placement_at z address)) _ room.1) in
+    own_unmapped z client address at.0 at.1
+own_called (Pin address) client z law accepted = own_pinned z client address
+own_called (Unpin address) client z law accepted = own_unpinned z client address
+own_called (TakeOrder order) client z law accepted = own_block_taken z _ order
+own_called (GiveOrder first order) client z law accepted = own_block_given z first order
+own_called (Mark block) client z law accepted = own_marked z block
+own_called (Unmark block) client z law accepted = own_unmarked z block
+
+-- words that are read or written in bulk, one after the other
+read_leaves : (z : ZoneState) (client : ℕ) (address : Address) (from count : ℕ) → LeavesMoves z (loaded_all z client address from count)
+read_leaves z client address from zero = record { same_out = refl; migrate = refl; free = refl; blocks = refl }
+read_leaves z client address from (suc count) =
+    let rest = read_leaves (loaded z client address from) client address (from + 1) count in
+    record { same_out = rest.same_out; migrate = rest.migrate; free = rest.free; blocks = rest.blocks }
+
+own_read : (z : ZoneState) (client : ℕ) (address : Address) (from count : ℕ) (p : IsolatedPage) → IsOwnCopy z p → IsOwnCopy (loaded_all z client address from count) p
+own_read z client address from zero p own = own
+own_read z client address from (suc count) p own = own_read (loaded z client address from) client address (from + 1) count p (own_loaded z client address from p own)
+
+written_leaves : (z : ZoneState) (client : ℕ) (address : Address) (from : ℕ) (values : List ℕ) → LeavesMoves z (stored_all z client address from values)
+written_leaves z client address from [] = record { same_out = refl; migrate = refl; free = refl; blocks = refl }
+written_leaves z client address from (value ∷ values) =
+    let rest = written_leaves (stored z client address from value) client address (from + 1) values in
+    record { same_out = rest.same_out; migrate = rest.migrate; free = rest.free; blocks = rest.blocks }
+
+own_written : (z : ZoneState) (client : ℕ) (address : Address) (from : ℕ) (values : List ℕ) (frame : ℕ) → placement_at z address ≡ Some (At frame) → (p : IsolatedPage) → IsOwnCopy z p → IsOwnCopy (stored_all z client address from values) p
+own_written z client address from [] frame at p own = own
+own_written z client address from (value ∷ values) frame at p own =
+    own_written (stored z client address from value) client address (from + 1) values frame at p (own_stored z client address from value frame at p own)
+
+module _ (zone next : ZoneState) (scan : ScanSeat) (ends : EndSeat) (is_open : Bool) (list : List IsolatedPage) (held : List InHand) (capacity : ℕ) (was : IsCarried zone scan ends is_open list held capacity) where
+  -- a refused call changes nothing
+  unchanged : next ≡ zone → IsCarried next scan ends is_open list held capacity
+  unchanged same = subst (λ (v : ZoneState). IsCarried v scan ends is_open list held capacity) (sym same) was
+
+  changed : (after : ZoneState) → next ≡ after → IsValidZone next → LeavesMoves zone after → ((p : IsolatedPage) → IsOwnCopy zone p → IsOwnCopy after p) → IsCarried next scan ends is_open list held capacity
+  changed after is law leaves own =
+      subst (λ (v : ZoneState). IsCarried v scan ends is_open list held capacity) (sym is)
+      (carried_with zone after scan ends is_open list held capacity was scan is_open
+      (orderly_with_zone (world_of zone scan ends is_open list held) after was.orderly (subst IsValidZone is law) (λ serial. ap (list_any (nat_eq serial)) leaves.same_out) leaves.migrate leaves.free leaves.blocks) own leaves.blocks)
+
+  -- any call, and calls that name the frame that they answer
+  pub carried_call : {T : Type 0} (W : ℕ) (call : ZoneCall W) (client : ℕ) (result : Result T ZoneError) → IsValidZone next → result_err result ≡ refusal_of call zone → OnErr result (next ≡ zone) → OnOk result (next ≡ after call client zone) → IsCarried next scan ends is_open list held capacity
+  carried_call W call client (Err error) law refused err ok = unchanged err
+  carried_call W call client (Ok done) law refused err ok =
+      changed (after call client zone) ok law (call_leaves call client zone) (own_called call client zone was.orderly.lawful (sym refused))
+
+  pub carried_mapped : (client : ℕ) (address : Address) (unmovable : Bool) (result : Result ℕ ZoneError) → IsValidZone next → OnErr result (next ≡ zone) → IfOk result (λ frame. lowest_free_frame zone ≡ Some frame) → IfOk result (λ frame. next ≡ mapped zone client address unmovable frame) → IsCarried next scan ends is_open list held capacity
+  carried_mapped client address unmovable (Err error) law err lowest ok = unchanged err
+  carried_mapped client address unmovable (Ok frame) law err lowest ok =
+      changed (mapped zone client address unmovable frame) ok law (record { same_out = refl; migrate = refl; free = refl; blocks = refl }) (own_mapped zone client address unmovable frame was.orderly.lawful (not_none _ frame lowest))
+
+  pub carried_taken : {T : Type 0} (first : T → ℕ) (order : ℕ) (result : Result T ZoneError) → IsValidZone next → OnErr result (next ≡ zone) → IfOk result (λ block. next ≡ block_taken zone (first block) order) → IsCarried next scan ends is_open list held capacity
+  carried_taken first order (Err error) law err ok = unchanged err
+  carried_taken first order (Ok block) law err ok =
+      changed (block_taken zone (first block) order) ok law (record { same_out = refl; migrate = refl; free = refl; blocks = refl }) (own_block_taken zone (first block) order)
+
+  pub carried_read : {T : Type 0} (kept : Type 0) (client : ℕ) (address : Address) (from count : ℕ) (result : Result T ZoneError) → IsValidZone next → OnErr result ((next ≡ zone) × kept) → OnOk result (next ≡ loaded_all zone client address from count) → IsCarried next scan ends is_open list held capacity
+  carried_read kept client address from count (Err error) law err ok = unchanged err.0
+  carried_read kept client address from count (Ok done) law err ok = changed (loaded_all zone client address from count) ok law (read_leaves zone client address from count) (own_read zone client address from count)
+
+  pub carried_written : {T : Type 0} (client : ℕ) (address : Address) (from : ℕ) (values : List ℕ) (result : Result T ZoneError) → IsValidZone next → result_err result ≡ bulk_refusal zone address from (length values) → OnErr result (next ≡ zone) → OnOk result (next ≡ stored_all zone client address from values) → IsCarried next scan ends is_open list held capacity
+  carried_written client address from values (Err error) law refused err ok = unchanged err
+  carried_written client address from values (Ok done) law refused err ok =
+      let within = passed (nat_lt zone.page_size (from + length values)) Range _ (sym refused) in
+      let room = passed (not (has_room_for zone (length values))) JournalFull _ within.1 in
+      let at = at_then _ room.1 in
+      changed (stored_all zone client address from values) ok law (written_leaves zone client address from values) (own_written zone client address from values at.0 at.1)

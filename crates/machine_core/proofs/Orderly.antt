@@ -1,0 +1,167 @@
+-- Calls of the zone, rounds and scans keep a world orderly.
+use Rattle.std.proofs.Common.{◌≡◌, ℕ, ◌+◌, ◌<◌, ◌≤◌, Bool, true, false, List, [], ◌∷◌, ◌++◌, length, ◌⊎◌, inl, inr, refl, sym, subst, ◌∙◌, arith}
+use Rattle.std.specs.Prelude.{Option, Some, None, nat_eq, ◌||◌, if◌then◌else◌}
+use Rattle.std.specs.List.{list_any}
+use Rattle.std.proofs.lemmas.Bool.{eq-eqb, eqb-true, or_cases, or_left, or_right, false_from_ne_true, both_ways}
+use Rattle.std.proofs.lemmas.List.{length-append}
+use Rattle.frame_core.proofs.OnTheWay.{out_below}
+use Rattle.frame_core.specs.Moves.{isolated, is_out}
+use Rattle.state_core.specs.declared.moves.Next.TheVariants as next
+use Rattle.state_core.specs.declared.round.Pair.{Pair}
+use Rattle.state_core.specs.Lawful.{IsValidZone}
+use Rattle.state_core.specs.Rounds.{round_begun}
+use Rattle.state_core.specs.Isolating.{isolate_refusal, isolated_next}
+use Rattle.state_core.specs.Pairs.{IsPair, next_pair}
+use Rattle.machine_core.specs.World.{WorldState, IsOrderly, IsRising, with_zone, hand_of, serial_in, round_opened, isolated_by}
+use Rattle.zone_core.specs.Seats.{ScanSeat, seat_begun, seat_noted}
+use Rattle.state_core.specs.ZoneState.{ZoneState}
+use Rattle.state_core.proofs.Pairing.{pair_found}
+use Rattle.state_core.proofs.Rounds.{lawful_begun}
+use Rattle.state_core.proofs.Settled.{lawful_isolated}
+use Rattle.machine_core.proofs.Standing.{Stands, stands, stands_so, stands_out, waits_out, in_hand_out}
+
+pub orderly_with_zone : (w : WorldState) (zone : ZoneState) → IsOrderly w → IsValidZone zone → ((serial : ℕ) → is_out zone.records serial ≡ is_out w.zone.records serial) → zone.migrate ≡ w.zone.migrate → zone.free ≡ w.zone.free → zone.blocks ≡ w.zone.blocks → IsOrderly (with_zone w zone)
+orderly_with_zone w zone o law same migrate free blocks = record {
+  lawful = law;
+  whole = o.whole;
+  four = o.four;
+  rising = o.rising;
+  out = λ s. (λ h. (o.out s).0 (sym (same s) ∙ h), λ h. same s ∙ (o.out s).1 h);
+  one_hand = o.one_hand;
+  one_place = o.one_place;
+  closed = λ e s. same s ∙ o.closed e s;
+  few = (omega (arith, o.few.0, migrate), omega (arith, o.few.1, free, blocks));
+}
+
+none_waits : (serials : List ℕ) → ((s : ℕ) → list_any (nat_eq s) serials ≡ true → ⊥) → length serials ≡ 0
+none_waits [] none = refl
+none_waits (x ∷ serials) none = absurd (none x (or_left (nat_eq x x) _ (eq-eqb x x refl)))
+
+-- the seat of the scanner notes something
+pub orderly_noted : (w : WorldState) (seat : ScanSeat) → IsOrderly w → IsOrderly (record w { scan = seat })
+orderly_noted w seat o = record {
+  lawful = o.lawful;
+  whole = o.whole;
+  four = o.four;
+  rising = o.rising;
+  out = o.out;
+  one_hand = o.one_hand;
+  one_place = o.one_place;
+  closed = o.closed;
+  few = o.few;
+}
+
+pub orderly_round_opened : (w : WorldState) → IsOrderly w → IsOrderly (round_opened w)
+orderly_round_opened w o = by_open w.is_open refl where
+  begun : w.is_open ≡ false → (seat : ScanSeat) → IsOrderly (record w { zone = round_begun w.zone; scan = seat; is_open = true })
+  begun closed seat =
+      let none : length w.waiting ≡ 0 = none_waits w.waiting (λ s h. both_ways _ (o.closed closed s) (waits_out w o s h)) in
+      record {
+        lawful = lawful_begun w.zone o.lawful;
+        whole = o.whole;
+        four = o.four;
+        rising = o.rising;
+        out = o.out;
+        one_hand = o.one_hand;
+        one_place = o.one_place;
+        closed = λ e. cc;
+        few = (omega arith, omega arith);
+      }
+
+  by_open : (b : Bool) → w.is_open ≡ b → IsOrderly (round_opened w)
+  by_open true e =
+      subst (λ (b : Bool). IsOrderly (record w { zone = if b then w.zone else round_begun w.zone; scan = if b then w.scan else seat_begun w.scan; is_open = true })) (sym e)
+      (record {
+        lawful = o.lawful;
+        whole = o.whole;
+        four = o.four;
+        rising = o.rising;
+        out = o.out;
+        one_hand = o.one_hand;
+        one_place = o.one_place;
+        closed = λ e. cc;
+        few = o.few;
+      })
+  by_open false e =
+      subst (λ (b : Bool). IsOrderly (record w { zone = if b then w.zone else round_begun w.zone; scan = if b then w.scan else seat_begun w.scan; is_open = true })) (sym e)
+      (begun e (seat_begun w.scan))
+
+-- a serial that waits after one more was appended waited before, or is that one
+waited : (waiting : List ℕ) (n s : ℕ) → list_any (nat_eq s) (waiting ++ n ∷ []) ≡ true → (list_any (nat_eq s) waiting ≡ true) ⊎ (s ≡ n)
+waited [] n s e = elim (or_cases (nat_eq s n) false e) [ inl here ↦ inr (eqb-true s n here) | inr bad ↦ cc ]
+waited (x ∷ waiting) n s e = elim (or_cases (nat_eq s x) _ e) [
+  | inl here ↦ inl (or_left (nat_eq s x) _ here)
+  | inr later ↦ elim (waited waiting n s later) [ inl there ↦ inl (or_right (nat_eq s x) _ there) | inr same ↦ inr same ]
+]
+
+waits_on : (waiting : List ℕ) (n s : ℕ) → list_any (nat_eq s) waiting ≡ true → list_any (nat_eq s) (waiting ++ n ∷ []) ≡ true
+waits_on [] n s e = cc
+waits_on (x ∷ waiting) n s e = elim (or_cases (nat_eq s x) _ e) [
+  | inl here ↦ or_left (nat_eq s x) _ here
+  | inr later ↦ or_right (nat_eq s x) _ (waits_on waiting n s later)
+]
+
+waits_last : (waiting : List ℕ) (n s : ℕ) → s ≡ n → list_any (nat_eq s) (waiting ++ n ∷ []) ≡ true
+waits_last [] n s e = or_left (nat_eq s n) false (eq-eqb s n e)
+waits_last (x ∷ waiting) n s e = or_right (nat_eq s x) _ (waits_last waiting n s e)
+
+rising_more : (waiting : List ℕ) (n : ℕ) → IsRising waiting → ((s : ℕ) → list_any (nat_eq s) waiting ≡ true → s < n) → IsRising (waiting ++ n ∷ [])
+rising_more [] n rising below = (λ m h. absurd (both_ways false refl h), tt)
+rising_more (x ∷ waiting) n rising below =
+    let first : x < n = below x (or_left (nat_eq x x) _ (eq-eqb x x refl)) in (
+      λ m h. elim (waited waiting n m h) [ inl there ↦ rising.0 m there | inr same ↦ omega arith ],
+      rising_more waiting n rising.1 (λ s h. below s (or_right (nat_eq s x) _ h)),
+    )
+
+module _ (w : WorldState) (o : IsOrderly w) (is_open : w.is_open ≡ true) (pair : Pair) (law : IsValidZone (isolated_next w.zone pair)) (is_pair : IsPair w.zone pair.page pair.source pair.target) where
+  abbrev next_serial : ℕ
+  next_serial = isolated w.zone.records
+
+  abbrev now_waiting : List ℕ
+  now_waiting = w.waiting ++ next_serial ∷ []
+
+  below_next : (s : ℕ) → is_out w.zone.records s ≡ true → s < next_serial
+  below_next s e = out_below w.zone.records o.lawful.well_ended s e
+
+  isolated_stands : (s : ℕ) → (nat_eq s next_serial || is_out w.zone.records s) ≡ true → Stands now_waiting w.hands s
+  isolated_stands s e = elim (or_cases (nat_eq s next_serial) _ e) [
+    | inl here ↦ inl (waits_last w.waiting next_serial s (eqb-true s next_serial here))
+    | inr before ↦ elim (stands_out w o s before) [ inl there ↦ inl (waits_on w.waiting next_serial s there) | inr there ↦ inr there ]
+  ]
+
+  isolated_out : (s : ℕ) → Stands now_waiting w.hands s → (nat_eq s next_serial || is_out w.zone.records s) ≡ true
+  isolated_out s (inl there) = elim (waited w.waiting next_serial s there) [
+    | inl before ↦ or_right (nat_eq s next_serial) _ (waits_out w o s before)
+    | inr same ↦ or_left (nat_eq s next_serial) _ (eq-eqb s next_serial same)
+  ]
+  isolated_out s (inr there) = or_right (nat_eq s next_serial) _ (in_hand_out w o there.0 s there.1 there.2)
+
+  not_waiting : (k s : ℕ) → 0 < k → serial_in (hand_of w k) ≡ Some s → list_any (nat_eq s) now_waiting ≡ true → ⊥
+  not_waiting k s some there e =
+      let under : s < next_serial = below_next s (in_hand_out w o k s some there) in
+      elim (waited w.waiting next_serial s e) [ inl before ↦ both_ways _ (o.one_place k s some there) before | inr same ↦ omega arith ]
+
+  orderly_with_pair : IsOrderly (isolated_by w (Some pair))
+  orderly_with_pair =
+      let low : w.zone.migrate ≤ pair.source = is_pair.from.low in
+      let high : pair.target < w.zone.free = is_pair.to.high in
+      let longer : length now_waiting ≡ length w.waiting + 1 = length-append w.waiting (next_serial ∷ []) in
+      record {
+        lawful = law;
+        whole = o.whole;
+        four = o.four;
+        rising = rising_more w.waiting next_serial o.rising (λ s h. below_next s (waits_out w o s h));
+        out = λ s. (λ h. stands_so now_waiting w.hands s (isolated_stands s h), λ h. isolated_out s (stands now_waiting w.hands s h));
+        one_hand = o.one_hand;
+        one_place = λ k s some there. false_from_ne_true _ (not_waiting k s some there);
+        closed = λ e. absurd (both_ways _ e is_open);
+        few = (omega (arith, o.few.0), omega (arith, o.few.1));
+      }
+
+pub orderly_isolated : (w : WorldState) → IsOrderly w → w.is_open ≡ true → isolate_refusal w.zone ≡ None → IsOrderly (isolated_by w (next_pair w.zone))
+orderly_isolated w o is_open room = by_pair (next_pair w.zone) refl where
+  by_pair : (p : Option Pair) → next_pair w.zone ≡ p → IsOrderly (isolated_by w p)
+  by_pair None e = orderly_noted w (seat_noted w.scan next.Met) o
+  by_pair (Some pair) e =
+      let is_pair = pair_found w.zone o.lawful pair e in
+      orderly_with_pair w o is_open pair (lawful_isolated w.zone pair o.lawful is_pair room) is_pair

@@ -1,2 +1,0 @@
-mod Arguments
-mod Found

@@ -1,8 +1,0 @@
-use Rattle.outcome_core.proofs.Calls.{look_agrees, info_agrees}
-use Rattle.outcome_core.proofs.agreement.looks_agree.Goals as goal
-
-pub returns-clause-look : goal.returns-clause-look
-returns-clause-look c = look_agrees
-
-pub returns-clause-info : goal.returns-clause-info
-returns-clause-info c = info_agrees

@@ -1,5 +1,0 @@
-use Rattle.outcome_core.proofs.Rounds.{by_hand_agrees}
-use Rattle.outcome_core.proofs.agreement.rounds_agree.Goals as goal
-
-pub returns : goal.returns
-returns c = by_hand_agrees

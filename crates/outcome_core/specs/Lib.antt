@@ -1,4 +1,0 @@
-pub mod ByHand
-pub mod Outcome
-pub mod Alone
-pub mod Fingers

@@ -1,0 +1,160 @@
+-- The end of a run: the replies that wait are written.
+use Rattle.std.proofs.Common.{◌≡◌, ◌≢◌, ℕ, ◌+◌, List, [], ◌∷◌, ◌++◌, refl, sym, ap, subst, ◌∙◌, append_assoc, append-nil, inl, inr, ◌⊎◌, arith, Option, Some}
+use Rattle.std.specs.Io.KnownBytes.{Appends, Consumes}
+use Rattle.std.proofs.KnownBytes.{Appends-nil}
+use Rattle.text_core.specs.declared.fault.RunError.{RunError}
+use Rattle.text_core.specs.declared.fault.Fault.{Fault}
+use Rattle.text_core.specs.declared.fault.Fault.TheVariants.{Syntax, LongLine, Read, Write, Memory}
+use Rattle.text_core.specs.Script.{StopsIn, Answer, IsBeginning, Numbered, commands_from, commands_of, parts_of, texts}
+use Rattle.text_core.specs.Runs.{Rule, Asking, IsAsking, IsEnded, IsStopped, IsUnread}
+use Rattle.text_core.specs.ReplyBuffer.{ReplyBuffer, Owes, empty}
+use Rattle.text_core.specs.Reply.{newlines}
+use Rattle.text_core.specs.ScriptRunner.{ScriptRunner, BreaksOff, EndsBy, Finishes, HasClosed, HasEnded, StopsBy, HasFault, HasRead, begun}
+use Rattle.text_core.proofs.Waiting.{owes_empty, owes_none}
+use Rattle.text_core.proofs.Newlines.{newlines-append}
+use Rattle.text_core.proofs.Beginnings.{commands_begin}
+use Rattle.text_core.proofs.Reading.{begins_of}
+use Rattle.text_core.proofs.Inputs.{begins_end, ends_stop, read_clean}
+
+pub begun_read : {S : Type 0} (may : Rule S) (start : S) (s : ScriptRunner S) (first : Option (List ℕ)) → s ≡ begun start → HasRead may start s [] first first
+begun_read {S} may start s first is =
+    let R : ScriptRunner S → Type 0 = λ s. HasRead may start s [] first first in
+    subst R (sym is) (record {
+      whole = [];
+      split = refl;
+      unbroken = refl;
+      short = omega arith;
+      line = refl;
+      before = [];
+      commands = λ rest. refl;
+      fault = λ rest. refl;
+      reading = λ rest. refl;
+      answers = [];
+      replied = (refl, refl);
+      replies = refl;
+      owes = owes_empty [] first first (Appends-nil first);
+    })
+
+-- what a flush does that wrote all
+abbrev pub Flushes : {S : Type 0} → ScriptRunner S → Option (List ℕ) → Option (List ℕ) → Type 0
+Flushes s mid after = (answers : List Answer) (first : Option (List ℕ)) → Owes s.box answers first mid → Appends first after (texts answers)
+
+-- what a flush does that stopped
+abbrev pub FlushStops : {S : Type 0} → ScriptRunner S → Option (List ℕ) → Option (List ℕ) → ℕ → Type 0
+FlushStops s mid after at = (answers : List Answer) (first : Option (List ℕ)) → Owes s.box answers first mid → StopsIn answers first after at
+
+breaks_off : {S : Type 0} (may : Rule S) (start : S) (s : ScriptRunner S) (left left_new first mid after : Option (List ℕ)) (line : ℕ) → BreaksOff may start s left left_new line first mid → Flushes s mid after → IsUnread may start left left_new first after line
+breaks_off may start s left left_new first mid after line h flushes =
+    let r = h.has_read in
+    record {
+      past = h.past;
+      read = h.read;
+      clean = read_clean may start s h.past first mid r;
+      answered = record { begins = begins_end may start s h.past first mid r; written = flushes r.answers first r.owes };
+      at = h.at ∙ r.line ∙ (let n : newlines r.whole + 1 ≡ newlines h.past + 1 = omega (arith, ap newlines r.split, newlines-append r.whole s.held, r.unbroken) in n);
+    }
+
+pub flushed : {S : Type 0} (may : Rule S) (asks : Asking S) (start : S) (f : Fault) (s : ScriptRunner S) (input : List ℕ) (e : RunError) (left left_new first mid after : Option (List ℕ)) → f ≢ Write → StopsBy may asks start f s input e left left_new first mid → Flushes s mid after → IsEnded may asks start f input e left left_new first after
+flushed may asks start Syntax s input e left left_new first mid after other h flushes = (h.fault, record { begins = h.begins; written = flushes h.begins.answers first h.owes })
+flushed may asks start LongLine s input e left left_new first mid after other h flushes = (h.fault, record { begins = h.begins; written = flushes h.begins.answers first h.owes })
+flushed may asks start Read s input e left left_new first mid after other h flushes = breaks_off may start s left left_new first mid after e.line h flushes
+flushed may asks start Write s input e left left_new first mid after other h flushes = absurd (other refl)
+flushed may asks start Memory s input e left left_new first mid after other h flushes = record { before = h.before; begins = h.begins; asking = h.asking; written = flushes h.begins.answers first h.owes }
+
+-- a flush stopped after some bytes were read
+pub read_stops : {S : Type 0} (may : Rule S) (start : S) (s : ScriptRunner S) (past : List ℕ) (first mid after : Option (List ℕ)) (at : ℕ) → HasRead may start s past first mid → FlushStops s mid after at → (rest : List ℕ) → IsStopped may start (past ++ rest) first after at
+read_stops may start s past first mid after at r stops rest = record {
+  before = r.before;
+  behind = commands_from s.reading s.line (parts_of (s.held ++ rest));
+  order = ap (λ (p : List ℕ). commands_of (p ++ rest)) r.split ∙ ap commands_of (append_assoc r.whole s.held rest) ∙ r.commands (s.held ++ rest);
+  begins = begins_of may start s past first mid r;
+  stops = stops r.answers first r.owes;
+}
+
+fault_stopped : {S : Type 0} (may : Rule S) (start : S) (s : ScriptRunner S) (past : List ℕ) (e : RunError) (first mid after : Option (List ℕ)) (at : ℕ) → HasFault may start s past e first mid → FlushStops s mid after at → (rest : List ℕ) → IsStopped may start (past ++ rest) first after at
+fault_stopped may start s past e first mid after at h stops rest = record {
+  before = h.before;
+  behind = [];
+  order = h.commands rest ∙ sym (append-nil h.before);
+  begins = h.begins;
+  stops = stops h.begins.answers first h.owes;
+}
+
+-- a flush stopped after another fault
+pub ended_stops : {S : Type 0} (may : Rule S) (asks : Asking S) (start : S) (f : Fault) (s : ScriptRunner S) (past : List ℕ) (e : RunError) (first mid after : Option (List ℕ)) (at : ℕ) → f ≢ Write → EndsBy may asks start f s past e first mid → FlushStops s mid after at → (rest : List ℕ) → IsStopped may start (past ++ rest) first after at
+ended_stops may asks start Syntax s past e first mid after at other h stops rest = fault_stopped may start s past e first mid after at h stops rest
+ended_stops may asks start LongLine s past e first mid after at other h stops rest = fault_stopped may start s past e first mid after at h stops rest
+ended_stops may asks start Read s past e first mid after at other h stops rest = absurd h
+ended_stops may asks start Write s past e first mid after at other h stops rest = absurd (other refl)
+ended_stops may asks start Memory s past e first mid after at other h stops rest = by_asking (h.asking rest) where
+  stopped : (behind : List Numbered) → commands_of (past ++ rest) ≡ h.before ++ behind → IsStopped may start (past ++ rest) first after at
+  stopped behind order = record { before = h.before; behind = behind; order = order; begins = h.begins; stops = stops h.begins.answers first h.owes }
+
+  by_asking : IsAsking asks (past ++ rest) h.before h.begins.after e.line ⊎ IsBeginning (past ++ rest) h.before e.line → IsStopped may start (past ++ rest) first after at
+  by_asking (inl a) = stopped (a.command ∷ a.behind) a.order
+  by_asking (inr b) =
+      let more = commands_begin b.past (b.text ++ 10 ∷ b.rest) in
+      stopped more.0 (ap commands_of b.order ∙ more.1 ∙ ap (λ (list : List Numbered). list ++ more.0) b.commands)
+
+-- where nothing waits, all is written
+pub written_out : {S : Type 0} (s : ScriptRunner S) (now : Option (List ℕ)) → s.box ≡ empty → Flushes s now now
+written_out s now none = λ answers first owes.
+    let O : ReplyBuffer → Type 0 = λ box. Owes box answers first now in
+    owes_none empty answers first now now (subst O none owes) (Appends-nil now)
+
+-- the replies to what was read were written
+pub read_flushed : {S : Type 0} (may : Rule S) (start : S) (s : ScriptRunner S) (past : List ℕ) (first mid after : Option (List ℕ)) → HasRead may start s past first mid → Flushes s mid after → HasRead may start (record s { box = empty }) past first after
+read_flushed may start s past first mid after r flushes = record {
+  whole = r.whole;
+  split = r.split;
+  unbroken = r.unbroken;
+  short = r.short;
+  line = r.line;
+  before = r.before;
+  commands = r.commands;
+  fault = r.fault;
+  reading = r.reading;
+  answers = r.answers;
+  replied = r.replied;
+  replies = r.replies;
+  owes = owes_empty r.answers first after (flushes r.answers first r.owes);
+}
+
+module _ {S : Type 0} (may : Rule S) (asks : Asking S) (start : S) (s : ScriptRunner S) (past : List ℕ) (first mid after : Option (List ℕ)) where
+  -- reading a piece never ends with the fault of a read
+  no_read : (f : Fault) (e : RunError) → EndsBy may asks start f s past e first mid → f ≢ Read
+  no_read Read e h is = h
+  no_read Syntax e h is = cc
+  no_read LongLine e h is = cc
+  no_read Write e h is = cc
+  no_read Memory e h is = cc
+
+  closed_by : (f : Fault) (e : RunError) → f ≢ Write → EndsBy may asks start f s past e first mid → Flushes s mid after
+      → (rest : List ℕ) (left left_new : Option (List ℕ)) → IsEnded may asks start f (past ++ rest) e left left_new first after
+  closed_by f e other h flushes rest left left_new =
+      flushed may asks start f s (past ++ rest) e left left_new first mid after other (ends_stop may asks start f s past rest (past ++ rest) e left left_new first mid refl h) flushes
+
+  -- a fault ended the run, and all replies before it were written
+  pub closed : (e : RunError) → e.fault ≢ Write → HasEnded may asks start s past e first mid → Flushes s mid after → HasClosed may asks start past e first after
+  closed e other h flushes = record { heard = no_read e.fault e h; ends = closed_by e.fault e other h flushes }
+
+-- a reply wasn't taken whole
+pub closed_in : {S : Type 0} (may : Rule S) (asks : Asking S) (start : S) (past : List ℕ) (e : RunError) (first now : Option (List ℕ)) → e.fault ≡ Write → ((rest : List ℕ) → IsStopped may start (past ++ rest) first now e.line) → HasClosed may asks start past e first now
+closed_in may asks start past e first now is stops = record {
+  heard = λ read. not_write e.fault read is;
+  ends = λ rest left left_new. let E : Fault → Type 0 = λ f. IsEnded may asks start f (past ++ rest) e left left_new first now in subst E (sym is) (stops rest);
+} where
+  not_write : (f : Fault) → f ≡ Read → f ≡ Write → ⊥
+  not_write f read write = cc
+
+-- a read failed, or too many didn't come to the end, and no reply waits
+pub breaks_off_written : {S : Type 0} (may : Rule S) (asks : Asking S) (start : S) (s : ScriptRunner S) (past input : List ℕ) (e : RunError) (left left_new first now : Option (List ℕ)) → s.box ≡ empty → e ≡ record { fault = Read; line = s.line } → Consumes left left_new past → HasRead may start s past first now → IsEnded may asks start e.fault input e left left_new first now
+breaks_off_written may asks start s past input e left left_new first now none is took r =
+    let E : RunError → Type 0 = λ e. IsEnded may asks start e.fault input e left left_new first now in
+    subst E (sym is) (breaks_off may start s left left_new first now now s.line (record { past = past; read = took; has_read = r; at = refl }) (written_out s now none))
+
+-- the end of the input cuts a line off, and no reply waits
+pub cut_written : {S : Type 0} (may : Rule S) (asks : Asking S) (start : S) (s : ScriptRunner S) (input : List ℕ) (e : RunError) (left left_new first now : Option (List ℕ)) → s.box ≡ empty → e.fault ≡ Syntax → Finishes may start s input (Some e) first now → IsEnded may asks start e.fault input e left left_new first now
+cut_written may asks start s input e left left_new first now none is h =
+    let E : Fault → Type 0 = λ f. IsEnded may asks start f input e left left_new first now in
+    subst E (sym is) (h.fault, record { begins = h.begins; written = written_out s now none h.begins.answers first h.owes })

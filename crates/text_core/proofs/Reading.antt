@@ -1,0 +1,280 @@
+-- A script that is read line by line.
+use Rattle.std.proofs.Common.{◌≡◌, ℕ, ◌+◌, ◌<◌, ◌≤◌, List, [], ◌∷◌, ◌++◌, length, length-append, refl, sym, ap, subst, ◌∙◌, append_assoc, append-nil, inl, inr, arith, ◌⊎◌, Option, Some, None, Result, Ok, Err}
+use Rattle.text_core.specs.declared.fault.RunError.{RunError}
+use Rattle.text_core.specs.declared.fault.Fault.{Fault}
+use Rattle.text_core.specs.declared.fault.Fault.TheVariants.{Syntax, LongLine, Read, Write, Memory}
+use Rattle.text_core.specs.declared.error.ScriptError.{ScriptError}
+use Rattle.text_core.specs.declared.error.ScriptError.TheVariants as of_line
+use Rattle.text_core.specs.Script.{StopsIn, Answer, BeginsBlock, Came, IsBeginning, Numbered, Reading, commands_from, commands_of, fault_from, fault_of, line_comes, open_fault, parts_of, reading_from, reading_of}
+use Rattle.text_core.specs.Runs.{Rule, Asking, Begins, IsAsking, IsStopped, Replied}
+use Rattle.text_core.specs.FaultNumber.{fault_of_line}
+use Rattle.text_core.specs.Line.{line_of}
+use Rattle.text_core.specs.ReplyBuffer.{ReplyBuffer, Owes}
+use Rattle.text_core.specs.Reply.{newlines}
+use Rattle.text_core.specs.ScriptRunner.{ScriptRunner, EndsBy, HasEnded, HasRead, HasFault, HasNoMemory}
+use Rattle.text_core.proofs.Lines.{commands_by, fault_by, reading_by, commands-line, commands-long, fault-line, fault-long, reading-line}
+use Rattle.text_core.proofs.Newlines.{newlines-append}
+
+-- one more command, and its replies
+pub replied_more : {S : Type 0} (may : Rule S) (old mid new : S) (commands : List Numbered) (answers : List Answer) (c : Numbered) (here : List Answer) → Replied may old commands answers mid → may mid c here new → Replied may old (commands ++ c ∷ []) (answers ++ here) new
+replied_more {S} may old mid new [] answers c here told says =
+    let M : S → Type 0 = λ s. may s c here new in
+    (new, here, [], ap (λ (r : List Answer). r ++ here) told.0 ∙ sym (append-nil here), subst M told.1 says, (refl, refl))
+replied_more may old mid new (d ∷ commands) answers c here told says =
+    (told.0, told.1, told.2 ++ here, ap (λ (r : List Answer). r ++ here) told.3 ∙ append_assoc told.1 told.2 here, told.4, replied_more may told.0 mid new commands told.2 c here told.5 says)
+
+-- the commands of what was read were answered
+abbrev pub begins_of : {S : Type 0} (may : Rule S) (start : S) (s : ScriptRunner S) (past : List ℕ) (first now : Option (List ℕ)) → (r : HasRead may start s past first now) → Begins may start r.before
+begins_of may start s past first now r = record { answers = r.answers; after = s.machine; replied = r.replied }
+
+-- where no line has begun, what was read is whole lines
+pub whole_is : {S : Type 0} (may : Rule S) (start : S) (s : ScriptRunner S) (past : List ℕ) (first now : Option (List ℕ)) → (r : HasRead may start s past first now) → s.held ≡ [] → r.whole ≡ past
+whole_is may start s past first now r e = sym (append-nil r.whole) ∙ ap (λ (h : List ℕ). r.whole ++ h) (sym e) ∙ sym r.split
+
+commands_next : {S : Type 0} (may : Rule S) (start : S) (s : ScriptRunner S) (past : List ℕ) (first now : Option (List ℕ)) → (r : HasRead may start s past first now) → s.held ≡ [] → (rest : List ℕ) → commands_of (past ++ rest) ≡ r.before ++ commands_from s.reading s.line (parts_of rest)
+commands_next may start s past first now r e rest = ap (λ (w : List ℕ). commands_of (w ++ rest)) (sym (whole_is may start s past first now r e)) ∙ r.commands rest
+
+fault_next : {S : Type 0} (may : Rule S) (start : S) (s : ScriptRunner S) (past : List ℕ) (first now : Option (List ℕ)) → (r : HasRead may start s past first now) → s.held ≡ [] → (rest : List ℕ) → fault_of (past ++ rest) ≡ fault_from s.reading s.line (parts_of rest)
+fault_next may start s past first now r e rest = ap (λ (w : List ℕ). fault_of (w ++ rest)) (sym (whole_is may start s past first now r e)) ∙ r.fault rest
+
+reading_next : {S : Type 0} (may : Rule S) (start : S) (s : ScriptRunner S) (past : List ℕ) (first now : Option (List ℕ)) → (r : HasRead may start s past first now) → s.held ≡ [] → (rest : List ℕ) → reading_of (past ++ rest) ≡ reading_from s.reading s.line (parts_of rest)
+reading_next may start s past first now r e rest = ap (λ (w : List ℕ). reading_of (w ++ rest)) (sym (whole_is may start s past first now r e)) ∙ r.reading rest
+
+pub joined : (past text rest : List ℕ) → (past ++ (text ++ 10 ∷ [])) ++ rest ≡ past ++ (text ++ 10 ∷ rest)
+joined past text rest = append_assoc past (text ++ 10 ∷ []) rest ∙ ap (λ (r : List ℕ). past ++ r) (append_assoc text (10 ∷ []) rest)
+
+line_next : {S : Type 0} (may : Rule S) (start : S) (s : ScriptRunner S) (past text : List ℕ) (first now : Option (List ℕ)) → (r : HasRead may start s past first now) → s.held ≡ [] → newlines text ≡ 0 → s.line + 1 ≡ newlines (past ++ (text ++ 10 ∷ [])) + 1
+line_next may start s past text first now r e none =
+    omega (arith, r.line, ap newlines (whole_is may start s past first now r e), newlines-append past (text ++ 10 ∷ []), newlines-append text (10 ∷ []), none)
+
+module _ {S : Type 0} (may : Rule S) (start : S) (s : ScriptRunner S) (past text : List ℕ) (first now : Option (List ℕ)) (r : HasRead may start s past first now) (begins : s.held ≡ []) (none : newlines text ≡ 0) where
+  abbrev here : Result Came Fault
+  here = line_comes s.reading s.line text
+
+  commands_line : (rest : List ℕ) → commands_of ((past ++ (text ++ 10 ∷ [])) ++ rest) ≡ r.before ++ commands_by s.reading s.line here (parts_of rest)
+  commands_line rest =
+      ap commands_of (joined past text rest) ∙ commands_next may start s past first now r begins (text ++ 10 ∷ rest)
+      ∙ ap (λ (cs : List Numbered). r.before ++ cs) (commands-line s.reading s.line text rest none)
+
+  fault_line : (rest : List ℕ) → fault_of ((past ++ (text ++ 10 ∷ [])) ++ rest) ≡ fault_by s.reading s.line here (parts_of rest)
+  fault_line rest = ap fault_of (joined past text rest) ∙ fault_next may start s past first now r begins (text ++ 10 ∷ rest) ∙ fault-line s.reading s.line text rest none
+
+  reading_line : (rest : List ℕ) → reading_of ((past ++ (text ++ 10 ∷ [])) ++ rest) ≡ reading_by s.reading s.line here (parts_of rest)
+  reading_line rest = ap reading_of (joined past text rest) ∙ reading_next may start s past first now r begins (text ++ 10 ∷ rest) ∙ reading-line s.reading s.line text rest none
+
+  -- a line that ends no command: it is skipped, or begins a block, or is a client line
+  pub read_on : (reading : Reading) → here ≡ Ok (record { ended = None; reading = reading }) → HasRead may start (record s { reading = reading; line = s.line + 1 }) (past ++ (text ++ 10 ∷ [])) first now
+  read_on reading is = record {
+    whole = past ++ (text ++ 10 ∷ []);
+    split = sym (append-nil _) ∙ ap (λ (h : List ℕ). (past ++ (text ++ 10 ∷ [])) ++ h) (sym begins);
+    unbroken = r.unbroken;
+    short = r.short;
+    line = line_next may start s past text first now r begins none;
+    before = r.before;
+    commands = λ rest. commands_line rest ∙ ap (λ l. r.before ++ commands_by s.reading s.line l (parts_of rest)) is;
+    fault = λ rest. fault_line rest ∙ ap (λ l. fault_by s.reading s.line l (parts_of rest)) is;
+    reading = λ rest. reading_line rest ∙ ap (λ l. reading_by s.reading s.line l (parts_of rest)) is;
+    answers = r.answers;
+    replied = r.replied;
+    replies = r.replies;
+    owes = r.owes;
+  }
+
+  -- a line that ends a command, which is answered
+  module _ (command : Numbered) (reading : Reading) (is : here ≡ Ok (record { ended = Some command; reading = reading })) where
+    commands_ended : (rest : List ℕ) → commands_of ((past ++ (text ++ 10 ∷ [])) ++ rest) ≡ r.before ++ command ∷ commands_from reading (s.line + 1) (parts_of rest)
+    commands_ended rest = commands_line rest ∙ ap (λ l. r.before ++ commands_by s.reading s.line l (parts_of rest)) is
+
+    pub read_answered : (answers : List Answer) (machine : S) (box : ReplyBuffer) (after : Option (List ℕ)) → may s.machine command answers machine
+        → ((before : List Answer) (first : Option (List ℕ)) → Owes s.box before first now → Owes box (before ++ answers) first after)
+        → HasRead may start (record { reading = reading; machine = machine; held = s.held; line = s.line + 1; replies = s.replies + length answers; box = box }) (past ++ (text ++ 10 ∷ [])) first after
+    read_answered answers machine box after told posts = record {
+      whole = past ++ (text ++ 10 ∷ []);
+      split = sym (append-nil _) ∙ ap (λ (h : List ℕ). (past ++ (text ++ 10 ∷ [])) ++ h) (sym begins);
+      unbroken = r.unbroken;
+      short = r.short;
+      line = line_next may start s past text first now r begins none;
+      before = r.before ++ command ∷ [];
+      commands = λ rest. commands_ended rest ∙ sym (append_assoc r.before (command ∷ []) _);
+      fault = λ rest. fault_line rest ∙ ap (λ l. fault_by s.reading s.line l (parts_of rest)) is;
+      reading = λ rest. reading_line rest ∙ ap (λ l. reading_by s.reading s.line l (parts_of rest)) is;
+      answers = r.answers ++ answers;
+      replied = replied_more may start s.machine machine r.before r.answers command answers r.replied told;
+      replies = omega (arith, r.replies, length-append r.answers answers);
+      owes = posts r.answers first r.owes;
+    }
+
+    -- there is no memory for the command
+    pub read_lacking : (asks : Asking S) (t : ScriptRunner S) (line : ℕ) → line ≡ command.line → t.box ≡ s.box → asks s.machine command.command → HasNoMemory may asks start t (past ++ (text ++ 10 ∷ [])) line first now
+    read_lacking asks t line at box asking = record {
+      before = r.before;
+      begins = begins_of may start s past first now r;
+      asking = λ rest. inl (record {
+        command = command;
+        behind = commands_from reading (s.line + 1) (parts_of rest);
+        order = commands_ended rest;
+        asking = asking;
+        at = at;
+      });
+      owes = (let O : ReplyBuffer → Type 0 = λ b. Owes b r.answers first now in subst O (sym box) r.owes);
+    }
+
+    -- a writer stopped in the command's answers, or in those before
+    pub read_stopped : (answers : List Answer) (machine : S) (after : Option (List ℕ)) (at : ℕ) (rest : List ℕ) → may s.machine command answers machine → StopsIn (r.answers ++ answers) first after at → IsStopped may start ((past ++ (text ++ 10 ∷ [])) ++ rest) first after at
+    read_stopped answers machine after at rest told stops = record {
+      before = r.before ++ command ∷ [];
+      behind = commands_from reading (s.line + 1) (parts_of rest);
+      order = commands_ended rest ∙ sym (append_assoc r.before (command ∷ []) _);
+      begins = record { answers = r.answers ++ answers; after = machine; replied = replied_more may start s.machine machine r.before r.answers command answers r.replied told };
+      stops = stops;
+    }
+
+  -- a line that is wrong
+  pub read_wrong : (t : ScriptRunner S) (fault : Fault) → t.box ≡ s.box → here ≡ Err fault → HasFault may start t (past ++ (text ++ 10 ∷ [])) (record { fault = fault; line = s.line }) first now
+  read_wrong t fault box is = record {
+    before = r.before;
+    commands = λ rest. commands_line rest ∙ ap (λ l. r.before ++ commands_by s.reading s.line l (parts_of rest)) is ∙ append-nil r.before;
+    fault = λ rest. fault_line rest ∙ ap (λ l. fault_by s.reading s.line l (parts_of rest)) is;
+    begins = begins_of may start s past first now r;
+    owes = (let O : ReplyBuffer → Type 0 = λ b. Owes b r.answers first now in subst O (sym box) r.owes);
+  }
+
+  -- a line that begins a block for which there is no memory
+  pub read_unbegun : (asks : Asking S) (t : ScriptRunner S) (line : ℕ) → line ≡ s.line → t.box ≡ s.box → s.reading.block ≡ None → BeginsBlock (line_of s.reading.profile text) → HasNoMemory may asks start t (past ++ (text ++ 10 ∷ [])) line first now
+  read_unbegun asks t line at box outside during =
+      let at_end : past ++ [] ≡ past = append-nil past in
+      let read : reading_of past ≡ s.reading = ap reading_of (sym at_end) ∙ reading_next may start s past first now r begins [] in
+      let D : Reading → Type 0 = λ q. BeginsBlock (line_of q.profile text) in
+      let O : ReplyBuffer → Type 0 = λ b. Owes b r.answers first now in
+      record {
+        before = r.before;
+        begins = begins_of may start s past first now r;
+        asking = λ rest. inr (record {
+          past = past;
+          text = text;
+          rest = rest;
+          order = joined past text rest;
+          clean = ap fault_of (sym at_end) ∙ fault_next may start s past first now r begins [] ∙ ap open_fault outside;
+          commands = ap commands_of (sym at_end) ∙ commands_next may start s past first now r begins [] ∙ append-nil r.before;
+          one_line = none;
+          during = subst D (sym read) during;
+          at = (let n : line ≡ newlines past + 1 = omega (arith, at, r.line, ap newlines (whole_is may start s past first now r begins)) in n);
+        });
+        owes = subst O (sym box) r.owes;
+      }
+
+pub ended_wrong : {S : Type 0} (may : Rule S) (asks : Asking S) (start : S) (s : ScriptRunner S) (past : List ℕ) (error : ScriptError) (fault : Fault) (line : ℕ) (first now : Option (List ℕ)) → fault ≡ fault_of_line error → HasFault may start s past (record { fault = fault_of_line error; line = line }) first now → HasEnded may asks start s past (record { fault = fault; line = line }) first now
+ended_wrong may asks start s past of_line.Syntax fault line first now is h = let E : Fault → Type 0 = λ f. HasEnded may asks start s past (record { fault = f; line = line }) first now in subst E (sym is) h
+ended_wrong may asks start s past of_line.LongLine fault line first now is h = let E : Fault → Type 0 = λ f. HasEnded may asks start s past (record { fault = f; line = line }) first now in subst E (sym is) h
+
+-- the beginning of a line, which was held, is taken out
+pub read_taken_out : {S : Type 0} (may : Rule S) (start : S) (s : ScriptRunner S) (past : List ℕ) (first now : Option (List ℕ)) → (r : HasRead may start s past first now) → HasRead may start (record s { held = [] }) r.whole first now
+read_taken_out may start s past first now r = record {
+  whole = r.whole;
+  split = sym (append-nil r.whole);
+  unbroken = refl;
+  short = omega arith;
+  line = r.line;
+  before = r.before;
+  commands = r.commands;
+  fault = r.fault;
+  reading = r.reading;
+  answers = r.answers;
+  replied = r.replied;
+  replies = r.replies;
+  owes = r.owes;
+}
+
+-- what was read, up to the end of the line that has begun
+pub past_line : {S : Type 0} (may : Rule S) (start : S) (s : ScriptRunner S) (past text : List ℕ) (first now : Option (List ℕ)) → (r : HasRead may start s past first now) → r.whole ++ ((s.held ++ text) ++ 10 ∷ []) ≡ past ++ (text ++ 10 ∷ [])
+past_line may start s past text first now r =
+    ap (λ (t : List ℕ). r.whole ++ t) (append_assoc s.held text (10 ∷ [])) ∙ sym (append_assoc r.whole s.held (text ++ 10 ∷ []))
+    ∙ ap (λ (p : List ℕ). p ++ (text ++ 10 ∷ [])) (sym r.split)
+
+-- a part of a line is held
+pub read_held : {S : Type 0} (may : Rule S) (start : S) (s : ScriptRunner S) (past text : List ℕ) (first now : Option (List ℕ)) → HasRead may start s past first now → newlines text ≡ 0 → length (s.held ++ text) ≤ 200 → HasRead may start (record s { held = s.held ++ text }) (past ++ text) first now
+read_held may start s past text first now r none short = record {
+  whole = r.whole;
+  split = ap (λ (p : List ℕ). p ++ text) r.split ∙ append_assoc r.whole s.held text;
+  unbroken = omega (arith, newlines-append s.held text, r.unbroken, none);
+  short = short;
+  line = r.line;
+  before = r.before;
+  commands = r.commands;
+  fault = r.fault;
+  reading = r.reading;
+  answers = r.answers;
+  replied = r.replied;
+  replies = r.replies;
+  owes = r.owes;
+}
+
+-- a line that has begun is too long
+pub read_long : {S : Type 0} (may : Rule S) (start : S) (s : ScriptRunner S) (past text : List ℕ) (first now : Option (List ℕ)) → HasRead may start s past first now → newlines text ≡ 0 → 200 < length (s.held ++ text) → HasFault may start s (past ++ text) (record { fault = LongLine; line = s.line }) first now
+read_long may start s past text first now r none long =
+    let unbroken : newlines (s.held ++ text) ≡ 0 = omega (arith, newlines-append s.held text, r.unbroken, none) in
+    let at : (rest : List ℕ) → (past ++ text) ++ rest ≡ r.whole ++ ((s.held ++ text) ++ rest) = λ rest.
+    append_assoc past text rest ∙ ap (λ (p : List ℕ). p ++ (text ++ rest)) r.split ∙ append_assoc r.whole s.held (text ++ rest)
+    ∙ ap (λ (t : List ℕ). r.whole ++ t) (sym (append_assoc s.held text rest)) in
+    record {
+      before = r.before;
+      commands = λ rest. ap commands_of (at rest) ∙ r.commands ((s.held ++ text) ++ rest)
+          ∙ ap (λ (cs : List Numbered). r.before ++ cs) (commands-long s.reading s.line (s.held ++ text) rest unbroken long) ∙ append-nil r.before;
+      fault = λ rest. ap fault_of (at rest) ∙ r.fault ((s.held ++ text) ++ rest) ∙ fault-long s.reading s.line (s.held ++ text) rest unbroken long;
+      begins = begins_of may start s past first now r;
+      owes = r.owes;
+    }
+
+fault_more : {S : Type 0} (may : Rule S) (start : S) (s : ScriptRunner S) (past more : List ℕ) (e : RunError) (first now : Option (List ℕ)) → HasFault may start s past e first now → HasFault may start s (past ++ more) e first now
+fault_more may start s past more e first now h = record {
+  before = h.before;
+  commands = λ rest. ap commands_of (append_assoc past more rest) ∙ h.commands (more ++ rest);
+  fault = λ rest. ap fault_of (append_assoc past more rest) ∙ h.fault (more ++ rest);
+  begins = h.begins;
+  owes = h.owes;
+}
+
+ends_more : {S : Type 0} (may : Rule S) (asks : Asking S) (start : S) (f : Fault) (s : ScriptRunner S) (past more : List ℕ) (e : RunError) (first now : Option (List ℕ)) → EndsBy may asks start f s past e first now → EndsBy may asks start f s (past ++ more) e first now
+ends_more may asks start Syntax s past more e first now h = fault_more may start s past more e first now h
+ends_more may asks start LongLine s past more e first now h = fault_more may start s past more e first now h
+ends_more may asks start Read s past more e first now h = absurd h
+ends_more may asks start Write s past more e first now h = λ rest. let W : List ℕ → Type 0 = λ input. IsStopped may start input first now e.line in subst W (sym (append_assoc past more rest)) (h (more ++ rest))
+ends_more may asks start Memory s past more e first now h = record {
+  before = h.before;
+  begins = h.begins;
+  asking = (λ rest. let O : List ℕ → Type 0 = λ input. IsAsking asks input h.before h.begins.after e.line ⊎ IsBeginning input h.before e.line in subst O (sym (append_assoc past more rest)) (h.asking (more ++ rest)));
+  owes = h.owes;
+}
+
+-- what ended the reading of some bytes ended it whatever follows them
+pub ended_more : {S : Type 0} (may : Rule S) (asks : Asking S) (start : S) (s : ScriptRunner S) (past more : List ℕ) (e : RunError) (first now : Option (List ℕ)) → HasEnded may asks start s past e first now → HasEnded may asks start s (past ++ more) e first now
+ended_more may asks start s past more e first now h = ends_more may asks start e.fault s past more e first now h
+
+-- the end of a line that is too long
+pub read_long_line : {S : Type 0} (may : Rule S) (start : S) (s : ScriptRunner S) (past text : List ℕ) (first now : Option (List ℕ)) → HasRead may start s past first now → newlines text ≡ 0 → 200 < length s.held + length text → HasFault may start s (past ++ (text ++ 10 ∷ [])) (record { fault = LongLine; line = s.line }) first now
+read_long_line may start s past text first now r none long =
+    let F : List ℕ → Type 0 = λ p. HasFault may start s p (record { fault = LongLine; line = s.line }) first now in
+    subst F (append_assoc past text (10 ∷ [])) (fault_more may start s (past ++ text) (10 ∷ []) _ first now (read_long may start s past text first now r none (omega (arith, length-append s.held text, long))))
+
+-- a line whose first part was held is read as a whole
+pub taken_line : {S : Type 0} (may : Rule S) (start : S) (s : ScriptRunner S) (past text : List ℕ) (first now : Option (List ℕ)) (after : Option (List ℕ)) (s' : ScriptRunner S) (none_held line : List ℕ) → HasRead may start s past first now → newlines text ≡ 0 → none_held ≡ [] → line ≡ s.held ++ text
+    → ((past : List ℕ) (first : Option (List ℕ)) → newlines line ≡ 0 → HasRead may start (record s { held = none_held }) past first now → HasRead may start s' (past ++ (line ++ 10 ∷ [])) first after)
+    → HasRead may start s' (past ++ (text ++ 10 ∷ [])) first after
+taken_line may start s past text first now after s' none_held line r none empty is takes =
+    let H : List ℕ → Type 0 = λ h. HasRead may start (record s { held = h }) r.whole first now in
+    let unbroken : newlines line ≡ 0 = omega (arith, ap newlines is, newlines-append s.held text, r.unbroken, none) in
+    let P : List ℕ → Type 0 = λ p. HasRead may start s' p first after in
+    subst P (ap (λ (t : List ℕ). r.whole ++ (t ++ 10 ∷ [])) is ∙ past_line may start s past text first now r) (takes r.whole first unbroken (subst H (sym empty) (read_taken_out may start s past first now r)))
+
+pub taken_line_ended : {S : Type 0} (may : Rule S) (asks : Asking S) (start : S) (s : ScriptRunner S) (past text : List ℕ) (first now : Option (List ℕ)) (after : Option (List ℕ)) (s' : ScriptRunner S) (e : RunError) (none_held line : List ℕ) → HasRead may start s past first now → newlines text ≡ 0 → none_held ≡ [] → line ≡ s.held ++ text
+    → ((past : List ℕ) (first : Option (List ℕ)) → newlines line ≡ 0 → HasRead may start (record s { held = none_held }) past first now → HasEnded may asks start s' (past ++ (line ++ 10 ∷ [])) e first after)
+    → HasEnded may asks start s' (past ++ (text ++ 10 ∷ [])) e first after
+taken_line_ended may asks start s past text first now after s' e none_held line r none empty is takes =
+    let H : List ℕ → Type 0 = λ h. HasRead may start (record s { held = h }) r.whole first now in
+    let unbroken : newlines line ≡ 0 = omega (arith, ap newlines is, newlines-append s.held text, r.unbroken, none) in
+    let P : List ℕ → Type 0 = λ p. HasEnded may asks start s' p e first after in
+    subst P (ap (λ (t : List ℕ). r.whole ++ (t ++ 10 ∷ [])) is ∙ past_line may start s past text first now r) (takes r.whole first unbroken (subst H (sym empty) (read_taken_out may start s past first now r)))
+
+-- a line and what stands after it in a piece
+pub piece_joined : (past done text behind : List ℕ) → ((past ++ done) ++ (text ++ 10 ∷ [])) ++ behind ≡ past ++ (done ++ (text ++ 10 ∷ behind))
+piece_joined past done text behind = joined (past ++ done) text behind ∙ append_assoc past done (text ++ 10 ∷ behind)

@@ -1,7 +1,0 @@
-use Rattle.std.proofs.Common.{subst}
-use Rattle.world_core.specs.World.{IsOrderly}
-use Rattle.world_core.proofs.HandsTaking.{least_taken}
-use Rattle.world_core.proofs.world.World.zone.Goals as goal
-
-pub returns-clause-least : goal.returns-clause-least
-returns-clause-least g c hand serial after low high taken = least_taken c.args.self.now hand serial after low high (subst IsOrderly c.self.view_is c.self.invariant.orderly) taken

@@ -1,0 +1,287 @@
+-- Two zones that are the same answer each call alike, and are the same after it.
+use Rattle.std.proofs.Common.{◌≡◌, ℕ, ◌*◌, ◌^◌, Bool, List, replicate, true, false, not, cond, ◌&&◌, length, refl, ap, ◌∙◌, nat_eq, nat_le, nat_lt, Option, Some, None, is_some, is_none, unwrap_or}
+use Rattle.std.specs.FinMap as map
+use Rattle.std.specs.FinSet as set
+use Rattle.std.specs.Option.{option_and_then, option_or}
+use Rattle.std.specs.Ordering.{nat_cmp}
+use Rattle.frame_core.specs.PageFlags.{page_flags}
+use Rattle.frame_core.specs.declared.place.Address.{Address}
+use Rattle.frame_core.specs.declared.record.Record.{Record}
+use Rattle.frame_core.specs.declared.record.Record.TheVariants.{Map, Unmap, Load, TakeHuge, GiveHuge, Mark, Unmark}
+use Rattle.frame_core.specs.History.{page_at, last, maps, pins}
+use Rattle.state_core.specs.declared.error.ZoneError.TheVariants.{JournalFull, Occupied, NoFrame, Range, ShareFull, Unmapped, PinFull, NotPinned, Pinned, NoBlock, NotHuge, Marked, NotMarked}
+use Rattle.state_core.specs.declared.information.Look.TheVariants as look
+use Rattle.state_core.specs.declared.placement.Placement.{Placement}
+use Rattle.state_core.specs.declared.placement.Placement.TheVariants.{At, Moving}
+use Rattle.state_core.specs.Access.{placement_refusal, access_refusal, value_at, loaded, stored}
+use Rattle.state_core.specs.Contents.{contents_refusal, contents_from, contents_written}
+use Rattle.state_core.specs.HandingOut.{has_block, is_order, lowest_run, take_order_refusal, give_order_refusal, block_taken, block_given}
+use Rattle.state_core.specs.Looking.{look_by, look_of, info_of}
+use Rattle.state_core.specs.Mapping.{map_refusal, map_at_refusal, mapped}
+use Rattle.state_core.specs.Marking.{mark_refusal, unmark_refusal, marked_of, block_marked, block_unmarked}
+use Rattle.state_core.specs.Pinning.{pins_at, pin_refusal, unpin_refusal, pinned, unpinned}
+use Rattle.state_core.specs.Sharing.{maps_at, share_refusal, shared}
+use Rattle.state_core.specs.Unmapping.{is_last, unmap_refusal, without_page, unmapped}
+use Rattle.state_core.specs.ZoneState.{ZoneState, frame_count, is_free, lowest_free_frame, lowest_unused_page, noted}
+use Rattle.zone_core.specs.Outcome.{IsSame}
+use Rattle.zone_core.proofs.Same.{line, page_same, number_same, last_same, dirty_same, pins_same, maps_same, room_same, place_same, noted_same}
+
+module _ (z w : ZoneState) (same : IsSame z w) where
+  -- loads and stores
+
+  pub access_agrees : (a : Address) → access_refusal z a ≡ access_refusal w a
+  access_agrees a = λ i. cond (not (room_same z w same i)) (Some JournalFull) (placement_refusal (place_same z w same a i))
+
+  pub value_agrees : (a : Address) (word : ℕ) → value_at z a word ≡ value_at w a word
+  value_agrees a word = ap (λ (page : ℕ). last z.records page word) (number_same z w same a) ∙ last_same z w same (unwrap_or (page_at w.records a) 0) word
+
+  pub loaded_agrees : (client : ℕ) (a : Address) (word : ℕ) → IsSame (loaded z client a word) (loaded w client a word)
+  loaded_agrees client a word = noted_same z w same _ _ (ap (Load client a word) (value_agrees a word)) refl refl refl refl refl refl
+
+  pub stored_agrees : (client : ℕ) (a : Address) (word value : ℕ) → IsSame (stored z client a word value) (stored w client a word value)
+  stored_agrees client a word value = noted_same z w same _ _ refl refl refl refl refl refl refl
+
+  -- maps
+
+  pub frame_agrees : lowest_free_frame z ≡ lowest_free_frame w
+  frame_agrees = λ i. lowest_free_frame (line z w same i)
+
+  pub map_agrees : (a : Address) → map_refusal z a ≡ map_refusal w a
+  map_agrees a = λ i.
+      cond (not (room_same z w same i)) (Some JournalFull)
+      (cond (is_some (page_same z w same a i)) (Some Occupied)
+      (cond (is_none (frame_agrees i)) (Some NoFrame) None))
+
+  pub map_at_agrees : (a : Address) (frame : ℕ) → map_at_refusal z a frame ≡ map_at_refusal w a frame
+  map_at_agrees a frame = λ i.
+      cond (not (nat_lt frame (frame_count (line z w same i)))) (Some Range)
+      (cond (not (room_same z w same i)) (Some JournalFull)
+      (cond (is_some (page_same z w same a i)) (Some Occupied)
+      (cond (not (is_free (line z w same i) frame)) (Some NoFrame) None)))
+
+  pub page_agrees : unwrap_or (lowest_unused_page z) 0 ≡ unwrap_or (lowest_unused_page w) 0
+  page_agrees = λ i. unwrap_or (lowest_unused_page (line z w same i)) 0
+
+  pub mapped_agrees : (client : ℕ) (a : Address) (unmovable : Bool) (frame : ℕ) → IsSame (mapped z client a unmovable frame) (mapped w client a unmovable frame)
+  mapped_agrees client a unmovable frame =
+      let next = noted_same z w same _ _ (ap (Map client a) page_agrees) refl refl refl refl refl refl in
+      record {
+        number = next.number;
+        blocks = next.blocks;
+        page_size = next.page_size;
+        placement = λ i. map.insert (same.placement i) (page_agrees i) (At frame);
+        unmovable = λ i. cond unmovable (set.insert (same.unmovable i) (page_agrees i)) (same.unmovable i);
+        marked = next.marked;
+        handed_out = next.handed_out;
+        contents = next.contents;
+        records = next.records;
+        length_is = next.length_is;
+        back = next.back;
+        out_is = next.out_is;
+        room = next.room;
+      }
+
+  -- shares
+
+  maps_agrees : (a : Address) → maps_at z a ≡ maps_at w a
+  maps_agrees a = ap (λ (page : ℕ). maps z.records page) (number_same z w same a) ∙ maps_same z w same (unwrap_or (page_at w.records a) 0)
+
+  pub share_agrees : (a alias : Address) → share_refusal z a alias ≡ share_refusal w a alias
+  share_agrees a alias = λ i.
+      cond (not (room_same z w same i)) (Some JournalFull)
+      (option_or (placement_refusal (place_same z w same a i))
+      (cond (is_some (page_same z w same alias i)) (Some Occupied) (cond (nat_le 4 (maps_agrees a i)) (Some ShareFull) None)))
+
+  pub shared_agrees : (client : ℕ) (a alias : Address) → IsSame (shared z client a alias) (shared w client a alias)
+  shared_agrees client a alias = noted_same z w same _ _ refl refl refl refl refl refl refl
+
+  -- pins
+
+  pins_agrees : (a : Address) → pins_at z a ≡ pins_at w a
+  pins_agrees a = ap (λ (page : ℕ). pins z.records page) (number_same z w same a) ∙ pins_same z w same (unwrap_or (page_at w.records a) 0)
+
+  pub pin_agrees : (a : Address) → pin_refusal z a ≡ pin_refusal w a
+  pin_agrees a = λ i.
+      cond (not (room_same z w same i)) (Some JournalFull)
+      (cond (is_none (page_same z w same a i)) (Some Unmapped) (cond (nat_le 255 (pins_agrees a i)) (Some PinFull) None))
+
+  pub unpin_agrees : (a : Address) → unpin_refusal z a ≡ unpin_refusal w a
+  unpin_agrees a = λ i.
+      cond (not (room_same z w same i)) (Some JournalFull)
+      (cond (is_none (page_same z w same a i)) (Some Unmapped) (cond (nat_eq (pins_agrees a i) 0) (Some NotPinned) None))
+
+  pub pinned_agrees : (client : ℕ) (a : Address) → IsSame (pinned z client a) (pinned w client a)
+  pinned_agrees client a = noted_same z w same _ _ refl refl refl refl refl refl refl
+
+  pub unpinned_agrees : (client : ℕ) (a : Address) → IsSame (unpinned z client a) (unpinned w client a)
+  unpinned_agrees client a = noted_same z w same _ _ refl refl refl refl refl refl refl
+
+  -- unmaps
+
+  last_agrees : (a : Address) → is_last z a ≡ is_last w a
+  last_agrees a = ap (λ n. nat_eq n 1) (maps_agrees a)
+
+  pub unmap_agrees : (a : Address) → unmap_refusal z a ≡ unmap_refusal w a
+  unmap_agrees a = λ i.
+      cond (not (room_same z w same i)) (Some JournalFull)
+      (option_or (placement_refusal (place_same z w same a i)) (cond (last_agrees a i && not (nat_eq (pins_agrees a i) 0)) (Some Pinned) None))
+
+  without_agrees : (client : ℕ) (a : Address) → IsSame (noted z (Unmap client a)) (noted w (Unmap client a))
+      → IsSame (without_page (noted z (Unmap client a)) (unwrap_or (page_at z.records a) 0)) (without_page (noted w (Unmap client a)) (unwrap_or (page_at w.records a) 0))
+  without_agrees client a next =
+      let page = number_same z w same a in
+      record {
+        number = next.number;
+        blocks = next.blocks;
+        page_size = next.page_size;
+        placement = λ i. map.remove (same.placement i) (page i);
+        unmovable = λ i. set.remove (same.unmovable i) (page i);
+        marked = next.marked;
+        handed_out = next.handed_out;
+        contents = next.contents;
+        records = next.records;
+        length_is = next.length_is;
+        back = next.back;
+        out_is = next.out_is;
+        room = next.room;
+      }
+
+  pub unmapped_agrees : (client : ℕ) (a : Address) → IsSame (unmapped z client a) (unmapped w client a)
+  unmapped_agrees client a = by (is_last z a) (is_last w a) (last_agrees a) where
+    next : IsSame (noted z (Unmap client a)) (noted w (Unmap client a))
+    next = noted_same z w same _ _ refl refl refl refl refl refl refl
+
+    by : (b c : Bool) → b ≡ c → IsSame (cond b (without_page (noted z (Unmap client a)) (unwrap_or (page_at z.records a) 0)) (noted z (Unmap client a)))
+        (cond c (without_page (noted w (Unmap client a)) (unwrap_or (page_at w.records a) 0)) (noted w (Unmap client a)))
+    by true true e = without_agrees client a next
+    by false false e = next
+    by true false e = cc
+    by false true e = cc
+
+  -- blocks
+
+  pub run_agrees : (order : ℕ) → lowest_run z order ≡ lowest_run w order
+  run_agrees order = λ i. lowest_run (line z w same i) order
+
+  pub take_agrees : (order : ℕ) → take_order_refusal z order ≡ take_order_refusal w order
+  take_agrees order = λ i. cond (not (room_same z w same i)) (Some JournalFull) (cond (is_none (run_agrees order i)) (Some NoBlock) None)
+
+  pub give_agrees : (first order : ℕ) → give_order_refusal z first order ≡ give_order_refusal w first order
+  give_agrees first order = λ i.
+      cond (not (has_block (line z w same i) order first)) (Some Range)
+      (cond (not (room_same z w same i)) (Some JournalFull) (cond (not (is_order (map.get (same.handed_out i) first) order)) (Some NotHuge) None))
+
+  pub taken_agrees : (first order : ℕ) → IsSame (block_taken z first order) (block_taken w first order)
+  taken_agrees first order =
+      let next = noted_same z w same (TakeHuge first order) (TakeHuge first order) refl refl refl refl refl refl refl in
+      record {
+        number = next.number;
+        blocks = next.blocks;
+        page_size = next.page_size;
+        placement = next.placement;
+        unmovable = next.unmovable;
+        marked = next.marked;
+        handed_out = ap (λ m. map.insert m first order) same.handed_out;
+        contents = λ i. map.insert (same.contents i) first (replicate (2 ^ order * same.page_size i) 0);
+        records = next.records;
+        length_is = next.length_is;
+        back = next.back;
+        out_is = next.out_is;
+        room = next.room;
+      }
+
+  pub given_agrees : (first order : ℕ) → IsSame (block_given z first order) (block_given w first order)
+  given_agrees first order =
+      let next = noted_same z w same (GiveHuge first order) (GiveHuge first order) refl refl refl refl refl refl refl in
+      record {
+        number = next.number;
+        blocks = next.blocks;
+        page_size = next.page_size;
+        placement = next.placement;
+        unmovable = next.unmovable;
+        marked = next.marked;
+        handed_out = ap (λ m. map.remove m first) same.handed_out;
+        contents = ap (λ m. map.remove m first) same.contents;
+        records = next.records;
+        length_is = next.length_is;
+        back = next.back;
+        out_is = next.out_is;
+        room = next.room;
+      }
+
+  pub contents_refusal_agrees : (first order from count : ℕ) → contents_refusal z first order from count ≡ contents_refusal w first order from count
+  contents_refusal_agrees first order from count = λ i. contents_refusal (line z w same i) first order from count
+
+  pub contents_from_agrees : (first from count : ℕ) → contents_from z first from count ≡ contents_from w first from count
+  contents_from_agrees first from count = λ i. contents_from (line z w same i) first from count
+
+  pub written_agrees : (first from : ℕ) (values : List ℕ) → IsSame (contents_written z first from values) (contents_written w first from values)
+  written_agrees first from values = record {
+    number = same.number;
+    blocks = same.blocks;
+    page_size = same.page_size;
+    placement = same.placement;
+    unmovable = same.unmovable;
+    marked = same.marked;
+    handed_out = same.handed_out;
+    contents = λ i. (contents_written (line z w same i) first from values).contents;
+    records = same.records;
+    length_is = same.length_is;
+    back = same.back;
+    out_is = same.out_is;
+    room = same.room;
+  }
+
+  -- marks
+
+  pub mark_agrees : (block : ℕ) → mark_refusal z block ≡ mark_refusal w block
+  mark_agrees block = λ i.
+      cond (not (nat_lt block (same.blocks i))) (Some Range)
+      (cond (not (room_same z w same i)) (Some JournalFull) (cond (set.contains (same.marked i) block) (Some Marked) None))
+
+  pub unmark_agrees : (block : ℕ) → unmark_refusal z block ≡ unmark_refusal w block
+  unmark_agrees block = λ i.
+      cond (not (nat_lt block (same.blocks i))) (Some Range)
+      (cond (not (room_same z w same i)) (Some JournalFull) (cond (not (set.contains (same.marked i) block)) (Some NotMarked) None))
+
+  pub told_agrees : (block : ℕ) → marked_of z block ≡ marked_of w block
+  told_agrees block = λ i. marked_of (line z w same i) block
+
+  with_marks : (entry : Record) (f : set.FinSet nat_cmp → set.FinSet nat_cmp) → IsSame (noted z entry) (noted w entry) → IsSame (record (noted z entry) { marked = f z.marked }) (record (noted w entry) { marked = f w.marked })
+  with_marks entry f next = record {
+    number = next.number;
+    blocks = next.blocks;
+    page_size = next.page_size;
+    placement = next.placement;
+    unmovable = next.unmovable;
+    marked = ap f same.marked;
+    handed_out = next.handed_out;
+    contents = next.contents;
+    records = next.records;
+    length_is = next.length_is;
+    back = next.back;
+    out_is = next.out_is;
+    room = next.room;
+  }
+
+  pub marked_agrees : (block : ℕ) → IsSame (block_marked z block) (block_marked w block)
+  marked_agrees block = with_marks (Mark block) (λ m. set.insert m block) (noted_same z w same (Mark block) (Mark block) refl refl refl refl refl refl refl)
+
+  pub unmarked_agrees : (block : ℕ) → IsSame (block_unmarked z block) (block_unmarked w block)
+  unmarked_agrees block = with_marks (Unmark block) (λ m. set.remove m block) (noted_same z w same (Unmark block) (Unmark block) refl refl refl refl refl refl refl)
+
+  -- looks
+
+  look_by_agrees : (page : ℕ) (o : Option Placement) → look_by z page o ≡ look_by w page o
+  look_by_agrees page None = refl
+  look_by_agrees page (Some (At frame)) = λ i. Some (look.At frame (page_flags (set.contains (same.unmovable i) page) (dirty_same z w same page i)) (pins_same z w same page i) (maps_same z w same page i))
+  look_by_agrees page (Some (Moving serial source target)) = λ i. Some (look.Moving serial (pins_same z w same page i) (maps_same z w same page i))
+
+  look_page_agrees : (page : ℕ) → look_by z page (map.get z.placement page) ≡ look_by w page (map.get w.placement page)
+  look_page_agrees page = look_by_agrees page (map.get z.placement page) ∙ ap (λ m. look_by w page (map.get m page)) same.placement
+
+  pub look_agrees : (a : Address) → look_of z a ≡ look_of w a
+  look_agrees a = λ i. option_and_then (λ page. look_page_agrees page i) (page_same z w same a i)
+
+  pub info_agrees : info_of z ≡ info_of w
+  info_agrees = λ i. record (info_of (line z w same i)) { moving = length (same.out_is i) }
