@@ -1,3 +1,4 @@
+pub mod Bounds
 pub mod Each
 pub mod Ends
 mod FlatRows

@@ -10,7 +10,7 @@ use Rattle.frame_core.proofs.Lists.{slice_get_set_same, slice_get_set_other}
 use Rattle.frame_core.proofs.Searches.{count_more, count_same, count_from_more, count_from_same, lowest_same}
 use Rattle.scan_core.specs.BlockCounts.{CountsFree, is_all_counted}
 use Rattle.scan_core.specs.Frames.{is_free_state, free_at, free_frames, free_in_block, is_whole, blocks_of}
-use Rattle.scan_core.proofs.Bounds.{count_past, lowest_past, count_from_short}
+use Rattle.frame_core.proofs.Bounds.{count_past, lowest_past, count_from_short}
 
 pub free_at_item : (states : List FrameState) (frame : ℕ) (d : FrameState) → frame < length states → free_at states frame ≡ is_free_state (Some (get_or states frame d))
 free_at_item states frame d within = ap is_free_state (slice_get-get_or states frame d within)

@@ -15,7 +15,7 @@ use Rattle.frame_core.specs.declared.state.FrameState.{FrameState}
 use Rattle.scan_core.specs.Frames.{free_at, true_at}
 use Rattle.scan_core.specs.NumberSet.{all_from, capacity, in_run}
 use Rattle.scan_core.specs.Pairs.{is_marked}
-use Rattle.scan_core.proofs.Bounds.{count_from_short}
+use Rattle.frame_core.proofs.Bounds.{count_from_short}
 use Rattle.scan_core.proofs.Counting.{not_free_past}
 use Rattle.scan_core.proofs.Numbering.{capacity_is, member_insert, member_remove}
 use Rattle.scan_core.proofs.Orders.{run_aligned, run_within, first_of_run, runs_end}

@@ -1,5 +1,4 @@
 pub mod Absent
-pub mod Bounds
 pub mod Counting
 pub mod Found
 pub mod FrameSets

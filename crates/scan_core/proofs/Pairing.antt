@@ -13,7 +13,7 @@ use Rattle.scan_core.specs.declared.fingers.Fingers.{Fingers}
 use Rattle.scan_core.specs.Frames.{free_at, holds_at, is_free_state, is_holding_state, true_at}
 use Rattle.scan_core.specs.Pairs.{IsSource, IsTarget, IsPair, is_marked, is_source, is_target, next_source, next_target}
 use Rattle.scan_core.specs.Seen.{IsTold}
-use Rattle.scan_core.proofs.Bounds.{highest_some, highest_above, no_highest}
+use Rattle.frame_core.proofs.Bounds.{highest_some, highest_above, no_highest}
 use Rattle.scan_core.proofs.Masking.{and_false}
 
 both : (a b : Bool) → (a && b) ≡ true → (a ≡ true) × (b ≡ true)

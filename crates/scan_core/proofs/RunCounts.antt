@@ -9,7 +9,7 @@ use Rattle.frame_core.proofs.Lists.{slice_get_set_same, slice_get_set_other}
 use Rattle.frame_core.proofs.Searches.{count_more, count_same, count_from_same, count_from_most}
 use Rattle.scan_core.specs.FrameSet.{Counts, count_in_block}
 use Rattle.scan_core.specs.NumberSet.{capacity, in_run}
-use Rattle.scan_core.proofs.Bounds.{count_most}
+use Rattle.frame_core.proofs.Bounds.{count_most}
 use Rattle.scan_core.proofs.Numbering.{capacity_is}
 use Rattle.scan_core.proofs.Seeing.{run_next, run_none}
 use Rattle.scan_core.proofs.Spanning.{same_by, in_run_is, is_in_run}

@@ -18,7 +18,7 @@ use Rattle.scan_core.specs.Runs.{first_run, has_block, is_run}
 use Rattle.scan_core.specs.Seen.{seen, IsTold}
 use Rattle.scan_core.specs.Sound.{IsSound}
 use Rattle.scan_core.specs.declared.frames.Frames.TheInside.{Inside}
-use Rattle.scan_core.proofs.Bounds.{count_past, lowest_past}
+use Rattle.frame_core.proofs.Bounds.{count_past, lowest_past}
 use Rattle.scan_core.proofs.Counting.{not_free_past, not_whole_past}
 use Rattle.scan_core.proofs.FrameSets.{all_pass}
 use Rattle.scan_core.proofs.Masking.{clash}

@@ -16,7 +16,7 @@ use Rattle.scan_core.specs.Bits.{has_bit, has_number}
 use Rattle.scan_core.specs.NumberSet.{all_from, in_run, numbers_of}
 use Rattle.scan_core.specs.Spans.{in_words, Spans}
 use Rattle.scan_core.specs.declared.numbers.Span.{Span}
-use Rattle.scan_core.proofs.Bounds.{count_from_short}
+use Rattle.frame_core.proofs.Bounds.{count_from_short}
 use Rattle.scan_core.proofs.Masking.{has_bit_and, has_bit_zero, pow_fits}
 use Rattle.scan_core.proofs.Numbering.{member}
 

@@ -9,7 +9,6 @@ pub mod Facts
 pub mod Filled
 pub mod Finding
 pub mod HandingOut
-pub mod Highest
 pub mod Holding
 pub mod Isolating
 pub mod LawfulMoves

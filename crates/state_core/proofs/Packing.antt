@@ -14,7 +14,7 @@ use Rattle.state_core.specs.Packed.{IsPacked, is_unmarked, place_of, unmarked_fr
 use Rattle.state_core.specs.Pairs.{IsSource, HaveMet, is_marked, next_source, next_target}
 use Rattle.state_core.specs.Swept.{IsSwept}
 use Rattle.state_core.specs.ZoneState.{ZoneState, frame_count, takes_up, is_used, is_held, is_free, is_quiet}
-use Rattle.state_core.proofs.Highest.{no_highest}
+use Rattle.frame_core.proofs.Bounds.{no_highest}
 use Rattle.state_core.proofs.Pairing.{is_from, is_to, source_passes, passes_source, target_passes, found_pair}
 use Rattle.state_core.proofs.Holding.{at_rest, at_takes}
 use Rattle.state_core.proofs.Places.{untaken}

@@ -8,7 +8,7 @@ use Rattle.state_core.specs.declared.round.Pair.{Pair}
 use Rattle.state_core.specs.Lawful.{IsValidZone}
 use Rattle.state_core.specs.Pairs.{IsSource, IsTarget, IsPair, HaveMet, is_marked, can_move, can_move_if_some, holder, holds_movable, is_free_unmarked, next_source, next_target, pair_from, pair_at, next_pair}
 use Rattle.state_core.specs.ZoneState.{ZoneState, frame_count, is_free}
-use Rattle.state_core.proofs.Highest.{highest_is, highest_some, highest_above}
+use Rattle.frame_core.proofs.Bounds.{highest_is, highest_some, highest_above}
 use Rattle.state_core.proofs.Holding.{holder_at, holder_found}
 
 -- where a page that may be none may be taken, there is one

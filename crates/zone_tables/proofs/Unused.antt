@@ -8,7 +8,7 @@ use Rattle.std.proofs.lemmas.Bool.Decides.{eqb_tells}
 use Rattle.frame_core.proofs.Searches.{lowest_same}
 use Rattle.frame_core.specs.Below.{lowest}
 use Rattle.scan_core.specs.NumberSet.{capacity}
-use Rattle.scan_core.proofs.Bounds.{lowest_past}
+use Rattle.frame_core.proofs.Bounds.{lowest_past}
 use Rattle.scan_core.proofs.Numbering.{capacity_is, member_insert}
 use Rattle.scan_core.proofs.Spanning.{same_by}
 

@@ -4,7 +4,7 @@ use Rattle.std.specs.FinSet as set
 use Rattle.std.proofs.lemmas.Bool.{lt-ltb, le-ltb}
 use Rattle.std.proofs.lemmas.Bool.Decides.{leb_tells}
 use Rattle.scan_core.specs.Pairs.{is_marked}
-use Rattle.scan_core.proofs.Bounds.{highest_is, highest_none}
+use Rattle.frame_core.proofs.Bounds.{highest_is, highest_none}
 use Rattle.scan_core.proofs.Found.{some_is}
 use Rattle.scan_core.proofs.pair.next_target.Goals as goal
 

@@ -1,4 +1,4 @@
--- Laws of searches and counts below a bound that frame_core lacks.
+-- Laws of the lowest and highest numbers below a bound that pass, and of counts where some fail.
 use Rattle.std.proofs.Common.{◌≡◌, ℕ, zero, suc, ◌+◌, ◌<◌, ◌≤◌, Bool, true, false, ◌⊎◌, inl, inr, refl, sym, ap, ◌∙◌, arith}
 use Rattle.std.specs.Prelude.{Option, Some, None, nat_eq, ◌||◌, if◌then◌else◌}
 use Rattle.std.specs.Option.{option_or}
