@@ -12,12 +12,12 @@ import tempfile
 
 import runs
 
-ZONE = "frame_core told_core word_core journal_core table_core scan_core state_core zone_tables zone_core".split()
+ZONE = "frame_core table_core scan_core state_core zone_tables zone_core".split()
 REACHES = "crates/frame_core/src/fixed_vec.rt"
 OWNERS = re.compile(r"\b(Vec|VecDeque|Box|String|Rc|Arc|HashMap|BTreeMap|HashSet|BTreeSet|BinaryHeap|LinkedList)\b")
 FIELDS = re.compile(r"^(?:pub )?(?:struct|enum|union) .*?^}", re.DOTALL | re.MULTILINE)
 
-FILE = "crates/journal_core/src/journal.rt"
+FILE = "crates/frame_core/src/journal.rt"
 PUSH = "            records.push(entry);\n"
 PLANTED = "{asks}            records.push(entry);\n"
 ASKS = {

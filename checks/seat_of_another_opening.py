@@ -11,14 +11,14 @@ import tempfile
 import runs
 
 CRATE = "other_seat"
-LIBRARIES = "word_core zone_core"
+LIBRARIES = "frame_core zone_core"
 WANTED = "error[mismatched-types]: expected `&mut EndSeat<M, B>`, found `&mut EndSeat<P, Q>`"
 
 HEAD = """//! Ends a move in one of two zones.
 #![tactic(auto)]
 
+use frame_core::Copied;
 use std::sync::ledger::Ledger;
-use word_core::Copied;
 use zone_core::{EndSeat, Ended, Stranger, Zone};
 """
 FUNCTION = """

@@ -1,9 +1,9 @@
 """No proof by hand stands in a crate that can reach a told list, but for those of the handle of the library for C.
 
-A told list (`told_core`) has no bytes: only clauses fix what it tells. The prover's own proofs keep to them. A proof by hand of
-a function that is handed such a list, or anything that has one in it, could give it other items. So the crates that stand on
-`told_core` have none: no file `Proof.antt`, and no word `unsafe`, which asks for one. `told_core` itself has one such proof, of the
-function that makes a value for contracts of what a reference shows, and says beside it that any thread may have such a value.
+A told list (`Told` of `frame_core`) has no bytes: only clauses fix what it tells. The prover's own proofs keep to them. A proof by
+hand of a function that is handed such a list, or anything that has one in it, could give it other items. So `frame_core` and the
+crates that stand on it have none: no file `Proof.antt`, and no word `unsafe`, which asks for one. `frame_core` has the one exception:
+the function that makes a value for contracts of what a reference shows. Its file says too that any thread may have such a value.
 
 The library for C keeps a zone, with the list in it, behind a pointer. The functions of its handle, in `compactd_c/src/pool*`, are
 proved by hand: they test the pointer, and make of a box its pointer and of the pointer a box. What such a proof has of a zone is
@@ -15,13 +15,13 @@ import re
 
 import runs
 
-LIST = "told_core"
+LIST = "frame_core"
 UNSAFE = re.compile(r"\bunsafe\b")
 # An export's name is marked so, which asks for no proof.
 EXPORTED = "#[unsafe(no_mangle)]"
 OF_A_LIST = re.compile(r"told|journal|records?\b", re.IGNORECASE)
 HANDLE = re.compile(r"crates/compactd_c/(src/pool(/\w+)*\.rt|proofs/pool/.*\.antt)")
-ITS_OWN = {"crates/told_core/proofs/seen/Seen/of/Proof.antt", "crates/told_core/src/seen.rt"}
+ITS_OWN = {"crates/frame_core/proofs/seen/Seen/of/Proof.antt", "crates/frame_core/src/seen.rt"}
 
 
 def uses():

@@ -14,7 +14,7 @@ use Rattle.hand_core.specs.Queue.{Each}
 use Rattle.hand_core.specs.CopyQueue.{taker_account, sender_account, sender_of, messages_of, sent_by, all_sent, InTurn, after_send, Comes, folded, nothing_known, Tells}
 use Rattle.hand_core.specs.CopyEnds.{has_mark}
 use Rattle.hand_core.proofs.EachEnd.{each_set}
-use Rattle.hand_core.proofs.Messages.{messages-append, messages_own, messages_other, nobody_sent, nothing_behind_mark, all_sent-copies, all_sent-mark}
+use Rattle.hand_core.proofs.Messages.{messages-append, messages_own, messages_other, nobody_sent, nothing_after_mark, all_sent-copies, all_sent-mark}
 
 -- what the rule says of a sender, and of the taker
 abbrev Sent : (ℕ → ℕ) → ℕ → List Message → ℕ → Account → Type 0
@@ -212,4 +212,4 @@ all_received (x ∷ queue) ends r marked =
     let k : ℕ = sender_of x in
     let his = r.closed k in
     let none : messages_of k (x ∷ queue) ≡ [] =
-    nothing_behind_mark k his.0 his.1 r.came (x ∷ queue) his.2 (marked k (was_made (x ∷ queue) ends r x queue refl)) in absurd (nobody_sent k [] x queue none refl)
+    nothing_after_mark k his.0 his.1 r.came (x ∷ queue) his.2 (marked k (was_made (x ∷ queue) ends r x queue refl)) in absurd (nobody_sent k [] x queue none refl)

@@ -17,7 +17,7 @@ use Rattle.hand_core.specs.Batches.{Batch, pages_of}
 use Rattle.hand_core.specs.PageEnds.{Giver, Taker, off, off_by, count_ended}
 use Rattle.hand_core.specs.PageQueue.{all_off, all_ended}
 use Rattle.hand_core.proofs.PageSteps.{queue_of}
-use Rattle.hand_core.proofs.Serials.{serials_front, serials_behind}
+use Rattle.hand_core.proofs.Serials.{serials_front, serials_after}
 
 off_is : (takers : List Taker) → all_off (map known_to takers) ≡ off_by takers
 off_is [] = refl
@@ -86,7 +86,7 @@ handed_over queue g takers holds =
       off = subst (IsPermutation (serials_of (off_by takers))) (front ∙ ap (λ n. range_with_len r.base n) many)
           (IsPermutation-map (λ (p : IsolatedPage). p.serial) (off_by takers) r.off together);
       queued = subst (λ n. HasSerialsFrom (r.base + n) (pages_in queue)) many
-          (subst (HasSerialsFrom (r.base + length r.off)) (sym waits) (serials_behind r.base r.off (pages_of r.waiting) r.serials));
+          (subst (HasSerialsFrom (r.base + length r.off)) (sym waits) (serials_after r.base r.off (pages_of r.waiting) r.serials));
       off_whole = subst (IsPermutation (off_by takers)) (sym (ap (λ l. take (length (off_by takers)) l) pages ∙ ap (λ n. take n (r.off ++ pages_of r.waiting)) (sym many) ∙ take-append_seam r.off (pages_of r.waiting))) together;
       queued_whole = waits ∙ sym (ap (λ l. drop (length (off_by takers)) l) pages ∙ ap (λ n. drop n (r.off ++ pages_of r.waiting)) (sym many) ∙ drop-append_seam r.off (pages_of r.waiting));
       marks = (r.waiting, r.queued ∙ ap (λ m. map Pages r.waiting ++ replicate m Mark) (sym left));

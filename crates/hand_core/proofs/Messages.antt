@@ -151,9 +151,9 @@ mark_is_last sender (c ∷ sent) marked (x ∷ came) queue is has =
     mark_is_last sender sent marked came queue rest (ap (λ m. is_mark_of sender m || has_mark came sender) (sym first) ∙ has)
 
 -- once a sender's mark was received, the queue holds none of its messages
-pub nothing_behind_mark : (sender : ℕ) (sent : List Batch) (marked : Bool) (came queue : List Message)
+pub nothing_after_mark : (sender : ℕ) (sent : List Batch) (marked : Bool) (came queue : List Message)
     → messages_of sender (came ++ queue) ≡ sent_by sender sent marked → has_mark came sender ≡ true → messages_of sender queue ≡ []
-nothing_behind_mark sender sent marked came queue is has =
+nothing_after_mark sender sent marked came queue is has =
     mark_is_last sender sent marked (messages_of sender came) (messages_of sender queue) (sym (messages-append sender came queue) ∙ is) (mark_kept sender came ∙ has)
 
 -- where all numbers of a run pass, each of them does

@@ -20,7 +20,7 @@ use Rattle.hand_core.specs.PageQueue.{giver_knows, taker_knows, total, all_off, 
 use Rattle.hand_core.specs.Batches.{Batch, pages_of}
 use Rattle.hand_core.specs.Queue.{Each}
 use Rattle.hand_core.proofs.EachEnd.{each_set, each_new}
-use Rattle.hand_core.proofs.Serials.{serials-append, serials_front, serials_behind, serials_below, rising-append, rising-nil}
+use Rattle.hand_core.proofs.Serials.{serials-append, serials_front, serials_after, serials_below, rising-append, rising-nil}
 use Rattle.hand_core.proofs.Totals.{total_set, total_same, total_new, total_alone, off_same, off_new, off_longer, off_joined, off_alone, all_of_end}
 
 abbrev pub queue_of : List Batch → ℕ → List Note
@@ -193,7 +193,7 @@ pages_off number v h queue ends plain share r at =
     let ended : all_ended (set ends number w) ≡ all_ended ends = total_same (λ u. u.ended) ends number v w at refl in
     let serials : HasSerialsFrom r.base ((r.off ++ h.items) ++ pages_of rest) = subst (HasSerialsFrom r.base) moved r.serials in
     let next : HasSerialsFrom (r.base + length r.off) h.items =
-    serials_behind r.base r.off h.items (serials_front r.base (r.off ++ h.items) (pages_of rest) serials) in
+    serials_after r.base r.off h.items (serials_front r.base (r.off ++ h.items) (pages_of rest) serials) in
     let below : All (λ (q : IsolatedPage). q.serial < r.base + length r.off) v.off =
     all_of_end (λ q. q.serial < r.base + length r.off) ends number v at
     (All-permutation (λ (q : IsolatedPage). q.serial < r.base + length r.off) r.off (all_off ends) (IsPermutation-sym (all_off ends) r.off r.together)

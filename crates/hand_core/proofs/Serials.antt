@@ -53,11 +53,11 @@ serials_front first (p ∷ pages) rest h =
     ap (λ l. p.serial ∷ l) inner ∙ ap (λ n. n ∷ range_with_len (first + 1) (length pages)) same
 
 -- the pages after these have the serials that come next
-pub serials_behind : (first : ℕ) (pages rest : List IsolatedPage) → HasSerialsFrom first (pages ++ rest) → HasSerialsFrom (first + length pages) rest
-serials_behind first [] rest h = subst (λ n. HasSerialsFrom n rest) (let e : first ≡ first + 0 = omega arith in e) h
-serials_behind first (p ∷ pages) rest h =
+pub serials_after : (first : ℕ) (pages rest : List IsolatedPage) → HasSerialsFrom first (pages ++ rest) → HasSerialsFrom (first + length pages) rest
+serials_after first [] rest h = subst (λ n. HasSerialsFrom n rest) (let e : first ≡ first + 0 = omega arith in e) h
+serials_after first (p ∷ pages) rest h =
     subst (λ n. HasSerialsFrom n rest) (let e : first + 1 + length pages ≡ first + suc (length pages) = omega arith in e)
-    (serials_behind (first + 1) pages rest (tail_of p.serial first (serials_of (pages ++ rest)) (range_with_len (first + 1) (length (pages ++ rest))) h))
+    (serials_after (first + 1) pages rest (tail_of p.serial first (serials_of (pages ++ rest)) (range_with_len (first + 1) (length (pages ++ rest))) h))
 
 -- the page after some pages has the serial that comes next
 pub serial_at : (first : ℕ) (pages : List IsolatedPage) (p : IsolatedPage) (rest : List IsolatedPage) → HasSerialsFrom first (pages ++ p ∷ rest) → p.serial ≡ first + length pages

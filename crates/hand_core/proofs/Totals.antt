@@ -66,8 +66,8 @@ pub off_new : (ends : List Known) (new : Known) → new.off ≡ [] → all_off (
 off_new [] new e = append-nil new.off ∙ e
 off_new (x ∷ ends) new e = ap (λ l. x.off ++ l) (off_new ends new e)
 
-behind : (first rest more : List IsolatedPage) → Same ((first ++ more) ++ rest) ((first ++ rest) ++ more)
-behind first rest more =
+after : (first rest more : List IsolatedPage) → Same ((first ++ more) ++ rest) ((first ++ rest) ++ more)
+after first rest more =
     IsPermutation-trans ((first ++ more) ++ rest) (first ++ (rest ++ more)) ((first ++ rest) ++ more)
     (IsPermutation-trans ((first ++ more) ++ rest) (first ++ (more ++ rest)) (first ++ (rest ++ more))
     (same_is ((first ++ more) ++ rest) (first ++ (more ++ rest)) (append_assoc first more rest))
@@ -80,7 +80,7 @@ pub off_longer : (ends : List Known) (number : ℕ) (v w : Known) (more : List I
 off_longer [] number v w more at e = absurd (some-ne-none v (sym at))
 off_longer (x ∷ ends) zero v w more at e =
     let is : w.off ≡ x.off ++ more = e ∙ ap (λ (u : Known). u.off ++ more) (sym (some-injective x v at)) in
-    subst (λ l. IsPermutation (l ++ all_off ends) ((x.off ++ all_off ends) ++ more)) (sym is) (behind x.off (all_off ends) more)
+    subst (λ l. IsPermutation (l ++ all_off ends) ((x.off ++ all_off ends) ++ more)) (sym is) (after x.off (all_off ends) more)
 off_longer (x ∷ ends) (suc number) v w more at e =
     subst (λ l. IsPermutation (x.off ++ all_off (set ends number w)) l) (sym (append_assoc x.off (all_off ends) more))
     (IsPermutation-append_right x.off (all_off (set ends number w)) (all_off ends ++ more) (off_longer ends number v w more at e))

@@ -13,13 +13,13 @@ use Rattle.hand_core.specs.CopyQueue.{messages_of, InTurn}
 use Rattle.hand_core.specs.Batches.{before_hand}
 
 -- the name of the queue of copies that an end belongs to
-abbrev pub Way : Type 0
-Way = QueueName Message
+abbrev pub QueueOfCopies : Type 0
+QueueOfCopies = QueueName Message
 
 -- a sender: its queue, how many copies a batch has at most, its number, the copies that it sent, in their order, whether it put its
 -- mark, and whether it is closed
 pub record DoneSender : Type 0 where
-  pub way : Way
+  pub queue : QueueOfCopies
   pub most : ℕ
   pub number : ℕ
   pub sent : List IsolatedPage
@@ -29,7 +29,7 @@ pub record DoneSender : Type 0 where
 -- the taker of a queue of copies: its queue, the queue's room in batches, the number of senders, the messages received, in their
 -- order, and the copies of the last batch that no call has answered yet
 pub record DoneTaker : Type 0 where
-  pub way : Way
+  pub queue : QueueOfCopies
   pub room : ℕ
   pub senders : ℕ
   pub came : List Message

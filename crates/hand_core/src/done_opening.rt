@@ -22,9 +22,9 @@ pub fn done_open<R>(
     cap: usize,
 ) -> Result<(Vec<DoneSender>, DoneTaker), HandError>
     ensures range { (result ≡ Err HandError.Range) ↔ (¬ ((0 < senders) × (senders ≤ 4) × (0 < cap) × (cap ≤ 64))) }
-    ensures taker { IfOk result (λ ends. ends.1 ≡ record { way = ends.1.way; room = cap; senders = senders; came = []; in_hand = [] }) }
+    ensures taker { IfOk result (λ ends. ends.1 ≡ record { queue = ends.1.queue; room = cap; senders = senders; came = []; in_hand = [] }) }
     ensures senders { IfOk result (λ ends. vec_len ends.0 ≡ senders) }
-    ensures fresh { IfOk result (λ ends. (number : ℕ) → number < senders → slice_get ends.0.items number ≡ Some (record { way = ends.1.way; most = 1; number = number; sent = []; marked = false; closed = false })) }
+    ensures fresh { IfOk result (λ ends. (number : ℕ) → number < senders → slice_get ends.0.items number ≡ Some (record { queue = ends.1.queue; most = 1; number = number; sent = []; marked = false; closed = false })) }
 {
     if senders == 0 || senders > 4 || cap == 0 || cap > 64 {
         return Err(HandError::Range);
@@ -45,10 +45,10 @@ pub fn done_open_in_batches<R>(
     most: usize,
 ) -> Result<(Vec<DoneSender>, DoneTaker), HandError>
     ensures range { (result ≡ Err HandError.Range) ↔ (¬ ((0 < senders) × (senders ≤ 4) × (cap ≤ 64) × (0 < most) × (most ≤ 8) × (most ≤ cap))) }
-    ensures taker { IfOk result (λ ends. ends.1 ≡ record { way = ends.1.way; room = cap / most; senders = senders; came = []; in_hand = [] }) }
+    ensures taker { IfOk result (λ ends. ends.1 ≡ record { queue = ends.1.queue; room = cap / most; senders = senders; came = []; in_hand = [] }) }
     ensures cap { IfOk result (λ ends. ends.1.room * most ≤ cap) }
     ensures senders { IfOk result (λ ends. vec_len ends.0 ≡ senders) }
-    ensures fresh { IfOk result (λ ends. (number : ℕ) → number < senders → slice_get ends.0.items number ≡ Some (record { way = ends.1.way; most = most; number = number; sent = []; marked = false; closed = false })) }
+    ensures fresh { IfOk result (λ ends. (number : ℕ) → number < senders → slice_get ends.0.items number ≡ Some (record { queue = ends.1.queue; most = most; number = number; sent = []; marked = false; closed = false })) }
 {
     if senders == 0 || senders > 4 || cap > 64 || most == 0 || most > 8 || most > cap {
         return Err(HandError::Range);
@@ -66,9 +66,9 @@ fn opened(
     requires senders { senders ≤ 4 }
     requires room { 0 < room }
     requires most { (0 < most) × (most ≤ 8) }
-    ensures taker { IfOk result (λ ends. ends.1 ≡ record { way = ends.1.way; room = room; senders = senders; came = []; in_hand = [] }) }
+    ensures taker { IfOk result (λ ends. ends.1 ≡ record { queue = ends.1.queue; room = room; senders = senders; came = []; in_hand = [] }) }
     ensures senders { IfOk result (λ ends. vec_len ends.0 ≡ senders) }
-    ensures fresh { IfOk result (λ ends. (number : ℕ) → number < senders → slice_get ends.0.items number ≡ Some (record { way = ends.1.way; most = most; number = number; sent = []; marked = false; closed = false })) }
+    ensures fresh { IfOk result (λ ends. (number : ℕ) → number < senders → slice_get ends.0.items number ≡ Some (record { queue = ends.1.queue; most = most; number = number; sent = []; marked = false; closed = false })) }
 {
     let mut all = Vec::with_capacity(alloc, senders)?;
     let (to, from, mut pass) = bounded_with::<Message, Account, Turns, Global>(alloc, room)?;
@@ -98,7 +98,7 @@ fn add_senders(
     ensures channel { IsSeatAt (sends_on to.now) pass.new }
     ensures knows { OnOk result (view pass.new ≡ record taker_account { made = senders }) }
     ensures made { OnOk result (vec_len all.new ≡ senders) }
-    ensures fresh { OnOk result ((number : ℕ) → number < senders → slice_get all.new.items number ≡ Some (record { way = name_of (sends_on to.now); most = most; number = number; sent = []; marked = false; closed = false })) }
+    ensures fresh { OnOk result ((number : ℕ) → number < senders → slice_get all.new.items number ≡ Some (record { queue = name_of (sends_on to.now); most = most; number = number; sent = []; marked = false; closed = false })) }
 {
     for number in 0..senders {
         let theirs = to.another::<Makes>(pass);

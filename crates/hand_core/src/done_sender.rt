@@ -30,7 +30,7 @@ impl Model for DoneSender {
 
     ghost use Rattle.hand_core.specs.CopyInvariants.{IsSending};
 
-    ghost view = { λ s. record { way = name_of (sends_on s.to); most = s.most; number = s.number; sent = pages_of (knows s.pass).sent; marked = (knows s.pass).marked; closed = s.closed } };
+    ghost view = { λ s. record { queue = name_of (sends_on s.to); most = s.most; number = s.number; sent = pages_of (knows s.pass).sent; marked = (knows s.pass).marked; closed = s.closed } };
 
     ghost invariant = { IsSending };
 }

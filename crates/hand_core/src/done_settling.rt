@@ -9,7 +9,7 @@ use crate::done_taker::DoneTaker;
 /// For a taker that was answered the end: what it received of each sender is all that the sender sent, in its order, and the
 /// queue holds nothing, neither copies nor marks. The senders have to be of the taker's queue.
 pub fn done_settle(taker: DoneTaker, mut senders: Vec<DoneSender>)
-    requires way { All (λ s. s.way ≡ taker.way) senders.items }
+    requires queue { All (λ s. s.queue ≡ taker.queue) senders.items }
     requires ended { has_ended taker ≡ true }
     ensures copies { All (λ s. copies_of s.number taker.came ≡ s.sent) senders.items }
     ensures empty { (queue : List Message) → Holds queue taker → queue ≡ [] }

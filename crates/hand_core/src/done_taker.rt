@@ -34,7 +34,7 @@ impl Model for DoneTaker {
 
     ghost use Rattle.hand_core.specs.CopyInvariants.{IsReceiving};
 
-    ghost view = { λ t. record { way = name_of (receives_on t.from); room = ruled_capacity (receives_on t.from); senders = t.senders; came = (knows t.pass).came; in_hand = t.hand } };
+    ghost view = { λ t. record { queue = name_of (receives_on t.from); room = ruled_capacity (receives_on t.from); senders = t.senders; came = (knows t.pass).came; in_hand = t.hand } };
 
     ghost invariant = { IsReceiving };
 }

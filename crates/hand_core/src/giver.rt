@@ -88,10 +88,10 @@ impl Giver {
         ensures err { OnErr result (self.new ≡ self.old) }
     {
         let Giver { next, to, pass, .. } = self;
-        let behind = serial_behind(&pages, *next);
+        let after = serial_after(&pages, *next);
         let Err(refused) = patience::send::<Puts, _, _, _, R>(rt, to, pass, Note::Pages(pages))
         else {
-            *next = behind;
+            *next = after;
             return Ok(());
         };
         let Note::Pages(pages) = refused else {
@@ -136,7 +136,7 @@ impl Giver {
 }
 
 // The serial that comes after those of the pages, of which the first has the serial `next`.
-fn serial_behind(pages: &[Isolated], next: u64) -> u64
+fn serial_after(pages: &[Isolated], next: u64) -> u64
     requires serials { HasSerialsFrom next pages.now }
     requires fits { next ≤ 2 ^ 32 }
     ensures value { result ≡ next + length pages.now }

@@ -51,18 +51,18 @@ run_on c scan scan_between scan_new ends ends_between ends_new count latest was 
     }
 
 -- the collector stops after rounds that each moved a page
-pub stopped : (c : Collector) (scan scan_behind scan_new : ScanSeat) (ends ends_behind ends_new : EndSeat) (report : Report)
-    → IsRunning c scan scan_behind ends ends_behind report.rounds
-    → AreLeft report.stop scan_behind scan_new ends_behind ends_new
+pub stopped : (c : Collector) (scan scan_after scan_new : ScanSeat) (ends ends_after ends_new : EndSeat) (report : Report)
+    → IsRunning c scan scan_after ends ends_after report.rounds
+    → AreLeft report.stop scan_after scan_new ends_after ends_new
     → ((rounds : List Round) → report.rounds ≡ length rounds → HaveMoved rounds → IsReason c rounds report.stop)
     → HasRun c scan scan_new ends ends_new report
-stopped c scan scan_behind scan_new ends ends_behind ends_new report was left reason = record {
+stopped c scan scan_after scan_new ends ends_after ends_new report was left reason = record {
   rounds = was.rounds;
   count = was.count_is;
   most = was.most;
   needed = was.needed;
-  scan_behind = scan_behind;
-  ends_behind = ends_behind;
+  scan_after = scan_after;
+  ends_after = ends_after;
   ran = was.ran;
   left = left;
   reason = reason was.rounds was.count_is was.moved;
@@ -83,8 +83,8 @@ idled c scan scan_between scan_new ends ends_between ends_new report count lates
       count = omega (arith, more, length_was);
       most = omega (arith, more, most_was, left);
       needed = All-cons (λ (r : Round). IsRefused c.order zone.NoBlock) latest was.rounds refused was.needed;
-      scan_behind = scan_new;
-      ends_behind = ends_new;
+      scan_after = scan_new;
+      ends_after = ends_new;
       ran = (scan_between, ends_between, was.ran, ran);
       left = why.0;
       reason = why.1;

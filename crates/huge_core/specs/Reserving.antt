@@ -59,8 +59,8 @@ pub record HasRun (c : Collector) (scan scan_new : ScanSeat) (ends ends_new : En
   pub most : report.rounds ≤ c.rounds
   pub needed : WereNeeded c.order rounds
   -- the seats after these rounds
-  pub scan_behind : ScanSeat
-  pub ends_behind : EndSeat
-  pub ran : AreRounds rounds scan scan_behind ends ends_behind
-  pub left : AreLeft report.stop scan_behind scan_new ends_behind ends_new
+  pub scan_after : ScanSeat
+  pub ends_after : EndSeat
+  pub ran : AreRounds rounds scan scan_after ends ends_after
+  pub left : AreLeft report.stop scan_after scan_new ends_after ends_new
   pub reason : IsReason c rounds report.stop

@@ -7,7 +7,7 @@ use Rattle.text_core.specs.declared.fault.Fault.{Fault}
 use Rattle.text_core.specs.declared.fault.Fault.TheVariants.{Syntax, LongLine, Read, Write, Memory}
 use Rattle.text_core.specs.declared.fault.RunError.{RunError}
 use Rattle.text_core.specs.declared.totals.Totals.{Totals}
-use Rattle.machine_core.specs.Ends.{EndsIn, FailsBehind, LacksMemory, is_of_script, is_over}
+use Rattle.machine_core.specs.Ends.{EndsIn, FailsAfter, LacksMemory, is_of_script, is_over}
 use Rattle.text_core.specs.Script.{StopsIn, fault_of}
 use Rattle.machine_core.specs.Replies.{answers_of, output_of}
 use Rattle.text_core.proofs.Variants.{known_weaker}
@@ -36,8 +36,8 @@ module _ (places : ℕ) (left left_new old new : Option (List ℕ)) where
       (λ input known end. says input e (let E : Fault → Type 0 = λ f. EndsIn f places input e left left_new old new in subst E is end)) ends)
 
   pub read_failed : (r : Result Totals RunError) → IfErr r (λ e. IfSome left (λ input. EndsIn e.fault places input e left left_new old new))
-      → IfErr r (λ e. e.fault ≡ Read → IfSome left (λ input. FailsBehind places left left_new old new e.line))
-  read_failed r h = at_fault Read (λ input e. FailsBehind places left left_new old new e.line) (λ input e end. end) r h
+      → IfErr r (λ e. e.fault ≡ Read → IfSome left (λ input. FailsAfter places left left_new old new e.line))
+  read_failed r h = at_fault Read (λ input e. FailsAfter places left left_new old new e.line) (λ input e end. end) r h
 
   pub write_failed : (r : Result Totals RunError) → IfErr r (λ e. IfSome left (λ input. EndsIn e.fault places input e left left_new old new))
       → IfErr r (λ e. e.fault ≡ Write → IfSome left (λ input. StopsIn (answers_of places input) old new e.line))

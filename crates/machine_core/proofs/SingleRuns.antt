@@ -13,20 +13,20 @@ use Rattle.machine_core.specs.Ends.{EndsIn, IsOpening}
 use Rattle.text_core.specs.Script.{StopsIn, Answer, IsBeginning, Numbered, commands_of, texts}
 use Rattle.machine_core.specs.Machine.{Step, opens, step}
 use Rattle.text_core.specs.Runs.{Begins, IsAnswered, IsAsking, IsEnded, IsStopped, IsTotal, Replied}
-use Rattle.machine_core.specs.Replies.{answers_from, answers_of, output_of, totals_of, world_behind}
+use Rattle.machine_core.specs.Replies.{answers_from, answers_of, output_of, totals_of, world_after}
 use Rattle.machine_core.specs.OneThread.{IsSingleStep, Opens, OneThread, single_at_first}
 use Rattle.text_core.proofs.Waiting.{stops_more}
 use Rattle.text_core.proofs.Variants.{known_weaker}
 
 -- the replies to commands and to more commands after them
-answers_from-append : (places : ℕ) (w : Option WorldState) (xs ys : List Numbered) → answers_from places w (xs ++ ys) ≡ answers_from places w xs ++ answers_from places (world_behind places w xs) ys
+answers_from-append : (places : ℕ) (w : Option WorldState) (xs ys : List Numbered) → answers_from places w (xs ++ ys) ≡ answers_from places w xs ++ answers_from places (world_after places w xs) ys
 answers_from-append places w [] ys = refl
 answers_from-append places w (c ∷ xs) ys = ap (λ (r : List Answer). record { line = c.line; reply = (step places w c.command).reply } ∷ r) (answers_from-append places (step places w c.command).world xs ys)
 
 -- these are the machine's replies to commands, and this is its world after them
 record AreSteps (places : ℕ) (w : Option WorldState) (commands : List Numbered) (answers : List Answer) (new : OneThread) : Type 0 where
   pub answers_are : answers ≡ answers_from places w commands
-  pub world_is : new.world ≡ world_behind places w commands
+  pub world_is : new.world ≡ world_after places w commands
 
 -- replies that a machine on one thread may give are those of its steps
 single_steps : (places : ℕ) (w : Option WorldState) (old new : OneThread) (commands : List Numbered) (answers : List Answer) → old.places ≡ places → old.world ≡ w → Replied IsSingleStep old commands answers new → AreSteps places w commands answers new
@@ -61,15 +61,15 @@ module _ (places : ℕ) where
   single_stops : (input : List ℕ) (old new : Option (List ℕ)) (line : ℕ) → IsStopped IsSingleStep (single_at_first places) input old new line → StopsIn (answers_of places input) old new line
   single_stops input old new line h =
       let S : List Answer → Type 0 = λ a. StopsIn a old new line in
-      let all : answers_of places input ≡ answers_from places None h.before ++ answers_from places (world_behind places None h.before) h.behind =
-      ap (answers_from places None) h.order ∙ answers_from-append places None h.before h.behind in
+      let all : answers_of places input ≡ answers_from places None h.before ++ answers_from places (world_after places None h.before) h.later =
+      ap (answers_from places None) h.order ∙ answers_from-append places None h.before h.later in
       subst S (sym all) (stops_more _ _ old new line (subst S (single_begins h.before h.begins).answers_are h.stops))
 
-  single_opening : (input : List ℕ) (before : List Numbered) (after : OneThread) (line : ℕ) → after.world ≡ world_behind places None before
+  single_opening : (input : List ℕ) (before : List Numbered) (after : OneThread) (line : ℕ) → after.world ≡ world_after places None before
       → IsAsking Opens input before after line ⊎ IsBeginning input before line → IsOpening places input before line ⊎ IsBeginning input before line
   single_opening input before after line is (inl a) =
       let O : Option WorldState → Type 0 = λ w. IsTrue (opens w a.command.command) in
-      inl (record { command = a.command; behind = a.behind; order = a.order; opening = subst O is a.asking; at = a.at })
+      inl (record { command = a.command; later = a.later; order = a.order; opening = subst O is a.asking; at = a.at })
   single_opening input before after line is (inr b) = inr b
 
   pub single_ends : (f : Fault) (input : List ℕ) (e : RunError) (left left_new old new : Option (List ℕ)) → IsEnded IsSingleStep Opens (single_at_first places) f input e left left_new old new → EndsIn f places input e left left_new old new

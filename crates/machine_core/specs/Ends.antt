@@ -8,7 +8,7 @@ use Rattle.text_core.specs.declared.totals.Totals.{Totals}
 use Rattle.machine_core.specs.Machine.{opens}
 use Rattle.text_core.specs.Reply.{newlines}
 use Rattle.text_core.specs.Script.{StopsIn, IsBeginning, IsOfEnd, Numbered, commands_of, fault_of, texts}
-use Rattle.machine_core.specs.Replies.{answers_from, answers_of, output_of, world_behind}
+use Rattle.machine_core.specs.Replies.{answers_from, answers_of, output_of, world_after}
 
 -- whether a fault is in the script itself
 abbrev pub is_of_script : Fault → Bool
@@ -24,7 +24,7 @@ is_over (Ok totals) = true
 is_over (Err e) = is_of_script e.fault
 
 -- a read failed after these bytes; they have no fault, or only the one that an end there would make, and their commands were answered
-pub record FailsBehind (places : ℕ) (left left_new old new : Option (List ℕ)) (line : ℕ) : Type 0 where
+pub record FailsAfter (places : ℕ) (left left_new old new : Option (List ℕ)) (line : ℕ) : Type 0 where
   pub past : List ℕ
   pub read : Consumes left left_new past
   pub clean : IfSome (fault_of past) (IsOfEnd past)
@@ -34,9 +34,9 @@ pub record FailsBehind (places : ℕ) (left left_new old new : Option (List ℕ)
 -- after these commands comes one that opens a zone, at this line
 pub record IsOpening (places : ℕ) (input : List ℕ) (before : List Numbered) (line : ℕ) : Type 0 where
   pub command : Numbered
-  pub behind : List Numbered
-  pub order : commands_of input ≡ before ++ command ∷ behind
-  pub opening : IsTrue (opens (world_behind places None before) command.command)
+  pub later : List Numbered
+  pub order : commands_of input ≡ before ++ command ∷ later
+  pub opening : IsTrue (opens (world_after places None before) command.command)
   pub at : line ≡ command.line
 
 -- there was no memory for the zone that the command at this line opens, or for the block that the line begins, and the commands before it
@@ -50,6 +50,6 @@ pub record LacksMemory (places : ℕ) (input : List ℕ) (old new : Option (List
 abbrev pub EndsIn : Fault → ℕ → List ℕ → RunError → (left left_new old new : Option (List ℕ)) → Type 0
 EndsIn Syntax places input e left left_new old new = (fault_of input ≡ Some e) × Appends old new (output_of places input)
 EndsIn LongLine places input e left left_new old new = (fault_of input ≡ Some e) × Appends old new (output_of places input)
-EndsIn Read places input e left left_new old new = FailsBehind places left left_new old new e.line
+EndsIn Read places input e left left_new old new = FailsAfter places left left_new old new e.line
 EndsIn Write places input e left left_new old new = StopsIn (answers_of places input) old new e.line
 EndsIn Memory places input e left left_new old new = LacksMemory places input old new e.line

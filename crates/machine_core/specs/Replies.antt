@@ -13,9 +13,9 @@ answers_from places w (c ∷ commands) = let s = step places w c.command in
     record { line = c.line; reply = s.reply } ∷ answers_from places s.world commands
 
 -- the machine's world after commands, where it has this world before the first of them
-abbrev pub world_behind : ℕ → Option WorldState → List Numbered → Option WorldState
-world_behind places w [] = w
-world_behind places w (c ∷ commands) = world_behind places (step places w c.command).world commands
+abbrev pub world_after : ℕ → Option WorldState → List Numbered → Option WorldState
+world_after places w [] = w
+world_after places w (c ∷ commands) = world_after places (step places w c.command).world commands
 
 -- the machine's replies to an input
 abbrev pub answers_of : ℕ → List ℕ → List Answer

@@ -2,7 +2,7 @@ ghost use Rattle.std.specs.Prelude.{◌≡◌, ◌≢◌, ◌+◌, ◌<◌, ◌�
 ghost use Rattle.std.specs.Io.KnownBytes.{Appends};
 ghost use Rattle.zone_core.specs.Books.{AreFor};
 ghost use Rattle.text_core.specs.declared.fault.Fault.{Fault};
-ghost use Rattle.machine_core.specs.Ends.{EndsIn, FailsBehind, LacksMemory, is_of_script, is_over};
+ghost use Rattle.machine_core.specs.Ends.{EndsIn, FailsAfter, LacksMemory, is_of_script, is_over};
 ghost use Rattle.text_core.specs.Script.{StopsIn, fault_of};
 ghost use Rattle.text_core.specs.Streams.{CannotReadOn};
 ghost use Rattle.machine_core.specs.Replies.{answers_of, output_of, totals_of};
@@ -44,7 +44,7 @@ pub fn run<R: Input, W: Output>(
 
     // Whatever else ends the run, the replies to the commands before are written, unless it is that they can't be.
     ensures read { IfErr result (λ error. error.fault ≡ Fault.Read → OnSome (R.remaining reader.old)
-        (FailsBehind options.journal (R.remaining reader.old) (R.remaining reader.new)
+        (FailsAfter options.journal (R.remaining reader.old) (R.remaining reader.new)
         (W.contents writer.old) (W.contents writer.new) error.line)) }
     ensures write { IfErr result (λ error. error.fault ≡ Fault.Write → IfSome (R.remaining reader.old) (λ input.
         StopsIn (answers_of options.journal input) (W.contents writer.old) (W.contents writer.new) error.line)) }

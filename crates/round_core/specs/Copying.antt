@@ -9,7 +9,7 @@ use Rattle.round_core.specs.declared.copier.Carried.{Carried}
 -- pages that it took, and it sent the copies of these pages, in their order
 pub record IsCarried (taker : Taker) (sender : DoneSender) (carried : Carried) : Type 0 where
   pub hand_over : carried.taker.hand_over ≡ taker.hand_over
-  pub way : carried.sender.way ≡ sender.way
+  pub queue : carried.sender.queue ≡ sender.queue
   pub number : carried.sender.number ≡ sender.number
   pub serials : carried.whole ≡ true → carried.serials.items ≡ serials_of carried.taker.taken
   pub copies : carried.whole ≡ true → carried.sender.sent ≡ carried.taker.taken

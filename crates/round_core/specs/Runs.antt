@@ -32,11 +32,11 @@ pub record IsEmpty (copiers : ℕ) (j : CopierResults) : Type 0 where
 
 -- the memory of a round that isn't begun yet, whose first page has this serial
 pub record IsReady (serial : ℕ) (m : Memory) : Type 0 where
-  pub giver : IsFresh serial m.outfit.giver
-  pub outfit : IsUnstarted m.outfit
+  pub giver : IsFresh serial m.copier_parts.giver
+  pub copier_parts : IsUnstarted m.copier_parts
   pub copies : has_ended m.copies ≡ false
-  pub pages : (m.bursts.pages.items ≡ []) × (0 < deque_capacity m.bursts.pages)
-  pub joined : IsEmpty (vec_len m.outfit.takers) m.joined
+  pub pages : (m.page_lists.pages.items ≡ []) × (0 < deque_capacity m.page_lists.pages)
+  pub joined : IsEmpty (vec_len m.copier_parts.takers) m.joined
 
 -- the takers are of the giver's hand-over, and where all copiers came to their ends the lists have the serials of the pages that they took
 pub record AreJoined (g : Giver) (j : CopierResults) : Type 0 where

@@ -1,7 +1,7 @@
 ghost use Rattle.std.specs.Prelude.{◌≡◌, false, IfOk, IfErr};
 ghost use Rattle.hand_core.specs.CopyEnds.{has_ended, IsTriedInTime};
 
-use crate::gate::{Gate, Point, tell_all};
+use crate::gate::{COMMITTER, Gate, Point, tell_all};
 use crate::keeping::Keeping;
 use crate::memory::CopierParts;
 use crate::shared_zone::KeptZone;
@@ -25,7 +25,7 @@ pub(crate) struct Committed<M: Ledger, B: Ledger> {
 }
 
 /// What comes after the copies that were gathered.
-enum Behind {
+enum Following {
     More,
     End,
     Gone,
@@ -46,14 +46,14 @@ fn commit_all<K: Keeping, I: Ledger, M: Ledger, B: Ledger, G: Gate, R: Wait>(
 {
     let mut stranger = None;
     for _ in rt.forever() {
-        let behind = gather(rt, &mut copies, &mut gathered);
+        let following = gather(rt, &mut copies, &mut gathered);
         let count = gathered.len();
-        stranger = shared.commit_burst(rt, &mut seat, &mut gathered, stranger);
-        tell_all(gate, Point::Ended, 5, count);
-        let whole = match behind {
-            Behind::More => continue,
-            Behind::End => true,
-            Behind::Gone => false,
+        stranger = shared.commit_copies(rt, &mut seat, &mut gathered, stranger);
+        tell_all(gate, Point::Ended, COMMITTER, count);
+        let whole = match following {
+            Following::More => continue,
+            Following::End => true,
+            Following::Gone => false,
         };
         return Committed {
             seat,
@@ -65,19 +65,19 @@ fn commit_all<K: Keeping, I: Ledger, M: Ledger, B: Ledger, G: Gate, R: Wait>(
 }
 
 /// Gathers the copies that are there, until the list is full. It waits for the first one only.
-fn gather<R: Wait>(rt: &R, copies: &mut DoneTaker, gathered: &mut VecDeque<Copied>) -> Behind
+fn gather<R: Wait>(rt: &R, copies: &mut DoneTaker, gathered: &mut VecDeque<Copied>) -> Following
     requires { has_ended copies.old ≡ false }
-    ensures { result ≡ Behind.More → has_ended copies.new ≡ false }
+    ensures { result ≡ Following.More → has_ended copies.new ≡ false }
 {
     while gathered.len() < gathered.capacity() {
         match next_copy(rt, copies, gathered.is_empty()) {
             Some(Came::Copy(copy)) => gathered.push_back_reserved(copy),
-            Some(Came::End) => return Behind::End,
-            Some(Came::Gone) => return Behind::Gone,
+            Some(Came::End) => return Following::End,
+            Some(Came::Gone) => return Following::Gone,
             None => break,
         }
     }
-    Behind::More
+    Following::More
 }
 
 /// Takes the next copy. Where it isn't to wait, the answer is none if no copy is there.
@@ -106,7 +106,7 @@ impl<K: Keeping, M: Ledger, B: Ledger> Promise<Committed<M, B>> for HandsPartBac
 
 pub(crate) type Committer<K, M, B> = PromisedHandle<Committed<M, B>, HandsPartBack<K>>;
 
-/// Starts the committer. Where no thread can be started, the committer's body runs on this thread. The outfit is dropped
+/// Starts the committer. Where no thread can be started, the committer's body runs on this thread. The copier_parts is dropped
 /// then, and the senders with it, so that the body ends at once.
 pub(crate) fn start_committer<
     's,
@@ -121,7 +121,7 @@ pub(crate) fn start_committer<
     scope: &'s Scope<'s, &'e ()>,
     rt: &'e R,
     shared: &'e KeptZone<K, I, M, B>,
-    outfit: CopierParts,
+    copier_parts: CopierParts,
     copies: DoneTaker,
     gathered: VecDeque<Copied>,
     seat: EndSeat<M, B>,
@@ -129,7 +129,7 @@ pub(crate) fn start_committer<
 ) -> Result<(CopierParts, Committer<K, M, B>), EndSeat<M, B>>
     requires copies { has_ended copies ≡ false }
     requires part { (seat.parts ≡ 1) × (seat.back ≡ 0) }
-    ensures outfit { IfOk result (λ started. started.0 ≡ outfit) }
+    ensures copier_parts { IfOk result (λ started. started.0 ≡ copier_parts) }
     ensures part { IfErr result (λ seat. seat.parts ≡ 1) }
 {
     let started = stack().spawn_scoped_with(
@@ -143,9 +143,9 @@ pub(crate) fn start_committer<
         { commit_all(rt, shared, copies, gathered, seat, gate) },
     );
     match started {
-        Ok(committer) => Ok((outfit, committer)),
+        Ok(committer) => Ok((copier_parts, committer)),
         Err(refused) => {
-            drop(outfit);
+            drop(copier_parts);
             let Committed { seat, .. } = (refused.value)();
             Err(seat)
         }

@@ -3,16 +3,16 @@ ghost use Rattle.std.specs.VecDeque.{deque_capacity};
 ghost use Rattle.hand_core.specs.CopyEnds.{has_ended};
 ghost use Rattle.round_core.specs.Runs.{IsFresh, IsUnstarted, IsEmpty, IsReady, AreJoined, HasRun};
 
-use crate::burst::least;
 use crate::committer::{Committed, Committer, start_committer};
 use crate::copier::{Carried, Copier, start_copier};
 use crate::division::Division;
 use crate::gate::Gate;
 use crate::keeping::Keeping;
-use crate::memory::{Bursts, CopierParts, CopierResults, Memory};
+use crate::memory::{CopierParts, CopierResults, Memory, PageLists};
 use crate::round::Stop;
 use crate::scanner::scan_all;
 use crate::shared_zone::KeptZone;
+use crate::under_lock::least;
 use frame_core::{Copied, Isolated, Serial};
 use hand_core::{DoneTaker, Giver};
 use std::collections::VecDeque;
@@ -42,23 +42,23 @@ struct Crew<K: Keeping, M: Ledger, B: Ledger> {
 fn start_copiers<'s, 'e, G: Gate, R: Threads + Wait + Sync>(
     scope: &'s Scope<'s, &'e ()>,
     rt: &'e R,
-    outfit: &mut CopierParts,
+    copier_parts: &mut CopierParts,
     gate: &'e G,
 ) -> Option<()>
-    requires { IsUnstarted outfit.old }
-    ensures giver { outfit.new.giver ≡ outfit.old.giver }
-    ensures copiers { OnSome result ((vec_len outfit.new.copiers ≡ vec_len outfit.old.takers) × All (λ c. c.promise.taker.value.hand_over ≡ outfit.old.giver.hand_over) outfit.new.copiers.items) }
+    requires { IsUnstarted copier_parts.old }
+    ensures giver { copier_parts.new.giver ≡ copier_parts.old.giver }
+    ensures copiers { OnSome result ((vec_len copier_parts.new.copiers ≡ vec_len copier_parts.old.takers) × All (λ c. c.promise.taker.value.hand_over ≡ copier_parts.old.giver.hand_over) copier_parts.new.copiers.items) }
 {
-    while let Some(taker) = outfit.takers.pop() {
-        let Some(sender) = outfit.senders.pop() else {
+    while let Some(taker) = copier_parts.takers.pop() {
+        let Some(sender) = copier_parts.senders.pop() else {
             unreachable!()
         };
-        let Some(list) = outfit.serials.pop() else {
+        let Some(list) = copier_parts.serials.pop() else {
             unreachable!()
         };
-        let who = outfit.takers.len() + 1;
+        let who = copier_parts.takers.len() + 1;
         let copier = start_copier(scope, rt, taker, sender, list, gate, who)?;
-        outfit.copiers.push_reserved(copier);
+        copier_parts.copiers.push_reserved(copier);
     }
     Some(())
 }
@@ -89,19 +89,19 @@ fn join_copiers<R: Threads>(
 }
 
 /// The copiers that were started. Everything else is dropped, so that they come to their ends.
-fn let_go(outfit: CopierParts) -> Vec<Copier> {
-    outfit.copiers
+fn let_go(copier_parts: CopierParts) -> Vec<Copier> {
+    copier_parts.copiers
 }
 
 /// Joins the copiers that were started, and then the committer.
 fn join_early<K: Keeping, M: Ledger, B: Ledger, R: Threads>(
     rt: &R,
-    outfit: CopierParts,
+    copier_parts: CopierParts,
     committer: Committer<K, M, B>,
 ) -> EndSeat<M, B>
     ensures { result.parts ≡ 1 }
 {
-    let mut copiers = let_go(outfit);
+    let mut copiers = let_go(copier_parts);
     while let Some(copier) = copiers.pop() {
         drop(copier.join(rt));
     }
@@ -124,26 +124,33 @@ fn start_crew<
     scope: &'s Scope<'s, &'e ()>,
     rt: &'e R,
     shared: &'e KeptZone<K, I, M, B>,
-    outfit: CopierParts,
+    copier_parts: CopierParts,
     copies: DoneTaker,
     gathered: VecDeque<Copied>,
     part: EndSeat<M, B>,
     gate: &'e G,
 ) -> Result<Crew<K, M, B>, EndSeat<M, B>>
-    requires outfit { IsUnstarted outfit }
+    requires copier_parts { IsUnstarted copier_parts }
     requires copies { has_ended copies ≡ false }
     requires part { (part.parts ≡ 1) × (part.back ≡ 0) }
-    ensures giver { IfOk result (λ crew. crew.giver ≡ outfit.giver) }
-    ensures copiers { IfOk result (λ crew. (vec_len crew.copiers ≡ vec_len outfit.takers) × All (λ c. c.promise.taker.value.hand_over ≡ outfit.giver.hand_over) crew.copiers.items) }
+    ensures giver { IfOk result (λ crew. crew.giver ≡ copier_parts.giver) }
+    ensures copiers { IfOk result (λ crew. (vec_len crew.copiers ≡ vec_len copier_parts.takers) × All (λ c. c.promise.taker.value.hand_over ≡ copier_parts.giver.hand_over) crew.copiers.items) }
     ensures part { IfErr result (λ part. part.parts ≡ 1) }
 {
-    let (mut outfit, committer) = start_committer(
-        scope, rt, shared, outfit, copies, gathered, part, gate,
+    let (mut copier_parts, committer) = start_committer(
+        scope,
+        rt,
+        shared,
+        copier_parts,
+        copies,
+        gathered,
+        part,
+        gate,
     )?;
-    if start_copiers(scope, rt, &mut outfit, gate).is_none() {
-        return Err(join_early(rt, outfit, committer));
+    if start_copiers(scope, rt, &mut copier_parts, gate).is_none() {
+        return Err(join_early(rt, copier_parts, committer));
     }
-    let CopierParts { giver, copiers, .. } = outfit;
+    let CopierParts { giver, copiers, .. } = copier_parts;
     Ok(Crew {
         giver,
         copiers,
@@ -233,21 +240,30 @@ pub(crate) fn run<
     ensures ends { (seats.new.ends.parts ≡ seats.old.ends.parts) × (seats.old.ends.moved ≤ seats.new.ends.moved) × (seats.old.ends.back ≤ seats.new.ends.back) }
 {
     let Memory {
-        outfit,
+        copier_parts,
         copies,
-        bursts,
+        page_lists,
         joined,
     } = memory;
-    let Bursts {
+    let PageLists {
         division,
         pages,
         gathered,
-    } = bursts;
+    } = page_lists;
     let Seats { scan, ends } = seats;
     let Some(part) = ends.split() else {
         unreachable!()
     };
-    match start_crew(scope, rt, shared, outfit, copies, gathered, part, gate) {
+    match start_crew(
+        scope,
+        rt,
+        shared,
+        copier_parts,
+        copies,
+        gathered,
+        part,
+        gate,
+    ) {
         Ok(crew) => Some(run_crew(rt, shared, scan, ends, crew, pages, division, joined, gate)),
         Err(part) => {
             ends.join(part);

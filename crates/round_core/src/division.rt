@@ -32,7 +32,7 @@ impl Division {
     }
 
     /// How many of this many pages go into a batch of at most `most`, so that each copier gets some where there are enough.
-    pub(crate) fn share(self, pages: usize, most: usize) -> usize
+    pub(crate) fn batch_len(self, pages: usize, most: usize) -> usize
         requires { 0 < most }
         ensures { (0 < result) × (result ≤ most) }
     {
@@ -41,7 +41,7 @@ impl Division {
 
     /// How many pages are isolated or committed under one hold of the lock at most: as many as a queue has room for, or as there are
     /// in a batch for each copier where that is more.
-    pub(crate) fn burst(self) -> usize
+    pub(crate) fn pages_a_hold(self) -> usize
         ensures { 0 < result }
     {
         self.room.max(self.most * self.copiers)

@@ -26,6 +26,12 @@ impl Gate for NoGate {
     fn at(&self, _point: Point, _who: usize) {}
 }
 
+/// The number by which a gate knows the scanner.
+pub(crate) const SCANNER: usize = 0;
+
+/// The number by which a gate knows the committer.
+pub(crate) const COMMITTER: usize = 5;
+
 /// Tells the gate that this many pages made a step.
 pub(crate) fn tell_all<G: Gate>(gate: &G, point: Point, who: usize, pages: usize) {
     for _page in 0..pages {

@@ -1,10 +1,9 @@
-//! Rounds on threads: a scanner isolates pages of a zone in bursts, copiers copy them, and a committer ends their moves in bursts.
+//! Rounds on threads: a scanner isolates pages of a zone in page_lists, copiers copy them, and a committer ends their moves in page_lists.
 //!
 //! The zone is under one lock, which keeps it lawful. Contracts see a round by what it changes in the two seats.
 #![tactic(auto)]
 
 mod alone;
-mod burst;
 mod committer;
 mod compacting;
 mod copier;
@@ -19,6 +18,7 @@ mod round;
 mod scanner;
 mod shared_zone;
 mod stack;
+mod under_lock;
 
 pub use alone::compact_alone;
 pub use compacting::compact;

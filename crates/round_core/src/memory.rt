@@ -18,9 +18,9 @@ use std::collections::VecDeque;
 /// The memory of a round: its queues and lists.
 #[derive(Drop)]
 pub(crate) struct Memory {
-    pub(crate) outfit: CopierParts,
+    pub(crate) copier_parts: CopierParts,
     pub(crate) copies: DoneTaker,
-    pub(crate) bursts: Bursts,
+    pub(crate) page_lists: PageLists,
     pub(crate) joined: CopierResults,
 }
 
@@ -38,7 +38,7 @@ pub(crate) struct CopierParts {
 
 /// Lists for what is done under one hold of the lock, and how pages are divided.
 #[derive(Drop)]
-pub(crate) struct Bursts {
+pub(crate) struct PageLists {
     pub(crate) division: Division,
     /// The pages that are isolated under one hold.
     pub(crate) pages: VecDeque<Isolated>,
@@ -89,7 +89,7 @@ pub(crate) fn reserve<R>(
     let Ok(lists) = reserve_lists(alloc, copiers, serials) else {
         return None;
     };
-    let Ok(bursts) = reserve_bursts(alloc, division) else {
+    let Ok(page_lists) = reserve_page_lists(alloc, division) else {
         return None;
     };
     let Ok(queues) = open_queues(rt, alloc, base, copiers, division) else {
@@ -107,7 +107,7 @@ pub(crate) fn reserve<R>(
         copies,
     } = queues;
     Some(Memory {
-        outfit: CopierParts {
+        copier_parts: CopierParts {
             giver,
             takers,
             senders,
@@ -115,7 +115,7 @@ pub(crate) fn reserve<R>(
             copiers,
         },
         copies,
-        bursts,
+        page_lists,
         joined,
     })
 }
@@ -159,15 +159,15 @@ fn reserve_joined(alloc: Global, copiers: usize) -> Result<CopierResults, AllocE
     })
 }
 
-/// Takes the memory of the lists for bursts with this division.
-fn reserve_bursts(alloc: Global, division: Division) -> Result<Bursts, AllocError>
+/// Takes the memory of the lists for page_lists with this division.
+fn reserve_page_lists(alloc: Global, division: Division) -> Result<PageLists, AllocError>
     ensures { IfOk result (λ b. (b.pages.items ≡ []) × (0 < deque_capacity b.pages)) }
 {
-    let burst = division.burst();
-    Ok(Bursts {
+    let pages = division.pages_a_hold();
+    Ok(PageLists {
         division,
-        pages: VecDeque::with_capacity(alloc, burst)?,
-        gathered: VecDeque::with_capacity(alloc, burst)?,
+        pages: VecDeque::with_capacity(alloc, pages)?,
+        gathered: VecDeque::with_capacity(alloc, pages)?,
     })
 }
 

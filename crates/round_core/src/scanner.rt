@@ -5,7 +5,7 @@ ghost use Rattle.round_core.specs.Crews.{IsNext};
 ghost use Rattle.round_core.specs.Rounds.{answer_at};
 
 use crate::division::Division;
-use crate::gate::{Gate, Point, tell_all};
+use crate::gate::{Gate, Point, SCANNER, tell_all};
 use crate::keeping::Keeping;
 use crate::round::Stop;
 use crate::shared_zone::KeptZone;
@@ -42,13 +42,13 @@ pub(crate) fn scan_all<K: Keeping, I: Ledger, N: Ledger, M: Ledger, B: Ledger, G
     // Where the zone refused none, each page that was counted was given or put back.
     ensures left { result ≡ Err None → giver.new.base + length giver.new.given + ends.new.back ≡ scan.new.count + ends.old.back }
 {
-    let mut stop = shared.begin_burst(rt, scan, pages);
+    let mut stop = shared.begin_and_isolate(rt, scan, pages);
     for _ in rt.forever() {
         give_all(rt, shared, ends, giver, pages, division, gate)?;
         if let Some(stop) = stop {
             return Ok(stop);
         }
-        stop = shared.isolate_burst(rt, scan, pages);
+        stop = shared.isolate_pages(rt, scan, pages);
     }
     unreachable!()
 }
@@ -75,28 +75,28 @@ fn give_all<K: Keeping, I: Ledger, M: Ledger, B: Ledger, G: Gate, R: Wait>(
     // Where the zone refused none, each page was given or put back.
     ensures left { result ≡ Err None → length giver.new.given + ends.new.back ≡ length giver.old.given + length pages.old.items + ends.old.back }
 {
-    tell_all(gate, Point::Isolated, 0, pages.len());
-    let share = division.share(pages.len(), giver.most());
-    while let Some(batch) = first_of(pages, share) {
+    tell_all(gate, Point::Isolated, SCANNER, pages.len());
+    let batch_len = division.batch_len(pages.len(), giver.most());
+    while let Some(batch) = first_of(pages, batch_len) {
         if let Err(refused) = giver.give_all(rt, batch) {
             put_in_front(pages, refused);
-            return Err(shared.put_back_burst(rt, ends, pages));
+            return Err(shared.put_back_pages(rt, ends, pages));
         }
     }
     Ok(())
 }
 
-/// Takes `share` pages off the front, or all where there are fewer. None where there are none.
-fn first_of(pages: &mut VecDeque<Isolated>, share: usize) -> Option<Batch<Isolated>>
-    requires { (0 < share) × (share ≤ 8) }
+/// Takes `batch_len` pages off the front, or all where there are fewer. None where there are none.
+fn first_of(pages: &mut VecDeque<Isolated>, batch_len: usize) -> Option<Batch<Isolated>>
+    requires { (0 < batch_len) × (batch_len ≤ 8) }
     ensures first { IfSome result (λ batch. pages.old.items ≡ batch.items ++ pages.new.items) }
-    ensures few { IfSome result (λ batch. length batch.items ≤ share) }
+    ensures few { IfSome result (λ batch. length batch.items ≤ batch_len) }
     ensures fewer { OnSome result (length pages.new.items < length pages.old.items) }
     ensures none { IfNone result ((pages.old.items ≡ []) × (pages.new.items ≡ [])) }
     ensures room { deque_capacity pages.new ≡ deque_capacity pages.old }
 {
     let mut batch = Batch::new();
-    while batch.len() < share {
+    while batch.len() < batch_len {
         let Some(page) = pages.pop_front() else {
             break;
         };

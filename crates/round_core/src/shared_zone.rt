@@ -1,8 +1,8 @@
 ghost use Rattle.std.specs.Prelude.{◌≡◌, ◌<◌, ◌≤◌};
 
-use crate::burst::{commit_burst, isolate_burst, put_back_burst};
 use crate::keeping::{Keeping, Open};
 use crate::round::Stop;
+use crate::under_lock::{commit_copies, isolate_pages, put_back_pages};
 use frame_core::{Copied, Isolated, Serial};
 use hand_core::Stub;
 use hand_core::patience::{TRIES, pause};
@@ -170,7 +170,7 @@ impl<K: Keeping, I: Ledger, M: Ledger, B: Ledger> KeptZone<K, I, M, B> {
     /// Begins a round, and isolates pages into the empty list, in their order, until the list is full. Where it stops before, the
     /// answer says why.
     #[tactic(auto, using(crate::proofs::Begun::begun_first))]
-    pub(crate) fn begin_burst<N: Ledger, R: Wait>(
+    pub(crate) fn begin_and_isolate<N: Ledger, R: Wait>(
         &self,
         rt: &R,
         seat: &mut ScanSeat<I, N>,
@@ -188,12 +188,12 @@ impl<K: Keeping, I: Ledger, M: Ledger, B: Ledger> KeptZone<K, I, M, B> {
     {
         let mut room = self.lock(rt);
         room.zone.begin_round(seat);
-        isolate_burst::<K, I, N, M, B>(&mut room.zone, seat, pages)
+        isolate_pages::<K, I, N, M, B>(&mut room.zone, seat, pages)
     }
 
     /// Isolates pages into the empty list, in their order, until the list is full. Where it stops before, the answer says why.
     #[tactic(auto, using(crate::proofs::Begun::begun_more))]
-    pub(crate) fn isolate_burst<N: Ledger, R: Wait>(
+    pub(crate) fn isolate_pages<N: Ledger, R: Wait>(
         &self,
         rt: &R,
         seat: &mut ScanSeat<I, N>,
@@ -211,12 +211,12 @@ impl<K: Keeping, I: Ledger, M: Ledger, B: Ledger> KeptZone<K, I, M, B> {
     {
         let mut room = self.lock(rt);
         room.zone.show_count(seat);
-        isolate_burst::<K, I, N, M, B>(&mut room.zone, seat, pages)
+        isolate_pages::<K, I, N, M, B>(&mut room.zone, seat, pages)
     }
 
     /// Ends the moves of pages with their copies, and wakes the threads that wait for the end of a move. The answer is the
     /// least serial of those that were refused now or before, if there is one.
-    pub(crate) fn commit_burst<R: Wait>(
+    pub(crate) fn commit_copies<R: Wait>(
         &self,
         rt: &R,
         seat: &mut EndSeat<M, B>,
@@ -228,14 +228,14 @@ impl<K: Keeping, I: Ledger, M: Ledger, B: Ledger> KeptZone<K, I, M, B> {
         ensures back { K.unpinned → seat.new.back ≡ seat.old.back }
     {
         let mut room = self.lock(rt);
-        let stranger = commit_burst::<K, I, M, B>(&mut room.zone, seat, copies, stranger);
+        let stranger = commit_copies::<K, I, M, B>(&mut room.zone, seat, copies, stranger);
         self.tell_ended(&mut room);
         stranger
     }
 
     /// Ends the moves of pages that weren't copied, in their order, and wakes the threads that wait for the end of a move. The answer
     /// is the least serial of those that were refused, if there is one.
-    pub(crate) fn put_back_burst<R: Wait>(
+    pub(crate) fn put_back_pages<R: Wait>(
         &self,
         rt: &R,
         seat: &mut EndSeat<M, B>,
@@ -247,7 +247,7 @@ impl<K: Keeping, I: Ledger, M: Ledger, B: Ledger> KeptZone<K, I, M, B> {
         ensures back { result ≡ None → seat.new.back ≡ seat.old.back + length pages.old.items }
     {
         let mut room = self.lock(rt);
-        let stranger = put_back_burst::<K, I, M, B>(&mut room.zone, seat, pages);
+        let stranger = put_back_pages::<K, I, M, B>(&mut room.zone, seat, pages);
         self.tell_ended(&mut room);
         stranger
     }

@@ -60,7 +60,7 @@ impl FrameSet {
         let mut free = FrameSet::new();
         for i in 0..frames.len() {
             if let Some(frame) = FrameNo::new(i as u32) {
-                free.put(frame, lists::is_free(&frames[i]));
+                free.set_member(frame, lists::is_free(&frames[i]));
             }
         }
         free
@@ -82,7 +82,7 @@ impl FrameSet {
 
     /// Puts a frame in where `member` says so, and takes it out where not.
     #[inline(always)]
-    pub fn put(&mut self, frame: FrameNo, member: bool)
+    pub fn set_member(&mut self, frame: FrameNo, member: bool)
         ensures { (other : ℕ) → set.contains self.new other ≡ (if nat_eq other frame then member else set.contains self.old other) }
     {
         if member {
@@ -96,7 +96,7 @@ impl FrameSet {
 
     /// Puts in a frame that isn't a member, where `joins` says so.
     #[inline(always)]
-    pub fn add(&mut self, frame: FrameNo, joins: bool)
+    pub fn insert_if(&mut self, frame: FrameNo, joins: bool)
         requires { set.contains self.old frame ≡ false }
         ensures { (other : ℕ) → set.contains self.new other ≡ (if nat_eq other frame then joins else set.contains self.old other) }
     {

@@ -110,7 +110,7 @@ impl Frames {
     {
         let index = frame.get() as usize;
         self.free.remove(frame);
-        self.stuck.add(frame, !movable);
+        self.stuck.insert_if(frame, !movable);
         self.movable[index] = movable;
         self.kept[index] = FrameState::Holds(page);
     }
@@ -123,7 +123,7 @@ impl Frames {
         ensures frames { length self.new.states ≡ length self.old.states }
     {
         self.free.insert(frame);
-        self.stuck.put(frame, false);
+        self.stuck.set_member(frame, false);
         self.kept[frame.get() as usize] = FrameState::Free;
     }
 
@@ -157,7 +157,7 @@ impl Frames {
         ensures frames { length self.new.states ≡ length self.old.states }
     {
         let index = frame.get() as usize;
-        self.stuck.add(frame, !can_move);
+        self.stuck.insert_if(frame, !can_move);
         self.movable[index] = can_move;
         self.kept[index] = FrameState::Holds(page);
     }
@@ -211,7 +211,7 @@ impl Frames {
         ensures movable { self.new ≡ record self.old { movable = slice_set self.old.movable frame movable } }
         ensures frames { length self.new.movable ≡ length self.old.movable }
     {
-        self.stuck.put(frame, !movable);
+        self.stuck.set_member(frame, !movable);
         self.movable[frame.get() as usize] = movable;
     }
 

@@ -70,7 +70,7 @@ impl NumberSet {
 
     /// Puts in a number below 4,096 where `member` says so, and takes it out where not.
     #[inline(always)]
-    pub fn put(&mut self, number: u32, member: bool)
+    pub fn set_member(&mut self, number: u32, member: bool)
         requires { number < 4096 }
         ensures { (other : ℕ) → set.contains self.new other ≡ (if nat_eq other number then member else set.contains self.old other) }
     {

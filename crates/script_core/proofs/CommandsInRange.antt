@@ -13,7 +13,7 @@ use Rattle.text_core.specs.Profile.{profile_told}
 use Rattle.text_core.proofs.Ranges.{IsInRange, SaysInRange, line_ranged}
 use Rattle.text_core.specs.declared.fault.Fault.{Fault}
 use Rattle.text_core.specs.declared.fault.Fault.TheVariants.{Syntax}
-use Rattle.text_core.specs.Script.{Block, Came, ClientLine, Numbered, Reading, client_comes, command_comes, comes_in, comes_outside, comes_within, commands_from, line_comes, onto, onto_commands, reading_behind, within}
+use Rattle.text_core.specs.Script.{Block, Came, ClientLine, Numbered, Reading, client_comes, command_comes, comes_in, comes_outside, comes_within, commands_from, line_comes, onto, onto_commands, reading_after, within}
 
 abbrev pub AreInRange : List Numbered → Type 0
 AreInRange commands = AllByRecursion (λ c. IsInRange c.command) commands
@@ -66,4 +66,4 @@ pub commands_ranged : (reading : Reading) (line : ℕ) (parts : List (List ℕ))
 commands_ranged reading line [] = tt
 commands_ranged reading line (cut ∷ []) = tt
 commands_ranged reading line (text ∷ next ∷ parts) =
-    onto_ranged (line_comes reading line text) _ (line_comes_ranged reading line text) (commands_ranged (reading_behind reading (line_comes reading line text)) (line + 1) (next ∷ parts))
+    onto_ranged (line_comes reading line text) _ (line_comes_ranged reading line text) (commands_ranged (reading_after reading (line_comes reading line text)) (line + 1) (next ∷ parts))

@@ -51,7 +51,7 @@ use Rattle.script_core.proofs.Runs.{keeps_calls, opened_orderly}
 use Rattle.script_core.proofs.Worlds.{calls_alike}
 use Rattle.script_core.specs.ByHand.{Followed, To, NoLonger, IsNoBlock, IsByHandStep, IsReplyByHand, IsUnbegun, HasFailed, OpensByHand}
 use Rattle.script_core.specs.WithThreads.{AsksMemory, ComesToByHand, IsBlockFor, IsDoneByHand, IsPoolOn, IsRoundOn, IsStepAt, IsStepBy, IsThreadedStep, IsWorkStep, Settles, WithThreads, is_threaded, left_by, round_reply, threaded_at_first, told_of}
-use Rattle.script_core.proofs.Pools.{whole_behind}
+use Rattle.script_core.proofs.Pools.{whole_after}
 use Rattle.script_core.proofs.RunsAs.{Goes}
 
 -- a command that isn't a block, whose arguments are in their ranges
@@ -313,9 +313,9 @@ told_frames blocks (Some block ∷ more) = ap (λ (rest : List ℕ). told_as blo
 told_frames blocks (None ∷ more) = told_frames blocks more
 
 -- the end seat after a pool that stopped for another reason than a refused round
-whole_left : (c : Collector) (scan scan_new : ScanSeat) (ends ends_new : EndSeat) (report : Report) → ends.parts ≡ 64 → (run : HasRun c scan scan_new ends ends_new report) → ends_new ≡ run.ends_behind → ends_new.parts ≡ 64
+whole_left : (c : Collector) (scan scan_new : ScanSeat) (ends ends_new : EndSeat) (report : Report) → ends.parts ≡ 64 → (run : HasRun c scan scan_new ends ends_new report) → ends_new ≡ run.ends_after → ends_new.parts ≡ 64
 whole_left c scan scan_new ends ends_new report whole run same =
-    ap (λ (e : EndSeat). e.parts) same ∙ whole_behind run.rounds scan run.scan_behind ends run.ends_behind whole run.ran
+    ap (λ (e : EndSeat). e.parts) same ∙ whole_after run.rounds scan run.scan_after ends run.ends_after whole run.ran
 
 module _ (v w : WorldState) (with : AreBeside v w) (closed : v.is_open ≡ false) (blocks : PoolBlocks) (order : HasOrder blocks) (count : ℕ) where
   abbrev at_v : Reservation
@@ -328,7 +328,7 @@ module _ (v w : WorldState) (with : AreBeside v w) (closed : v.is_open ≡ false
   same_at = reserved_same (pool_order blocks) order.0 order.1 4 count v.zone w.zone (rest_v v w with closed) (rest_w v w with closed) with.same.zone
 
   module _ (places : ℕ) (client : Client) (number : ℕ) (answer : Reply) (new : WithThreads) (is : step_by_hand places (Some w) (Pool number count blocks) ≡ answered (pool_by_hand 4 count blocks w)) (on : IsPoolOn count blocks v places client answer new) where
-    pool_done : (stop : PoolStop) → on.report.stop ≡ stop → stop_for stop ≡ stop → rounds_for on.collector stop on.report.rounds ≡ on.collector.rounds → NoneFailed stop → on.ends ≡ on.ran.ends_behind
+    pool_done : (stop : PoolStop) → on.report.stop ≡ stop → stop_for stop ≡ stop → rounds_for on.collector stop on.report.rounds ≡ on.collector.rounds → NoneFailed stop → on.ends ≡ on.ran.ends_after
         → GoesOn places (Some w) (Pool number count blocks) answer new
     pool_done stop stops same_stop rounds none left =
         let h = on.by_hand (rest_v v w with closed) in
@@ -364,8 +364,8 @@ module _ (v w : WorldState) (with : AreBeside v w) (closed : v.is_open ≡ false
 
     pool_goes : GoesOn places (Some w) (Pool number count blocks) answer new
     pool_goes = by_stop on.report.stop refl where
-      left_as : (stop : PoolStop) → on.report.stop ≡ stop → AreLeft stop on.ran.scan_behind on.scan on.ran.ends_behind on.ends
-      left_as stop stops = subst (λ s. AreLeft s on.ran.scan_behind on.scan on.ran.ends_behind on.ends) stops on.ran.left
+      left_as : (stop : PoolStop) → on.report.stop ≡ stop → AreLeft stop on.ran.scan_after on.scan on.ran.ends_after on.ends
+      left_as stop stops = subst (λ s. AreLeft s on.ran.scan_after on.scan on.ran.ends_after on.ends) stops on.ran.left
 
       by_stop : (stop : PoolStop) → on.report.stop ≡ stop → GoesOn places (Some w) (Pool number count blocks) answer new
       by_stop pool_stop.Enough stops = pool_done pool_stop.Enough stops refl refl tt (left_as pool_stop.Enough stops).1

@@ -24,14 +24,14 @@ use Rattle.text_core.specs.Profile.{profile_told}
 use Rattle.text_core.proofs.Profiles as rows
 use Rattle.text_core.proofs.Profiles.{SayAlike, call_in_profile_2, lines_alike}
 use Rattle.machine_core.specs.Machine.{Step, answered, call_step, calls_step, declined, step, step_on, during_on}
-use Rattle.text_core.specs.Script.{Answer, Numbered, commands_from, cut_fault, fault_from, fault_of, line_fault, onto_commands, parts_of, Block, Came, ClientLine, Reading, by, client_comes, command_comes, command_in_block, comes_in, comes_outside, comes_within, commands_of, line_comes, onto, open_fault, reading_behind, within}
+use Rattle.text_core.specs.Script.{Answer, Numbered, commands_from, cut_fault, fault_from, fault_of, line_fault, onto_commands, parts_of, Block, Came, ClientLine, Reading, by, client_comes, command_comes, command_in_block, comes_in, comes_outside, comes_within, commands_of, line_comes, onto, open_fault, reading_after, within}
 use Rattle.machine_core.specs.Replies.{answers_of}
 use Rattle.text_core.specs.declared.fault.Fault.{Fault}
 use Rattle.text_core.specs.declared.fault.Fault.TheVariants.{Syntax}
 use Rattle.text_core.specs.declared.fault.RunError.{RunError}
 use Rattle.text_core.proofs.Lines.{Parts, parts-line, parts_are}
 use Rattle.script_core.specs.MachineByHand.{answers_by_hand, step_by_hand}
-use Rattle.script_core.specs.Profile2.{IsSameInProfile2, behind_profile_2, fault_in_profile_1, with_held}
+use Rattle.script_core.specs.Profile2.{IsSameInProfile2, after_profile_2, fault_in_profile_1, with_held}
 use Rattle.script_core.proofs.MachineByHand.{machine_by_hand}
 use Rattle.script_core.proofs.Machines.{IsMachine, answers_by, answers_to, by_rounds, is_of_rounds, runs_rounds}
 use Rattle.script_core.proofs.Replies.{has_counts, plain_call, plain_make, plain_series}
@@ -254,8 +254,8 @@ reads_lower n o (text ∷ next ∷ parts) e =
     let came = found.0 in
     let c = found.1 in
     let behind : List (List ℕ) = next ∷ parts in
-    let F : Reading → ℕ → Result Came Fault → Option RunError = λ r k l. option_or (line_fault k l) (fault_from (reading_behind r l) (k + 1) behind) in
-    let C : Reading → ℕ → Result Came Fault → List Numbered = λ r k l. onto_commands l (commands_from (reading_behind r l) (k + 1) behind) in
+    let F : Reading → ℕ → Result Came Fault → Option RunError = λ r k l. option_or (line_fault k l) (fault_from (reading_after r l) (k + 1) behind) in
+    let C : Reading → ℕ → Result Came Fault → List Numbered = λ r k l. onto_commands l (commands_from (reading_after r l) (k + 1) behind) in
     let next_reading : came.reading ≡ record { profile = Profile1; block = came.reading.block } = ap (λ p. record { profile = p; block = came.reading.block }) c.profile in
     let one : fault_from (record { profile = Profile1; block = came.reading.block }) (n + 1) behind ≡ None =
     ap (λ r. fault_from r (n + 1) behind) (sym next_reading) ∙ ap (F q n) (sym c.one_is) ∙ e in
@@ -276,10 +276,10 @@ record ReadsFirst (n : ℕ) (parts : List (List ℕ)) : Type 0 where
 
 module _ (n : ℕ) (text next : List ℕ) (parts : List (List ℕ)) where
   abbrev fault_line : Profile → Result (Option Command) ScriptError → Option RunError
-  fault_line q says = let l = comes_outside q n says in option_or (line_fault n l) (fault_from (reading_behind (by q) l) (n + 1) (next ∷ parts))
+  fault_line q says = let l = comes_outside q n says in option_or (line_fault n l) (fault_from (reading_after (by q) l) (n + 1) (next ∷ parts))
 
   abbrev commands_line : Profile → Result (Option Command) ScriptError → List Numbered
-  commands_line q says = let l = comes_outside q n says in onto_commands l (commands_from (reading_behind (by q) l) (n + 1) (next ∷ parts))
+  commands_line q says = let l = comes_outside q n says in onto_commands l (commands_from (reading_after (by q) l) (n + 1) (next ∷ parts))
 
   first_alike : (says : Result (Option Command) ScriptError) → line_of Profile1 text ≡ says → fault_line Profile1 says ≡ None → SayAlike says (line_of Untold text) (line_of Two text)
       → (fault_from (by Profile1) (n + 1) (next ∷ parts) ≡ None → ReadsFirst (n + 1) (next ∷ parts)) → ReadsFirst n (text ∷ next ∷ parts)
@@ -308,31 +308,31 @@ first_line = codes "profile 2"
 first_says : line_of Untold first_line ≡ Ok (Some Profile2)
 first_says = refl
 
-first_parts : (input : List ℕ) → parts_of (behind_profile_2 input) ≡ first_line ∷ parts_of input
+first_parts : (input : List ℕ) → parts_of (after_profile_2 input) ≡ first_line ∷ parts_of input
 first_parts input = parts-line first_line input refl
 
 -- the commands of a script without a fault in profile 1
 record IsInLockStep (input : List ℕ) : Type 0 where
   fault : fault_of input ≡ None
-  fault_in_profile_2 : fault_of (behind_profile_2 input) ≡ None
-  commands : commands_of (behind_profile_2 input) ≡ record { line = 1; command = Profile2; clients = [] } ∷ map moved (commands_of input)
+  fault_in_profile_2 : fault_of (after_profile_2 input) ≡ None
+  commands : commands_of (after_profile_2 input) ≡ record { line = 1; command = Profile2; clients = [] } ∷ map moved (commands_of input)
 
 in_lock_step : (input : List ℕ) → fault_in_profile_1 input ≡ None → IsInLockStep input
 in_lock_step input e =
     let p : Parts input = parts_are input in
     let lower : ReadsLower 1 None (parts_of input) = reads_lower 1 None (parts_of input) e in
     let alone : ReadsFirst 1 (parts_of input) = reads_first 1 (parts_of input) e in
-    let first : parts_of (behind_profile_2 input) ≡ first_line ∷ p.first ∷ p.others = first_parts input ∙ ap (λ (parts : List (List ℕ)). first_line ∷ parts) p.are in
+    let first : parts_of (after_profile_2 input) ≡ first_line ∷ p.first ∷ p.others = first_parts input ∙ ap (λ (parts : List (List ℕ)). first_line ∷ parts) p.are in
     record {
       fault = alone.fault;
       fault_in_profile_2 =
           ap (fault_from (by Untold) 1) first
-          ∙ ap (λ l. let came = comes_outside Untold 1 l in option_or (line_fault 1 came) (fault_from (reading_behind (by Untold) came) 2 (p.first ∷ p.others))) first_says
+          ∙ ap (λ l. let came = comes_outside Untold 1 l in option_or (line_fault 1 came) (fault_from (reading_after (by Untold) came) 2 (p.first ∷ p.others))) first_says
           ∙ ap (fault_from (by Two) 2) (sym p.are)
           ∙ lower.fault;
       commands =
           ap (commands_from (by Untold) 1) first
-          ∙ ap (λ l. let came = comes_outside Untold 1 l in onto_commands came (commands_from (reading_behind (by Untold) came) 2 (p.first ∷ p.others))) first_says
+          ∙ ap (λ l. let came = comes_outside Untold 1 l in onto_commands came (commands_from (reading_after (by Untold) came) 2 (p.first ∷ p.others))) first_says
           ∙ ap (λ (parts : List (List ℕ)). record { line = 1; command = Profile2; clients = [] } ∷ commands_from (by Two) 2 parts) (sym p.are)
           ∙ ap (λ (rest : List Numbered). record { line = 1; command = Profile2; clients = [] } ∷ rest) (lower.commands ∙ ap (map moved) (sym alone.commands));
     }

@@ -38,37 +38,37 @@ told_more blocks told told_new block rest is =
     ap (λ (list : List ℕ). list ++ told_of blocks rest) is ∙ append_assoc told (told_as blocks block.frame ∷ []) (told_of blocks rest)
 
 -- the end seat after rounds is whole where it was whole before them
-pub whole_behind : (rounds : List Round) (scan scan_new : ScanSeat) (ends ends_new : EndSeat) → ends.parts ≡ 64 → AreRounds rounds scan scan_new ends ends_new → ends_new.parts ≡ 64
-whole_behind [] scan scan_new ends ends_new whole ran = ap (λ (e : EndSeat). e.parts) ran.1 ∙ whole
-whole_behind (latest ∷ earlier) scan scan_new ends ends_new whole ran = ran.3.whole
+pub whole_after : (rounds : List Round) (scan scan_new : ScanSeat) (ends ends_new : EndSeat) → ends.parts ≡ 64 → AreRounds rounds scan scan_new ends ends_new → ends_new.parts ≡ 64
+whole_after [] scan scan_new ends ends_new whole ran = ap (λ (e : EndSeat). e.parts) ran.1 ∙ whole
+whole_after (latest ∷ earlier) scan scan_new ends ends_new whole ran = ran.3.whole
 
 -- after at least one round the end seat is whole, and its counts add up to the scan seat's
-settled_behind : (rounds : List Round) (scan scan_new : ScanSeat) (ends ends_new : EndSeat) → 0 < length rounds → AreRounds rounds scan scan_new ends ends_new
+settled_after : (rounds : List Round) (scan scan_new : ScanSeat) (ends ends_new : EndSeat) → 0 < length rounds → AreRounds rounds scan scan_new ends ends_new
     → (64 ≤ ends_new.parts) × (ends_new.moved + ends_new.back ≡ scan_new.count)
-settled_behind [] scan scan_new ends ends_new some ran = absurd (omega (arith, some))
-settled_behind (latest ∷ earlier) scan scan_new ends ends_new some ran = let parts = ran.3.whole in (omega (arith, parts), ran.3.settled)
+settled_after [] scan scan_new ends ends_new some ran = absurd (omega (arith, some))
+settled_after (latest ∷ earlier) scan scan_new ends ends_new some ran = let parts = ran.3.whole in (omega (arith, parts), ran.3.settled)
 
 module _ (scan_old scan : ScanSeat) (ends_old ends : EndSeat) (refusal : Option ZoneError) (whole : ends_old.parts ≡ 64)
     (passes : 64 ≤ ends.parts → ends.moved + ends.back ≡ scan.count → refusal ≡ None) where
   -- an audit passes where a collector ran a round and stopped for another reason than a refused round
-  kept_on : (c : Collector) (report : Report) (run : HasRun c scan_old scan ends_old ends report) → (scan ≡ run.scan_behind) × (ends ≡ run.ends_behind)
+  kept_on : (c : Collector) (report : Report) (run : HasRun c scan_old scan ends_old ends report) → (scan ≡ run.scan_after) × (ends ≡ run.ends_after)
       → 0 < report.rounds → refusal ≡ None
   kept_on c report run same some =
       let count = run.count in
-      let behind = settled_behind run.rounds scan_old run.scan_behind ends_old run.ends_behind (omega (arith, some, count)) run.ran in
+      let behind = settled_after run.rounds scan_old run.scan_after ends_old run.ends_after (omega (arith, some, count)) run.ran in
       passes (omega (arith, behind.0, ap (λ (e : EndSeat). e.parts) same.1))
       (ap (λ (e : EndSeat). e.moved + e.back) same.1 ∙ behind.1 ∙ sym (ap (λ (s : ScanSeat). s.count) same.0))
 
   pub pool_settles : (c : Collector) (report : Report) → HasRun c scan_old scan ends_old ends report → SettlesAt report.stop report.rounds → refusal ≡ None
   pool_settles c report run = by_stop report.stop refl where
     by_stop : (why : Stop) → report.stop ≡ why → SettlesAt why report.rounds → refusal ≡ None
-    by_stop stop.Enough is some = kept_on c report run (subst (λ s. AreLeft s run.scan_behind scan run.ends_behind ends) is run.left) some
-    by_stop stop.NoBlock is some = kept_on c report run (subst (λ s. AreLeft s run.scan_behind scan run.ends_behind ends) is run.left) some
-    by_stop stop.Rounds is some = kept_on c report run (subst (λ s. AreLeft s run.scan_behind scan run.ends_behind ends) is run.left) some
-    by_stop stop.JournalFull is some = kept_on c report run (subst (λ s. AreLeft s run.scan_behind scan run.ends_behind ends) is run.left) some
+    by_stop stop.Enough is some = kept_on c report run (subst (λ s. AreLeft s run.scan_after scan run.ends_after ends) is run.left) some
+    by_stop stop.NoBlock is some = kept_on c report run (subst (λ s. AreLeft s run.scan_after scan run.ends_after ends) is run.left) some
+    by_stop stop.Rounds is some = kept_on c report run (subst (λ s. AreLeft s run.scan_after scan run.ends_after ends) is run.left) some
+    by_stop stop.JournalFull is some = kept_on c report run (subst (λ s. AreLeft s run.scan_after scan run.ends_after ends) is run.left) some
     by_stop (stop.Refused error) is want =
-        let early : IsRefusedEarly run.scan_behind scan run.ends_behind ends (Err error) = subst (λ s. AreLeft s run.scan_behind scan run.ends_behind ends) is run.left in
-        settles run.scan_behind scan run.ends_behind ends refusal (whole_behind run.rounds scan_old run.scan_behind ends_old run.ends_behind whole run.ran) passes
+        let early : IsRefusedEarly run.scan_after scan run.ends_after ends (Err error) = subst (λ s. AreLeft s run.scan_after scan run.ends_after ends) is run.left in
+        settles run.scan_after scan run.ends_after ends refusal (whole_after run.rounds scan_old run.scan_after ends_old run.ends_after whole run.ran) passes
         (Err error) tt early want
 
 -- a pool over the zone and the seats that a world was split into

@@ -50,8 +50,8 @@ module _ {S T : Type 0} (may : Rule S) (asks : Asking S) (start : S) (to : Rule 
   total_as input old new totals all h = record { answered = answers_as input old new all h.answered; totals_are = h.totals_are }
 
   -- what holds of each command of an input holds of those before a place of it
-  all_until : (input : List ℕ) (before behind : List Numbered) → commands_of input ≡ before ++ behind → Are (commands_of input) → Are before
-  all_until input before behind order all = all_before P before behind (subst Are order all)
+  all_until : (input : List ℕ) (before later : List Numbered) → commands_of input ≡ before ++ later → Are (commands_of input) → Are before
+  all_until input before later order all = all_before P before later (subst Are order all)
 
   -- and of those that were read
   all_read : (left_new : Option (List ℕ)) (input past : List ℕ) → Consumes (Some input) left_new past → Are (commands_of input) → Are (commands_of past)
@@ -60,20 +60,20 @@ module _ {S T : Type 0} (may : Rule S) (asks : Asking S) (start : S) (to : Rule 
 
   -- and of those before one that needs memory, or before a block
   all_asking : (input : List ℕ) (before : List Numbered) (after : S) (line : ℕ) → Are (commands_of input) → IsAsking asks input before after line ⊎ IsBeginning input before line → Are before
-  all_asking input before after line all (inl a) = all_until input before (a.command ∷ a.behind) a.order all
+  all_asking input before after line all (inl a) = all_until input before (a.command ∷ a.later) a.order all
   all_asking input before after line all (inr b) = subst Are b.commands (all_of_beginning P b.past (b.text ++ 10 ∷ b.rest) (subst (λ bytes. Are (commands_of bytes)) b.order all))
 
-  one_behind : (before : List Numbered) (c : Numbered) (behind : List Numbered) → Are (before ++ c ∷ behind) → P c
-  one_behind [] c behind all = all.0
-  one_behind (d ∷ before) c behind all = one_behind before c behind all.1
+  one_after : (before : List Numbered) (c : Numbered) (later : List Numbered) → Are (before ++ c ∷ later) → P c
+  one_after [] c later all = all.0
+  one_after (d ∷ before) c later all = one_after before c later all.1
 
   asking_as : (input : List ℕ) (before : List Numbered) (after : S) (beside : T) (line : ℕ) → Are (commands_of input) → R after beside
       → IsAsking asks input before after line ⊎ IsBeginning input before line → IsAsking asked input before beside line ⊎ IsBeginning input before line
   asking_as input before after beside line all r (inl a) = inl (record {
     command = a.command;
-    behind = a.behind;
+    later = a.later;
     order = a.order;
-    asking = asking after beside a.command (one_behind before a.command a.behind (subst Are a.order all)) r a.asking;
+    asking = asking after beside a.command (one_after before a.command a.later (subst Are a.order all)) r a.asking;
     at = a.at;
   })
   asking_as input before after beside line all r (inr b) = inr b
@@ -93,9 +93,9 @@ module _ {S T : Type 0} (may : Rule S) (asks : Asking S) (start : S) (to : Rule 
       }
   ends_as Write input e left left_new old new known all h = record {
     before = h.before;
-    behind = h.behind;
+    later = h.later;
     order = h.order;
-    begins = begins_as h.before (all_until input h.before h.behind h.order all) h.begins;
+    begins = begins_as h.before (all_until input h.before h.later h.order all) h.begins;
     stops = h.stops;
   }
   ends_as Memory input e left left_new old new known all h =

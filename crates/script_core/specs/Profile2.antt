@@ -11,8 +11,8 @@ abbrev pub fault_in_profile_1 : List ℕ → Option RunError
 fault_in_profile_1 input = fault_from (by One) 1 (parts_of input)
 
 -- an input with the line `profile 2` before it
-abbrev pub behind_profile_2 : List ℕ → List ℕ
-behind_profile_2 input = codes "profile 2\n" ++ input
+abbrev pub after_profile_2 : List ℕ → List ℕ
+after_profile_2 input = codes "profile 2\n" ++ input
 
 -- what a reply of profile 1 is in profile 2: the reply to `info` ends with the number of frames that are handed out
 abbrev pub with_held : Reply → Reply
@@ -26,5 +26,5 @@ in_profile_2 answers = record { line = 1; reply = reply.Done } ∷ map (λ a. re
 -- a script without a fault in profile 1 has no fault by itself, none after `profile 2`, and the same replies there, from what answers inputs so
 pub record IsSameInProfile2 (answers_to : List ℕ → List Answer) (input : List ℕ) : Type 0 where
   pub fault : fault_of input ≡ None
-  pub fault_in_profile_2 : fault_of (behind_profile_2 input) ≡ None
-  pub answers : answers_to (behind_profile_2 input) ≡ in_profile_2 (answers_to input)
+  pub fault_in_profile_2 : fault_of (after_profile_2 input) ≡ None
+  pub answers : answers_to (after_profile_2 input) ≡ in_profile_2 (answers_to input)

@@ -91,8 +91,8 @@ pub record IsRoundOver (w : WorldState) : Type 0 where
   pub settled : Settles result → audit_refusal zone ends ≡ None
 
 -- the machine that a round leaves, with this client
-abbrev pub left_behind : {w : WorldState} → ℕ → Client → IsRoundOver w → WithThreads
-left_behind places client over = left_by places client over.zone over.scan over.ends (audit_refusal over.zone over.ends)
+abbrev pub left_after : {w : WorldState} → ℕ → Client → IsRoundOver w → WithThreads
+left_after places client over = left_by places client over.zone over.scan over.ends (audit_refusal over.zone over.ends)
 
 -- a round over a zone did what the round by hand does
 pub record IsDoneByHand (z z_new : ZoneState) (r : Round) : Type 0 where
@@ -112,7 +112,7 @@ pub record IsRoundOn (w : WorldState) (places : ℕ) (client : Client) (answer :
   pub over : IsRoundOver w
   pub by_hand : ComesToByHand w.zone over.zone over.result
   pub answer_is : answer ≡ round_reply over.result
-  pub left : new ≡ left_behind places client over
+  pub left : new ≡ left_after places client over
 
 -- the numbers that name blocks, in the order in which they were got
 abbrev pub told_of : PoolBlocks → List (Option Huge) → List ℕ
@@ -214,12 +214,12 @@ pub record IsSettledReply (zone : ZoneState) (client : Client) (result : Result 
 -- a round during which a client made calls: the answers to the client's lines, the reply to the round, and the machine after it
 pub record IsTurnBeside (w : WorldState) (places : ℕ) (client : Client) (lines : List ClientLine) (told : List Answer) (own : Reply) (new : WithThreads) : Type 0 where
   pub over : IsRoundOver w
-  pub client_behind : Client
+  pub client_after : Client
   -- of the records that the journal has more, those of the client are its new receipts, in their order; all others are of the round
-  pub added : IsToldBeside client client_behind w.zone.records over.zone.records
-  pub clients : AreClientAnswers client lines told client_behind
-  pub settled : IsSettledReply over.zone client_behind over.result own
-  pub left : new ≡ left_behind places client_behind over
+  pub added : IsToldBeside client client_after w.zone.records over.zone.records
+  pub clients : AreClientAnswers client lines told client_after
+  pub settled : IsSettledReply over.zone client_after over.result own
+  pub left : new ≡ left_after places client_after over
 
 -- a block was run: the answers are those to the client's lines, and after them the reply to the round
 pub record IsRoundBeside (w : WorldState) (old : WithThreads) (c : Numbered) (answers : List Answer) (new : WithThreads) : Type 0 where

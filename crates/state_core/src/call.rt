@@ -85,7 +85,7 @@ impl<const W: usize> ZoneCall<W> {
         ensures { result ≡ record_of self.entry client answer }
     {
         match answer {
-            ZoneAnswer::Done => self.untold(client),
+            ZoneAnswer::Done => self.record_of_done(client),
             ZoneAnswer::Mapped { page, .. } => match self {
                 ZoneCall::Map { address, .. } | ZoneCall::MapAt { address, .. } => Record::Map {
                     client,
@@ -111,7 +111,7 @@ impl<const W: usize> ZoneCall<W> {
     }
 
     /// The record that a call leaves whose answer tells nothing.
-    fn untold(self, client: ClientNo) -> Record
+    fn record_of_done(self, client: ClientNo) -> Record
         requires { IsTrue (answers self ZoneAnswer.Done) }
         ensures { result ≡ record_of self.entry client ZoneAnswer.Done }
     {

@@ -4,7 +4,7 @@ use Rattle.std.specs.Prelude.{nat_eq, ⊤}
 use Rattle.std.specs.List.{AllByRecursion, onto_first}
 use Rattle.text_core.specs.declared.fault.Fault.{Fault}
 use Rattle.text_core.specs.declared.profile.Profile.TheVariants.{Untold}
-use Rattle.text_core.specs.Script.{Came, Numbered, Reading, by, commands_from, commands_of, line_comes, onto, onto_commands, parts_of, reading_behind}
+use Rattle.text_core.specs.Script.{Came, Numbered, Reading, by, commands_from, commands_of, line_comes, onto, onto_commands, parts_of, reading_after}
 use Rattle.text_core.proofs.Lines.{commands_by, parts_are}
 
 -- what holds of all of a list holds of its first part
@@ -63,7 +63,7 @@ more_commands q n (text ∷ next ∷ parts) (line ∷ []) begin = absurd begin
 more_commands q n (text ∷ next ∷ parts) (line ∷ other ∷ all) begin =
     let came = line_comes q n text in
     let M : List ℕ → Type 0 = λ t. IsMore (commands_from q n (text ∷ next ∷ parts)) (commands_by q n (line_comes q n t) (other ∷ all)) in
-    subst M begin.0 (onto_more came _ _ (more_commands (reading_behind q came) (n + 1) (next ∷ parts) (other ∷ all) begin.1))
+    subst M begin.0 (onto_more came _ _ (more_commands (reading_after q came) (n + 1) (next ∷ parts) (other ∷ all) begin.1))
 
 -- the commands of an input are those of its beginning, and then more
 pub commands_begin : (past rest : List ℕ) → IsMore (commands_of past) (commands_of (past ++ rest))

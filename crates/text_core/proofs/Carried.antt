@@ -32,7 +32,7 @@ module _ {S T : Type 0} (may : Rule S) (rule : Rule T) (seen : S → T)
         → IsAsking asks_by input before (seen after) line ⊎ IsBeginning input before line
     carried_asking after input before line (inl a) = inl (record {
       command = a.command;
-      behind = a.behind;
+      later = a.later;
       order = a.order;
       asking = asking after a.command.command a.asking;
       at = a.at;
@@ -44,7 +44,7 @@ module _ {S T : Type 0} (may : Rule S) (rule : Rule T) (seen : S → T)
     carried_end start Syntax input e left left_new old new h = (h.0, carried_answered start input old new h.1)
     carried_end start LongLine input e left left_new old new h = (h.0, carried_answered start input old new h.1)
     carried_end start Read input e left left_new old new h = record { past = h.past; read = h.read; clean = h.clean; answered = carried_answered start h.past old new h.answered; at = h.at }
-    carried_end start Write input e left left_new old new h = record { before = h.before; behind = h.behind; order = h.order; begins = carried_begins start h.before h.begins; stops = h.stops }
+    carried_end start Write input e left left_new old new h = record { before = h.before; later = h.later; order = h.order; begins = carried_begins start h.before h.begins; stops = h.stops }
     carried_end start Memory input e left left_new old new h = record {
       before = h.before;
       begins = carried_begins start h.before h.begins;

@@ -65,7 +65,7 @@ flushed may asks start Memory s input e left left_new first mid after other h fl
 pub read_stops : {S : Type 0} (may : Rule S) (start : S) (s : ScriptRunner S) (past : List ℕ) (first mid after : Option (List ℕ)) (at : ℕ) → HasRead may start s past first mid → FlushStops s mid after at → (rest : List ℕ) → IsStopped may start (past ++ rest) first after at
 read_stops may start s past first mid after at r stops rest = record {
   before = r.before;
-  behind = commands_from s.reading s.line (parts_of (s.held ++ rest));
+  later = commands_from s.reading s.line (parts_of (s.held ++ rest));
   order = ap (λ (p : List ℕ). commands_of (p ++ rest)) r.split ∙ ap commands_of (append_assoc r.whole s.held rest) ∙ r.commands (s.held ++ rest);
   begins = begins_of may start s past first mid r;
   stops = stops r.answers first r.owes;
@@ -74,7 +74,7 @@ read_stops may start s past first mid after at r stops rest = record {
 fault_stopped : {S : Type 0} (may : Rule S) (start : S) (s : ScriptRunner S) (past : List ℕ) (e : RunError) (first mid after : Option (List ℕ)) (at : ℕ) → HasFault may start s past e first mid → FlushStops s mid after at → (rest : List ℕ) → IsStopped may start (past ++ rest) first after at
 fault_stopped may start s past e first mid after at h stops rest = record {
   before = h.before;
-  behind = [];
+  later = [];
   order = h.commands rest ∙ sym (append-nil h.before);
   begins = h.begins;
   stops = stops h.begins.answers first h.owes;
@@ -87,11 +87,11 @@ ended_stops may asks start LongLine s past e first mid after at other h stops re
 ended_stops may asks start Read s past e first mid after at other h stops rest = absurd h
 ended_stops may asks start Write s past e first mid after at other h stops rest = absurd (other refl)
 ended_stops may asks start Memory s past e first mid after at other h stops rest = by_asking (h.asking rest) where
-  stopped : (behind : List Numbered) → commands_of (past ++ rest) ≡ h.before ++ behind → IsStopped may start (past ++ rest) first after at
-  stopped behind order = record { before = h.before; behind = behind; order = order; begins = h.begins; stops = stops h.begins.answers first h.owes }
+  stopped : (later : List Numbered) → commands_of (past ++ rest) ≡ h.before ++ later → IsStopped may start (past ++ rest) first after at
+  stopped later order = record { before = h.before; later = later; order = order; begins = h.begins; stops = stops h.begins.answers first h.owes }
 
   by_asking : IsAsking asks (past ++ rest) h.before h.begins.after e.line ⊎ IsBeginning (past ++ rest) h.before e.line → IsStopped may start (past ++ rest) first after at
-  by_asking (inl a) = stopped (a.command ∷ a.behind) a.order
+  by_asking (inl a) = stopped (a.command ∷ a.later) a.order
   by_asking (inr b) =
       let more = commands_begin b.past (b.text ++ 10 ∷ b.rest) in
       stopped more.0 (ap commands_of b.order ∙ more.1 ∙ ap (λ (list : List Numbered). list ++ more.0) b.commands)

@@ -4,8 +4,8 @@ use Rattle.std.specs.Prelude.{bytes_eq, codes, if◌then◌else◌}
 use Rattle.std.proofs.lemmas.Slice.Eq.{bytes_eq-Decides}
 use Rattle.text_core.specs.declared.token.Token.{Token}
 use Rattle.text_core.specs.declared.token.Token.TheVariants.{Zone, Map, MapAt, Store, Load, Info, Unmovable, Scan, Take, Copy, Finish, Shut, Look, Share, Unmap, Pin, Unpin, Huge, Give, Fill, Thin, Mark, Unmark, Compact, Pool, During, End, Other}
-use Rattle.text_core.specs.Token.{first_word, behind_word, keyword_of, number_or_keyword, token_of, tokens}
-use Rattle.text_core.proofs.Lexemes.{bare_apart, behind_word-append, first_word-append, is_bare}
+use Rattle.text_core.specs.Token.{first_word, after_word, keyword_of, number_or_keyword, token_of, tokens}
+use Rattle.text_core.proofs.Lexemes.{bare_apart, after_word-append, first_word-append, is_bare}
 use Rattle.text_core.proofs.Numbers.{one_of_both}
 use Rattle.text_core.proofs.Tokens.{tokens_first}
 
@@ -54,22 +54,22 @@ token_of_keyword word known = elim (one_of_both word) [
   | inr other ↦ absurd (known other)
 ]
 
-bare_keyword_comes : (word behind : List ℕ) → is_bare word ≡ true → (keyword_of word ≡ Other → ⊥) → first_word behind ≡ [] → behind_word behind ≡ behind
-    → tokens (word ++ behind) ≡ keyword_of word ∷ tokens behind
-bare_keyword_comes [] behind bare known ends stays = absurd (known refl)
-bare_keyword_comes (b ∷ word) behind bare known ends stays =
-    let front : first_word (b ∷ (word ++ behind)) ≡ b ∷ word =
-    first_word-append (b ∷ word) behind bare ∙ ap (λ (r : List ℕ). b ∷ (word ++ r)) ends ∙ append-nil (b ∷ word) in
-    let back : behind_word (b ∷ (word ++ behind)) ≡ behind = behind_word-append (b ∷ word) behind bare ∙ stays in
-    tokens_first (b ∷ (word ++ behind)) (omega arith) (bare_apart b word (word ++ behind) bare)
-    ∙ ap (λ (w : List ℕ). token_of w ∷ tokens (behind_word (b ∷ (word ++ behind)))) front
+bare_keyword_comes : (word after : List ℕ) → is_bare word ≡ true → (keyword_of word ≡ Other → ⊥) → first_word after ≡ [] → after_word after ≡ after
+    → tokens (word ++ after) ≡ keyword_of word ∷ tokens after
+bare_keyword_comes [] after bare known ends stays = absurd (known refl)
+bare_keyword_comes (b ∷ word) after bare known ends stays =
+    let front : first_word (b ∷ (word ++ after)) ≡ b ∷ word =
+    first_word-append (b ∷ word) after bare ∙ ap (λ (r : List ℕ). b ∷ (word ++ r)) ends ∙ append-nil (b ∷ word) in
+    let back : after_word (b ∷ (word ++ after)) ≡ after = after_word-append (b ∷ word) after bare ∙ stays in
+    tokens_first (b ∷ (word ++ after)) (omega arith) (bare_apart b word (word ++ after) bare)
+    ∙ ap (λ (w : List ℕ). token_of w ∷ tokens (after_word (b ∷ (word ++ after)))) front
     ∙ ap (λ (r : List ℕ). token_of (b ∷ word) ∷ tokens r) back
-    ∙ ap (λ (t : Token). t ∷ tokens behind) (token_of_keyword (b ∷ word) known)
+    ∙ ap (λ (t : Token). t ∷ tokens after) (token_of_keyword (b ∷ word) known)
 
 -- a text that is a keyword followed by a space or by nothing has the keyword as its first token
-pub keyword_comes : (word behind : List ℕ) → (keyword_of word ≡ Other → ⊥) → first_word behind ≡ [] → behind_word behind ≡ behind
-    → tokens (word ++ behind) ≡ keyword_of word ∷ tokens behind
-keyword_comes word behind known ends stays = elim (keyword_bare word) [
+pub keyword_comes : (word after : List ℕ) → (keyword_of word ≡ Other → ⊥) → first_word after ≡ [] → after_word after ≡ after
+    → tokens (word ++ after) ≡ keyword_of word ∷ tokens after
+keyword_comes word after known ends stays = elim (keyword_bare word) [
   | inl other ↦ absurd (known other)
-  | inr bare ↦ bare_keyword_comes word behind bare known ends stays
+  | inr bare ↦ bare_keyword_comes word after bare known ends stays
 ]

@@ -8,7 +8,7 @@ use Rattle.std.proofs.lemmas.List.Folds.{length-prefix_len}
 use Rattle.std.proofs.lemmas.List.Splits.{slice_split_first, slice_split_none}
 use Rattle.std.proofs.lemmas.Bool.{and_parts, not-true}
 use Rattle.std.proofs.lemmas.Bool.Decides.{nat_tests}
-use Rattle.text_core.specs.Token.{lexemes, first_word, behind_word}
+use Rattle.text_core.specs.Token.{lexemes, first_word, after_word}
 
 abbrev pub is_space : ℕ → Bool
 is_space byte = nat_eq byte 32
@@ -39,16 +39,16 @@ lexeme_len_pos x xs e =
     let is : lexeme_len (x ∷ xs) ≡ 1 + lexeme_len xs = ap (λ (t : Bool). cond (not t) (1 + lexeme_len xs) 0) e in
     omega arith
 
-lexeme_then_space : (xs : List ℕ) → 0 < lexeme_len xs → lexeme_len xs < length xs → lexemes xs ≡ first_word xs ∷ lexemes (behind_word xs)
+lexeme_then_space : (xs : List ℕ) → 0 < lexeme_len xs → lexeme_len xs < length xs → lexemes xs ≡ first_word xs ∷ lexemes (after_word xs)
 lexeme_then_space xs some h =
     let n = lexeme_len xs in
     let len : length (take n xs) ≡ n = length-prefix_len (λ b. not (is_space b)) xs in
     let ahead : drop n xs ≡ get_or xs n 0 ∷ drop (n + 1) xs = rw (add-one, drop-cons xs n 0) refl in
-    let behind : lexemes (drop n xs) ≡ lexemes (drop (n + 1) xs) =
+    let after : lexemes (drop n xs) ≡ lexemes (drop (n + 1) xs) =
     ap lexemes ahead ∙ lexemes_space (get_or xs n 0) (drop (n + 1) xs) (passes_at_first is_space xs 0 h) in
-    ap (filter is_lexeme) (slice_split_first is_space xs 0 h) ∙ first_kept (take n xs) (slice_split is_space (after_first is_space xs)) (omega arith) ∙ ap (λ (r : List (List ℕ)). take n xs ∷ r) (sym behind)
+    ap (filter is_lexeme) (slice_split_first is_space xs 0 h) ∙ first_kept (take n xs) (slice_split is_space (after_first is_space xs)) (omega arith) ∙ ap (λ (r : List (List ℕ)). take n xs ∷ r) (sym after)
 
-lexeme_to_end : (xs : List ℕ) → 0 < length xs → length xs ≤ lexeme_len xs → lexemes xs ≡ first_word xs ∷ lexemes (behind_word xs)
+lexeme_to_end : (xs : List ℕ) → 0 < length xs → length xs ≤ lexeme_len xs → lexemes xs ≡ first_word xs ∷ lexemes (after_word xs)
 lexeme_to_end xs some h =
     ap (filter is_lexeme) (slice_split_none is_space xs (λ k d below. fails_before_first is_space xs k d (omega arith)))
     ∙ first_kept xs [] some
@@ -59,10 +59,10 @@ apart : (a : ℕ) (ys : List ℕ) → starts_with nat_eq (a ∷ ys) (codes " ") 
 apart a ys e = grind (arith, nat_tests)
 
 -- where a text doesn't begin with a space, its first word is what stands before the first space
-pub lexemes_first : (xs : List ℕ) → 0 < length xs → starts_with nat_eq xs (codes " ") ≡ false → lexemes xs ≡ first_word xs ∷ lexemes (behind_word xs)
+pub lexemes_first : (xs : List ℕ) → 0 < length xs → starts_with nat_eq xs (codes " ") ≡ false → lexemes xs ≡ first_word xs ∷ lexemes (after_word xs)
 lexemes_first [] h e = absurd (omega arith)
 lexemes_first (x ∷ xs) h e = at_test (nat_lt (lexeme_len (x ∷ xs)) (length (x ∷ xs))) refl where
-  at_test : (t : Bool) → nat_lt (lexeme_len (x ∷ xs)) (length (x ∷ xs)) ≡ t → lexemes (x ∷ xs) ≡ first_word (x ∷ xs) ∷ lexemes (behind_word (x ∷ xs))
+  at_test : (t : Bool) → nat_lt (lexeme_len (x ∷ xs)) (length (x ∷ xs)) ≡ t → lexemes (x ∷ xs) ≡ first_word (x ∷ xs) ∷ lexemes (after_word (x ∷ xs))
   at_test true below = lexeme_then_space (x ∷ xs) (lexeme_len_pos x xs (apart x xs e)) (let h : lexeme_len (x ∷ xs) < length (x ∷ xs) = grind (arith, nat_tests) in h)
   at_test false below = lexeme_to_end (x ∷ xs) h (let h : length (x ∷ xs) ≤ lexeme_len (x ∷ xs) = grind (arith, nat_tests) in h)
 
@@ -74,8 +74,8 @@ pub first_word_step : (b : ℕ) (xs : List ℕ) → is_space b ≡ false → fir
 first_word_step b xs e =
     ap (λ (t : Bool). take (cond (not t) (1 + lexeme_len xs) 0) (b ∷ xs)) e ∙ ap (λ (n : ℕ). take n (b ∷ xs)) (one_more (lexeme_len xs))
 
-pub behind_word_step : (b : ℕ) (xs : List ℕ) → is_space b ≡ false → behind_word (b ∷ xs) ≡ behind_word xs
-behind_word_step b xs e =
+pub after_word_step : (b : ℕ) (xs : List ℕ) → is_space b ≡ false → after_word (b ∷ xs) ≡ after_word xs
+after_word_step b xs e =
     ap (λ (t : Bool). drop (cond (not t) (1 + lexeme_len xs) 0) (b ∷ xs)) e ∙ ap (λ (n : ℕ). drop n (b ∷ xs)) (one_more (lexeme_len xs))
 
 space_first : (b : ℕ) (xs : List ℕ) → starts_with nat_eq (b ∷ xs) (codes " ") ≡ true → is_space b ≡ true
@@ -86,9 +86,9 @@ pub first_word_none : (xs : List ℕ) → starts_with nat_eq xs (codes " ") ≡ 
 first_word_none [] e = refl
 first_word_none (b ∷ xs) e = ap (λ (t : Bool). take (cond (not t) (1 + lexeme_len xs) 0) (b ∷ xs)) (space_first b xs e)
 
-pub behind_word_none : (xs : List ℕ) → starts_with nat_eq xs (codes " ") ≡ true → behind_word xs ≡ xs
-behind_word_none [] e = refl
-behind_word_none (b ∷ xs) e = ap (λ (t : Bool). drop (cond (not t) (1 + lexeme_len xs) 0) (b ∷ xs)) (space_first b xs e)
+pub after_word_none : (xs : List ℕ) → starts_with nat_eq xs (codes " ") ≡ true → after_word xs ≡ xs
+after_word_none [] e = refl
+after_word_none (b ∷ xs) e = ap (λ (t : Bool). drop (cond (not t) (1 + lexeme_len xs) 0) (b ∷ xs)) (space_first b xs e)
 
 -- a digit isn't a space
 pub is_apart : (d : ℕ) → nat_eq (48 + d) 32 ≡ false
@@ -115,8 +115,8 @@ first_word-append (b ∷ word) xs e =
     let parts = bare_parts b word e in
     first_word_step b (word ++ xs) parts.0 ∙ ap (λ (r : List ℕ). b ∷ r) (first_word-append word xs parts.1)
 
-pub behind_word-append : (word xs : List ℕ) → is_bare word ≡ true → behind_word (word ++ xs) ≡ behind_word xs
-behind_word-append [] xs e = refl
-behind_word-append (b ∷ word) xs e =
+pub after_word-append : (word xs : List ℕ) → is_bare word ≡ true → after_word (word ++ xs) ≡ after_word xs
+after_word-append [] xs e = refl
+after_word-append (b ∷ word) xs e =
     let parts = bare_parts b word e in
-    behind_word_step b (word ++ xs) parts.0 ∙ behind_word-append word xs parts.1
+    after_word_step b (word ++ xs) parts.0 ∙ after_word-append word xs parts.1

@@ -15,7 +15,7 @@ use Rattle.text_core.specs.declared.fault.Fault.TheVariants.{Syntax, LongLine}
 use Rattle.text_core.specs.Line.{block_lexemes_say, line_within, lexemes_say, line_of}
 use Rattle.text_core.specs.Token.{lexemes}
 use Rattle.text_core.specs.Reply.{newlines}
-use Rattle.text_core.specs.Script.{Block, Came, Numbered, Reading, comes_in, comes_outside, comes_within, commands_from, fault_from, line_comes, line_fault, onto_commands, open_fault, parts_of, reading_behind, reading_from}
+use Rattle.text_core.specs.Script.{Block, Came, Numbered, Reading, comes_in, comes_outside, comes_within, commands_from, fault_from, line_comes, line_fault, onto_commands, open_fault, parts_of, reading_after, reading_from}
 use Rattle.text_core.proofs.Newlines.{newlines-append}
 
 newline_first : (b : ℕ) (bytes : List ℕ) → newlines (b ∷ bytes) ≡ 0 → (nat_eq b 10 ≡ false) × (newlines bytes ≡ 0)
@@ -71,15 +71,15 @@ within-line q block n text inside = ap (λ o. comes_in o q.profile n text) insid
 
 -- the commands from a line on, given what the line makes
 abbrev pub commands_by : Reading → ℕ → Result Came Fault → List (List ℕ) → List Numbered
-commands_by q n came parts = onto_commands came (commands_from (reading_behind q came) (n + 1) parts)
+commands_by q n came parts = onto_commands came (commands_from (reading_after q came) (n + 1) parts)
 
 -- the first fault from a line on, given what the line makes
 abbrev pub fault_by : Reading → ℕ → Result Came Fault → List (List ℕ) → Option RunError
-fault_by q n came parts = option_or (line_fault n came) (fault_from (reading_behind q came) (n + 1) parts)
+fault_by q n came parts = option_or (line_fault n came) (fault_from (reading_after q came) (n + 1) parts)
 
 -- how the bytes after the last newline are read, given what a line makes
 abbrev pub reading_by : Reading → ℕ → Result Came Fault → List (List ℕ) → Reading
-reading_by q n came parts = reading_from (reading_behind q came) (n + 1) parts
+reading_by q n came parts = reading_from (reading_after q came) (n + 1) parts
 
 commands_at : (q : Reading) (n : ℕ) (text : List ℕ) (parts : List (List ℕ)) (first : List ℕ) (others : List (List ℕ)) → parts ≡ first ∷ others → commands_from q n (text ∷ parts) ≡ commands_by q n (line_comes q n text) parts
 commands_at q n text parts first others e =

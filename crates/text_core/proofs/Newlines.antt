@@ -17,7 +17,7 @@ use Rattle.text_core.specs.declared.reply.Reply.{Reply}
 use Rattle.text_core.specs.declared.reply.Reply.TheVariants as reply
 use Rattle.text_core.specs.declared.reply.Stopped.{Stopped}
 use Rattle.text_core.specs.declared.reply.Stopped.TheVariants as stopped
-use Rattle.text_core.specs.Reply.{IsOneLine, behind_commas, counts_text, look_text, newlines, numbers_text, pool_name, pool_stopped_text, pool_text, round_text, stopped_text, text_of, uses_text}
+use Rattle.text_core.specs.Reply.{IsOneLine, after_commas, counts_text, look_text, newlines, numbers_text, pool_name, pool_stopped_text, pool_text, round_text, stopped_text, text_of, uses_text}
 
 pub newlines-append : (xs ys : List ℕ) → newlines (xs ++ ys) ≡ newlines xs + newlines ys
 newlines-append xs ys =
@@ -45,7 +45,7 @@ digits_none (suc k) n more =
 newlines-decimal : (n : ℕ) → newlines (decimal n) ≡ 0
 newlines-decimal n = unfold digits in digits_none 64 n []
 
--- a name and a number behind a text bring no newline
+-- a name and a number after a text bring no newline
 field_none : (text name : List ℕ) (n : ℕ) → newlines text ≡ 0 → newlines name ≡ 0 → newlines (text ++ name ++ decimal n) ≡ 0
 field_none text name n before named =
     omega (arith, before, named, newlines-append (text ++ name) (decimal n), newlines-append text name, newlines-decimal n)
@@ -97,13 +97,13 @@ name_none : (blocks : PoolBlocks) → newlines (pool_name blocks) ≡ 0
 name_none Pageblocks = refl
 name_none (OfOrder order) = refl
 
-commas_none : (numbers : List ℕ) → newlines (behind_commas numbers) ≡ 0
+commas_none : (numbers : List ℕ) → newlines (after_commas numbers) ≡ 0
 commas_none [] = refl
-commas_none (n ∷ more) = word_none (codes "," ++ decimal n) (behind_commas more) (newlines-decimal n) (commas_none more)
+commas_none (n ∷ more) = word_none (codes "," ++ decimal n) (after_commas more) (newlines-decimal n) (commas_none more)
 
 numbers_none : (numbers : List ℕ) → newlines (numbers_text numbers) ≡ 0
 numbers_none [] = refl
-numbers_none (first ∷ more) = word_none (decimal first) (behind_commas more) (newlines-decimal first) (commas_none more)
+numbers_none (first ∷ more) = word_none (decimal first) (after_commas more) (newlines-decimal first) (commas_none more)
 
 pool_none : (blocks : PoolBlocks) (got : List ℕ) (rounds : ℕ) (why : PoolStopped) → newlines (pool_text blocks got rounds why) ≡ 0
 pool_none blocks got rounds why =
@@ -116,7 +116,7 @@ pool_none blocks got rounds why =
 one_line : (body : List ℕ) → newlines body ≡ 0 → IsOneLine (body ++ codes "\n")
 one_line body none = record { body = body; ends = refl; one = none }
 
--- a name and a number, alone and behind a text, make a line
+-- a name and a number, alone and after a text, make a line
 field_line : (name : List ℕ) (n : ℕ) → newlines name ≡ 0 → IsOneLine (name ++ decimal n ++ codes "\n")
 field_line name n named = one_line (name ++ decimal n) (word_none name (decimal n) named (newlines-decimal n))
 

@@ -111,7 +111,7 @@ module _ {S : Type 0} (may : Rule S) (start : S) (s : ScriptRunner S) (past text
       begins = begins_of may start s past first now r;
       asking = λ rest. inl (record {
         command = command;
-        behind = commands_from reading (s.line + 1) (parts_of rest);
+        later = commands_from reading (s.line + 1) (parts_of rest);
         order = commands_ended rest;
         asking = asking;
         at = at;
@@ -123,7 +123,7 @@ module _ {S : Type 0} (may : Rule S) (start : S) (s : ScriptRunner S) (past text
     pub read_stopped : (answers : List Answer) (machine : S) (after : Option (List ℕ)) (at : ℕ) (rest : List ℕ) → may s.machine command answers machine → StopsIn (r.answers ++ answers) first after at → IsStopped may start ((past ++ (text ++ 10 ∷ [])) ++ rest) first after at
     read_stopped answers machine after at rest told stops = record {
       before = r.before ++ command ∷ [];
-      behind = commands_from reading (s.line + 1) (parts_of rest);
+      later = commands_from reading (s.line + 1) (parts_of rest);
       order = commands_ended rest ∙ sym (append_assoc r.before (command ∷ []) _);
       begins = record { answers = r.answers ++ answers; after = machine; replied = replied_more may start s.machine machine r.before r.answers command answers r.replied told };
       stops = stops;
@@ -276,5 +276,5 @@ taken_line_ended may asks start s past text first now after s' e none_held line 
     subst P (ap (λ (t : List ℕ). r.whole ++ (t ++ 10 ∷ [])) is ∙ past_line may start s past text first now r) (takes r.whole first unbroken (subst H (sym empty) (read_taken_out may start s past first now r)))
 
 -- a line and what stands after it in a piece
-pub piece_joined : (past done text behind : List ℕ) → ((past ++ done) ++ (text ++ 10 ∷ [])) ++ behind ≡ past ++ (done ++ (text ++ 10 ∷ behind))
-piece_joined past done text behind = joined (past ++ done) text behind ∙ append_assoc past done (text ++ 10 ∷ behind)
+pub piece_joined : (past done text later : List ℕ) → ((past ++ done) ++ (text ++ 10 ∷ [])) ++ later ≡ past ++ (done ++ (text ++ 10 ∷ later))
+piece_joined past done text later = joined (past ++ done) text later ∙ append_assoc past done (text ++ 10 ∷ later)

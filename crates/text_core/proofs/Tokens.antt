@@ -5,11 +5,11 @@ use Rattle.std.specs.List.{starts_with}
 use Rattle.text_core.specs.declared.token.Token.{Token}
 use Rattle.text_core.specs.declared.token.Token.TheVariants.{Number}
 use Rattle.text_core.specs.Arguments.{number_first}
-use Rattle.text_core.specs.Token.{first_word, behind_word, keyword_of, number_of, number_or_keyword, token_of, tokens}
+use Rattle.text_core.specs.Token.{first_word, after_word, keyword_of, number_of, number_or_keyword, token_of, tokens}
 use Rattle.text_core.proofs.Lexemes.{first_word_none, lexemes_first, lexemes_space}
 use Rattle.text_core.proofs.Numbers.{number_of_short}
 
-pub tokens_first : (xs : List ℕ) → 0 < length xs → starts_with nat_eq xs (codes " ") ≡ false → tokens xs ≡ token_of (first_word xs) ∷ tokens (behind_word xs)
+pub tokens_first : (xs : List ℕ) → 0 < length xs → starts_with nat_eq xs (codes " ") ≡ false → tokens xs ≡ token_of (first_word xs) ∷ tokens (after_word xs)
 tokens_first xs some e = ap (map token_of) (lexemes_first xs some e)
 
 -- a word that is a keyword is not a number
@@ -23,18 +23,18 @@ keyword_is_no_number word more = search (either_word, rules)
 
 -- the first token of a text whose first word is a number
 pub number_comes : (xs : List ℕ) (n : ℕ) → starts_with nat_eq xs (codes " ") ≡ false → number_of (first_word xs) ≡ Some n
-    → tokens xs ≡ Number n ∷ tokens (behind_word xs)
+    → tokens xs ≡ Number n ∷ tokens (after_word xs)
 number_comes [] n e f = absurd cc
 number_comes (x ∷ xs) n e f =
-    tokens_first (x ∷ xs) (omega arith) e ∙ ap (λ (o : Option ℕ). number_or_keyword o (first_word (x ∷ xs)) ∷ tokens (behind_word (x ∷ xs))) f
+    tokens_first (x ∷ xs) (omega arith) e ∙ ap (λ (o : Option ℕ). number_or_keyword o (first_word (x ∷ xs)) ∷ tokens (after_word (x ∷ xs))) f
 
 -- no number comes first where the first word of a text isn't one
 pub no_number_comes : (xs : List ℕ) → starts_with nat_eq xs (codes " ") ≡ false → number_of (first_word xs) ≡ None → number_first (tokens xs) ≡ None
 no_number_comes [] e f = refl
 no_number_comes (x ∷ xs) e f =
     ap number_first (tokens_first (x ∷ xs) (omega arith) e)
-    ∙ ap (λ (o : Option ℕ). number_first (number_or_keyword o (first_word (x ∷ xs)) ∷ tokens (behind_word (x ∷ xs)))) f
-    ∙ keyword_is_no_number (first_word (x ∷ xs)) (tokens (behind_word (x ∷ xs)))
+    ∙ ap (λ (o : Option ℕ). number_first (number_or_keyword o (first_word (x ∷ xs)) ∷ tokens (after_word (x ∷ xs)))) f
+    ∙ keyword_is_no_number (first_word (x ∷ xs)) (tokens (after_word (x ∷ xs)))
 
 -- a text whose first word is a number doesn't begin with a space
 number_apart : (xs : List ℕ) (n : ℕ) → number_of (first_word xs) ≡ Some n → starts_with nat_eq xs (codes " ") ≡ false
@@ -46,5 +46,5 @@ number_apart xs n e = by_test (starts_with nat_eq xs (codes " ")) refl where
   by_test false f = f
 
 -- the tokens of a text that begins with a space and a number
-pub spaced_number_comes : (xs : List ℕ) (n : ℕ) → number_of (first_word xs) ≡ Some n → tokens (32 ∷ xs) ≡ Number n ∷ tokens (behind_word xs)
+pub spaced_number_comes : (xs : List ℕ) (n : ℕ) → number_of (first_word xs) ≡ Some n → tokens (32 ∷ xs) ≡ Number n ∷ tokens (after_word xs)
 spaced_number_comes xs n e = ap (map token_of) (lexemes_space 32 xs refl) ∙ number_comes xs n (number_apart xs n e) e

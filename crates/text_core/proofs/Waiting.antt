@@ -20,8 +20,8 @@ AreOneLine answers = AllByRecursion (λ a. IsOneLine (text_of a.reply)) answers
 pub record Cut (answers : List Answer) (n : ℕ) : Type 0 where
   pub before : List Answer
   pub answer : Answer
-  pub behind : List Answer
-  pub order : answers ≡ before ++ answer ∷ behind
+  pub later : List Answer
+  pub order : answers ≡ before ++ answer ∷ later
   pub taken : List ℕ
   pub left : List ℕ
   pub text : text_of answer.reply ≡ taken ++ left
@@ -45,7 +45,7 @@ cut_first a answers n one within =
     record {
       before = [];
       answer = a;
-      behind = answers;
+      later = answers;
       order = refl;
       taken = take n (text_of a.reply);
       left = drop n (text_of a.reply);
@@ -61,7 +61,7 @@ cut_later a answers m one rest =
     record {
       before = a ∷ rest.before;
       answer = rest.answer;
-      behind = rest.behind;
+      later = rest.later;
       order = ap (λ (r : List Answer). a ∷ r) rest.order;
       taken = rest.taken;
       left = rest.left;
@@ -109,12 +109,12 @@ owes_stops box answers first now after n owes less written =
     let cut = cut_at owes.waiting n owes.holds.one_line (omega (arith, ap length owes.holds.bytes)) in
     let part : take n box.bytes ≡ texts cut.before ++ cut.taken = ap (take n) owes.holds.bytes ∙ cut.here in
     let count : newlines (take n box.bytes) ≡ length cut.before = ap (λ (r : List ℕ). newlines (take n r)) owes.holds.bytes ∙ cut.count in
-    let lines : box.lines ≡ map (λ a. a.line) cut.before ++ cut.answer.line ∷ map (λ a. a.line) cut.behind = owes.holds.lines ∙ ap (map (λ a. a.line)) cut.order ∙ map-append (λ (a : Answer). a.line) cut.before (cut.answer ∷ cut.behind) in
+    let lines : box.lines ≡ map (λ a. a.line) cut.before ++ cut.answer.line ∷ map (λ a. a.line) cut.later = owes.holds.lines ∙ ap (map (λ a. a.line)) cut.order ∙ map-append (λ (a : Answer). a.line) cut.before (cut.answer ∷ cut.later) in
     record {
       before = owes.gone ++ cut.before;
       answer = cut.answer;
-      behind = cut.behind;
-      order = sym owes.all ∙ ap (λ (r : List Answer). owes.gone ++ r) cut.order ∙ sym (append_assoc owes.gone cut.before (cut.answer ∷ cut.behind));
+      later = cut.later;
+      order = sym owes.all ∙ ap (λ (r : List Answer). owes.gone ++ r) cut.order ∙ sym (append_assoc owes.gone cut.before (cut.answer ∷ cut.later));
       taken = cut.taken;
       left = cut.left;
       text = cut.text;
@@ -123,7 +123,7 @@ owes_stops box answers first now after n owes less written =
           (ap (λ (r : List ℕ). texts owes.gone ++ r) part ∙ sym (append_assoc (texts owes.gone) (texts cut.before) cut.taken) ∙ ap (λ (r : List ℕ). r ++ cut.taken) (sym (flat_map-append _ owes.gone cut.before)));
       at = ap (λ (k : ℕ). get_or box.lines k 0) (count ∙ sym (length-map cut.before (λ (a : Answer). a.line)))
           ∙ ap (λ (r : List ℕ). get_or r (length (map (λ a. a.line) cut.before)) 0) lines
-          ∙ get_or-append_seam (map (λ a. a.line) cut.before) cut.answer.line (map (λ a. a.line) cut.behind) 0;
+          ∙ get_or-append_seam (map (λ a. a.line) cut.before) cut.answer.line (map (λ a. a.line) cut.later) 0;
     }
 
 one_line_more : (answers : List Answer) (a : Answer) → AreOneLine answers → IsOneLine (text_of a.reply) → AreOneLine (answers ++ a ∷ [])
@@ -170,8 +170,8 @@ pub stops_more : (answers more : List Answer) (old new : Option (List ℕ)) (lin
 stops_more answers more old new line stops = record {
   before = stops.before;
   answer = stops.answer;
-  behind = stops.behind ++ more;
-  order = ap (λ (a : List Answer). a ++ more) stops.order ∙ append_assoc stops.before (stops.answer ∷ stops.behind) more;
+  later = stops.later ++ more;
+  order = ap (λ (a : List Answer). a ++ more) stops.order ∙ append_assoc stops.before (stops.answer ∷ stops.later) more;
   taken = stops.taken;
   left = stops.left;
   text = stops.text;

@@ -61,13 +61,13 @@ pool_name Pageblocks = codes " blocks="
 pool_name (OfOrder order) = codes " frames="
 
 -- numbers with a comma before each
-abbrev pub behind_commas : List ℕ → List ℕ
-behind_commas numbers = flat_map (λ n. codes "," ++ decimal n) numbers
+abbrev pub after_commas : List ℕ → List ℕ
+after_commas numbers = flat_map (λ n. codes "," ++ decimal n) numbers
 
 -- numbers with commas between them, or a dash where there are none
 abbrev pub numbers_text : List ℕ → List ℕ
 numbers_text [] = codes "-"
-numbers_text (first ∷ more) = decimal first ++ behind_commas more
+numbers_text (first ∷ more) = decimal first ++ after_commas more
 
 -- the number of a pool's blocks, its rounds, why it stopped, and its blocks in the order in which it got them, without a newline
 abbrev pub pool_text : PoolBlocks → List ℕ → ℕ → PoolStopped → List ℕ

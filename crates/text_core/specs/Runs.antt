@@ -23,7 +23,7 @@ Asking S = S → Command → Type 0
 abbrev pub Replied : {S : Type 0} → Rule S → S → List Numbered → List Answer → S → Type 0
 Replied may old [] answers new = (answers ≡ []) × (new ≡ old)
 Replied {S} may old (c ∷ commands) answers new =
-    (next : S) × (here : List Answer) × (behind : List Answer) × (answers ≡ here ++ behind) × may old c here next × Replied may next commands behind new
+    (next : S) × (here : List Answer) × (later : List Answer) × (answers ≡ here ++ later) × may old c here next × Replied may next commands later new
 
 -- replies to the first commands of an input, and the machine after them
 pub record Begins {S : Type 0} (may : Rule S) (start : S) (before : List Numbered) : Type 0 where
@@ -44,8 +44,8 @@ pub record IsTotal {S : Type 0} (may : Rule S) (start : S) (input : List ℕ) (o
 -- a writer took the replies to the first commands of an input up to a place within the text of the reply to this line
 pub record IsStopped {S : Type 0} (may : Rule S) (start : S) (input : List ℕ) (old new : Option (List ℕ)) (line : ℕ) : Type 0 where
   pub before : List Numbered
-  pub behind : List Numbered
-  pub order : commands_of input ≡ before ++ behind
+  pub later : List Numbered
+  pub order : commands_of input ≡ before ++ later
   pub begins : Begins may start before
   pub stops : StopsIn begins.answers old new line
 
@@ -60,8 +60,8 @@ pub record IsUnread {S : Type 0} (may : Rule S) (start : S) (left left_new old n
 -- after these commands, which leave this machine, comes one that needs memory, at this line
 pub record IsAsking {S : Type 0} (asks : Asking S) (input : List ℕ) (before : List Numbered) (after : S) (line : ℕ) : Type 0 where
   pub command : Numbered
-  pub behind : List Numbered
-  pub order : commands_of input ≡ before ++ command ∷ behind
+  pub later : List Numbered
+  pub order : commands_of input ≡ before ++ command ∷ later
   pub asking : asks after command.command
   pub at : line ≡ command.line
 

@@ -108,9 +108,9 @@ abbrev pub line_comes : Reading → ℕ → List ℕ → Result Came Fault
 line_comes reading line text = comes_in reading.block reading.profile line text
 
 -- how the line after one that made this is read
-abbrev pub reading_behind : Reading → Result Came Fault → Reading
-reading_behind reading (Ok came) = came.reading
-reading_behind reading (Err fault) = reading
+abbrev pub reading_after : Reading → Result Came Fault → Reading
+reading_after reading (Ok came) = came.reading
+reading_after reading (Err fault) = reading
 
 -- the fault of the bytes after the last newline, if there are any
 abbrev pub cut_fault : ℕ → List ℕ → Option RunError
@@ -132,31 +132,31 @@ abbrev pub fault_from : Reading → ℕ → List (List ℕ) → Option RunError
 fault_from reading line [] = None
 fault_from reading line (cut ∷ []) = option_or (cut_fault line cut) (open_fault reading.block)
 fault_from reading line (text ∷ next ∷ parts) = let came = line_comes reading line text in
-    option_or (line_fault line came) (fault_from (reading_behind reading came) (line + 1) (next ∷ parts))
+    option_or (line_fault line came) (fault_from (reading_after reading came) (line + 1) (next ∷ parts))
 
 -- a command before others, if there is one
 abbrev pub onto : Option Numbered → List Numbered → List Numbered
-onto None behind = behind
-onto (Some command) behind = command ∷ behind
+onto None later = later
+onto (Some command) later = command ∷ later
 
 -- the command that a line ends and the commands after it; there are none after a fault
 abbrev pub onto_commands : Result Came Fault → List Numbered → List Numbered
-onto_commands (Ok came) behind = onto came.ended behind
-onto_commands (Err fault) behind = []
+onto_commands (Ok came) later = onto came.ended later
+onto_commands (Err fault) later = []
 
 -- the commands of these lines up to the first fault, where the first of them has this number and is read so
 abbrev pub commands_from : Reading → ℕ → List (List ℕ) → List Numbered
 commands_from reading line [] = []
 commands_from reading line (cut ∷ []) = []
 commands_from reading line (text ∷ next ∷ parts) = let came = line_comes reading line text in
-    onto_commands came (commands_from (reading_behind reading came) (line + 1) (next ∷ parts))
+    onto_commands came (commands_from (reading_after reading came) (line + 1) (next ∷ parts))
 
 -- how the bytes after the last newline are read, where the first of these lines has this number and is read so
 abbrev pub reading_from : Reading → ℕ → List (List ℕ) → Reading
 reading_from reading line [] = reading
 reading_from reading line (cut ∷ []) = reading
 reading_from reading line (text ∷ next ∷ parts) =
-    reading_from (reading_behind reading (line_comes reading line text)) (line + 1) (next ∷ parts)
+    reading_from (reading_after reading (line_comes reading line text)) (line + 1) (next ∷ parts)
 
 -- the commands of an input up to its first fault
 abbrev pub commands_of : List ℕ → List Numbered
@@ -174,8 +174,8 @@ texts answers = flat_map (λ a. text_of a.reply) answers
 pub record StopsIn (answers : List Answer) (old new : Option (List ℕ)) (line : ℕ) : Type 0 where
   pub before : List Answer
   pub answer : Answer
-  pub behind : List Answer
-  pub order : answers ≡ before ++ answer ∷ behind
+  pub later : List Answer
+  pub order : answers ≡ before ++ answer ∷ later
   pub taken : List ℕ
   pub left : List ℕ
   pub text : text_of answer.reply ≡ taken ++ left

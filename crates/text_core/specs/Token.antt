@@ -15,8 +15,8 @@ abbrev pub first_word : List ℕ → List ℕ
 first_word text = take (position_or_len (λ byte. nat_eq byte 32) text) text
 
 -- the first space of a text, and what stands after it
-abbrev pub behind_word : List ℕ → List ℕ
-behind_word text = drop (position_or_len (λ byte. nat_eq byte 32) text) text
+abbrev pub after_word : List ℕ → List ℕ
+after_word text = drop (position_or_len (λ byte. nat_eq byte 32) text) text
 
 -- whether bytes are a number: 1 to 20 digits that fit 64 bits
 abbrev pub is_number : List ℕ → Bool

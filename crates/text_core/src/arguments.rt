@@ -10,8 +10,8 @@ use crate::token::{Token, first_number, first_token, is_end};
 pub(crate) fn one_number(text: &[u8]) -> Option<u64>
     ensures { result ≡ one_of (tokens text.now) }
 {
-    let (a, behind) = first_number(text)?;
-    if is_end(behind) { Some(a) } else { None }
+    let (a, after) = first_number(text)?;
+    if is_end(after) { Some(a) } else { None }
 }
 
 /// The two numbers that a text consists of, or none where it is anything else.
@@ -19,16 +19,16 @@ pub(crate) fn one_number(text: &[u8]) -> Option<u64>
 pub(crate) fn two_numbers(text: &[u8]) -> Option<(u64, u64)>
     ensures { result ≡ two_of (tokens text.now) }
 {
-    let (a, behind) = first_number(text)?;
-    Some((a, one_number(behind)?))
+    let (a, after) = first_number(text)?;
+    Some((a, one_number(after)?))
 }
 
 /// The three numbers that a text consists of, or none where it is anything else.
 pub(crate) fn three_numbers(text: &[u8]) -> Option<(u64, u64, u64)>
     ensures { result ≡ three_of (tokens text.now) }
 {
-    let (a, behind) = first_number(text)?;
-    let (b, c) = two_numbers(behind)?;
+    let (a, after) = first_number(text)?;
+    let (b, c) = two_numbers(after)?;
     Some((a, b, c))
 }
 
@@ -36,8 +36,8 @@ pub(crate) fn three_numbers(text: &[u8]) -> Option<(u64, u64, u64)>
 pub(crate) fn four_numbers(text: &[u8]) -> Option<(u64, u64, u64, u64)>
     ensures { result ≡ four_of (tokens text.now) }
 {
-    let (a, behind) = first_number(text)?;
-    let (b, c, d) = three_numbers(behind)?;
+    let (a, after) = first_number(text)?;
+    let (b, c, d) = three_numbers(after)?;
     Some((a, b, c, d))
 }
 
@@ -47,7 +47,7 @@ fn flag(text: &[u8]) -> Option<bool>
 {
     match first_token(text) {
         None => Some(false),
-        Some((Token::Unmovable, behind)) if is_end(behind) => Some(true),
+        Some((Token::Unmovable, after)) if is_end(after) => Some(true),
         _ => None,
     }
 }
@@ -56,16 +56,16 @@ fn flag(text: &[u8]) -> Option<bool>
 pub(crate) fn two_numbers_and_flag(text: &[u8]) -> Option<(u64, u64, bool)>
     ensures { result ≡ two_and_flag_of (tokens text.now) }
 {
-    let (a, behind) = first_number(text)?;
-    let (b, behind) = first_number(behind)?;
-    Some((a, b, flag(behind)?))
+    let (a, after) = first_number(text)?;
+    let (b, after) = first_number(after)?;
+    Some((a, b, flag(after)?))
 }
 
 /// The three numbers and the flag that a text consists of, or none where it is anything else.
 pub(crate) fn three_numbers_and_flag(text: &[u8]) -> Option<(u64, u64, u64, bool)>
     ensures { result ≡ three_and_flag_of (tokens text.now) }
 {
-    let (a, behind) = first_number(text)?;
-    let (b, c, unmovable) = two_numbers_and_flag(behind)?;
+    let (a, after) = first_number(text)?;
+    let (b, c, unmovable) = two_numbers_and_flag(after)?;
     Some((a, b, c, unmovable))
 }

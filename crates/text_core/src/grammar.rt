@@ -23,8 +23,8 @@ use state_core::{ClientCall, ZoneCall};
 pub(crate) fn command(profile: Profile, text: &[u8]) -> Option<Command>
     ensures { result ≡ command_of profile (tokens text.now) }
 {
-    let (keyword, behind) = leading_token(text)?;
-    let (number, arguments) = first_number(behind)?;
+    let (keyword, after) = leading_token(text)?;
+    let (number, arguments) = first_number(after)?;
     match keyword {
         Token::During => during(number, arguments),
         _ => row_in(profile, keyword, number, arguments),
@@ -46,11 +46,11 @@ fn during(zone: u64, arguments: &[u8]) -> Option<Command>
 pub(crate) fn block_line(zone: u64, text: &[u8]) -> Option<BlockLine>
     ensures { result ≡ block_line_of zone (tokens text.now) }
 {
-    let (keyword, behind) = leading_token(text)?;
-    if matches!(keyword, Token::End) && is_end(behind) {
+    let (keyword, after) = leading_token(text)?;
+    if matches!(keyword, Token::End) && is_end(after) {
         return Some(BlockLine::End);
     }
-    let (number, arguments) = first_number(behind)?;
+    let (number, arguments) = first_number(after)?;
     if number == zone {
         client_row(keyword, arguments).map(BlockLine::Client)
     } else {

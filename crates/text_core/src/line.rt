@@ -14,7 +14,7 @@ fn is_profile_2(text: &[u8]) -> bool
     ensures { result ≡ is_profile_2 (lexemes text.now) }
 {
     match first_lexeme(text) {
-        Some((keyword, behind)) => match first_lexeme(behind) {
+        Some((keyword, after)) => match first_lexeme(after) {
             Some((number, rest)) => {
                 is_word(keyword, b"profile")
                     && is_word(number, b"2")

@@ -112,7 +112,7 @@ impl<A: Respond> ScriptRunner<A> {
                 Ok(())
             }
             Ok(Some(command)) => {
-                self.profile = self.profile.behind(&command);
+                self.profile = self.profile.after(&command);
                 match command {
                     Command::During { zone } => self.begin(zone),
                     command => self.answer(writer, command),
@@ -370,9 +370,9 @@ impl<A: Respond> ScriptRunner<A> {
         ensures line { OnOk result (self.new.line ≤ self.old.line + length piece.now) }
     {
         let mut rest = piece;
-        while let Some((text, behind)) = first_line(rest) {
+        while let Some((text, after)) = first_line(rest) {
             self.end_line(writer, text)?;
-            rest = behind;
+            rest = after;
         }
         self.hold(rest)
     }

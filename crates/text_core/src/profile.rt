@@ -14,7 +14,7 @@ pub enum Profile {
 
 impl Profile {
     /// The profile by which the lines after a command are read.
-    pub fn behind(self, command: &Command) -> Profile
+    pub fn after(self, command: &Command) -> Profile
         ensures { result ≡ profile_told command.now self }
     {
         match self {

@@ -1,6 +1,6 @@
 ghost use Rattle.std.specs.Prelude.{◌≡◌, ◌+◌, ◌*◌, ◌≤◌, ◌++◌, length, decimal, IfSome};
 ghost use Rattle.arrayvec.specs.ArrayString.{array_string_len};
-ghost use Rattle.text_core.specs.Reply.{IsOneLine, behind_commas, counts_text, look_text, numbers_text, pool_name, pool_stopped_text, pool_text, round_text, stopped_text, text_of, uses_text};
+ghost use Rattle.text_core.specs.Reply.{IsOneLine, after_commas, counts_text, look_text, numbers_text, pool_name, pool_stopped_text, pool_text, round_text, stopped_text, text_of, uses_text};
 
 use crate::pool::{PoolBlocks, PoolStopped};
 use arrayvec::{ArrayString, ArrayVec};
@@ -271,13 +271,13 @@ fn push_numbers<const N: usize>(text: &mut ArrayString<N>, numbers: &[u16])
         return;
     };
     push_short(text, *first);
-    push_behind_commas(text, more);
+    push_after_commas(text, more);
 }
 
 /// Appends numbers with a comma before each.
-fn push_behind_commas<const N: usize>(text: &mut ArrayString<N>, numbers: &[u16])
+fn push_after_commas<const N: usize>(text: &mut ArrayString<N>, numbers: &[u16])
     requires { array_string_len text.old + 6 * length numbers.now ≤ N }
-    ensures text { text.new.bytes ≡ text.old.bytes ++ behind_commas numbers.now }
+    ensures text { text.new.bytes ≡ text.old.bytes ++ after_commas numbers.now }
     ensures len { array_string_len text.new ≤ array_string_len text.old + 6 * length numbers.now }
 {
     for number in numbers {

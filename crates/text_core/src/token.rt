@@ -3,7 +3,7 @@ ghost use Rattle.std.specs.Char.{is_ascii_digit};
 ghost use Rattle.text_core.specs.Arguments.{number_first};
 ghost use Rattle.text_core.specs.declared.token.Token.TheVariants.{Number};
 ghost use Rattle.std.specs.List.{starts_with};
-ghost use Rattle.text_core.specs.Token.{behind_word, first_word, keyword_of, lexemes, number_of, token_of, tokens};
+ghost use Rattle.text_core.specs.Token.{after_word, first_word, keyword_of, lexemes, number_of, token_of, tokens};
 
 /// What a word of a line means: a number, a keyword, or nothing of the language.
 #[derive(Clone, Copy)]
@@ -178,10 +178,10 @@ pub(crate) fn leading_token(text: &[u8]) -> Option<(Token, &[u8])>
 fn short_keyword(text: &[u8]) -> Option<(Token, &[u8])>
     ensures { IfSome result (λ found. tokens text.now ≡ found.0 ∷ tokens found.1.now) }
 {
-    let (word, behind) = short_cut(text)?;
+    let (word, after) = short_cut(text)?;
     match keyword(word) {
         Token::Other => None,
-        keyword => Some((keyword, behind)),
+        keyword => Some((keyword, after)),
     }
 }
 
@@ -190,10 +190,10 @@ fn short_keyword(text: &[u8]) -> Option<(Token, &[u8])>
 fn short_cut(text: &[u8]) -> Option<(&[u8], &[u8])>
     ensures whole { IfSome result (λ cut. cut.0.now ++ cut.1.now ≡ text.now) }
     ensures word { IfSome result (λ cut. first_word cut.1.now ≡ []) }
-    ensures behind { IfSome result (λ cut. behind_word cut.1.now ≡ cut.1.now) }
+    ensures after { IfSome result (λ cut. after_word cut.1.now ≡ cut.1.now) }
 {
     for count in [4, 3, 5, 6] {
-        if let Some(cut) = cut_behind(text, count) {
+        if let Some(cut) = cut_after(text, count) {
             return Some(cut);
         }
     }
@@ -202,10 +202,10 @@ fn short_cut(text: &[u8]) -> Option<(&[u8], &[u8])>
 
 /// A text cut after this many bytes, if a space or the text's end is there.
 #[inline(always)]
-fn cut_behind(text: &[u8], count: usize) -> Option<(&[u8], &[u8])>
+fn cut_after(text: &[u8], count: usize) -> Option<(&[u8], &[u8])>
     ensures whole { IfSome result (λ cut. cut.0.now ++ cut.1.now ≡ text.now) }
     ensures word { IfSome result (λ cut. first_word cut.1.now ≡ []) }
-    ensures behind { IfSome result (λ cut. behind_word cut.1.now ≡ cut.1.now) }
+    ensures after { IfSome result (λ cut. after_word cut.1.now ≡ cut.1.now) }
 {
     let (front, rest) = text.split_at_checked(count)?;
     if ends_word(rest) {
@@ -220,8 +220,8 @@ fn cut_behind(text: &[u8], count: usize) -> Option<(&[u8], &[u8])>
 pub(crate) fn first_token(text: &[u8]) -> Option<(Token, &[u8])>
     ensures token { MatchOption result (tokens text.now ≡ []) (λ found. tokens text.now ≡ found.0 ∷ tokens found.1.now) }
 {
-    let (lexeme, behind) = first_lexeme(text)?;
-    Some((Token::from_bytes(lexeme), behind))
+    let (lexeme, after) = first_lexeme(text)?;
+    Some((Token::from_bytes(lexeme), after))
 }
 
 /// The number that a text begins with, and what stands after it. Most numbers are one digit after one space.
@@ -229,7 +229,7 @@ pub(crate) fn first_number(text: &[u8]) -> Option<(u64, &[u8])>
     ensures { MatchOption result (number_first (tokens text.now) ≡ None) (λ found. tokens text.now ≡ Number found.0 ∷ tokens found.1.now) }
 {
     match spaced_digit(text) {
-        Some((digit, behind)) => Some((u64::from(digit), behind)),
+        Some((digit, after)) => Some((u64::from(digit), after)),
         None => leading_digits(without_spaces(text)),
     }
 }
@@ -238,16 +238,16 @@ pub(crate) fn first_number(text: &[u8]) -> Option<(u64, &[u8])>
 fn spaced_digit(text: &[u8]) -> Option<(u8, &[u8])>
     ensures { IfSome result (λ found. tokens text.now ≡ Number found.0 ∷ tokens found.1.now) }
 {
-    let word = behind_space(text)?;
+    let word = after_space(text)?;
     lone_digit(word)
 }
 
 /// What stands after the space that a text begins with.
-fn behind_space(text: &[u8]) -> Option<&[u8]>
-    ensures { IfSome result (λ behind. text.now ≡ 32 ∷ behind.now) }
+fn after_space(text: &[u8]) -> Option<&[u8]>
+    ensures { IfSome result (λ after. text.now ≡ 32 ∷ after.now) }
 {
     match text {
-        [b' ', behind @ ..] => Some(behind),
+        [b' ', after @ ..] => Some(after),
         _ => None,
     }
 }
@@ -255,11 +255,11 @@ fn behind_space(text: &[u8]) -> Option<&[u8]>
 /// The digit that is the whole word that a text begins with, and what stands after it.
 fn lone_digit(text: &[u8]) -> Option<(u8, &[u8])>
     ensures number { IfSome result (λ found. number_of (first_word text.now) ≡ Some found.0) }
-    ensures behind { IfSome result (λ found. found.1.now ≡ behind_word text.now) }
+    ensures after { IfSome result (λ found. found.1.now ≡ after_word text.now) }
 {
-    let (digit, behind) = leading_digit(text)?;
-    if ends_word(behind) {
-        Some((digit, behind))
+    let (digit, after) = leading_digit(text)?;
+    if ends_word(after) {
+        Some((digit, after))
     } else {
         None
     }
@@ -268,13 +268,13 @@ fn lone_digit(text: &[u8]) -> Option<(u8, &[u8])>
 /// The number that a text begins with, however many digits it has, and what stands after it.
 fn leading_digits(text: &[u8]) -> Option<(u64, &[u8])>
     ensures number { MatchOption result (number_of (first_word text.now) ≡ None) (λ found. number_of (first_word text.now) ≡ Some found.0) }
-    ensures behind { IfSome result (λ found. found.1.now ≡ behind_word text.now) }
+    ensures after { IfSome result (λ found. found.1.now ≡ after_word text.now) }
 {
     let mut value: u64 = 0;
     let mut rest = text;
-    while let Some((digit, behind)) = leading_digit(rest) {
+    while let Some((digit, after)) = leading_digit(rest) {
         value = value.checked_mul(10)?.checked_add(u64::from(digit))?;
-        rest = behind;
+        rest = after;
     }
     let count = text.len() - rest.len();
     if ends_word(rest) && 0 < count && count <= 20 {
@@ -287,8 +287,8 @@ fn leading_digits(text: &[u8]) -> Option<(u64, &[u8])>
 /// Whether a text is empty or begins with a space.
 fn ends_word(text: &[u8]) -> bool
     ensures word { IsTrue result → first_word text.now ≡ [] }
-    ensures behind { IsTrue result → behind_word text.now ≡ text.now }
-    ensures more { IsFalse result → (byte : ℕ) × (behind : List ℕ) × (text.now ≡ byte ∷ behind) × IsFalse (nat_eq byte 32) }
+    ensures after { IsTrue result → after_word text.now ≡ text.now }
+    ensures more { IsFalse result → (byte : ℕ) × (after : List ℕ) × (text.now ≡ byte ∷ after) × IsFalse (nat_eq byte 32) }
 {
     match text {
         [] | [b' ', ..] => true,
@@ -300,10 +300,10 @@ fn ends_word(text: &[u8]) -> bool
 fn leading_digit(text: &[u8]) -> Option<(u8, &[u8])>
     ensures digit { IfSome result (λ found. text.now ≡ (48 + found.0) ∷ found.1.now) }
     ensures small { IfSome result (λ found. found.0 < 10) }
-    ensures none { IfNone result ((byte : ℕ) (behind : List ℕ) → text.now ≡ byte ∷ behind → is_ascii_digit byte ≡ false) }
+    ensures none { IfNone result ((byte : ℕ) (after : List ℕ) → text.now ≡ byte ∷ after → is_ascii_digit byte ≡ false) }
 {
     match text {
-        [byte @ b'0'..=b'9', behind @ ..] => Some((*byte - b'0', behind)),
+        [byte @ b'0'..=b'9', after @ ..] => Some((*byte - b'0', after)),
         _ => None,
     }
 }
@@ -335,8 +335,8 @@ pub(crate) fn without_spaces(text: &[u8]) -> &[u8]
     ensures shorter { length result.now ≤ length text.now }
 {
     let mut rest = text;
-    while let [b' ', behind @ ..] = rest {
-        rest = behind;
+    while let [b' ', after @ ..] = rest {
+        rest = after;
     }
     rest
 }

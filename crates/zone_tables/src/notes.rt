@@ -81,7 +81,7 @@ impl Notes {
         let was = self.notes[index].placement.is_some();
         let is = note.placement.is_some();
         self.notes[index] = note;
-        self.unused.put(page.get(), !is);
+        self.unused.set_member(page.get(), !is);
         if was {
             if !is {
                 self.in_use -= 1;

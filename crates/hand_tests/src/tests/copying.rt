@@ -30,7 +30,7 @@ fn assert_is_copy<R: Abort>(rt: &R, copy: Copied, serial: u32, number: u32) {
 fn send_all<R: Wait + Abort>(rt: &R, mut sender: DoneSender, number: u32) -> DoneSender
     requires open { sender.closed ≡ false }
     requires number { number < 5 }
-    ensures { result.way ≡ sender.way }
+    ensures { result.queue ≡ sender.queue }
 {
     for page in 0..COPIES {
         assert!(rt; sender.send(rt, copy_of(rt, number, page)).is_ok());
@@ -45,7 +45,7 @@ fn send_by_all<R: Threads + Wait + Abort + Sync>(
     senders: Vec<DoneSender>,
 ) -> Vec<DoneSender>
     requires { All (λ s. s.closed ≡ false) senders.items }
-    ensures { (way : _) → All (λ s. s.way ≡ way) senders.items → All (λ s. s.way ≡ way) result.items }
+    ensures { (queue : _) → All (λ s. s.queue ≡ queue) senders.items → All (λ s. s.queue ≡ queue) result.items }
 {
     let numbers = AtomicU32::new(0);
     map_vec(
@@ -53,7 +53,7 @@ fn send_by_all<R: Threads + Wait + Abort + Sync>(
         senders,
         &|sender: DoneSender| -> DoneSender
             requires { sender.closed ≡ false }
-            ensures { result.way ≡ sender.way }
+            ensures { result.queue ≡ sender.queue }
         { send_all(rt, sender, numbers.fetch_add(1, Ordering::SeqCst) % 4) },
     )
     .expect(rt, "memory")
@@ -62,7 +62,7 @@ fn send_by_all<R: Threads + Wait + Abort + Sync>(
 // Takes copies up to the end. Those of each sender come whole and in its order.
 fn take_all<R: Wait + Abort>(rt: &R, mut taker: DoneTaker) -> DoneTaker
     requires { has_ended taker ≡ false }
-    ensures way { result.way ≡ taker.way }
+    ensures queue { result.queue ≡ taker.queue }
     ensures ended { has_ended result ≡ true }
 {
     let mut next = [0; 4];
@@ -85,7 +85,7 @@ fn opened<R: Wait + Abort>(
     senders: usize,
     cap: usize,
 ) -> (Vec<DoneSender>, DoneTaker)
-    ensures way { All (λ s. s.way ≡ result.1.way) result.0.items }
+    ensures queue { All (λ s. s.queue ≡ result.1.queue) result.0.items }
     ensures open { All (λ s. s.closed ≡ false) result.0.items }
     ensures taker { has_ended result.1 ≡ false }
 {
@@ -123,11 +123,11 @@ fn from_four_senders<R: Threads + Wait + Abort + Sync>(rt: &R, alloc: Global, ca
         rt,
         move || -> DoneTaker
             requires { has_ended taker ≡ false }
-            ensures { (result.way ≡ taker.way) × (has_ended result ≡ true) }
+            ensures { (result.queue ≡ taker.queue) × (has_ended result ≡ true) }
         { take_all(rt, taker) },
         move || -> Vec<DoneSender>
             requires { All (λ s. s.closed ≡ false) senders.items }
-            ensures { (way : _) → All (λ s. s.way ≡ way) senders.items → All (λ s. s.way ≡ way) result.items }
+            ensures { (queue : _) → All (λ s. s.queue ≡ queue) senders.items → All (λ s. s.queue ≡ queue) result.items }
         { send_by_all(rt, senders) },
     );
     done_settle(taker, senders);

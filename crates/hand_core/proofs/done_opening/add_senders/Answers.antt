@@ -40,7 +40,7 @@ loop-number-preserved c =
       knows = c.another-theirs.ensures.rule.0 ∙ ap (λ (v : Account). record v { made = v.made + 1 }) old.knows;
       count = omega arith;
       room = omega arith;
-      fresh = subst (λ l. (k : ℕ) → k < c.loop-number.number + 1 → slice_get l k ≡ Some (record { way = name_of (sends_on c.args.to.now); most = c.args.most; number = k; sent = []; marked = false; closed = false })) (sym pushed.items)
-          (one_more c.loop-number.all.items _ c.loop-number.number (λ k. record { way = name_of (sends_on c.args.to.now); most = c.args.most; number = k; sent = []; marked = false; closed = false }) (omega arith) old.fresh
-          (λ i. record { way = name_of (channel i); most = c.args.most; number = c.loop-number.number; sent = sent i; marked = marked i; closed = false }));
+      fresh = subst (λ l. (k : ℕ) → k < c.loop-number.number + 1 → slice_get l k ≡ Some (record { queue = name_of (sends_on c.args.to.now); most = c.args.most; number = k; sent = []; marked = false; closed = false })) (sym pushed.items)
+          (one_more c.loop-number.all.items _ c.loop-number.number (λ k. record { queue = name_of (sends_on c.args.to.now); most = c.args.most; number = k; sent = []; marked = false; closed = false }) (omega arith) old.fresh
+          (λ i. record { queue = name_of (channel i); most = c.args.most; number = c.loop-number.number; sent = sent i; marked = marked i; closed = false }));
     }

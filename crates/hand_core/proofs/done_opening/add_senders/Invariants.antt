@@ -12,5 +12,5 @@ invariant-loop-number l = record {
   knows : view l.pass ≡ record taker_account { made = l.number };
   count : vec_len l.all ≡ l.number;
   room : l.senders ≤ vec_capacity l.all;
-  fresh : (k : ℕ) → k < l.number → slice_get l.all.items k ≡ Some (record { way = name_of (sends_on l.to); most = l.most; number = k; sent = []; marked = false; closed = false });
+  fresh : (k : ℕ) → k < l.number → slice_get l.all.items k ≡ Some (record { queue = name_of (sends_on l.to); most = l.most; number = k; sent = []; marked = false; closed = false });
 }

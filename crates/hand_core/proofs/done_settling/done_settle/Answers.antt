@@ -41,9 +41,9 @@ loop-sender-preserved c =
     let told = c.learn_as.ensures.rule in
     let items = c.in-Some.ensures.items in
     let before = old.back in
-    let Left : DoneSender → Type 0 = λ u. u.way ≡ taker.way in
+    let Left : DoneSender → Type 0 = λ u. u.queue ≡ taker.queue in
     let left = All-pop Left c.loop-sender.senders.items c.pop.new.self.items (Some s) items old.left in
-    let own : s.way ≡ taker.way = left.1 in
+    let own : s.queue ≡ taker.queue = left.1 in
     let came : (view c.absorb.new.pass).came ≡ taker.came = ap (λ (v : Account). v.came) e ∙ old.came in
     let made : (view c.absorb.new.pass).made ≡ taker.senders = ap (λ (v : Account). v.made) e ∙ old.made in
     let this = compared taker s (view c.absorb.new.pass) told.0 (each_marked taker c.requires.ended) came made
@@ -51,11 +51,11 @@ loop-sender-preserved c =
     (ap (λ (v : Account). pages_of v.sent) e ∙ ap (λ (u : DoneSender). u.sent) is)
     told.1 in
     let seat = c.learn_as.ensures.channel.0 in
-    let way = is in
+    let queue = is in
     record {
       seat = (
-        seat.0 ∙ ap (λ (u : DoneSender). u.way.0) is ∙ ap (λ w. w.0) own,
-        seat.1 ∙ ap (λ (u : DoneSender). u.way.1) is ∙ ap (λ w. w.1) own,
+        seat.0 ∙ ap (λ (u : DoneSender). u.queue.0) is ∙ ap (λ w. w.0) own,
+        seat.1 ∙ ap (λ (u : DoneSender). u.queue.1) is ∙ ap (λ w. w.1) own,
         seat.2,
       );
       takes = ap (λ (v : Account). v.takes) (kept ∙ e) ∙ old.takes;

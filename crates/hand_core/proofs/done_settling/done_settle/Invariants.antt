@@ -6,11 +6,11 @@ use Rattle.hand_core.proofs.done_settling.done_settle.Given as goal
 -- the senders that the loop has passed, whose copies were compared
 abbrev pub invariant-loop-sender : goal.invariant-loop-sender
 invariant-loop-sender l = record {
-  seat : (l.pass.table_id ≡ l.fn.taker.way.0) × (l.pass.me.0.of ≡ l.fn.taker.way.1) × (l.pass.me.1 ≡ []);
+  seat : (l.pass.table_id ≡ l.fn.taker.queue.0) × (l.pass.me.0.of ≡ l.fn.taker.queue.1) × (l.pass.me.1 ≡ []);
   takes : (view l.pass).takes ≡ true;
   came : (view l.pass).came ≡ l.fn.taker.came;
   made : (view l.pass).made ≡ l.fn.taker.senders;
-  left : All (λ (s : DoneSender). s.way ≡ l.fn.taker.way) l.senders.items;
+  left : All (λ (s : DoneSender). s.queue ≡ l.fn.taker.queue) l.senders.items;
   back : (back : List DoneSender) × (l.fn.senders.items ≡ l.senders.items ++ back) × All (λ (s : DoneSender). copies_of s.number l.fn.taker.came ≡ s.sent) back;
 }
 

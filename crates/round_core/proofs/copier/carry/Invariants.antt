@@ -8,7 +8,7 @@ invariant-loop g l = record {
   taking : l.taker.ended ≡ false;
   sending : l.sender.closed ≡ false;
   hand_over : l.taker.hand_over ≡ l.fn.taker.hand_over;
-  way : l.sender.way ≡ l.fn.sender.way;
+  queue : l.sender.queue ≡ l.fn.sender.queue;
   number : l.sender.number ≡ l.fn.sender.number;
   serials : l.serials.items ≡ serials_of l.taker.taken;
   copies : l.sender.sent ++ l.copies.items ≡ l.taker.taken;

@@ -14,10 +14,10 @@ room_left copiers takers all capacity left started room some = omega arith
 pub start_copier-requires : goal.start_copier-requires
 start_copier-requires g c =
     let old = c.loop-taker.invariant in
-    let outfit = c.loop-taker.outfit in
-    let taker = All-pop (IsUnused c.args.outfit.now.giver.hand_over) outfit.takers.items c.pop.new.self.items (Some c.in-Some.taker) c.in-Some.ensures.items old.takers in
-    let sender = All-pop IsUnsent outfit.senders.items c.pop-in-Some.new.self.items (Some c.in-Some-pop.sender) c.in-Some-pop.ensures.items old.senders in
-    let list = All-pop (λ v. v.items ≡ []) outfit.serials.items c.pop-in-Some-2.new.self.items (Some c.in-Some-pop-2.list) c.in-Some-pop-2.ensures.items old.lists in
+    let copier_parts = c.loop-taker.copier_parts in
+    let taker = All-pop (IsUnused c.args.copier_parts.now.giver.hand_over) copier_parts.takers.items c.pop.new.self.items (Some c.in-Some.taker) c.in-Some.ensures.items old.takers in
+    let sender = All-pop IsUnsent copier_parts.senders.items c.pop-in-Some.new.self.items (Some c.in-Some-pop.sender) c.in-Some-pop.ensures.items old.senders in
+    let list = All-pop (λ v. v.items ≡ []) copier_parts.serials.items c.pop-in-Some-2.new.self.items (Some c.in-Some-pop-2.list) c.in-Some-pop-2.ensures.items old.lists in
     (c.type_bounds.sync-G, (c.type_bounds.sync-R, (record { of_it = refl; open_still = taker.1.open_still; none = taker.1.none }, (sender.1, list.1))))
 
 pub unreachable-requires : goal.unreachable-requires
@@ -32,15 +32,15 @@ push_reserved-requires g c = room_left _ _ _ _ _ c.loop-taker.invariant.started 
 pub loop-taker-preserved : goal.loop-taker-preserved
 loop-taker-preserved g c =
     let old = c.loop-taker.invariant in
-    let outfit = c.loop-taker.outfit in
-    let hand_over = c.args.outfit.now.giver.hand_over in
-    let taker = All-pop (IsUnused hand_over) outfit.takers.items c.pop.new.self.items (Some c.in-Some.taker) c.in-Some.ensures.items old.takers in
-    let sender = All-pop IsUnsent outfit.senders.items c.pop-in-Some.new.self.items (Some c.in-Some-pop.sender) c.in-Some-pop.ensures.items old.senders in
-    let list = All-pop (λ v. v.items ≡ []) outfit.serials.items c.pop-in-Some-2.new.self.items (Some c.in-Some-pop-2.list) c.in-Some-pop-2.ensures.items old.lists in
+    let copier_parts = c.loop-taker.copier_parts in
+    let hand_over = c.args.copier_parts.now.giver.hand_over in
+    let taker = All-pop (IsUnused hand_over) copier_parts.takers.items c.pop.new.self.items (Some c.in-Some.taker) c.in-Some.ensures.items old.takers in
+    let sender = All-pop IsUnsent copier_parts.senders.items c.pop-in-Some.new.self.items (Some c.in-Some-pop.sender) c.in-Some-pop.ensures.items old.senders in
+    let list = All-pop (λ v. v.items ≡ []) copier_parts.serials.items c.pop-in-Some-2.new.self.items (Some c.in-Some-pop-2.list) c.in-Some-pop-2.ensures.items old.lists in
     record {
       giver = search rules;
       copiers = All-same (λ k. k.promise.taker.value.hand_over ≡ hand_over) c.push_reserved.new.self.items _ c.push_reserved.ensures.items
-          (All-push (λ k. k.promise.taker.value.hand_over ≡ hand_over) outfit.copiers.items c.in_ok-copier.copier old.copiers
+          (All-push (λ k. k.promise.taker.value.hand_over ≡ hand_over) copier_parts.copiers.items c.in_ok-copier.copier old.copiers
           (ap (λ (t : Taker). t.hand_over) c.in_ok-copier.ensures ∙ taker.1.of_it));
       started = search rules;
       room = search rules;

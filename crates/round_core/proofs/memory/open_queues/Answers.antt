@@ -9,10 +9,10 @@ pub returns-clause-senders : goal.returns-clause-senders
 returns-clause-senders g c =
     let made = c.in_ok-senders.ensures.senders in
     let senders = c.in_ok-senders.senders.items in
-    let way = c.in_ok-senders.copies.way in (
+    let queue = c.in_ok-senders.copies.queue in (
       made,
       λ k d low.
-          let unsent : DoneSender = record { way = way; most = c.args.division.most; number = k; sent = []; marked = false; closed = false } in
+          let unsent : DoneSender = record { queue = queue; most = c.args.division.most; number = k; sent = []; marked = false; closed = false } in
           let long = c.in_ok-senders.senders.ok in
           let is = get_or_from_slice_get senders k unsent d (c.in_ok-senders.ensures.fresh k (omega arith)) in
           subst IsUnsent (sym is) (record { open_still = refl; none = refl }),

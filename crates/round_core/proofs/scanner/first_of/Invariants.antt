@@ -6,9 +6,9 @@ use Rattle.round_core.proofs.scanner.first_of.Given as goal
 abbrev pub invariant-loop-pages : goal.invariant-loop-pages
 invariant-loop-pages l = record {
   pages : l.fn.pages.items ≡ l.batch.items ++ l.pages.items;
-  few : length l.batch.items ≤ l.fn.share;
+  few : length l.batch.items ≤ l.fn.batch_len;
   room : deque_capacity l.pages ≡ deque_capacity l.fn.pages;
 }
 
 abbrev pub decreases-loop-pages : goal.decreases-loop-pages
-decreases-loop-pages l = l.fn.share - length l.batch.items
+decreases-loop-pages l = l.fn.batch_len - length l.batch.items

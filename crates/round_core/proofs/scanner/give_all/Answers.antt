@@ -2,7 +2,7 @@ use Rattle.std.proofs.Common.{◌≡◌, ◌+◌, ◌++◌, length, ap, sym, ◌
 use Rattle.frame_core.specs.Serials.{HasSerialsFrom}
 use Rattle.zone_core.specs.Seats.{EndSeat}
 use Rattle.hand_core.specs.PageEnds.{Giver}
-use Rattle.hand_core.proofs.Serials.{serials_front, serials_behind}
+use Rattle.hand_core.proofs.Serials.{serials_front, serials_after}
 use Rattle.round_core.proofs.scanner.give_all.Goals as goal
 
 pub give_all-requires-clause-next : goal.give_all-requires-clause-next
@@ -26,9 +26,9 @@ loop-batch-preserved g c =
     let given = ap (λ (v : Giver). v.given) ok in
     let long = ap (λ l. length l) given in
     let longer = length-append giver.given items in
-    let behind = serials_behind next items rest (subst (HasSerialsFrom next) split old.serials) in
+    let following = serials_after next items rest (subst (HasSerialsFrom next) split old.serials) in
     record {
-      serials = subst (λ n. HasSerialsFrom n rest) (let e : next + length items ≡ new.base + length new.given = omega arith in e) behind;
+      serials = subst (λ n. HasSerialsFrom n rest) (let e : next + length items ≡ new.base + length new.given = omega arith in e) following;
       giver = ok ∙ ap (λ (v : Giver). record v { given = giver.given ++ items }) old.giver ∙ ap (λ l. record first { given = l }) (sym given);
       given = ap (λ l. l ++ rest) given ∙ append_assoc giver.given items rest ∙ ap (λ l. giver.given ++ l) (sym split) ∙ old.given;
       ends = old.ends;
@@ -38,8 +38,8 @@ loop-batch-preserved g c =
 pub returns-in-Err-clause-left : goal.returns-in-Err-clause-left
 returns-in-Err-clause-left g c is =
     let old = c.loop-batch.invariant in
-    let none : c.put_back_burst.result ≡ None = cc in
-    let all = c.put_back_burst.ensures.back none in
+    let none : c.put_back_pages.result ≡ None = cc in
+    let all = c.put_back_pages.ensures.back none in
     let put = ap length c.put_in_front.ensures.pages in
     let refused : length c.in-Err.refused.items ≡ length c.in-Some.batch.items = (λ i. length (c.in-Err.ensures.back i).items) in
     let given = ap (λ (v : Giver). length v.given) c.in-Err.ensures.err in

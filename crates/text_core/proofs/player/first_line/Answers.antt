@@ -13,6 +13,6 @@ pub returns-clause-parts : goal.returns-clause-parts
 returns-clause-parts c =
     let xs = c.args.bytes.now in
     let end = c.in_ok-end.end in
-    let behind : List ℕ = drop (end + 1) xs in
+    let after : List ℕ = drop (end + 1) xs in
     (newline_found xs end c.in_ok-end.ensures).split
-    ∙ ap (λ (r : List ℕ). take end xs ++ 10 ∷ r) (sym (take_all (length xs - (end + 1)) behind (omega (arith, length-drop (end + 1) xs))))
+    ∙ ap (λ (r : List ℕ). take end xs ++ 10 ∷ r) (sym (take_all (length xs - (end + 1)) after (omega (arith, length-drop (end + 1) xs))))

@@ -8,7 +8,7 @@ pub returns-in_default : goal.returns-in_default
 returns-in_default c =
     let cut = c.in_ok-word.ensures in
     let word = c.in_ok-word.word.now in
-    let behind = c.in_ok-word.behind.now in
+    let after = c.in_ok-word.after.now in
     ap tokens (sym cut.whole)
-    ∙ keyword_comes word behind (λ other. c.in_default.not-Other (c.keyword.ensures ∙ other)) cut.word cut.behind
-    ∙ ap (λ (t : Token). t ∷ tokens behind) (sym c.keyword.ensures)
+    ∙ keyword_comes word after (λ other. c.in_default.not-Other (c.keyword.ensures ∙ other)) cut.word cut.after
+    ∙ ap (λ (t : Token). t ∷ tokens after) (sym c.keyword.ensures)

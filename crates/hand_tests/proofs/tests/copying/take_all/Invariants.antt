@@ -3,4 +3,4 @@ use Rattle.hand_core.specs.CopyEnds.{has_ended}
 use Rattle.hand_tests.proofs.tests.copying.take_all.Given as goal
 
 abbrev pub invariant-loop : goal.invariant-loop
-invariant-loop g l = record { same : l.taker.way ≡ l.fn.taker.way; going : has_ended l.taker ≡ false }
+invariant-loop g l = record { same : l.taker.queue ≡ l.fn.taker.queue; going : has_ended l.taker ≡ false }

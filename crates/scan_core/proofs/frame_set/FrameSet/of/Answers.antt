@@ -15,9 +15,9 @@ loop-i-preserved c =
     let states = c.args.frames.now in
     elim c.match-new.branch [
       | in-Some w ↦ (λ n. ap (λ s. set.contains s n) w.free-is
-          ∙ one_more_free states c.loop-i.free w.put.new.self c.loop-i.i w.in-Some.frame w.is_free.result w.in-Some.ensures.value
+          ∙ one_more_free states c.loop-i.free w.set_member.new.self c.loop-i.i w.in-Some.frame w.is_free.result w.in-Some.ensures.value
           (free_as_read states c.loop-i.i c.loop-i.i w.index-frames-i.result w.is_free.result c.loop-i-test.true refl w.index-frames-i.is w.is_free.ensures)
-          c.loop-i.invariant w.put.ensures n)
+          c.loop-i.invariant w.set_member.ensures n)
       | in_default w ↦ absurd (clash (is_some c.new.result) (c.new.ensures.valid.1 (omega (arith, c.loop-i-test.true, c.requires))) (ap is_some w.in_default.is))
     ]
 

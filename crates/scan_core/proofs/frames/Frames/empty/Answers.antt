@@ -20,12 +20,12 @@ index_mut-requires c =
 pub invariant_of-self : goal.invariant_of-self
 invariant_of-self c =
     let was = ap (λ (frames : Frames). holds_at frames.states c.args.frame) c.self.view_is ∙ c.requires in
-    (sound_emptied c.self.inside c.self.invariant c.args.frame (with_item c.self.inside.kept c.get.result Free) c.get.result c.get.ensures.value c.insert.new.self c.put.new.self was c.insert.ensures c.put.ensures refl).0
+    (sound_emptied c.self.inside c.self.invariant c.args.frame (with_item c.self.inside.kept c.get.result Free) c.get.result c.get.ensures.value c.insert.new.self c.set_member.new.self was c.insert.ensures c.set_member.ensures refl).0
 
 pub returns : goal.returns
 returns c =
     let was = ap (λ (frames : Frames). holds_at frames.states c.args.frame) c.self.view_is ∙ c.requires in
-    let states = (sound_emptied c.self.inside c.self.invariant c.args.frame (with_item c.self.inside.kept c.get.result Free) c.get.result c.get.ensures.value c.insert.new.self c.put.new.self was c.insert.ensures c.put.ensures refl).1 ∙ ap (λ (frames : Frames). slice_set frames.states c.args.frame Free) c.self.view_is in
+    let states = (sound_emptied c.self.inside c.self.invariant c.args.frame (with_item c.self.inside.kept c.get.result Free) c.get.result c.get.ensures.value c.insert.new.self c.set_member.new.self was c.insert.ensures c.set_member.ensures refl).1 ∙ ap (λ (frames : Frames). slice_set frames.states c.args.frame Free) c.self.view_is in
     record {
       state = λ i. record { states = states i; movable = (c.self.view_is i).movable };
       frames = ap length states ∙ length-set c.args.self.now.states c.args.frame Free;

@@ -11,8 +11,8 @@ remove-requires c =
     let was = ap (λ (frames : Frames). free_at frames.states c.args.frame) c.self.view_is ∙ c.requires in
     c.self.invariant.free c.args.frame ∙ was
 
-pub add-requires : goal.add-requires
-add-requires c =
+pub insert_if-requires : goal.insert_if-requires
+insert_if-requires c =
     let was = ap (λ (frames : Frames). free_at frames.states c.args.frame) c.self.view_is ∙ c.requires in
     free_stuck c.self.inside c.self.invariant c.args.frame was
 
@@ -31,12 +31,12 @@ index_mut-requires-2 c =
 pub invariant_of-self : goal.invariant_of-self
 invariant_of-self c =
     let was = ap (λ (frames : Frames). free_at frames.states c.args.frame) c.self.view_is ∙ c.requires in
-    (sound_filled c.self.inside c.self.invariant c.args.frame (with_item c.self.inside.kept c.get-index.result (Holds c.args.page)) c.get-index.result c.get-index.ensures.value (with_item c.self.inside.movable c.get-index.result c.args.movable) c.args.movable c.add.new.self refl c.add.ensures c.remove.new.self c.args.page was c.remove.ensures refl).0
+    (sound_filled c.self.inside c.self.invariant c.args.frame (with_item c.self.inside.kept c.get-index.result (Holds c.args.page)) c.get-index.result c.get-index.ensures.value (with_item c.self.inside.movable c.get-index.result c.args.movable) c.args.movable c.insert_if.new.self refl c.insert_if.ensures c.remove.new.self c.args.page was c.remove.ensures refl).0
 
 pub returns : goal.returns
 returns c =
     let was = ap (λ (frames : Frames). free_at frames.states c.args.frame) c.self.view_is ∙ c.requires in
-    let states = (sound_filled c.self.inside c.self.invariant c.args.frame (with_item c.self.inside.kept c.get-index.result (Holds c.args.page)) c.get-index.result c.get-index.ensures.value (with_item c.self.inside.movable c.get-index.result c.args.movable) c.args.movable c.add.new.self refl c.add.ensures c.remove.new.self c.args.page was c.remove.ensures refl).1 ∙ ap (λ (frames : Frames). slice_set frames.states c.args.frame (Holds c.args.page)) c.self.view_is in
+    let states = (sound_filled c.self.inside c.self.invariant c.args.frame (with_item c.self.inside.kept c.get-index.result (Holds c.args.page)) c.get-index.result c.get-index.ensures.value (with_item c.self.inside.movable c.get-index.result c.args.movable) c.args.movable c.insert_if.new.self refl c.insert_if.ensures c.remove.new.self c.args.page was c.remove.ensures refl).1 ∙ ap (λ (frames : Frames). slice_set frames.states c.args.frame (Holds c.args.page)) c.self.view_is in
     record {
       page = λ i. record { states = states i; movable = slice_set (c.self.view_is i).movable (c.get-index.ensures.value i) c.args.movable };
       frames = ap length states ∙ length-set c.args.self.now.states c.args.frame (Holds c.args.page);

@@ -13,4 +13,4 @@ index_mut-requires c =
 pub invariant_of-self : goal.invariant_of-self
 invariant_of-self c =
     let was = ap (λ (frames : Frames). holds_at frames.states c.args.frame) c.self.view_is ∙ c.requires in
-    sound_said c.self.inside c.self.invariant c.args.frame c.self.inside.kept c.get.result c.get.ensures.value (with_item c.self.inside.movable c.get.result c.args.movable) c.args.movable c.put.new.self was refl c.put.ensures
+    sound_said c.self.inside c.self.invariant c.args.frame c.self.inside.kept c.get.result c.get.ensures.value (with_item c.self.inside.movable c.get.result c.args.movable) c.args.movable c.set_member.new.self was refl c.set_member.ensures

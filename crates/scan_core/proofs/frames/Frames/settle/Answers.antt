@@ -6,8 +6,8 @@ use Rattle.scan_core.specs.Frames.{Frames, way_at, is_way_state}
 use Rattle.scan_core.proofs.Steps.{known_within, way_isnt_stuck, sound_settled}
 use Rattle.scan_core.proofs.frames.Frames.settle.Goals as goal
 
-pub add-requires : goal.add-requires
-add-requires c =
+pub insert_if-requires : goal.insert_if-requires
+insert_if-requires c =
     let was = ap (λ (frames : Frames). way_at frames.states c.args.frame) c.self.view_is ∙ c.requires in
     way_isnt_stuck c.self.inside c.self.invariant c.args.frame was
 
@@ -26,12 +26,12 @@ index_mut-requires-2 c =
 pub invariant_of-self : goal.invariant_of-self
 invariant_of-self c =
     let was = ap (λ (frames : Frames). way_at frames.states c.args.frame) c.self.view_is ∙ c.requires in
-    (sound_settled c.self.inside c.self.invariant c.args.frame (with_item c.self.inside.kept c.get-index.result (Holds c.args.page)) c.get-index.result c.get-index.ensures.value (with_item c.self.inside.movable c.get-index.result c.args.can_move) c.args.can_move c.add.new.self refl c.add.ensures c.args.page was refl).0
+    (sound_settled c.self.inside c.self.invariant c.args.frame (with_item c.self.inside.kept c.get-index.result (Holds c.args.page)) c.get-index.result c.get-index.ensures.value (with_item c.self.inside.movable c.get-index.result c.args.can_move) c.args.can_move c.insert_if.new.self refl c.insert_if.ensures c.args.page was refl).0
 
 pub returns : goal.returns
 returns c =
     let was = ap (λ (frames : Frames). way_at frames.states c.args.frame) c.self.view_is ∙ c.requires in
-    let states = (sound_settled c.self.inside c.self.invariant c.args.frame (with_item c.self.inside.kept c.get-index.result (Holds c.args.page)) c.get-index.result c.get-index.ensures.value (with_item c.self.inside.movable c.get-index.result c.args.can_move) c.args.can_move c.add.new.self refl c.add.ensures c.args.page was refl).1 ∙ ap (λ (frames : Frames). slice_set frames.states c.args.frame (Holds c.args.page)) c.self.view_is in
+    let states = (sound_settled c.self.inside c.self.invariant c.args.frame (with_item c.self.inside.kept c.get-index.result (Holds c.args.page)) c.get-index.result c.get-index.ensures.value (with_item c.self.inside.movable c.get-index.result c.args.can_move) c.args.can_move c.insert_if.new.self refl c.insert_if.ensures c.args.page was refl).1 ∙ ap (λ (frames : Frames). slice_set frames.states c.args.frame (Holds c.args.page)) c.self.view_is in
     record {
       page = λ i. record { states = states i; movable = slice_set (c.self.view_is i).movable (c.get-index.ensures.value i) c.args.can_move };
       frames = ap length states ∙ length-set c.args.self.now.states c.args.frame (Holds c.args.page);

@@ -13,7 +13,7 @@ pub new-requires-3 : goal.new-requires-3
 new-requires-3 g c =
     let turn = c.in-Some.ensures.played in
     let lines = c.into_parts-lines.result.0 in
-    let same = length-client_answers _ turn.client_behind lines.items c.in-Some.answers.items turn.clients in
+    let same = length-client_answers _ turn.client_after lines.items c.in-Some.answers.items turn.clients in
     let most = c.into_parts-lines.ensures.most in
     omega (arith, same, most, c.in-Some.answers.ok.0, lines.ok.0)
 

@@ -28,7 +28,7 @@ returns-clause-played g c =
           c.parts_of-zone.ensures.zone c.parts_of-zone.ensures.scan c.parts_of-zone.ensures.ends c.parts_of-zone.ensures.whole
           ran.ensures.kept ran.ensures.identity (MatchOption-at_some _ _ both c.in-Some.is ran.ensures.round) (MatchOption-at_some _ _ both c.in-Some.is ran.ensures.early)
           c.take_back-2.ensures.exact;
-      client_behind = both.client;
+      client_after = both.client;
       added = subst (λ (z : ZoneState). IsToldBeside c.args.turn.client both.client z.records ran.result.0.records) c.parts_of-zone.ensures.zone
           (MatchOption-at_some _ _ both c.in-Some.is ran.ensures.told);
       clients = subst (λ (told : List Answer). AreClientAnswers c.args.turn.client c.args.turn.lines.items told both.client) (sym c.settle-told.ensures.answers)

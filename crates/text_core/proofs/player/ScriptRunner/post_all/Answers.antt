@@ -7,8 +7,8 @@ use Rattle.text_core.proofs.Waiting.{stops_more}
 use Rattle.text_core.proofs.player.ScriptRunner.post_all.Goals as goal
 
 -- the block's own answer comes after those to its client lines
-all_behind : (before clients answers : List Answer) (own : Answer) → answers ≡ clients ++ own ∷ [] → (before ++ clients) ++ own ∷ [] ≡ before ++ answers
-all_behind before clients answers own is = append_assoc before clients (own ∷ []) ∙ ap (λ (list : List Answer). before ++ list) (sym is)
+all_after : (before clients answers : List Answer) (own : Answer) → answers ≡ clients ++ own ∷ [] → (before ++ clients) ++ own ∷ [] ≡ before ++ answers
+all_after before clients answers own is = append_assoc before clients (own ∷ []) ∙ ap (λ (list : List Answer). before ++ list) (sym is)
 
 pub returns-in_err-post_all-clause-err : goal.returns-in_err-post_all-clause-err
 returns-in_err-post_all-clause-err g c =
@@ -19,7 +19,7 @@ returns-in_err-post_all-clause-err g c =
     let own = c.into_parts-clients.result.1 in
     let after = g.W.Write.contents c.post_all.new.writer in
     let S : List Answer → Type 0 = λ list. StopsIn list first after c.in_err-post_all.field-0.0 in
-    subst S (all_behind before clients c.args.answers own c.into_parts-clients.ensures.parts)
+    subst S (all_after before clients c.args.answers own c.into_parts-clients.ensures.parts)
     (stops_more (before ++ clients) (own ∷ []) first after c.in_err-post_all.field-0.0 (c.in_err-post_all.ensures.err before first (subst O (sym c.self.view_is) owes))))
 
 pub returns-clause-err : goal.returns-clause-err
@@ -29,7 +29,7 @@ returns-clause-err g c = MatchResult-weaker c.post.result c.post.ensures.err (λ
     let own : Answer = record { line = c.into_parts-line.result.0; reply = c.into_parts-line.result.1 } in
     let parts : c.args.answers ≡ clients ++ own ∷ [] = c.into_parts-clients.ensures.parts ∙ ap (λ (a : Answer). clients ++ a ∷ []) c.into_parts-line.ensures in
     let S : List Answer → Type 0 = λ list. StopsIn list first (g.W.Write.contents c.post.new.writer) at in
-    subst S (all_behind before clients c.args.answers own parts)
+    subst S (all_after before clients c.args.answers own parts)
     (stops (before ++ clients) first (c.in_ok-post_all.ensures.ok before first (subst O (sym c.self.view_is) owes))))
 
 pub returns-clause-ok : goal.returns-clause-ok
@@ -39,5 +39,5 @@ returns-clause-ok g c = on_ok_weaker c.post.result (λ keeps before first owes.
     let own : Answer = record { line = c.into_parts-line.result.0; reply = c.into_parts-line.result.1 } in
     let parts : c.args.answers ≡ clients ++ own ∷ [] = c.into_parts-clients.ensures.parts ∙ ap (λ (a : Answer). clients ++ a ∷ []) c.into_parts-line.ensures in
     let A : List Answer → Type 0 = λ list. Owes c.post.new.self.box list first (g.W.Write.contents c.post.new.writer) in
-    subst A (all_behind before clients c.args.answers own parts)
+    subst A (all_after before clients c.args.answers own parts)
     (keeps (before ++ clients) first (c.in_ok-post_all.ensures.ok before first (subst O (sym c.self.view_is) owes)))) c.post.ensures.ok

@@ -21,9 +21,9 @@ command_whole profile n (During zone) other = absurd (other zone refl)
 command_whole profile n _ other = refl
 
 module _ (q : Reading) (n : ℕ) (text : List ℕ) (command : Command) (told : Profile) (outside : q.block ≡ None)
-    (says : line_of q.profile text ≡ Ok (Some command)) (behind : told ≡ profile_told command q.profile) where
+    (says : line_of q.profile text ≡ Ok (Some command)) (after : told ≡ profile_told command q.profile) where
   comes_to : line_comes q n text ≡ Ok (command_comes told n command)
-  comes_to = outside-line q n text outside ∙ ap (comes_outside q.profile n) says ∙ ap (λ p. Ok (command_comes p n command)) (sym behind)
+  comes_to = outside-line q n text outside ∙ ap (comes_outside q.profile n) says ∙ ap (λ p. Ok (command_comes p n command)) (sym after)
 
   begins_block : (zone : ℕ) → command ≡ During zone → line_comes q n text ≡ Ok (record { ended = None; reading = within told (record { line = n; zone = zone; clients = [] }) })
   begins_block zone is = comes_to ∙ ap (λ k. Ok (command_comes told n k)) is
@@ -69,7 +69,7 @@ returns-in-During-clause-ok g c = on_ok_weaker c.begin.result (λ is start past 
     let outside = ap (λ (s : ScriptRunner _). s.reading.block) c.self.view_is ∙ c.requires.outside in
     let says : line_of q.profile text ≡ Ok (Some c.in-Ok-Some.command) = sym c.in-Ok-Some.ensures ∙ ap Ok c.in-Ok-Some.field-0-is in
     subst A (sym is) (read_on g.A.Respond.may start _ past text first now (subst R (sym c.self.view_is) read) begins none _
-    (begins_block q c.self.inside.line text c.in-Ok-Some.command c.behind-self-inside.result outside says c.behind-self-inside.ensures c.in-During.zone c.in-During.is))) c.begin.ensures.ok
+    (begins_block q c.self.inside.line text c.in-Ok-Some.command c.after-self-inside.result outside says c.after-self-inside.ensures c.in-During.zone c.in-During.is))) c.begin.ensures.ok
 
 pub returns-in-During-clause-err : goal.returns-in-During-clause-err
 returns-in-During-clause-err g c = MatchResult-weaker c.begin.result (both_err c.begin.result _ _ c.begin.ensures.same c.begin.ensures.err) (λ _ u. u) (λ (e : RunError) both start past first none read.
@@ -86,12 +86,12 @@ returns-in-During-clause-err g c = MatchResult-weaker c.begin.result (both_err c
 
 -- what a line with any other command makes
 other_comes : (g : _) (c : goal.After-answer g) → line_comes (record { profile = c.self.inside.profile; block = c.self.inside.block }) c.self.inside.line c.args.text.now
-    ≡ Ok (record { ended = Some (record { line = c.self.inside.line; command = c.in-Ok-Some.command; clients = [] }); reading = record { profile = c.behind-self-inside.result; block = c.self.inside.block } })
+    ≡ Ok (record { ended = Some (record { line = c.self.inside.line; command = c.in-Ok-Some.command; clients = [] }); reading = record { profile = c.after-self-inside.result; block = c.self.inside.block } })
 other_comes g c =
     let q : Reading = record { profile = c.self.inside.profile; block = c.self.inside.block } in
     let outside = ap (λ (s : ScriptRunner _). s.reading.block) c.self.view_is ∙ c.requires.outside in
     let says : line_of q.profile c.args.text.now ≡ Ok (Some c.in-Ok-Some.command) = sym c.in-Ok-Some.ensures ∙ ap Ok c.in-Ok-Some.field-0-is in
-    ends_command q c.self.inside.line c.args.text.now c.in-Ok-Some.command c.behind-self-inside.result outside says c.behind-self-inside.ensures c.in_default.not-During
+    ends_command q c.self.inside.line c.args.text.now c.in-Ok-Some.command c.after-self-inside.result outside says c.after-self-inside.ensures c.in_default.not-During
 
 pub returns-in_default-clause-ok : goal.returns-in_default-clause-ok
 returns-in_default-clause-ok g c = on_ok_weaker c.answer.result (λ gives start past first none read.

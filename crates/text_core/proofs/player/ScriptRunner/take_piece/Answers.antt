@@ -17,23 +17,23 @@ returns-in_err-end_line-clause-err g c =
     rw (p.1, p.2) (λ start past first read.
     let done = c.loop-text.invariant.done in
     let text = c.in-Some.text.now in
-    let behind = c.in-Some.behind.now in
+    let after = c.in-Some.after.now in
     let e = c.in_err-end_line.field-0.0 in
     let now = g.W.Write.contents c.end_line.new.writer in
     let E : List ℕ → Type 0 = λ p. HasEnded g.A.Respond.may g.A.Respond.asks start c.end_line.new.self p e first now in
-    subst E (piece_joined past done.0 text behind ∙ ap (λ (p : List ℕ). past ++ p) (ap (λ (r : List ℕ). done.0 ++ r) (sym c.in-Some.ensures.parts) ∙ sym done.1))
-    (ended_more g.A.Respond.may g.A.Respond.asks start c.end_line.new.self _ behind e first now (c.in_err-end_line.ensures.err start (past ++ done.0) first (done.2 start past first read))))
+    subst E (piece_joined past done.0 text after ∙ ap (λ (p : List ℕ). past ++ p) (ap (λ (r : List ℕ). done.0 ++ r) (sym c.in-Some.ensures.parts) ∙ sym done.1))
+    (ended_more g.A.Respond.may g.A.Respond.asks start c.end_line.new.self _ after e first now (c.in_err-end_line.ensures.err start (past ++ done.0) first (done.2 start past first read))))
 
 pub loop-text-preserved : goal.loop-text-preserved
 loop-text-preserved g c =
     let done = c.loop-text.invariant.done in
     let text = c.in-Some.text.now in
-    let behind = c.in-Some.behind.now in
+    let after = c.in-Some.after.now in
     record {
-      line = omega (arith, c.in_ok-end_line.ensures.line, c.loop-text.invariant.line, ap length c.in-Some.ensures.parts, length-append text (10 ∷ behind));
+      line = omega (arith, c.in_ok-end_line.ensures.line, c.loop-text.invariant.line, ap length c.in-Some.ensures.parts, length-append text (10 ∷ after));
       done = (
         done.0 ++ (text ++ 10 ∷ []),
-        done.1 ∙ ap (λ (r : List ℕ). done.0 ++ r) c.in-Some.ensures.parts ∙ sym (joined done.0 text behind),
+        done.1 ∙ ap (λ (r : List ℕ). done.0 ++ r) c.in-Some.ensures.parts ∙ sym (joined done.0 text after),
         λ start past first read.
             let R : List ℕ → Type 0 = λ p. HasRead g.A.Respond.may start c.end_line.new.self p first (g.W.Write.contents c.end_line.new.writer) in
             subst R (append_assoc past done.0 (text ++ 10 ∷ [])) (c.in_ok-end_line.ensures.ok start (past ++ done.0) first (done.2 start past first read)),

@@ -14,12 +14,12 @@ overflow_sub-self c =
 pub invariant_of-self : goal.invariant_of-self
 invariant_of-self c =
     let was = was_in_use c.self.inside.notes.items c.args.self.now c.get-index.result c.args.page c.index.result.now c.is_some-was.result c.self.view_is c.requires c.get-index.ensures.value c.index.ensures c.is_some-was.ensures in
-    lost_counted c.self.inside c.self.invariant c.get-index.result c.args.note was.0 c.put.new.self c.get.result c.is_some-is.result (c.get.ensures.value ∙ sym c.get-index.ensures.value) c.is_some-is.ensures c.put.ensures (was.1 ∙ c.if-was.true) c.if-not-is.true
+    lost_counted c.self.inside c.self.invariant c.get-index.result c.args.note was.0 c.set_member.new.self c.get.result c.is_some-is.result (c.get.ensures.value ∙ sym c.get-index.ensures.value) c.is_some-is.ensures c.set_member.ensures (was.1 ∙ c.if-was.true) c.if-not-is.true
 
 pub invariant_of-self-else-not-is : goal.invariant_of-self-else-not-is
 invariant_of-self-else-not-is c =
     let was = was_in_use c.self.inside.notes.items c.args.self.now c.get-index.result c.args.page c.index.result.now c.is_some-was.result c.self.view_is c.requires c.get-index.ensures.value c.index.ensures c.is_some-was.ensures in
-    kept_counted c.self.inside c.self.invariant c.get-index.result c.args.note was.0 c.put.new.self c.get.result c.is_some-is.result (c.get.ensures.value ∙ sym c.get-index.ensures.value) c.is_some-is.ensures c.put.ensures (was.1 ∙ c.if-was.true ∙ sym c.if-not-is.false)
+    kept_counted c.self.inside c.self.invariant c.get-index.result c.args.note was.0 c.set_member.new.self c.get.result c.is_some-is.result (c.get.ensures.value ∙ sym c.get-index.ensures.value) c.is_some-is.ensures c.set_member.ensures (was.1 ∙ c.if-was.true ∙ sym c.if-not-is.false)
 
 pub overflow_add-self : goal.overflow_add-self
 overflow_add-self c =
@@ -29,9 +29,9 @@ overflow_add-self c =
 pub invariant_of-self-then-is : goal.invariant_of-self-then-is
 invariant_of-self-then-is c =
     let was = was_in_use c.self.inside.notes.items c.args.self.now c.get-index.result c.args.page c.index.result.now c.is_some-was.result c.self.view_is c.requires c.get-index.ensures.value c.index.ensures c.is_some-was.ensures in
-    gained_counted c.self.inside c.self.invariant c.get-index.result c.args.note was.0 c.put.new.self c.get.result c.is_some-is.result (c.get.ensures.value ∙ sym c.get-index.ensures.value) c.is_some-is.ensures c.put.ensures (was.1 ∙ c.if-was.false) c.if-is.true
+    gained_counted c.self.inside c.self.invariant c.get-index.result c.args.note was.0 c.set_member.new.self c.get.result c.is_some-is.result (c.get.ensures.value ∙ sym c.get-index.ensures.value) c.is_some-is.ensures c.set_member.ensures (was.1 ∙ c.if-was.false) c.if-is.true
 
 pub invariant_of-self-else-is : goal.invariant_of-self-else-is
 invariant_of-self-else-is c =
     let was = was_in_use c.self.inside.notes.items c.args.self.now c.get-index.result c.args.page c.index.result.now c.is_some-was.result c.self.view_is c.requires c.get-index.ensures.value c.index.ensures c.is_some-was.ensures in
-    kept_counted c.self.inside c.self.invariant c.get-index.result c.args.note was.0 c.put.new.self c.get.result c.is_some-is.result (c.get.ensures.value ∙ sym c.get-index.ensures.value) c.is_some-is.ensures c.put.ensures (was.1 ∙ c.if-was.false ∙ sym c.if-is.false)
+    kept_counted c.self.inside c.self.invariant c.get-index.result c.args.note was.0 c.set_member.new.self c.get.result c.is_some-is.result (c.get.ensures.value ∙ sym c.get-index.ensures.value) c.is_some-is.ensures c.set_member.ensures (was.1 ∙ c.if-was.false ∙ sym c.if-is.false)

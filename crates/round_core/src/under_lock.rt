@@ -17,7 +17,7 @@ use std::sync::ledger::Ledger;
 use zone_core::{EndSeat, Next, ScanSeat, Zone};
 
 /// Isolates pages into the empty list, in their order, until the list is full. Where it stops before, the answer says why.
-pub(crate) fn isolate_burst<K: Keeping, I: Ledger, N: Ledger, M: Ledger, B: Ledger>(
+pub(crate) fn isolate_pages<K: Keeping, I: Ledger, N: Ledger, M: Ledger, B: Ledger>(
     zone: &mut Zone<I, M, B>,
     scan: &mut ScanSeat<I, N>,
     pages: &mut VecDeque<Isolated>,
@@ -49,7 +49,7 @@ pub(crate) fn isolate_burst<K: Keeping, I: Ledger, N: Ledger, M: Ledger, B: Ledg
 }
 
 /// Commits all copies, in their order. The answer is the least serial of those that were refused now or before, if there is one.
-pub(crate) fn commit_burst<K: Keeping, I: Ledger, M: Ledger, B: Ledger>(
+pub(crate) fn commit_copies<K: Keeping, I: Ledger, M: Ledger, B: Ledger>(
     zone: &mut Zone<I, M, B>,
     seat: &mut EndSeat<M, B>,
     copies: &mut VecDeque<Copied>,
@@ -74,7 +74,7 @@ pub(crate) fn commit_burst<K: Keeping, I: Ledger, M: Ledger, B: Ledger>(
 }
 
 /// Puts all pages back, in their order. The answer is the least serial of those that were refused, if there is one.
-pub(crate) fn put_back_burst<K: Keeping, I: Ledger, M: Ledger, B: Ledger>(
+pub(crate) fn put_back_pages<K: Keeping, I: Ledger, M: Ledger, B: Ledger>(
     zone: &mut Zone<I, M, B>,
     seat: &mut EndSeat<M, B>,
     pages: &mut VecDeque<Isolated>,

@@ -1,6 +1,6 @@
 use Rattle.std.proofs.Common.{◌-◌, length, arith}
 use Rattle.hand_core.proofs.Serials.{serial_of}
-use Rattle.hand_core.proofs.giver.serial_behind.Goals as goal
+use Rattle.hand_core.proofs.giver.serial_after.Goals as goal
 
 pub returns-in-Some-clause-value : goal.returns-in-Some-clause-value
 returns-in-Some-clause-value c =

@@ -3,7 +3,7 @@ use Rattle.std.specs.VecDeque.{deque_capacity}
 use Rattle.state_core.specs.Lawful.{IsValidZone}
 use Rattle.zone_core.specs.ZoneIdentity.{HasIdentity}
 use Rattle.round_core.specs.PuttingBack.{all_put_back}
-use Rattle.round_core.proofs.burst.put_back_burst.Given as goal
+use Rattle.round_core.proofs.under_lock.put_back_pages.Given as goal
 
 abbrev pub invariant-loop-page : goal.invariant-loop-page
 invariant-loop-page g l = record {

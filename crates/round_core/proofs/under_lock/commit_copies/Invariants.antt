@@ -1,7 +1,7 @@
 use Rattle.std.proofs.Common.{◌≡◌, length}
 use Rattle.state_core.specs.Lawful.{IsValidZone}
 use Rattle.zone_core.specs.ZoneIdentity.{HasIdentity}
-use Rattle.round_core.proofs.burst.commit_burst.Given as goal
+use Rattle.round_core.proofs.under_lock.commit_copies.Given as goal
 
 abbrev pub invariant-loop-copy : goal.invariant-loop-copy
 invariant-loop-copy g l = record {

@@ -14,7 +14,7 @@ use Rattle.round_core.specs.Rounds.{stop_for}
 use Rattle.round_core.specs.declared.round.Stop.TheVariants as Stopped
 use Rattle.zone_core.proofs.Steps.{stepped, met_none, met_stops}
 use Rattle.round_core.proofs.NoReceipt.{scan_tells_none}
-use Rattle.round_core.proofs.burst.isolate_burst.Goals as goal
+use Rattle.round_core.proofs.under_lock.isolate_pages.Goals as goal
 
 serial_is : (z : ZoneState) (pair : Option Pair) (p : IsolatedPage) → Page p ≡ next_answer z pair → p.serial ≡ isolated z.records
 serial_is z None p e = cc

@@ -1,6 +1,6 @@
 use Rattle.std.proofs.Common.{◌∙◌, ℕ, List, ◌++◌, take, ap}
 use Rattle.std.proofs.lemmas.List.{take-append-drop}
-use Rattle.text_core.proofs.token.cut_behind.Goals as goal
+use Rattle.text_core.proofs.token.cut_after.Goals as goal
 
 pub returns-then-ends_word-clause-whole : goal.returns-then-ends_word-clause-whole
 returns-then-ends_word-clause-whole c =

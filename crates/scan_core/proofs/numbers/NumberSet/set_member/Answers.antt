@@ -3,7 +3,7 @@ use Rattle.std.specs.Prelude.{nat_eq}
 use Rattle.std.specs.FinSet as set
 use Rattle.scan_core.proofs.FrameSets.{insert_if, remove_if, keep_if}
 use Rattle.scan_core.proofs.Numbering.{member_insert, member_remove}
-use Rattle.scan_core.proofs.numbers.NumberSet.put.Goals as goal
+use Rattle.scan_core.proofs.numbers.NumberSet.set_member.Goals as goal
 
 pub returns-then-not-contains : goal.returns-then-not-contains
 returns-then-not-contains c = λ n. ap (λ s. set.contains s n) c.insert.ensures ∙ member_insert c.args.self.now c.args.number n ∙ insert_if (nat_eq n c.args.number) (set.contains c.args.self.now n) c.args.member c.if-member.true

@@ -4,7 +4,7 @@ use Rattle.frame_core.specs.Moves.{isolated}
 use Rattle.state_core.specs.Lawful.{IsValidZone}
 use Rattle.frame_core.specs.Serials.{HasSerialsFrom}
 use Rattle.zone_core.specs.ZoneIdentity.{HasIdentity}
-use Rattle.round_core.proofs.burst.isolate_burst.Given as goal
+use Rattle.round_core.proofs.under_lock.isolate_pages.Given as goal
 
 abbrev pub invariant-loop-zone : goal.invariant-loop-zone
 invariant-loop-zone g l = record {
