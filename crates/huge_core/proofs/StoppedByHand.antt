@@ -29,9 +29,9 @@ use Rattle.huge_core.proofs.SameByHand.{AreSame, same_refl, same_trans, where_no
 -- a lawful zone is as the lock of a zone keeps it
 pub lawful_kept : (z : ZoneState) → IsValidZone z → LockInvariant z
 lawful_kept z law = record {
-  loads = law.truthful;
+  loads = law.journal.truthful;
   clear = λ page frame held.
-      false_from_ne_true (takes_up (map.get z.placement page) frame) (λ takes. false≢true (sym (law.clear page frame takes) ∙ held));
+      false_from_ne_true (takes_up (map.get z.placement page) frame) (λ takes. false≢true (sym (law.pages.clear page frame takes) ∙ held));
   lawful = law;
 }
 

@@ -45,7 +45,7 @@ module _ (zone : ZoneState) (scan : ScanSeat) (ends : EndSeat) (law : IsValidZon
     one_hand = λ j k serial a b low_j low_k. absurd (empty_hand j serial a);
     one_place = λ k serial low e. absurd (empty_hand k serial e);
     closed = λ e. none;
-    few = (omega (arith, law.fingers.0), omega (arith, law.fingers.1));
+    few = (omega (arith, law.fingers.ordered.0), omega (arith, law.fingers.ordered.1));
   }
 
   pub carried_closed : (capacity : ℕ) → capacity ≡ 256 * zone.blocks → IsCarried zone scan ends false [] (Nothing ∷ Nothing ∷ Nothing ∷ Nothing ∷ []) capacity

@@ -57,7 +57,7 @@ pub on_its_way : (z : ZoneState) → IsValidZone z → (serial : ℕ) → is_out
 on_its_way z law serial e =
     let page = out_page z.records serial e in
     let named : page_under z serial ≡ page.0 = ap (λ (o : Option ℕ). unwrap_or o 0) page.1 in
-    let way = moving_under (map.get z.placement page.0) serial ((law.under_way page.0 serial).1 (e, page.1)) in
+    let way = moving_under (map.get z.placement page.0) serial ((law.agrees.under_way page.0 serial).1 (e, page.1)) in
     (way.0, way.1, ap (map.get z.placement) named ∙ way.2)
 
 -- a zone in which the move of one serial ended
@@ -214,7 +214,7 @@ module _ (w : WorldState) (o : IsOrderly w) (empty : list_all is_empty w.hands �
 
   orderly_with_shut : IsOrderly (shut w)
   orderly_with_shut =
-      let within : zone_shut.free ≤ frame_count zone_shut = shut_ended.lawful.fingers.1 in
+      let within : zone_shut.free ≤ frame_count zone_shut = shut_ended.lawful.fingers.ordered.1 in
       record {
         lawful = shut_ended.lawful;
         whole = o.whole;

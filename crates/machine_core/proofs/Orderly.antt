@@ -121,7 +121,7 @@ module _ (w : WorldState) (o : IsOrderly w) (is_open : w.is_open ≡ true) (pair
   now_waiting = w.waiting ++ next_serial ∷ []
 
   below_next : (s : ℕ) → is_out w.zone.records s ≡ true → s < next_serial
-  below_next s e = out_below w.zone.records o.lawful.well_ended s e
+  below_next s e = out_below w.zone.records o.lawful.journal.well_ended s e
 
   isolated_stands : (s : ℕ) → (nat_eq s next_serial || is_out w.zone.records s) ≡ true → Stands now_waiting w.hands s
   isolated_stands s e = elim (or_cases (nat_eq s next_serial) _ e) [

@@ -114,7 +114,7 @@ maps_fresh : (older : List Record) (z : ZoneState) (a : Address) (unmovable : Bo
 maps_fresh older z a unmovable frame law free m =
     let fresh = fresh_number z law free in
     subst (λ (next : ZoneState). Match next.records (record_of.Map 0 a (length older) ∷ older)) (sym (mapped_is z a unmovable frame fresh.0 fresh.1))
-    (match_mapped z.records older a fresh.0 (λ b e. clash _ fresh.1.unused (law.named b fresh.0 e).1) m)
+    (match_mapped z.records older a fresh.0 (λ b e. clash _ fresh.1.unused (law.agrees.named b fresh.0 e).1) m)
 
 unmapped_records : (z : ZoneState) (a : Address) → record_of.Unmap 0 a ∷ z.records ≡ (unmapped z 0 a).records
 unmapped_records z a = by_last (is_last z a) where

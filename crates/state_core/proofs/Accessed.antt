@@ -21,28 +21,28 @@ module _ (v : ZoneState) (law : IsValidZone v) (spare : length (out v.records) <
       let page = page_named v address (At frame) at in
       let T : Option ℕ → Type 0 = λ o. IsSomeAnd o (λ p. last v.records (unwrap_or o 0) word ≡ last v.records p word) in
       lawful_noted v law (Load client address word (value_at v address word)) spare (record {
-        truthful = (subst T (sym page.1) refl, law.truthful);
-        well_ended = law.well_ended;
-        serials = law.serials;
-        named = law.named;
-        in_use = law.in_use;
+        truthful = (subst T (sym page.1) refl, law.journal.truthful);
+        well_ended = law.journal.well_ended;
+        serials = law.journal.serials;
+        named = law.agrees.named;
+        in_use = law.agrees.in_use;
         out = refl;
         ways = λ p serial. (λ way. way, λ way. way);
         handed = λ first. refl;
         marks = λ block. refl;
-        swept = λ quiet. swept_loaded v client address word (law.swept (quiet_before v (Load client address word (value_at v address word)) law refl quiet));
+        swept = λ quiet. swept_loaded v client address word (law.fingers.swept (quiet_before v (Load client address word (value_at v address word)) law refl quiet));
       })
 
   pub lawful_stored : (word value : ℕ) → IsValidZone (stored v client address word value)
   lawful_stored word value = lawful_noted v law (Store client address word value) spare (record {
-    truthful = law.truthful;
-    well_ended = law.well_ended;
-    serials = law.serials;
-    named = law.named;
-    in_use = law.in_use;
+    truthful = law.journal.truthful;
+    well_ended = law.journal.well_ended;
+    serials = law.journal.serials;
+    named = law.agrees.named;
+    in_use = law.agrees.in_use;
     out = refl;
     ways = λ p serial. (λ way. way, λ way. way);
     handed = λ first. refl;
     marks = λ block. refl;
-    swept = λ quiet. swept_stored v client address word value (law.swept (quiet_before v (Store client address word value) law refl quiet));
+    swept = λ quiet. swept_stored v client address word value (law.fingers.swept (quiet_before v (Store client address word value) law refl quiet));
   })

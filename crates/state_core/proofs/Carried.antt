@@ -43,7 +43,7 @@ own_under z p own = (and_parts (nat_eq p.page.zone z.number) (is_under (map.get 
 
 -- the journal tells which page has the serial
 pub own_page : (z : ZoneState) → IsValidZone z → (p : IsolatedPage) → is_own z p ≡ true → page_of z.records p.serial ≡ Some p.page.number
-own_page z law p own = ((law.under_way p.page.number p.serial).0 (own_under z p own)).1
+own_page z law p own = ((law.agrees.under_way p.page.number p.serial).0 (own_under z p own)).1
 
 -- a copy stays one of the zone where the placement and the words of its page stay
 own_kept : (z next : ZoneState) (p : IsolatedPage) → next.number ≡ z.number → next.page_size ≡ z.page_size → map.get next.placement p.page.number ≡ map.get z.placement p.page.number → ((w : ℕ) → last next.records p.page.number w ≡ last z.records p.page.number w) → IsOwnCopy z p → IsOwnCopy next p

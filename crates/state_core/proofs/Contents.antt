@@ -22,13 +22,13 @@ length_put_from words from values within =
 module _ (v : ZoneState) (law : IsValidZone v) (first order : ℕ) (at : map.get v.handed_out first ≡ Some order) where
   -- a block that is handed out has its words
   pub has_contents : map.get v.contents first ≡ Some (contents_of v first)
-  has_contents = by_entry (map.get v.contents first) (law.contents first ∙ ap (option_map (λ o. 2 ^ o * v.page_size)) at) where
+  has_contents = by_entry (map.get v.contents first) (law.blocks.contents first ∙ ap (option_map (λ o. 2 ^ o * v.page_size)) at) where
     by_entry : (o : Option (List ℕ)) → option_map length o ≡ Some (2 ^ order * v.page_size) → o ≡ Some (unwrap_or o [])
     by_entry None e = absurd (none-some _ e)
     by_entry (Some words) e = refl
 
   pub length_contents : length (contents_of v first) ≡ 2 ^ order * v.page_size
-  length_contents = same_Some _ _ (sym (ap (option_map length) has_contents) ∙ law.contents first ∙ ap (option_map (λ o. 2 ^ o * v.page_size)) at)
+  length_contents = same_Some _ _ (sym (ap (option_map length) has_contents) ∙ law.blocks.contents first ∙ ap (option_map (λ o. 2 ^ o * v.page_size)) at)
 
   module _ (from : ℕ) (values : List ℕ) (within : from + length values ≤ 2 ^ order * v.page_size) where
     abbrev written : ZoneState
@@ -40,7 +40,7 @@ module _ (v : ZoneState) (law : IsValidZone v) (first order : ℕ) (at : map.get
           (ap (option_map length) (get_insert_same v.contents first f _ same.1)
           ∙ ap Some (length_put_from (contents_of v first) from values (omega (arith, length_contents)) ∙ length_contents)
           ∙ sym (ap (option_map (λ o. 2 ^ o * v.page_size)) (ap (map.get v.handed_out) same.1 ∙ at)))
-      | inr other ↦ ap (option_map length) (get_insert_other v.contents first f _ other.1) ∙ law.contents f
+      | inr other ↦ ap (option_map length) (get_insert_other v.contents first f _ other.1) ∙ law.blocks.contents f
     ]
 
     swept_written : IsSwept v → IsSwept written
@@ -55,28 +55,11 @@ module _ (v : ZoneState) (law : IsValidZone v) (first order : ℕ) (at : map.get
     pub lawful_contents_written : IsValidZone (contents_written v first from values)
     lawful_contents_written = record {
       size = law.size;
-      places = law.places;
-      serials = law.serials;
-      truthful = law.truthful;
-      well_ended = law.well_ended;
-      room_left = law.room_left;
-      named = law.named;
-      in_use = law.in_use;
-      numbered = law.numbered;
-      under_way = law.under_way;
-      upward = law.upward;
-      apart = law.apart;
-      within = law.within;
-      clear = law.clear;
-      blocks = law.blocks;
-      disjoint = law.disjoint;
-      contents = contents_after;
-      handed = law.handed;
-      marks = law.marks;
-      unmovable = law.unmovable;
-      fingers = law.fingers;
-      begun = law.begun;
-      swept = λ quiet. swept_written (law.swept quiet);
+      journal = law.journal;
+      agrees = law.agrees;
+      pages = law.pages;
+      blocks = record { each = law.blocks.each; disjoint = law.blocks.disjoint; contents = contents_after };
+      fingers = record { ordered = law.fingers.ordered; begun = law.fingers.begun; swept = λ quiet. swept_written (law.fingers.swept quiet) };
       sum = law.sum;
     }
 

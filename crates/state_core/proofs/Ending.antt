@@ -30,10 +30,10 @@ module _ (v : ZoneState) (page serial source target : ℕ) (law : IsValidZone v)
 
   -- the page is out under its serial
   known_out : IsOutWith v.records page serial
-  known_out = (law.under_way page serial).0 (ap (λ (o : Option Placement). is_under o serial) at ∙ eq-eqb serial serial refl)
+  known_out = (law.agrees.under_way page serial).0 (ap (λ (o : Option Placement). is_under o serial) at ∙ eq-eqb serial serial refl)
 
   pub frames_apart : source ≢ target
-  frames_apart e = let up = law.upward page serial source target at in absurd (omega arith)
+  frames_apart e = let up = law.pages.upward page serial source target at in absurd (omega arith)
 
   takes_source : takes_up (Some way) source ≡ true
   takes_source = or_left _ _ (eq-eqb source source refl)
@@ -45,7 +45,7 @@ module _ (v : ZoneState) (page serial source target : ℕ) (law : IsValidZone v)
   can_end frame had = record {
     lawful = law;
     at = at;
-    numbered = law.numbered page (not_none _ way at);
+    numbered = law.pages.numbered page (not_none _ way at);
     takes = λ g e. inl (ap (takes_up (Some way)) (eqb-true g frame e) ∙ had);
     upward = λ s from to e. cc;
   }
@@ -77,10 +77,10 @@ module _ (v : ZoneState) (page serial source target : ℕ) (law : IsValidZone v)
   target_used = free_old can_go_back target takes_target
 
   pub source_within : source < frame_count v
-  source_within = law.within page source (ap (λ (o : Option Placement). takes_up o source) at ∙ takes_source)
+  source_within = law.pages.within page source (ap (λ (o : Option Placement). takes_up o source) at ∙ takes_source)
 
   pub target_in : target < frame_count v
-  target_in = law.within page target (ap (λ (o : Option Placement). takes_up o target) at ∙ takes_target)
+  target_in = law.pages.within page target (ap (λ (o : Option Placement). takes_up o target) at ∙ takes_target)
 
   pub moved_more : (entry : Record) → count_below (is_free (relocated v entry page (At target))) (frame_count v) ≡ count_below (is_free v) (frame_count v) + 1
   moved_more entry = omega (arith, free_count can_move_on)
@@ -89,7 +89,7 @@ module _ (v : ZoneState) (page serial source target : ℕ) (law : IsValidZone v)
   back_more entry = omega (arith, free_count can_go_back)
 
   pub out_fewer : length (without serial (out v.records)) + 1 ≡ length (out v.records)
-  out_fewer = length_without v.records law.well_ended serial known_out.0
+  out_fewer = length_without v.records law.journal.well_ended serial known_out.0
 
   -- a serial that is out after an end is another one, and was out before
   was_out : (s : ℕ) → list_any (nat_eq s) (without serial (out v.records)) ≡ true → (s ≢ serial) × (is_out v.records s ≡ true)
@@ -100,7 +100,7 @@ module _ (v : ZoneState) (page serial source target : ℕ) (law : IsValidZone v)
   no_way : (s : ℕ) → list_any (nat_eq s) (without serial (out v.records)) ≡ true → page_of v.records s ≡ Some page → ⊥
   no_way s e of =
       let old = was_out s e in
-      old.0 (sym (eqb-true serial s (sym (ap (λ (o : Option Placement). is_under o s) at) ∙ (law.under_way page s).1 (old.1, of))))
+      old.0 (sym (eqb-true serial s (sym (ap (λ (o : Option Placement). is_under o s) at) ∙ (law.agrees.under_way page s).1 (old.1, of))))
 
   other_ways : (q s : ℕ) → q ≢ page → IsOutWith v.records q s ↔ (IsTrue (list_any (nat_eq s) (without serial (out v.records))) × (page_of v.records s ≡ Some q))
   other_ways q s ne = (
@@ -110,12 +110,12 @@ module _ (v : ZoneState) (page serial source target : ℕ) (law : IsValidZone v)
 
   pub moved_recorded : pins v.records page ≡ 0 → IsRecorded v (Moved serial) page (At target)
   moved_recorded none =
-      let room = law.room_left in
+      let room = law.journal.room_left in
       record {
         still = moved_still v.records serial;
-        truthful = law.truthful;
-        well_ended = (record { under_way = known_out.0; page = subst (λ (o : Option ℕ). IsSomeAnd o (λ p. pins v.records p ≡ 0)) (sym known_out.1) none }, law.well_ended);
-        serials = law.serials;
+        truthful = law.journal.truthful;
+        well_ended = (record { under_way = known_out.0; page = subst (λ (o : Option ℕ). IsSomeAnd o (λ p. pins v.records p ≡ 0)) (sym known_out.1) none }, law.journal.well_ended);
+        serials = law.journal.serials;
         spare = omega (arith, out_fewer);
         room_left = omega (arith, out_fewer);
         own_way = λ s. (λ under. cc, λ known. absurd (no_way s known.0 known.1));
@@ -124,17 +124,17 @@ module _ (v : ZoneState) (page serial source target : ℕ) (law : IsValidZone v)
       }
 
   ends_back : (cause : Cause) → HasCause cause (pins v.records page) → IsWellEnded (Back serial cause ∷ v.records)
-  ends_back Pinned has = let E : Option ℕ → Type 0 = λ o. IsSomeAnd o (λ p. 0 < pins v.records p) in (record { under_way = known_out.0; page = subst E (sym known_out.1) has }, law.well_ended)
-  ends_back NotCopied has = let E : Option ℕ → Type 0 = λ o. IsSomeAnd o (λ p. ⊤) in (record { under_way = known_out.0; page = subst E (sym known_out.1) tt }, law.well_ended)
+  ends_back Pinned has = let E : Option ℕ → Type 0 = λ o. IsSomeAnd o (λ p. 0 < pins v.records p) in (record { under_way = known_out.0; page = subst E (sym known_out.1) has }, law.journal.well_ended)
+  ends_back NotCopied has = let E : Option ℕ → Type 0 = λ o. IsSomeAnd o (λ p. ⊤) in (record { under_way = known_out.0; page = subst E (sym known_out.1) tt }, law.journal.well_ended)
 
   pub back_recorded : (cause : Cause) → HasCause cause (pins v.records page) → IsRecorded v (Back serial cause) page (At source)
   back_recorded cause has =
-      let room = law.room_left in
+      let room = law.journal.room_left in
       record {
         still = back_still v.records serial cause;
-        truthful = law.truthful;
+        truthful = law.journal.truthful;
         well_ended = ends_back cause has;
-        serials = law.serials;
+        serials = law.journal.serials;
         spare = omega (arith, out_fewer);
         room_left = omega (arith, out_fewer);
         own_way = λ s. (λ under. cc, λ known. absurd (no_way s known.0 known.1));

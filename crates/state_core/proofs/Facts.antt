@@ -57,12 +57,12 @@ takes_own (At frame) = eq-eqb frame frame refl
 takes_own (Moving serial source target) = ap (λ b. b || nat_eq source target) (eq-eqb source source refl)
 
 pub frame_within : (v : ZoneState) → IsValidZone v → (page : ℕ) (placement : Placement) → map.get v.placement page ≡ Some placement → words_frame placement < frame_count v
-frame_within v law page placement e = law.within page (words_frame placement) (ap (λ (o : Option Placement). takes_up o (words_frame placement)) e ∙ takes_own placement)
+frame_within v law page placement e = law.pages.within page (words_frame placement) (ap (λ (o : Option Placement). takes_up o (words_frame placement)) e ∙ takes_own placement)
 
 -- the frames with the words of two pages differ
 pub frames_differ : (v : ZoneState) → IsValidZone v → (p q : ℕ) (a b : Placement) → map.get v.placement p ≡ Some a → map.get v.placement q ≡ Some b → q ≢ p → words_frame b ≢ words_frame a
 frames_differ v law p q a b at_p at_q ne same =
-    ne (law.apart q p (words_frame b)
+    ne (law.pages.apart q p (words_frame b)
     (ap (λ (o : Option Placement). takes_up o (words_frame b)) at_q ∙ takes_own b)
     (ap (λ (o : Option Placement). takes_up o (words_frame b)) at_p ∙ ap (takes_up (Some a)) same ∙ takes_own a))
 

@@ -24,7 +24,8 @@ use Rattle.state_core.proofs.Entries.{get_insert_same, get_insert_other, get_rem
 use Rattle.state_core.proofs.Facts.{page_named}
 use Rattle.state_core.proofs.Holding.{at_takes}
 use Rattle.state_core.proofs.Places.{counts_add_up, unheld_frame, untaken}
-use Rattle.state_core.proofs.Quiet.{begun_more, swept_ended}
+use Rattle.state_core.proofs.Noted.{journal_noted}
+use Rattle.state_core.proofs.Quiet.{fingers_ended}
 
 -- whether a frame is in the block of this order from this first frame on
 abbrev pub in_block : ℕ → ℕ → ℕ → Bool
@@ -58,7 +59,7 @@ held_more {fewer} {more} {first} {order} one n h frame =
 -- a frame of a block that is handed out is held
 pub held_of : (v : ZoneState) → IsValidZone v → (first order frame : ℕ) → map.get v.handed_out first ≡ Some order → in_block first order frame ≡ true → is_held v frame ≡ true
 held_of v law first order frame at here =
-    let within = (law.blocks first order at).within in
+    let within = (law.blocks.each first order at).within in
     some_at (λ q. covers (map.get v.handed_out q) q frame) (frame_count v) first
     (omega (arith, within, pow_pos order)) (ap (λ (o : Option ℕ). covers o first frame) at ∙ here)
 
@@ -122,7 +123,7 @@ module _ (v : ZoneState) (first order : ℕ) (run : is_run v order first ≡ tru
 
   module _ (law : IsValidZone v) (spare : length (out v.records) < v.room) (low : 3 ≤ order) (high : order ≤ 9) where
     clear_taken : (page frame : ℕ) → takes_up (map.get v.placement page) frame ≡ true → is_held taken frame ≡ false
-    clear_taken page frame e = held_taken frame ∙ or_from (is_held v frame) _ (law.clear page frame e)
+    clear_taken page frame e = held_taken frame ∙ or_from (is_held v frame) _ (law.pages.clear page frame e)
         (false_from_ne_true _ (λ here. both_ways _ (untaken v law frame (block_free frame here) page) e))
 
     blocks_taken : (f o : ℕ) → map.get taken.handed_out f ≡ Some o → IsBlock (frame_count v) f o
@@ -131,7 +132,7 @@ module _ (v : ZoneState) (first order : ℕ) (run : is_run v order first ≡ tru
           (let is : order ≡ o = same_Some order o (sym (get_insert_same v.handed_out first f order same.1) ∙ e) in
           let block : IsBlock (frame_count v) first order = record { low = low; high = high; aligned = (first / 2 ^ order, sym run_aligned); within = run_within } in
           subst (λ (x : ℕ). IsBlock (frame_count v) x o) (sym same.1) (subst (λ (x : ℕ). IsBlock (frame_count v) first x) is block))
-      | inr other ↦ law.blocks f o (sym (get_insert_other v.handed_out first f order other.1) ∙ e)
+      | inr other ↦ law.blocks.each f o (sym (get_insert_other v.handed_out first f order other.1) ∙ e)
     ]
 
     -- a block that covers a frame after one is handed out is that block, or covered the frame before
@@ -151,13 +152,13 @@ module _ (v : ZoneState) (first order : ℕ) (run : is_run v order first ≡ tru
     disjoint_taken : (a b frame : ℕ) → covers (map.get taken.handed_out a) a frame ≡ true → covers (map.get taken.handed_out b) b frame ≡ true → a ≡ b
     disjoint_taken a b frame e f = elim (covers_taken a frame e) [
       | inl x ↦ elim (covers_taken b frame f) [ inl y ↦ x.0 ∙ sym y.0 | inr y ↦ absurd (uncovered b frame x.1 y.1) ]
-      | inr x ↦ elim (covers_taken b frame f) [ inl y ↦ absurd (uncovered a frame y.1 x.1) | inr y ↦ law.disjoint a b frame x.1 y.1 ]
+      | inr x ↦ elim (covers_taken b frame f) [ inl y ↦ absurd (uncovered a frame y.1 x.1) | inr y ↦ law.blocks.disjoint a b frame x.1 y.1 ]
     ]
 
     handed_taken : (f : ℕ) → map.get taken.handed_out f ≡ handed_out_by (TakeHuge first order ∷ v.records) f
     handed_taken f = elim (eqb_tells f first) [
       | inl same ↦ get_insert_same v.handed_out first f order same.1 ∙ sym (cond-true (nat_eq first f) (Some order) (handed_out_by v.records f) (eq-eqb first f (sym same.1)))
-      | inr other ↦ get_insert_other v.handed_out first f order other.1 ∙ law.handed f ∙ sym (cond-false (nat_eq first f) (Some order) (handed_out_by v.records f) (ne_eqb first f (λ e. other.1 (sym e))))
+      | inr other ↦ get_insert_other v.handed_out first f order other.1 ∙ law.agrees.handed f ∙ sym (cond-false (nat_eq first f) (Some order) (handed_out_by v.records f) (ne_eqb first f (λ e. other.1 (sym e))))
     ]
 
     contents_taken : (f : ℕ) → option_map length (map.get taken.contents f) ≡ option_map (λ o. 2 ^ o * v.page_size) (map.get taken.handed_out f)
@@ -166,35 +167,18 @@ module _ (v : ZoneState) (first order : ℕ) (run : is_run v order first ≡ tru
           (ap (option_map length) (get_insert_same v.contents first f _ same.1) ∙ ap Some (length-replicate (2 ^ order * v.page_size) 0)
           ∙ sym (ap (option_map (λ o. 2 ^ o * v.page_size)) (get_insert_same v.handed_out first f order same.1)))
       | inr other ↦
-          (ap (option_map length) (get_insert_other v.contents first f _ other.1) ∙ law.contents f
+          (ap (option_map length) (get_insert_other v.contents first f _ other.1) ∙ law.blocks.contents f
           ∙ sym (ap (option_map (λ o. 2 ^ o * v.page_size)) (get_insert_other v.handed_out first f order other.1)))
     ]
 
     pub lawful_block_taken : IsValidZone (block_taken v first order)
     lawful_block_taken = record {
       size = law.size;
-      places = (let before = law.places in omega arith);
-      serials = law.serials;
-      truthful = law.truthful;
-      well_ended = law.well_ended;
-      room_left = omega arith;
-      named = law.named;
-      in_use = law.in_use;
-      numbered = law.numbered;
-      under_way = law.under_way;
-      upward = law.upward;
-      apart = law.apart;
-      within = law.within;
-      clear = clear_taken;
-      blocks = blocks_taken;
-      disjoint = disjoint_taken;
-      contents = contents_taken;
-      handed = handed_taken;
-      marks = law.marks;
-      unmovable = law.unmovable;
-      fingers = law.fingers;
-      begun = λ start e. begun_more v.records (TakeHuge first order) v.round law.begun start e;
-      swept = swept_ended v (block_taken v first order) (TakeHuge first order) law refl refl refl;
+      journal = journal_noted (TakeHuge first order) law.journal spare law.journal.truthful law.journal.well_ended law.journal.serials refl;
+      agrees = record { named = law.agrees.named; in_use = law.agrees.in_use; under_way = law.agrees.under_way; handed = handed_taken; marks = law.agrees.marks };
+      pages = record { numbered = law.pages.numbered; upward = law.pages.upward; apart = law.pages.apart; within = law.pages.within; clear = clear_taken; unmovable = law.pages.unmovable };
+      blocks = record { each = blocks_taken; disjoint = disjoint_taken; contents = contents_taken };
+      fingers = fingers_ended v (block_taken v first order) (TakeHuge first order) law law.fingers.ordered refl refl refl;
       sum = omega (arith, law.sum, counts_add_up (is_free taken) (is_held taken) (is_free v) (is_held v) (frame_count v) (λ frame h. balanced_taken frame));
     }
 
@@ -204,7 +188,7 @@ module _ (v : ZoneState) (law : IsValidZone v) (first order : ℕ) (at : map.get
   given = block_given v first order
 
   pub block_first : first < frame_count v
-  block_first = let within = (law.blocks first order at).within in omega (arith, within, pow_pos order)
+  block_first = let within = (law.blocks.each first order at).within in omega (arith, within, pow_pos order)
 
   one_given : IsOneMore (map.get given.handed_out) (map.get v.handed_out) first order
   one_given = record { without = get_remove_same v.handed_out first first refl; here = at; others = λ q ne. sym (get_remove_other v.handed_out first q ne) }
@@ -223,11 +207,11 @@ module _ (v : ZoneState) (law : IsValidZone v) (first order : ℕ) (at : map.get
   unheld_given frame here = false_from_ne_true _ (λ held.
       (let one = some_one (λ q. covers (map.get given.handed_out q) q frame) (frame_count v) held in
       let other = covers_given one.0 frame one.2 in
-      other.0 (law.disjoint one.0 first frame other.1 (ap (λ (o : Option ℕ). covers o first frame) at ∙ here))))
+      other.0 (law.blocks.disjoint one.0 first frame other.1 (ap (λ (o : Option ℕ). covers o first frame) at ∙ here))))
 
   -- no page takes up a frame of a block that is handed out
   pub unused_in_block : (page frame : ℕ) → in_block first order frame ≡ true → takes_up (map.get v.placement page) frame ≡ false
-  unused_in_block page frame here = false_from_ne_true _ (λ e. both_ways _ (law.clear page frame e) (held_of v law first order frame at here))
+  unused_in_block page frame here = false_from_ne_true _ (λ e. both_ways _ (law.pages.clear page frame e) (held_of v law first order frame at here))
 
   pub free_given_in : (frame : ℕ) → in_block first order frame ≡ true → is_free given frame ≡ true
   free_given_in frame here = and_from _ _
@@ -252,7 +236,7 @@ module _ (v : ZoneState) (law : IsValidZone v) (first order : ℕ) (at : map.get
   -- a block that was handed out is in the zone, and all of its frames are free after it is taken back
   pub block_of_zone : has_block v order first ≡ true
   block_of_zone =
-      let block = law.blocks first order at in
+      let block = law.blocks.each first order at in
       and_from _ _ (eq-eqb _ _ (aligned_by block.aligned.0 first order block.aligned.1)) (le-leb _ _ block.within)
 
   pub run_given : is_run given order first ≡ true
@@ -263,13 +247,13 @@ module _ (v : ZoneState) (law : IsValidZone v) (first order : ℕ) (at : map.get
   handed_fewer : (f : ℕ) → map.get given.handed_out f ≡ handed_out_by (GiveHuge first order ∷ v.records) f
   handed_fewer f = elim (eqb_tells f first) [
     | inl same ↦ get_remove_same v.handed_out first f same.1 ∙ sym (cond-true (nat_eq first f) None (handed_out_by v.records f) (eq-eqb first f (sym same.1)))
-    | inr other ↦ get_remove_other v.handed_out first f other.1 ∙ law.handed f ∙ sym (cond-false (nat_eq first f) None (handed_out_by v.records f) (ne_eqb first f (λ e. other.1 (sym e))))
+    | inr other ↦ get_remove_other v.handed_out first f other.1 ∙ law.agrees.handed f ∙ sym (cond-false (nat_eq first f) None (handed_out_by v.records f) (ne_eqb first f (λ e. other.1 (sym e))))
   ]
 
   blocks_given : (f o : ℕ) → map.get given.handed_out f ≡ Some o → IsBlock (frame_count v) f o
   blocks_given f o e = elim (eqb_tells f first) [
     | inl same ↦ absurd (none-some _ (sym (get_remove_same v.handed_out first f same.1) ∙ e))
-    | inr other ↦ law.blocks f o (sym (get_remove_other v.handed_out first f other.1) ∙ e)
+    | inr other ↦ law.blocks.each f o (sym (get_remove_other v.handed_out first f other.1) ∙ e)
   ]
 
   contents_given : (f : ℕ) → option_map length (map.get given.contents f) ≡ option_map (λ o. 2 ^ o * v.page_size) (map.get given.handed_out f)
@@ -278,35 +262,18 @@ module _ (v : ZoneState) (law : IsValidZone v) (first order : ℕ) (at : map.get
         (ap (option_map length) (get_remove_same v.contents first f same.1)
         ∙ sym (ap (option_map (λ o. 2 ^ o * v.page_size)) (get_remove_same v.handed_out first f same.1)))
     | inr other ↦
-        (ap (option_map length) (get_remove_other v.contents first f other.1) ∙ law.contents f
+        (ap (option_map length) (get_remove_other v.contents first f other.1) ∙ law.blocks.contents f
         ∙ sym (ap (option_map (λ o. 2 ^ o * v.page_size)) (get_remove_other v.handed_out first f other.1)))
   ]
 
   pub lawful_block_given : length (out v.records) < v.room → IsValidZone (block_given v first order)
   lawful_block_given spare = record {
     size = law.size;
-    places = (let before = law.places in omega arith);
-    serials = law.serials;
-    truthful = law.truthful;
-    well_ended = law.well_ended;
-    room_left = omega arith;
-    named = law.named;
-    in_use = law.in_use;
-    numbered = law.numbered;
-    under_way = law.under_way;
-    upward = law.upward;
-    apart = law.apart;
-    within = law.within;
-    clear = λ page frame e. (or_parts _ _ (sym (held_given frame) ∙ law.clear page frame e)).0;
-    blocks = blocks_given;
-    disjoint = λ a b frame e f. law.disjoint a b frame (covers_given a frame e).1 (covers_given b frame f).1;
-    contents = contents_given;
-    handed = handed_fewer;
-    marks = law.marks;
-    unmovable = law.unmovable;
-    fingers = law.fingers;
-    begun = λ start e. begun_more v.records (GiveHuge first order) v.round law.begun start e;
-    swept = swept_ended v (block_given v first order) (GiveHuge first order) law refl refl refl;
+    journal = journal_noted (GiveHuge first order) law.journal spare law.journal.truthful law.journal.well_ended law.journal.serials refl;
+    agrees = record { named = law.agrees.named; in_use = law.agrees.in_use; under_way = law.agrees.under_way; handed = handed_fewer; marks = law.agrees.marks };
+    pages = record { numbered = law.pages.numbered; upward = law.pages.upward; apart = law.pages.apart; within = law.pages.within; clear = (λ page frame e. (or_parts _ _ (sym (held_given frame) ∙ law.pages.clear page frame e)).0); unmovable = law.pages.unmovable };
+    blocks = record { each = blocks_given; disjoint = (λ a b frame e f. law.blocks.disjoint a b frame (covers_given a frame e).1 (covers_given b frame f).1); contents = contents_given };
+    fingers = fingers_ended v (block_given v first order) (GiveHuge first order) law law.fingers.ordered refl refl refl;
     sum = omega (arith, law.sum, counts_add_up (is_free given) (is_held given) (is_free v) (is_held v) (frame_count v) (λ frame h. balanced_given frame));
   }
 

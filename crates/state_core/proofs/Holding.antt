@@ -26,9 +26,9 @@ pub holder_at : (v : ZoneState) → IsValidZone v → (page frame : ℕ) → map
     holder v frame ≡ Some page
 holder_at v law page frame at =
     lowest_is (λ q. stands_in (map.get v.placement q) frame) (frame_count v) page
-    (law.numbered page (not_none _ (At frame) at)) (ap (λ o. stands_in o frame) at ∙ eq-eqb frame frame refl)
+    (law.pages.numbered page (not_none _ (At frame) at)) (ap (λ o. stands_in o frame) at ∙ eq-eqb frame frame refl)
     (λ q h. when_not _ (λ stands.
-    (let same = law.apart q page frame (at_takes _ frame (stands_at _ frame stands)) (at_takes _ frame at) in
+    (let same = law.pages.apart q page frame (at_takes _ frame (stands_at _ frame stands)) (at_takes _ frame at) in
     omega arith)))
 
 pub holder_found : (v : ZoneState) (page frame : ℕ) → holder v frame ≡ Some page → map.get v.placement page ≡ Some (At frame)
@@ -43,5 +43,5 @@ holder_none v frame none = lowest_none (λ q. stands_in (map.get v.placement q) 
 -- where no page is out, no page is moving
 pub at_rest : (v : ZoneState) → IsValidZone v → length (out v.records) ≡ 0 → (page serial source target : ℕ) → map.get v.placement page ≡ Some (Moving serial source target) → ⊥
 at_rest v law none page serial source target at =
-    let known = (law.under_way page serial).0 (ap (λ (o : Option Placement). is_under o serial) at ∙ eq-eqb serial serial refl) in
+    let known = (law.agrees.under_way page serial).0 (ap (λ (o : Option Placement). is_under o serial) at ∙ eq-eqb serial serial refl) in
     both_ways _ (out_empty v.records none serial) known.0

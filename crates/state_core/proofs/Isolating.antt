@@ -28,13 +28,13 @@ module _ (v : ZoneState) (pair : Pair) (law : IsValidZone v) (is : IsPair v pair
   way_next = Moving serial_next pair.source pair.target
 
   pub target_within : pair.target < frame_count v
-  target_within = omega (arith, is.to.high, law.fingers.1)
+  target_within = omega (arith, is.to.high, law.fingers.ordered.1)
 
   pub can_isolate : CanSettle v pair.page (At pair.source) way_next
   can_isolate = record {
     lawful = law;
     at = is.from.here;
-    numbered = law.numbered pair.page (not_none _ (At pair.source) is.from.here);
+    numbered = law.pages.numbered pair.page (not_none _ (At pair.source) is.from.here);
     takes = λ g e. elim (or_cases (nat_eq g pair.source) (nat_eq g pair.target) e) [
       | inl source ↦ inl source
       | inr target ↦ inr (ap (is_free v) (eqb-true g pair.target target) ∙ is.to.free, omega (arith, eqb-true g pair.target target, target_within))
@@ -54,7 +54,7 @@ module _ (v : ZoneState) (pair : Pair) (law : IsValidZone v) (is : IsPair v pair
 
   -- no serial that is out is of the page that is to be isolated
   at_rest : (serial : ℕ) → is_out v.records serial ≡ true → page_of v.records serial ≡ Some pair.page → ⊥
-  at_rest serial e under = both_ways _ (ap (λ (o : Option Placement). is_under o serial) is.from.here) ((law.under_way pair.page serial).1 (e, under))
+  at_rest serial e under = both_ways _ (ap (λ (o : Option Placement). is_under o serial) is.from.here) ((law.agrees.under_way pair.page serial).1 (e, under))
 
   -- a page that is out under another serial than the new one was out before
   was_out : (q serial : ℕ) → serial_next ≢ serial → IsOutWith (Isolate serial_next pair.page ∷ v.records) q serial → IsOutWith v.records q serial
@@ -66,16 +66,16 @@ module _ (v : ZoneState) (pair : Pair) (law : IsValidZone v) (is : IsPair v pair
   pub isolate_recorded : length (out v.records) + 1 < v.room → isolated v.records < 2 ^ 32 - 1 → IsRecorded v (Isolate serial_next pair.page) pair.page way_next
   isolate_recorded room serial_left = record {
     still = isolate_still v.records serial_next pair.page;
-    truthful = law.truthful;
+    truthful = law.journal.truthful;
     well_ended = (
       refl,
-      (let used = law.in_use pair.page (not_none _ (At pair.source) is.from.here) in
+      (let used = law.agrees.in_use pair.page (not_none _ (At pair.source) is.from.here) in
           record {
             in_use = used.0;
             here = not_moving v.records pair.page at_rest;
             unpinned = eqb-true (pins v.records pair.page) 0 (and_parts _ _ is.from.movable).0;
           }),
-      law.well_ended,
+      law.journal.well_ended,
     );
     serials = omega arith;
     spare = omega arith;
@@ -85,7 +85,7 @@ module _ (v : ZoneState) (pair : Pair) (law : IsValidZone v) (is : IsPair v pair
       λ way. elim (eqb_tells serial_next serial) [ inl same ↦ same.0 | inr other ↦ (let old = was_out pair.page serial other.1 way in absurd (at_rest serial old.0 old.1)) ],
     );
     other_ways = λ q serial ne. (
-      λ way. (or_right _ _ way.0, cond-false _ (Some pair.page) (page_of v.records serial) (ne_eqb serial_next serial (λ same. let below = out_below v.records law.well_ended serial way.0 in absurd (omega arith))) ∙ way.1),
+      λ way. (or_right _ _ way.0, cond-false _ (Some pair.page) (page_of v.records serial) (ne_eqb serial_next serial (λ same. let below = out_below v.records law.journal.well_ended serial way.0 in absurd (omega arith))) ∙ way.1),
       λ way. elim (eqb_tells serial_next serial) [
         | inl same ↦ absurd (ne (same_Some q pair.page (sym way.1 ∙ cond-true _ (Some pair.page) (page_of v.records serial) same.0)))
         | inr other ↦ was_out q serial other.1 way

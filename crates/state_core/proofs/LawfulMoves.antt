@@ -22,18 +22,18 @@ use Rattle.state_core.proofs.Quiet.{quiet_before, swept_ended}
 use Rattle.state_core.proofs.Sweeping.{swept_isolated, swept_arrived}
 
 pub swept_if_isolated : (v : ZoneState) (pair : Pair) → IsValidZone v → IsPair v pair.page pair.source pair.target → SweptIfQuiet (isolated_next v pair)
-swept_if_isolated v pair law is quiet = swept_isolated v pair law (law.swept (quiet_before v (Isolate (isolated v.records) pair.page) law refl quiet)) is
+swept_if_isolated v pair law is quiet = swept_isolated v pair law (law.fingers.swept (quiet_before v (Isolate (isolated v.records) pair.page) law refl quiet)) is
 
 pub lawful_isolated : (v : ZoneState) (pair : Pair) → IsValidZone v → IsPair v pair.page pair.source pair.target → isolate_refusal v ≡ None → IsValidZone (isolated_next v pair)
 lawful_isolated v pair law is accepted =
     let left = room_and_serial v accepted in
     lawful_settled (can_isolate v pair law is) (Isolate (isolated v.records) pair.page) (isolate_recorded v pair law is left.0 left.1) (pair.source + 1) pair.target
-    (let low = is.to.low in let high = is.to.high in let fingers = law.fingers.1 in (omega arith, omega arith))
+    (let low = is.to.low in let high = is.to.high in let fingers = law.fingers.ordered.1 in (omega arith, omega arith))
     (swept_if_isolated v pair law is)
 
 module _ (v : ZoneState) (page serial source target : ℕ) (law : IsValidZone v) (at : map.get v.placement page ≡ Some (Moving serial source target)) where
   pub swept_if_moved : SweptIfQuiet (relocated v (Moved serial) page (At target))
-  swept_if_moved quiet = swept_arrived v page serial source target law (law.swept (quiet_before v (Moved serial) law refl quiet)) at
+  swept_if_moved quiet = swept_arrived v page serial source target law (law.fingers.swept (quiet_before v (Moved serial) law refl quiet)) at
 
   pub swept_if_put_back : (cause : Cause) → SweptIfQuiet (relocated v (Back serial cause) page (At source))
   swept_if_put_back cause = swept_ended v (relocated v (Back serial cause) page (At source)) (Back serial cause) law refl refl refl
@@ -41,9 +41,9 @@ module _ (v : ZoneState) (page serial source target : ℕ) (law : IsValidZone v)
 pub lawful_moved : (v : ZoneState) (serial page source target : ℕ) → IsValidZone v → map.get v.placement page ≡ Some (Moving serial source target) → pins v.records page ≡ 0 → IsValidZone (moved_to_target v serial page)
 lawful_moved v serial page source target law at none =
     subst (λ (frame : ℕ). IsValidZone (relocated v (Moved serial) page (At frame))) (sym (ap target_of at))
-    (lawful_settled (can_move_on v page serial source target law at) (Moved serial) (moved_recorded v page serial source target law at none) v.migrate v.free law.fingers (swept_if_moved v page serial source target law at))
+    (lawful_settled (can_move_on v page serial source target law at) (Moved serial) (moved_recorded v page serial source target law at none) v.migrate v.free law.fingers.ordered (swept_if_moved v page serial source target law at))
 
 pub lawful_put_back : (v : ZoneState) (serial page source target : ℕ) (cause : Cause) → IsValidZone v → map.get v.placement page ≡ Some (Moving serial source target) → HasCause cause (pins v.records page) → IsValidZone (put_back_to_source v serial page cause)
 lawful_put_back v serial page source target cause law at has =
     subst (λ (frame : ℕ). IsValidZone (relocated v (Back serial cause) page (At frame))) (sym (ap source_of at))
-    (lawful_settled (can_go_back v page serial source target law at) (Back serial cause) (back_recorded v page serial source target law at cause has) v.migrate v.free law.fingers (swept_if_put_back v page serial source target law at cause))
+    (lawful_settled (can_go_back v page serial source target law at) (Back serial cause) (back_recorded v page serial source target law at cause has) v.migrate v.free law.fingers.ordered (swept_if_put_back v page serial source target law at cause))

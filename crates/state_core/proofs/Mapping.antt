@@ -89,7 +89,7 @@ module _ (v : ZoneState) (client : ℕ) (address : Address) (unmovable : Bool) (
   unnamed b = by_name (page_at v.records b) refl where
     by_name : (o : Option ℕ) → page_at v.records b ≡ o → is_page (page_at v.records b) page ≡ false
     by_name None e = ap (λ (p : Option ℕ). is_page p page) e
-    by_name (Some q) e = ap (λ (p : Option ℕ). is_page p page) e ∙ ne_eqb q page (used_apart q (can.lawful.named b q e).1)
+    by_name (Some q) e = ap (λ (p : Option ℕ). is_page p page) e ∙ ne_eqb q page (used_apart q (can.lawful.agrees.named b q e).1)
 
   -- one more address names the fresh page, and each other page has as many as before
   maps_changed_by : (q : ℕ) → maps next.records q ≡ maps v.records q + one_if (nat_eq page q)
@@ -120,10 +120,10 @@ module _ (v : ZoneState) (client : ℕ) (address : Address) (unmovable : Bool) (
   still_used q used = ap is_some (at_other q (used_apart q used)) ∙ used
 
   stay : (b : Bool) (q : ℕ) → set.contains (if b then set.insert v.unmovable page else v.unmovable) q ≡ true → IsSome (map.get next.placement q)
-  stay false q e = still_used q (can.lawful.unmovable q e)
+  stay false q e = still_used q (can.lawful.pages.unmovable q e)
   stay true q e = elim (places.where_is can_map q) [
     | inl here ↦ page_used q here.0
-    | inr there ↦ still_used q (can.lawful.unmovable q (sym (contains_insert_other v.unmovable page q there.0) ∙ e))
+    | inr there ↦ still_used q (can.lawful.pages.unmovable q (sym (contains_insert_other v.unmovable page q there.0) ∙ e))
   ]
 
   map_told : IsTold v page (Some (At frame)) (Map client address page) (if unmovable then set.insert v.unmovable page else v.unmovable)
@@ -131,14 +131,14 @@ module _ (v : ZoneState) (client : ℕ) (address : Address) (unmovable : Bool) (
       let law = can.lawful in
       let room = can.spare in
       record {
-        truthful = law.truthful;
-        well_ended = law.well_ended;
-        serials = law.serials;
+        truthful = law.journal.truthful;
+        well_ended = law.journal.well_ended;
+        serials = law.journal.serials;
         spare = omega arith;
         room_left = omega arith;
         named = λ b q is. elim (cases_Bool (same_address b address)) [
           | inl here ↦ (subst InRange (sym (one_address b address here)) can.range, page_used q (same_Some q page (sym is ∙ named_here b here)))
-          | inr there ↦ (let before = law.named b q (sym (named_there b there) ∙ is) in (before.0, still_used q before.1))
+          | inr there ↦ (let before = law.agrees.named b q (sym (named_there b there) ∙ is) in (before.0, still_used q before.1))
         ];
         in_use = λ q used. elim (places.where_is can_map q) [
           | inl here ↦
@@ -146,12 +146,12 @@ module _ (v : ZoneState) (client : ℕ) (address : Address) (unmovable : Bool) (
               let none : pins next.records q ≡ 0 = ap (pins next.records) here.0 ∙ pins_none in
               (omega arith, omega arith, omega arith))
           | inr there ↦
-              (let before = law.in_use q (ap is_some (sym there.1) ∙ used) in
+              (let before = law.agrees.in_use q (ap is_some (sym there.1) ∙ used) in
               let same = maps_others q there.0 in
               let kept = pins_others q there.0 in
               (omega (arith, before.0), omega (arith, before.1), omega (arith, before.2)))
         ];
-        own_way = λ serial. (λ under. cc, λ way. absurd (both_ways _ (ap (λ o. is_under o serial) can.unused) ((law.under_way page serial).1 way)));
+        own_way = λ serial. (λ under. cc, λ way. absurd (both_ways _ (ap (λ o. is_under o serial) can.unused) ((law.agrees.under_way page serial).1 way)));
         other_ways = λ q serial ne. (λ way. way, λ way. way);
         ways = ap (λ o. length (out v.records) + places.ways_of o) can.unused;
         handed = λ first. refl;
@@ -160,4 +160,4 @@ module _ (v : ZoneState) (client : ℕ) (address : Address) (unmovable : Bool) (
       }
 
   pub placed_lawful : IsValidZone next
-  placed_lawful = lawful_told can_map (Map client address page) _ map_told v.migrate v.free can.lawful.fingers (swept_ended v next (Map client address page) can.lawful refl refl refl)
+  placed_lawful = lawful_told can_map (Map client address page) _ map_told v.migrate v.free can.lawful.fingers.ordered (swept_ended v next (Map client address page) can.lawful refl refl refl)

@@ -1,5 +1,5 @@
 -- A pageblock is marked, or its mark is taken off: the zone stays lawful.
-use Rattle.std.proofs.Common.{◌≡◌, ℕ, ◌<◌, true, false, ◌∷◌, length, inl, inr, refl, sym, ◌∙◌, arith, nat_eq}
+use Rattle.std.proofs.Common.{◌≡◌, ℕ, ◌<◌, true, false, ◌∷◌, length, inl, inr, refl, sym, ◌∙◌, nat_eq}
 use Rattle.std.specs.FinSet as set
 use Rattle.std.proofs.lemmas.Bool.{cond-true, cond-false, eq-eqb, ne_eqb}
 use Rattle.std.proofs.lemmas.Bool.Decides.{eqb_tells}
@@ -10,73 +10,40 @@ use Rattle.state_core.specs.Lawful.{IsValidZone}
 use Rattle.state_core.specs.Marking.{block_marked, block_unmarked}
 use Rattle.state_core.specs.ZoneState.{ZoneState}
 use Rattle.state_core.proofs.Entries.{contains_insert_same, contains_insert_other, contains_remove_same, contains_remove_other}
-use Rattle.state_core.proofs.Quiet.{begun_more, swept_ended}
+use Rattle.state_core.proofs.Noted.{journal_noted}
+use Rattle.state_core.proofs.Quiet.{fingers_ended}
 
 module _ (v : ZoneState) (law : IsValidZone v) (spare : length (out v.records) < v.room) (block : ℕ) where
   marks_more : (b : ℕ) → set.contains (set.insert v.marked block) b ≡ is_marked_by (Mark block ∷ v.records) b
   marks_more b = elim (eqb_tells b block) [
     | inl same ↦ contains_insert_same v.marked block b same.1 ∙ sym (cond-true (nat_eq block b) true (is_marked_by v.records b) (eq-eqb block b (sym same.1)))
-    | inr other ↦ contains_insert_other v.marked block b other.1 ∙ law.marks b ∙ sym (cond-false (nat_eq block b) true (is_marked_by v.records b) (ne_eqb block b (λ e. other.1 (sym e))))
+    | inr other ↦ contains_insert_other v.marked block b other.1 ∙ law.agrees.marks b ∙ sym (cond-false (nat_eq block b) true (is_marked_by v.records b) (ne_eqb block b (λ e. other.1 (sym e))))
   ]
 
   marks_fewer : (b : ℕ) → set.contains (set.remove v.marked block) b ≡ is_marked_by (Unmark block ∷ v.records) b
   marks_fewer b = elim (eqb_tells b block) [
     | inl same ↦ contains_remove_same v.marked block b same.1 ∙ sym (cond-true (nat_eq block b) false (is_marked_by v.records b) (eq-eqb block b (sym same.1)))
-    | inr other ↦ contains_remove_other v.marked block b other.1 ∙ law.marks b ∙ sym (cond-false (nat_eq block b) false (is_marked_by v.records b) (ne_eqb block b (λ e. other.1 (sym e))))
+    | inr other ↦ contains_remove_other v.marked block b other.1 ∙ law.agrees.marks b ∙ sym (cond-false (nat_eq block b) false (is_marked_by v.records b) (ne_eqb block b (λ e. other.1 (sym e))))
   ]
 
   pub lawful_marked : IsValidZone (block_marked v block)
   lawful_marked = record {
     size = law.size;
-    places = (let before = law.places in omega arith);
-    serials = law.serials;
-    truthful = law.truthful;
-    well_ended = law.well_ended;
-    room_left = omega arith;
-    named = law.named;
-    in_use = law.in_use;
-    numbered = law.numbered;
-    under_way = law.under_way;
-    upward = law.upward;
-    apart = law.apart;
-    within = law.within;
-    clear = law.clear;
+    journal = journal_noted (Mark block) law.journal spare law.journal.truthful law.journal.well_ended law.journal.serials refl;
+    agrees = record { named = law.agrees.named; in_use = law.agrees.in_use; under_way = law.agrees.under_way; handed = law.agrees.handed; marks = marks_more };
+    pages = law.pages;
     blocks = law.blocks;
-    disjoint = law.disjoint;
-    contents = law.contents;
-    handed = law.handed;
-    marks = marks_more;
-    unmovable = law.unmovable;
-    fingers = law.fingers;
-    begun = λ start e. begun_more v.records (Mark block) v.round law.begun start e;
-    swept = swept_ended v (block_marked v block) (Mark block) law refl refl refl;
+    fingers = fingers_ended v (block_marked v block) (Mark block) law law.fingers.ordered refl refl refl;
     sum = law.sum;
   }
 
   pub lawful_unmarked : IsValidZone (block_unmarked v block)
   lawful_unmarked = record {
     size = law.size;
-    places = (let before = law.places in omega arith);
-    serials = law.serials;
-    truthful = law.truthful;
-    well_ended = law.well_ended;
-    room_left = omega arith;
-    named = law.named;
-    in_use = law.in_use;
-    numbered = law.numbered;
-    under_way = law.under_way;
-    upward = law.upward;
-    apart = law.apart;
-    within = law.within;
-    clear = law.clear;
+    journal = journal_noted (Unmark block) law.journal spare law.journal.truthful law.journal.well_ended law.journal.serials refl;
+    agrees = record { named = law.agrees.named; in_use = law.agrees.in_use; under_way = law.agrees.under_way; handed = law.agrees.handed; marks = marks_fewer };
+    pages = law.pages;
     blocks = law.blocks;
-    disjoint = law.disjoint;
-    contents = law.contents;
-    handed = law.handed;
-    marks = marks_fewer;
-    unmovable = law.unmovable;
-    fingers = law.fingers;
-    begun = λ start e. begun_more v.records (Unmark block) v.round law.begun start e;
-    swept = swept_ended v (block_unmarked v block) (Unmark block) law refl refl refl;
+    fingers = fingers_ended v (block_unmarked v block) (Unmark block) law law.fingers.ordered refl refl refl;
     sum = law.sum;
   }

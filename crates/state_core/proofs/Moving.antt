@@ -69,9 +69,9 @@ module _ {v : ZoneState} {page : ℕ} {old new : Placement} (can : CanSettle v p
         serials = recorded.serials;
         spare = recorded.spare;
         room_left = recorded.room_left;
-        named = λ a q is. (let before = law.named a q (sym (still.names a) ∙ is) in (before.0, some_same q ∙ before.1));
+        named = λ a q is. (let before = law.agrees.named a q (sym (still.names a) ∙ is) in (before.0, some_same q ∙ before.1));
         in_use = λ q used.
-            let before = law.in_use q (sym (some_same q) ∙ used) in
+            let before = law.agrees.in_use q (sym (some_same q) ∙ used) in
             let m = still.maps q in
             let p = still.pins q in
             (omega (arith, before.0, m), omega (arith, before.1, m), omega (arith, before.2, p));
@@ -80,5 +80,5 @@ module _ {v : ZoneState} {page : ℕ} {old new : Placement} (can : CanSettle v p
         ways = recorded.ways;
         handed = still.handed;
         marks = still.marks;
-        stay = λ q e. some_same q ∙ law.unmovable q e;
+        stay = λ q e. some_same q ∙ law.pages.unmovable q e;
       })

@@ -1,5 +1,5 @@
 -- One more record leaves a zone lawful where each page stays in its place.
-use Rattle.std.proofs.Common.{◌≡◌, ℕ, ◌<◌, ◌≤◌, ◌^◌, ◌∷◌, length, arith, Some, IsSome, sym, ◌∙◌}
+use Rattle.std.proofs.Common.{◌≡◌, ℕ, ◌<◌, ◌≤◌, ◌^◌, ◌-◌, List, ◌∷◌, length, arith, ap, Some, IsSome, sym, ◌∙◌}
 use Rattle.std.specs.Prelude.{◌↔◌}
 use Rattle.std.specs.FinMap as map
 use Rattle.frame_core.specs.Address.{InRange}
@@ -9,7 +9,7 @@ use Rattle.frame_core.specs.Blocks.{handed_out_by, is_marked_by}
 use Rattle.frame_core.specs.History.{page_at, maps, pins}
 use Rattle.frame_core.specs.Moves.{isolated, out, IsWellEnded}
 use Rattle.frame_core.specs.Truth.{IsTruthful}
-use Rattle.state_core.specs.Lawful.{IsValidZone}
+use Rattle.state_core.specs.Lawful.{IsValidZone, HasValidJournal}
 use Rattle.state_core.specs.Swept.{SweptIfQuiet}
 use Rattle.state_core.specs.ZoneState.{ZoneState, noted}
 use Rattle.state_core.proofs.Places.{IsOutWith}
@@ -28,32 +28,24 @@ pub record IsNoted (v : ZoneState) (entry : Record) : Type 0 where
   pub marks : (block : ℕ) → is_marked_by (entry ∷ v.records) block ≡ is_marked_by v.records block
   pub swept : SweptIfQuiet (noted v entry)
 
+-- a record that neither isolates a page nor ends its move leaves the journal valid, where it has a place for it
+pub journal_noted : {records : List Record} {room : ℕ} (entry : Record) → HasValidJournal records room → length (out records) < room → IsTruthful (entry ∷ records) → IsWellEnded (entry ∷ records) → isolated (entry ∷ records) < 2 ^ 32 → out (entry ∷ records) ≡ out records → HasValidJournal (entry ∷ records) (room - 1)
+journal_noted entry journal spare truthful well_ended serials out =
+    record { places = (let before = journal.places in omega arith); serials = serials; truthful = truthful; well_ended = well_ended; room_left = omega (arith, ap (λ (list : List ℕ). length list) out) }
+
 pub lawful_noted : (v : ZoneState) → IsValidZone v → (entry : Record) → length (out v.records) < v.room → IsNoted v entry → IsValidZone (noted v entry)
-lawful_noted v law entry spare told =
-    let same : length (out (entry ∷ v.records)) ≡ length (out v.records) = λ i. length (told.out i) in
-    record {
-      size = law.size;
-      places = (let before = law.places in omega arith);
-      serials = told.serials;
-      truthful = told.truthful;
-      well_ended = told.well_ended;
-      room_left = omega arith;
-      named = told.named;
-      in_use = told.in_use;
-      numbered = law.numbered;
-      under_way = λ page serial. (λ under. (told.ways page serial).0 ((law.under_way page serial).0 under), λ way. (law.under_way page serial).1 ((told.ways page serial).1 way));
-      upward = law.upward;
-      apart = law.apart;
-      within = law.within;
-      clear = law.clear;
-      blocks = law.blocks;
-      disjoint = law.disjoint;
-      contents = law.contents;
-      handed = λ first. law.handed first ∙ sym (told.handed first);
-      marks = λ block. law.marks block ∙ sym (told.marks block);
-      unmovable = law.unmovable;
-      fingers = law.fingers;
-      begun = λ start e. begun_more v.records entry v.round law.begun start e;
-      swept = told.swept;
-      sum = omega (arith, law.sum, same);
-    }
+lawful_noted v law entry spare told = record {
+  size = law.size;
+  journal = journal_noted entry law.journal spare told.truthful told.well_ended told.serials told.out;
+  agrees = record {
+    named = told.named;
+    in_use = told.in_use;
+    under_way = λ page serial. (λ under. (told.ways page serial).0 ((law.agrees.under_way page serial).0 under), λ way. (law.agrees.under_way page serial).1 ((told.ways page serial).1 way));
+    handed = λ first. law.agrees.handed first ∙ sym (told.handed first);
+    marks = λ block. law.agrees.marks block ∙ sym (told.marks block);
+  };
+  pages = law.pages;
+  blocks = law.blocks;
+  fingers = record { ordered = law.fingers.ordered; begun = λ start e. begun_more v.records entry v.round law.fingers.begun start e; swept = told.swept };
+  sum = omega (arith, law.sum, ap (λ (list : List ℕ). length list) told.out);
+}

@@ -50,27 +50,27 @@ module _ (words number blocks places : ℕ) where
   pub opened_lawful : IsSize blocks → places ≤ 2 ^ 53 → IsValidZone new_zone
   opened_lawful size few = record {
     size = size;
-    places = omega arith;
-    serials = omega arith;
-    truthful = tt;
-    well_ended = tt;
-    room_left = omega arith;
-    named = λ address page e. cc;
-    in_use = λ page used. absurd (both_ways _ (ap is_some (no_page page)) used);
-    numbered = λ page used. absurd (both_ways _ (ap is_some (no_page page)) used);
-    under_way = λ page serial. (λ h. absurd (both_ways _ (ap (λ o. is_under o serial) (no_page page)) h), λ h. absurd (both_ways false refl h.0));
-    upward = λ page serial source target e. absurd (none-some _ (sym (no_page page) ∙ e));
-    apart = λ p q frame h k. absurd (both_ways _ (untaken p frame) h);
-    within = λ page frame h. absurd (both_ways _ (untaken page frame) h);
-    clear = λ page frame h. absurd (both_ways _ (untaken page frame) h);
-    blocks = λ first order e. absurd (none-some _ (sym (no_block first) ∙ e));
-    disjoint = λ a b frame h k. absurd (both_ways _ (uncovered a frame) h);
-    contents = λ first. ap (option_map length) (map.get-empty nat_cmp first) ∙ sym (ap (option_map (λ order. 2 ^ order * words)) (no_block first));
-    handed = no_block;
-    marks = set.contains-empty nat_cmp;
-    unmovable = λ page e. absurd (both_ways _ (set.contains-empty nat_cmp page) e);
-    fingers = (omega arith, omega arith);
-    begun = λ start e. cc;
-    swept = λ quiet. cc;
+    journal = record { places = omega arith; serials = omega arith; truthful = tt; well_ended = tt; room_left = omega arith };
+    agrees = record {
+      named = λ address page e. cc;
+      in_use = λ page used. absurd (both_ways _ (ap is_some (no_page page)) used);
+      under_way = λ page serial. (λ h. absurd (both_ways _ (ap (λ o. is_under o serial) (no_page page)) h), λ h. absurd (both_ways false refl h.0));
+      handed = no_block;
+      marks = set.contains-empty nat_cmp;
+    };
+    pages = record {
+      numbered = λ page used. absurd (both_ways _ (ap is_some (no_page page)) used);
+      upward = λ page serial source target e. absurd (none-some _ (sym (no_page page) ∙ e));
+      apart = λ p q frame h k. absurd (both_ways _ (untaken p frame) h);
+      within = λ page frame h. absurd (both_ways _ (untaken page frame) h);
+      clear = λ page frame h. absurd (both_ways _ (untaken page frame) h);
+      unmovable = λ page e. absurd (both_ways _ (set.contains-empty nat_cmp page) e);
+    };
+    blocks = record {
+      each = λ first order e. absurd (none-some _ (sym (no_block first) ∙ e));
+      disjoint = λ a b frame h k. absurd (both_ways _ (uncovered a frame) h);
+      contents = λ first. ap (option_map length) (map.get-empty nat_cmp first) ∙ sym (ap (option_map (λ order. 2 ^ order * words)) (no_block first));
+    };
+    fingers = record { ordered = (omega arith, omega arith); begun = λ start e. cc; swept = λ quiet. cc };
     sum = omega (arith, free_count, page_count, held_count);
   }

@@ -116,7 +116,7 @@ module _ (v : ZoneState) (law : IsValidZone v) (swept : IsSwept v) (none : lengt
   -- a frame between the fingers that isn't free is a source
   source_at : (frame : ℕ) → frame < v.free → is_marked v frame ≡ false → is_free v frame ≡ false → (page : ℕ) × IsSource v page frame
   source_at frame high unmarked used =
-      let one = holds frame (omega (arith, law.fingers.1)) unmarked used in
+      let one = holds frame (omega (arith, law.fingers.ordered.1)) unmarked used in
       (one.0, record { here = one.1; movable = swept.movable one.0 frame one.1 unmarked; unmarked = unmarked; low = swept.below one.0 frame one.1 unmarked; high = high })
 
   -- where no search for a source stops below a bound, all frames below it are free
@@ -127,7 +127,7 @@ module _ (v : ZoneState) (law : IsValidZone v) (swept : IsSwept v) (none : lengt
 
   by_target : (source page : ℕ) → next_source v ≡ Some source → IsSource v page source → next_target v source ≡ None → IsParted v source
   by_target source page from is stays = record {
-    within = omega (arith, is.high, law.fingers.1);
+    within = omega (arith, is.high, law.fingers.ordered.1);
     low = free_below source (omega (arith, is.high)) (λ frame h. lowest_before (is_from v) v.free source frame from h);
     high = λ frame h within unmarked. elim (eqb_tells frame source) [
       | inl here ↦ ap (is_free v) here.1 ∙ full page source is.here
@@ -151,7 +151,7 @@ module _ (v : ZoneState) (law : IsValidZone v) (swept : IsSwept v) (none : lengt
     by_source None e = (
       v.free,
       record {
-        within = law.fingers.1;
+        within = law.fingers.ordered.1;
         low = free_below v.free (omega arith) (λ frame h. no_lowest (is_from v) v.free frame e h);
         high = swept.above;
       },
@@ -166,4 +166,4 @@ module _ (v : ZoneState) (law : IsValidZone v) (swept : IsSwept v) (none : lengt
 
 -- a quiet zone with no page out and no pair is packed
 pub packed_quiet : (v : ZoneState) → IsValidZone v → is_quiet v ≡ true → length (out v.records) ≡ 0 → HaveMet v → IsPacked v
-packed_quiet v law quiet = packed v law (law.swept quiet)
+packed_quiet v law quiet = packed v law (law.fingers.swept quiet)

@@ -142,7 +142,7 @@ no_page_pair v source from none = ap (pair_at v) from ∙ ap (λ (o : Option ℕ
 pub source_within : (v : ZoneState) → IsValidZone v → (source : ℕ) → next_source v ≡ Some source → source < frame_count v
 source_within v law source from =
     let found = lowest_some (is_from v) v.free source from in
-    omega (arith, found.0, law.fingers.1)
+    omega (arith, found.0, law.fingers.ordered.1)
 
 -- the pair that the search finds has the source, its page and the target that were found
 pub pair_of : (v : ZoneState) (source page target : ℕ) → next_source v ≡ Some source →

@@ -35,12 +35,12 @@ module _ (v : ZoneState) (client : ℕ) (address : Address) (page : ℕ) (named 
   module _ (law : IsValidZone v) (spare : length (out v.records) < v.room) where
     pub lawful_pinned : pins v.records page < 255 → IsValidZone (pinned v client address)
     lawful_pinned few = lawful_noted v law (Pin client address) spare (record {
-      truthful = law.truthful;
-      well_ended = law.well_ended;
-      serials = law.serials;
-      named = law.named;
+      truthful = law.journal.truthful;
+      well_ended = law.journal.well_ended;
+      serials = law.journal.serials;
+      named = law.agrees.named;
       in_use = λ q used.
-          let before = law.in_use q used in
+          let before = law.agrees.in_use q used in
           elim (eqb_tells q page) [
             | inl same ↦ (before.0, before.1, omega (arith, ap (pins (pinned v client address).records) same.1, pins_one_more))
             | inr other ↦ (before.0, before.1, omega (arith, pinned_others q other.1, before.2))
@@ -54,11 +54,11 @@ module _ (v : ZoneState) (client : ℕ) (address : Address) (page : ℕ) (named 
 
     pub lawful_unpinned : IsValidZone (unpinned v client address)
     lawful_unpinned = lawful_noted v law (Unpin client address) spare (record {
-      truthful = law.truthful;
-      well_ended = law.well_ended;
-      serials = law.serials;
-      named = law.named;
-      in_use = λ q used. (let before = law.in_use q used in (before.0, before.1, omega (arith, before.2)));
+      truthful = law.journal.truthful;
+      well_ended = law.journal.well_ended;
+      serials = law.journal.serials;
+      named = law.agrees.named;
+      in_use = λ q used. (let before = law.agrees.in_use q used in (before.0, before.1, omega (arith, before.2)));
       out = refl;
       ways = λ p serial. (λ way. way, λ way. way);
       handed = λ first. refl;

@@ -158,8 +158,8 @@ module _ (v : ZoneState) (law : IsValidZone v) (none : length (out v.records) �
       frames_of_pages place (is_unmarked v) (frame_count v) placed.within placed.apart (frame_count v)
       ∙ count_same _ _ (frame_count v) (λ page h. same_side page (place page) (map.get v.placement page) refl refl)
       ∙ sym (frames_of_pages now (is_unmarked v) (frame_count v)
-      (λ page frame e. law.within page frame (frame_is _ frame e))
-      (λ p q frame a b. law.apart p q frame (frame_is _ frame a) (frame_is _ frame b)) (frame_count v))
+      (λ page frame e. law.pages.within page frame (frame_is _ frame e))
+      (λ p q frame a b. law.pages.apart p q frame (frame_is _ frame a) (frame_is _ frame b)) (frame_count v))
 
   taken_clear : (at : ℕ → Option ℕ) → ((page frame : ℕ) → at page ≡ Some frame → is_held v frame ≡ false) → (frame : ℕ) → is_taken at frame ≡ true → is_held v frame ≡ false
   taken_clear at clear frame e = let one = some_one (λ page. is_place (at page) frame) (frame_count v) e in clear one.0 frame (place_is (at one.0) frame one.2)
@@ -167,7 +167,7 @@ module _ (v : ZoneState) (law : IsValidZone v) (none : length (out v.records) �
   pub free_same : count_below (λ frame. is_unmarked v frame && is_left_free v place frame) (frame_count v) ≡ unmarked_free v
   free_same =
       let there = count_three (is_unmarked v) (is_taken place) (is_held v) (frame_count v) (λ k h. taken_clear place placed.clear k) in
-      let here = count_three (is_unmarked v) (is_taken now) (is_held v) (frame_count v) (λ k h. taken_clear now (λ page frame e. law.clear page frame (frame_is _ frame e)) k) in
+      let here = count_three (is_unmarked v) (is_taken now) (is_held v) (frame_count v) (λ k h. taken_clear now (λ page frame e. law.pages.clear page frame (frame_is _ frame e)) k) in
       let seen : unmarked_free v ≡ count_below (λ frame. is_unmarked v frame && (not (is_taken now frame) && not (is_held v frame))) (frame_count v) =
       count_same _ _ (frame_count v) (λ frame h. ap (λ b. is_unmarked v frame && (not b && not (is_held v frame))) (used_now frame)) in
       let same = taken_same in
@@ -217,8 +217,8 @@ frame_some (Some (Moving serial source target)) rest = absurd (rest serial sourc
 pub placed_now : (v : ZoneState) → IsValidZone v → length (out v.records) ≡ 0 → IsPlacement v (places_now v)
 placed_now v law none = record {
   same_pages = λ page. frame_some (map.get v.placement page) (at_rest v law none page);
-  within = λ page frame e. law.within page frame (frame_is _ frame e);
-  apart = λ p q frame a b. law.apart p q frame (frame_is _ frame a) (frame_is _ frame b);
-  clear = λ page frame e. law.clear page frame (frame_is _ frame e);
+  within = λ page frame e. law.pages.within page frame (frame_is _ frame e);
+  apart = λ p q frame a b. law.pages.apart p q frame (frame_is _ frame a) (frame_is _ frame b);
+  clear = λ page frame e. law.pages.clear page frame (frame_is _ frame e);
   marked = λ page frame m. (λ e. frame_at _ frame e, λ e. ap frame_of e);
 }

@@ -5,11 +5,11 @@ use Rattle.std.proofs.Math.Bool.{and-true}
 use Rattle.std.proofs.lemmas.Bool.{and_right, both_ways, cases_Bool}
 use Rattle.frame_core.specs.declared.record.Record.{Record}
 use Rattle.state_core.specs.declared.round.RoundStart.{RoundStart}
-use Rattle.state_core.specs.Lawful.{IsValidZone}
+use Rattle.state_core.specs.Lawful.{IsValidZone, HasValidFingers}
 use Rattle.state_core.specs.Pairs.{is_calm}
 use Rattle.state_core.specs.Rounds.{round_begun}
 use Rattle.state_core.specs.Swept.{SweptIfQuiet}
-use Rattle.state_core.specs.ZoneState.{ZoneState, noted, keeps_quiet, since, is_quiet, is_quiet_since}
+use Rattle.state_core.specs.ZoneState.{ZoneState, frame_count, noted, keeps_quiet, since, is_quiet, is_quiet_since}
 
 since_more : (n : ℕ) (entry : Record) (records : List Record) → n ≤ length records → since n (entry ∷ records) ≡ entry ∷ since n records
 since_more n entry records h =
@@ -51,16 +51,24 @@ quiet_is_calm v = sym (quiet_begun v.records (record { records = length v.record
 
 -- the records of a load, a store, an isolation and a move leave a quiet round quiet, and each other record ends that
 pub quiet_noted : (v : ZoneState) → IsValidZone v → (entry : Record) → is_quiet (noted v entry) ≡ (is_quiet v && keeps_quiet entry)
-quiet_noted v law entry = quiet_next v.records entry v.round law.begun
+quiet_noted v law entry = quiet_next v.records entry v.round law.fingers.begun
 
 -- a call whose record ends the quiet does so whatever else it changes
 module _ (v next : ZoneState) (entry : Record) (law : IsValidZone v) where
   pub quiet_stops : keeps_quiet entry ≡ false → next.records ≡ entry ∷ v.records → next.round ≡ v.round → is_quiet next ≡ false
-  quiet_stops ends records round = (λ i. is_quiet_since (records i) (round i)) ∙ quiet_ended v.records entry v.round ends law.begun
+  quiet_stops ends records round = (λ i. is_quiet_since (records i) (round i)) ∙ quiet_ended v.records entry v.round ends law.fingers.begun
 
   pub swept_ended : keeps_quiet entry ≡ false → next.records ≡ entry ∷ v.records → next.round ≡ v.round → SweptIfQuiet next
   swept_ended ends records round quiet = absurd (both_ways _ (quiet_stops ends records round) quiet)
 
+  -- the fingers are valid after such a call, where it leaves them in order
+  pub fingers_ended : (next.migrate ≤ next.free) × (next.free ≤ frame_count next) → keeps_quiet entry ≡ false → next.records ≡ entry ∷ v.records → next.round ≡ v.round → HasValidFingers next
+  fingers_ended ordered ends records round = record {
+    ordered = ordered;
+    begun = λ start e. (let before = law.fingers.begun start (sym round ∙ e) in omega (arith, before, ap (λ (rs : List Record). length rs) records));
+    swept = swept_ended ends records round;
+  }
+
 -- a round that is quiet after such a record was quiet before
 pub quiet_before : (v : ZoneState) (entry : Record) → IsValidZone v → keeps_quiet entry ≡ true → is_quiet_since (entry ∷ v.records) v.round ≡ true → is_quiet v ≡ true
-quiet_before v entry law keeps quiet = sym (quiet_kept v.records entry v.round keeps law.begun) ∙ quiet
+quiet_before v entry law keeps quiet = sym (quiet_kept v.records entry v.round keeps law.fingers.begun) ∙ quiet

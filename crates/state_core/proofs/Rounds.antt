@@ -24,29 +24,16 @@ calm v none free = sym (λ i. eq-eqb (length (out v.records)) 0 none i && not (n
 pub lawful_from : (v : ZoneState) → IsValidZone v → (start : RoundStart) → start.records ≡ length v.records → start.calm ≡ is_calm v → IsValidZone (begun v start)
 lawful_from v law start here as_calm = record {
   size = law.size;
-  places = law.places;
-  serials = law.serials;
-  truthful = law.truthful;
-  well_ended = law.well_ended;
-  room_left = law.room_left;
-  named = law.named;
-  in_use = law.in_use;
-  numbered = law.numbered;
-  under_way = law.under_way;
-  upward = law.upward;
-  apart = law.apart;
-  within = law.within;
-  clear = law.clear;
+  journal = law.journal;
+  agrees = law.agrees;
+  pages = law.pages;
   blocks = law.blocks;
-  disjoint = law.disjoint;
-  contents = law.contents;
-  handed = law.handed;
-  marks = law.marks;
-  unmovable = law.unmovable;
-  fingers = (omega arith, omega arith);
-  begun = λ other e. (let same : start.records ≡ other.records =
-      ap (λ (s : RoundStart). s.records) (same_Some start other e) in omega arith);
-  swept = λ quiet. swept_begun v law (sym as_calm ∙ quiet_begun v.records start here ∙ quiet) start;
+  fingers = record {
+    ordered = (omega arith, omega arith);
+    begun = λ other e. (let same : start.records ≡ other.records =
+        ap (λ (s : RoundStart). s.records) (same_Some start other e) in omega arith);
+    swept = λ quiet. swept_begun v law (sym as_calm ∙ quiet_begun v.records start here ∙ quiet) start;
+  };
   sum = law.sum;
 }
 

@@ -56,15 +56,15 @@ module _ (v : ZoneState) (client : ℕ) (address alias : Address) (page frame : 
   lawful_shared =
       let law = can.lawful in
       lawful_noted v law (Share client address alias) can.spare (record {
-        truthful = law.truthful;
-        well_ended = law.well_ended;
-        serials = law.serials;
+        truthful = law.journal.truthful;
+        well_ended = law.journal.well_ended;
+        serials = law.journal.serials;
         named = λ a q is. elim (cases_Bool (same_address a alias)) [
-          | inl here ↦ (subst InRange (sym (one_address a alias here)) can.range, (law.named address q (can.named ∙ sym (named_here a here) ∙ is)).1)
-          | inr there ↦ law.named a q (sym (named_there a there) ∙ is)
+          | inl here ↦ (subst InRange (sym (one_address a alias here)) can.range, (law.agrees.named address q (can.named ∙ sym (named_here a here) ∙ is)).1)
+          | inr there ↦ law.agrees.named a q (sym (named_there a there) ∙ is)
         ];
         in_use = λ q used.
-            let before = law.in_use q used in
+            let before = law.agrees.in_use q used in
             elim (eqb_tells q page) [
               | inl same ↦
                   (let more : maps next.records q ≡ maps v.records q + 1 = ap (maps next.records) same.1 ∙ maps_one_more ∙ ap (λ (p : ℕ). maps v.records p + 1) (sym same.1) in

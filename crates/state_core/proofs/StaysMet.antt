@@ -79,4 +79,4 @@ module _ (v : ZoneState) (page serial source target : ℕ) (law : IsValidZone v)
 -- in a quiet round a moving page has no pin
 pub never_pinned : (v : ZoneState) (page serial source target : ℕ) → IsValidZone v → map.get v.placement page ≡ Some (Moving serial source target) → is_quiet v ≡ true → not (nat_eq (pins v.records page) 0) ≡ true → ⊥
 never_pinned v page serial source target law at quiet pinned =
-    both_ways _ (ap not (eq-eqb (pins v.records page) 0 (no_pin v page serial source target law (law.swept quiet) at))) pinned
+    both_ways _ (ap not (eq-eqb (pins v.records page) 0 (no_pin v page serial source target law (law.fingers.swept quiet) at))) pinned

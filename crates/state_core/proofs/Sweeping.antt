@@ -54,7 +54,7 @@ module _ (v : ZoneState) (law : IsValidZone v) (calm : is_calm v ≡ true) where
     above = λ frame high within unmarked. absurd (omega arith);
     unheld = λ frame within unmarked. (loose frame within unmarked).0;
     movable = λ page frame at unmarked.
-        let stays = (loose frame (law.within page frame (at_takes _ frame at)) unmarked).1 in
+        let stays = (loose frame (law.pages.within page frame (at_takes _ frame at)) unmarked).1 in
         not-false (can_move v page) (ap (stays_if_some v) (sym (holder_at v law page frame at)) ∙ stays);
     ways = λ page serial source target at. absurd (at_rest v law none_out page serial source target at);
   }
@@ -116,7 +116,7 @@ module _ (v : ZoneState) (pair : Pair) (law : IsValidZone v) (swept : IsSwept v)
         elim (leb_tells (pair.source + 1) frame) [
           | inl past ↦ past.1
           | inr under ↦ elim (eqb_tells frame pair.source) [
-            | inl here ↦ absurd (old.0 (law.apart page pair.page frame (at_takes _ frame old.1) (at_takes _ frame (is.from.here ∙ ap (λ (f : ℕ). Some (At f)) (sym here.1)))))
+            | inl here ↦ absurd (old.0 (law.pages.apart page pair.page frame (at_takes _ frame old.1) (at_takes _ frame (is.from.here ∙ ap (λ (f : ℕ). Some (At f)) (sym here.1)))))
             | inr other ↦
                 (let high = is.from.high in
                 let ne = other.1 in
@@ -175,7 +175,7 @@ module _ (v : ZoneState) (page serial source target : ℕ) (law : IsValidZone v)
       let way = swept.ways page serial source target at in
       let low = way.low in
       let high = way.high in
-      let fingers = law.fingers.0 in
+      let fingers = law.fingers.ordered.0 in
       record {
         below = λ q frame here unmarked. elim (eqb_tells q page) [
           | inl same ↦

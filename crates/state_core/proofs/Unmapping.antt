@@ -19,7 +19,7 @@ use Rattle.state_core.proofs.Entries.{contains_remove_same, contains_remove_othe
 use Rattle.state_core.proofs.Facts.{not_none}
 use Rattle.state_core.proofs.Noted.{lawful_noted}
 use Rattle.state_core.proofs.Quiet.{swept_ended}
-use Rattle.state_core.proofs.Places.{CanChangePlace, HasLawfulPlaces, IsTold, with_place, where_is, ways_of, lawful_places, free_left, free_kept, free_count, page_count, lawful_told}
+use Rattle.state_core.proofs.Places.{CanChangePlace, IsTold, with_place, where_is, ways_of, free_left, free_kept, free_count, page_count, lawful_told}
 
 -- what has to hold so that an address can be unmapped
 pub record CanUnmap (v : ZoneState) (address : Address) (page frame : ℕ) : Type 0 where
@@ -42,7 +42,7 @@ module _ (v : ZoneState) (client : ℕ) (address : Address) (page frame : ℕ) (
   maps_then : (q : ℕ) → maps after.records q + one_if (nat_eq page q) ≡ maps v.records q
   maps_then q = omega (
     arith,
-    maps_changed v.records after.records address (can.lawful.named address page can.named).0 named_there q,
+    maps_changed v.records after.records address (can.lawful.agrees.named address page can.named).0 named_there q,
     ap (λ (o : Option ℕ). one_if (is_page o q)) can.named,
     ap (λ (o : Option ℕ). one_if (is_page o q)) (named_here address (and_from _ _ (eq-eqb address.space address.space refl) (eq-eqb address.vpage address.vpage refl))),
   )
@@ -65,12 +65,12 @@ module _ (v : ZoneState) (client : ℕ) (address : Address) (page frame : ℕ) (
   lawful_still more =
       let law = can.lawful in
       lawful_noted v law (Unmap client address) can.spare (record {
-        truthful = law.truthful;
-        well_ended = law.well_ended;
-        serials = law.serials;
-        named = λ a q is. law.named a q (named_before a q is);
+        truthful = law.journal.truthful;
+        well_ended = law.journal.well_ended;
+        serials = law.journal.serials;
+        named = λ a q is. law.agrees.named a q (named_before a q is);
         in_use = λ q used.
-            let before = law.in_use q used in
+            let before = law.agrees.in_use q used in
             elim (eqb_tells q page) [
               | inl same ↦
                   (let fewer : maps after.records q + 1 ≡ maps v.records q = ap (λ (p : ℕ). maps after.records p + 1) same.1 ∙ maps_one_less ∙ ap (maps v.records) (sym same.1) in
@@ -90,10 +90,7 @@ module _ (v : ZoneState) (client : ℕ) (address : Address) (page frame : ℕ) (
   next = with_place v page None
 
   pub can_unmap : CanChangePlace v page (Some (At frame)) None
-  can_unmap = record { lawful = can.lawful; at = can.at; numbered = can.lawful.numbered page (not_none _ (At frame) can.at); takes = λ g e. cc; upward = λ serial source target e. cc }
-
-  pub unmapped_places : HasLawfulPlaces next
-  unmapped_places = lawful_places can_unmap
+  can_unmap = record { lawful = can.lawful; at = can.at; numbered = can.lawful.pages.numbered page (not_none _ (At frame) can.at); takes = λ g e. cc; upward = λ serial source target e. cc }
 
   -- after the page's last unmap, only its frame differs in being free
   pub unmapped_others : (g : ℕ) → g ≢ frame → is_free next g ≡ is_free v g
@@ -120,7 +117,7 @@ module _ (v : ZoneState) (client : ℕ) (address : Address) (page frame : ℕ) (
   -- no other address names the page
   pub none_left : maps v.records page ≡ 1 → (a : Address) (q : ℕ) → page_at after.records a ≡ Some q → q ≢ page
   none_left one a q is same =
-      let range = (can.lawful.named a q (named_before a q is)).0 in
+      let range = (can.lawful.agrees.named a q (named_before a q is)).0 in
       let some = maps_some after.records page a range (ap (λ (o : Option ℕ). is_page o page) is ∙ eq-eqb q page same) in
       absurd (omega (arith, maps_one_less))
 
@@ -129,30 +126,30 @@ module _ (v : ZoneState) (client : ℕ) (address : Address) (page frame : ℕ) (
       let law = can.lawful in
       let room = can.spare in
       record {
-        truthful = law.truthful;
-        well_ended = law.well_ended;
-        serials = law.serials;
+        truthful = law.journal.truthful;
+        well_ended = law.journal.well_ended;
+        serials = law.journal.serials;
         spare = omega arith;
         room_left = omega arith;
-        named = λ a q is. (let before = law.named a q (named_before a q is) in (before.0, still_used q (none_left one a q is) before.1));
+        named = λ a q is. (let before = law.agrees.named a q (named_before a q is) in (before.0, still_used q (none_left one a q is) before.1));
         in_use = λ q used.
             let was = was_used q used in
-            let before = law.in_use q was.1 in
+            let before = law.agrees.in_use q was.1 in
             let same = maps_others q was.0 in
             (omega (arith, before.0), omega (arith, before.1), before.2);
-        own_way = λ serial. (λ under. cc, λ way. absurd (both_ways _ (ap (λ o. is_under o serial) can.at) ((law.under_way page serial).1 way)));
+        own_way = λ serial. (λ under. cc, λ way. absurd (both_ways _ (ap (λ o. is_under o serial) can.at) ((law.agrees.under_way page serial).1 way)));
         other_ways = λ q serial ne. (λ way. way, λ way. way);
         ways = ap (λ o. length (out v.records) + ways_of o) can.at;
         handed = λ first. refl;
         marks = λ block. refl;
         stay = λ q e. elim (eqb_tells q page) [
           | inl same ↦ absurd (both_ways _ (contains_remove_same v.unmovable page q same.1) e)
-          | inr other ↦ still_used q other.1 (law.unmovable q (sym (contains_remove_other v.unmovable page q other.1) ∙ e))
+          | inr other ↦ still_used q other.1 (law.pages.unmovable q (sym (contains_remove_other v.unmovable page q other.1) ∙ e))
         ];
       }
 
   pub lawful_gone : maps v.records page ≡ 1 → IsValidZone (without_page after page)
-  lawful_gone one = lawful_told can_unmap (Unmap client address) _ (unmap_told one) v.migrate v.free can.lawful.fingers (swept_ended v (without_page after page) (Unmap client address) can.lawful refl refl refl)
+  lawful_gone one = lawful_told can_unmap (Unmap client address) _ (unmap_told one) v.migrate v.free can.lawful.fingers.ordered (swept_ended v (without_page after page) (Unmap client address) can.lawful refl refl refl)
 
   -- the page of the address has one address exactly where the address is its last one
   pub is_last_by : is_last v address ≡ nat_eq (maps v.records page) 1

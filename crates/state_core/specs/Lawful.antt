@@ -1,11 +1,13 @@
 -- What is true of every zone, whatever calls were made.
-use Rattle.std.specs.Prelude.{◌≡◌, ℕ, ◌+◌, ◌*◌, ◌^◌, ◌<◌, ◌≤◌, ◌↔◌, Bool, true, false, length, nat_eq, Option, Some, None, is_some, IsSome, IsTrue}
+use Rattle.std.specs.Prelude.{◌≡◌, ℕ, ◌+◌, ◌*◌, ◌^◌, ◌<◌, ◌≤◌, ◌↔◌, Bool, true, false, List, length, nat_eq, Option, Some, None, is_some, IsSome, IsTrue}
 use Rattle.std.specs.FinMap as map
 use Rattle.std.specs.FinSet as set
 use Rattle.std.specs.Option.{option_map}
+use Rattle.std.specs.Ordering.{nat_cmp}
 use Rattle.frame_core.specs.Below.{count_below}
 use Rattle.frame_core.specs.Address.{InRange}
 use Rattle.frame_core.specs.declared.place.Address.{Address}
+use Rattle.frame_core.specs.declared.record.Record.{Record}
 use Rattle.frame_core.specs.Blocks.{handed_out_by, is_marked_by}
 use Rattle.frame_core.specs.History.{page_at, maps, pins}
 use Rattle.frame_core.specs.Moves.{isolated, out, is_out, page_of, IsWellEnded}
@@ -29,43 +31,66 @@ pub record IsBlock (frames first order : ℕ) : Type 0 where
   pub aligned : (k : ℕ) × (first ≡ k * 2 ^ order)
   pub within : first + 2 ^ order ≤ frames
 
--- what is true of every zone
-pub record IsValidZone (z : ZoneState) : Type 0 where
-  -- a zone has 1 to 8 pageblocks, and its journal at most 2^53 places
-  pub size : (0 < z.blocks) × (z.blocks ≤ 8)
-  pub places : length z.records + z.room ≤ 2 ^ 53
+-- the journal of a zone is valid, with this many places left in it
+pub record HasValidJournal (records : List Record) (room : ℕ) : Type 0 where
+  -- a journal has at most 2^53 places
+  pub places : length records + room ≤ 2 ^ 53
   -- a serial has 32 bits, and the next one has too, so that a zone isolates at most 2^32 - 1 pages in its life
-  pub serials : isolated z.records < 2 ^ 32
+  pub serials : isolated records < 2 ^ 32
   -- each load gave the last value stored, and each page that was isolated ended at most once
-  pub truthful : IsTruthful z.records
-  pub well_ended : IsWellEnded z.records
+  pub truthful : IsTruthful records
+  pub well_ended : IsWellEnded records
   -- the journal has a place for the end of each page that is out
-  pub room_left : length (out z.records) ≤ z.room
+  pub room_left : length (out records) ≤ room
+
+-- the pages, the blocks and the marks of a zone are those that its journal tells of
+pub record AgreesWithJournal (records : List Record) (placement : map.FinMap nat_cmp Placement) (handed_out : map.FinMap nat_cmp ℕ) (marked : set.FinSet nat_cmp) : Type 0 where
   -- only an address in range names a page, and only a page in use; each page in use has 1 to 4 addresses and at most 255 pins
-  pub named : (address : Address) (page : ℕ) → page_at z.records address ≡ Some page → InRange address × IsSome (map.get z.placement page)
-  pub in_use : (page : ℕ) → IsSome (map.get z.placement page) → (0 < maps z.records page) × (maps z.records page ≤ 4) × (pins z.records page ≤ 255)
-  pub numbered : (page : ℕ) → IsSome (map.get z.placement page) → page < frame_count z
+  pub named : (address : Address) (page : ℕ) → page_at records address ≡ Some page → InRange address × IsSome (map.get placement page)
+  pub in_use : (page : ℕ) → IsSome (map.get placement page) → (0 < maps records page) × (maps records page ≤ 4) × (pins records page ≤ 255)
   -- a page is moving under exactly the serial that it is out with
-  pub under_way : (page serial : ℕ) → IsTrue (is_under (map.get z.placement page) serial) ↔ (IsTrue (is_out z.records serial) × (page_of z.records serial ≡ Some page))
+  pub under_way : (page serial : ℕ) → IsTrue (is_under (map.get placement page) serial) ↔ (IsTrue (is_out records serial) × (page_of records serial ≡ Some page))
+  -- the journal handed out these blocks, and marked these pageblocks
+  pub handed : (first : ℕ) → map.get handed_out first ≡ handed_out_by records first
+  pub marks : (block : ℕ) → set.contains marked block ≡ is_marked_by records block
+
+-- the pages in use have valid places in a zone of this many frames; held tells which frames are in a block that is handed out,
+-- and fixed has the pages that are noted as unmovable
+pub record HasValidPages (placement : map.FinMap nat_cmp Placement) (fixed : set.FinSet nat_cmp) (frames : ℕ) (held : ℕ → Bool) : Type 0 where
+  pub numbered : (page : ℕ) → IsSome (map.get placement page) → page < frames
   -- a moving page goes to a higher frame
-  pub upward : (page serial source target : ℕ) → map.get z.placement page ≡ Some (Moving serial source target) → source < target
+  pub upward : (page serial source target : ℕ) → map.get placement page ≡ Some (Moving serial source target) → source < target
   -- a frame is of one page at most; it is in the zone, and in no block that is handed out
-  pub apart : (p q frame : ℕ) → takes_up (map.get z.placement p) frame ≡ true → takes_up (map.get z.placement q) frame ≡ true → p ≡ q
-  pub within : (page frame : ℕ) → takes_up (map.get z.placement page) frame ≡ true → frame < frame_count z
-  pub clear : (page frame : ℕ) → takes_up (map.get z.placement page) frame ≡ true → is_held z frame ≡ false
-  -- the blocks that are handed out are blocks of the zone, and no two of them overlap
-  pub blocks : (first order : ℕ) → map.get z.handed_out first ≡ Some order → IsBlock (frame_count z) first order
-  pub disjoint : (a b frame : ℕ) → covers (map.get z.handed_out a) a frame ≡ true → covers (map.get z.handed_out b) b frame ≡ true → a ≡ b
+  pub apart : (p q frame : ℕ) → takes_up (map.get placement p) frame ≡ true → takes_up (map.get placement q) frame ≡ true → p ≡ q
+  pub within : (page frame : ℕ) → takes_up (map.get placement page) frame ≡ true → frame < frames
+  pub clear : (page frame : ℕ) → takes_up (map.get placement page) frame ≡ true → held frame ≡ false
+  -- each page that is noted as unmovable is in use
+  pub unmovable : (page : ℕ) → set.contains fixed page ≡ true → IsSome (map.get placement page)
+
+-- the blocks that are handed out, in a zone of this many frames with this many words a page, are valid
+pub record HasValidBlocks (frames page_size : ℕ) (handed_out : map.FinMap nat_cmp ℕ) (words : map.FinMap nat_cmp (List ℕ)) : Type 0 where
+  -- each of them is a block of the zone, and no two of them overlap
+  pub each : (first order : ℕ) → map.get handed_out first ≡ Some order → IsBlock frames first order
+  pub disjoint : (a b frame : ℕ) → covers (map.get handed_out a) a frame ≡ true → covers (map.get handed_out b) b frame ≡ true → a ≡ b
   -- each of them has as many words as a page has for each of its frames, and there are no other words
-  pub contents : (first : ℕ) → option_map length (map.get z.contents first) ≡ option_map (λ order. 2 ^ order * z.page_size) (map.get z.handed_out first)
-  -- the blocks handed out and the marks are those that the journal tells of, and a page that is noted as unmovable is in use
-  pub handed : (first : ℕ) → map.get z.handed_out first ≡ handed_out_by z.records first
-  pub marks : (block : ℕ) → set.contains z.marked block ≡ is_marked_by z.records block
-  pub unmovable : (page : ℕ) → set.contains z.unmovable page ≡ true → IsSome (map.get z.placement page)
+  pub contents : (first : ℕ) → option_map length (map.get words first) ≡ option_map (λ order. 2 ^ order * page_size) (map.get handed_out first)
+
+-- the fingers of a zone are valid, and its latest round
+pub record HasValidFingers (z : ZoneState) : Type 0 where
   -- the fingers are in the zone, in order, and the latest round began when the journal had no more records than now
-  pub fingers : (z.migrate ≤ z.free) × (z.free ≤ frame_count z)
+  pub ordered : (z.migrate ≤ z.free) × (z.free ≤ frame_count z)
   pub begun : (start : RoundStart) → z.round ≡ Some start → start.records ≤ length z.records
   -- while the latest round is quiet, no page is left below the migrate finger, and no frame is free from the free finger on
   pub swept : SweptIfQuiet z
+
+-- what is true of every zone
+pub record IsValidZone (z : ZoneState) : Type 0 where
+  -- a zone has 1 to 8 pageblocks
+  pub size : (0 < z.blocks) × (z.blocks ≤ 8)
+  pub journal : HasValidJournal z.records z.room
+  pub agrees : AgreesWithJournal z.records z.placement z.handed_out z.marked
+  pub pages : HasValidPages z.placement z.unmovable (frame_count z) (is_held z)
+  pub blocks : HasValidBlocks (frame_count z) z.page_size z.handed_out z.contents
+  pub fingers : HasValidFingers z
   -- each frame is free, or of a page, or of a block that is handed out; a moving page has two frames
   pub sum : count_below (is_free z) (frame_count z) + count_below (λ page. is_some (map.get z.placement page)) (frame_count z) + length (out z.records) + count_below (is_held z) (frame_count z) ≡ frame_count z

@@ -96,7 +96,7 @@ stand_all zero z stand = stand
 stand_all (suc n) z stand = stand_all n (one z n) (by_one z n (StandFrom n) (λ here. stand_here z n stand here) (λ s a b at. stand_moved z n s stand))
 
 stand_past : (z : ZoneState) → IsValidZone z → StandFrom (frame_count z) z
-stand_past z law page low s a b at = let under = law.numbered page (not_none (map.get z.placement page) (Moving s a b) at) in absurd (omega arith)
+stand_past z law page low s a b at = let under = law.pages.numbered page (not_none (map.get z.placement page) (Moving s a b) at) in absurd (omega arith)
 
 -- zones in which no page is moving are the same if they come to the same
 
@@ -167,7 +167,7 @@ standing (Some (Moving t a b)) s e stands = stands t a b refl
 pub nothing_out : (z : ZoneState) → IsValidZone z → StandFrom 0 z → out z.records ≡ []
 nothing_out z law stand = none_out z.records (λ s. false_from_ne_true (is_out z.records s) (λ e.
     let page = some_is (page_of z.records s) (out_has_page z.records s e) in
-    standing (map.get z.placement page.0) s ((law.under_way page.0 s).1 (e, page.1)) (stand page.0 (omega arith))))
+    standing (map.get z.placement page.0) s ((law.agrees.under_way page.0 s).1 (e, page.1)) (stand page.0 (omega arith))))
 
 -- the zones of a round by hand
 

@@ -46,7 +46,7 @@ module _ (z : ZoneState) (law : IsValidZone z) (carried : AreCarriedUp z) (page 
   -- what a zone comes to is the same before and after
   pub outcome_moved : outcome_of (moved_to_target z serial page) ≡ outcome_of z
   outcome_moved =
-      let left = law.room_left in
+      let left = law.journal.room_left in
       let fewer = out_fewer z page serial source target law at in
       let room : (z.room - 1) - length (out (Moved serial ∷ z.records)) ≡ z.room - length (out z.records) = omega arith in
       let places : length (Moved serial ∷ z.records) + (z.room - 1) ≡ length z.records + z.room = omega arith in
@@ -73,7 +73,7 @@ module _ (z : ZoneState) (law : IsValidZone z) (carried : AreCarriedUp z) (page 
 
   pub seen_back : IsSeenAs sent_back z
   seen_back =
-      let left = law.room_left in
+      let left = law.journal.room_left in
       let fewer = out_fewer z page serial source target law at in
       let way = carried.each page serial source target at in
       let low = way.low in

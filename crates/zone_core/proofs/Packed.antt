@@ -25,7 +25,7 @@ use Rattle.zone_core.proofs.Scanning.{by_scan, lawful_scan, settled, within_fram
 -- the scanner leaves a round quiet
 
 quiet_scan : (z : ZoneState) → IsValidZone z → is_quiet z ≡ true → is_quiet (scan_step z) ≡ true
-quiet_scan z law quiet = by_scan z law (λ w. is_quiet w ≡ true) (λ e. quiet) (λ pair t. quiet_kept z.records (Isolate (isolated z.records) pair.page) z.round refl law.begun ∙ quiet)
+quiet_scan z law quiet = by_scan z law (λ w. is_quiet w ≡ true) (λ e. quiet) (λ pair t. quiet_kept z.records (Isolate (isolated z.records) pair.page) z.round refl law.fingers.begun ∙ quiet)
 
 quiet_steps : (n : ℕ) (z : ZoneState) → IsValidZone z → is_quiet z ≡ true → is_quiet (scan_steps n z) ≡ true
 quiet_steps zero z law quiet = quiet
@@ -41,8 +41,8 @@ record IsQuietMet (z : ZoneState) : Type 0 where
 met_one : (z : ZoneState) (n : ℕ) → IsQuietMet z → IsQuietMet (one z n)
 met_one z n was = by_one z n IsQuietMet (λ stands. was) (λ s a b at. record {
   moving = moving_moved z n s a b was.moving at;
-  quiet = quiet_kept z.records (Moved s) z.round refl was.moving.law.begun ∙ was.quiet;
-  met = met_moved z n s a b was.moving.law (was.moving.law.swept was.quiet) at was.met;
+  quiet = quiet_kept z.records (Moved s) z.round refl was.moving.law.fingers.begun ∙ was.quiet;
+  met = met_moved z n s a b was.moving.law (was.moving.law.fingers.swept was.quiet) at was.met;
 })
 
 met_below : (n : ℕ) (z : ZoneState) → IsQuietMet z → IsQuietMet (moved_below n z)

@@ -169,7 +169,7 @@ pub further : (n : ℕ) (z : ZoneState) → IsValidZone z → z.free - z.migrate
 further n z law within = in_turn n z ∙ ap (next_state (scan_steps n z)) (settled n z law within)
 
 pub within_frames : (z : ZoneState) → IsValidZone z → z.free - z.migrate ≤ frame_count z
-within_frames z law = let high = law.fingers.1 in omega arith
+within_frames z law = let high = law.fingers.ordered.1 in omega arith
 
 -- after a step, and after so many, the scanner still can't tell them apart
 

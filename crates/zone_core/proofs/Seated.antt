@@ -55,7 +55,7 @@ counted z v (Some a) error view law none isolated_is moved_is back_is sum =
       back = back_is;
       sum = sum;
       none_out = empty;
-      once = each_once z.records law.well_ended empty;
+      once = each_once z.records law.journal.well_ended empty;
     })
 
 none_out : (n : ℕ) (r : Result Audit ZoneError) (test : Bool) → nat_lt 0 n ≡ test → result_err r ≡ (if test then Some Out else None) → IsOk r ↔ (n ≡ 0)
@@ -84,7 +84,7 @@ module _ {t m b : ℕ} {z : ZoneState} (scan : ScanSeat) (ends : EndSeat) (r : R
     })
 
   balanced : length (out z.records) + ends.moved + ends.back ≡ scan.count
-  balanced = omega (arith, is_balanced z.records law.well_ended, s, in_moved, in_back, books.moved, books.back)
+  balanced = omega (arith, is_balanced z.records law.journal.well_ended, s, in_moved, in_back, books.moved, books.back)
 
   -- a whole end seat counts no more pages than were isolated
   pub counts_most : ends.moved + ends.back ≤ scan.count

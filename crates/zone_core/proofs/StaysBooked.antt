@@ -144,7 +144,7 @@ module _ {t m b : ℕ} (client : ℕ) where
 module _ {t m b n : ℕ} {v u : ZoneState} (serial page : ℕ) (law : IsValidZone v) (books : AreBooks t m b v) where
   pub booked_back : {cause : Cause} → u ≡ put_back_to_source v serial page cause → n ≡ b + 1 → AreBooks t m n u
   booked_back {cause} step more =
-      booked_loud u (entry.Back serial cause) law.begun books (ap (λ (z : ZoneState). z.records) step) (ap (λ (z : ZoneState). z.round) step) refl
+      booked_loud u (entry.Back serial cause) law.fingers.begun books (ap (λ (z : ZoneState). z.records) step) (ap (λ (z : ZoneState). z.round) step) refl
       books.moved (more ∙ ap (λ (k : ℕ). k + 1) books.back) refl
 
   module _ (step : u ≡ committed v serial page) where
@@ -152,7 +152,7 @@ module _ {t m b n : ℕ} {v u : ZoneState} (serial page : ℕ) (law : IsValidZon
     booked_moved is more stays = by (nat_eq (pins v.records page) 0) is step where
       by : (test : Bool) → (if test then ended.Moved else ended.Back) ≡ ended.Moved → u ≡ (if test then moved_to_target v serial page else put_back_to_source v serial page Pinned) → AreBooks t n b u
       by true same to =
-          booked_quiet u (entry.Moved serial) law.begun books (ap (λ (z : ZoneState). z.records) to) (ap (λ (z : ZoneState). z.round) to) refl
+          booked_quiet u (entry.Moved serial) law.fingers.begun books (ap (λ (z : ZoneState). z.records) to) (ap (λ (z : ZoneState). z.round) to) refl
           (more ∙ ap (λ (k : ℕ). k + 1) books.moved) books.back refl stays
       by false same to = absurd (not_moved same) where
         not_moved : ended.Back ≡ ended.Moved → ⊥
@@ -195,7 +195,7 @@ either_way P (Err e) err ok before after = subst P (sym err) before
 pub booked_made : {t m b W client : ℕ} {A : Type 0} {call : ZoneCall W} {old new : ZoneState} {r : Result A ZoneError}
     → IsMade call client old new r → IsValidZone old → AreBooks t m b old → AreBooks t m b new
 booked_made {t} {m} {b} {W} {client} {A} {call} {old} {new} {r} made law books =
-    either_way (AreBooks t m b) r made.err made.ok books (booked_call client call old law.begun books)
+    either_way (AreBooks t m b) r made.err made.ok books (booked_call client call old law.fingers.begun books)
 
 -- the first of two things that a refused call leaves
 pub first_left : {A E : Type 0} (P Q : Type 0) (r : Result A E) → OnErr r (P × Q) → OnErr r P

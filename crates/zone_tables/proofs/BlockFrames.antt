@@ -165,7 +165,7 @@ module _ {W : ℕ} (z : Inside W) (v : ZoneState) (sound : IsSound z v) (view : 
 -- a block is taken back
 module _ {W : ℕ} (z : Inside W) (v : ZoneState) (sound : IsSound z v) (view : state_of z ≡ v) (first order : ℕ) (at : map.get v.handed_out first ≡ Some order) where
   within_given : first + 2 ^ order ≤ frame_count v
-  within_given = (sound.lawful.blocks first order at).within
+  within_given = (sound.lawful.blocks.each first order at).within
 
   pub give_within : first + 2 ^ order ≤ length z.handed_out
   give_within = omega (arith, within_given, sound.orders)

@@ -90,7 +90,7 @@ module _ (v : ZoneState) (client : ℕ) (address : Address) (unmovable : Bool) (
     by_name : (o : Option ℕ) → page_at v.records b ≡ o → option_and_then (map.get next.placement) (page_at v.records b) ≡ option_and_then (map.get v.placement) (page_at v.records b)
     by_name None is = ap (option_and_then (map.get next.placement)) is ∙ sym (ap (option_and_then (map.get v.placement)) is)
     by_name (Some q) is =
-        let ne : q ≢ page = λ same. clash _ can.unused (ap (λ (p : ℕ). is_some (map.get v.placement p)) (sym same) ∙ (can.lawful.named b q is).1) in
+        let ne : q ≢ page = λ same. clash _ can.unused (ap (λ (p : ℕ). is_some (map.get v.placement p)) (sym same) ∙ (can.lawful.agrees.named b q is).1) in
         ap (option_and_then (map.get next.placement)) is ∙ at_other v client address unmovable page frame can q ne ∙ sym (ap (option_and_then (map.get v.placement)) is)
 
   placement_here : (b : Address) → same_address b address ≡ true → placement_at next b ≡ Some (At frame)
@@ -129,7 +129,7 @@ module _ (v : ZoneState) (client : ℕ) (address : Address) (unmovable : Bool) (
       ap (λ n. nat_eq n 0 && not (set.contains next.unmovable page)) (pins_none v client address unmovable page frame can)
       ∙ by_flag unmovable where
         never_used : (b : Bool) → set.contains v.unmovable page ≡ b → b ≡ false
-        never_used true e = absurd (clash _ can.unused (can.lawful.unmovable page e))
+        never_used true e = absurd (clash _ can.unused (can.lawful.pages.unmovable page e))
         never_used false e = refl
 
         by_flag : (b : Bool) → not (set.contains (if b then set.insert v.unmovable page else v.unmovable) page) ≡ not b

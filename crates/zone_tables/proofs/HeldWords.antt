@@ -103,8 +103,8 @@ blocks_apart v law a b order_a order_b at_a at_b ne =
       | inr over ↦ elim (leb_tells (b + 2 ^ order_b) a) [
         | inl apart ↦ inr apart.1
         | inr under ↦ elim (leb_tells a b) [
-          | inl low ↦ absurd (ne (law.disjoint a b b (covers_a b (in_block_from a order_a b low.1 over.1)) (covers_b b (in_block_from b order_b b (omega arith) (omega (arith, pow_pos order_b))))))
-          | inr high ↦ absurd (ne (law.disjoint a b a (covers_a a (in_block_from a order_a a (omega arith) (omega (arith, pow_pos order_a)))) (covers_b a (in_block_from b order_b a (omega (arith, high.1)) under.1))))
+          | inl low ↦ absurd (ne (law.blocks.disjoint a b b (covers_a b (in_block_from a order_a b low.1 over.1)) (covers_b b (in_block_from b order_b b (omega arith) (omega (arith, pow_pos order_b))))))
+          | inr high ↦ absurd (ne (law.blocks.disjoint a b a (covers_a a (in_block_from a order_a a (omega arith) (omega (arith, pow_pos order_a)))) (covers_b a (in_block_from b order_b a (omega (arith, high.1)) under.1))))
         ]
       ]
     ]
@@ -138,10 +138,10 @@ module _ {W : ℕ} (z : Inside W) (v : ZoneState) (sound : IsSound z v) (view : 
     held_is = ap (λ (o : Option (List ℕ)). unwrap_or o []) (sym (ap (option_map (words_held W z.words (true_at z.cleared first) first)) order_at) ∙ contents_seen first)
 
     pub block_listed : first < length z.cleared
-    block_listed = let block = (sound.lawful.blocks first order at).within in omega (arith, block, pow_pos order, sound.cleared)
+    block_listed = let block = (sound.lawful.blocks.each first order at).within in omega (arith, block, pow_pos order, sound.cleared)
 
     pub block_within : first + 2 ^ order ≤ length z.words
-    block_within = let block = (sound.lawful.blocks first order at).within in omega (arith, block, sound.words.count)
+    block_within = let block = (sound.lawful.blocks.each first order at).within in omega (arith, block, sound.words.count)
 
     module _ (rows : List (List ℕ)) (words : List ℕ) (has : HasBlock z.words rows first (2 ^ order) words) where
       -- the fields after the block got other words
@@ -172,7 +172,7 @@ module _ {W : ℕ} (z : Inside W) (v : ZoneState) (sound : IsSound z v) (view : 
       -- the frame with the words of a page is in no block
       page_off : (page : ℕ) (placement : _) → map.get v.placement page ≡ Some placement → (words_frame placement < first) ⊎ (first + 2 ^ order ≤ words_frame placement)
       page_off page placement e = off_block first order (words_frame placement) (elim (cases_Bool (in_block first order (words_frame placement))) [
-        | inl here ↦ absurd (both_ways _ (sound.lawful.clear page (words_frame placement) (ap (λ o. takes_up o (words_frame placement)) e ∙ takes_own placement)) (held_of v sound.lawful first order (words_frame placement) at here))
+        | inl here ↦ absurd (both_ways _ (sound.lawful.pages.clear page (words_frame placement) (ap (λ o. takes_up o (words_frame placement)) e ∙ takes_own placement)) (held_of v sound.lawful first order (words_frame placement) at here))
         | inr there ↦ there
       ])
 

@@ -63,7 +63,7 @@ module _ (entries : List Entry) (v : ZoneState) (fit : EntriesFit entries v) (la
     by_list : (b : Bool) → is_listed (entry_at entries a) frame ≡ b → b ≡ false
     by_list true e =
         let by = names_of a range frame e in
-        absurd (untrue _ (some_none (λ page. takes_up (map.get v.placement page) frame) (frame_count v) unused by.page (law.numbered by.page (not_none _ by.placement by.at))) by.takes)
+        absurd (untrue _ (some_none (λ page. takes_up (map.get v.placement page) frame) (frame_count v) unused by.page (law.pages.numbered by.page (not_none _ by.placement by.at))) by.takes)
     by_list false e = refl
 
   pub count_none : (frame : ℕ) → is_used v frame ≡ false → count_listed entries frame ≡ 0
@@ -77,7 +77,7 @@ module _ (entries : List Entry) (v : ZoneState) (fit : EntriesFit entries v) (la
     by_list : (b : Bool) (o : Option ℕ) → is_listed (entry_at entries a) frame ≡ b → page_at v.records a ≡ o → b ≡ is_page (page_at v.records a) page
     by_list true o e is =
         let by = names_of a range frame e in
-        let same : by.page ≡ page = law.apart by.page page frame by.takes (ap (λ (p : Option Placement). takes_up p frame) at ∙ eq-eqb frame frame refl) in
+        let same : by.page ≡ page = law.pages.apart by.page page frame by.takes (ap (λ (p : Option Placement). takes_up p frame) at ∙ eq-eqb frame frame refl) in
         sym (ap (λ (p : Option ℕ). is_page p page) by.named ∙ eq-eqb by.page page same)
     by_list false None e is = sym (ap (λ (p : Option ℕ). is_page p page) is)
     by_list false (Some q) e is = elim (eqb_tells q page) [
@@ -96,8 +96,8 @@ module _ (entries : List Entry) (v : ZoneState) (fit : EntriesFit entries v) (la
   fresh_serial a source range e =
       let way = migration_is (placement_at v a) (isolated v.records) source (sym (fit.each a range) ∙ e) in
       let page = page_named v a (Moving (isolated v.records) source way.0) way.1 in
-      let known = (law.under_way page.0 (isolated v.records)).0 (ap (λ (o : Option Placement). is_under o (isolated v.records)) page.2 ∙ eq-eqb (isolated v.records) (isolated v.records) refl) in
-      let below = out_below v.records law.well_ended (isolated v.records) known.0 in
+      let known = (law.agrees.under_way page.0 (isolated v.records)).0 (ap (λ (o : Option Placement). is_under o (isolated v.records)) page.2 ∙ eq-eqb (isolated v.records) (isolated v.records) refl) in
+      let below = out_below v.records law.journal.well_ended (isolated v.records) known.0 in
       absurd (omega (arith, below))
 
   -- no address names a page that left a frame which no page takes up, or which holds a page
@@ -108,7 +108,7 @@ module _ (entries : List Entry) (v : ZoneState) (fit : EntriesFit entries v) (la
   pub page_rests : (page frame : ℕ) → map.get v.placement page ≡ Some (At frame) → (a : Address) (serial : ℕ) → InRange a → entry_at entries a ≢ Migration serial frame
   page_rests page frame at a serial range e =
       let by = names_of a range frame (ap (λ (x : Entry). is_listed x frame) e ∙ eq-eqb frame frame refl) in
-      let same : by.page ≡ page = law.apart by.page page frame by.takes (ap (λ (p : Option Placement). takes_up p frame) at ∙ eq-eqb frame frame refl) in
+      let same : by.page ≡ page = law.pages.apart by.page page frame by.takes (ap (λ (p : Option Placement). takes_up p frame) at ∙ eq-eqb frame frame refl) in
       let two : Some by.placement ≡ Some (At frame) = sym by.at ∙ ap (map.get v.placement) same ∙ at in
       let is : by.placement ≡ At frame = cc in
       let bad : Present frame ≡ Migration serial frame = sym (ap (λ (p : Placement). entry_for (Some p)) is) ∙ sym by.entry ∙ e in
@@ -118,7 +118,7 @@ module _ (entries : List Entry) (v : ZoneState) (fit : EntriesFit entries v) (la
   module _ (page serial source target : ℕ) (at : map.get v.placement page ≡ Some (Moving serial source target)) where
     same_page : (frame : ℕ) → takes_up (Some (Moving serial source target)) frame ≡ true → (a : Address) (by : Names a frame) → by.placement ≡ Moving serial source target
     same_page frame takes a by =
-        let same : by.page ≡ page = law.apart by.page page frame by.takes (ap (λ (p : Option Placement). takes_up p frame) at ∙ takes) in
+        let same : by.page ≡ page = law.pages.apart by.page page frame by.takes (ap (λ (p : Option Placement). takes_up p frame) at ∙ takes) in
         let two : Some by.placement ≡ Some (Moving serial source target) = sym by.at ∙ ap (map.get v.placement) same ∙ at in cc
 
     pub all_left : (a : Address) → InRange a → is_listed (entry_at entries a) source ≡ true → entry_at entries a ≡ Migration serial source

@@ -178,7 +178,7 @@ pub resident : {W : ℕ} (z : Inside W) (v : ZoneState) → IsSound z v → (add
 resident z v sound address frame at =
     let page = page_named v address (At frame) at in
     let within = frame_within v sound.lawful page.0 (At frame) page.2 in
-    let numbered = sound.lawful.numbered page.0 (not_none _ (At frame) page.2) in
+    let numbered = sound.lawful.pages.numbered page.0 (not_none _ (At frame) page.2) in
     record {
       page = page.0;
       named = page.1;
@@ -210,7 +210,7 @@ store_view z v client address page frame word value note history known =
     let within = slice_get_within z.notes page note known.note_is in
     let p = placements_kept z.notes page dirty_note within (sym (ap (option_and_then (λ (n : PageNote). n.placement)) known.note_is)) in
     let u = unmovable_kept z.notes page dirty_note within (sym (ap says_unmovable known.note_is)) in
-    let free = known.sound.lawful.clear page frame (at_takes (map.get v.placement page) frame known.at) in
+    let free = known.sound.lawful.pages.clear page frame (at_takes (map.get v.placement page) frame known.at) in
     let c = contents_kept z v known.sound known.view frame (slice_set (words_of z.words frame) word value) free in
     let here : state_of (after_store z page frame word value note history) ≡ state_of (record z { history = history }) = λ i. record (state_of (record z { history = history })) { placement = p i; unmovable = u i; contents = c i } in
     here ∙ noted_view z v history (Store client address word value) known.view known.history_is

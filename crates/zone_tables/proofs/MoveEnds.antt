@@ -116,7 +116,7 @@ module _ (v : ZoneState) (page serial source target : ℕ) (law : IsValidZone v)
   some_on_the_way = omega (arith, out_fewer v page serial source target law at)
 
   pub ending_room : 0 < v.room
-  ending_room = let left = law.room_left in omega (arith, out_fewer v page serial source target law at)
+  ending_room = let left = law.journal.room_left in omega (arith, out_fewer v page serial source target law at)
 
   -- the source and the target of a moving page are noted as such
   pub source_on_way : (frames : List FrameState) → FramesFit frames v → way_at frames source ≡ true

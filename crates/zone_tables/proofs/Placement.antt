@@ -105,16 +105,16 @@ module _ (v w : ZoneState) (page : ℕ) (old new : Option Placement) (gets : Get
 
   -- a frame of another page isn't one of this page
   not_old : (q g : ℕ) → q ≢ page → takes_up (map.get v.placement q) g ≡ true → takes_up old g ≡ false
-  not_old q g ne has = never _ (λ e. ne (gets.before.apart q page g has (takes _ _ g gets.at ∙ e)))
+  not_old q g ne has = never _ (λ e. ne (gets.before.pages.apart q page g has (takes _ _ g gets.at ∙ e)))
 
   not_new : (q g : ℕ) → q ≢ page → takes_up (map.get v.placement q) g ≡ true → takes_up new g ≡ false
-  not_new q g ne has = never _ (λ e. ne (gets.after.apart q page g (takes _ _ g (gets.others q ne) ∙ has) (takes _ _ g gets.now ∙ e)))
+  not_new q g ne has = never _ (λ e. ne (gets.after.pages.apart q page g (takes _ _ g (gets.others q ne) ∙ has) (takes _ _ g gets.now ∙ e)))
 
   -- a frame that the page takes up isn't free, and a frame that it has nothing to do with is as before
   new_used : (g : ℕ) → takes_up new g ≡ true → is_free w g ≡ false
   new_used g has =
       let mine : takes_up (map.get w.placement page) g ≡ true = takes _ _ g gets.now ∙ has in
-      let numbered = gets.after.numbered page (in_use _ g mine) in
+      let numbered = gets.after.pages.numbered page (in_use _ g mine) in
       ap (λ b. not b && not (is_held w g)) (some_at (λ p. takes_up (map.get w.placement p) g) (frame_count w) page numbered mine)
 
   used_same : (g : ℕ) → takes_up old g ≡ false → takes_up new g ≡ false → (p : ℕ) → takes_up (map.get w.placement p) g ≡ takes_up (map.get v.placement p) g
@@ -139,8 +139,8 @@ module _ (v w : ZoneState) (page : ℕ) (old new : Option Placement) (gets : Get
     ];
     of_block = λ g h held.
         (let was : is_held v g ≡ true = sym (held_same g) ∙ held in
-        change.kept g (never _ (λ e. untrue _ (gets.before.clear page g (takes _ _ g gets.at ∙ e)) was))
-        (never _ (λ e. untrue _ (gets.after.clear page g (takes _ _ g gets.now ∙ e)) held))
+        change.kept g (never _ (λ e. untrue _ (gets.before.pages.clear page g (takes _ _ g gets.at ∙ e)) was))
+        (never _ (λ e. untrue _ (gets.after.pages.clear page g (takes _ _ g gets.now ∙ e)) held))
         ∙ fit.of_block g (omega (arith, h, frames_same)) was);
     of_none = λ g h free. by_new g (omega (arith, h, frames_same)) free (decide (takes_up new g)) (decide (takes_up old g));
   } where
@@ -215,4 +215,4 @@ said movable (Some (Moving serial source target)) can within = record { count = 
 pub movable_said : (v w : ZoneState) (page : ℕ) (o : Option Placement) → GetsPlace v w page o o → (movable : List Bool) (can : Bool) → MovableFit movable v → can ≡ can_move w page → ((q : ℕ) → q ≢ page → can_move w q ≡ can_move v q) → MovableFit (movable_at movable o can) w
 movable_said v w page o gets movable can fit =
     movable_fit v w page o o gets movable (movable_at movable o can) can fit
-    (said movable o can (λ frame e. omega (arith, fit.count, gets.before.within page frame (ap (λ (x : Option Placement). takes_up x frame) (gets.at ∙ e) ∙ eq-eqb frame frame refl))))
+    (said movable o can (λ frame e. omega (arith, fit.count, gets.before.pages.within page frame (ap (λ (x : Option Placement). takes_up x frame) (gets.at ∙ e) ∙ eq-eqb frame frame refl))))

@@ -71,8 +71,8 @@ module _ (v : ZoneState) (page : ℕ) (old new : Placement) (can : CanSettle v p
   other_entry q (Moving serial source target) ne at (At g) is e = cc
   other_entry q (Moving a source target) ne at (Moving b from to) is e =
       let same : a ≡ b = cc in
-      let mine = (can.lawful.under_way page b).0 (ap (λ (o : Option Placement). is_under o b) (can.at ∙ ap Some (sym is)) ∙ eq-eqb b b refl) in
-      let theirs = (can.lawful.under_way q b).0 (ap (λ (o : Option Placement). is_under o b) at ∙ eq-eqb a b same) in
+      let mine = (can.lawful.agrees.under_way page b).0 (ap (λ (o : Option Placement). is_under o b) (can.at ∙ ap Some (sym is)) ∙ eq-eqb b b refl) in
+      let theirs = (can.lawful.agrees.under_way q b).0 (ap (λ (o : Option Placement). is_under o b) at ∙ eq-eqb a b same) in
       let one : Some q ≡ Some page = sym theirs.1 ∙ mine.1 in
       let is_page : q ≡ page = cc in
       ne is_page
@@ -83,7 +83,7 @@ module _ (v : ZoneState) (page : ℕ) (old new : Placement) (can : CanSettle v p
   pub entries_settled : (entries changed : List Entry) → EntriesFit entries v → Replaces entries changed (entry_for (Some old)) (entry_for (Some new)) → EntriesFit changed next
   entries_settled entries changed fit change = record { each = λ a range. by_name a range (page_at v.records a) refl ∙ sym (ap (λ (o : Option ℕ). entry_for (option_and_then (map.get next.placement) o)) (recorded.still.names a)) } where
     by_placement : (a : Address) → InRange a → (q : ℕ) → page_at v.records a ≡ Some q → q ≢ page → (p : Option Placement) → map.get v.placement q ≡ p → entry_at changed a ≡ entry_for (map.get next.placement q)
-    by_placement a range q e ne None at = absurd (clash _ at (can.lawful.named a q e).1)
+    by_placement a range q e ne None at = absurd (clash _ at (can.lawful.agrees.named a q e).1)
     by_placement a range q e ne (Some p) at =
         let before : entry_at entries a ≡ entry_for (Some p) = entry_of entries fit a range (Some q) e ∙ ap entry_for at in
         change.elsewhere a (λ is. other_entry q p ne at old refl (sym before ∙ is)) ∙ before ∙ sym (ap entry_for (at_other v page old new can entry q ne ∙ at))

@@ -82,7 +82,7 @@ module _ (v : ZoneState) (law : IsValidZone v) (states : List FrameState) (movab
   stuck_by_state frame h (Some Huge) at = sym (ap (λ b. b || stays_if_some v (holder v frame)) (huge_seen states v fit frame Huge h at refl))
   stuck_by_state frame h (Some (Holds page)) at =
       let here = held_page frame page h at in
-      let clear = law.clear page frame (at_takes _ frame here) in
+      let clear = law.pages.clear page frame (at_takes _ frame here) in
       let holds = holder_at v law page frame here in
       ap (λ (o : Option Bool). not (unwrap_or o false)) (can.each page frame here) ∙ sym (λ i. clear i || stays_if_some v (holds i))
 
@@ -106,12 +106,12 @@ module _ (v : ZoneState) (law : IsValidZone v) (states : List FrameState) (movab
   pub next_source_seen : scan.next_source states movable marked fingers ≡ next_source v
   next_source_seen =
       lowest_same (λ frame. nat_le v.migrate frame && scan.is_source states movable marked frame) (λ frame. nat_le v.migrate frame && holds_movable v frame) v.free
-      (λ frame h. let high = law.fingers.1 in ap (λ b. nat_le v.migrate frame && b) (source_seen frame (omega (arith, h, high))))
+      (λ frame h. let high = law.fingers.ordered.1 in ap (λ b. nat_le v.migrate frame && b) (source_seen frame (omega (arith, h, high))))
 
   pub next_target_seen : (source : ℕ) → scan.next_target states marked fingers source ≡ next_target v source
   next_target_seen source =
       highest_same (λ frame. nat_lt source frame && scan.is_target states marked frame) (λ frame. nat_lt source frame && is_free_unmarked v frame) v.free
-      (λ frame h. let high = law.fingers.1 in ap (λ b. nat_lt source frame && b) (target_seen frame (omega (arith, h, high))))
+      (λ frame h. let high = law.fingers.ordered.1 in ap (λ b. nat_lt source frame && b) (target_seen frame (omega (arith, h, high))))
 
   pub pair_seen : (source target : ℕ) → Pair source target ≡ scan.next_step states movable marked fingers → (next_source v ≡ Some source) × (next_target v source ≡ Some target)
   pair_seen source target e = by_source (scan.next_source states movable marked fingers) refl e where

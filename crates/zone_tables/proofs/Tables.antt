@@ -109,7 +109,7 @@ note_seen z v view sound page used note at =
 
 -- a page in use has a note
 pub note_within : {W : ℕ} (z : Inside W) (v : ZoneState) → IsSound z v → (page : ℕ) → IsSome (map.get v.placement page) → page < length z.notes
-note_within z v sound page used = omega (arith, sound.lawful.numbered page used, sound.notes.count)
+note_within z v sound page used = omega (arith, sound.lawful.pages.numbered page used, sound.notes.count)
 
 -- a page gives a state only to its own frames
 by_two : (page q serial : ℕ) (a b : Bool) →

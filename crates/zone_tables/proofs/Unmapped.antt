@@ -111,7 +111,7 @@ module _ {W : ℕ} (z : Inside W) (v : ZoneState) (client : ℕ) (address : Addr
           ap (option_and_then (map.get gone.placement)) is ∙ get_remove_other v.placement page q ne ∙ sym (ap (option_and_then (map.get v.placement)) is)
 
     note_within : page < length z.notes
-    note_within = omega (arith, can.lawful.numbered page (not_none _ (At frame) can.at), known.sound.notes.count)
+    note_within = omega (arith, can.lawful.pages.numbered page (not_none _ (At frame) can.at), known.sound.notes.count)
 
     pub last_sound : IsSound (after_last z page frame tables history) gone
     last_sound =

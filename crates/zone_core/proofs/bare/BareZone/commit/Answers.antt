@@ -36,7 +36,7 @@ returns-clause-met g c quiet met =
     let law = c.self.invariant in
     let way = c.in-Some.way in
     subst HaveMet {x = moved_to_target z way.serial way.page} (sym c.arrive.ensures.step)
-    (met_moved z way.page way.serial way.source way.target law (law.swept (ap is_quiet c.self.view_is ∙ quiet)) c.in-Some.ensures.placed (subst HaveMet (sym c.self.view_is) met))
+    (met_moved z way.page way.serial way.source way.target law (law.fingers.swept (ap is_quiet c.self.view_is ∙ quiet)) c.in-Some.ensures.placed (subst HaveMet (sym c.self.view_is) met))
 
 -- in a quiet round no page has a pin
 pub returns-then-has_pin-clause-met : goal.returns-then-has_pin-clause-met

@@ -16,7 +16,7 @@ pub returns-clause-followed : goal.returns-clause-followed
 returns-clause-followed g c =
     let serial = ap (λ (p : IsolatedPage). p.serial) c.isolate-page.ensures.page in
     let law : IsValidZone (isolated_next c.self.inside.tables c.in-Some.pair) = subst IsValidZone c.isolate-page.ensures.step c.isolate-page.ensures.lawful in
-    omega (arith, serial, law.serials)
+    omega (arith, serial, law.journal.serials)
 
 pub returns-clause-pair : goal.returns-clause-pair
 returns-clause-pair g c =

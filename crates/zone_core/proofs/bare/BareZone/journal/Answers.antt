@@ -7,4 +7,4 @@ pub returns-clause-clear : goal.returns-clause-clear
 returns-clause-clear g c = blocks_are_clear c.args.self.now (subst IsValidZone c.self.view_is c.self.invariant)
 
 pub returns-clause-apart : goal.returns-clause-apart
-returns-clause-apart g c = let law : IsValidZone c.args.self.now = subst IsValidZone c.self.view_is c.self.invariant in law.disjoint
+returns-clause-apart g c = let law : IsValidZone c.args.self.now = subst IsValidZone c.self.view_is c.self.invariant in law.blocks.disjoint

@@ -11,4 +11,4 @@ returns-clause-next g c entry =
     ∙ sym (ap (λ b. b && keeps_quiet entry) (c.quiet.ensures ∙ ap is_quiet c.self.view_is))
 
 pub returns-clause-swept : goal.returns-clause-swept
-returns-clause-swept g c quiet = (subst IsValidZone c.self.view_is c.self.invariant).swept (sym (c.quiet.ensures ∙ ap is_quiet c.self.view_is) ∙ quiet)
+returns-clause-swept g c quiet = (subst IsValidZone c.self.view_is c.self.invariant).fingers.swept (sym (c.quiet.ensures ∙ ap is_quiet c.self.view_is) ∙ quiet)

@@ -6,7 +6,7 @@ pub invariant_of-self : goal.invariant_of-self
 invariant_of-self g c =
     let left = c.write.ensures in (
       either_way (AreBooks _ _ _) c.write.result left.err left.ok c.self.invariant.0
-          (booked_stored_all c.args.client c.self.inside.bare c.args.address c.args.from c.args.values.now c.self.invariant.2.begun c.self.invariant.0),
+          (booked_stored_all c.args.client c.self.inside.bare c.args.address c.args.from c.args.values.now c.self.invariant.2.fingers.begun c.self.invariant.0),
       c.self.invariant.1,
       left.lawful,
     )

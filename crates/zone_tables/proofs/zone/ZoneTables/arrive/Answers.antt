@@ -33,7 +33,7 @@ use Rattle.zone_tables.proofs.zone.ZoneTables.arrive.Goals.{After-note}
 pub arrive-requires : goal.arrive-requires
 arrive-requires g c =
     let sound : IsSound c.self.inside c.args.self.now = subst (IsSound c.self.inside) c.self.view_is c.self.invariant in
-    some_out c.self.inside.moves c.args.self.now.records sound.moves sound.lawful.well_ended
+    some_out c.self.inside.moves c.args.self.now.records sound.moves sound.lawful.journal.well_ended
     (some_on_the_way c.args.self.now c.args.way.now.page c.args.way.now.serial c.args.way.now.source c.args.way.now.target sound.lawful c.requires.placed)
 
 pub leave-requires : goal.leave-requires
@@ -78,7 +78,7 @@ frames_are c = left_settled c.self.inside.frames c.leave.new.self c.settle.new.s
 
 target_unheld : (v : ZoneState) (page serial source target : ℕ) → IsValidZone v → map.get v.placement page ≡ Some (Moving serial source target) → is_held v target ≡ false
 target_unheld v page serial source target law at =
-    law.clear page target (ap (λ o. takes_up o target) at ∙ or_right (nat_eq target source) (nat_eq target target) (eq-eqb target target refl))
+    law.pages.clear page target (ap (λ o. takes_up o target) at ∙ or_right (nat_eq target source) (nat_eq target target) (eq-eqb target target refl))
 
 settling : {g : Over} (c : After-note g) → Settling c.self.inside (after c) c.args.self.now c.args.way.now.page (Moving c.args.way.now.serial c.args.way.now.source c.args.way.now.target) (At c.args.way.now.target) (Moved c.args.way.now.serial) c.get-note.result c.args.self.now.migrate c.args.self.now.free
 settling {g = g} c =
@@ -110,7 +110,7 @@ settling {g = g} c =
           (record { isolated = sound.moves.isolated; moved = ap (λ n. n + 1) sound.moves.moved; back = sound.moves.back });
       sources = subst (λ (moves : Moves). SourcesPlaced z.moves.pages moves.pages way.page (Some (At way.target))) (sym c.arrive.ensures) (record { count = refl; here = λ s a b e. cc; kept = λ g off. refl });
       fingers_are = ap (λ (u : ZoneState). record { migrate = u.migrate; free = u.free }) c.self.view_is;
-      fingers = law.fingers;
+      fingers = law.fingers.ordered;
       swept = swept_if_moved v way.page way.serial way.source way.target law at;
       history = c.note.ensures;
       frames_same = c.to_present.ensures.frames;

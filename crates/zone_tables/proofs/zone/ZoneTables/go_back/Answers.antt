@@ -27,7 +27,7 @@ use Rattle.zone_tables.proofs.zone.ZoneTables.go_back.Goals.{After-note}
 pub go_back-requires : goal.go_back-requires
 go_back-requires g c =
     let sound : IsSound c.self.inside c.args.self.now = subst (IsSound c.self.inside) c.self.view_is c.self.invariant in
-    some_out c.self.inside.moves c.args.self.now.records sound.moves sound.lawful.well_ended
+    some_out c.self.inside.moves c.args.self.now.records sound.moves sound.lawful.journal.well_ended
     (some_on_the_way c.args.self.now c.args.way.now.page c.args.way.now.serial c.args.way.now.source c.args.way.now.target sound.lawful c.requires.placed)
 
 pub leave-requires : goal.leave-requires
@@ -92,7 +92,7 @@ settling c =
           (record { isolated = sound.moves.isolated; moved = sound.moves.moved; back = ap (λ n. n + 1) sound.moves.back });
       sources = subst (λ (moves : Moves). SourcesPlaced z.moves.pages moves.pages way.page (Some (At way.source))) (sym c.go_back.ensures) (record { count = refl; here = λ s a b e. cc; kept = λ g off. refl });
       fingers_are = ap (λ (u : ZoneState). record { migrate = u.migrate; free = u.free }) c.self.view_is;
-      fingers = law.fingers;
+      fingers = law.fingers.ordered;
       swept = swept_if_put_back v way.page way.serial way.source way.target law at c.args.cause;
       history = c.note.ensures;
       frames_same = c.to_present.ensures.frames;

@@ -100,7 +100,7 @@ settling c =
     let low = is.to.low in
     let high = is.to.high in
     let frames_are = two_puts z.frames c.to_source.new.self c.to_target.new.self pair.source pair.target (Source c.isolate-serial.result) (Target c.isolate-serial.result) c.to_source.ensures.state c.to_target.ensures.state in
-    let fingers = law.fingers.1 in
+    let fingers = law.fingers.ordered.1 in
     record {
       sound = sound;
       view = c.self.view_is;

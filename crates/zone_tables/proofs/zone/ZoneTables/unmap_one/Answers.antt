@@ -17,7 +17,7 @@ without_address-requires g c =
     let sound : IsSound c.self.inside c.args.self.now = subst (IsSound c.self.inside) c.self.view_is c.self.invariant in
     let used = not_none _ (At c.requires.here.0) c.requires.here.1 in
     let seen = note_seen c.self.inside c.args.self.now c.self.view_is sound c.args.page used c.get-note.result c.get-note.ensures in
-    omega (arith, seen.fits.maps, (sound.lawful.in_use c.args.page used).0)
+    omega (arith, seen.fits.maps, (sound.lawful.agrees.in_use c.args.page used).0)
 
 unmapping : {g : Over} (c : After-note g) → Unmapping c.self.inside c.args.self.now c.args.client c.args.address c.args.page c.requires.here.0 c.clear.new.self c.note.new.self
 unmapping c =
