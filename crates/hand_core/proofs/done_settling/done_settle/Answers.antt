@@ -1,4 +1,4 @@
-use Rattle.std.proofs.Common.{rules, ◌≡◌, ℕ, ◌+◌, ◌<◌, ◌++◌, ◌∷◌, [], List, Some, true, ap, sym, ◌∙◌, subst, append_assoc, arith}
+use Rattle.std.proofs.Common.{◌≡◌, ℕ, ◌+◌, ◌<◌, ◌++◌, ◌∷◌, [], List, Some, true, ap, sym, ◌∙◌, subst, append_assoc, arith}
 use Rattle.crossbeam_channel.specs.Claims.{view}
 use Rattle.hand_core.specs.declared.copy_queue.Account.{Account}
 use Rattle.hand_core.specs.declared.copy_queue.Message.{Message}
@@ -68,9 +68,6 @@ loop-sender-preserved c =
         All-cons (λ (u : DoneSender). copies_of u.number taker.came ≡ u.sent) s before.0 this before.2,
       );
     }
-
-pub returns-clause-copies : goal.returns-clause-copies
-returns-clause-copies c = search rules
 
 pub returns-clause-empty : goal.returns-clause-empty
 returns-clause-empty c queue holds =

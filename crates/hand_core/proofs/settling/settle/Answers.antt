@@ -1,4 +1,4 @@
-use Rattle.std.proofs.Common.{rules, ◌≡◌, length, ap, sym, ◌∙◌, subst}
+use Rattle.std.proofs.Common.{◌≡◌, length, ap, sym, ◌∙◌, subst}
 use Rattle.std.specs.List.{range_with_len}
 use Rattle.std.specs.List.Sorted.{IsPermutation}
 use Rattle.std.proofs.lemmas.List.Sorted.{IsPermutation-map}
@@ -17,9 +17,3 @@ returns-clause-serials c =
     ap (λ b. range_with_len b (length giver.given)) (sym count.0) ∙ ap (λ n. range_with_len settled.base n) (sym count.1) in
     subst (λ l. IsPermutation (serials_of (taken_by c.args.takers.items)) l) (serials ∙ numbers)
     (IsPermutation-map (λ (p : IsolatedPage). p.serial) (taken_by c.args.takers.items) giver.given c.take_back.ensures.pages)
-
-pub take_back-requires-clause-marks : goal.take_back-requires-clause-marks
-take_back-requires-clause-marks c = search rules
-
-pub returns-clause-exact : goal.returns-clause-exact
-returns-clause-exact c = search rules

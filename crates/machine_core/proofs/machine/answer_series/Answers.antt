@@ -1,4 +1,4 @@
-use Rattle.std.proofs.Common.{rules, ◌≡◌, ◌∙◌, ℕ, suc, ◌+◌, ◌-◌, sym, ap, arith}
+use Rattle.std.proofs.Common.{◌≡◌, ◌∙◌, ℕ, suc, ◌+◌, ◌-◌, sym, ap, arith}
 use Rattle.machine_core.specs.Machine.{page_step, series_from}
 use Rattle.machine_core.proofs.SeriesOfCalls.{series_from-on}
 use Rattle.machine_core.proofs.machine.answer_series.Goals as goal
@@ -16,6 +16,3 @@ loop-done-preserved g c =
           ∙ sym (series_from-on s.call s.space c.loop-done.page s.step done _ m c.loop-done.world c.answer_at.new.world left c.answer_at.result told c.in_default.not-Refused)
           ∙ c.loop-done.invariant.left;
     }
-
-pub returns : goal.returns
-returns g c = search rules

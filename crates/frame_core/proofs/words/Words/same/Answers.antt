@@ -1,4 +1,4 @@
-use Rattle.std.proofs.Common.{rules, ◌≡◌, length, arith, sym, ◌∙◌}
+use Rattle.std.proofs.Common.{◌≡◌, length, arith, sym, ◌∙◌}
 use Rattle.std.proofs.lemmas.List.{ext_get_or}
 use Rattle.frame_core.proofs.words.Words.same.Goals as goal
 
@@ -11,6 +11,3 @@ returns g c =
           ∙ c.words-words.ensures.value,
       λ equal. each.all (c.row-row.ensures.value ∙ equal ∙ sym c.words-words.ensures.value),
     )
-
-pub loop-word-preserved : goal.loop-word-preserved
-loop-word-preserved g c = search rules

@@ -1,4 +1,3 @@
-use Rattle.std.proofs.Common.{rules}
 use Rattle.std.specs.VecDeque.{deque_capacity}
 use Rattle.state_core.specs.declared.call.ZoneCall.TheVariants.{Load}
 use Rattle.machine_core.proofs.Carrying.{carried_call}
@@ -9,6 +8,3 @@ invariant_of-self g c =
     let z = c.self.inside in
     carried_call z.zone c.load.new.self z.scan z.ends z.is_open z.waiting.items z.hands.held (deque_capacity z.waiting) c.self.invariant
     g.row.W (Load c.args.address c.args.word) c.args.client c.load.result c.load.ensures.lawful c.load.ensures.refused c.load.ensures.err c.load.ensures.ok
-
-pub returns-clause-value : goal.returns-clause-value
-returns-clause-value g c = search rules

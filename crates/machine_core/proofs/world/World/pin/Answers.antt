@@ -1,4 +1,3 @@
-use Rattle.std.proofs.Common.{rules}
 use Rattle.std.specs.VecDeque.{deque_capacity}
 use Rattle.state_core.specs.declared.call.ZoneCall.TheVariants.{Pin}
 use Rattle.machine_core.proofs.Carrying.{carried_call}
@@ -9,9 +8,3 @@ invariant_of-self g c =
     let z = c.self.inside in
     carried_call z.zone c.pin.new.self z.scan z.ends z.is_open z.waiting.items z.hands.held (deque_capacity z.waiting) c.self.invariant
     g.row.W (Pin c.args.address) c.args.client c.pin.result c.pin.ensures.lawful c.pin.ensures.refused c.pin.ensures.err c.pin.ensures.ok
-
-pub returns-clause-refused : goal.returns-clause-refused
-returns-clause-refused g c = search rules
-
-pub returns-clause-ok : goal.returns-clause-ok
-returns-clause-ok g c = search rules

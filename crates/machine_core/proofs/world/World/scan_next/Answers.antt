@@ -1,4 +1,4 @@
-use Rattle.std.proofs.Common.{rules, ◌≡◌, true, ap, sym, subst, ◌∙◌, arith}
+use Rattle.std.proofs.Common.{◌≡◌, true, ap, sym, subst, ◌∙◌, arith}
 use Rattle.std.specs.Prelude.{None}
 use Rattle.std.specs.VecDeque.{deque_capacity}
 use Rattle.state_core.specs.declared.moves.Next.TheVariants.{Page}
@@ -47,9 +47,6 @@ invariant_of-self-in-Err g c =
 
 pub returns-in-Ok-Page-clause-orderly : goal.returns-in-Ok-Page-clause-orderly
 returns-in-Ok-Page-clause-orderly g c = (invariant_of-self g c).orderly
-
-pub returns-in-Ok-Page-clause-found : goal.returns-in-Ok-Page-clause-found
-returns-in-Ok-Page-clause-found g c = search rules
 
 pub returns-in-Ok-Page-clause-ok : goal.returns-in-Ok-Page-clause-ok
 returns-in-Ok-Page-clause-ok g c =

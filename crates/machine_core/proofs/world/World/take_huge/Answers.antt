@@ -1,4 +1,3 @@
-use Rattle.std.proofs.Common.{rules}
 use Rattle.std.specs.Prelude.{◌*◌}
 use Rattle.std.specs.VecDeque.{deque_capacity}
 use Rattle.machine_core.proofs.Carrying.{carried_taken}
@@ -9,9 +8,3 @@ invariant_of-self g c =
     let z = c.self.inside in
     carried_taken z.zone c.take_huge.new.self z.scan z.ends z.is_open z.waiting.items z.hands.held (deque_capacity z.waiting) c.self.invariant
     (λ block. 512 * block) 9 c.take_huge.result c.take_huge.ensures.lawful c.take_huge.ensures.err c.take_huge.ensures.ok
-
-pub returns-clause-block : goal.returns-clause-block
-returns-clause-block g c = search rules
-
-pub returns-clause-ok : goal.returns-clause-ok
-returns-clause-ok g c = search rules

@@ -1,4 +1,3 @@
-use Rattle.std.proofs.Common.{rules}
 use Rattle.std.specs.VecDeque.{deque_capacity}
 use Rattle.state_core.specs.declared.call.ZoneCall.TheVariants.{Unmark}
 use Rattle.machine_core.proofs.Carrying.{carried_call}
@@ -9,9 +8,3 @@ invariant_of-self g c =
     let z = c.self.inside in
     carried_call z.zone c.unmark.new.self z.scan z.ends z.is_open z.waiting.items z.hands.held (deque_capacity z.waiting) c.self.invariant
     g.row.W (Unmark c.args.block) 0 c.unmark.result c.unmark.ensures.lawful c.unmark.ensures.refused c.unmark.ensures.err c.unmark.ensures.ok
-
-pub returns-clause-refused : goal.returns-clause-refused
-returns-clause-refused g c = search rules
-
-pub returns-clause-ok : goal.returns-clause-ok
-returns-clause-ok g c = search rules

@@ -1,4 +1,4 @@
-use Rattle.std.proofs.Common.{rules, ◌∙◌, ap, subst, sym}
+use Rattle.std.proofs.Common.{◌∙◌, ap, subst, sym}
 use Rattle.std.specs.FinMap as map
 use Rattle.frame_core.specs.declared.record.Cause.TheVariants.{Pinned}
 use Rattle.frame_core.specs.declared.record.Record.TheVariants.{Moved, Back}
@@ -48,12 +48,3 @@ pub returns-then-has_pin-clause-moves : goal.returns-then-has_pin-clause-moves
 returns-then-has_pin-clause-moves g c quiet =
     let way = c.in-Some.way in
     absurd (never_pinned c.self.inside.tables way.page way.serial way.source way.target c.self.invariant c.in-Some.ensures.placed (ap is_quiet c.self.view_is ∙ quiet) (sym c.has_pin.ensures ∙ c.if-has_pin.true))
-
-pub returns-then-has_pin-clause-own : goal.returns-then-has_pin-clause-own
-returns-then-has_pin-clause-own g c = search rules
-
-pub arrive-requires : goal.arrive-requires
-arrive-requires g c = search rules
-
-pub returns-clause-own : goal.returns-clause-own
-returns-clause-own g c = search rules

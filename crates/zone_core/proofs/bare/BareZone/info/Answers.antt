@@ -1,4 +1,4 @@
-use Rattle.std.proofs.Common.{rules, ◌≡◌, ◌∙◌, ap, length, subst, sym, arith}
+use Rattle.std.proofs.Common.{◌≡◌, ◌∙◌, ap, length, subst, sym, arith}
 use Rattle.frame_core.specs.Moves.{out}
 use Rattle.state_core.specs.declared.information.Info.{Info}
 use Rattle.state_core.specs.Lawful.{IsValidZone}
@@ -34,9 +34,3 @@ returns-clause-most_runs g c packed none place placed = runs_best c.args.self.no
 
 pub returns-clause-placement : goal.returns-clause-placement
 returns-clause-placement g c none = placed_now c.args.self.now (law g c) (none_out g c none)
-
-pub returns-clause-counts : goal.returns-clause-counts
-returns-clause-counts g c = search rules
-
-pub returns-clause-sum : goal.returns-clause-sum
-returns-clause-sum g c = search rules

@@ -1,4 +1,4 @@
-use Rattle.std.proofs.Common.{rules, ◌∙◌, ap, sym}
+use Rattle.std.proofs.Common.{◌∙◌, ap, sym}
 use Rattle.std.specs.FinMap as map
 use Rattle.frame_core.specs.declared.record.Cause.TheVariants.{NotCopied}
 use Rattle.frame_core.specs.declared.record.Record.TheVariants.{Back}
@@ -17,9 +17,3 @@ pub returns-clause-settled : goal.returns-clause-settled
 returns-clause-settled g c =
     ended_in c.self.inside.tables c.args.self.now c.go_back.new.self c.args.isolated c.in-Some.way.page c.in-Some.way.serial c.in-Some.way.source c.in-Some.way.target _ _ c.self.view_is
     (ap (λ (p : Page). p.number) (sym c.page.ensures) ∙ sym c.in-Some.ensures.named.0) (sym c.serial.ensures ∙ sym c.in-Some.ensures.named.1) c.in-Some.ensures.placed c.go_back.ensures.settled
-
-pub go_back-requires : goal.go_back-requires
-go_back-requires g c = search rules
-
-pub returns-clause-ok : goal.returns-clause-ok
-returns-clause-ok g c = search rules

@@ -1,5 +1,0 @@
-use Rattle.std.proofs.Common.{rules}
-use Rattle.frame_core.proofs.page.Page.set_flags.Goals as goal
-
-pub returns : goal.returns
-returns g c = search rules

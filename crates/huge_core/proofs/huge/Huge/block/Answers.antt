@@ -1,5 +1,0 @@
-use Rattle.std.proofs.Common.{rules}
-use Rattle.huge_core.proofs.huge.Huge.block.Goals as goal
-
-pub returns : goal.returns
-returns c = search rules

@@ -1,5 +1,0 @@
-use Rattle.std.proofs.Common.{rules}
-use Rattle.scan_core.proofs.fingers.Fingers.new.Goals as goal
-
-pub returns : goal.returns
-returns c = search rules

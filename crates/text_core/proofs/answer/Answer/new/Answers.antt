@@ -1,5 +1,0 @@
-use Rattle.std.proofs.Common.{rules}
-use Rattle.text_core.proofs.answer.Answer.new.Goals as goal
-
-pub returns : goal.returns
-returns c = search rules

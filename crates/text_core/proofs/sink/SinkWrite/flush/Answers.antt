@@ -1,5 +1,0 @@
-use Rattle.std.proofs.Common.{rules}
-use Rattle.text_core.proofs.sink.SinkWrite.flush.Goals as goal
-
-pub returns : goal.returns
-returns g c = search rules

@@ -1,5 +1,0 @@
-use Rattle.std.proofs.Common.{rules}
-use Rattle.zone_core.proofs.bare.BareZone.number.Goals as goal
-
-pub returns : goal.returns
-returns g c = search rules
