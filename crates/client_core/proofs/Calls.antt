@@ -8,7 +8,7 @@ use Rattle.state_core.specs.declared.call.ZoneAnswer.{ZoneAnswer}
 use Rattle.state_core.specs.declared.call.ZoneCall.{ZoneCall}
 use Rattle.state_core.specs.declared.error.ZoneError.{ZoneError}
 use Rattle.state_core.specs.Calls.{refusal_of, answer_of}
-use Rattle.state_core.specs.Lawful.{IsValidZone}
+use Rattle.state_core.specs.Valid.{IsValidZone}
 use Rattle.state_core.specs.ZoneState.{ZoneState}
 use Rattle.round_core.specs.Calls.{IsCall}
 use Rattle.client_core.specs.Calls.{IsAccepted, IsMade, IsRefused}
@@ -16,20 +16,20 @@ use Rattle.client_core.specs.Receipts.{AreSince}
 
 pub refused : {X : Type 0} (refusal : ZoneState → Option ZoneError) (zone : ZoneState)
     → IsValidZone zone → (result : Result X ZoneError) → result_err result ≡ refusal zone → IfErr result (IsRefused refusal)
-refused refusal zone lawful (Ok answer) is = tt
-refused refusal zone lawful (Err error) is = record { zone = zone; lawful = lawful; refused = sym is }
+refused refusal zone valid (Ok answer) is = tt
+refused refusal zone valid (Err error) is = record { zone = zone; valid = valid; refused = sym is }
 
 pub accepted : {X : Type 0} (refusal : ZoneState → Option ZoneError) (leaves : ZoneState → X → ZoneState → Type 0) (answer : X) (zone zone_new : ZoneState)
     → IsValidZone zone → (result : Result (Unit {0}) ZoneError) → result_err result ≡ refusal zone → OnOk result (leaves zone answer zone_new)
     → OnOk result (IsAccepted refusal leaves answer)
-accepted refusal leaves answer zone zone_new lawful (Ok done) is left = record {
+accepted refusal leaves answer zone zone_new valid (Ok done) is left = record {
   zone = zone;
-  lawful = lawful;
+  valid = valid;
   accepted = sym is;
   zone_new = zone_new;
   left = left;
 }
-accepted refusal leaves answer zone zone_new lawful (Err error) is left = tt
+accepted refusal leaves answer zone zone_new valid (Err error) is left = tt
 
 -- what was told of the zone before, and the receipt, is what was told of the zone afterwards
 pub told_by : {client : ℕ} {z z_new : ZoneState} (call : IsCall client z z_new) (told : List Record → Option Told) → told z_new.records ≡ written_if call.entry (told z.records)
@@ -39,8 +39,8 @@ told_by call told tells stub before receipt is = tells ∙ (λ i. written_if (is
 -- a call was made
 pub made : {W : ℕ} (call : ZoneCall W) (zone : ZoneState) → IsValidZone zone → (result : Result (ZoneAnswer × Record) ZoneError)
     → result_err result ≡ refusal_of call zone → IfOk result (λ m. m.0 ≡ answer_of call zone) → IfOk result (λ m. IsMade call m.0)
-made call zone lawful (Ok m) is answer = record { zone = zone; lawful = lawful; accepted = sym is; answer_is = answer }
-made call zone lawful (Err error) is answer = tt
+made call zone valid (Ok m) is answer = record { zone = zone; valid = valid; accepted = sym is; answer_is = answer }
+made call zone valid (Err error) is answer = tt
 
 -- what a client holds: its slip is of this pair, and has the receipts since these
 abbrev pub Holds : Option Pair → List Record → Option Told → List Record → Type 0

@@ -43,11 +43,11 @@ module _ {W : ℕ} (old new : Client) (answer : ZoneAnswer) where
   pub receipt_as : (call : ZoneCall W) → HasMade old call answer new → (told : ZoneAnswer) → answer ≡ told → new ≡ with_receipt old (record_of call old.number told)
   receipt_as call made told is = made.1 ∙ ap (λ (a : ZoneAnswer). with_receipt old (record_of call old.number a)) is
 
-  -- a lawful zone accepted the call, and is what the call leaves
+  -- a valid zone accepted the call, and is what the call leaves
   pub accepted : (call : ZoneCall W) → HasMade old call answer new → IsAccepted (refusal_of call) (leaving (after call old.number)) tt
   accepted call made = record {
     zone = made.0.zone;
-    lawful = made.0.lawful;
+    valid = made.0.valid;
     accepted = made.0.accepted;
     zone_new = after call old.number made.0.zone;
     left = refl;
@@ -63,7 +63,7 @@ module _ {W : ℕ} (old new : Client) (answer : ZoneAnswer) where
     pub load_accepted : IsAccepted (λ zone. access_refusal zone address) (loading old.number address word) value
     load_accepted = record {
       zone = made.0.zone;
-      lawful = made.0.lawful;
+      valid = made.0.valid;
       accepted = made.0.accepted;
       zone_new = after {W = W} (Load address word) old.number made.0.zone;
       left = (value_is, refl);
@@ -78,7 +78,7 @@ module _ {W : ℕ} (old new : Client) (answer : ZoneAnswer) where
     receipt_as (MapAt address unmovable frame) made (answer_of {W = W} (MapAt address unmovable frame) made.0.zone) made.0.answer_is,
     record {
       zone = made.0.zone;
-      lawful = made.0.lawful;
+      valid = made.0.valid;
       accepted = made.0.accepted;
       zone_new = after {W = W} (MapAt address unmovable frame) old.number made.0.zone;
       left = (refl, refl);
@@ -96,7 +96,7 @@ module _ {W : ℕ} (old new : Client) (answer : ZoneAnswer) where
         receipt_as (Map address unmovable) made (answer_of {W = W} (Map address unmovable) zone) made.0.answer_is,
         record {
           zone = zone;
-          lawful = made.0.lawful;
+          valid = made.0.valid;
           accepted = made.0.accepted;
           zone_new = after {W = W} (Map address unmovable) old.number zone;
           left = (

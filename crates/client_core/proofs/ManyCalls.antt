@@ -14,9 +14,9 @@ use Rattle.state_core.specs.declared.placement.Placement.{Placement}
 use Rattle.state_core.specs.declared.placement.Placement.TheVariants.{At, Moving}
 use Rattle.state_core.specs.Access.{placement_refusal, value_at, loaded, stored}
 use Rattle.state_core.specs.Bulk.{bulk_refusal, has_room_for, values_at, loaded_all, stored_all}
-use Rattle.state_core.specs.Lawful.{IsValidZone}
+use Rattle.state_core.specs.Valid.{IsValidZone}
 use Rattle.state_core.specs.ZoneState.{ZoneState, placement_at}
-use Rattle.state_core.proofs.Accessed.{lawful_loaded, lawful_stored}
+use Rattle.state_core.proofs.Accessed.{valid_loaded, valid_stored}
 use Rattle.round_core.specs.Calls.{IsCall}
 use Rattle.client_core.specs.Bulk.{AreCalls, records_each, written_all}
 use Rattle.client_core.proofs.Calls.{Holds, holds_more, holds_same}
@@ -57,7 +57,7 @@ loads_are_calls z client address frame from (suc count) law spare at =
       law,
       eq-eqb client client refl,
       refl,
-      loads_are_calls left client address frame (from + 1) count (lawful_loaded z law (omega (arith, spare)) client address frame from at) (omega (arith, spare)) at,
+      loads_are_calls left client address frame (from + 1) count (valid_loaded z law (omega (arith, spare)) client address frame from at) (omega (arith, spare)) at,
     )
 
 -- a write is the stores of its values
@@ -70,7 +70,7 @@ stores_are_calls z client address from (value ∷ values) law spare =
       law,
       eq-eqb client client refl,
       refl,
-      stores_are_calls left client address (from + 1) values (lawful_stored z law (omega (arith, spare)) client address from value) (omega (arith, spare)),
+      stores_are_calls left client address (from + 1) values (valid_stored z law (omega (arith, spare)) client address from value) (omega (arith, spare)),
     )
 
 -- an accepted read, and its records

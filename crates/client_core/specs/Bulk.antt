@@ -5,7 +5,7 @@ use Rattle.frame_core.specs.declared.record.Record.{Record}
 use Rattle.hand_core.specs.Told.{Told, written_if}
 use Rattle.round_core.specs.Calls.{is_of}
 use Rattle.state_core.specs.Bulk.{values_at, loaded_all}
-use Rattle.state_core.specs.Lawful.{IsValidZone}
+use Rattle.state_core.specs.Valid.{IsValidZone}
 use Rattle.state_core.specs.ZoneState.{ZoneState}
 
 -- the records of a call for the words from one on, which have these values: the oldest first
@@ -23,7 +23,7 @@ abbrev pub written_all : List Record → Option Told → Option Told
 written_all [] told = told
 written_all (entry ∷ entries) told = written_all entries (written_if entry told)
 
--- calls of a client, one after the other, each of a lawful zone: these are their records, the oldest first
+-- calls of a client, one after the other, each of a valid zone: these are their records, the oldest first
 abbrev pub AreCalls : ℕ → List Record → ZoneState → ZoneState → Type 0
 AreCalls client [] z z_new = z_new ≡ z
 AreCalls client (entry ∷ entries) z z_new =

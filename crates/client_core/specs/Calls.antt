@@ -6,26 +6,26 @@ use Rattle.state_core.specs.declared.call.ZoneCall.{ZoneCall}
 use Rattle.state_core.specs.declared.error.ZoneError.{ZoneError}
 use Rattle.state_core.specs.Access.{value_at, loaded}
 use Rattle.state_core.specs.Calls.{refusal_of, answer_of, record_of}
-use Rattle.state_core.specs.Lawful.{IsValidZone}
+use Rattle.state_core.specs.Valid.{IsValidZone}
 use Rattle.state_core.specs.Mapping.{mapped}
 use Rattle.state_core.specs.ZoneState.{ZoneState, lowest_free_frame, lowest_unused_page}
 use Rattle.client_core.specs.declared.error.ClientError.{ClientError}
 use Rattle.client_core.specs.declared.error.ClientError.TheVariants.{Memory, Zone}
 use Rattle.client_core.specs.Receipts.{Client, with_receipt}
 
--- a call was accepted: some lawful zone didn't refuse it (`refusal` says when a zone would), and `leaves` holds of this zone, the
+-- a call was accepted: some valid zone didn't refuse it (`refusal` says when a zone would), and `leaves` holds of this zone, the
 -- answer, and the zone afterwards
 pub record IsAccepted {X : Type 0} (refusal : ZoneState → Option ZoneError) (leaves : ZoneState → X → ZoneState → Type 0) (answer : X) : Type 0 where
   pub zone : ZoneState
-  pub lawful : IsValidZone zone
+  pub valid : IsValidZone zone
   pub accepted : refusal zone ≡ None
   pub zone_new : ZoneState
   pub left : leaves zone answer zone_new
 
--- a call was made: some lawful zone didn't refuse it and gave this answer
+-- a call was made: some valid zone didn't refuse it and gave this answer
 pub record IsMade {W : ℕ} (call : ZoneCall W) (answer : ZoneAnswer) : Type 0 where
   pub zone : ZoneState
-  pub lawful : IsValidZone zone
+  pub valid : IsValidZone zone
   pub accepted : refusal_of call zone ≡ None
   pub answer_is : answer ≡ answer_of call zone
 
@@ -33,10 +33,10 @@ pub record IsMade {W : ℕ} (call : ZoneCall W) (answer : ZoneAnswer) : Type 0 w
 abbrev pub HasMade : {W : ℕ} → Client → ZoneCall W → ZoneAnswer → Client → Type 0
 HasMade old call answer new = IsMade call answer × (new ≡ with_receipt old (record_of call old.number answer))
 
--- a call was refused: some lawful zone refused it with this error
+-- a call was refused: some valid zone refused it with this error
 pub record IsRefused (refusal : ZoneState → Option ZoneError) (error : ZoneError) : Type 0 where
   pub zone : ZoneState
-  pub lawful : IsValidZone zone
+  pub valid : IsValidZone zone
   pub refused : refusal zone ≡ Some error
 
 -- a call failed with this error: for want of memory, where it takes any, or because a zone refused it

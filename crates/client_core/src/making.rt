@@ -5,7 +5,7 @@ ghost use Rattle.std.specs.Result.{result_err};
 ghost use Rattle.hand_core.specs.Told.{pair_of, written_if};
 ghost use Rattle.state_core.specs.declared.error.ZoneError.{ZoneError};
 ghost use Rattle.state_core.specs.Calls.{refusal_of, answer_of, after, answers, is_of_client, record_of};
-ghost use Rattle.state_core.specs.Lawful.{IsValidZone};
+ghost use Rattle.state_core.specs.Valid.{IsValidZone};
 ghost use Rattle.client_core.specs.Calls.{IsMade, IsRefused};
 
 use frame_core::{ClientNo, Record};
@@ -61,7 +61,7 @@ fn make_kept<K: Keeping, I: Ledger, M: Ledger, B: Ledger>(
     call: ClientCall,
 ) -> Result<(ZoneAnswer, Record), ZoneError>
     requires allows { K.allows client (pair_of slip.old) }
-    ensures lawful { IsValidZone room.old }
+    ensures valid { IsValidZone room.old }
     ensures refused { result_err result ≡ refusal_of call room.old }
     ensures answer { IfOk result (λ made. made.0 ≡ answer_of call room.old) }
     ensures ok { OnOk result (room.new ≡ after call client room.old) }

@@ -4,7 +4,7 @@ use Rattle.std.specs.FinMap as map
 use Rattle.frame_core.specs.Moves.{isolated}
 use Rattle.state_core.specs.Ending.{committed}
 use Rattle.state_core.specs.Isolating.{isolate_refusal, isolated_next}
-use Rattle.state_core.specs.Lawful.{is_under}
+use Rattle.state_core.specs.Valid.{is_under}
 use Rattle.state_core.specs.Pairs.{next_pair}
 use Rattle.state_core.specs.ZoneState.{ZoneState}
 use Rattle.state_core.specs.declared.round.Pair.{Pair}

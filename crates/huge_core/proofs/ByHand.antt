@@ -10,7 +10,7 @@ use Rattle.round_core.specs.declared.round.Round.{Round}
 use Rattle.state_core.specs.declared.error.ZoneError.{ZoneError}
 use Rattle.state_core.specs.declared.error.ZoneError.TheVariants as zone
 use Rattle.state_core.specs.HandingOut.{lowest_run, take_order_refusal, block_taken}
-use Rattle.state_core.specs.Lawful.{IsValidZone}
+use Rattle.state_core.specs.Valid.{IsValidZone}
 use Rattle.state_core.specs.ZoneState.{ZoneState}
 use Rattle.huge_core.specs.ByHand.{Reservation, stopped, with_block, with_round, lowest_first, lowest_taken, asked, taking, moves, idle_stop, reserved_by_hand, frames_of, after, HasFilled}
 use Rattle.huge_core.specs.Huge.{Huge}
@@ -23,7 +23,7 @@ use Rattle.huge_core.proofs.SameByHand.{AreSame, are_same_refl, are_same_trans, 
 pub rest_block : (z z_new : ZoneState) (frame order : ℕ) → z_new ≡ block_taken z frame order → IsValidZone z_new
     → IsAtRest z → IsAtRest z_new
 rest_block z z_new frame order taken law rest = record {
-  lawful = law;
+  valid = law;
   none_out = ap (λ (v : ZoneState). out v.records) taken ∙ rest.none_out;
 }
 
@@ -159,9 +159,9 @@ module _ (order n : ℕ) (start : ZoneState) where
     pub ran_by_hand : 3 ≤ order → order ≤ 9 → length got < n → take_order_refusal now order ≡ Some zone.NoBlock → moves now ≡ true
         → IsSame (by_hand now) next → IsValidZone next
         → IsUnderWayByHand order n start got ran now → IsUnderWayByHand order n start got (ran + 1) next
-    ran_by_hand low high fewer refused moved same lawful was =
+    ran_by_hand low high fewer refused moved same valid was =
         let hand = rest_by_hand now was.rest in
-        let rests = rest_same (by_hand now) next hand lawful same in
+        let rests = rest_same (by_hand now) next hand valid same in
         record {
           rest = rests;
           same = λ rounds.

@@ -6,19 +6,19 @@ use Rattle.state_core.specs.declared.error.ZoneError.{ZoneError}
 use Rattle.state_core.specs.declared.error.ZoneError.TheVariants.{JournalFull, NoBlock}
 use Rattle.state_core.specs.Contents.{contents_refusal, contents_from, contents_written}
 use Rattle.state_core.specs.HandingOut.{lowest_run, take_order_refusal, give_order_refusal, block_given}
-use Rattle.state_core.specs.Lawful.{IsValidZone}
+use Rattle.state_core.specs.Valid.{IsValidZone}
 use Rattle.state_core.specs.ZoneState.{ZoneState, has_room}
 use Rattle.huge_core.specs.Huge.{Huge, IsRefused, IsTakenBack, IsRead, IsWritten, IsRefusedWords}
 
 pub refused : (zone : ZoneState) (order : ℕ) → IsValidZone zone → (result : Result Huge ZoneError)
     → result_err result ≡ take_order_refusal zone order → IfErr result (IsRefused order)
-refused zone order lawful (Ok huge) is = tt
-refused zone order lawful (Err error) is = record { zone = zone; lawful = lawful; refused = sym is }
+refused zone order valid (Ok huge) is = tt
+refused zone order valid (Err error) is = record { zone = zone; valid = valid; refused = sym is }
 
--- a lawful zone refuses a block
+-- a valid zone refuses a block
 pub refused_by : (zone : ZoneState) (order : ℕ) (error : ZoneError) → IsValidZone zone → take_order_refusal zone order ≡ Some error
     → IsRefused order error
-refused_by zone order error lawful is = record { zone = zone; lawful = lawful; refused = is }
+refused_by zone order error valid is = record { zone = zone; valid = valid; refused = is }
 
 -- where a block is refused and the journal isn't full, no block is free
 pub refused_no_block : (zone : ZoneState) (order : ℕ) (error : ZoneError) → take_order_refusal zone order ≡ Some error
@@ -34,44 +34,44 @@ refused_no_block zone order error refused other =
     only true false error is other = absurd (subst (λ o. IfSome o (λ _. ⊥)) is tt)
 
 pub no_block : (order : ℕ) (error : ZoneError) → IsRefused order error → (error ≡ JournalFull → ⊥) → IsRefused order NoBlock
-no_block order error was other = refused_by was.zone order NoBlock was.lawful (refused_no_block was.zone order error was.refused other)
+no_block order error was other = refused_by was.zone order NoBlock was.valid (refused_no_block was.zone order error was.refused other)
 
 pub taken_back : (zone zone_new : ZoneState) (huge : Huge) → IsValidZone zone_new → (result : Result Unit (ZoneError × Huge))
     → OnOk result (give_order_refusal zone huge.frame huge.order ≡ None) → OnOk result (zone_new ≡ block_given zone huge.frame huge.order)
     → OnOk result (IsTakenBack huge)
-taken_back zone zone_new huge lawful (Ok done) accepted given = record {
+taken_back zone zone_new huge valid (Ok done) accepted given = record {
   zone = zone;
   zone_new = zone_new;
   accepted = accepted;
   given = given;
-  lawful = lawful;
+  valid = valid;
 }
-taken_back zone zone_new huge lawful (Err back) accepted given = tt
+taken_back zone zone_new huge valid (Err back) accepted given = tt
 
 pub read : (zone : ZoneState) (huge : Huge) (from count : ℕ) (values : List ℕ) → IsValidZone zone → (result : Result Unit ZoneError)
     → result_err result ≡ contents_refusal zone huge.frame huge.order from count
     → OnOk result (values ≡ contents_from zone huge.frame from count) → OnOk result (IsRead huge from count values)
-read zone huge from count values lawful (Ok done) accepted are = record {
+read zone huge from count values valid (Ok done) accepted are = record {
   zone = zone;
-  lawful = lawful;
+  valid = valid;
   accepted = sym {a = None} accepted;
   read = are;
 }
-read zone huge from count values lawful (Err error) accepted are = tt
+read zone huge from count values valid (Err error) accepted are = tt
 
 pub written : (zone zone_new : ZoneState) (huge : Huge) (from : ℕ) (values : List ℕ) → IsValidZone zone_new
     → (result : Result Unit ZoneError) → result_err result ≡ contents_refusal zone huge.frame huge.order from (length values)
     → OnOk result (zone_new ≡ contents_written zone huge.frame from values) → OnOk result (IsWritten huge from values)
-written zone zone_new huge from values lawful (Ok done) accepted is = record {
+written zone zone_new huge from values valid (Ok done) accepted is = record {
   zone = zone;
   zone_new = zone_new;
   accepted = sym {a = None} accepted;
   written = is;
-  lawful = lawful;
+  valid = valid;
 }
-written zone zone_new huge from values lawful (Err error) accepted is = tt
+written zone zone_new huge from values valid (Err error) accepted is = tt
 
 pub refused_words : (zone : ZoneState) (huge : Huge) (from count : ℕ) → IsValidZone zone → (result : Result Unit ZoneError)
     → result_err result ≡ contents_refusal zone huge.frame huge.order from count → IfErr result (IsRefusedWords huge from count)
-refused_words zone huge from count lawful (Ok done) is = tt
-refused_words zone huge from count lawful (Err error) is = record { zone = zone; lawful = lawful; refused = sym is }
+refused_words zone huge from count valid (Ok done) is = tt
+refused_words zone huge from count valid (Err error) is = record { zone = zone; valid = valid; refused = sym is }

@@ -14,10 +14,10 @@ use Rattle.round_core.specs.Rounds.{stop_for, stop_by_hand}
 use Rattle.state_core.specs.declared.error.ZoneError.{ZoneError}
 use Rattle.state_core.specs.declared.error.ZoneError.TheVariants.{JournalFull as JournalIsFull, NoBlock as NoBlockIsFree}
 use Rattle.state_core.specs.HandingOut.{lowest_run, is_run, take_order_refusal, block_taken}
-use Rattle.state_core.specs.Lawful.{IsValidZone}
+use Rattle.state_core.specs.Valid.{IsValidZone}
 use Rattle.state_core.specs.ZoneState.{ZoneState, frame_count, has_room}
 use Rattle.state_core.proofs.Facts.{spare}
-use Rattle.state_core.proofs.HandingOut.{lawful_block_taken}
+use Rattle.state_core.proofs.HandingOut.{valid_block_taken}
 use Rattle.huge_core.specs.ByHand.{Reservation, stopped, with_block, with_round, lowest_first, lowest_taken, asked, taking, moves, idle_stop, reserved_by_hand, after}
 use Rattle.huge_core.specs.declared.report.Stop.{Stop}
 use Rattle.huge_core.specs.declared.report.Stop.TheVariants.{Enough, Rounds, JournalFull}
@@ -76,7 +76,7 @@ same_trans z w v a b = record {
 }
 
 pub rest_same : (z w : ZoneState) → IsAtRest z → IsValidZone w → IsSame z w → IsAtRest w
-rest_same z w rest law same = record { lawful = law; none_out = sym same.out_is ∙ rest.none_out }
+rest_same z w rest law same = record { valid = law; none_out = sym same.out_is ∙ rest.none_out }
 
 -- reservations that leave the same
 
@@ -140,7 +140,7 @@ Agrees f = (z w : ZoneState) → IsAtRest z → IsAtRest w → IsSame z w → Ar
 
 pub rest_by_hand : (z : ZoneState) → IsAtRest z → IsAtRest (by_hand z)
 rest_by_hand z rest = record {
-  lawful = (moving_all (frame_count z) (all_isolated z) (moving_isolated z rest)).law;
+  valid = (moving_all (frame_count z) (all_isolated z) (moving_isolated z rest)).law;
   none_out = none_by_hand z rest;
 }
 
@@ -196,7 +196,7 @@ module _ (order : ℕ) (low : 3 ≤ order) (high : order ≤ 9) where
       let free = passed (has_room z) (is_none (lowest_run z order)) accepted in
       let first = lowest_some (is_run z order) (frame_count z) (lowest_first z order) (first_is (lowest_run z order) free.1) in
       record {
-        lawful = lawful_block_taken z (lowest_first z order) order first.1 rest.lawful (spare z free.0) low high;
+        valid = valid_block_taken z (lowest_first z order) order first.1 rest.valid (spare z free.0) low high;
         none_out = rest.none_out;
       }
 

@@ -14,7 +14,7 @@ use Rattle.round_core.specs.declared.round.Stop.{Stop as RoundStop}
 use Rattle.round_core.specs.declared.round.Stop.TheVariants as round
 use Rattle.state_core.specs.declared.error.ZoneError.TheVariants as zone
 use Rattle.state_core.specs.HandingOut.{take_order_refusal}
-use Rattle.state_core.specs.Lawful.{IsValidZone}
+use Rattle.state_core.specs.Valid.{IsValidZone}
 use Rattle.state_core.specs.ZoneState.{ZoneState, takes_up}
 use Rattle.zone_core.specs.Seats.{ScanSeat, EndSeat}
 use Rattle.huge_core.specs.ByHand.{Reservation, stopped, taking, moves, idle_stop, reserved_by_hand, frames_of, after, rounds_for, stop_for, NoneFailed, reservation_for, IsReservedByHand}
@@ -26,13 +26,13 @@ use Rattle.huge_core.specs.declared.report.Stop.TheVariants.{Enough, NoBlock, Ro
 use Rattle.huge_core.proofs.ByHand.{IsUnderWayByHand, where_full, where_none_free, where_idle, after_round}
 use Rattle.huge_core.proofs.SameByHand.{AreSame, same_refl, same_trans, where_none, reserved_is}
 
--- a lawful zone is as the lock of a zone keeps it
-pub lawful_kept : (z : ZoneState) → IsValidZone z → LockInvariant z
-lawful_kept z law = record {
+-- a valid zone is as the lock of a zone keeps it
+pub valid_kept : (z : ZoneState) → IsValidZone z → LockInvariant z
+valid_kept z law = record {
   loads = law.journal.truthful;
   clear = λ page frame held.
       false_from_ne_true (takes_up (map.get z.placement page) frame) (λ takes. false≢true (sym (law.pages.clear page frame takes) ∙ held));
-  lawful = law;
+  valid = law;
 }
 
 -- where memory or a thread was wanting for a round, the zone is as before

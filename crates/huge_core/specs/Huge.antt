@@ -4,7 +4,7 @@ use Rattle.state_core.specs.declared.error.ZoneError.{ZoneError}
 use Rattle.state_core.specs.Clear.{IsClear}
 use Rattle.state_core.specs.Contents.{contents_refusal, contents_from, contents_written}
 use Rattle.state_core.specs.HandingOut.{lowest_run, take_order_refusal, give_order_refusal, block_taken, block_given}
-use Rattle.state_core.specs.Lawful.{IsValidZone}
+use Rattle.state_core.specs.Valid.{IsValidZone}
 use Rattle.state_core.specs.ZoneState.{ZoneState}
 
 -- a block: its first frame, and its order; it has 2 ^ order frames
@@ -22,12 +22,12 @@ pub record IsHandedOut (block : Huge) : Type 0 where
   pub taken : zone_new ≡ block_taken zone block.frame block.order
   -- no page and no address has a frame of it
   pub clear : IsClear zone_new block.frame (2 ^ block.order)
-  pub lawful : IsValidZone zone_new
+  pub valid : IsValidZone zone_new
 
 -- a zone refused to hand out a block of this order: what the zone was when the call was made
 pub record IsRefused (order : ℕ) (error : ZoneError) : Type 0 where
   pub zone : ZoneState
-  pub lawful : IsValidZone zone
+  pub valid : IsValidZone zone
   pub refused : take_order_refusal zone order ≡ Some error
 
 -- a zone took a block back that it had handed out: what the zone was when the call was made, and what it was afterwards
@@ -36,18 +36,18 @@ pub record IsTakenBack (block : Huge) : Type 0 where
   pub zone_new : ZoneState
   pub accepted : give_order_refusal zone block.frame block.order ≡ None
   pub given : zone_new ≡ block_given zone block.frame block.order
-  pub lawful : IsValidZone zone_new
+  pub valid : IsValidZone zone_new
 
 -- a zone refused to take a block back: what the zone was when the call was made
 pub record IsRefusedBack (block : Huge) (error : ZoneError) : Type 0 where
   pub zone : ZoneState
-  pub lawful : IsValidZone zone
+  pub valid : IsValidZone zone
   pub refused : give_order_refusal zone block.frame block.order ≡ Some error
 
 -- this many words of a block, from one on, were read from a zone: what the zone was when the call was made; it stayed so
 pub record IsRead (block : Huge) (from count : ℕ) (values : List ℕ) : Type 0 where
   pub zone : ZoneState
-  pub lawful : IsValidZone zone
+  pub valid : IsValidZone zone
   pub accepted : contents_refusal zone block.frame block.order from count ≡ None
   pub read : values ≡ contents_from zone block.frame from count
 
@@ -58,10 +58,10 @@ pub record IsWritten (block : Huge) (from : ℕ) (values : List ℕ) : Type 0 wh
   pub zone_new : ZoneState
   pub accepted : contents_refusal zone block.frame block.order from (length values) ≡ None
   pub written : zone_new ≡ contents_written zone block.frame from values
-  pub lawful : IsValidZone zone_new
+  pub valid : IsValidZone zone_new
 
 -- a zone refused to read or write this many words of a block, from one on: what the zone was when the call was made
 pub record IsRefusedWords (block : Huge) (from count : ℕ) (error : ZoneError) : Type 0 where
   pub zone : ZoneState
-  pub lawful : IsValidZone zone
+  pub valid : IsValidZone zone
   pub refused : contents_refusal zone block.frame block.order from count ≡ Some error

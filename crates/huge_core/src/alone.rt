@@ -5,7 +5,7 @@ ghost use Rattle.huge_core.specs.Reserving.{HasRun, IsGot};
 ghost use Rattle.zone_core.specs.Alone.{IsAtRest};
 ghost use Rattle.round_core.specs.Kept.{LockInvariant};
 ghost use Rattle.state_core.specs.HandingOut.{take_order_refusal};
-ghost use Rattle.state_core.specs.Lawful.{IsValidZone};
+ghost use Rattle.state_core.specs.Valid.{IsValidZone};
 ghost use Rattle.zone_core.specs.ZoneIdentity.{HasIdentity};
 
 use crate::collector::{Collector, idle_stop};
@@ -96,7 +96,7 @@ fn fill_alone<I: Ledger, M: Ledger, B: Ledger>(
     // It took the blocks that a reservation by hand takes.
     ensures filled { HasFilled order n zone.old zone.new got.old.items got.new.items }
     ensures rest { IsAtRest zone.old → IsAtRest zone.new }
-    ensures lawful { IsValidZone zone.new }
+    ensures valid { IsValidZone zone.new }
     ensures identity { HasIdentity zone.old.number zone.old.blocks zone.new }
     ensures got { All (IsGot order) got.new.items }
     ensures ok { OnOk result (array_vec_len got.new ≡ n) }

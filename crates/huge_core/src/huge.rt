@@ -2,7 +2,7 @@ ghost use Rattle.std.specs.Prelude.{◌≡◌, ◌/◌, length, Some, None, IsTr
 ghost use Rattle.std.specs.Result.{result_err};
 ghost use Rattle.frame_core.specs.Order.{is_aligned};
 ghost use Rattle.state_core.specs.HandingOut.{lowest_run, take_order_refusal, give_order_refusal, block_taken, block_given};
-ghost use Rattle.state_core.specs.Lawful.{IsValidZone};
+ghost use Rattle.state_core.specs.Valid.{IsValidZone};
 ghost use Rattle.zone_core.specs.ZoneIdentity.{HasIdentity};
 ghost use Rattle.huge_core.specs.Huge.{IsHandedOut, IsTakenBack, IsRefusedBack, IsRead, IsWritten, IsRefusedWords};
 
@@ -46,7 +46,7 @@ impl Huge {
         ensures ok { IfOk result (λ huge. zone.new ≡ block_taken zone.old huge.frame order) }
         ensures handed_out { IfOk result IsHandedOut }
         ensures identity { HasIdentity zone.old.number zone.old.blocks zone.new }
-        ensures lawful { IsValidZone zone.new }
+        ensures valid { IsValidZone zone.new }
     {
         let frame = zone.take_order(order)?;
         Ok(Huge { frame, order })
@@ -63,7 +63,7 @@ impl Huge {
         ensures accepted { OnOk result (give_order_refusal zone.old self.frame self.order ≡ None) }
         ensures ok { OnOk result (zone.new ≡ block_given zone.old self.frame self.order) }
         ensures identity { HasIdentity zone.old.number zone.old.blocks zone.new }
-        ensures lawful { IsValidZone zone.new }
+        ensures valid { IsValidZone zone.new }
     {
         match zone.give_order(self.frame, self.order) {
             Ok(()) => Ok(()),

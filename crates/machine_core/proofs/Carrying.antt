@@ -25,7 +25,7 @@ use Rattle.state_core.specs.declared.moves.Next.TheVariants.{Page as Found, Met}
 use Rattle.state_core.specs.declared.round.Pair.{Pair}
 use Rattle.state_core.specs.declared.placement.Placement.{Placement}
 use Rattle.state_core.specs.declared.placement.Placement.TheVariants.{At, Moving}
-use Rattle.state_core.specs.Lawful.{IsValidZone}
+use Rattle.state_core.specs.Valid.{IsValidZone}
 use Rattle.state_core.specs.Pairs.{next_pair}
 use Rattle.state_core.specs.Ending.{IsOwnCopy}
 use Rattle.state_core.specs.Carrying.{page_now}
@@ -351,12 +351,12 @@ module _ (zone next : ZoneState) (scan : ScanSeat) (ends : EndSeat) (is_open : B
   pub carried_call : {T : Type 0} (W : ℕ) (call : ZoneCall W) (client : ℕ) (result : Result T ZoneError) → IsValidZone next → result_err result ≡ refusal_of call zone → OnErr result (next ≡ zone) → OnOk result (next ≡ after call client zone) → IsCarried next scan ends is_open list held capacity
   carried_call W call client (Err error) law refused err ok = unchanged err
   carried_call W call client (Ok done) law refused err ok =
-      changed (after call client zone) ok law (call_leaves call client zone) (own_called call client zone was.orderly.lawful (sym refused))
+      changed (after call client zone) ok law (call_leaves call client zone) (own_called call client zone was.orderly.valid (sym refused))
 
   pub carried_mapped : (client : ℕ) (address : Address) (unmovable : Bool) (result : Result ℕ ZoneError) → IsValidZone next → OnErr result (next ≡ zone) → IfOk result (λ frame. lowest_free_frame zone ≡ Some frame) → IfOk result (λ frame. next ≡ mapped zone client address unmovable frame) → IsCarried next scan ends is_open list held capacity
   carried_mapped client address unmovable (Err error) law err lowest ok = unchanged err
   carried_mapped client address unmovable (Ok frame) law err lowest ok =
-      changed (mapped zone client address unmovable frame) ok law (record { same_out = refl; migrate = refl; free = refl; blocks = refl }) (own_mapped zone client address unmovable frame was.orderly.lawful (not_none _ frame lowest))
+      changed (mapped zone client address unmovable frame) ok law (record { same_out = refl; migrate = refl; free = refl; blocks = refl }) (own_mapped zone client address unmovable frame was.orderly.valid (not_none _ frame lowest))
 
   pub carried_taken : {T : Type 0} (first : T → ℕ) (order : ℕ) (result : Result T ZoneError) → IsValidZone next → OnErr result (next ≡ zone) → IfOk result (λ block. next ≡ block_taken zone (first block) order) → IsCarried next scan ends is_open list held capacity
   carried_taken first order (Err error) law err ok = unchanged err

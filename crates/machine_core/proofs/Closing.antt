@@ -13,7 +13,7 @@ use Rattle.state_core.specs.declared.error.ZoneError.TheVariants.{Missing, Out}
 use Rattle.machine_core.specs.declared.hand.Hand.TheVariants as hand
 use Rattle.machine_core.specs.declared.hands.Held.TheVariants.{Nothing, Page, Copy}
 use Rattle.machine_core.specs.Carried.{InHand, hand_as, is_nothing, AreOwn, world_of, IsCarried, IsRest}
-use Rattle.state_core.specs.Lawful.{IsValidZone}
+use Rattle.state_core.specs.Valid.{IsValidZone}
 use Rattle.state_core.specs.Ending.{IsOwnCopy, put_back_to_source}
 use Rattle.zone_core.specs.Seats.{ScanSeat, EndSeat, audit_refusal}
 use Rattle.machine_core.specs.World.{WorldState, IsOrderly, IsRising, world_closed, hand_of, serial_in, is_empty, all_put_back, shut, shut_step}
@@ -37,7 +37,7 @@ module _ (zone : ZoneState) (scan : ScanSeat) (ends : EndSeat) (law : IsValidZon
 
   orderly_closed : IsOrderly (world_closed zone scan ends)
   orderly_closed = record {
-    lawful = law;
+    valid = law;
     whole = whole;
     four = refl;
     rising = tt;
@@ -122,7 +122,7 @@ not_shut zone scan ends is_open list held full =
 -- the list of a world has at most 4,096 pages
 pub short_list : (zone : ZoneState) (scan : ScanSeat) (ends : EndSeat) (is_open : Bool) (list : List IsolatedPage) (held : List InHand) (capacity : ℕ) → IsCarried zone scan ends is_open list held capacity → length list ≤ 4096
 short_list zone scan ends is_open list held capacity was =
-    omega (arith, was.orderly.few.1, was.orderly.lawful.size.1, length-map list (λ (p : IsolatedPage). p.serial))
+    omega (arith, was.orderly.few.1, was.orderly.valid.size.1, length-map list (λ (p : IsolatedPage). p.serial))
 
 module _ (zone next : ZoneState) (scan : ScanSeat) (ends : EndSeat) (is_open : Bool) (list : List IsolatedPage) (held : List InHand) (capacity count : ℕ) (was : IsCarried zone scan ends is_open list held capacity) (empty : list_all is_nothing held ≡ true) (done : next ≡ all_put_back zone (serials_of list)) (blocks : next.blocks ≡ zone.blocks) (counted : count ≡ length list) where
   abbrev open_world : WorldState
@@ -174,5 +174,5 @@ pub rest_left : (zone : ZoneState) (scan : ScanSeat) (ends : EndSeat) (is_open :
 rest_left zone scan ends is_open list held capacity was closed = record {
   none = closed_waits zone scan ends is_open list held was.orderly closed;
   room = omega (arith, was.room);
-  few = omega (arith, was.room, was.orderly.lawful.size.1);
+  few = omega (arith, was.room, was.orderly.valid.size.1);
 }

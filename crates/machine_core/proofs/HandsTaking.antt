@@ -80,7 +80,7 @@ module _ (w : WorldState) (k first : ℕ) (more : List ℕ) (low : 0 < k) (high 
   orderly_with_taken =
       let longer : length w.waiting ≡ length more + 1 = ap length waiting ∙ (let one : length (first ∷ more) ≡ length more + 1 = omega arith in one) in
       record {
-        lawful = o.lawful;
+        valid = o.valid;
         whole = o.whole;
         four = length-set w.hands (k - 1) (Page first) ∙ o.four;
         rising = rising_first.1;
@@ -142,7 +142,7 @@ module _ (w : WorldState) (k serial : ℕ) (low : 0 < k) (high : k ≤ 4) (o : I
 
   orderly_with_copy : IsOrderly (with_hand w k (Copy serial))
   orderly_with_copy = record {
-    lawful = o.lawful;
+    valid = o.valid;
     whole = o.whole;
     four = length-set w.hands (k - 1) (Copy serial) ∙ o.four;
     rising = o.rising;

@@ -109,7 +109,7 @@ module _ (zone : ZoneState) (scan : ScanSeat) (ends : EndSeat) (is_open : Bool) 
       ∙ ap (λ (hs : List Hand). Some (finished_as zone p.serial, record { zone = zone_finished; scan = scan; ends = ends_finished; is_open = is_open; waiting = serials_of list; hands = hs })) (sym (each_set held (k - 1) Nothing))
 
   finished_is : zone_finished ≡ committed zone p.serial p.page.number
-  finished_is = ap (λ (o : Option ℕ). committed zone p.serial (unwrap_or o 0)) (own_page zone was.orderly.lawful p own_in_hand.own)
+  finished_is = ap (λ (o : Option ℕ). committed zone p.serial (unwrap_or o 0)) (own_page zone was.orderly.valid p own_in_hand.own)
 
   blocks_same : zone_finished.blocks ≡ zone.blocks
   blocks_same = ap (λ (v : ZoneState). v.blocks) finished_is ∙ by_pins (nat_eq (pins zone.records p.page.number) 0) where

@@ -21,12 +21,12 @@ use Rattle.state_core.specs.declared.moves.Ended.{Ended}
 use Rattle.state_core.specs.declared.moves.Ended.TheVariants as ended
 use Rattle.state_core.specs.declared.placement.Placement.{Placement}
 use Rattle.state_core.specs.declared.placement.Placement.TheVariants.{At, Moving}
-use Rattle.state_core.specs.Lawful.{IsValidZone, is_under}
+use Rattle.state_core.specs.Valid.{IsValidZone, is_under}
 use Rattle.state_core.specs.Ending.{moved_to_target, put_back_to_source}
 use Rattle.machine_core.specs.World.{WorldState, IsOrderly, IsRising, with_hand, hand_of, waits, is_empty, serial_in, copy_in, finished_as, finished_in, finished_by, finish_step, all_put_back, shut, shut_step}
 use Rattle.zone_core.specs.Seats.{EndSeat, seat_ended}
 use Rattle.state_core.specs.ZoneState.{ZoneState, frame_count}
-use Rattle.state_core.proofs.Settled.{lawful_moved, lawful_put_back}
+use Rattle.state_core.proofs.Settled.{valid_moved, valid_put_back}
 use Rattle.machine_core.proofs.Standing.{held, holds, holds_at, Stands, stands, stands_so, set_cases, stands_out, waits_out, in_hand_out}
 
 -- a serial that is out has the page that was isolated under it
@@ -62,7 +62,7 @@ on_its_way z law serial e =
 
 -- a zone in which the move of one serial ended
 record IsEnded (old new : ZoneState) (serial : ℕ) : Type 0 where
-  lawful : IsValidZone new
+  valid : IsValidZone new
   gone : (s : ℕ) → is_out new.records s ≡ (is_out old.records s && not (nat_eq s serial))
   migrate : new.migrate ≡ old.migrate
   free : new.free ≡ old.free
@@ -75,7 +75,7 @@ finished_ended z law serial e = by_pins (nat_eq (pins z.records (page_under z se
 
   by_pins : (b : Bool) → nat_eq (pins z.records (page_under z serial)) 0 ≡ b → IsEnded z (if b then moved_to_target z serial (page_under z serial) else put_back_to_source z serial (page_under z serial) Pinned) serial
   by_pins true none = record {
-    lawful = lawful_moved z serial (page_under z serial) way.0 way.1 law way.2 (eqb-true _ 0 none);
+    valid = valid_moved z serial (page_under z serial) way.0 way.1 law way.2 (eqb-true _ 0 none);
     gone = λ s. any_without serial s (out z.records);
     migrate = refl;
     free = refl;
@@ -84,7 +84,7 @@ finished_ended z law serial e = by_pins (nat_eq (pins z.records (page_under z se
   by_pins false some =
       let ne : pins z.records (page_under z serial) ≢ 0 = λ is. both_ways _ some (eq-eqb _ 0 is) in
       record {
-        lawful = lawful_put_back z serial (page_under z serial) way.0 way.1 Pinned law way.2 (omega arith);
+        valid = valid_put_back z serial (page_under z serial) way.0 way.1 Pinned law way.2 (omega arith);
         gone = λ s. any_without serial s (out z.records);
         migrate = refl;
         free = refl;
@@ -141,7 +141,7 @@ module _ (w : WorldState) (k serial : ℕ) (low : 0 < k) (high : k ≤ 4) (o : I
 
   orderly_with_end : IsOrderly (record (with_hand w k Empty) { zone = zone; ends = ends })
   orderly_with_end = record {
-    lawful = ended.lawful;
+    valid = ended.valid;
     whole = whole;
     four = length-set w.hands (k - 1) Empty ∙ o.four;
     rising = o.rising;
@@ -167,25 +167,25 @@ orderly_finished w k finished after low high o e = by_copy (copy_in (hand_of w k
   by_copy (Some serial) is e =
       let out_now = in_hand_out w o k serial low (copy_serial serial (hand_of w k) is) in
       subst IsOrderly (some_pair_parts _ finished _ after e).1
-      (orderly_with_end w k serial low high o is (finished_in w.zone serial) (finished_ended w.zone o.lawful serial out_now)
+      (orderly_with_end w k serial low high o is (finished_in w.zone serial) (finished_ended w.zone o.valid serial out_now)
       (seat_ended w.ends (finished_as w.zone serial).ended) (parts_ended w.ends (finished_as w.zone serial).ended ∙ o.whole))
 
 -- a zone in which the moves of some serials ended
 record AreEnded (old new : ZoneState) (serials : List ℕ) : Type 0 where
-  lawful : IsValidZone new
+  valid : IsValidZone new
   gone : (s : ℕ) → is_out new.records s ≡ true → (is_out old.records s ≡ true) × (list_any (nat_eq s) serials ≡ false)
 
 all_ended : (serials : List ℕ) (z : ZoneState) → IsValidZone z → IsRising serials → ((s : ℕ) → list_any (nat_eq s) serials ≡ true → is_out z.records s ≡ true) → AreEnded z (all_put_back z serials) serials
-all_ended [] z law rising are_out = record { lawful = law; gone = λ s e. (e, refl) }
+all_ended [] z law rising are_out = record { valid = law; gone = λ s e. (e, refl) }
 all_ended (serial ∷ more) z law rising are_out =
     let way = on_its_way z law serial (are_out serial (or_left (nat_eq serial serial) _ (eq-eqb serial serial refl))) in
     let next : ZoneState = put_back_to_source z serial (page_under z serial) NotCopied in
     let rest : AreEnded next (all_put_back next more) more =
-    all_ended more next (lawful_put_back z serial (page_under z serial) way.0 way.1 NotCopied law way.2 tt) rising.1
+    all_ended more next (valid_put_back z serial (page_under z serial) way.0 way.1 NotCopied law way.2 tt) rising.1
     (λ s h. (let above : serial < s = rising.0 s h in
     any_without serial s (out z.records) ∙ and_from _ _ (are_out s (or_right (nat_eq s serial) _ h)) (not_from_false _ (ne_eqb s serial (λ same. omega arith))))) in
     record {
-      lawful = rest.lawful;
+      valid = rest.valid;
       gone = λ s e. (let later = rest.gone s e in
           let parts = and_parts (is_out z.records s) _ (sym (any_without serial s (out z.records)) ∙ later.0) in
           (parts.0, or_from (nat_eq s serial) _ (not-true _ parts.1) later.1));
@@ -202,7 +202,7 @@ module _ (w : WorldState) (o : IsOrderly w) (empty : list_all is_empty w.hands �
   zone_shut = all_put_back w.zone w.waiting
 
   shut_ended : AreEnded w.zone zone_shut w.waiting
-  shut_ended = all_ended w.waiting w.zone o.lawful o.rising (waits_out w o)
+  shut_ended = all_ended w.waiting w.zone o.valid o.rising (waits_out w o)
 
   empty_hand : (k s : ℕ) → serial_in (hand_of w k) ≡ Some s → ⊥
   empty_hand k s e = both_ways _ (none_held w.hands s empty) (holds_at w.hands (k - 1) s e)
@@ -214,9 +214,9 @@ module _ (w : WorldState) (o : IsOrderly w) (empty : list_all is_empty w.hands �
 
   orderly_with_shut : IsOrderly (shut w)
   orderly_with_shut =
-      let within : zone_shut.free ≤ frame_count zone_shut = shut_ended.lawful.fingers.ordered.1 in
+      let within : zone_shut.free ≤ frame_count zone_shut = shut_ended.valid.fingers.ordered.1 in
       record {
-        lawful = shut_ended.lawful;
+        valid = shut_ended.valid;
         whole = o.whole;
         four = o.four;
         rising = tt;

@@ -8,7 +8,7 @@ use Rattle.frame_core.proofs.OnTheWay.{out_below}
 use Rattle.frame_core.specs.Moves.{isolated, is_out}
 use Rattle.state_core.specs.declared.moves.Next.TheVariants as next
 use Rattle.state_core.specs.declared.round.Pair.{Pair}
-use Rattle.state_core.specs.Lawful.{IsValidZone}
+use Rattle.state_core.specs.Valid.{IsValidZone}
 use Rattle.state_core.specs.Rounds.{round_begun}
 use Rattle.state_core.specs.Isolating.{isolate_refusal, isolated_next}
 use Rattle.state_core.specs.Pairs.{IsPair, next_pair}
@@ -16,13 +16,13 @@ use Rattle.machine_core.specs.World.{WorldState, IsOrderly, IsRising, with_zone,
 use Rattle.zone_core.specs.Seats.{ScanSeat, seat_begun, seat_noted}
 use Rattle.state_core.specs.ZoneState.{ZoneState}
 use Rattle.state_core.proofs.Pairing.{pair_found}
-use Rattle.state_core.proofs.Rounds.{lawful_begun}
-use Rattle.state_core.proofs.Settled.{lawful_isolated}
+use Rattle.state_core.proofs.Rounds.{valid_begun}
+use Rattle.state_core.proofs.Settled.{valid_isolated}
 use Rattle.machine_core.proofs.Standing.{Stands, stands, stands_so, stands_out, waits_out, in_hand_out}
 
 pub orderly_with_zone : (w : WorldState) (zone : ZoneState) → IsOrderly w → IsValidZone zone → ((serial : ℕ) → is_out zone.records serial ≡ is_out w.zone.records serial) → zone.migrate ≡ w.zone.migrate → zone.free ≡ w.zone.free → zone.blocks ≡ w.zone.blocks → IsOrderly (with_zone w zone)
 orderly_with_zone w zone o law same migrate free blocks = record {
-  lawful = law;
+  valid = law;
   whole = o.whole;
   four = o.four;
   rising = o.rising;
@@ -40,7 +40,7 @@ none_waits (x ∷ serials) none = absurd (none x (or_left (nat_eq x x) _ (eq-eqb
 -- the seat of the scanner notes something
 pub orderly_noted : (w : WorldState) (seat : ScanSeat) → IsOrderly w → IsOrderly (record w { scan = seat })
 orderly_noted w seat o = record {
-  lawful = o.lawful;
+  valid = o.valid;
   whole = o.whole;
   four = o.four;
   rising = o.rising;
@@ -57,7 +57,7 @@ orderly_round_opened w o = by_open w.is_open refl where
   begun closed seat =
       let none : length w.waiting ≡ 0 = none_waits w.waiting (λ s h. both_ways _ (o.closed closed s) (waits_out w o s h)) in
       record {
-        lawful = lawful_begun w.zone o.lawful;
+        valid = valid_begun w.zone o.valid;
         whole = o.whole;
         four = o.four;
         rising = o.rising;
@@ -72,7 +72,7 @@ orderly_round_opened w o = by_open w.is_open refl where
   by_open true e =
       subst (λ (b : Bool). IsOrderly (record w { zone = if b then w.zone else round_begun w.zone; scan = if b then w.scan else seat_begun w.scan; is_open = true })) (sym e)
       (record {
-        lawful = o.lawful;
+        valid = o.valid;
         whole = o.whole;
         four = o.four;
         rising = o.rising;
@@ -121,7 +121,7 @@ module _ (w : WorldState) (o : IsOrderly w) (is_open : w.is_open ≡ true) (pair
   now_waiting = w.waiting ++ next_serial ∷ []
 
   below_next : (s : ℕ) → is_out w.zone.records s ≡ true → s < next_serial
-  below_next s e = out_below w.zone.records o.lawful.journal.well_ended s e
+  below_next s e = out_below w.zone.records o.valid.journal.well_ended s e
 
   isolated_stands : (s : ℕ) → (nat_eq s next_serial || is_out w.zone.records s) ≡ true → Stands now_waiting w.hands s
   isolated_stands s e = elim (or_cases (nat_eq s next_serial) _ e) [
@@ -147,7 +147,7 @@ module _ (w : WorldState) (o : IsOrderly w) (is_open : w.is_open ≡ true) (pair
       let high : pair.target < w.zone.free = is_pair.to.high in
       let longer : length now_waiting ≡ length w.waiting + 1 = length-append w.waiting (next_serial ∷ []) in
       record {
-        lawful = law;
+        valid = law;
         whole = o.whole;
         four = o.four;
         rising = rising_more w.waiting next_serial o.rising (λ s h. below_next s (waits_out w o s h));
@@ -163,5 +163,5 @@ orderly_isolated w o is_open room = by_pair (next_pair w.zone) refl where
   by_pair : (p : Option Pair) → next_pair w.zone ≡ p → IsOrderly (isolated_by w p)
   by_pair None e = orderly_noted w (seat_noted w.scan next.Met) o
   by_pair (Some pair) e =
-      let is_pair = pair_found w.zone o.lawful pair e in
-      orderly_with_pair w o is_open pair (lawful_isolated w.zone pair o.lawful is_pair room) is_pair
+      let is_pair = pair_found w.zone o.valid pair e in
+      orderly_with_pair w o is_open pair (valid_isolated w.zone pair o.valid is_pair room) is_pair

@@ -12,7 +12,7 @@ use Rattle.machine_core.specs.declared.hand.Hand.TheVariants.{Empty, Page, Copy 
 use Rattle.machine_core.specs.declared.hand.Scanned.{Scanned}
 use Rattle.machine_core.specs.declared.hand.Scanned.TheVariants as found
 use Rattle.machine_core.specs.declared.hand.Finished.{Finished}
-use Rattle.state_core.specs.Lawful.{IsValidZone}
+use Rattle.state_core.specs.Valid.{IsValidZone}
 use Rattle.state_core.specs.Rounds.{round_begun}
 use Rattle.state_core.specs.Isolating.{isolate_refusal, isolated_next, next_answer}
 use Rattle.state_core.specs.Ending.{committed, ended_as, put_back_to_source}
@@ -188,7 +188,7 @@ is_in_hand w serial = list_any (λ hand. is_in serial (serial_in hand)) w.hands
 -- a world is orderly: the pages that wait and those in hands are exactly those that are out, each once, and those that
 -- wait are in the order of their serials
 pub record IsOrderly (w : WorldState) : Type 0 where
-  pub lawful : IsValidZone w.zone
+  pub valid : IsValidZone w.zone
   -- no part of the end seat is missing
   pub whole : w.ends.parts ≡ 64
   pub four : length w.hands ≡ 4

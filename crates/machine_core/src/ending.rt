@@ -3,7 +3,7 @@
 ghost use Rattle.std.specs.Prelude.{◌≡◌, ◌+◌, ◌≤◌, [], ◌∷◌, length, Some};
 ghost use Rattle.std.specs.VecDeque.{deque_capacity};
 ghost use Rattle.frame_core.specs.Moves.{page_of};
-ghost use Rattle.state_core.specs.Lawful.{IsValidZone};
+ghost use Rattle.state_core.specs.Valid.{IsValidZone};
 ghost use Rattle.state_core.specs.Ending.{IsOwnCopy};
 ghost use Rattle.frame_core.specs.Serials.{serials_of};
 ghost use Rattle.machine_core.specs.Carried.{AreOwn};
@@ -22,7 +22,7 @@ pub(crate) fn finish_in<const W: usize, I: Ledger, M: Ledger, B: Ledger>(
     ends: &mut EndSeat<M, B>,
     copy: CopiedOf<W>,
 ) -> Finished
-    requires lawful { IsValidZone zone.old }
+    requires valid { IsValidZone zone.old }
     requires own { IsOwnCopy zone.old copy }
     ensures finished { result ≡ finished_as zone.old copy.entry.serial }
     ensures zone { zone.new ≡ finished_in zone.old copy.entry.serial }
@@ -41,10 +41,10 @@ fn put_back_in<const W: usize, I: Ledger, M: Ledger, B: Ledger>(
     ends: &mut EndSeat<M, B>,
     page: IsolatedOf<W>,
 )
-    requires lawful { IsValidZone zone.old }
+    requires valid { IsValidZone zone.old }
     requires own { IsOwnCopy zone.old page }
     ensures zone { zone.new ≡ all_put_back zone.old (page.entry.serial ∷ []) }
-    ensures lawful { IsValidZone zone.new }
+    ensures valid { IsValidZone zone.new }
     ensures page { page_of zone.old.records page.entry.serial ≡ Some page.entry.page.number }
     ensures seat { ends.new ≡ record ends.old { back = ends.old.back + 1 } }
 {
@@ -59,7 +59,7 @@ pub(crate) fn put_all_back_in<const W: usize, I: Ledger, M: Ledger, B: Ledger>(
     ends: &mut EndSeat<M, B>,
     waiting: &mut VecDeque<IsolatedOf<W>>,
 ) -> u32
-    requires lawful { IsValidZone zone.old }
+    requires valid { IsValidZone zone.old }
     requires own { AreOwn zone.old waiting.old.items }
     requires rising { IsRising (serials_of waiting.old.items) }
     requires few { length waiting.old.items ≤ 4096 }

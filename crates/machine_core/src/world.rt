@@ -8,7 +8,7 @@ ghost use Rattle.state_core.specs.Isolating.{isolate_refusal};
 ghost use Rattle.zone_core.specs.Seats.{seat_full, audit_refusal, fresh_scan_seat, fresh_end_seat};
 ghost use Rattle.state_core.specs.Pairs.{next_pair};
 ghost use Rattle.frame_core.specs.Journal.{told_places};
-ghost use Rattle.state_core.specs.Lawful.{IsValidZone};
+ghost use Rattle.state_core.specs.Valid.{IsValidZone};
 ghost use Rattle.state_core.specs.Opening.{IsOpenable, IsSize, opened_with};
 ghost use Rattle.std.specs.Result.{result_err};
 ghost use Rattle.state_core.specs.Mapping.{map_refusal, map_at_refusal, mapped};
@@ -135,7 +135,7 @@ impl<const W: usize, I: Ledger, N: Ledger, M: Ledger, B: Ledger> World<W, I, N, 
         ends: EndSeat<M, B>,
     ) -> Result<World<W, I, N, M, B>, ZoneError>
         requires zone { (number places : ℕ) × (zone ≡ opened_with W number blocks places) }
-        requires lawful { IsValidZone zone }
+        requires valid { IsValidZone zone }
         requires scan { scan ≡ fresh_scan_seat }
         requires ends { ends ≡ fresh_end_seat }
         ensures memory { IfErr result (λ error. error ≡ ZoneError.Memory) }

@@ -9,7 +9,7 @@ use Rattle.frame_core.specs.Moves.{isolated}
 use Rattle.zone_core.specs.ByHand.{scan_step}
 use Rattle.zone_core.proofs.Scanning.{by_scan}
 use Rattle.state_core.specs.Ending.{committed, moved_to_target, put_back_to_source}
-use Rattle.state_core.specs.Lawful.{IsValidZone}
+use Rattle.state_core.specs.Valid.{IsValidZone}
 use Rattle.state_core.specs.ZoneState.{ZoneState}
 use Rattle.round_core.specs.Calls.{IsAddedBeside, IsCall, is_of, is_of_round}
 

@@ -13,7 +13,7 @@ use Rattle.zone_core.proofs.Scanner.{refusal_same}
 use Rattle.state_core.specs.declared.error.ZoneError.{ZoneError}
 use Rattle.state_core.specs.declared.information.Audit.{Audit}
 use Rattle.state_core.specs.Isolating.{isolate_refusal}
-use Rattle.state_core.specs.Lawful.{IsValidZone}
+use Rattle.state_core.specs.Valid.{IsValidZone}
 use Rattle.state_core.specs.Packed.{IsPacked}
 use Rattle.state_core.specs.Pairs.{is_calm}
 use Rattle.state_core.specs.ZoneState.{ZoneState}
@@ -67,7 +67,7 @@ module _ (start z : ZoneState) (scan scan_new : ScanSeat) (ends ends_new : EndSe
     first = let seats = whole scan ends sound in audited start scan ends before ((told seats.0).1 seats.1) found
 
     at_rest : IsAtRest start
-    at_rest = record { lawful = law_start; none_out = first.1.none_out }
+    at_rest = record { valid = law_start; none_out = first.1.none_out }
 
     pub same_unbegun : scan_new ≡ scan → IsSame start z
     same_unbegun same = alone_unbegun start z at_rest keeps (sym counted_new ∙ ap (λ (s : ScanSeat). s.count) same ∙ counted)

@@ -3,7 +3,7 @@ use Rattle.std.specs.Prelude.{◌≡◌, ℕ, ◌<◌, true, false, []}
 use Rattle.std.specs.FinMap as map
 use Rattle.frame_core.specs.Moves.{ends_of, out}
 use Rattle.frame_core.specs.Truth.{IsTruthful}
-use Rattle.state_core.specs.Lawful.{IsValidZone}
+use Rattle.state_core.specs.Valid.{IsValidZone}
 use Rattle.state_core.specs.ZoneState.{ZoneState, takes_up, is_held}
 
 -- the zone at each moment that its lock is taken, also while pages are in queues and in hands
@@ -12,8 +12,8 @@ pub record LockInvariant (z : ZoneState) : Type 0 where
   pub loads : IsTruthful z.records
   -- each block that is handed out is clear: no page takes up a frame of it
   pub clear : (page frame : ℕ) → is_held z frame ≡ true → takes_up (map.get z.placement page) frame ≡ false
-  -- the zone is lawful, as every zone is
-  pub lawful : IsValidZone z
+  -- the zone is valid, as every zone is
+  pub valid : IsValidZone z
 
 -- what an audit of the zone finds, with a scan seat that counted this many pages
 pub record AreAllEnded (z : ZoneState) (count : ℕ) : Type 0 where

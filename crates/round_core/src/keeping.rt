@@ -12,7 +12,7 @@ ghost use Rattle.round_core.specs.Scanning.{HasBegun};
 ghost use Rattle.round_core.specs.declared.round.Stop.{Stop as Stopped};
 ghost use Rattle.state_core.specs.Ending.{committed, put_back_to_source, HasCause};
 ghost use Rattle.state_core.specs.Isolating.{isolate_refusal};
-ghost use Rattle.state_core.specs.Lawful.{IsValidZone};
+ghost use Rattle.state_core.specs.Valid.{IsValidZone};
 ghost use Rattle.state_core.specs.Rounds.{round_begun};
 ghost use Rattle.state_core.specs.ZoneState.{ZoneState};
 ghost use Rattle.state_core.specs.declared.placement.Placement.TheVariants.{Moving};
@@ -20,7 +20,7 @@ ghost use Rattle.state_core.specs.declared.placement.Placement.TheVariants.{Movi
 use crate::identity::ZoneIdentity;
 use std::marker::{Brand, PhantomData};
 
-/// What the lock of a zone keeps, beside that the zone is lawful: a fact about the zone that each step of a round leaves true, and each
+/// What the lock of a zone keeps, beside that the zone is valid: a fact about the zone that each step of a round leaves true, and each
 /// call of a client that may make calls. Contracts alone know it, and whoever shares a zone picks it. `Open` keeps nothing;
 /// `compact_alone` keeps what its round comes to, and no client may make calls.
 pub trait Keeping: ZoneIdentity {
@@ -116,7 +116,7 @@ impl Keeping for Brand {
     ghost pairs = { λ client pair records may. may };
 }
 
-/// Of a zone that anyone may use its lock keeps nothing but that it is lawful, and each client that has no slip may make calls.
+/// Of a zone that anyone may use its lock keeps nothing but that it is valid, and each client that has no slip may make calls.
 pub struct Open<K> {
     of: PhantomData<K>,
 }

@@ -1,6 +1,6 @@
 //! Rounds on threads: a scanner isolates pages of a zone in page_lists, copiers copy them, and a committer ends their moves in page_lists.
 //!
-//! The zone is under one lock, which keeps it lawful. Contracts see a round by what it changes in the two seats.
+//! The zone is under one lock, which keeps it valid. Contracts see a round by what it changes in the two seats.
 #![tactic(auto)]
 
 mod alone;

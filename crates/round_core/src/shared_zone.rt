@@ -25,7 +25,7 @@ pub struct Room<K: Keeping, I: Ledger, M: Ledger, B: Ledger> {
 impl<K: Keeping, I: Ledger, M: Ledger, B: Ledger> Model for Room<K, I, M, B> {
     ghost use Rattle.std.specs.Prelude.{◌≡◌};
     ghost use Rattle.state_core.specs.ZoneCode.{coded_zone};
-    ghost use Rattle.state_core.specs.Lawful.{IsValidZone};
+    ghost use Rattle.state_core.specs.Valid.{IsValidZone};
     ghost use Rattle.state_core.specs.ZoneState.{ZoneState};
     ghost use Rattle.zone_core.specs.ZoneIdentity.{HasIdentity};
 
@@ -64,7 +64,7 @@ pub struct KeptZone<K: Keeping, I: Ledger, M: Ledger, B: Ledger> {
     ghost in_range: { (0 < blocks) × (blocks ≤ 8) },
 }
 
-/// A zone under one lock that anyone may use: it keeps nothing but that the zone is lawful.
+/// A zone under one lock that anyone may use: it keeps nothing but that the zone is valid.
 pub type SharedZone<K, I, M, B> = KeptZone<Open<K>, I, M, B>;
 
 impl<K: Keeping, I: Ledger, M: Ledger, B: Ledger> KeptZone<K, I, M, B> {

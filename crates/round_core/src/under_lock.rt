@@ -3,7 +3,7 @@
 ghost use Rattle.std.specs.Prelude.{◌≡◌, ◌+◌, ◌<◌, ◌≤◌, [], length, Some, None, IfSome, IfNone, OnSome};
 ghost use Rattle.std.specs.VecDeque.{deque_capacity};
 ghost use Rattle.frame_core.specs.Moves.{isolated};
-ghost use Rattle.state_core.specs.Lawful.{IsValidZone};
+ghost use Rattle.state_core.specs.Valid.{IsValidZone};
 ghost use Rattle.frame_core.specs.Serials.{HasSerialsFrom};
 ghost use Rattle.zone_core.specs.ZoneIdentity.{HasIdentity};
 ghost use Rattle.round_core.specs.PuttingBack.{all_put_back};
@@ -22,7 +22,7 @@ pub(crate) fn isolate_pages<K: Keeping, I: Ledger, N: Ledger, M: Ledger, B: Ledg
     scan: &mut ScanSeat<I, N>,
     pages: &mut VecDeque<Isolated>,
 ) -> Option<Stop>
-    requires lawful { IsValidZone zone.old }
+    requires valid { IsValidZone zone.old }
     requires keeps { K.keeps_scanning zone.old }
     requires count { isolated zone.old.records ≡ scan.old.count }
     requires empty { (pages.old.items ≡ []) × (0 < deque_capacity pages.old) }
@@ -36,7 +36,7 @@ pub(crate) fn isolate_pages<K: Keeping, I: Ledger, N: Ledger, M: Ledger, B: Ledg
     ensures more { IfNone result (scan.old.count < scan.new.count) }
     ensures room { deque_capacity pages.new ≡ deque_capacity pages.old }
     ensures identity { HasIdentity zone.old.number zone.old.blocks zone.new }
-    ensures lawful { IsValidZone zone.new }
+    ensures valid { IsValidZone zone.new }
 {
     while pages.len() < pages.capacity() {
         match zone.isolate_next(scan) {
@@ -55,7 +55,7 @@ pub(crate) fn commit_copies<K: Keeping, I: Ledger, M: Ledger, B: Ledger>(
     copies: &mut VecDeque<Copied>,
     mut stranger: Option<Serial>,
 ) -> Option<Serial>
-    requires lawful { IsValidZone zone.old }
+    requires valid { IsValidZone zone.old }
     requires keeps { K.keeps zone.old }
     ensures keeps { K.keeps zone.new }
     ensures told { K.told zone.new.records ≡ K.told zone.old.records }
@@ -63,7 +63,7 @@ pub(crate) fn commit_copies<K: Keeping, I: Ledger, M: Ledger, B: Ledger>(
     ensures copies { copies.new.items ≡ [] }
     ensures parts { seat.new.parts ≡ seat.old.parts }
     ensures identity { HasIdentity zone.old.number zone.old.blocks zone.new }
-    ensures lawful { IsValidZone zone.new }
+    ensures valid { IsValidZone zone.new }
 {
     while let Some(copy) = copies.pop_front() {
         if let Err(refused) = zone.commit(seat, copy) {
@@ -79,7 +79,7 @@ pub(crate) fn put_back_pages<K: Keeping, I: Ledger, M: Ledger, B: Ledger>(
     seat: &mut EndSeat<M, B>,
     pages: &mut VecDeque<Isolated>,
 ) -> Option<Serial>
-    requires lawful { IsValidZone zone.old }
+    requires valid { IsValidZone zone.old }
     requires keeps { K.keeps zone.old }
     ensures keeps { K.keeps zone.new }
     ensures told { K.told zone.new.records ≡ K.told zone.old.records }
@@ -89,7 +89,7 @@ pub(crate) fn put_back_pages<K: Keeping, I: Ledger, M: Ledger, B: Ledger>(
     ensures pages { pages.new.items ≡ [] }
     ensures room { deque_capacity pages.new ≡ deque_capacity pages.old }
     ensures identity { HasIdentity zone.old.number zone.old.blocks zone.new }
-    ensures lawful { IsValidZone zone.new }
+    ensures valid { IsValidZone zone.new }
 {
     let mut stranger = None;
     while let Some(page) = pages.pop_front() {

@@ -1,4 +1,4 @@
--- What an accepted call found in a lawful zone.
+-- What an accepted call found in a valid zone.
 use Rattle.std.proofs.Common.{◌≡◌, ℕ, Bool, refl, ap, Option, Some, None}
 use Rattle.std.specs.Prelude.{IsSome, unwrap_or}
 use Rattle.std.specs.FinMap as map
@@ -6,7 +6,7 @@ use Rattle.frame_core.specs.declared.place.Address.{Address}
 use Rattle.frame_core.specs.History.{page_at}
 use Rattle.state_core.specs.declared.placement.Placement.TheVariants.{At}
 use Rattle.state_core.specs.Access.{access_refusal}
-use Rattle.state_core.specs.Lawful.{IsValidZone}
+use Rattle.state_core.specs.Valid.{IsValidZone}
 use Rattle.state_core.specs.Mapping.{mapped, placed}
 use Rattle.state_core.specs.ZoneState.{ZoneState, lowest_free_frame, lowest_unused_page}
 use Rattle.state_core.proofs.Facts.{page_named}

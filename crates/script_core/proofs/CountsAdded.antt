@@ -1,4 +1,4 @@
--- The counts of a lawful zone add up, and so do those of each reply.
+-- The counts of a valid zone add up, and so do those of each reply.
 use Rattle.std.proofs.Common.{◌≡◌, ℕ, ◌*◌, ◌<◌, ◌≤◌, Bool, true, false, List, [], ◌∷◌, refl, sym, ap, subst, ◌∙◌, Option, Some, None}
 use Rattle.std.specs.Prelude.{nat_eq, if◌then◌else◌}
 use Rattle.std.specs.List.{AllByRecursion}
@@ -32,8 +32,8 @@ adds_plain frames (reply.InfoWithHeld i) h = cc
 adds_plain frames _ h = tt
 
 adds_call : (w : WorldState) → IsOrderly w → (c : Call) → AddsUpTo (Some (512 * w.zone.blocks)) (call_step w c).reply
-adds_call w o Info = ap Some (sym o.lawful.sum)
-adds_call w o InfoWithHeld = ap Some (sym o.lawful.sum)
+adds_call w o Info = ap Some (sym o.valid.sum)
+adds_call w o InfoWithHeld = ap Some (sym o.valid.sum)
 adds_call w o c = adds_plain (Some (512 * w.zone.blocks)) _ (plain_call w c refl)
 
 adds_calls : (w : WorldState) → IsOrderly w → (c : Calls) → AddsUpTo (Some (512 * w.zone.blocks)) (calls_step w c).reply

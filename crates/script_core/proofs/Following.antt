@@ -6,7 +6,7 @@ use Rattle.std.proofs.lemmas.Bool.{and_parts, eq-eqb, false≢true, false_from_n
 use Rattle.frame_core.specs.Moves.{out}
 use Rattle.state_core.specs.declared.error.ZoneError.{ZoneError}
 use Rattle.state_core.specs.declared.error.ZoneError.TheVariants.{Missing, Out}
-use Rattle.state_core.specs.Lawful.{IsValidZone}
+use Rattle.state_core.specs.Valid.{IsValidZone}
 use Rattle.state_core.specs.ZoneState.{ZoneState}
 use Rattle.zone_core.specs.Alone.{IsAtRest}
 use Rattle.zone_core.specs.ByHand.{by_hand}
@@ -251,13 +251,13 @@ module _ (v w : WorldState) (with : AreBeside v w) (closed : v.is_open ≡ false
   round_world : (zone : ZoneState) (scan : ScanSeat) (ends : EndSeat) → IsValidZone zone → ends.parts ≡ 64 → IsSame (by_hand v.zone) zone → AreBeside (world_closed zone scan ends) (round_by_hand w).world
   round_world zone scan ends law whole same =
       closed_beside zone scan ends (by_hand w.zone) w.scan w.ends (same_trans zone (by_hand v.zone) (by_hand w.zone) (same_sym (by_hand v.zone) zone same) agrees)
-      (record { lawful = law; none_out = sym same.out_is ∙ (rest_by_hand v.zone rest_v).none_out }) whole (rest_by_hand w.zone rest_w) with.orderly_by_hand.whole
+      (record { valid = law; none_out = sym same.out_is ∙ (rest_by_hand v.zone rest_v).none_out }) whole (rest_by_hand w.zone rest_w) with.orderly_by_hand.whole
 
   same_world_as_before : (zone : ZoneState) (scan : ScanSeat) (ends : EndSeat) → IsValidZone zone → ends.parts ≡ 64 → IsSame v.zone zone → AreBeside (world_closed zone scan ends) w
   same_world_as_before zone scan ends law whole same =
       subst (AreBeside (world_closed zone scan ends)) (sym (closed_is w with.orderly_by_hand closed_w))
       (closed_beside zone scan ends w.zone w.scan w.ends (same_trans zone v.zone w.zone (same_sym v.zone zone same) with.same.zone)
-      (record { lawful = law; none_out = sym same.out_is ∙ rest_v.none_out }) whole rest_w with.orderly_by_hand.whole)
+      (record { valid = law; none_out = sym same.out_is ∙ rest_v.none_out }) whole rest_w with.orderly_by_hand.whole)
 
   module _ (places : ℕ) (client : Client) (zone_number : ℕ) (answer : Reply) (new : WithThreads) (is : step_by_hand places (Some w) (Compact zone_number) ≡ answered (round_by_hand w)) (on : IsRoundOn v places client answer new) where
     passed : Settles on.over.result → new ≡ left_by places client on.over.zone on.over.scan on.over.ends None
@@ -278,7 +278,7 @@ module _ (v w : WorldState) (with : AreBeside v w) (closed : v.is_open ≡ false
           related = (
             ap (λ (t : WithThreads). t.broken) after,
             ap (λ (t : WithThreads). t.single.places) after,
-            subst (λ (o : Option WorldState). Beside o (Some w)) (sym (ap (λ (t : WithThreads). t.single.world) after)) (same_world_as_before on.over.zone on.over.scan on.over.ends on.over.kept.lawful whole same),
+            subst (λ (o : Option WorldState). Beside o (Some w)) (sym (ap (λ (t : WithThreads). t.single.world) after)) (same_world_as_before on.over.zone on.over.scan on.over.ends on.over.kept.valid whole same),
           );
         }
 
@@ -295,7 +295,7 @@ module _ (v w : WorldState) (with : AreBeside v w) (closed : v.is_open ≡ false
         done_as places (Some w) (Compact zone_number) answer new (answered (round_by_hand w)) is (on.answer_is ∙ ap round_reply result ∙ done_reply on.over.zone r d)
         (ap (λ (t : WithThreads). t.broken) after) (ap (λ (t : WithThreads). t.single.places) after)
         (subst (λ (o : Option WorldState). Beside o (Some (round_by_hand w).world)) (sym (ap (λ (t : WithThreads). t.single.world) after))
-        (round_world on.over.zone on.over.scan on.over.ends on.over.kept.lawful round.whole d.same))
+        (round_world on.over.zone on.over.scan on.over.ends on.over.kept.valid round.whole d.same))
 
     round_goes : GoesOn places (Some w) (Compact zone_number) answer new
     round_goes = by_result on.over.result refl where
@@ -347,7 +347,7 @@ module _ (v w : WorldState) (with : AreBeside v w) (closed : v.is_open ≡ false
         done_as places (Some w) (Pool number count blocks) answer new (answered (pool_by_hand 4 count blocks w)) is told
         (ap (λ (t : WithThreads). t.broken) after) (ap (λ (t : WithThreads). t.single.places) after)
         (subst (λ (o : Option WorldState). Beside o (Some (pool_by_hand 4 count blocks w).world)) (sym (ap (λ (t : WithThreads). t.single.world) after))
-        (closed_beside on.zone on.scan on.ends at_w.zone w.scan w.ends zone_w (record { lawful = on.kept.lawful; none_out = none_out }) whole rest_at_w with.orderly_by_hand.whole))
+        (closed_beside on.zone on.scan on.ends at_w.zone w.scan w.ends zone_w (record { valid = on.kept.valid; none_out = none_out }) whole rest_at_w with.orderly_by_hand.whole))
 
     -- the number of a refusal of a round
     of_round : (error : RoundError) → (31 ≤ number_of error) × (number_of error ≤ 34)

@@ -23,7 +23,7 @@ use Rattle.script_core.proofs.Runs.{goes_by, refusal_goes_on}
 
 -- a world in which no hand round is open and no page is moving is orderly
 pub closed_orderly : (zone : ZoneState) (scan : ScanSeat) (ends : EndSeat) → IsAtRest zone → ends.parts ≡ 64 → IsOrderly (world_closed zone scan ends)
-closed_orderly zone scan ends rest whole = (carried_closed zone scan ends rest.lawful whole (λ serial. ap (list_any (nat_eq serial)) rest.none_out) (256 * zone.blocks) refl).orderly
+closed_orderly zone scan ends rest whole = (carried_closed zone scan ends rest.valid whole (λ serial. ap (list_any (nat_eq serial)) rest.none_out) (256 * zone.blocks) refl).orderly
 
 -- what a round or a pool leaves
 left_goes_on : (w : WorldState) → IsOrderly w → (zone : ZoneState) (r : Reply) → Rests w.zone zone → GoesOn w (answered (says r (left_by_hand w zone)))
@@ -41,7 +41,7 @@ left_goes_on w o zone r left = record {
 
 -- where no hand round is open no page is moving
 pub closed_rests : (w : WorldState) → IsOrderly w → w.is_open ≡ false → IsAtRest w.zone
-closed_rests w o closed = record { lawful = o.lawful; none_out = none_out w.zone.records (o.closed closed) }
+closed_rests w o closed = record { valid = o.valid; none_out = none_out w.zone.records (o.closed closed) }
 
 -- work over the zone with this number
 work_goes_on : (zone : ℕ) (work : WorldState → Answered) (w : WorldState) → IsOrderly w → (IsAtRest w.zone → GoesOn w (answered (work w))) → GoesOn w (work_by_hand zone work (Some w))

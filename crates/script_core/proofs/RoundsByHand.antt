@@ -6,7 +6,7 @@ use Rattle.zone_core.specs.Alone.{IsAtRest}
 use Rattle.zone_core.specs.ByHand.{all_isolated, by_hand, moved_below, moved_if_moving, scan_pair, scan_step, scan_steps}
 use Rattle.zone_core.proofs.ByHand.{moving_all, moving_isolated, none_by_hand}
 use Rattle.round_core.specs.Rounds.{stop_by_hand}
-use Rattle.state_core.proofs.Calls.{call_lawful}
+use Rattle.state_core.proofs.Calls.{call_valid}
 use Rattle.state_core.specs.declared.call.ZoneCall.TheVariants.{TakeOrder}
 use Rattle.state_core.specs.declared.error.ZoneError.{ZoneError}
 use Rattle.state_core.specs.declared.error.ZoneError.TheVariants as zone
@@ -60,7 +60,7 @@ round_leaves z =
 
 pub round_rests : (z : ZoneState) → IsAtRest z → Rests z (by_hand z)
 round_rests z rest = record {
-  rest = record { lawful = (moving_all (frame_count z) (all_isolated z) (moving_isolated z rest)).law; none_out = none_by_hand z rest };
+  rest = record { valid = (moving_all (frame_count z) (all_isolated z) (moving_isolated z rest)).law; none_out = none_by_hand z rest };
   leaves = round_leaves z;
 }
 
@@ -68,7 +68,7 @@ round_rests z rest = record {
 module _ (order : ℕ) (low : 3 ≤ order) (high : order ≤ 9) where
   taken_rests : (z : ZoneState) → IsAtRest z → take_order_refusal z order ≡ None → Rests z (lowest_taken z order)
   taken_rests z rest accepted = record {
-    rest = record { lawful = call_lawful 8 (TakeOrder order) 0 z rest.lawful (low, high) accepted; none_out = rest.none_out };
+    rest = record { valid = call_valid 8 (TakeOrder order) 0 z rest.valid (low, high) accepted; none_out = rest.none_out };
     leaves = record { blocks = refl; names = λ address. refl; words = λ page word. refl };
   }
 

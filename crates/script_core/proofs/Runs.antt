@@ -2,7 +2,7 @@
 use Rattle.std.proofs.Common.{◌≡◌, ℕ, ◌*◌, ◌<◌, ◌≤◌, Bool, true, false, refl, sym, subst, arith, Option, Some, None}
 use Rattle.std.specs.Prelude.{nat_eq, if◌then◌else◌}
 use Rattle.state_core.specs.Opening.{opened}
-use Rattle.state_core.proofs.Opened.{opened_lawful}
+use Rattle.state_core.proofs.Opened.{opened_valid}
 use Rattle.zone_core.specs.Seats.{fresh_end_seat, fresh_scan_seat}
 use Rattle.machine_core.specs.World.{IsOrderly, WorldState, world_opened}
 use Rattle.machine_core.proofs.Closing.{carried_closed}
@@ -85,4 +85,4 @@ module _ (places : ℕ) where
 
 pub opened_orderly : (zone blocks places : ℕ) → (0 < blocks) × (blocks ≤ 8) → (0 < places) × (places ≤ 65536) → IsOrderly (world_opened zone blocks places)
 opened_orderly zone blocks places b p =
-    (carried_closed (opened zone blocks places) fresh_scan_seat fresh_end_seat (opened_lawful 8 zone blocks places b (omega (arith, p.1))) refl (λ serial. refl) (256 * blocks) refl).orderly
+    (carried_closed (opened zone blocks places) fresh_scan_seat fresh_end_seat (opened_valid 8 zone blocks places b (omega (arith, p.1))) refl (λ serial. refl) (256 * blocks) refl).orderly

@@ -11,7 +11,7 @@ use Rattle.state_core.specs.declared.error.ZoneError.{ZoneError}
 use Rattle.state_core.specs.declared.information.Look.{Look}
 use Rattle.state_core.specs.Looking.{look_of}
 use Rattle.state_core.specs.Calls.{IsInRange, refusal_of, after}
-use Rattle.state_core.proofs.Calls.{call_lawful}
+use Rattle.state_core.proofs.Calls.{call_valid}
 use Rattle.machine_core.specs.declared.hand.Finished.{Finished}
 use Rattle.zone_core.specs.Seats.{seat_full}
 use Rattle.machine_core.specs.World.{IsOrderly, WorldState, copy_step, finish_step, round_opened, scan_answer, scan_refusal, scan_stopped, scanned, shut_step, take_step, with_zone}
@@ -62,7 +62,7 @@ pub keeps_zone : (w : WorldState) (call : ZoneCall 8) → IsOrderly w → IsInRa
 keeps_zone w call o r accepted =
     let leaves = call_leaves call 0 w.zone in
     record {
-      orderly = orderly_with_zone w (after call 0 w.zone) o (call_lawful 8 call 0 w.zone o.lawful r accepted) (λ serial. ap (list_any (nat_eq serial)) leaves.same_out) leaves.migrate leaves.free leaves.blocks;
+      orderly = orderly_with_zone w (after call 0 w.zone) o (call_valid 8 call 0 w.zone o.valid r accepted) (λ serial. ap (list_any (nat_eq serial)) leaves.same_out) leaves.migrate leaves.free leaves.blocks;
       blocks = leaves.blocks;
     }
 

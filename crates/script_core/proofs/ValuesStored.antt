@@ -13,7 +13,7 @@ use Rattle.state_core.specs.declared.information.Look.{Look}
 use Rattle.state_core.specs.Access.{value_at}
 use Rattle.state_core.specs.Calls.{refusal_of, answer_of, after}
 use Rattle.state_core.specs.ErrorNumber.{number_of}
-use Rattle.state_core.specs.Lawful.{IsValidZone}
+use Rattle.state_core.specs.Valid.{IsValidZone}
 use Rattle.state_core.specs.Looking.{look_of}
 use Rattle.state_core.specs.Mapping.{mapped}
 use Rattle.state_core.specs.Unmapping.{is_last, unmapped, without_page}
@@ -136,8 +136,8 @@ module _ (older : List Record) (w : WorldState) (o : IsOrderly w) (m : Match w.z
   kept journal names words = match_same w.zone.records journal.records older names words m
 
   tells_accepted : (c : ZoneCall 8) → refusal_of c w.zone ≡ None → Tells older (Zone c) (says (reply_for c (answer_of c w.zone)) (with_zone w (after c 0 w.zone)))
-  tells_accepted (Map a unmovable) e = record { match = maps_fresh older w.zone a unmovable (unwrap_or (lowest_free_frame w.zone) 0) o.lawful (frame_left w.zone a e) m; value = λ zone. tt }
-  tells_accepted (MapAt a unmovable frame) e = record { match = maps_fresh older w.zone a unmovable frame o.lawful (frame_left_at w.zone a frame e) m; value = λ zone. tt }
+  tells_accepted (Map a unmovable) e = record { match = maps_fresh older w.zone a unmovable (unwrap_or (lowest_free_frame w.zone) 0) o.valid (frame_left w.zone a e) m; value = λ zone. tt }
+  tells_accepted (MapAt a unmovable frame) e = record { match = maps_fresh older w.zone a unmovable frame o.valid (frame_left_at w.zone a frame e) m; value = λ zone. tt }
   tells_accepted (Store a word value) e = record { match = match_stored w.zone.records older a word value m; value = λ zone. tt }
   tells_accepted (Load a word) e =
       let page = accessed_page w.zone a e in

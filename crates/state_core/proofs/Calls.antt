@@ -1,4 +1,4 @@
--- Each call that isn't refused leaves a lawful zone lawful.
+-- Each call that isn't refused leaves a valid zone valid.
 use Rattle.std.proofs.Common.{◌≡◌, ℕ, ◌+◌, ◌<◌, ◌≤◌, Bool, true, false, cond, length, refl, sym, ap, subst, arith, ◌-◌, not, is_some, Option, Some, None, IsSome}
 use Rattle.std.specs.Prelude.{IsTrue, ◌∷◌, unwrap_or}
 use Rattle.std.specs.Option.{option_or}
@@ -17,21 +17,21 @@ use Rattle.state_core.specs.declared.placement.Placement.TheVariants.{At, Moving
 use Rattle.state_core.specs.Access.{placement_refusal, access_refusal, loaded, stored}
 use Rattle.state_core.specs.Calls.{refusal_of, answer_of, after, answers, record_of, IsInRange}
 use Rattle.state_core.specs.HandingOut.{is_order, is_run, lowest_run, take_order_refusal, give_order_refusal, block_taken, block_given}
-use Rattle.state_core.specs.Lawful.{IsValidZone}
+use Rattle.state_core.specs.Valid.{IsValidZone}
 use Rattle.state_core.specs.Mapping.{map_refusal, map_at_refusal, mapped}
 use Rattle.state_core.specs.Pinning.{pin_refusal, unpin_refusal, pinned, unpinned}
 use Rattle.state_core.specs.Sharing.{share_refusal, shared}
 use Rattle.state_core.specs.Unmapping.{is_last, unmap_refusal, unmapped}
 use Rattle.state_core.specs.ZoneState.{ZoneState, frame_count, has_room, is_free, lowest_free_frame, lowest_unused_page}
-use Rattle.state_core.proofs.Accessed.{lawful_loaded, lawful_stored}
+use Rattle.state_core.proofs.Accessed.{valid_loaded, valid_stored}
 use Rattle.state_core.proofs.Facts.{none_is, spare, page_named}
 use Rattle.state_core.proofs.Finding.{some_lowest, unused_is, unused_left}
-use Rattle.state_core.proofs.HandingOut.{lawful_block_taken, lawful_block_given}
-use Rattle.state_core.proofs.Mapping.{CanPlace, placed_lawful}
-use Rattle.state_core.proofs.Marking.{lawful_marked, lawful_unmarked}
-use Rattle.state_core.proofs.Pinning.{lawful_pinned, lawful_unpinned}
-use Rattle.state_core.proofs.Sharing.{lawful_shared}
-use Rattle.state_core.proofs.Unmapping.{lawful_unmapped}
+use Rattle.state_core.proofs.HandingOut.{valid_block_taken, valid_block_given}
+use Rattle.state_core.proofs.Mapping.{CanPlace, placed_valid}
+use Rattle.state_core.proofs.Marking.{valid_marked, valid_unmarked}
+use Rattle.state_core.proofs.Pinning.{valid_pinned, valid_unpinned}
+use Rattle.state_core.proofs.Sharing.{valid_shared}
+use Rattle.state_core.proofs.Unmapping.{valid_unmapped}
 
 -- a call that isn't refused passed each test
 passed : (b : Bool) (error : ZoneError) (o : Option ZoneError) → cond b (Some error) o ≡ None → (b ≡ false) × (o ≡ None)
@@ -72,8 +72,8 @@ module _ (z : ZoneState) where
         let page = unused (some_lowest z frame free within) in
         let is = unused_is z page.0 page.1 in
         let named : unwrap_or (lowest_unused_page z) 0 ≡ page.0 = ap (λ (o : Option ℕ). unwrap_or o 0) page.1 in
-        placed_lawful z client address unmovable _ frame (subst (λ (p : ℕ). CanPlace z address p frame) (sym named) (record {
-          lawful = law;
+        placed_valid z client address unmovable _ frame (subst (λ (p : ℕ). CanPlace z address p frame) (sym named) (record {
+          valid = law;
           spare = room;
           range = range;
           vacant = vacant;
@@ -103,10 +103,10 @@ module _ (z : ZoneState) where
     kept_load address word accepted =
         let room = passed _ _ _ accepted in
         let at = in_a_frame _ room.1 in
-        lawful_loaded z law (room_passed room.0) client address at.0 word at.1
+        valid_loaded z law (room_passed room.0) client address at.0 word at.1
 
     kept_store : (address : Address) (word value : ℕ) → access_refusal z address ≡ None → IsValidZone (stored z client address word value)
-    kept_store address word value accepted = lawful_stored z law (room_passed (passed _ _ _ accepted).0) client address word value
+    kept_store address word value accepted = valid_stored z law (room_passed (passed _ _ _ accepted).0) client address word value
 
     kept_share : (address alias : Address) → InRange alias → share_refusal z address alias ≡ None → IsValidZone (shared z client address alias)
     kept_share address alias range accepted =
@@ -116,8 +116,8 @@ module _ (z : ZoneState) where
         let vacant = passed _ _ _ both.1 in
         let few = passed _ _ _ vacant.1 in
         let page = page_named z address (At at.0) at.1 in
-        lawful_shared z client address alias page.0 at.0 (record {
-          lawful = law;
+        valid_shared z client address alias page.0 at.0 (record {
+          valid = law;
           spare = room_passed room.0;
           named = page.1;
           at = page.2;
@@ -131,48 +131,48 @@ module _ (z : ZoneState) where
         let room = passed _ _ _ accepted in
         let at = in_a_frame _ (both_passed _ _ room.1).0 in
         let page = page_named z address (At at.0) at.1 in
-        lawful_unmapped z client address page.0 at.0 (record { lawful = law; spare = room_passed room.0; named = page.1; at = page.2 })
+        valid_unmapped z client address page.0 at.0 (record { valid = law; spare = room_passed room.0; named = page.1; at = page.2 })
 
     kept_pin : (address : Address) → pin_refusal z address ≡ None → IsValidZone (pinned z client address)
     kept_pin address accepted =
         let room = passed _ _ _ accepted in
         let named = passed _ _ _ room.1 in
         let few = passed _ _ _ named.1 in
-        lawful_pinned z client address _ (found (page_at z.records address) (not-false _ named.0)) law (room_passed room.0) (leb-false _ _ few.0)
+        valid_pinned z client address _ (found (page_at z.records address) (not-false _ named.0)) law (room_passed room.0) (leb-false _ _ few.0)
 
     kept_unpin : (address : Address) → unpin_refusal z address ≡ None → IsValidZone (unpinned z client address)
     kept_unpin address accepted =
         let room = passed _ _ _ accepted in
         let named = passed _ _ _ room.1 in
-        lawful_unpinned z client address _ (found (page_at z.records address) (not-false _ named.0)) law (room_passed room.0)
+        valid_unpinned z client address _ (found (page_at z.records address) (not-false _ named.0)) law (room_passed room.0)
 
     kept_take : (order : ℕ) → 3 ≤ order → order ≤ 9 → take_order_refusal z order ≡ None → IsValidZone (block_taken z (unwrap_or (lowest_run z order) 0) order)
     kept_take order low high accepted =
         let room = passed _ _ _ accepted in
         let some = passed _ _ _ room.1 in
         let run = lowest_some (is_run z order) (frame_count z) _ (found (lowest_run z order) (not-false _ some.0)) in
-        lawful_block_taken z _ order run.1 law (room_passed room.0) low high
+        valid_block_taken z _ order run.1 law (room_passed room.0) low high
 
     kept_give : (first order : ℕ) → give_order_refusal z first order ≡ None → IsValidZone (block_given z first order)
     kept_give first order accepted =
         let room = passed _ _ _ (passed _ _ _ accepted).1 in
         let held = passed _ _ _ room.1 in
-        lawful_block_given z law first order (of_this_order _ order (not-false _ held.0)) (room_passed room.0)
+        valid_block_given z law first order (of_this_order _ order (not-false _ held.0)) (room_passed room.0)
 
--- each call that isn't refused leaves a lawful zone lawful
-pub call_lawful : (W : ℕ) (call : ZoneCall W) (client : ℕ) (z : ZoneState) → IsValidZone z → IsInRange call → refusal_of call z ≡ None → IsValidZone (after call client z)
-call_lawful W (Map address unmovable) client z law range accepted = kept_map z law client address unmovable range accepted
-call_lawful W (MapAt address unmovable frame) client z law range accepted = kept_map_at z law client address unmovable frame range accepted
-call_lawful W (Load address word) client z law range accepted = kept_load z law client address word accepted
-call_lawful W (Store address word value) client z law range accepted = kept_store z law client address word value accepted
-call_lawful W (Share address alias) client z law range accepted = kept_share z law client address alias range accepted
-call_lawful W (Unmap address) client z law range accepted = kept_unmap z law client address accepted
-call_lawful W (Pin address) client z law range accepted = kept_pin z law client address accepted
-call_lawful W (Unpin address) client z law range accepted = kept_unpin z law client address accepted
-call_lawful W (TakeOrder order) client z law range accepted = kept_take z law client order range.0 range.1 accepted
-call_lawful W (GiveOrder first order) client z law range accepted = kept_give z law client first order accepted
-call_lawful W (Mark block) client z law range accepted = lawful_marked z law (room_passed z (passed _ _ _ (passed _ _ _ accepted).1).0) block
-call_lawful W (Unmark block) client z law range accepted = lawful_unmarked z law (room_passed z (passed _ _ _ (passed _ _ _ accepted).1).0) block
+-- each call that isn't refused leaves a valid zone valid
+pub call_valid : (W : ℕ) (call : ZoneCall W) (client : ℕ) (z : ZoneState) → IsValidZone z → IsInRange call → refusal_of call z ≡ None → IsValidZone (after call client z)
+call_valid W (Map address unmovable) client z law range accepted = kept_map z law client address unmovable range accepted
+call_valid W (MapAt address unmovable frame) client z law range accepted = kept_map_at z law client address unmovable frame range accepted
+call_valid W (Load address word) client z law range accepted = kept_load z law client address word accepted
+call_valid W (Store address word value) client z law range accepted = kept_store z law client address word value accepted
+call_valid W (Share address alias) client z law range accepted = kept_share z law client address alias range accepted
+call_valid W (Unmap address) client z law range accepted = kept_unmap z law client address accepted
+call_valid W (Pin address) client z law range accepted = kept_pin z law client address accepted
+call_valid W (Unpin address) client z law range accepted = kept_unpin z law client address accepted
+call_valid W (TakeOrder order) client z law range accepted = kept_take z law client order range.0 range.1 accepted
+call_valid W (GiveOrder first order) client z law range accepted = kept_give z law client first order accepted
+call_valid W (Mark block) client z law range accepted = valid_marked z law (room_passed z (passed _ _ _ (passed _ _ _ accepted).1).0) block
+call_valid W (Unmark block) client z law range accepted = valid_unmarked z law (room_passed z (passed _ _ _ (passed _ _ _ accepted).1).0) block
 
 -- an unmap keeps what it keeps whether or not the address was the page's last
 by_last : (P : ZoneState → Type 0) (b : Bool) (gone still : ZoneState) → P gone → P still → P (cond b gone still)

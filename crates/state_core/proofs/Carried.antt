@@ -15,7 +15,7 @@ use Rattle.frame_core.specs.Page.{IsolatedPage}
 use Rattle.state_core.specs.declared.round.Pair.{Pair}
 use Rattle.state_core.specs.declared.placement.Placement.{Placement}
 use Rattle.state_core.specs.declared.placement.Placement.TheVariants.{At, Moving}
-use Rattle.state_core.specs.Lawful.{IsValidZone, is_under}
+use Rattle.state_core.specs.Valid.{IsValidZone, is_under}
 use Rattle.state_core.specs.Ending.{is_own, IsOwnCopy, moved_to_target, put_back_to_source, committed}
 use Rattle.state_core.specs.Carrying.{page_now, relocated}
 use Rattle.state_core.specs.Rounds.{round_begun}

@@ -1,4 +1,4 @@
--- Words are written into a block that is handed out: the zone stays lawful, and no pair comes of it.
+-- Words are written into a block that is handed out: the zone stays valid, and no pair comes of it.
 use Rattle.std.proofs.Common.{◌≡◌, ℕ, ◌+◌, ◌*◌, ◌^◌, ◌≤◌, List, length, take, drop, [], ◌++◌, inl, inr, refl, sym, ap, ◌∙◌, arith, Option, Some, None, unwrap_or}
 use Rattle.std.specs.FinMap as map
 use Rattle.std.specs.Option.{option_map}
@@ -6,7 +6,7 @@ use Rattle.std.proofs.lemmas.Bool.Decides.{eqb_tells}
 use Rattle.std.proofs.lemmas.List.{length-append, length-drop, length-take-le}
 use Rattle.std.proofs.lemmas.Option.{none-some, same_Some}
 use Rattle.state_core.specs.Contents.{contents_of, contents_written}
-use Rattle.state_core.specs.Lawful.{IsValidZone}
+use Rattle.state_core.specs.Valid.{IsValidZone}
 use Rattle.state_core.specs.Pairs.{HaveMet}
 use Rattle.state_core.specs.Swept.{IsSwept}
 use Rattle.state_core.specs.ZoneState.{ZoneState}
@@ -52,8 +52,8 @@ module _ (v : ZoneState) (law : IsValidZone v) (first order : ℕ) (at : map.get
       ways = λ page serial source target e. (let way = swept.ways page serial source target e in record { low = way.low; high = way.high; movable = way.movable });
     }
 
-    pub lawful_contents_written : IsValidZone (contents_written v first from values)
-    lawful_contents_written = record {
+    pub valid_contents_written : IsValidZone (contents_written v first from values)
+    valid_contents_written = record {
       size = law.size;
       journal = law.journal;
       agrees = law.agrees;

@@ -16,7 +16,7 @@ use Rattle.frame_core.specs.History.{pins}
 use Rattle.frame_core.specs.Moves.{out, is_out, without, page_of, IsWellEnded}
 use Rattle.state_core.specs.declared.placement.Placement.{Placement}
 use Rattle.state_core.specs.declared.placement.Placement.TheVariants.{At, Moving}
-use Rattle.state_core.specs.Lawful.{IsValidZone, is_under}
+use Rattle.state_core.specs.Valid.{IsValidZone, is_under}
 use Rattle.state_core.specs.Carrying.{relocated}
 use Rattle.state_core.specs.Ending.{HasCause}
 use Rattle.state_core.specs.ZoneState.{ZoneState, frame_count, takes_up, is_free}
@@ -43,7 +43,7 @@ module _ (v : ZoneState) (page serial source target : ℕ) (law : IsValidZone v)
 
   can_end : (frame : ℕ) → takes_up (Some way) frame ≡ true → CanSettle v page way (At frame)
   can_end frame had = record {
-    lawful = law;
+    valid = law;
     at = at;
     numbered = law.pages.numbered page (not_none _ way at);
     takes = λ g e. inl (ap (takes_up (Some way)) (eqb-true g frame e) ∙ had);

@@ -1,4 +1,4 @@
--- A block of free frames is handed out or taken back: the zone stays lawful, and the blocks are clear.
+-- A block of free frames is handed out or taken back: the zone stays valid, and the blocks are clear.
 use Rattle.std.proofs.Common.{◌≡◌, ◌≢◌, ℕ, ◌+◌, ◌*◌, ◌/◌, ◌^◌, ◌<◌, ◌≤◌, Bool, true, false, not, ◌∷◌, length, inl, inr, refl, sym, ap, ◌∙◌, arith, Option, Some, None, nat_eq, nat_le, nat_lt, ◌⊎◌, subst, ◌&&◌, ◌||◌}
 use Rattle.std.specs.FinMap as map
 use Rattle.std.specs.Option.{option_map}
@@ -18,7 +18,7 @@ use Rattle.frame_core.specs.Moves.{out}
 use Rattle.state_core.specs.declared.placement.Placement.TheVariants.{At}
 use Rattle.state_core.specs.Clear.{BlocksAreClear}
 use Rattle.state_core.specs.HandingOut.{has_block, is_run, lowest_run, block_taken, block_given}
-use Rattle.state_core.specs.Lawful.{IsValidZone, IsBlock}
+use Rattle.state_core.specs.Valid.{IsValidZone, IsBlock}
 use Rattle.state_core.specs.ZoneState.{ZoneState, frame_count, takes_up, covers, is_used, is_held, is_free, is_whole}
 use Rattle.state_core.proofs.Entries.{get_insert_same, get_insert_other, get_remove_same, get_remove_other}
 use Rattle.state_core.proofs.Facts.{page_named}
@@ -171,8 +171,8 @@ module _ (v : ZoneState) (first order : ℕ) (run : is_run v order first ≡ tru
           ∙ sym (ap (option_map (λ o. 2 ^ o * v.page_size)) (get_insert_other v.handed_out first f order other.1)))
     ]
 
-    pub lawful_block_taken : IsValidZone (block_taken v first order)
-    lawful_block_taken = record {
+    pub valid_block_taken : IsValidZone (block_taken v first order)
+    valid_block_taken = record {
       size = law.size;
       journal = journal_noted (TakeHuge first order) law.journal spare law.journal.truthful law.journal.well_ended law.journal.serials refl;
       agrees = record { named = law.agrees.named; in_use = law.agrees.in_use; under_way = law.agrees.under_way; handed = handed_taken; marks = law.agrees.marks };
@@ -266,8 +266,8 @@ module _ (v : ZoneState) (law : IsValidZone v) (first order : ℕ) (at : map.get
         ∙ sym (ap (option_map (λ o. 2 ^ o * v.page_size)) (get_remove_other v.handed_out first f other.1)))
   ]
 
-  pub lawful_block_given : length (out v.records) < v.room → IsValidZone (block_given v first order)
-  lawful_block_given spare = record {
+  pub valid_block_given : length (out v.records) < v.room → IsValidZone (block_given v first order)
+  valid_block_given spare = record {
     size = law.size;
     journal = journal_noted (GiveHuge first order) law.journal spare law.journal.truthful law.journal.well_ended law.journal.serials refl;
     agrees = record { named = law.agrees.named; in_use = law.agrees.in_use; under_way = law.agrees.under_way; handed = handed_fewer; marks = law.agrees.marks };

@@ -1,4 +1,4 @@
--- What the tables of a lawful zone say of its state.
+-- What the tables of a valid zone say of its state.
 use Rattle.std.proofs.Common.{◌≡◌, ℕ, true, length, refl, sym, ap, ◌∙◌, arith, Option, Some, None, eq-eqb, eqb-true}
 use Rattle.std.specs.FinMap as map
 use Rattle.std.proofs.lemmas.Bool.{both_ways}
@@ -8,7 +8,7 @@ use Rattle.frame_core.proofs.OnTheWay.{out_empty}
 use Rattle.frame_core.specs.Moves.{out}
 use Rattle.state_core.specs.declared.placement.Placement.{Placement}
 use Rattle.state_core.specs.declared.placement.Placement.TheVariants.{At, Moving}
-use Rattle.state_core.specs.Lawful.{IsValidZone, is_under}
+use Rattle.state_core.specs.Valid.{IsValidZone, is_under}
 use Rattle.state_core.specs.Pairs.{stands_in, holder}
 use Rattle.state_core.specs.ZoneState.{ZoneState, frame_count, takes_up}
 use Rattle.state_core.proofs.Facts.{not_none}

@@ -12,7 +12,7 @@ use Rattle.frame_core.specs.Moves.{isolated, out, is_out, page_of}
 use Rattle.state_core.specs.declared.round.Pair.{Pair}
 use Rattle.state_core.specs.declared.placement.Placement.{Placement}
 use Rattle.state_core.specs.declared.placement.Placement.TheVariants.{At, Moving}
-use Rattle.state_core.specs.Lawful.{IsValidZone, is_under}
+use Rattle.state_core.specs.Valid.{IsValidZone, is_under}
 use Rattle.state_core.specs.Carrying.{relocated}
 use Rattle.state_core.specs.Pairs.{IsPair}
 use Rattle.state_core.specs.ZoneState.{ZoneState, frame_count, is_free}
@@ -32,7 +32,7 @@ module _ (v : ZoneState) (pair : Pair) (law : IsValidZone v) (is : IsPair v pair
 
   pub can_isolate : CanSettle v pair.page (At pair.source) way_next
   can_isolate = record {
-    lawful = law;
+    valid = law;
     at = is.from.here;
     numbered = law.pages.numbered pair.page (not_none _ (At pair.source) is.from.here);
     takes = λ g e. elim (or_cases (nat_eq g pair.source) (nat_eq g pair.target) e) [

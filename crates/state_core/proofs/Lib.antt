@@ -11,7 +11,6 @@ pub mod Finding
 pub mod HandingOut
 pub mod Holding
 pub mod Isolating
-pub mod LawfulMoves
 pub mod Mapping
 pub mod Marking
 pub mod Moving
@@ -20,8 +19,8 @@ pub mod Opened
 pub mod Packing
 pub mod Pairing
 pub mod Pinning
-pub mod Placements
 pub mod Placed
+pub mod Placements
 pub mod Places
 pub mod Quiet
 pub mod Rounds
@@ -31,3 +30,4 @@ pub mod Sharing
 pub mod StaysMet
 pub mod Sweeping
 pub mod Unmapping
+pub mod ValidMoves

@@ -12,17 +12,17 @@ use Rattle.frame_core.specs.declared.record.Record.TheVariants.{Map}
 use Rattle.frame_core.specs.History.{same_address, page_at, is_page, names, maps, pins}
 use Rattle.frame_core.specs.Moves.{out}
 use Rattle.state_core.specs.declared.placement.Placement.TheVariants.{At}
-use Rattle.state_core.specs.Lawful.{IsValidZone, is_under}
+use Rattle.state_core.specs.Valid.{IsValidZone, is_under}
 use Rattle.state_core.specs.Mapping.{placed}
 use Rattle.state_core.specs.ZoneState.{ZoneState, frame_count, takes_up, is_held, is_free}
 use Rattle.state_core.proofs.Entries.{contains_insert_other}
 use Rattle.state_core.proofs.Quiet.{swept_ended}
 use Rattle.state_core.proofs.Places as places
-use Rattle.state_core.proofs.Places.{CanChangePlace, IsTold, put, page_count, lawful_told}
+use Rattle.state_core.proofs.Places.{CanChangePlace, IsTold, put, page_count, valid_told}
 
 -- what has to hold so that a fresh page can be placed
 pub record CanPlace (v : ZoneState) (address : Address) (page frame : ℕ) : Type 0 where
-  pub lawful : IsValidZone v
+  pub valid : IsValidZone v
   pub spare : length (out v.records) < v.room
   pub range : InRange address
   pub vacant : page_at v.records address ≡ None
@@ -40,7 +40,7 @@ module _ (v : ZoneState) (client : ℕ) (address : Address) (unmovable : Bool) (
 
   pub can_map : CanChangePlace v page None (Some (At frame))
   can_map = record {
-    lawful = can.lawful;
+    valid = can.valid;
     at = can.unused;
     numbered = can.numbered;
     takes = λ g e. (let same : frame ≡ g = sym (eqb-true g frame e) in let within = can.within in inr (ap (is_free v) (sym same) ∙ can.free, omega arith));
@@ -58,7 +58,7 @@ module _ (v : ZoneState) (client : ℕ) (address : Address) (unmovable : Bool) (
   unheld_frame = places.unheld_frame v frame can.free
 
   pub untaken : (q : ℕ) → takes_up (map.get v.placement q) frame ≡ false
-  untaken = places.untaken v can.lawful frame can.free
+  untaken = places.untaken v can.valid frame can.free
 
   -- free frames and counts after a fresh page was placed
   pub free_at_frame : is_free next frame ≡ false
@@ -89,7 +89,7 @@ module _ (v : ZoneState) (client : ℕ) (address : Address) (unmovable : Bool) (
   unnamed b = by_name (page_at v.records b) refl where
     by_name : (o : Option ℕ) → page_at v.records b ≡ o → is_page (page_at v.records b) page ≡ false
     by_name None e = ap (λ (p : Option ℕ). is_page p page) e
-    by_name (Some q) e = ap (λ (p : Option ℕ). is_page p page) e ∙ ne_eqb q page (used_apart q (can.lawful.agrees.named b q e).1)
+    by_name (Some q) e = ap (λ (p : Option ℕ). is_page p page) e ∙ ne_eqb q page (used_apart q (can.valid.agrees.named b q e).1)
 
   -- one more address names the fresh page, and each other page has as many as before
   maps_changed_by : (q : ℕ) → maps next.records q ≡ maps v.records q + one_if (nat_eq page q)
@@ -120,15 +120,15 @@ module _ (v : ZoneState) (client : ℕ) (address : Address) (unmovable : Bool) (
   still_used q used = ap is_some (at_other q (used_apart q used)) ∙ used
 
   stay : (b : Bool) (q : ℕ) → set.contains (if b then set.insert v.unmovable page else v.unmovable) q ≡ true → IsSome (map.get next.placement q)
-  stay false q e = still_used q (can.lawful.pages.unmovable q e)
+  stay false q e = still_used q (can.valid.pages.unmovable q e)
   stay true q e = elim (places.where_is can_map q) [
     | inl here ↦ page_used q here.0
-    | inr there ↦ still_used q (can.lawful.pages.unmovable q (sym (contains_insert_other v.unmovable page q there.0) ∙ e))
+    | inr there ↦ still_used q (can.valid.pages.unmovable q (sym (contains_insert_other v.unmovable page q there.0) ∙ e))
   ]
 
   map_told : IsTold v page (Some (At frame)) (Map client address page) (if unmovable then set.insert v.unmovable page else v.unmovable)
   map_told =
-      let law = can.lawful in
+      let law = can.valid in
       let room = can.spare in
       record {
         truthful = law.journal.truthful;
@@ -159,5 +159,5 @@ module _ (v : ZoneState) (client : ℕ) (address : Address) (unmovable : Bool) (
         stay = stay unmovable;
       }
 
-  pub placed_lawful : IsValidZone next
-  placed_lawful = lawful_told can_map (Map client address page) _ map_told v.migrate v.free can.lawful.fingers.ordered (swept_ended v next (Map client address page) can.lawful refl refl refl)
+  pub placed_valid : IsValidZone next
+  placed_valid = valid_told can_map (Map client address page) _ map_told v.migrate v.free can.valid.fingers.ordered (swept_ended v next (Map client address page) can.valid refl refl refl)

@@ -1,4 +1,4 @@
--- A pageblock is marked, or its mark is taken off: the zone stays lawful.
+-- A pageblock is marked, or its mark is taken off: the zone stays valid.
 use Rattle.std.proofs.Common.{◌≡◌, ℕ, ◌<◌, true, false, ◌∷◌, length, inl, inr, refl, sym, ◌∙◌, nat_eq}
 use Rattle.std.specs.FinSet as set
 use Rattle.std.proofs.lemmas.Bool.{cond-true, cond-false, eq-eqb, ne_eqb}
@@ -6,7 +6,7 @@ use Rattle.std.proofs.lemmas.Bool.Decides.{eqb_tells}
 use Rattle.frame_core.specs.declared.record.Record.TheVariants.{Mark, Unmark}
 use Rattle.frame_core.specs.Blocks.{is_marked_by}
 use Rattle.frame_core.specs.Moves.{out}
-use Rattle.state_core.specs.Lawful.{IsValidZone}
+use Rattle.state_core.specs.Valid.{IsValidZone}
 use Rattle.state_core.specs.Marking.{block_marked, block_unmarked}
 use Rattle.state_core.specs.ZoneState.{ZoneState}
 use Rattle.state_core.proofs.Entries.{contains_insert_same, contains_insert_other, contains_remove_same, contains_remove_other}
@@ -26,8 +26,8 @@ module _ (v : ZoneState) (law : IsValidZone v) (spare : length (out v.records) <
     | inr other ↦ contains_remove_other v.marked block b other.1 ∙ law.agrees.marks b ∙ sym (cond-false (nat_eq block b) false (is_marked_by v.records b) (ne_eqb block b (λ e. other.1 (sym e))))
   ]
 
-  pub lawful_marked : IsValidZone (block_marked v block)
-  lawful_marked = record {
+  pub valid_marked : IsValidZone (block_marked v block)
+  valid_marked = record {
     size = law.size;
     journal = journal_noted (Mark block) law.journal spare law.journal.truthful law.journal.well_ended law.journal.serials refl;
     agrees = record { named = law.agrees.named; in_use = law.agrees.in_use; under_way = law.agrees.under_way; handed = law.agrees.handed; marks = marks_more };
@@ -37,8 +37,8 @@ module _ (v : ZoneState) (law : IsValidZone v) (spare : length (out v.records) <
     sum = law.sum;
   }
 
-  pub lawful_unmarked : IsValidZone (block_unmarked v block)
-  lawful_unmarked = record {
+  pub valid_unmarked : IsValidZone (block_unmarked v block)
+  valid_unmarked = record {
     size = law.size;
     journal = journal_noted (Unmark block) law.journal spare law.journal.truthful law.journal.well_ended law.journal.serials refl;
     agrees = record { named = law.agrees.named; in_use = law.agrees.in_use; under_way = law.agrees.under_way; handed = law.agrees.handed; marks = marks_fewer };

@@ -11,11 +11,11 @@ use Rattle.frame_core.specs.History.{page_at, last, dirty, pins, maps}
 use Rattle.frame_core.specs.Moves.{isolated, out, IsWellEnded}
 use Rattle.frame_core.specs.Truth.{IsTruthful}
 use Rattle.state_core.specs.declared.placement.Placement.{Placement}
-use Rattle.state_core.specs.Lawful.{IsValidZone, is_under}
+use Rattle.state_core.specs.Valid.{IsValidZone, is_under}
 use Rattle.state_core.specs.Carrying.{relocated}
 use Rattle.state_core.specs.Swept.{SweptIfQuiet}
 use Rattle.state_core.specs.ZoneState.{ZoneState, frame_count}
-use Rattle.state_core.proofs.Places.{CanChangePlace, IsOutWith, ways_of, where_is, page_count, lawful_told}
+use Rattle.state_core.proofs.Places.{CanChangePlace, IsOutWith, ways_of, where_is, page_count, valid_told}
 
 -- what has to hold so that a page in use can get another placement
 abbrev pub CanSettle : ZoneState → ℕ → Placement → Placement → Type 0
@@ -40,7 +40,7 @@ moved_still records serial = record { names = λ a. refl; last = λ p w. refl; d
 pub back_still : (records : List Record) (serial : ℕ) (cause : Cause) → IsStill records (Back serial cause)
 back_still records serial cause = record { names = λ a. refl; last = λ p w. refl; dirty = λ p. refl; pins = λ p. refl; maps = λ p. refl; handed = λ f. refl; marks = λ b. refl }
 
--- what the record of a move has to fulfil so that the zone stays lawful
+-- what the record of a move has to fulfil so that the zone stays valid
 pub record IsRecorded (v : ZoneState) (entry : Record) (page : ℕ) (new : Placement) : Type 0 where
   pub still : IsStill v.records entry
   pub truthful : IsTruthful (entry ∷ v.records)
@@ -59,11 +59,11 @@ module _ {v : ZoneState} {page : ℕ} {old new : Placement} (can : CanSettle v p
   pub same_pages : count_below (λ q. is_some (map.get (map.insert v.placement page new) q)) (frame_count v) ≡ count_below (λ q. is_some (map.get v.placement q)) (frame_count v)
   same_pages = omega (arith, page_count can)
 
-  pub lawful_settled : (entry : Record) → IsRecorded v entry page new → (migrate free : ℕ) → (migrate ≤ free) × (free ≤ frame_count v) → SweptIfQuiet (record (relocated v entry page new) { migrate = migrate; free = free }) → IsValidZone (record (relocated v entry page new) { migrate = migrate; free = free })
-  lawful_settled entry recorded =
-      let law = can.lawful in
+  pub valid_settled : (entry : Record) → IsRecorded v entry page new → (migrate free : ℕ) → (migrate ≤ free) × (free ≤ frame_count v) → SweptIfQuiet (record (relocated v entry page new) { migrate = migrate; free = free }) → IsValidZone (record (relocated v entry page new) { migrate = migrate; free = free })
+  valid_settled entry recorded =
+      let law = can.valid in
       let still = recorded.still in
-      lawful_told can entry v.unmovable (record {
+      valid_told can entry v.unmovable (record {
         truthful = recorded.truthful;
         well_ended = recorded.well_ended;
         serials = recorded.serials;

@@ -1,4 +1,4 @@
--- One more record leaves a zone lawful where each page stays in its place.
+-- One more record leaves a zone valid where each page stays in its place.
 use Rattle.std.proofs.Common.{◌≡◌, ℕ, ◌<◌, ◌≤◌, ◌^◌, ◌-◌, List, ◌∷◌, length, arith, ap, Some, IsSome, sym, ◌∙◌}
 use Rattle.std.specs.Prelude.{◌↔◌}
 use Rattle.std.specs.FinMap as map
@@ -9,13 +9,13 @@ use Rattle.frame_core.specs.Blocks.{handed_out_by, is_marked_by}
 use Rattle.frame_core.specs.History.{page_at, maps, pins}
 use Rattle.frame_core.specs.Moves.{isolated, out, IsWellEnded}
 use Rattle.frame_core.specs.Truth.{IsTruthful}
-use Rattle.state_core.specs.Lawful.{IsValidZone, HasValidJournal}
+use Rattle.state_core.specs.Valid.{IsValidZone, HasValidJournal}
 use Rattle.state_core.specs.Swept.{SweptIfQuiet}
 use Rattle.state_core.specs.ZoneState.{ZoneState, noted}
 use Rattle.state_core.proofs.Places.{IsOutWith}
 use Rattle.state_core.proofs.Quiet.{begun_more}
 
--- what a record has to fulfil so that the zone stays lawful, where each page stays in its place
+-- what a record has to fulfil so that the zone stays valid, where each page stays in its place
 pub record IsNoted (v : ZoneState) (entry : Record) : Type 0 where
   pub truthful : IsTruthful (entry ∷ v.records)
   pub well_ended : IsWellEnded (entry ∷ v.records)
@@ -33,8 +33,8 @@ pub journal_noted : {records : List Record} {room : ℕ} (entry : Record) → Ha
 journal_noted entry journal spare truthful well_ended serials out =
     record { places = (let before = journal.places in omega arith); serials = serials; truthful = truthful; well_ended = well_ended; room_left = omega (arith, ap (λ (list : List ℕ). length list) out) }
 
-pub lawful_noted : (v : ZoneState) → IsValidZone v → (entry : Record) → length (out v.records) < v.room → IsNoted v entry → IsValidZone (noted v entry)
-lawful_noted v law entry spare told = record {
+pub valid_noted : (v : ZoneState) → IsValidZone v → (entry : Record) → length (out v.records) < v.room → IsNoted v entry → IsValidZone (noted v entry)
+valid_noted v law entry spare told = record {
   size = law.size;
   journal = journal_noted entry law.journal spare told.truthful told.well_ended told.serials told.out;
   agrees = record {

@@ -10,7 +10,7 @@ use Rattle.frame_core.proofs.Searches.{count_all, count_none, none_some}
 use Rattle.frame_core.specs.Below.{count_below}
 use Rattle.state_core.specs.declared.placement.Placement.{Placement}
 use Rattle.state_core.specs.Opening.{opened_with, IsSize}
-use Rattle.state_core.specs.Lawful.{IsValidZone, is_under}
+use Rattle.state_core.specs.Valid.{IsValidZone, is_under}
 use Rattle.state_core.specs.ZoneState.{ZoneState, frame_count, takes_up, covers, is_held, is_free}
 
 module _ (words number blocks places : ℕ) where
@@ -47,8 +47,8 @@ module _ (words number blocks places : ℕ) where
   pub huge_count : count_below (λ first. is_some (map.get new_zone.handed_out first)) (frame_count new_zone) ≡ 0
   huge_count = count_none (λ first. is_some (map.get new_zone.handed_out first)) (frame_count new_zone) (λ first h. ap is_some (no_block first))
 
-  pub opened_lawful : IsSize blocks → places ≤ 2 ^ 53 → IsValidZone new_zone
-  opened_lawful size few = record {
+  pub opened_valid : IsSize blocks → places ≤ 2 ^ 53 → IsValidZone new_zone
+  opened_valid size few = record {
     size = size;
     journal = record { places = omega arith; serials = omega arith; truthful = tt; well_ended = tt; room_left = omega arith };
     agrees = record {

@@ -9,7 +9,7 @@ use Rattle.frame_core.specs.Below.{count_below}
 use Rattle.frame_core.specs.Moves.{out}
 use Rattle.state_core.specs.declared.placement.Placement.{Placement}
 use Rattle.state_core.specs.declared.placement.Placement.TheVariants.{At, Moving}
-use Rattle.state_core.specs.Lawful.{IsValidZone}
+use Rattle.state_core.specs.Valid.{IsValidZone}
 use Rattle.state_core.specs.Packed.{IsPacked, is_unmarked, place_of, unmarked_free}
 use Rattle.state_core.specs.Pairs.{IsSource, HaveMet, is_marked, next_source, next_target}
 use Rattle.state_core.specs.Swept.{IsSwept}

@@ -5,7 +5,7 @@ use Rattle.std.proofs.lemmas.Bool.Decides.{leb_tells}
 use Rattle.std.proofs.lemmas.Option.{same_Some, none-some}
 use Rattle.frame_core.proofs.Searches.{lowest_is, lowest_some, lowest_before}
 use Rattle.state_core.specs.declared.round.Pair.{Pair}
-use Rattle.state_core.specs.Lawful.{IsValidZone}
+use Rattle.state_core.specs.Valid.{IsValidZone}
 use Rattle.state_core.specs.Pairs.{IsSource, IsTarget, IsPair, HaveMet, is_marked, can_move, can_move_if_some, holder, holds_movable, is_free_unmarked, next_source, next_target, pair_from, pair_at, next_pair}
 use Rattle.state_core.specs.ZoneState.{ZoneState, frame_count, is_free}
 use Rattle.frame_core.proofs.Bounds.{highest_is, highest_some, highest_above}

@@ -7,10 +7,10 @@ use Rattle.frame_core.specs.declared.place.Address.{Address}
 use Rattle.frame_core.specs.declared.record.Record.TheVariants.{Pin, Unpin}
 use Rattle.frame_core.specs.History.{page_at, is_page, pins}
 use Rattle.frame_core.specs.Moves.{out}
-use Rattle.state_core.specs.Lawful.{IsValidZone}
+use Rattle.state_core.specs.Valid.{IsValidZone}
 use Rattle.state_core.specs.Pinning.{pinned, unpinned}
 use Rattle.state_core.specs.ZoneState.{ZoneState}
-use Rattle.state_core.proofs.Noted.{lawful_noted}
+use Rattle.state_core.proofs.Noted.{valid_noted}
 use Rattle.state_core.proofs.Quiet.{swept_ended}
 
 module _ (v : ZoneState) (client : ℕ) (address : Address) (page : ℕ) (named : page_at v.records address ≡ Some page) where
@@ -33,8 +33,8 @@ module _ (v : ZoneState) (client : ℕ) (address : Address) (page : ℕ) (named 
   unpinned_others q ne = omega (arith, named_none q ne)
 
   module _ (law : IsValidZone v) (spare : length (out v.records) < v.room) where
-    pub lawful_pinned : pins v.records page < 255 → IsValidZone (pinned v client address)
-    lawful_pinned few = lawful_noted v law (Pin client address) spare (record {
+    pub valid_pinned : pins v.records page < 255 → IsValidZone (pinned v client address)
+    valid_pinned few = valid_noted v law (Pin client address) spare (record {
       truthful = law.journal.truthful;
       well_ended = law.journal.well_ended;
       serials = law.journal.serials;
@@ -52,8 +52,8 @@ module _ (v : ZoneState) (client : ℕ) (address : Address) (page : ℕ) (named 
       swept = swept_ended v (pinned v client address) (Pin client address) law refl refl refl;
     })
 
-    pub lawful_unpinned : IsValidZone (unpinned v client address)
-    lawful_unpinned = lawful_noted v law (Unpin client address) spare (record {
+    pub valid_unpinned : IsValidZone (unpinned v client address)
+    valid_unpinned = valid_noted v law (Unpin client address) spare (record {
       truthful = law.journal.truthful;
       well_ended = law.journal.well_ended;
       serials = law.journal.serials;

@@ -10,7 +10,7 @@ use Rattle.frame_core.specs.Below.{one_if, count_below, count_from, some_below}
 use Rattle.frame_core.specs.Moves.{out}
 use Rattle.state_core.specs.declared.placement.Placement.{Placement}
 use Rattle.state_core.specs.declared.placement.Placement.TheVariants.{At, Moving}
-use Rattle.state_core.specs.Lawful.{IsValidZone}
+use Rattle.state_core.specs.Valid.{IsValidZone}
 use Rattle.state_core.specs.Packed.{IsPacked, IsPlacement, is_place, frame_of, places_now, is_left_free, is_unmarked, unmarked_free, whole_runs, free_runs, left_whole, left_runs}
 use Rattle.state_core.specs.Pairs.{is_marked}
 use Rattle.state_core.specs.ZoneState.{ZoneState, frame_count, takes_up, is_used, is_held, is_free, is_whole}

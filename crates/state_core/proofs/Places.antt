@@ -1,4 +1,4 @@
--- A page gets another place, its first, or none: where each page is afterwards, which frames are free, and that the zone stays lawful.
+-- A page gets another place, its first, or none: where each page is afterwards, which frames are free, and that the zone stays valid.
 use Rattle.std.proofs.Common.{◌≡◌, ◌≢◌, ℕ, zero, suc, ◌+◌, ◌-◌, ◌<◌, ◌≤◌, ◌^◌, Bool, true, false, not, List, ◌∷◌, length, ◌⊎◌, inl, inr, refl, sym, ap, ◌∙◌, arith, Option, Some, None, IsSome, IsTrue, is_some, nat_eq, ◌&&◌, ◌||◌, ◌↔◌}
 use Rattle.std.specs.FinMap as map
 use Rattle.std.specs.FinSet as set
@@ -17,7 +17,7 @@ use Rattle.frame_core.specs.Moves.{isolated, out, is_out, page_of, IsWellEnded}
 use Rattle.frame_core.specs.Truth.{IsTruthful}
 use Rattle.state_core.specs.declared.placement.Placement.{Placement}
 use Rattle.state_core.specs.declared.placement.Placement.TheVariants.{At, Moving}
-use Rattle.state_core.specs.Lawful.{IsValidZone, HasValidPages, is_under}
+use Rattle.state_core.specs.Valid.{IsValidZone, HasValidPages, is_under}
 use Rattle.state_core.specs.Swept.{SweptIfQuiet}
 use Rattle.state_core.specs.ZoneState.{ZoneState, frame_count, takes_up, is_used, is_held, is_free, noted}
 use Rattle.state_core.proofs.Entries.{get_insert_same, get_insert_other, get_remove_same, get_remove_other}
@@ -49,7 +49,7 @@ IsOutWith records page serial = IsTrue (is_out records serial) × (page_of recor
 
 -- what has to hold so that the place of a page may change: each frame that it takes up then is one that it took up, or one that is free
 pub record CanChangePlace (v : ZoneState) (page : ℕ) (old new : Option Placement) : Type 0 where
-  pub lawful : IsValidZone v
+  pub valid : IsValidZone v
   pub at : map.get v.placement page ≡ old
   pub numbered : page < frame_count v
   pub takes : (frame : ℕ) → takes_up new frame ≡ true → (takes_up old frame ≡ true) ⊎ ((is_free v frame ≡ true) × (frame < frame_count v))
@@ -139,30 +139,30 @@ module _ {v : ZoneState} {page : ℕ} {old new : Option Placement} (can : CanCha
 
   -- no other page takes up a frame of this one, before or after the change
   pub not_old : (q g : ℕ) → q ≢ page → takes_up (map.get v.placement q) g ≡ true → takes_up old g ≡ true → ⊥
-  not_old q g ne e mine = ne (can.lawful.pages.apart q page g e (takes_before g ∙ mine))
+  not_old q g ne e mine = ne (can.valid.pages.apart q page g e (takes_before g ∙ mine))
 
   pub not_new : (q g : ℕ) → q ≢ page → takes_up (map.get v.placement q) g ≡ true → takes_up new g ≡ true → ⊥
-  not_new q g ne e mine = elim (can.takes g mine) [ inl had ↦ not_old q g ne e had | inr free ↦ both_ways _ (untaken v can.lawful g free.0 q) e ]
+  not_new q g ne e mine = elim (can.takes g mine) [ inl had ↦ not_old q g ne e had | inr free ↦ both_ways _ (untaken v can.valid g free.0 q) e ]
 
   pub new_within : (g : ℕ) → takes_up new g ≡ true → g < frame_count v
-  new_within g e = elim (can.takes g e) [ inl had ↦ can.lawful.pages.within page g (takes_before g ∙ had) | inr free ↦ free.1 ]
+  new_within g e = elim (can.takes g e) [ inl had ↦ can.valid.pages.within page g (takes_before g ∙ had) | inr free ↦ free.1 ]
 
   pub old_clear : (g : ℕ) → takes_up old g ≡ true → is_held v g ≡ false
-  old_clear g e = can.lawful.pages.clear page g (takes_before g ∙ e)
+  old_clear g e = can.valid.pages.clear page g (takes_before g ∙ e)
 
   pub new_clear : (g : ℕ) → takes_up new g ≡ true → is_held v g ≡ false
   new_clear g e = elim (can.takes g e) [ inl had ↦ old_clear g had | inr free ↦ unheld_frame v g free.0 ]
 
-  pub lawful_places : (unmovable : set.FinSet nat_cmp) → ((q : ℕ) → set.contains unmovable q ≡ true → IsSome (map.get next.placement q)) → HasValidPages next.placement unmovable (frame_count v) (is_held v)
-  lawful_places unmovable stay = record {
-    numbered = λ q used. elim (where_is q) [ inl here ↦ omega (arith, here.0, can.numbered) | inr there ↦ can.lawful.pages.numbered q (ap is_some (sym there.1) ∙ used) ];
-    upward = λ q serial source target e. elim (where_is q) [ inl here ↦ can.upward serial source target (sym here.2 ∙ e) | inr there ↦ can.lawful.pages.upward q serial source target (sym there.1 ∙ e) ];
+  pub valid_places : (unmovable : set.FinSet nat_cmp) → ((q : ℕ) → set.contains unmovable q ≡ true → IsSome (map.get next.placement q)) → HasValidPages next.placement unmovable (frame_count v) (is_held v)
+  valid_places unmovable stay = record {
+    numbered = λ q used. elim (where_is q) [ inl here ↦ omega (arith, here.0, can.numbered) | inr there ↦ can.valid.pages.numbered q (ap is_some (sym there.1) ∙ used) ];
+    upward = λ q serial source target e. elim (where_is q) [ inl here ↦ can.upward serial source target (sym here.2 ∙ e) | inr there ↦ can.valid.pages.upward q serial source target (sym there.1 ∙ e) ];
     apart = λ p q g a b. elim (took p g a) [
       | inl x ↦ elim (took q g b) [ inl y ↦ x.0 ∙ sym y.0 | inr y ↦ absurd (not_new q g y.0 y.1 x.1) ]
-      | inr x ↦ elim (took q g b) [ inl y ↦ absurd (not_new p g x.0 x.1 y.1) | inr y ↦ can.lawful.pages.apart p q g x.1 y.1 ]
+      | inr x ↦ elim (took q g b) [ inl y ↦ absurd (not_new p g x.0 x.1 y.1) | inr y ↦ can.valid.pages.apart p q g x.1 y.1 ]
     ];
-    within = λ q g a. elim (took q g a) [ inl mine ↦ new_within g mine.1 | inr theirs ↦ can.lawful.pages.within q g theirs.1 ];
-    clear = λ q g a. elim (took q g a) [ inl mine ↦ new_clear g mine.1 | inr theirs ↦ can.lawful.pages.clear q g theirs.1 ];
+    within = λ q g a. elim (took q g a) [ inl mine ↦ new_within g mine.1 | inr theirs ↦ can.valid.pages.within q g theirs.1 ];
+    clear = λ q g a. elim (took q g a) [ inl mine ↦ new_clear g mine.1 | inr theirs ↦ can.valid.pages.clear q g theirs.1 ];
     unmovable = stay;
   }
 
@@ -204,7 +204,7 @@ module _ {v : ZoneState} {page : ℕ} {old new : Option Placement} (can : CanCha
     arith,
     counts_add_up (is_free next) (takes_up new) (is_free v) (takes_up old) (frame_count v) (λ g h. balanced g (cases_Bool _) (cases_Bool _)),
     frames_counted new (frame_count v) new_within can.upward,
-    frames_counted old (frame_count v) (λ g e. can.lawful.pages.within page g (takes_before g ∙ e)) (λ serial source target e. can.lawful.pages.upward page serial source target (can.at ∙ e)),
+    frames_counted old (frame_count v) (λ g e. can.valid.pages.within page g (takes_before g ∙ e)) (λ serial source target e. can.valid.pages.upward page serial source target (can.at ∙ e)),
   )
 
   pub page_count : count_below (λ q. is_some (map.get next.placement q)) (frame_count v) + one_if (is_some old) ≡ count_below (λ q. is_some (map.get v.placement q)) (frame_count v) + one_if (is_some new)
@@ -239,18 +239,18 @@ module _ {v : ZoneState} {page : ℕ} {old new : Option Placement} (can : CanCha
   way_then : (q serial : ℕ) → IsTrue (is_under (map.get placement_then q) serial) → IsOutWith (entry ∷ v.records) q serial
   way_then q serial under = elim (where_is can q) [
     | inl here ↦ (let way = (told.own_way serial).0 (sym (ap (λ o. is_under o serial) here.2) ∙ under) in (way.0, way.1 ∙ ap Some (sym here.0)))
-    | inr there ↦ (told.other_ways q serial there.0).0 ((can.lawful.agrees.under_way q serial).0 (sym (ap (λ o. is_under o serial) there.1) ∙ under))
+    | inr there ↦ (told.other_ways q serial there.0).0 ((can.valid.agrees.under_way q serial).0 (sym (ap (λ o. is_under o serial) there.1) ∙ under))
   ]
 
   under_then : (q serial : ℕ) → IsOutWith (entry ∷ v.records) q serial → IsTrue (is_under (map.get placement_then q) serial)
   under_then q serial way = elim (where_is can q) [
     | inl here ↦ ap (λ o. is_under o serial) here.2 ∙ (told.own_way serial).1 (way.0, way.1 ∙ ap Some here.0)
-    | inr there ↦ ap (λ o. is_under o serial) there.1 ∙ (can.lawful.agrees.under_way q serial).1 ((told.other_ways q serial there.0).1 way)
+    | inr there ↦ ap (λ o. is_under o serial) there.1 ∙ (can.valid.agrees.under_way q serial).1 ((told.other_ways q serial there.0).1 way)
   ]
 
-  pub lawful_told : (migrate free : ℕ) → (migrate ≤ free) × (free ≤ frame_count v) → SweptIfQuiet (record (noted (with_place v page new) entry) { unmovable = unmovable; migrate = migrate; free = free }) → IsValidZone (record (noted (with_place v page new) entry) { unmovable = unmovable; migrate = migrate; free = free })
-  lawful_told migrate free fingers swept =
-      let law = can.lawful in
+  pub valid_told : (migrate free : ℕ) → (migrate ≤ free) × (free ≤ frame_count v) → SweptIfQuiet (record (noted (with_place v page new) entry) { unmovable = unmovable; migrate = migrate; free = free }) → IsValidZone (record (noted (with_place v page new) entry) { unmovable = unmovable; migrate = migrate; free = free })
+  valid_told migrate free fingers swept =
+      let law = can.valid in
       record {
         size = law.size;
         journal = record {
@@ -267,7 +267,7 @@ module _ {v : ZoneState} {page : ℕ} {old new : Option Placement} (can : CanCha
           handed = λ first. law.agrees.handed first ∙ sym (told.handed first);
           marks = λ block. law.agrees.marks block ∙ sym (told.marks block);
         };
-        pages = lawful_places can unmovable told.stay;
+        pages = valid_places can unmovable told.stay;
         blocks = law.blocks;
         fingers = record { ordered = fingers; begun = λ start e. begun_more v.records entry v.round law.fingers.begun start e; swept = swept };
         sum = omega (arith, law.sum, free_count can, page_count can, told.ways, ap ways_of can.at);

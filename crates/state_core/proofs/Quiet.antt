@@ -5,7 +5,7 @@ use Rattle.std.proofs.Math.Bool.{and-true}
 use Rattle.std.proofs.lemmas.Bool.{and_right, both_ways, cases_Bool}
 use Rattle.frame_core.specs.declared.record.Record.{Record}
 use Rattle.state_core.specs.declared.round.RoundStart.{RoundStart}
-use Rattle.state_core.specs.Lawful.{IsValidZone, HasValidFingers}
+use Rattle.state_core.specs.Valid.{IsValidZone, HasValidFingers}
 use Rattle.state_core.specs.Pairs.{is_calm}
 use Rattle.state_core.specs.Rounds.{round_begun}
 use Rattle.state_core.specs.Swept.{SweptIfQuiet}

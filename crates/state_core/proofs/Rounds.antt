@@ -6,7 +6,7 @@ use Rattle.std.proofs.lemmas.Option.{same_Some}
 use Rattle.frame_core.proofs.Searches.{some_at, none_some}
 use Rattle.frame_core.specs.Moves.{out}
 use Rattle.state_core.specs.declared.round.RoundStart.{RoundStart}
-use Rattle.state_core.specs.Lawful.{IsValidZone}
+use Rattle.state_core.specs.Valid.{IsValidZone}
 use Rattle.state_core.specs.Pairs.{is_stuck, is_calm}
 use Rattle.state_core.specs.ZoneState.{ZoneState, frame_count}
 use Rattle.state_core.proofs.Quiet.{quiet_begun}
@@ -21,8 +21,8 @@ pub calm : (v : ZoneState) → length (out v.records) ≡ 0 →
     ((frame : ℕ) → frame < frame_count v → is_stuck v frame ≡ false) → true ≡ is_calm v
 calm v none free = sym (λ i. eq-eqb (length (out v.records)) 0 none i && not (none_some (is_stuck v) (frame_count v) free i))
 
-pub lawful_from : (v : ZoneState) → IsValidZone v → (start : RoundStart) → start.records ≡ length v.records → start.calm ≡ is_calm v → IsValidZone (begun v start)
-lawful_from v law start here as_calm = record {
+pub valid_from : (v : ZoneState) → IsValidZone v → (start : RoundStart) → start.records ≡ length v.records → start.calm ≡ is_calm v → IsValidZone (begun v start)
+valid_from v law start here as_calm = record {
   size = law.size;
   journal = law.journal;
   agrees = law.agrees;
@@ -37,5 +37,5 @@ lawful_from v law start here as_calm = record {
   sum = law.sum;
 }
 
-pub lawful_begun : (v : ZoneState) → IsValidZone v → IsValidZone (round_begun v)
-lawful_begun v law = lawful_from v law (record { records = length v.records; calm = is_calm v }) refl refl
+pub valid_begun : (v : ZoneState) → IsValidZone v → IsValidZone (round_begun v)
+valid_begun v law = valid_from v law (record { records = length v.records; calm = is_calm v }) refl refl

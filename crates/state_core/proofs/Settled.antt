@@ -4,7 +4,7 @@ use Rattle.std.specs.FinMap as map
 use Rattle.frame_core.specs.Below.{count_below}
 use Rattle.frame_core.specs.declared.record.Record.{Record}
 use Rattle.state_core.specs.declared.placement.Placement.{Placement}
-use Rattle.state_core.specs.Lawful.{IsValidZone}
+use Rattle.state_core.specs.Valid.{IsValidZone}
 use Rattle.state_core.specs.Carrying.{relocated}
 use Rattle.state_core.specs.Swept.{SweptIfQuiet}
 use Rattle.state_core.specs.ZoneState.{ZoneState, frame_count, takes_up, is_held, is_free}
@@ -13,7 +13,7 @@ use Rattle.state_core.proofs.Places as places
 pub use Rattle.state_core.proofs.Moving.{CanSettle, IsStill, IsRecorded, isolate_still, moved_still, back_still}
 pub use Rattle.state_core.proofs.Isolating.{target_within, can_isolate, isolated_others, isolated_target, isolated_fewer, isolate_recorded}
 pub use Rattle.state_core.proofs.Ending.{frames_apart, can_move_on, can_go_back, moved_others, moved_source, back_others, back_target, source_used, target_used, source_within, target_in, moved_more, back_more, out_fewer, moved_recorded, back_recorded}
-pub use Rattle.state_core.proofs.LawfulMoves.{swept_if_isolated, swept_if_moved, swept_if_put_back, lawful_isolated, lawful_moved, lawful_put_back}
+pub use Rattle.state_core.proofs.ValidMoves.{swept_if_isolated, swept_if_moved, swept_if_put_back, valid_isolated, valid_moved, valid_put_back}
 
 module _ (v : ZoneState) (page : ℕ) (old new : Placement) (can : CanSettle v page old new) (entry : Record) where
   pub at_page : map.get (relocated v entry page new).placement page ≡ Some new
@@ -46,5 +46,5 @@ module _ (v : ZoneState) (page : ℕ) (old new : Placement) (can : CanSettle v p
   pub free_kept : (g : ℕ) → takes_up (Some old) g ≡ false → takes_up (Some new) g ≡ false → is_free (relocated v entry page new) g ≡ is_free v g
   free_kept = places.free_kept can
 
-pub lawful_settled : (v : ZoneState) (page : ℕ) (old new : Placement) (can : CanSettle v page old new) (entry : Record) → IsRecorded v entry page new → (migrate free : ℕ) → (migrate ≤ free) × (free ≤ frame_count v) → SweptIfQuiet (record (relocated v entry page new) { migrate = migrate; free = free }) → IsValidZone (record (relocated v entry page new) { migrate = migrate; free = free })
-lawful_settled v page old new can = moving.lawful_settled can
+pub valid_settled : (v : ZoneState) (page : ℕ) (old new : Placement) (can : CanSettle v page old new) (entry : Record) → IsRecorded v entry page new → (migrate free : ℕ) → (migrate ≤ free) × (free ≤ frame_count v) → SweptIfQuiet (record (relocated v entry page new) { migrate = migrate; free = free }) → IsValidZone (record (relocated v entry page new) { migrate = migrate; free = free })
+valid_settled v page old new can = moving.valid_settled can

@@ -11,15 +11,15 @@ use Rattle.frame_core.specs.declared.record.Record.TheVariants.{Share}
 use Rattle.frame_core.specs.History.{same_address, page_at, is_page, maps}
 use Rattle.frame_core.specs.Moves.{out}
 use Rattle.state_core.specs.declared.placement.Placement.TheVariants.{At}
-use Rattle.state_core.specs.Lawful.{IsValidZone}
+use Rattle.state_core.specs.Valid.{IsValidZone}
 use Rattle.state_core.specs.Sharing.{shared}
 use Rattle.state_core.specs.ZoneState.{ZoneState}
-use Rattle.state_core.proofs.Noted.{lawful_noted}
+use Rattle.state_core.proofs.Noted.{valid_noted}
 use Rattle.state_core.proofs.Quiet.{swept_ended}
 
 -- what has to hold so that an alias can name the page of an address
 pub record CanShare (v : ZoneState) (address alias : Address) (page frame : ℕ) : Type 0 where
-  pub lawful : IsValidZone v
+  pub valid : IsValidZone v
   pub spare : length (out v.records) < v.room
   pub named : page_at v.records address ≡ Some page
   pub at : map.get v.placement page ≡ Some (At frame)
@@ -52,10 +52,10 @@ module _ (v : ZoneState) (client : ℕ) (address alias : Address) (page frame : 
   pub maps_others : (q : ℕ) → q ≢ page → maps next.records q ≡ maps v.records q
   maps_others q ne = omega (arith, maps_then q, ap one_if (ne_eqb page q (λ e. ne (sym e))))
 
-  pub lawful_shared : IsValidZone next
-  lawful_shared =
-      let law = can.lawful in
-      lawful_noted v law (Share client address alias) can.spare (record {
+  pub valid_shared : IsValidZone next
+  valid_shared =
+      let law = can.valid in
+      valid_noted v law (Share client address alias) can.spare (record {
         truthful = law.journal.truthful;
         well_ended = law.journal.well_ended;
         serials = law.journal.serials;

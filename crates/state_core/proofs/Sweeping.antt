@@ -18,7 +18,7 @@ use Rattle.state_core.specs.declared.round.RoundStart.{RoundStart}
 use Rattle.state_core.specs.Access.{loaded, stored}
 use Rattle.state_core.specs.Carrying.{relocated}
 use Rattle.state_core.specs.Isolating.{isolated_next}
-use Rattle.state_core.specs.Lawful.{IsValidZone}
+use Rattle.state_core.specs.Valid.{IsValidZone}
 use Rattle.state_core.specs.Pairs.{IsPair, is_marked, can_move, holder, stays_if_some, is_stuck, is_calm}
 use Rattle.state_core.specs.Swept.{IsSwept}
 use Rattle.state_core.specs.ZoneState.{ZoneState, frame_count, is_free, is_held, noted}

@@ -12,18 +12,18 @@ use Rattle.frame_core.specs.declared.record.Record.TheVariants.{Unmap}
 use Rattle.frame_core.specs.History.{same_address, page_at, is_page, maps}
 use Rattle.frame_core.specs.Moves.{out}
 use Rattle.state_core.specs.declared.placement.Placement.TheVariants.{At}
-use Rattle.state_core.specs.Lawful.{IsValidZone, is_under}
+use Rattle.state_core.specs.Valid.{IsValidZone, is_under}
 use Rattle.state_core.specs.Unmapping.{is_last, without_page, unmapped}
 use Rattle.state_core.specs.ZoneState.{ZoneState, frame_count, is_free, noted}
 use Rattle.state_core.proofs.Entries.{contains_remove_same, contains_remove_other}
 use Rattle.state_core.proofs.Facts.{not_none}
-use Rattle.state_core.proofs.Noted.{lawful_noted}
+use Rattle.state_core.proofs.Noted.{valid_noted}
 use Rattle.state_core.proofs.Quiet.{swept_ended}
-use Rattle.state_core.proofs.Places.{CanChangePlace, IsTold, with_place, where_is, ways_of, free_left, free_kept, free_count, page_count, lawful_told}
+use Rattle.state_core.proofs.Places.{CanChangePlace, IsTold, with_place, where_is, ways_of, free_left, free_kept, free_count, page_count, valid_told}
 
 -- what has to hold so that an address can be unmapped
 pub record CanUnmap (v : ZoneState) (address : Address) (page frame : ℕ) : Type 0 where
-  pub lawful : IsValidZone v
+  pub valid : IsValidZone v
   pub spare : length (out v.records) < v.room
   pub named : page_at v.records address ≡ Some page
   pub at : map.get v.placement page ≡ Some (At frame)
@@ -42,7 +42,7 @@ module _ (v : ZoneState) (client : ℕ) (address : Address) (page frame : ℕ) (
   maps_then : (q : ℕ) → maps after.records q + one_if (nat_eq page q) ≡ maps v.records q
   maps_then q = omega (
     arith,
-    maps_changed v.records after.records address (can.lawful.agrees.named address page can.named).0 named_there q,
+    maps_changed v.records after.records address (can.valid.agrees.named address page can.named).0 named_there q,
     ap (λ (o : Option ℕ). one_if (is_page o q)) can.named,
     ap (λ (o : Option ℕ). one_if (is_page o q)) (named_here address (and_from _ _ (eq-eqb address.space address.space refl) (eq-eqb address.vpage address.vpage refl))),
   )
@@ -60,11 +60,11 @@ module _ (v : ZoneState) (client : ℕ) (address : Address) (page frame : ℕ) (
     | inr there ↦ sym (named_there a there) ∙ is
   ]
 
-  -- the zone stays lawful where another address names the page
-  pub lawful_still : maps v.records page ≢ 1 → IsValidZone after
-  lawful_still more =
-      let law = can.lawful in
-      lawful_noted v law (Unmap client address) can.spare (record {
+  -- the zone stays valid where another address names the page
+  pub valid_still : maps v.records page ≢ 1 → IsValidZone after
+  valid_still more =
+      let law = can.valid in
+      valid_noted v law (Unmap client address) can.spare (record {
         truthful = law.journal.truthful;
         well_ended = law.journal.well_ended;
         serials = law.journal.serials;
@@ -90,7 +90,7 @@ module _ (v : ZoneState) (client : ℕ) (address : Address) (page frame : ℕ) (
   next = with_place v page None
 
   pub can_unmap : CanChangePlace v page (Some (At frame)) None
-  can_unmap = record { lawful = can.lawful; at = can.at; numbered = can.lawful.pages.numbered page (not_none _ (At frame) can.at); takes = λ g e. cc; upward = λ serial source target e. cc }
+  can_unmap = record { valid = can.valid; at = can.at; numbered = can.valid.pages.numbered page (not_none _ (At frame) can.at); takes = λ g e. cc; upward = λ serial source target e. cc }
 
   -- after the page's last unmap, only its frame differs in being free
   pub unmapped_others : (g : ℕ) → g ≢ frame → is_free next g ≡ is_free v g
@@ -117,13 +117,13 @@ module _ (v : ZoneState) (client : ℕ) (address : Address) (page frame : ℕ) (
   -- no other address names the page
   pub none_left : maps v.records page ≡ 1 → (a : Address) (q : ℕ) → page_at after.records a ≡ Some q → q ≢ page
   none_left one a q is same =
-      let range = (can.lawful.agrees.named a q (named_before a q is)).0 in
+      let range = (can.valid.agrees.named a q (named_before a q is)).0 in
       let some = maps_some after.records page a range (ap (λ (o : Option ℕ). is_page o page) is ∙ eq-eqb q page same) in
       absurd (omega (arith, maps_one_less))
 
   unmap_told : maps v.records page ≡ 1 → IsTold v page None (Unmap client address) (set.remove v.unmovable page)
   unmap_told one =
-      let law = can.lawful in
+      let law = can.valid in
       let room = can.spare in
       record {
         truthful = law.journal.truthful;
@@ -148,8 +148,8 @@ module _ (v : ZoneState) (client : ℕ) (address : Address) (page frame : ℕ) (
         ];
       }
 
-  pub lawful_gone : maps v.records page ≡ 1 → IsValidZone (without_page after page)
-  lawful_gone one = lawful_told can_unmap (Unmap client address) _ (unmap_told one) v.migrate v.free can.lawful.fingers.ordered (swept_ended v (without_page after page) (Unmap client address) can.lawful refl refl refl)
+  pub valid_gone : maps v.records page ≡ 1 → IsValidZone (without_page after page)
+  valid_gone one = valid_told can_unmap (Unmap client address) _ (unmap_told one) v.migrate v.free can.valid.fingers.ordered (swept_ended v (without_page after page) (Unmap client address) can.valid refl refl refl)
 
   -- the page of the address has one address exactly where the address is its last one
   pub is_last_by : is_last v address ≡ nat_eq (maps v.records page) 1
@@ -161,8 +161,8 @@ module _ (v : ZoneState) (client : ℕ) (address : Address) (page frame : ℕ) (
   pub unmapped_still : maps v.records page ≢ 1 → unmapped v client address ≡ after
   unmapped_still more = cond-false (is_last v address) _ after (is_last_by ∙ ne_eqb (maps v.records page) 1 more)
 
-  pub lawful_unmapped : IsValidZone (unmapped v client address)
-  lawful_unmapped = elim (eqb_tells (maps v.records page) 1) [
-    | inl last ↦ subst IsValidZone (sym (unmapped_last last.1)) (lawful_gone last.1)
-    | inr more ↦ subst IsValidZone (sym (unmapped_still more.1)) (lawful_still more.1)
+  pub valid_unmapped : IsValidZone (unmapped v client address)
+  valid_unmapped = elim (eqb_tells (maps v.records page) 1) [
+    | inl last ↦ subst IsValidZone (sym (unmapped_last last.1)) (valid_gone last.1)
+    | inr more ↦ subst IsValidZone (sym (unmapped_still more.1)) (valid_still more.1)
   ]

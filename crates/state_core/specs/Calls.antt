@@ -120,7 +120,7 @@ is_access (Load address word) = true
 is_access (Store address word value) = true
 is_access _ = false
 
--- the arguments of a call are in range that a lawful zone rests on: an address that is to name a page, and the order of a block that
+-- the arguments of a call are in range that a valid zone rests on: an address that is to name a page, and the order of a block that
 -- is to be handed out
 abbrev pub IsInRange : {W : ℕ} → ZoneCall W → Type 0
 IsInRange (Map address unmovable) = InRange address

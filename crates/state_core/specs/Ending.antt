@@ -11,7 +11,7 @@ use Rattle.state_core.specs.declared.moves.Ended.{Ended}
 use Rattle.state_core.specs.declared.moves.Ended.TheVariants as ended
 use Rattle.state_core.specs.declared.placement.Placement.{Placement}
 use Rattle.state_core.specs.declared.placement.Placement.TheVariants.{At, Moving}
-use Rattle.state_core.specs.Lawful.{is_under}
+use Rattle.state_core.specs.Valid.{is_under}
 use Rattle.state_core.specs.ZoneState.{ZoneState, is_free}
 use Rattle.state_core.specs.Carrying.{flags_of, words_now, relocated}
 

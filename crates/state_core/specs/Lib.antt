@@ -8,7 +8,6 @@ pub mod Ending
 pub mod ErrorNumber
 pub mod HandingOut
 pub mod Isolating
-pub mod Lawful
 pub mod Looking
 pub mod Mapping
 pub mod Marking
@@ -20,5 +19,6 @@ pub mod Rounds
 pub mod Sharing
 pub mod Swept
 pub mod Unmapping
-pub mod ZoneState
+pub mod Valid
 pub mod ZoneCode
+pub mod ZoneState

@@ -2,8 +2,8 @@
 //!
 //! `specs/ZoneState.antt` is the state, one record: a machine without frame tables, words or counters. A file of `specs/` for
 //! each kind of call says when it is refused, what it answers and what it leaves. `specs/Calls.antt` is four tables of the calls
-//! that a client makes, each of which is a value. `specs/Lawful.antt` says what is true whatever calls are made. `proofs/` has the
-//! laws: each step keeps a lawful state lawful.
+//! that a client makes, each of which is a value. `specs/Valid.antt` says what is true whatever calls are made. `proofs/` has the
+//! laws: each step keeps a valid state valid.
 #![tactic(auto)]
 
 mod call;

@@ -6,12 +6,12 @@ use Rattle.frame_core.specs.History.{pins}
 use Rattle.frame_core.specs.Moves.{isolated, out, put_back}
 use Rattle.state_core.specs.declared.placement.Placement.TheVariants.{Moving}
 use Rattle.state_core.specs.Ending.{moved_to_target, put_back_to_source, committed, HasCause}
-use Rattle.state_core.specs.Lawful.{IsValidZone}
+use Rattle.state_core.specs.Valid.{IsValidZone}
 use Rattle.state_core.specs.Rounds.{round_begun}
 use Rattle.state_core.specs.ZoneState.{ZoneState}
 use Rattle.state_core.proofs.Facts.{taken as if_true}
 use Rattle.state_core.proofs.Holding.{at_rest}
-use Rattle.state_core.proofs.Rounds.{lawful_begun}
+use Rattle.state_core.proofs.Rounds.{valid_begun}
 use Rattle.std.proofs.lemmas.Bool.{eq-eqb}
 use Rattle.zone_core.specs.Alone.{IsSeenAs, IsAtRest, IsUnderWay, KeepsScanning, KeepsAlone}
 use Rattle.zone_core.specs.ByHand.{scan_pair, scan_step, all_isolated, by_hand}
@@ -81,7 +81,7 @@ module _ (start : ZoneState) where
   -- no page is moving before the round, or where it has just begun
 
   never : (z : ZoneState) (page serial source target : ℕ) → IsAtRest start → z.placement ≡ start.placement → map.get z.placement page ≡ Some (Moving serial source target) → ⊥
-  never z page serial source target rest e at = at_rest start rest.lawful (ap length rest.none_out) page serial source target (sym (ap (λ m. map.get m page) e) ∙ at)
+  never z page serial source target rest e at = at_rest start rest.valid (ap length rest.none_out) page serial source target (sym (ap (λ m. map.get m page) e) ∙ at)
 
   -- a page is moved, or put back
 
@@ -120,7 +120,7 @@ module _ (start : ZoneState) where
   alone_exact z rest law keeps count none back = elim (keeps rest) [
     | inl e ↦
         (let stays : isolated start.records ≡ isolated (all_isolated start).records = ap (λ (w : ZoneState). isolated w.records) (sym e) ∙ count in
-        subst (IsSame (by_hand start)) (sym e) (same_begun (by_hand start) start (exact start (round_begun start) rest (lawful_begun start rest.lawful) (comes_begun start rest) stays rest.none_out refl)))
+        subst (IsSame (by_hand start)) (sym e) (same_begun (by_hand start) start (exact start (round_begun start) rest (valid_begun start rest.valid) (comes_begun start rest) stays rest.none_out refl)))
     | inr under ↦ exact start z rest law under.comes count none back
   ]
 

@@ -12,18 +12,18 @@ use Rattle.frame_core.proofs.OnTheWay.{any_without, none_out}
 use Rattle.state_core.specs.declared.placement.Placement.{Placement}
 use Rattle.state_core.specs.declared.placement.Placement.TheVariants.{At, Moving}
 use Rattle.state_core.specs.Ending.{moved_to_target, target_of}
-use Rattle.state_core.specs.Lawful.{IsValidZone, is_under}
+use Rattle.state_core.specs.Valid.{IsValidZone, is_under}
 use Rattle.state_core.specs.Rounds.{round_begun}
 use Rattle.state_core.specs.ZoneState.{ZoneState, frame_count}
 use Rattle.state_core.proofs.Entries.{get_insert_same, get_insert_other}
 use Rattle.state_core.proofs.Facts.{not_none, some_is}
 use Rattle.state_core.proofs.Holding.{at_rest}
-use Rattle.state_core.proofs.Rounds.{lawful_begun}
+use Rattle.state_core.proofs.Rounds.{valid_begun}
 use Rattle.zone_core.specs.Alone.{AreCarriedUp, ComesTo, IsAtRest}
 use Rattle.zone_core.specs.ByHand.{all_isolated, moved_if_moving, moved_below, by_hand}
 use Rattle.zone_core.specs.Outcome.{Outcome, outcome_of, final_frame, IsSame}
-use Rattle.zone_core.proofs.Scanning.{not_moving, lawful_steps, carried_steps, frames_steps, back_steps}
-use Rattle.zone_core.proofs.Ending.{lawful_move, carried_moved, outcome_moved}
+use Rattle.zone_core.proofs.Scanning.{not_moving, valid_steps, carried_steps, frames_steps, back_steps}
+use Rattle.zone_core.proofs.Ending.{valid_move, carried_moved, outcome_moved}
 use Rattle.zone_core.proofs.Coming.{comes_begun, stopped_outcome, counted_stopped}
 
 -- each page that is moving is moved in turn, and what the zone comes to stays the same
@@ -50,7 +50,7 @@ pub record IsMoving (z : ZoneState) : Type 0 where
   pub carried : AreCarriedUp z
 
 pub moving_moved : (z : ZoneState) (n s a b : ℕ) → IsMoving z → map.get z.placement n ≡ Some (Moving s a b) → IsMoving (moved_to_target z s n)
-moving_moved z n s a b m at = record { law = lawful_move z m.law m.carried n s a b at; carried = carried_moved z m.law m.carried n s a b at }
+moving_moved z n s a b m at = record { law = valid_move z m.law m.carried n s a b at; carried = carried_moved z m.law m.carried n s a b at }
 
 moving_one : (z : ZoneState) (n : ℕ) → IsMoving z → IsMoving (one z n)
 moving_one z n m = by_one z n IsMoving (λ stands. m) (λ s a b at. moving_moved z n s a b m at)
@@ -173,11 +173,11 @@ nothing_out z law stand = none_out z.records (λ s. false_from_ne_true (is_out z
 
 module _ (start : ZoneState) (rest : IsAtRest start) where
   begun : IsValidZone (round_begun start)
-  begun = lawful_begun start rest.lawful
+  begun = valid_begun start rest.valid
 
   pub moving_isolated : IsMoving (all_isolated start)
   moving_isolated = record {
-    law = lawful_steps (frame_count start) (round_begun start) begun;
+    law = valid_steps (frame_count start) (round_begun start) begun;
     carried = carried_steps (frame_count start) (round_begun start) begun (comes_begun start rest).carried;
   }
 

@@ -9,11 +9,11 @@ use Rattle.frame_core.specs.Moves.{out}
 use Rattle.state_core.specs.declared.placement.Placement.{Placement}
 use Rattle.state_core.specs.declared.placement.Placement.TheVariants.{At, Moving}
 use Rattle.state_core.specs.Ending.{moved_to_target, put_back_to_source, target_of, source_of}
-use Rattle.state_core.specs.Lawful.{IsValidZone}
+use Rattle.state_core.specs.Valid.{IsValidZone}
 use Rattle.state_core.specs.Pairs.{stands_in}
 use Rattle.state_core.specs.ZoneState.{ZoneState, takes_up}
 use Rattle.state_core.proofs.Entries.{get_insert_same, get_insert_other}
-use Rattle.state_core.proofs.Settled.{lawful_moved, out_fewer}
+use Rattle.state_core.proofs.Settled.{valid_moved, out_fewer}
 use Rattle.zone_core.specs.Alone.{AreCarriedUp, IsSeenAs}
 use Rattle.zone_core.specs.Outcome.{outcome_of, final_frame}
 use Rattle.zone_core.proofs.Scanning.{not_moving, no_pin}
@@ -22,8 +22,8 @@ module _ (z : ZoneState) (law : IsValidZone z) (carried : AreCarriedUp z) (page 
   target_is : target_of (map.get z.placement page) ≡ target
   target_is = ap target_of at
 
-  pub lawful_move : IsValidZone (moved_to_target z serial page)
-  lawful_move = lawful_moved z serial page source target law at (no_pin z carried page serial source target at)
+  pub valid_move : IsValidZone (moved_to_target z serial page)
+  valid_move = valid_moved z serial page source target law at (no_pin z carried page serial source target at)
 
   pub carried_moved : AreCarriedUp (moved_to_target z serial page)
   carried_moved = record {

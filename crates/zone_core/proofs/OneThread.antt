@@ -13,25 +13,25 @@ use Rattle.state_core.specs.declared.moves.Next.TheVariants as answer
 use Rattle.state_core.specs.Carrying.{page_now}
 use Rattle.state_core.specs.Ending.{moved_to_target}
 use Rattle.state_core.specs.Isolating.{isolate_refusal, isolated_next, next_answer, next_state}
-use Rattle.state_core.specs.Lawful.{IsValidZone}
+use Rattle.state_core.specs.Valid.{IsValidZone}
 use Rattle.state_core.specs.Pairs.{next_pair}
 use Rattle.state_core.specs.Rounds.{round_begun}
 use Rattle.state_core.specs.ZoneState.{ZoneState}
-use Rattle.state_core.proofs.Rounds.{lawful_begun}
+use Rattle.state_core.proofs.Rounds.{valid_begun}
 use Rattle.zone_core.specs.Alone.{ComesTo, IsAtRest}
 use Rattle.zone_core.specs.ByHand.{scan_pair, scan_step, all_isolated, by_hand}
 use Rattle.zone_core.specs.Outcome.{IsSame}
 use Rattle.zone_core.proofs.ByHand.{exact}
 use Rattle.zone_core.proofs.Coming.{comes_begun, comes_scan, comes_move, stopped_seen}
 use Rattle.zone_core.proofs.Scanner.{refusal_same}
-use Rattle.zone_core.proofs.Scanning.{lawful_scan, no_pin}
+use Rattle.zone_core.proofs.Scanning.{valid_scan, no_pin}
 use Rattle.frame_core.specs.Page.{IsolatedPage}
 use Rattle.zone_core.specs.OneThread.{last_for, last_by_hand}
 
 -- no page is moving, none was put back, and the round goes on to what the round by hand comes to
 pub record IsBetween (start z : ZoneState) : Type 0 where
   pub rest : IsAtRest start
-  pub lawful : IsValidZone z
+  pub valid : IsValidZone z
   pub comes : ComesTo start z
   pub none_out : out z.records ≡ []
   pub none_back : put_back z.records ≡ put_back start.records
@@ -39,7 +39,7 @@ pub record IsBetween (start z : ZoneState) : Type 0 where
 pub between_begun : (start : ZoneState) → IsAtRest start → IsBetween start (round_begun start)
 between_begun start rest = record {
   rest = rest;
-  lawful = lawful_begun start rest.lawful;
+  valid = valid_begun start rest.valid;
   comes = comes_begun start rest;
   none_out = rest.none_out;
   none_back = refl;
@@ -56,11 +56,11 @@ module _ (start z : ZoneState) (is : IsBetween start z) (pair : Pair) (spare : i
   is_step : scan_step z ≡ next
   is_step = ap (next_state z) (pair_scanned z (Some pair) spare found)
 
-  lawful_next : IsValidZone next
-  lawful_next = subst IsValidZone is_step (lawful_scan z is.lawful)
+  valid_next : IsValidZone next
+  valid_next = subst IsValidZone is_step (valid_scan z is.valid)
 
   comes_next : ComesTo start next
-  comes_next = subst (ComesTo start) is_step (comes_scan start z is.lawful is.comes)
+  comes_next = subst (ComesTo start) is_step (comes_scan start z is.valid is.comes)
 
   at_next : map.get next.placement pair.page ≡ Some (Moving (isolated z.records) pair.source pair.target)
   at_next = get_insert_same z.placement pair.page pair.page _ refl
@@ -71,8 +71,8 @@ module _ (start z : ZoneState) (is : IsBetween start z) (pair : Pair) (spare : i
   pub between_moved : IsValidZone (moved_to_target next (isolated z.records) pair.page) → IsBetween start (moved_to_target next (isolated z.records) pair.page)
   between_moved law = record {
     rest = is.rest;
-    lawful = law;
-    comes = comes_move start next pair.page (isolated z.records) pair.source pair.target lawful_next at_next comes_next;
+    valid = law;
+    comes = comes_move start next pair.page (isolated z.records) pair.source pair.target valid_next at_next comes_next;
     none_out = ap (λ (serials : List ℕ). without (isolated z.records) (isolated z.records ∷ serials)) is.none_out
         ∙ ap (λ (b : Bool). cond (not b) (isolated z.records ∷ []) []) (eq-eqb (isolated z.records) (isolated z.records) refl);
     none_back = is.none_back;
@@ -81,7 +81,7 @@ module _ (start z : ZoneState) (is : IsBetween start z) (pair : Pair) (spare : i
 -- where the scanner stops
 module _ (start z : ZoneState) (is : IsBetween start z) (none : scan_pair z ≡ None) where
   pub exact_stopped : IsSame (by_hand start) z
-  exact_stopped = exact start z is.rest is.lawful is.comes (stopped_seen start z is.comes none).count is.none_out is.none_back
+  exact_stopped = exact start z is.rest is.valid is.comes (stopped_seen start z is.comes none).count is.none_out is.none_back
 
   pub refusal_is : isolate_refusal z ≡ isolate_refusal (all_isolated start)
   refusal_is = refusal_same z (all_isolated start) (stopped_seen start z is.comes none)

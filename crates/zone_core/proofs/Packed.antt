@@ -6,7 +6,7 @@ use Rattle.frame_core.specs.Moves.{isolated, out}
 use Rattle.state_core.specs.declared.error.ZoneError.{ZoneError}
 use Rattle.state_core.specs.declared.round.Pair.{Pair}
 use Rattle.state_core.specs.Isolating.{isolate_refusal}
-use Rattle.state_core.specs.Lawful.{IsValidZone}
+use Rattle.state_core.specs.Valid.{IsValidZone}
 use Rattle.state_core.specs.Packed.{IsPacked}
 use Rattle.state_core.specs.Pairs.{HaveMet, is_calm, next_pair}
 use Rattle.state_core.specs.Rounds.{round_begun}
@@ -14,13 +14,13 @@ use Rattle.state_core.specs.ZoneState.{ZoneState, frame_count, is_quiet}
 use Rattle.state_core.proofs.Packing.{packed_quiet}
 use Rattle.state_core.proofs.Pairing.{no_pair}
 use Rattle.state_core.proofs.Quiet.{quiet_is_calm, quiet_kept}
-use Rattle.state_core.proofs.Rounds.{lawful_begun}
+use Rattle.state_core.proofs.Rounds.{valid_begun}
 use Rattle.state_core.proofs.StaysMet.{met_moved}
 use Rattle.zone_core.specs.Alone.{IsAtRest}
 use Rattle.zone_core.specs.ByHand.{scan_step, scan_steps, all_isolated, moved_below, by_hand}
 use Rattle.zone_core.specs.Outcome.{IsSame}
 use Rattle.zone_core.proofs.ByHand.{IsMoving, one, by_one, moving_moved, moving_isolated, none_by_hand}
-use Rattle.zone_core.proofs.Scanning.{by_scan, lawful_scan, settled, within_frames}
+use Rattle.zone_core.proofs.Scanning.{by_scan, valid_scan, settled, within_frames}
 
 -- the scanner leaves a round quiet
 
@@ -29,7 +29,7 @@ quiet_scan z law quiet = by_scan z law (λ w. is_quiet w ≡ true) (λ e. quiet)
 
 quiet_steps : (n : ℕ) (z : ZoneState) → IsValidZone z → is_quiet z ≡ true → is_quiet (scan_steps n z) ≡ true
 quiet_steps zero z law quiet = quiet
-quiet_steps (suc n) z law quiet = quiet_steps n (scan_step z) (lawful_scan z law) (quiet_scan z law quiet)
+quiet_steps (suc n) z law quiet = quiet_steps n (scan_step z) (valid_scan z law) (quiet_scan z law quiet)
 
 -- each page that is moved leaves it quiet, and brings no pair back
 
@@ -60,11 +60,11 @@ if_no_refusal refusal pair e none = sym (ap (λ r. cond (is_none r) pair None) e
 
 module _ (start : ZoneState) (law : IsValidZone start) (calm : is_calm start ≡ true) (refused : isolate_refusal (all_isolated start) ≡ None) where
   at_rest : IsAtRest start
-  at_rest = record { lawful = law; none_out = none_of (out start.records) (eqb-true _ 0 (and_parts _ _ calm).0) }
+  at_rest = record { valid = law; none_out = none_of (out start.records) (eqb-true _ 0 (and_parts _ _ calm).0) }
 
   quiet_met : IsQuietMet (all_isolated start)
   quiet_met =
-      let begun = lawful_begun start law in
+      let begun = valid_begun start law in
       let moving = moving_isolated start at_rest in
       record {
         moving = moving;

@@ -3,7 +3,7 @@ use Rattle.std.proofs.Common.{◌≡◌, ◌+◌, ◌-◌, ◌*◌, length, sym,
 use Rattle.std.specs.FinMap as map
 use Rattle.state_core.specs.Rounds.{round_begun}
 use Rattle.state_core.specs.ZoneState.{ZoneState, frame_count}
-use Rattle.state_core.proofs.Rounds.{lawful_begun}
+use Rattle.state_core.proofs.Rounds.{valid_begun}
 use Rattle.zone_core.specs.Alone.{IsAtRest}
 use Rattle.zone_core.specs.ByHand.{scan_steps, all_isolated, by_hand}
 use Rattle.zone_core.specs.Outcome.{outcome_of, final_frame, IsSame}
@@ -33,7 +33,7 @@ module _ (z w : ZoneState) (rest_z : IsAtRest z) (rest_w : IsAtRest w) (same : I
 
   isolated_agrees : outcome_of (all_isolated z) ≡ outcome_of (all_isolated w)
   isolated_agrees =
-      outcome_steps (frame_count z) (round_begun z) (round_begun w) (lawful_begun z rest_z.lawful) (lawful_begun w rest_w.lawful) (comes_begun z rest_z).carried (comes_begun w rest_w).carried begun_agrees
+      outcome_steps (frame_count z) (round_begun z) (round_begun w) (valid_begun z rest_z.valid) (valid_begun w rest_w.valid) (comes_begun z rest_z).carried (comes_begun w rest_w).carried begun_agrees
       ∙ ap (λ n. outcome_of (scan_steps n (round_begun w))) (ap (λ n. 512 * n) same.blocks)
 
   pub by_hand_agrees : IsSame (by_hand z) (by_hand w)

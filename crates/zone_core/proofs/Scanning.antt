@@ -10,13 +10,13 @@ use Rattle.state_core.specs.declared.error.ZoneError.{ZoneError}
 use Rattle.state_core.specs.declared.placement.Placement.TheVariants.{At, Moving}
 use Rattle.state_core.specs.declared.round.Pair.{Pair}
 use Rattle.state_core.specs.Isolating.{isolate_refusal, isolated_next, next_state}
-use Rattle.state_core.specs.Lawful.{IsValidZone}
+use Rattle.state_core.specs.Valid.{IsValidZone}
 use Rattle.state_core.specs.Pairs.{IsPair, next_pair, can_move, stands_in}
 use Rattle.state_core.specs.ZoneState.{ZoneState, frame_count, takes_up}
 use Rattle.state_core.proofs.Entries.{get_insert_same, get_insert_other}
 use Rattle.state_core.proofs.Facts.{room_and_serial}
 use Rattle.state_core.proofs.Pairing.{pair_found}
-use Rattle.state_core.proofs.Settled.{lawful_isolated}
+use Rattle.state_core.proofs.Settled.{valid_isolated}
 use Rattle.zone_core.specs.Alone.{AreCarriedUp, IsSeenAs}
 use Rattle.zone_core.specs.ByHand.{scan_pair, scan_step, scan_steps}
 use Rattle.zone_core.specs.Outcome.{Outcome, outcome_of, without_ends, final_frame}
@@ -48,10 +48,10 @@ by_scan z law P none some = by (scan_pair z) refl where
   by None e = none e
   by (Some pair) e = some pair (found z law pair e)
 
--- a step leaves a lawful zone lawful, and moving pages go up
+-- a step leaves a valid zone valid, and moving pages go up
 
-pub lawful_scan : (z : ZoneState) → IsValidZone z → IsValidZone (scan_step z)
-lawful_scan z law = by_scan z law IsValidZone (λ e. law) (λ pair t. lawful_isolated z pair law t.is t.accepted)
+pub valid_scan : (z : ZoneState) → IsValidZone z → IsValidZone (scan_step z)
+valid_scan z law = by_scan z law IsValidZone (λ e. law) (λ pair t. valid_isolated z pair law t.is t.accepted)
 
 two_ways : (a s t b source target : ℕ) → Some (Moving a s t) ≡ Some (Moving b source target) → (s ≡ source) × (t ≡ target)
 two_ways a s t b source target e = (cc, cc)
@@ -126,25 +126,25 @@ outcome_scan z w carried_z carried_w same =
 
 -- so many steps
 
-pub lawful_steps : (n : ℕ) (z : ZoneState) → IsValidZone z → IsValidZone (scan_steps n z)
-lawful_steps zero z law = law
-lawful_steps (suc n) z law = lawful_steps n (scan_step z) (lawful_scan z law)
+pub valid_steps : (n : ℕ) (z : ZoneState) → IsValidZone z → IsValidZone (scan_steps n z)
+valid_steps zero z law = law
+valid_steps (suc n) z law = valid_steps n (scan_step z) (valid_scan z law)
 
 pub carried_steps : (n : ℕ) (z : ZoneState) → IsValidZone z → AreCarriedUp z → AreCarriedUp (scan_steps n z)
 carried_steps zero z law carried = carried
-carried_steps (suc n) z law carried = carried_steps n (scan_step z) (lawful_scan z law) (carried_scan z law carried)
+carried_steps (suc n) z law carried = carried_steps n (scan_step z) (valid_scan z law) (carried_scan z law carried)
 
 pub outcome_steps : (n : ℕ) (z w : ZoneState) → IsValidZone z → IsValidZone w → AreCarriedUp z → AreCarriedUp w → outcome_of z ≡ outcome_of w → outcome_of (scan_steps n z) ≡ outcome_of (scan_steps n w)
 outcome_steps zero z w law_z law_w carried_z carried_w same = same
 outcome_steps (suc n) z w law_z law_w carried_z carried_w same =
-    outcome_steps n (scan_step z) (scan_step w) (lawful_scan z law_z) (lawful_scan w law_w) (carried_scan z law_z carried_z) (carried_scan w law_w carried_w) (outcome_scan z w carried_z carried_w same)
+    outcome_steps n (scan_step z) (scan_step w) (valid_scan z law_z) (valid_scan w law_w) (carried_scan z law_z carried_z) (carried_scan w law_w carried_w) (outcome_scan z w carried_z carried_w same)
 
 pub frames_scan : (z : ZoneState) → IsValidZone z → frame_count (scan_step z) ≡ frame_count z
 frames_scan z law = by_scan z law (λ w. frame_count w ≡ frame_count z) (λ e. refl) (λ pair t. refl)
 
 pub frames_steps : (n : ℕ) (z : ZoneState) → IsValidZone z → frame_count (scan_steps n z) ≡ frame_count z
 frames_steps zero z law = refl
-frames_steps (suc n) z law = frames_steps n (scan_step z) (lawful_scan z law) ∙ frames_scan z law
+frames_steps (suc n) z law = frames_steps n (scan_step z) (valid_scan z law) ∙ frames_scan z law
 
 pub stuck : (n : ℕ) (z : ZoneState) → scan_pair z ≡ None → scan_steps n z ≡ z
 stuck zero z e = refl
@@ -158,7 +158,7 @@ settled zero z law within = none_if (scan_pair z) (λ pair e.
     omega arith)
 settled (suc n) z law within = by_scan z law (λ w. scan_pair (scan_steps n w) ≡ None)
     (λ e. ap scan_pair (stuck n z e) ∙ e)
-    (λ pair t. let low = t.is.from.low in let up = t.is.to.low in let high = t.is.to.high in settled n (isolated_next z pair) (lawful_isolated z pair law t.is t.accepted) (omega arith))
+    (λ pair t. let low = t.is.from.low in let up = t.is.to.low in let high = t.is.to.high in settled n (isolated_next z pair) (valid_isolated z pair law t.is t.accepted) (omega arith))
 
 in_turn : (n : ℕ) (z : ZoneState) → scan_steps n (scan_step z) ≡ scan_step (scan_steps n z)
 in_turn zero z = refl
@@ -215,11 +215,11 @@ seen_scan z w law seen = subst (λ o. IsSeenAs (scan_step z) (next_state w o)) (
 
 pub seen_steps : (n : ℕ) (z w : ZoneState) → IsValidZone z → IsValidZone w → IsSeenAs z w → IsSeenAs (scan_steps n z) (scan_steps n w)
 seen_steps zero z w law_z law_w seen = seen
-seen_steps (suc n) z w law_z law_w seen = seen_steps n (scan_step z) (scan_step w) (lawful_scan z law_z) (lawful_scan w law_w) (seen_scan z w law_z seen)
+seen_steps (suc n) z w law_z law_w seen = seen_steps n (scan_step z) (scan_step w) (valid_scan z law_z) (valid_scan w law_w) (seen_scan z w law_z seen)
 
 pub back_scan : (z : ZoneState) → IsValidZone z → put_back (scan_step z).records ≡ put_back z.records
 back_scan z law = by_scan z law (λ w. put_back w.records ≡ put_back z.records) (λ e. refl) (λ pair t. refl)
 
 pub back_steps : (n : ℕ) (z : ZoneState) → IsValidZone z → put_back (scan_steps n z).records ≡ put_back z.records
 back_steps zero z law = refl
-back_steps (suc n) z law = back_steps n (scan_step z) (lawful_scan z law) ∙ back_scan z law
+back_steps (suc n) z law = back_steps n (scan_step z) (valid_scan z law) ∙ back_scan z law

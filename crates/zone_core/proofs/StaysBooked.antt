@@ -23,7 +23,7 @@ use Rattle.state_core.specs.Calls.{after}
 use Rattle.state_core.specs.Ending.{ended_as, committed, moved_to_target, put_back_to_source}
 use Rattle.state_core.specs.HandingOut.{lowest_run}
 use Rattle.state_core.specs.Isolating.{next_answer, next_state, Scans}
-use Rattle.state_core.specs.Lawful.{IsValidZone}
+use Rattle.state_core.specs.Valid.{IsValidZone}
 use Rattle.state_core.specs.Pairs.{HaveMet, next_pair}
 use Rattle.state_core.specs.Unmapping.{is_last, without_page}
 use Rattle.state_core.specs.ZoneState.{ZoneState, is_quiet, is_quiet_since, keeps_quiet, lowest_unused_page, noted}

@@ -4,7 +4,7 @@ use Rattle.std.specs.FinMap as map
 use Rattle.frame_core.specs.History.{pins}
 use Rattle.frame_core.specs.Moves.{isolated, out, put_back}
 use Rattle.state_core.specs.declared.placement.Placement.TheVariants.{Moving}
-use Rattle.state_core.specs.Lawful.{IsValidZone}
+use Rattle.state_core.specs.Valid.{IsValidZone}
 use Rattle.state_core.specs.Pairs.{stands_in}
 use Rattle.state_core.specs.Rounds.{round_begun}
 use Rattle.state_core.specs.Swept.{IsCarriedUp}
@@ -42,7 +42,7 @@ pub record ComesTo (start z : ZoneState) : Type 0 where
 
 -- a zone that no page is moving in
 pub record IsAtRest (start : ZoneState) : Type 0 where
-  pub lawful : IsValidZone start
+  pub valid : IsValidZone start
   pub none_out : out start.records ≡ []
 
 -- its round is under way

@@ -4,7 +4,7 @@ use Rattle.std.specs.Result.{result_err}
 use Rattle.state_core.specs.declared.call.ZoneCall.{ZoneCall}
 use Rattle.state_core.specs.declared.error.ZoneError.{ZoneError}
 use Rattle.state_core.specs.Calls.{refusal_of, after}
-use Rattle.state_core.specs.Lawful.{IsValidZone}
+use Rattle.state_core.specs.Valid.{IsValidZone}
 use Rattle.state_core.specs.ZoneState.{ZoneState}
 use Rattle.zone_core.specs.ZoneIdentity.{HasIdentity}
 
@@ -15,4 +15,4 @@ pub record IsMade {W : ℕ} {A : Type 0} (call : ZoneCall W) (client : ℕ) (old
   pub err : OnErr result (new ≡ old)
   pub ok : OnOk result (new ≡ after call client old)
   pub identity : HasIdentity old.number old.blocks new
-  pub lawful : IsValidZone new
+  pub valid : IsValidZone new

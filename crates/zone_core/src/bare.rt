@@ -3,7 +3,7 @@
 ghost use Rattle.std.specs.Prelude.{◌≡◌, ◌+◌, ◌/◌, ◌^◌, ◌≤◌, ◌&&◌, ℕ, true, Option, Some, None, is_some, if◌then◌else◌, IfOk, IfErr};
 ghost use Rattle.frame_core.specs.declared.record.Record.{Record};
 ghost use Rattle.state_core.specs.Clear.{BlocksAreApart, BlocksAreClear};
-ghost use Rattle.state_core.specs.Lawful.{IsValidZone};
+ghost use Rattle.state_core.specs.Valid.{IsValidZone};
 ghost use Rattle.state_core.specs.Looking.{look_of, info_of};
 ghost use Rattle.state_core.specs.Marking.{marked_of};
 ghost use Rattle.state_core.specs.Opening.{IsOpenable, IsSize, opened_told, opened_with};
@@ -31,7 +31,7 @@ pub struct BareZone<const W: usize> {
 }
 
 impl<const W: usize> Model for BareZone<W> {
-    ghost use Rattle.state_core.specs.Lawful.{IsValidZone};
+    ghost use Rattle.state_core.specs.Valid.{IsValidZone};
     ghost use Rattle.state_core.specs.ZoneState.{ZoneState};
     ghost use Rattle.state_core.specs.ZoneCode.{coded_zone};
 
@@ -58,7 +58,7 @@ impl<const W: usize> BareZone<W> {
         ensures range { ¬ (IsOpenable blocks places) → result ≡ Err ZoneError.Range }
         ensures memory { IsOpenable blocks places → IfErr result (λ error. error ≡ ZoneError.Memory) }
         ensures zone { IfOk result (λ zone. zone ≡ opened_with W number blocks places) }
-        ensures lawful { IfOk result (λ zone. IsValidZone zone) }
+        ensures valid { IfOk result (λ zone. IsValidZone zone) }
     {
         if blocks < 1 || blocks > 8 || places < 1 || places > 65536 {
             return Err(ZoneError::Range);
@@ -76,7 +76,7 @@ impl<const W: usize> BareZone<W> {
         ensures range { ¬ (IsSize blocks) → result ≡ Err ZoneError.Range }
         ensures memory { IsSize blocks → IfErr result (λ error. error ≡ ZoneError.Memory) }
         ensures zone { IfOk result (λ zone. zone ≡ opened_told W number blocks) }
-        ensures lawful { IfOk result (λ zone. IsValidZone zone) }
+        ensures valid { IfOk result (λ zone. IsValidZone zone) }
     {
         if blocks < 1 || blocks > 8 {
             return Err(ZoneError::Range);
@@ -138,7 +138,7 @@ impl<const W: usize> BareZone<W> {
     /// How many pageblocks the zone has, 1 to 8.
     pub fn blocks(&self) -> u32
         ensures blocks { result ≡ self.now.blocks }
-        ensures lawful { IsValidZone self.now }
+        ensures valid { IsValidZone self.now }
     {
         self.tables.blocks()
     }
@@ -161,11 +161,11 @@ impl<const W: usize> BareZone<W> {
         self.tables.info()
     }
 
-    /// The journal of the zone. Whoever holds the zone finds it lawful: each load in the journal gave the value that was stored last.
+    /// The journal of the zone. Whoever holds the zone finds it valid: each load in the journal gave the value that was stored last.
     pub fn journal(&self) -> &Journal
         ensures records { result.now.records ≡ self.now.records }
         ensures room { result.now.room ≡ self.now.room }
-        ensures lawful { IsValidZone self.now }
+        ensures valid { IsValidZone self.now }
         // No page or address has a frame of a block that is handed out, and no two such blocks share a frame.
         ensures clear { BlocksAreClear self.now }
         ensures apart { BlocksAreApart self.now }

@@ -3,7 +3,7 @@ ghost use Rattle.std.specs.Result.{result_err};
 ghost use Rattle.frame_core.specs.Below.{lowest};
 ghost use Rattle.state_core.specs.Clear.{IsClear};
 ghost use Rattle.state_core.specs.HandingOut.{is_run, lowest_run, take_order_refusal, give_order_refusal, block_taken, block_given};
-ghost use Rattle.state_core.specs.Lawful.{IsValidZone};
+ghost use Rattle.state_core.specs.Valid.{IsValidZone};
 ghost use Rattle.state_core.specs.Marking.{mark_refusal, unmark_refusal, block_marked, block_unmarked, marked_of};
 ghost use Rattle.state_core.specs.ZoneState.{is_whole};
 ghost use Rattle.zone_core.specs.ZoneIdentity.{HasIdentity};
@@ -27,7 +27,7 @@ impl<const W: usize, I: Ledger, M: Ledger, B: Ledger> Zone<W, I, M, B> {
         ensures run { IfOk result (λ first. IsTrue (is_run self.old order first)) }
         ensures clear { IfOk result (λ first. IsClear self.new first (2 ^ order)) }
         ensures identity { HasIdentity self.old.number self.old.blocks self.new }
-        ensures lawful { IsValidZone self.new }
+        ensures valid { IsValidZone self.new }
     {
         self.bare.take_order(order)
     }
@@ -41,7 +41,7 @@ impl<const W: usize, I: Ledger, M: Ledger, B: Ledger> Zone<W, I, M, B> {
         ensures ok { OnOk result (self.new ≡ block_given self.old first order) }
         ensures run { OnOk result (IsTrue (is_run self.new order first)) }
         ensures identity { HasIdentity self.old.number self.old.blocks self.new }
-        ensures lawful { IsValidZone self.new }
+        ensures valid { IsValidZone self.new }
     {
         self.bare.give_order(first, order)
     }
@@ -57,7 +57,7 @@ impl<const W: usize, I: Ledger, M: Ledger, B: Ledger> Zone<W, I, M, B> {
         ensures ok { IfOk result (λ block. self.new ≡ block_taken self.old (512 * block) 9) }
         ensures clear { IfOk result (λ block. IsClear self.new (512 * block) 512) }
         ensures identity { HasIdentity self.old.number self.old.blocks self.new }
-        ensures lawful { IsValidZone self.new }
+        ensures valid { IsValidZone self.new }
     {
         let first = self.take_order(Order::of_pageblock())?;
         Ok(block_of(first))
@@ -72,7 +72,7 @@ impl<const W: usize, I: Ledger, M: Ledger, B: Ledger> Zone<W, I, M, B> {
         ensures ok { OnOk result (self.new ≡ block_given self.old (512 * block) 9) }
         ensures whole { OnOk result (IsTrue (is_whole self.new block)) }
         ensures identity { HasIdentity self.old.number self.old.blocks self.new }
-        ensures lawful { IsValidZone self.new }
+        ensures valid { IsValidZone self.new }
     {
         self.give_order(first_frame(block), Order::of_pageblock())
     }
@@ -85,7 +85,7 @@ impl<const W: usize, I: Ledger, M: Ledger, B: Ledger> Zone<W, I, M, B> {
         ensures err { OnErr result (self.new ≡ self.old) }
         ensures ok { OnOk result (self.new ≡ block_marked self.old block) }
         ensures identity { HasIdentity self.old.number self.old.blocks self.new }
-        ensures lawful { IsValidZone self.new }
+        ensures valid { IsValidZone self.new }
     {
         self.bare.mark(block)
     }
@@ -98,7 +98,7 @@ impl<const W: usize, I: Ledger, M: Ledger, B: Ledger> Zone<W, I, M, B> {
         ensures err { OnErr result (self.new ≡ self.old) }
         ensures ok { OnOk result (self.new ≡ block_unmarked self.old block) }
         ensures identity { HasIdentity self.old.number self.old.blocks self.new }
-        ensures lawful { IsValidZone self.new }
+        ensures valid { IsValidZone self.new }
     {
         self.bare.unmark(block)
     }

@@ -6,7 +6,7 @@ ghost use Rattle.std.specs.Fn.{FnOnceTakesAtMut, FnOnceReturnsAtMut};
 ghost use Rattle.std.specs.Result.{result_err};
 ghost use Rattle.state_core.specs.Contents.{contents_refusal, contents_of, contents_from, contents_written};
 ghost use Rattle.state_core.specs.HandingOut.{is_order};
-ghost use Rattle.state_core.specs.Lawful.{IsValidZone};
+ghost use Rattle.state_core.specs.Valid.{IsValidZone};
 ghost use Rattle.state_core.specs.Pairs.{HaveMet};
 ghost use Rattle.zone_core.specs.ZoneIdentity.{HasIdentity};
 
@@ -39,7 +39,7 @@ impl<const W: usize, I: Ledger, M: Ledger, B: Ledger> Zone<W, I, M, B> {
         ensures ok { OnOk result (self.new ≡ self.old) }
         ensures met { OnOk result (HaveMet self.old → HaveMet self.new) }
         ensures identity { HasIdentity self.old.number self.old.blocks self.new }
-        ensures lawful { IsValidZone self.new }
+        ensures valid { IsValidZone self.new }
     {
         self.bare.read_block(first, order, from, values)
     }
@@ -60,7 +60,7 @@ impl<const W: usize, I: Ledger, M: Ledger, B: Ledger> Zone<W, I, M, B> {
         ensures ok { OnOk result (self.new ≡ contents_written self.old first from values.now) }
         ensures met { OnOk result (HaveMet self.old → HaveMet self.new) }
         ensures identity { HasIdentity self.old.number self.old.blocks self.new }
-        ensures lawful { IsValidZone self.new }
+        ensures valid { IsValidZone self.new }
     {
         self.bare.write_block(first, order, from, values)
     }
@@ -81,7 +81,7 @@ impl<const W: usize, I: Ledger, M: Ledger, B: Ledger> Zone<W, I, M, B> {
         ensures ok { IfOk result (λ answer. (words : List ℕ) × (length words ≡ 2 ^ order * self.old.page_size) × FnOnceReturnsAtMut F.FnOnce change (contents_of self.old first) answer words × (self.new ≡ contents_written self.old first 0 words)) }
         ensures met { OnOk result (HaveMet self.old → HaveMet self.new) }
         ensures identity { HasIdentity self.old.number self.old.blocks self.new }
-        ensures lawful { IsValidZone self.new }
+        ensures valid { IsValidZone self.new }
     {
         self.bare.with_block(first, order, change)
     }

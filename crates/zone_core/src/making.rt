@@ -3,7 +3,7 @@
 ghost use Rattle.std.specs.Prelude.{◌≡◌, IsTrue, IfOk, OnOk, OnErr};
 ghost use Rattle.std.specs.Result.{result_err};
 ghost use Rattle.state_core.specs.Calls.{refusal_of, answer_of, after, is_access};
-ghost use Rattle.state_core.specs.Lawful.{IsValidZone};
+ghost use Rattle.state_core.specs.Valid.{IsValidZone};
 ghost use Rattle.state_core.specs.Pairs.{HaveMet};
 ghost use Rattle.zone_core.specs.ZoneIdentity.{HasIdentity};
 
@@ -23,7 +23,7 @@ impl<const W: usize, I: Ledger, M: Ledger, B: Ledger> Zone<W, I, M, B> {
         // A load or a store doesn't make a pair.
         ensures met { OnOk result (IsTrue (is_access call.entry) → HaveMet self.old → HaveMet self.new) }
         ensures identity { HasIdentity self.old.number self.old.blocks self.new }
-        ensures lawful { IsValidZone self.new }
+        ensures valid { IsValidZone self.new }
     {
         self.bare.make(client, call)
     }

@@ -4,7 +4,7 @@ ghost use Rattle.frame_core.specs.History.{pins};
 ghost use Rattle.zone_core.specs.ByHand.{by_hand};
 ghost use Rattle.zone_core.specs.Outcome.{IsSame};
 ghost use Rattle.state_core.specs.Ending.{IsOwnCopy, moved_to_target};
-ghost use Rattle.state_core.specs.Lawful.{IsValidZone};
+ghost use Rattle.state_core.specs.Valid.{IsValidZone};
 ghost use Rattle.state_core.specs.Packed.{IsPacked};
 ghost use Rattle.state_core.specs.Pairs.{is_calm};
 ghost use Rattle.zone_core.specs.Seats.{audit_refusal};
@@ -37,7 +37,7 @@ pub fn compact<const W: usize, I: Ledger, N: Ledger, M: Ledger, B: Ledger>(
     ensures last { IfOk result (λ last. seats.new.scan.last ≡ Some last) }
     ensures moved { OnOk result (seats.new.ends.moved + seats.old.scan.count ≡ seats.old.ends.moved + seats.new.scan.count) }
     ensures back { OnOk result (seats.new.ends.back ≡ seats.old.ends.back) }
-    ensures lawful { IsValidZone zone.new }
+    ensures valid { IsValidZone zone.new }
 {
     zone.audit(&mut seats.scan, &mut seats.ends)?;
     zone.begin_round(&mut seats.scan);
@@ -60,7 +60,7 @@ fn carry<const W: usize, I: Ledger, M: Ledger, B: Ledger>(
     requires unpinned { pins zone.old.records page.page.number ≡ 0 }
     ensures zone { zone.new ≡ moved_to_target zone.old page.entry.serial page.entry.page.number }
     ensures ends { ends.new ≡ record ends.old { moved = ends.old.moved + 1 } }
-    ensures lawful { IsValidZone zone.new }
+    ensures valid { IsValidZone zone.new }
 {
     let Ok(_) = zone.commit(ends, page.copy_into_new()) else {
         unreachable!();

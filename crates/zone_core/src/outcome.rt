@@ -7,7 +7,7 @@ ghost use Rattle.frame_core.specs.Moves.{isolated, out, put_back};
 ghost use Rattle.frame_core.specs.declared.record.Cause.{Cause};
 ghost use Rattle.state_core.specs.Ending.{moved_to_target, put_back_to_source, HasCause};
 ghost use Rattle.state_core.specs.Isolating.{isolate_refusal};
-ghost use Rattle.state_core.specs.Lawful.{IsValidZone};
+ghost use Rattle.state_core.specs.Valid.{IsValidZone};
 ghost use Rattle.state_core.specs.Packed.{IsPacked};
 ghost use Rattle.state_core.specs.Pairs.{is_calm};
 ghost use Rattle.state_core.specs.Rounds.{round_begun};

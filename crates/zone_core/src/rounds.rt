@@ -1,7 +1,7 @@
 //! The calls that the seats count: rounds begin, pages are isolated, their moves end, and audits.
 
 ghost use Rattle.std.specs.Prelude.{◌≡◌, ◌+◌, ◌≤◌, ◌↔◌, true, false, length, Some, IsOk, IfOk, IfErr, OnOk, OnErr};
-ghost use Rattle.state_core.specs.Lawful.{IsValidZone};
+ghost use Rattle.state_core.specs.Valid.{IsValidZone};
 ghost use Rattle.frame_core.specs.Moves.{isolated, out};
 ghost use Rattle.state_core.specs.Rounds.{round_begun};
 ghost use Rattle.state_core.specs.Isolating.{isolate_refusal, next_answer, next_state, Scans};
@@ -28,7 +28,7 @@ impl<const W: usize, I: Ledger, M: Ledger, B: Ledger> Zone<W, I, M, B> {
         ensures quiet { is_quiet self.new ≡ is_calm self.old }
         ensures serial { seat.old.count ≡ isolated self.old.records }
         ensures identity { HasIdentity self.old.number self.old.blocks self.new }
-        ensures lawful { IsValidZone self.new }
+        ensures valid { IsValidZone self.new }
     {
         seat.tell(&mut self.isolated);
         self.bare.begin_round();
@@ -39,7 +39,7 @@ impl<const W: usize, I: Ledger, M: Ledger, B: Ledger> Zone<W, I, M, B> {
     pub fn show_count<N: Ledger>(&mut self, seat: &mut ScanSeat<I, N>)
         ensures serial { seat.old.count ≡ isolated self.old.records }
         ensures same { (self.new ≡ self.old) × (seat.new ≡ seat.old) }
-        ensures lawful { IsValidZone self.new }
+        ensures valid { IsValidZone self.new }
     {
         seat.tell(&mut self.isolated);
     }
@@ -68,7 +68,7 @@ impl<const W: usize, I: Ledger, M: Ledger, B: Ledger> Zone<W, I, M, B> {
         ensures seat { IfOk result (λ next. seat.new ≡ seat_noted seat.old next) }
         ensures full { OnErr result (seat.new ≡ seat_full seat.old) }
         ensures identity { HasIdentity self.old.number self.old.blocks self.new }
-        ensures lawful { IsValidZone self.new }
+        ensures valid { IsValidZone self.new }
     {
         seat.tell(&mut self.isolated);
         let answer = self.bare.isolate_next();
@@ -102,7 +102,7 @@ impl<const W: usize, I: Ledger, M: Ledger, B: Ledger> Zone<W, I, M, B> {
         ensures once { OnOk result (is_own self.new copied.entry ≡ false) }
         ensures seat { IfOk result (λ ended. seat.new ≡ seat_ended seat.old ended) }
         ensures identity { HasIdentity self.old.number self.old.blocks self.new }
-        ensures lawful { IsValidZone self.new }
+        ensures valid { IsValidZone self.new }
     {
         let ended = self.bare.commit(copied)?;
         match ended {
@@ -127,7 +127,7 @@ impl<const W: usize, I: Ledger, M: Ledger, B: Ledger> Zone<W, I, M, B> {
         ensures once { OnOk result (is_own self.new isolated.entry ≡ false) }
         ensures seat { OnOk result (seat.new ≡ record seat.old { back = seat.old.back + 1 }) }
         ensures identity { HasIdentity self.old.number self.old.blocks self.new }
-        ensures lawful { IsValidZone self.new }
+        ensures valid { IsValidZone self.new }
     {
         self.bare.put_back(isolated)?;
         seat.count_back(&mut self.back);
@@ -153,7 +153,7 @@ impl<const W: usize, I: Ledger, M: Ledger, B: Ledger> Zone<W, I, M, B> {
         // Where the last answer of a quiet round was that the scanners met, the zone is packed.
         ensures packed { OnOk result (is_quiet self.new ≡ true → scan.old.last ≡ Some Answered.Met → IsPacked self.new) }
         ensures serial { scan.old.count ≡ isolated self.old.records }
-        ensures lawful { IsValidZone self.new }
+        ensures valid { IsValidZone self.new }
     {
         scan.tell(&mut self.isolated);
         ends.tell(&mut self.moved, &mut self.back);

@@ -2,7 +2,7 @@ ghost use Rattle.std.specs.Prelude.{◌≡◌, ◌+◌, ◌/◌, ◌^◌, ◌≤
 ghost use Rattle.std.specs.Int.RustNames.{bit_and};
 ghost use Rattle.zone_core.specs.Books.{AreFor};
 ghost use Rattle.state_core.specs.Clear.{BlocksAreApart, BlocksAreClear};
-ghost use Rattle.state_core.specs.Lawful.{IsValidZone};
+ghost use Rattle.state_core.specs.Valid.{IsValidZone};
 ghost use Rattle.frame_core.specs.declared.record.Record.{Record};
 ghost use Rattle.state_core.specs.Looking.{look_of, info_of};
 ghost use Rattle.zone_core.specs.ZoneIdentity.{HasIdentity};
@@ -43,7 +43,7 @@ pub struct Zone<const W: usize, I: Ledger, M: Ledger, B: Ledger> {
 }
 
 impl<const W: usize, I: Ledger, M: Ledger, B: Ledger> Model for Zone<W, I, M, B> {
-    ghost use Rattle.state_core.specs.Lawful.{IsValidZone};
+    ghost use Rattle.state_core.specs.Valid.{IsValidZone};
     ghost use Rattle.state_core.specs.ZoneState.{ZoneState};
     ghost use Rattle.zone_core.specs.Books.{AreBooks, AreCut};
     ghost use Rattle.state_core.specs.ZoneCode.{coded_zone};
@@ -76,7 +76,7 @@ impl<const W: usize, I: Ledger, M: Ledger, B: Ledger> Zone<W, I, M, B> {
         ensures zone { IfOk result (λ opening. opening.0 ≡ opened_with W number blocks places) }
         ensures scan { IfOk result (λ opening. opening.1 ≡ fresh_scan_seat) }
         ensures ends { IfOk result (λ opening. opening.2 ≡ fresh_end_seat) }
-        ensures lawful { IfOk result (λ opening. IsValidZone opening.0) }
+        ensures valid { IfOk result (λ opening. IsValidZone opening.0) }
     {
         let bare = BareZone::open(alloc, number, blocks, places)?;
         Ok(Self::seated(bare, blanks))
@@ -99,7 +99,7 @@ impl<const W: usize, I: Ledger, M: Ledger, B: Ledger> Zone<W, I, M, B> {
         ensures zone { IfOk result (λ opening. opening.0 ≡ opened_told W number blocks) }
         ensures scan { IfOk result (λ opening. opening.1 ≡ fresh_scan_seat) }
         ensures ends { IfOk result (λ opening. opening.2 ≡ fresh_end_seat) }
-        ensures lawful { IfOk result (λ opening. IsValidZone opening.0) }
+        ensures valid { IfOk result (λ opening. IsValidZone opening.0) }
     {
         let bare = BareZone::open_told(alloc, number, blocks)?;
         Ok(Self::seated(bare, blanks))
@@ -111,10 +111,10 @@ impl<const W: usize, I: Ledger, M: Ledger, B: Ledger> Zone<W, I, M, B> {
         blanks: Blanks,
     ) -> (Zone<W, I, M, B>, ScanSeat<I, N>, EndSeat<M, B>)
         requires fresh { (number blocks places : ℕ) × (bare ≡ opened_with W number blocks places) }
-        requires lawful { IsValidZone bare }
+        requires valid { IsValidZone bare }
         requires blanks { AreFor blanks I.name I.parts N.name N.parts M.name M.parts B.name B.parts }
         ensures zone { result.0 ≡ bare.entry }
-        ensures lawful { IsValidZone result.0 }
+        ensures valid { IsValidZone result.0 }
         ensures scan { result.1 ≡ fresh_scan_seat }
         ensures ends { result.2 ≡ fresh_end_seat }
     {
@@ -154,7 +154,7 @@ impl<const W: usize, I: Ledger, M: Ledger, B: Ledger> Zone<W, I, M, B> {
         ensures frame { IfOk result (λ frame. lowest_free_frame self.old ≡ Some frame) }
         ensures ok { IfOk result (λ frame. self.new ≡ mapped self.old client address (is_unmovable flags) frame) }
         ensures identity { HasIdentity self.old.number self.old.blocks self.new }
-        ensures lawful { IsValidZone self.new }
+        ensures valid { IsValidZone self.new }
     {
         let unmovable = flags.contains(PageFlags::UNMOVABLE);
         let (_page, frame) = self.bare.map(client, address, unmovable)?;
@@ -176,7 +176,7 @@ impl<const W: usize, I: Ledger, M: Ledger, B: Ledger> Zone<W, I, M, B> {
         ensures err { OnErr result (self.new ≡ self.old) }
         ensures ok { OnOk result (self.new ≡ mapped self.old client address (is_unmovable flags) frame) }
         ensures identity { HasIdentity self.old.number self.old.blocks self.new }
-        ensures lawful { IsValidZone self.new }
+        ensures valid { IsValidZone self.new }
     {
         let unmovable = flags.contains(PageFlags::UNMOVABLE);
         self.bare.map_at(client, address, unmovable, frame)?;
@@ -199,7 +199,7 @@ impl<const W: usize, I: Ledger, M: Ledger, B: Ledger> Zone<W, I, M, B> {
         // A load doesn't make a pair.
         ensures met { OnOk result (HaveMet self.old → HaveMet self.new) }
         ensures identity { HasIdentity self.old.number self.old.blocks self.new }
-        ensures lawful { IsValidZone self.new }
+        ensures valid { IsValidZone self.new }
     {
         self.bare.load(client, address, word)
     }
@@ -219,7 +219,7 @@ impl<const W: usize, I: Ledger, M: Ledger, B: Ledger> Zone<W, I, M, B> {
         ensures ok { OnOk result (self.new ≡ stored self.old client address word.entry value) }
         ensures met { OnOk result (HaveMet self.old → HaveMet self.new) }
         ensures identity { HasIdentity self.old.number self.old.blocks self.new }
-        ensures lawful { IsValidZone self.new }
+        ensures valid { IsValidZone self.new }
     {
         self.bare.store(client, address, word, value)
     }
@@ -259,7 +259,7 @@ impl<const W: usize, I: Ledger, M: Ledger, B: Ledger> Zone<W, I, M, B> {
     /// How many pageblocks the zone has, 1 to 8.
     pub fn blocks(&self) -> u32
         ensures blocks { result ≡ self.now.blocks }
-        ensures lawful { IsValidZone self.now }
+        ensures valid { IsValidZone self.now }
     {
         self.bare.blocks()
     }
@@ -282,11 +282,11 @@ impl<const W: usize, I: Ledger, M: Ledger, B: Ledger> Zone<W, I, M, B> {
         self.bare.info()
     }
 
-    /// The journal of the zone. Whoever holds the zone finds it lawful: each load in the journal gave the value that was stored last.
+    /// The journal of the zone. Whoever holds the zone finds it valid: each load in the journal gave the value that was stored last.
     pub fn journal(&self) -> &Journal
         ensures records { result.now.records ≡ self.now.records }
         ensures room { result.now.room ≡ self.now.room }
-        ensures lawful { IsValidZone self.now }
+        ensures valid { IsValidZone self.now }
         // No page or address has a frame of a block that is handed out, and no two such blocks share a frame.
         ensures clear { BlocksAreClear self.now }
         ensures apart { BlocksAreApart self.now }

@@ -116,7 +116,7 @@ module _ {W : ℕ} (z : Inside W) (v : ZoneState) (sound : IsSound z v) (view : 
   held_states = record {
     count = length_with_run z.frames.states first (2 ^ order) Huge ∙ sound.frames.count;
     of_page = λ page frame state e. elim (cases_Bool (in_block first order frame)) [
-      | inl here ↦ absurd (both_ways _ (untaken v sound.lawful frame (blocks.block_free v first order run frame here) page) (state_takes page (map.get v.placement page) frame state e))
+      | inl here ↦ absurd (both_ways _ (untaken v sound.valid frame (blocks.block_free v first order run frame here) page) (state_takes page (map.get v.placement page) frame state e))
       | inr there ↦ off_run z.frames.states first (2 ^ order) Huge frame (off_block first order frame there) ∙ sound.frames.of_page page frame state e
     ];
     of_block = λ frame h held. elim (cases_Bool (in_block first order frame)) [
@@ -137,7 +137,7 @@ module _ {W : ℕ} (z : Inside W) (v : ZoneState) (sound : IsSound z v) (view : 
 
   pub take_sound : length (out v.records) < v.room → 3 ≤ order → order ≤ 9 → (history : History) → IsSound (after_take history) (block_taken v first order)
   take_sound spare low high history = record {
-    lawful = blocks.lawful_block_taken v first order run sound.lawful spare low high;
+    valid = blocks.valid_block_taken v first order run sound.valid spare low high;
     orders = length-set z.handed_out first (Some order) ∙ sound.orders;
     cleared = length-set z.cleared first false ∙ sound.cleared;
     frames = held_states;
@@ -165,7 +165,7 @@ module _ {W : ℕ} (z : Inside W) (v : ZoneState) (sound : IsSound z v) (view : 
 -- a block is taken back
 module _ {W : ℕ} (z : Inside W) (v : ZoneState) (sound : IsSound z v) (view : state_of z ≡ v) (first order : ℕ) (at : map.get v.handed_out first ≡ Some order) where
   within_given : first + 2 ^ order ≤ frame_count v
-  within_given = (sound.lawful.blocks.each first order at).within
+  within_given = (sound.valid.blocks.each first order at).within
 
   pub give_within : first + 2 ^ order ≤ length z.handed_out
   give_within = omega (arith, within_given, sound.orders)
@@ -177,10 +177,10 @@ module _ {W : ℕ} (z : Inside W) (v : ZoneState) (sound : IsSound z v) (view : 
   give_here = (λ i. orders_seen z v view i first) ∙ at
 
   pub give_block : runs.has_block z.frames.states order first ≡ true
-  give_block = block_seen z.frames.states v sound.frames order first ∙ blocks.block_of_zone v sound.lawful first order at
+  give_block = block_seen z.frames.states v sound.frames order first ∙ blocks.block_of_zone v sound.valid first order at
 
   pub give_huge : all_from (huge_at z.frames.states) first (2 ^ order) ≡ true
-  give_huge = eq-eqb _ _ (count_from_all (huge_at z.frames.states) first (2 ^ order) (λ frame low high. ap is_huge_state (sound.frames.of_block frame (omega (arith, high, within_given)) (held_of v sound.lawful first order frame at (in_block_from first order frame low high)))))
+  give_huge = eq-eqb _ _ (count_from_all (huge_at z.frames.states) first (2 ^ order) (λ frame low high. ap is_huge_state (sound.frames.of_block frame (omega (arith, high, within_given)) (held_of v sound.valid first order frame at (in_block_from first order frame low high)))))
 
   -- the list of blocks after the block was taken back
   orders_then : (q : ℕ) → order_of (slice_set z.handed_out first None) q ≡ map.get (map.remove v.handed_out first) q
@@ -192,24 +192,24 @@ module _ {W : ℕ} (z : Inside W) (v : ZoneState) (sound : IsSound z v) (view : 
   pub give_alone : (frame : ℕ) → IsTrue (covers (Some order) first frame) → held_at (slice_set z.handed_out first None) frame ≡ false
   give_alone frame here =
       (λ i. some_below (λ q. covers (orders_then q i) q frame) ((length-set z.handed_out first None ∙ sound.orders) i))
-      ∙ blocks.unheld_given v sound.lawful first order at frame here
+      ∙ blocks.unheld_given v sound.valid first order at frame here
 
   freed_states : FramesFit (with_run z.frames.states first (2 ^ order) Free) (block_given v first order)
   freed_states = record {
     count = length_with_run z.frames.states first (2 ^ order) Free ∙ sound.frames.count;
     of_page = λ page frame state e. elim (cases_Bool (in_block first order frame)) [
-      | inl here ↦ absurd (both_ways _ (blocks.unused_in_block v sound.lawful first order at page frame here) (state_takes page (map.get v.placement page) frame state e))
+      | inl here ↦ absurd (both_ways _ (blocks.unused_in_block v sound.valid first order at page frame here) (state_takes page (map.get v.placement page) frame state e))
       | inr there ↦ off_run z.frames.states first (2 ^ order) Free frame (off_block first order frame there) ∙ sound.frames.of_page page frame state e
     ];
     of_block = λ frame h held. elim (cases_Bool (in_block first order frame)) [
-      | inl here ↦ absurd (both_ways _ (blocks.unheld_given v sound.lawful first order at frame here) held)
+      | inl here ↦ absurd (both_ways _ (blocks.unheld_given v sound.valid first order at frame here) held)
       | inr there ↦ off_run z.frames.states first (2 ^ order) Free frame (off_block first order frame there)
-          ∙ sound.frames.of_block frame h (blocks.held_given v sound.lawful first order at frame ∙ or_left _ _ held)
+          ∙ sound.frames.of_block frame h (blocks.held_given v sound.valid first order at frame ∙ or_left _ _ held)
     ];
     of_none = λ frame h free. elim (cases_Bool (in_block first order frame)) [
       | inl here ↦ (let parts = in_block_parts first order frame here in in_run z.frames.states first (2 ^ order) Free frame (omega (arith, within_given, sound.frames.count)) parts.0 parts.1)
       | inr there ↦ off_run z.frames.states first (2 ^ order) Free frame (off_block first order frame there)
-          ∙ sound.frames.of_none frame h (sym (blocks.free_given_out v sound.lawful first order at frame there) ∙ free)
+          ∙ sound.frames.of_none frame h (sym (blocks.free_given_out v sound.valid first order at frame there) ∙ free)
     ];
   }
 
@@ -219,7 +219,7 @@ module _ {W : ℕ} (z : Inside W) (v : ZoneState) (sound : IsSound z v) (view : 
 
   pub give_sound : length (out v.records) < v.room → (history : History) → IsSound (after_give history) (block_given v first order)
   give_sound spare history = record {
-    lawful = blocks.lawful_block_given v sound.lawful first order at spare;
+    valid = blocks.valid_block_given v sound.valid first order at spare;
     orders = length-set z.handed_out first None ∙ sound.orders;
     cleared = sound.cleared;
     frames = freed_states;

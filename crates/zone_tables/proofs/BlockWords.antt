@@ -8,9 +8,9 @@ use Rattle.std.proofs.lemmas.List.{append-nil, drop_all, get_or_default}
 use Rattle.std.proofs.lemmas.Option.{unwrap_or-slice_get}
 use Rattle.scan_core.specs.Frames.{true_at}
 use Rattle.state_core.specs.Contents.{contents_of, contents_written}
-use Rattle.state_core.specs.Lawful.{IsValidZone}
+use Rattle.state_core.specs.Valid.{IsValidZone}
 use Rattle.state_core.specs.ZoneState.{ZoneState}
-use Rattle.state_core.proofs.Contents.{has_contents, lawful_contents_written}
+use Rattle.state_core.proofs.Contents.{has_contents, valid_contents_written}
 use Rattle.frame_core.specs.Words.{block_words, HasBlock, put_from}
 use Rattle.zone_tables.specs.Contents.{words_held}
 use Rattle.zone_tables.specs.Fits.{WordsFit}
@@ -50,10 +50,10 @@ module _ {W : ℕ} (z : Inside W) (v : ZoneState) (sound : IsSound z v) (view : 
     read_view =
         put_view (words_held W z.words (true_at z.cleared first) first order) has
         ∙ ap (λ (m : map.FinMap nat_cmp (List ℕ)). record v { contents = m })
-        (ap (map.insert v.contents first) (held_is z v sound view first order at) ∙ put_again v.contents first (contents_of v first) (has_contents v sound.lawful first order at))
+        (ap (map.insert v.contents first) (held_is z v sound view first order at) ∙ put_again v.contents first (contents_of v first) (has_contents v sound.valid first order at))
 
     pub read_sound : All (λ row. length row ≡ W) rows → IsSound after v
-    read_sound sized = put_sound (words_held W z.words (true_at z.cleared first) first order) has sized v.contents sound.lawful
+    read_sound sized = put_sound (words_held W z.words (true_at z.cleared first) first order) has sized v.contents sound.valid
 
   -- values were put among its words
   module _ (from : ℕ) (values : List ℕ) (has : HasBlock z.words rows first (2 ^ order) (put_from (contents_of v first) from values)) where
@@ -63,4 +63,4 @@ module _ {W : ℕ} (z : Inside W) (v : ZoneState) (sound : IsSound z v) (view : 
     pub write_sound : from + length values ≤ 2 ^ order * v.page_size → All (λ row. length row ≡ W) rows → IsSound after (contents_written v first from values)
     write_sound within sized =
         put_sound (put_from (contents_of v first) from values) has sized (map.insert v.contents first (put_from (contents_of v first) from values))
-        (lawful_contents_written v sound.lawful first order at from values within)
+        (valid_contents_written v sound.valid first order at from values within)

@@ -37,7 +37,7 @@ use Rattle.zone_tables.proofs.HeldWords.{contents_kept}
 use Rattle.zone_tables.proofs.LoadsAndStores.{words_set_same, words_set_other}
 use Rattle.state_core.proofs.Facts.{chosen, taken, skipped}
 use Rattle.zone_tables.proofs.SearchesAndCounts.{get_placements}
-use Rattle.state_core.proofs.Placed.{CanPlace, untrue, clash, placed_lawful, at_page, at_other, named_here, named_there, maps_one, maps_others, pins_none, pins_others}
+use Rattle.state_core.proofs.Placed.{CanPlace, untrue, clash, placed_valid, at_page, at_other, named_here, named_there, maps_one, maps_others, pins_none, pins_others}
 use Rattle.zone_tables.proofs.Entries.{entries_changed}
 use Rattle.zone_tables.proofs.NotedPages.{placements_set, unmovable_set, unmovable_kept}
 use Rattle.zone_tables.proofs.Placement.{GetsPlace, LeavesOthers, frames_fit, movable_fit, words_fit, notes_fit, sources_fit}
@@ -52,8 +52,8 @@ module _ (v : ZoneState) (client : ℕ) (address : Address) (unmovable : Bool) (
 
   pub gets : GetsPlace v next page None (Some (At frame))
   gets = record {
-    before = can.lawful;
-    after = placed_lawful v client address unmovable page frame can;
+    before = can.valid;
+    after = placed_valid v client address unmovable page frame can;
     at = can.unused;
     now = at_page v client address unmovable page frame can;
     others = at_other v client address unmovable page frame can;
@@ -90,7 +90,7 @@ module _ (v : ZoneState) (client : ℕ) (address : Address) (unmovable : Bool) (
     by_name : (o : Option ℕ) → page_at v.records b ≡ o → option_and_then (map.get next.placement) (page_at v.records b) ≡ option_and_then (map.get v.placement) (page_at v.records b)
     by_name None is = ap (option_and_then (map.get next.placement)) is ∙ sym (ap (option_and_then (map.get v.placement)) is)
     by_name (Some q) is =
-        let ne : q ≢ page = λ same. clash _ can.unused (ap (λ (p : ℕ). is_some (map.get v.placement p)) (sym same) ∙ (can.lawful.agrees.named b q is).1) in
+        let ne : q ≢ page = λ same. clash _ can.unused (ap (λ (p : ℕ). is_some (map.get v.placement p)) (sym same) ∙ (can.valid.agrees.named b q is).1) in
         ap (option_and_then (map.get next.placement)) is ∙ at_other v client address unmovable page frame can q ne ∙ sym (ap (option_and_then (map.get v.placement)) is)
 
   placement_here : (b : Address) → same_address b address ≡ true → placement_at next b ≡ Some (At frame)
@@ -129,7 +129,7 @@ module _ (v : ZoneState) (client : ℕ) (address : Address) (unmovable : Bool) (
       ap (λ n. nat_eq n 0 && not (set.contains next.unmovable page)) (pins_none v client address unmovable page frame can)
       ∙ by_flag unmovable where
         never_used : (b : Bool) → set.contains v.unmovable page ≡ b → b ≡ false
-        never_used true e = absurd (clash _ can.unused (can.lawful.pages.unmovable page e))
+        never_used true e = absurd (clash _ can.unused (can.valid.pages.unmovable page e))
         never_used false e = refl
 
         by_flag : (b : Bool) → not (set.contains (if b then set.insert v.unmovable page else v.unmovable) page) ≡ not b
@@ -183,7 +183,7 @@ module _ {W : ℕ} (z : Inside W) (v : ZoneState) (client : ℕ) (address : Addr
       let sound = known.sound in
       let can = known.can in
       record {
-        lawful = placed_lawful v client address unmovable page frame can;
+        valid = placed_valid v client address unmovable page frame can;
         orders = sound.orders;
         cleared = sound.cleared;
         tables = known.frames_same ∙ sound.tables;

@@ -15,7 +15,7 @@ use Rattle.std.proofs.lemmas.Nat.{pow_pos}
 use Rattle.frame_core.proofs.Lists.{slice_get_set_same, slice_get_set_other}
 use Rattle.scan_core.specs.Frames.{true_at}
 use Rattle.state_core.specs.Contents as state
-use Rattle.state_core.specs.Lawful.{IsValidZone}
+use Rattle.state_core.specs.Valid.{IsValidZone}
 use Rattle.state_core.specs.ZoneState.{ZoneState, covers, is_held, takes_up, words_frame}
 use Rattle.state_core.proofs.Entries.{get_insert_same, get_insert_other}
 use Rattle.state_core.proofs.Facts.{takes_own}
@@ -120,7 +120,7 @@ module _ {W : ℕ} (z : Inside W) (v : ZoneState) (sound : IsSound z v) (view : 
     by : (first : ℕ) (o : Option ℕ) → order_of z.handed_out first ≡ o → option_map (words_held W (slice_set z.words frame row) (true_at z.cleared first) first) (order_of z.handed_out first) ≡ option_map (words_held W z.words (true_at z.cleared first) first) (order_of z.handed_out first)
     by first None e = ap (option_map (words_held W (slice_set z.words frame row) (true_at z.cleared first) first)) e ∙ sym (ap (option_map (words_held W z.words (true_at z.cleared first) first)) e)
     by first (Some order) e =
-        let out : in_block first order frame ≡ false = elim (cases_Bool (in_block first order frame)) [ inl here ↦ absurd (both_ways _ free (held_of v sound.lawful first order frame (order_is first order e) here)) | inr there ↦ there ] in
+        let out : in_block first order frame ≡ false = elim (cases_Bool (in_block first order frame)) [ inl here ↦ absurd (both_ways _ free (held_of v sound.valid first order frame (order_is first order e) here)) | inr there ↦ there ] in
         ap (option_map (words_held W (slice_set z.words frame row) (true_at z.cleared first) first)) e
         ∙ ap Some (held_same W z.words (slice_set z.words frame row) (true_at z.cleared first) first order (rows_off z.words frame row first (2 ^ order) (off_block first order frame out)))
         ∙ sym (ap (option_map (words_held W z.words (true_at z.cleared first) first)) e)
@@ -138,10 +138,10 @@ module _ {W : ℕ} (z : Inside W) (v : ZoneState) (sound : IsSound z v) (view : 
     held_is = ap (λ (o : Option (List ℕ)). unwrap_or o []) (sym (ap (option_map (words_held W z.words (true_at z.cleared first) first)) order_at) ∙ contents_seen first)
 
     pub block_listed : first < length z.cleared
-    block_listed = let block = (sound.lawful.blocks.each first order at).within in omega (arith, block, pow_pos order, sound.cleared)
+    block_listed = let block = (sound.valid.blocks.each first order at).within in omega (arith, block, pow_pos order, sound.cleared)
 
     pub block_within : first + 2 ^ order ≤ length z.words
-    block_within = let block = (sound.lawful.blocks.each first order at).within in omega (arith, block, sound.words.count)
+    block_within = let block = (sound.valid.blocks.each first order at).within in omega (arith, block, sound.words.count)
 
     module _ (rows : List (List ℕ)) (words : List ℕ) (has : HasBlock z.words rows first (2 ^ order) words) where
       -- the fields after the block got other words
@@ -159,7 +159,7 @@ module _ {W : ℕ} (z : Inside W) (v : ZoneState) (sound : IsSound z v) (view : 
         by None e = ap (option_map (words_held W rows (true_at z.cleared q) q)) e ∙ sym (ap (option_map (words_held W z.words (true_at z.cleared q) q)) e)
         by (Some other) e =
             ap (option_map (words_held W rows (true_at z.cleared q) q)) e
-            ∙ ap Some (held_same W z.words rows (true_at z.cleared q) q other (rows_kept has q (2 ^ other) (blocks_apart v sound.lawful q first other order (order_is q other e) at ne)))
+            ∙ ap Some (held_same W z.words rows (true_at z.cleared q) q other (rows_kept has q (2 ^ other) (blocks_apart v sound.valid q first other order (order_is q other e) at ne)))
             ∙ sym (ap (option_map (words_held W z.words (true_at z.cleared q) q)) e)
 
       pub block_view : state_of after_block ≡ record v { contents = map.insert v.contents first words }
@@ -172,13 +172,13 @@ module _ {W : ℕ} (z : Inside W) (v : ZoneState) (sound : IsSound z v) (view : 
       -- the frame with the words of a page is in no block
       page_off : (page : ℕ) (placement : _) → map.get v.placement page ≡ Some placement → (words_frame placement < first) ⊎ (first + 2 ^ order ≤ words_frame placement)
       page_off page placement e = off_block first order (words_frame placement) (elim (cases_Bool (in_block first order (words_frame placement))) [
-        | inl here ↦ absurd (both_ways _ (sound.lawful.pages.clear page (words_frame placement) (ap (λ o. takes_up o (words_frame placement)) e ∙ takes_own placement)) (held_of v sound.lawful first order (words_frame placement) at here))
+        | inl here ↦ absurd (both_ways _ (sound.valid.pages.clear page (words_frame placement) (ap (λ o. takes_up o (words_frame placement)) e ∙ takes_own placement)) (held_of v sound.valid first order (words_frame placement) at here))
         | inr there ↦ there
       ])
 
       pub block_sound : (contents : map.FinMap nat_cmp (List ℕ)) → All (λ row. length row ≡ W) rows → IsValidZone (record v { contents = contents }) → IsSound after_block (record v { contents = contents })
       block_sound contents sized law = record {
-        lawful = law;
+        valid = law;
         orders = sound.orders;
         cleared = length-set z.cleared first true ∙ sound.cleared;
         tables = sound.tables;

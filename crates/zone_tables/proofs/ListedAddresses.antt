@@ -16,7 +16,7 @@ use Rattle.table_core.specs.declared.entry.Entry.TheVariants.{Present, Migration
 use Rattle.table_core.specs.Tables.{entry_at, is_listed, count_listed}
 use Rattle.state_core.specs.declared.placement.Placement.{Placement}
 use Rattle.state_core.specs.declared.placement.Placement.TheVariants.{At, Moving}
-use Rattle.state_core.specs.Lawful.{IsValidZone, is_under}
+use Rattle.state_core.specs.Valid.{IsValidZone, is_under}
 use Rattle.state_core.specs.ZoneState.{ZoneState, frame_count, placement_at, takes_up, is_used}
 use Rattle.state_core.proofs.Facts.{page_named, not_none}
 use Rattle.state_core.proofs.Placed.{untrue}

@@ -22,7 +22,7 @@ use Rattle.zone_tables.specs.declared.note.PageNote.{PageNote}
 use Rattle.zone_tables.specs.declared.zone.ZoneTables.TheInside.{Inside}
 use Rattle.state_core.specs.declared.placement.Placement.{Placement}
 use Rattle.state_core.specs.declared.placement.Placement.TheVariants.{At, Moving}
-use Rattle.state_core.specs.Lawful.{IsValidZone}
+use Rattle.state_core.specs.Valid.{IsValidZone}
 use Rattle.state_core.specs.Access.{placement_refusal, value_at, loaded, stored}
 use Rattle.zone_tables.specs.Fits.{entry_for, WordsFit, NoteFits, NotesFit}
 use Rattle.state_core.specs.ZoneState.{words_frame, ZoneState, placement_at}
@@ -33,7 +33,7 @@ use Rattle.zone_tables.proofs.NotedPages.{placements_kept, unmovable_kept}
 use Rattle.state_core.proofs.Facts.{taken, skipped, page_named, frame_within, frames_differ, not_none}
 use Rattle.zone_tables.proofs.Facts.{noted_view, held_by}
 use Rattle.state_core.proofs.Holding.{at_takes}
-use Rattle.state_core.proofs.Accessed.{lawful_stored, lawful_loaded}
+use Rattle.state_core.proofs.Accessed.{valid_stored, valid_loaded}
 
 -- what the entry of an address says of the placement of its page
 pub absent_refused : (o : Option Placement) → entry_for o ≡ Absent → Some Unmapped ≡ placement_refusal o
@@ -53,7 +53,7 @@ migration_refused (Some (Moving s from target)) serial source e = refl
 
 pub loaded_sound : {W : ℕ} (z : Inside W) (v : ZoneState) → IsSound z v → (history : History) (client : ℕ) (address : Address) (frame word : ℕ) → placement_at v address ≡ Some (At frame) → length (out v.records) < v.room → IsSound (record z { history = history }) (loaded v client address word)
 loaded_sound z v sound history client address frame word at spare = record {
-  lawful = lawful_loaded v sound.lawful spare client address frame word at;
+  valid = valid_loaded v sound.valid spare client address frame word at;
   orders = sound.orders;
   cleared = sound.cleared;
   tables = sound.tables;
@@ -177,8 +177,8 @@ pub record Resident {W : ℕ} (z : Inside W) (v : ZoneState) (address : Address)
 pub resident : {W : ℕ} (z : Inside W) (v : ZoneState) → IsSound z v → (address : Address) (frame : ℕ) → placement_at v address ≡ Some (At frame) → Resident z v address frame
 resident z v sound address frame at =
     let page = page_named v address (At frame) at in
-    let within = frame_within v sound.lawful page.0 (At frame) page.2 in
-    let numbered = sound.lawful.pages.numbered page.0 (not_none _ (At frame) page.2) in
+    let within = frame_within v sound.valid page.0 (At frame) page.2 in
+    let numbered = sound.valid.pages.numbered page.0 (not_none _ (At frame) page.2) in
     record {
       page = page.0;
       named = page.1;
@@ -210,7 +210,7 @@ store_view z v client address page frame word value note history known =
     let within = slice_get_within z.notes page note known.note_is in
     let p = placements_kept z.notes page dirty_note within (sym (ap (option_and_then (λ (n : PageNote). n.placement)) known.note_is)) in
     let u = unmovable_kept z.notes page dirty_note within (sym (ap says_unmovable known.note_is)) in
-    let free = known.sound.lawful.pages.clear page frame (at_takes (map.get v.placement page) frame known.at) in
+    let free = known.sound.valid.pages.clear page frame (at_takes (map.get v.placement page) frame known.at) in
     let c = contents_kept z v known.sound known.view frame (slice_set (words_of z.words frame) word value) free in
     let here : state_of (after_store z page frame word value note history) ≡ state_of (record z { history = history }) = λ i. record (state_of (record z { history = history })) { placement = p i; unmovable = u i; contents = c i } in
     here ∙ noted_view z v history (Store client address word value) known.view known.history_is
@@ -220,14 +220,14 @@ store_sound z v client address page frame word value note history known =
     let sound = known.sound in
     let spare = known.spare in
     record {
-      lawful = lawful_stored v sound.lawful known.spare client address word value;
+      valid = valid_stored v sound.valid known.spare client address word value;
       orders = sound.orders;
       cleared = sound.cleared;
       tables = sound.tables;
       frames = record { count = sound.frames.count; of_page = sound.frames.of_page; of_block = sound.frames.of_block; of_none = sound.frames.of_none };
       entries = record { each = sound.entries.each };
-      words = stored_words z.words v sound.lawful sound.words client address page frame word value known.named known.at known.small;
-      notes = stored_notes z.words v sound.lawful sound.words client address page frame word value known.named known.at known.small z.notes note sound.notes known.note_is;
+      words = stored_words z.words v sound.valid sound.words client address page frame word value known.named known.at known.small;
+      notes = stored_notes z.words v sound.valid sound.words client address page frame word value known.named known.at known.small z.notes note sound.notes known.note_is;
       moves = record { isolated = sound.moves.isolated; moved = sound.moves.moved; back = sound.moves.back };
       sources = sound.sources;
       movable = record { count = sound.movable.count; each = sound.movable.each };

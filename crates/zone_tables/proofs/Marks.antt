@@ -12,7 +12,7 @@ use Rattle.zone_tables.specs.Sound.{IsSound, state_of}
 use Rattle.scan_core.specs.Frames.{true_at}
 use Rattle.state_core.specs.Marking.{block_marked, block_unmarked}
 use Rattle.state_core.specs.ZoneState.{ZoneState}
-use Rattle.state_core.proofs.Marking.{lawful_marked, lawful_unmarked}
+use Rattle.state_core.proofs.Marking.{valid_marked, valid_unmarked}
 use Rattle.zone_tables.proofs.Tabulating.{gathered_insert, gathered_remove}
 
 module _ (marks : List Bool) (block : ℕ) (mark : Bool) (eight : length marks ≡ 8) (small : block < 8) where
@@ -35,7 +35,7 @@ after_mark z block mark history = record z { marked = slice_set z.marked block m
 module _ {W : ℕ} (z : Inside W) (v : ZoneState) (sound : IsSound z v) (view : state_of z ≡ v) (eight : length z.marked ≡ 8) (block : ℕ) (small : block < 8) (spare : length (out v.records) < v.room) (history : History) where
   pub mark_sound : IsSound (after_mark z block true history) (block_marked v block)
   mark_sound = record {
-    lawful = lawful_marked v sound.lawful spare block;
+    valid = valid_marked v sound.valid spare block;
     orders = sound.orders;
     cleared = sound.cleared;
     tables = sound.tables;
@@ -50,7 +50,7 @@ module _ {W : ℕ} (z : Inside W) (v : ZoneState) (sound : IsSound z v) (view : 
 
   pub unmark_sound : IsSound (after_mark z block false history) (block_unmarked v block)
   unmark_sound = record {
-    lawful = lawful_unmarked v sound.lawful spare block;
+    valid = valid_unmarked v sound.valid spare block;
     orders = sound.orders;
     cleared = sound.cleared;
     tables = sound.tables;

@@ -15,7 +15,7 @@ use Rattle.frame_core.specs.Words.{words_of, with_words}
 use Rattle.frame_core.specs.Moves.{out}
 use Rattle.state_core.specs.declared.placement.Placement.TheVariants.{At, Moving}
 use Rattle.zone_tables.specs.Fits.{state_by, FramesFit, WordsFit}
-use Rattle.state_core.specs.Lawful.{IsValidZone}
+use Rattle.state_core.specs.Valid.{IsValidZone}
 use Rattle.state_core.specs.Carrying.{relocated}
 use Rattle.state_core.specs.Ending.{IsSettled}
 use Rattle.state_core.specs.ZoneState.{ZoneState, frame_count}

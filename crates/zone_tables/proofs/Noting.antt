@@ -9,7 +9,7 @@ use Rattle.frame_core.specs.declared.record.Record.{Record}
 use Rattle.frame_core.specs.History.{last, dirty, pins, maps}
 use Rattle.scan_core.specs.Frames.{Frames}
 use Rattle.table_core.specs.Tables.{Tables}
-use Rattle.state_core.specs.Lawful.{IsValidZone}
+use Rattle.state_core.specs.Valid.{IsValidZone}
 use Rattle.state_core.specs.ZoneState.{ZoneState, noted}
 use Rattle.zone_tables.specs.declared.note.PageNote.{PageNote}
 use Rattle.zone_tables.specs.declared.zone.ZoneTables.TheInside.{Inside}
@@ -32,7 +32,7 @@ pub record NotesOnly (v : ZoneState) (entry : Record) (page : ℕ) : Type 0 wher
 pub record Noting {W : ℕ} (z : Inside W) (v : ZoneState) (page : ℕ) (entry : Record) (note changed : PageNote) (frames : Frames) (tables : Tables) (history : History) : Type 0 where
   pub sound : IsSound z v
   pub view : state_of z ≡ v
-  pub lawful : IsValidZone (noted v entry)
+  pub valid : IsValidZone (noted v entry)
   pub only : NotesOnly v entry page
   pub moves : MovesFit z.moves (entry ∷ v.records)
   pub note_is : slice_get z.notes page ≡ Some note
@@ -73,7 +73,7 @@ module _ {W : ℕ} (z : Inside W) (v : ZoneState) (page : ℕ) (entry : Record) 
   noting_sound =
       let sound = known.sound in
       record {
-        lawful = known.lawful;
+        valid = known.valid;
         orders = sound.orders;
         cleared = sound.cleared;
         tables = known.frames_same ∙ sound.tables;
@@ -82,7 +82,7 @@ module _ {W : ℕ} (z : Inside W) (v : ZoneState) (page : ℕ) (entry : Record) 
         movable = known.movable;
         entries = known.entries;
         words = record { count = sound.words.count; sized = sound.words.sized; each = λ q placement w at small. sound.words.each q placement w at small ∙ ap Some (sym (known.only.last q w)) };
-        notes = notes_fit v (noted v entry) page _ _ (stays v (noted v entry) page sound.lawful known.lawful refl refl refl refl) z.notes changed within sound.notes (λ used. known.fits) leaves;
+        notes = notes_fit v (noted v entry) page _ _ (stays v (noted v entry) page sound.valid known.valid refl refl refl refl) z.notes changed within sound.notes (λ used. known.fits) leaves;
         moves = known.moves;
         sources = sound.sources;
       }

@@ -29,7 +29,7 @@ use Rattle.zone_tables.specs.Notes.{unused_note, placement_of, is_unmovable_of}
 use Rattle.scan_core.specs.NumberSet.{gathered}
 use Rattle.zone_tables.specs.Tabulated.{tabulated}
 use Rattle.zone_tables.proofs.Tabulating.{tabulated_none, gathered_none}
-use Rattle.state_core.proofs.Opened.{unheld, opened_lawful}
+use Rattle.state_core.proofs.Opened.{unheld, opened_valid}
 
 -- the fields of a zone that was just opened
 pub record IsFresh {W : ℕ} (z : Inside W) (number blocks places : ℕ) : Type 0 where
@@ -93,7 +93,7 @@ state_clash size number blocks places page frame state e =
 
 pub opened_sound : {W : ℕ} (z : Inside W) (number blocks places : ℕ) → IsFresh z number blocks places → IsSound z (opened_with W number blocks places)
 opened_sound {W} z number blocks places fresh = record {
-  lawful = opened_lawful W number blocks places fresh.size fresh.few;
+  valid = opened_valid W number blocks places fresh.size fresh.few;
   orders = ap length fresh.handed_out ∙ length-replicate (512 * blocks) None;
   cleared = ap length fresh.cleared ∙ length-replicate (512 * blocks) false;
   tables = fresh.tables_frames;

@@ -10,9 +10,9 @@ use Rattle.frame_core.specs.History.{page_at, pins}
 use Rattle.frame_core.specs.Moves.{out}
 use Rattle.scan_core.specs.Frames.{Frames}
 use Rattle.state_core.specs.declared.placement.Placement.{Placement}
-use Rattle.state_core.specs.Lawful.{IsValidZone}
+use Rattle.state_core.specs.Valid.{IsValidZone}
 use Rattle.state_core.specs.ZoneState.{ZoneState, noted}
-use Rattle.state_core.proofs.Pinning.{pins_one_more, pins_one_less, pinned_others, unpinned_others, lawful_pinned, lawful_unpinned}
+use Rattle.state_core.proofs.Pinning.{pins_one_more, pins_one_less, pinned_others, unpinned_others, valid_pinned, valid_unpinned}
 use Rattle.zone_tables.specs.declared.note.PageNote.{PageNote}
 use Rattle.zone_tables.specs.declared.zone.ZoneTables.TheInside.{Inside}
 use Rattle.zone_tables.specs.Fits.{MovableFit}
@@ -26,12 +26,12 @@ use Rattle.zone_tables.proofs.Tables.{note_seen}
 module _ {W : ℕ} (z : Inside W) (v : ZoneState) (sound : IsSound z v) (view : state_of z ≡ v) (page : ℕ) (used : IsSome (map.get v.placement page)) (note : PageNote) (note_is : slice_get z.notes page ≡ Some note) where
   -- the frame of the page says whether the page may be taken from it
   said_so : (entry : Record) → IsValidZone (noted v entry) → (count : ℕ) → count ≡ pins (entry ∷ v.records) page → ((q : ℕ) → q ≢ page → pins (entry ∷ v.records) q ≡ pins v.records q) → (frames : Frames) → frames ≡ record z.frames { movable = movable_by z.frames.movable (record note { pins = count }) } → MovableFit frames.movable (noted v entry)
-  said_so entry lawful count is others frames frames_are =
+  said_so entry valid count is others frames frames_are =
       let seen = note_seen z v view sound page used note note_is in
       let can : Bool = can_move_by (record note { pins = count }) in
       subst (λ (fs : Frames). MovableFit fs.movable (noted v entry)) (sym frames_are)
       (subst (λ (o : Option Placement). MovableFit (movable_at z.frames.movable o can) (noted v entry)) (sym seen.placement)
-      (movable_said v (noted v entry) page (map.get v.placement page) (stays v (noted v entry) page sound.lawful lawful refl refl refl refl) z.frames.movable can sound.movable
+      (movable_said v (noted v entry) page (map.get v.placement page) (stays v (noted v entry) page sound.valid valid refl refl refl refl) z.frames.movable can sound.movable
       (λ i. nat_eq (is i) 0 && not (seen.unmovable i))
       (λ q ne. ap (λ n. nat_eq n 0 && not (set.contains v.unmovable q)) (others q ne))))
 
@@ -39,13 +39,13 @@ module _ {W : ℕ} (z : Inside W) (v : ZoneState) (sound : IsSound z v) (view : 
     pub pinning : pins v.records page < 255 → frames ≡ record z.frames { movable = movable_by z.frames.movable (record note { pins = note.pins + 1 }) } → history ≡ told z.history (Pin client address) → Noting z v page (Pin client address) note (record note { pins = note.pins + 1 }) frames z.tables history
     pinning few frames_are history_is =
         let before = (note_seen z v view sound page used note note_is).fits in
-        let lawful = lawful_pinned v client address page named sound.lawful spare few in
+        let valid = valid_pinned v client address page named sound.valid spare few in
         let others = pinned_others v client address page named in
         let more : note.pins + 1 ≡ pins (Pin client address ∷ v.records) page = omega (arith, before.pins, pins_one_more v client address page named) in
         record {
           sound = sound;
           view = view;
-          lawful = lawful;
+          valid = valid;
           only = record { last = λ q w. refl; dirty = λ q. refl; pins = others; maps = λ q ne. refl };
           moves = record { isolated = sound.moves.isolated; moved = sound.moves.moved; back = sound.moves.back };
           note_is = note_is;
@@ -53,7 +53,7 @@ module _ {W : ℕ} (z : Inside W) (v : ZoneState) (sound : IsSound z v) (view : 
           unmovable = refl;
           fits = record { dirty = before.dirty; pins = more; maps = before.maps };
           states = ap (λ (fs : Frames). fs.states) frames_are;
-          movable = said_so (Pin client address) lawful (note.pins + 1) more others frames frames_are;
+          movable = said_so (Pin client address) valid (note.pins + 1) more others frames frames_are;
           entries = record { each = sound.entries.each };
           frames_same = refl;
           history_is = history_is;
@@ -62,13 +62,13 @@ module _ {W : ℕ} (z : Inside W) (v : ZoneState) (sound : IsSound z v) (view : 
     pub unpinning : frames ≡ record z.frames { movable = movable_by z.frames.movable (record note { pins = note.pins - 1 }) } → history ≡ told z.history (Unpin client address) → Noting z v page (Unpin client address) note (record note { pins = note.pins - 1 }) frames z.tables history
     unpinning frames_are history_is =
         let before = (note_seen z v view sound page used note note_is).fits in
-        let lawful = lawful_unpinned v client address page named sound.lawful spare in
+        let valid = valid_unpinned v client address page named sound.valid spare in
         let others = unpinned_others v client address page named in
         let less : note.pins - 1 ≡ pins (Unpin client address ∷ v.records) page = ap (λ n. n - 1) before.pins ∙ sym (pins_one_less v client address page named) in
         record {
           sound = sound;
           view = view;
-          lawful = lawful;
+          valid = valid;
           only = record { last = λ q w. refl; dirty = λ q. refl; pins = others; maps = λ q ne. refl };
           moves = record { isolated = sound.moves.isolated; moved = sound.moves.moved; back = sound.moves.back };
           note_is = note_is;
@@ -76,7 +76,7 @@ module _ {W : ℕ} (z : Inside W) (v : ZoneState) (sound : IsSound z v) (view : 
           unmovable = refl;
           fits = record { dirty = before.dirty; pins = less; maps = before.maps };
           states = ap (λ (fs : Frames). fs.states) frames_are;
-          movable = said_so (Unpin client address) lawful (note.pins - 1) less others frames frames_are;
+          movable = said_so (Unpin client address) valid (note.pins - 1) less others frames frames_are;
           entries = record { each = sound.entries.each };
           frames_same = refl;
           history_is = history_is;

@@ -16,7 +16,7 @@ use Rattle.state_core.proofs.Facts.{takes_own}
 use Rattle.state_core.proofs.Placed.{untrue}
 use Rattle.state_core.specs.declared.placement.Placement.{Placement}
 use Rattle.state_core.specs.declared.placement.Placement.TheVariants.{At, Moving}
-use Rattle.state_core.specs.Lawful.{IsValidZone}
+use Rattle.state_core.specs.Valid.{IsValidZone}
 use Rattle.state_core.specs.Pairs.{can_move}
 use Rattle.state_core.specs.ZoneState.{ZoneState, words_frame, frame_count, takes_up, covers, is_held, is_free}
 use Rattle.zone_tables.specs.declared.note.PageNote.{PageNote}

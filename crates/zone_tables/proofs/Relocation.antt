@@ -24,7 +24,7 @@ use Rattle.state_core.specs.ZoneState.{words_frame, ZoneState, frame_count, take
 use Rattle.std.specs.FinSet as set
 use Rattle.state_core.specs.Pairs.{can_move}
 use Rattle.zone_tables.specs.Notes.{placement_of, is_unmovable_of, says_unmovable}
-use Rattle.state_core.specs.Lawful.{is_under}
+use Rattle.state_core.specs.Valid.{is_under}
 use Rattle.state_core.specs.Carrying.{relocated}
 use Rattle.state_core.specs.Swept.{SweptIfQuiet}
 use Rattle.zone_tables.specs.HandedOut.{order_of}
@@ -38,7 +38,7 @@ use Rattle.zone_tables.proofs.SearchesAndCounts.{get_placements}
 use Rattle.state_core.proofs.Placed.{clash}
 use Rattle.zone_tables.proofs.NotedPages.{placements_set, unmovable_kept}
 use Rattle.zone_tables.proofs.Placement.{GetsPlace, LeavesOthers, FramesPlaced, MovablePlaced, WordsPlaced, SourcesPlaced, frames_fit, movable_fit, words_fit, notes_fit, sources_fit}
-use Rattle.state_core.proofs.Settled.{CanSettle, IsRecorded, at_page, at_other, not_old, lawful_settled}
+use Rattle.state_core.proofs.Settled.{CanSettle, IsRecorded, at_page, at_other, not_old, valid_settled}
 
 -- how the states of frames change with the place of a page in use, and what is noted of whether it may be taken
 abbrev pub FramesSettled : List FrameState → List FrameState → ℕ → Placement → Placement → Type 0
@@ -71,8 +71,8 @@ module _ (v : ZoneState) (page : ℕ) (old new : Placement) (can : CanSettle v p
   other_entry q (Moving serial source target) ne at (At g) is e = cc
   other_entry q (Moving a source target) ne at (Moving b from to) is e =
       let same : a ≡ b = cc in
-      let mine = (can.lawful.agrees.under_way page b).0 (ap (λ (o : Option Placement). is_under o b) (can.at ∙ ap Some (sym is)) ∙ eq-eqb b b refl) in
-      let theirs = (can.lawful.agrees.under_way q b).0 (ap (λ (o : Option Placement). is_under o b) at ∙ eq-eqb a b same) in
+      let mine = (can.valid.agrees.under_way page b).0 (ap (λ (o : Option Placement). is_under o b) (can.at ∙ ap Some (sym is)) ∙ eq-eqb b b refl) in
+      let theirs = (can.valid.agrees.under_way q b).0 (ap (λ (o : Option Placement). is_under o b) at ∙ eq-eqb a b same) in
       let one : Some q ≡ Some page = sym theirs.1 ∙ mine.1 in
       let is_page : q ≡ page = cc in
       ne is_page
@@ -83,7 +83,7 @@ module _ (v : ZoneState) (page : ℕ) (old new : Placement) (can : CanSettle v p
   pub entries_settled : (entries changed : List Entry) → EntriesFit entries v → Replaces entries changed (entry_for (Some old)) (entry_for (Some new)) → EntriesFit changed next
   entries_settled entries changed fit change = record { each = λ a range. by_name a range (page_at v.records a) refl ∙ sym (ap (λ (o : Option ℕ). entry_for (option_and_then (map.get next.placement) o)) (recorded.still.names a)) } where
     by_placement : (a : Address) → InRange a → (q : ℕ) → page_at v.records a ≡ Some q → q ≢ page → (p : Option Placement) → map.get v.placement q ≡ p → entry_at changed a ≡ entry_for (map.get next.placement q)
-    by_placement a range q e ne None at = absurd (clash _ at (can.lawful.agrees.named a q e).1)
+    by_placement a range q e ne None at = absurd (clash _ at (can.valid.agrees.named a q e).1)
     by_placement a range q e ne (Some p) at =
         let before : entry_at entries a ≡ entry_for (Some p) = entry_of entries fit a range (Some q) e ∙ ap entry_for at in
         change.elsewhere a (λ is. other_entry q p ne at old refl (sym before ∙ is)) ∙ before ∙ sym (ap entry_for (at_other v page old new can entry q ne ∙ at))
@@ -143,8 +143,8 @@ module _ {W : ℕ} (z changed : Inside W) (v : ZoneState) (page : ℕ) (old new 
 
   gets : GetsPlace v after page (Some old) (Some new)
   gets = record {
-    before = known.can.lawful;
-    after = lawful_settled v page old new known.can entry known.recorded migrate free known.fingers known.swept;
+    before = known.can.valid;
+    after = valid_settled v page old new known.can entry known.recorded migrate free known.fingers known.swept;
     at = known.can.at;
     now = at_page v page old new known.can entry;
     others = at_other v page old new known.can entry;
@@ -183,7 +183,7 @@ module _ {W : ℕ} (z changed : Inside W) (v : ZoneState) (page : ℕ) (old new 
       let sound = known.sound in
       let entries = entries_settled v page old new known.can entry known.recorded z.tables.entries changed.tables.entries sound.entries known.tables in
       record {
-        lawful = gets.after;
+        valid = gets.after;
         orders = ap length known.handed_out_same ∙ sound.orders;
         cleared = ap length known.cleared_same ∙ sound.cleared;
         tables = known.frames_same ∙ sound.tables;

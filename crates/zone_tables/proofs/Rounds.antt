@@ -4,11 +4,11 @@ use Rattle.std.specs.Prelude.{Some}
 use Rattle.zone_tables.specs.declared.zone.ZoneTables.TheInside.{Inside}
 use Rattle.state_core.specs.declared.round.RoundStart.{RoundStart}
 use Rattle.zone_tables.specs.Sound.{IsSound}
-use Rattle.state_core.specs.Lawful.{IsValidZone}
+use Rattle.state_core.specs.Valid.{IsValidZone}
 use Rattle.state_core.specs.Pairs.{is_calm}
 use Rattle.state_core.specs.Swept.{IsSwept}
 use Rattle.state_core.specs.ZoneState.{ZoneState, frame_count}
-use Rattle.state_core.proofs.Rounds.{begun, lawful_from}
+use Rattle.state_core.proofs.Rounds.{begun, valid_from}
 use Rattle.state_core.proofs.Sweeping.{swept_begun}
 
 -- the fields after a round began
@@ -18,7 +18,7 @@ after_begin z start = record z { fingers = record { migrate = 0; free = 512 * z.
 pub begun_sound : {W : ℕ} (z : Inside W) (v : ZoneState) → IsSound z v → (start : RoundStart) → start.records ≡ length v.records → start.calm ≡ is_calm v →
     IsSound (after_begin z start) (begun v start)
 begun_sound z v sound start here as_calm = record {
-  lawful = lawful_from v sound.lawful start here as_calm;
+  valid = valid_from v sound.valid start here as_calm;
   orders = sound.orders;
   cleared = sound.cleared;
   tables = sound.tables;

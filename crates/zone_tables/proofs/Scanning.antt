@@ -15,7 +15,7 @@ use Rattle.scan_core.specs.declared.fingers.Step.TheVariants.{Pair, Met}
 use Rattle.state_core.proofs.Holding.{at_takes, holder_at}
 use Rattle.state_core.proofs.Pairing.{no_target_pair}
 use Rattle.state_core.specs.declared.placement.Placement.TheVariants.{At}
-use Rattle.state_core.specs.Lawful.{IsValidZone}
+use Rattle.state_core.specs.Valid.{IsValidZone}
 use Rattle.state_core.specs.Pairs.{is_marked, can_move_if_some, stays_if_some, holder, holds_movable, is_free_unmarked, is_stuck, next_source, next_target, next_pair, pair_at}
 use Rattle.state_core.specs.ZoneState.{ZoneState, frame_count, is_held}
 use Rattle.zone_tables.specs.declared.zone.ZoneTables.TheInside.{Inside}

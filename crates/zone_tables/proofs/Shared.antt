@@ -11,7 +11,7 @@ use Rattle.state_core.specs.declared.placement.Placement.TheVariants.{At}
 use Rattle.state_core.specs.Sharing.{shared}
 use Rattle.state_core.specs.ZoneState.{ZoneState}
 use Rattle.state_core.proofs.Facts.{not_none}
-use Rattle.state_core.proofs.Sharing.{CanShare, named_here, named_there, maps_one_more, maps_others, lawful_shared}
+use Rattle.state_core.proofs.Sharing.{CanShare, named_here, named_there, maps_one_more, maps_others, valid_shared}
 use Rattle.zone_tables.specs.declared.note.PageNote.{PageNote}
 use Rattle.zone_tables.specs.declared.zone.ZoneTables.TheInside.{Inside}
 use Rattle.zone_tables.specs.Fits.{entry_for}
@@ -29,7 +29,7 @@ sharing z v sound view client address alias page frame can note tables history n
     record {
       sound = sound;
       view = view;
-      lawful = lawful_shared v client address alias page frame can;
+      valid = valid_shared v client address alias page frame can;
       only = record { last = λ q w. refl; dirty = λ q. refl; pins = λ q ne. refl; maps = maps_others v client address alias page frame can };
       moves = record { isolated = sound.moves.isolated; moved = sound.moves.moved; back = sound.moves.back };
       note_is = note_is;

@@ -24,7 +24,7 @@ use Rattle.state_core.specs.declared.placement.Placement.TheVariants.{At, Moving
 use Rattle.zone_tables.specs.Fits.{state_by, entry_for, FramesFit, WordsFit, NoteFits}
 use Rattle.state_core.specs.ZoneState.{words_frame, ZoneState, frame_count, takes_up, is_used, is_held, is_free}
 use Rattle.zone_tables.specs.Notes.{placement_of, is_unmovable_of, says_unmovable}
-use Rattle.state_core.specs.Lawful.{IsValidZone, is_under}
+use Rattle.state_core.specs.Valid.{IsValidZone, is_under}
 use Rattle.state_core.specs.Carrying.{words_now, flags_of}
 use Rattle.state_core.specs.Looking.{look_by, look_of}
 use Rattle.state_core.specs.Pairs.{holder, can_move}
@@ -109,7 +109,7 @@ note_seen z v view sound page used note at =
 
 -- a page in use has a note
 pub note_within : {W : ℕ} (z : Inside W) (v : ZoneState) → IsSound z v → (page : ℕ) → IsSome (map.get v.placement page) → page < length z.notes
-note_within z v sound page used = omega (arith, sound.lawful.pages.numbered page used, sound.notes.count)
+note_within z v sound page used = omega (arith, sound.valid.pages.numbered page used, sound.notes.count)
 
 -- a page gives a state only to its own frames
 by_two : (page q serial : ℕ) (a b : Bool) →

@@ -19,7 +19,7 @@ use Rattle.state_core.specs.ZoneState.{ZoneState, noted, placement_at}
 use Rattle.state_core.proofs.Entries.{get_remove_same, get_remove_other, contains_remove_other}
 use Rattle.state_core.proofs.Facts.{not_none, frame_within}
 use Rattle.state_core.proofs.Placed.{untrue}
-use Rattle.state_core.proofs.Unmapping.{CanUnmap, named_here, named_there, maps_one_less, maps_others, none_left, lawful_still, lawful_gone}
+use Rattle.state_core.proofs.Unmapping.{CanUnmap, named_here, named_there, maps_one_less, maps_others, none_left, valid_still, valid_gone}
 use Rattle.zone_tables.specs.declared.note.PageNote.{PageNote}
 use Rattle.zone_tables.specs.declared.zone.ZoneTables.TheInside.{Inside}
 use Rattle.zone_tables.specs.Fits.{entry_for}
@@ -66,7 +66,7 @@ module _ {W : ℕ} (z : Inside W) (v : ZoneState) (client : ℕ) (address : Addr
       record {
         sound = sound;
         view = known.view;
-        lawful = lawful_still v client address page frame can more;
+        valid = valid_still v client address page frame can more;
         only = record { last = λ q w. refl; dirty = λ q. refl; pins = λ q ne. refl; maps = maps_others v client address page frame can };
         moves = record { isolated = sound.moves.isolated; moved = sound.moves.moved; back = sound.moves.back };
         note_is = note_is;
@@ -88,8 +88,8 @@ module _ {W : ℕ} (z : Inside W) (v : ZoneState) (client : ℕ) (address : Addr
 
     gets : GetsPlace v gone page (Some (At frame)) None
     gets = record {
-      before = can.lawful;
-      after = lawful_gone v client address page frame can one;
+      before = can.valid;
+      after = valid_gone v client address page frame can one;
       at = can.at;
       now = get_remove_same v.placement page page refl;
       others = λ q ne. get_remove_other v.placement page q ne;
@@ -111,15 +111,15 @@ module _ {W : ℕ} (z : Inside W) (v : ZoneState) (client : ℕ) (address : Addr
           ap (option_and_then (map.get gone.placement)) is ∙ get_remove_other v.placement page q ne ∙ sym (ap (option_and_then (map.get v.placement)) is)
 
     note_within : page < length z.notes
-    note_within = omega (arith, can.lawful.pages.numbered page (not_none _ (At frame) can.at), known.sound.notes.count)
+    note_within = omega (arith, can.valid.pages.numbered page (not_none _ (At frame) can.at), known.sound.notes.count)
 
     pub last_sound : IsSound (after_last z page frame tables history) gone
     last_sound =
         let sound = known.sound in
         let spare = can.spare in
-        let within : frame < length z.frames.states = omega (arith, frame_within v can.lawful page (At frame) can.at, sound.frames.count) in
+        let within : frame < length z.frames.states = omega (arith, frame_within v can.valid page (At frame) can.at, sound.frames.count) in
         record {
-          lawful = gets.after;
+          valid = gets.after;
           orders = sound.orders;
           cleared = sound.cleared;
           tables = known.frames_same ∙ sound.tables;

@@ -77,7 +77,7 @@ words_read z v sound address frame from count at within =
     let rest : from + (v.page_size - from) ≡ v.page_size = omega arith in
     let first : 0 + from ≡ from = omega arith in
     let f = last v.records page.0 in
-    ap (λ (ws : List ℕ). take count (drop from ws)) (words_seen z.words v sound.words sound.lawful page.0 (At frame) page.2)
+    ap (λ (ws : List ℕ). take count (drop from ws)) (words_seen z.words v sound.words sound.valid page.0 (At frame) page.2)
     ∙ ap (λ (n : ℕ). take count (drop from (each f (range_with_len 0 n)))) (sym rest)
     ∙ ap (take count) (dropped f 0 from (v.page_size - from))
     ∙ ap (λ (n : ℕ). take count (each f (range_with_len n (v.page_size - from)))) first
@@ -189,7 +189,7 @@ each_is z client address page frame from note value (next ∷ values) =
 -- the frame has a row, and the words are in it
 resident_within : {W : ℕ} (z : Inside W) (v : ZoneState) {address : Address} {page frame from : ℕ} {note : PageNote} {count : ℕ} → Writing z v address page frame from note count → (frame < length z.words) × (from + count ≤ length (words_of z.words frame))
 resident_within z v {address} {page} {frame} is =
-    let within = frame_within v is.sound.lawful page (At frame) is.at in
+    let within = frame_within v is.sound.valid page (At frame) is.at in
     (omega (arith, within, is.sound.words.count), omega (arith, is.within, is.sound.words.sized frame within))
 
 each_at_once : {W : ℕ} (z : Inside W) (v : ZoneState) (client : ℕ) (address : Address) (page frame from : ℕ) (note : PageNote) (values : List ℕ) → 0 < length values → Writing z v address page frame from note (length values) → after_each z client address page frame from note values ≡ after_stores z client address page frame from note values

@@ -2,7 +2,7 @@
 use Rattle.std.specs.Prelude.{◌≡◌, ℕ, length}
 use Rattle.zone_tables.specs.declared.zone.ZoneTables.TheInside.{Inside}
 use Rattle.state_core.specs.ZoneState.{ZoneState, frame_count}
-use Rattle.state_core.specs.Lawful.{IsValidZone}
+use Rattle.state_core.specs.Valid.{IsValidZone}
 use Rattle.zone_tables.specs.Contents.{contents_at}
 use Rattle.zone_tables.specs.Fits.{FramesFit, EntriesFit, WordsFit, NotesFit, MovesFit, MovableFit, SourcesFit}
 use Rattle.zone_tables.specs.HandedOut.{order_of}
@@ -29,9 +29,9 @@ state_of {W} z = record {
   round = z.history.round;
 }
 
--- the state is lawful, and each field stands for its part of it
+-- the state is valid, and each field stands for its part of it
 pub record IsSound {W : ℕ} (z : Inside W) (v : ZoneState) : Type 0 where
-  pub lawful : IsValidZone v
+  pub valid : IsValidZone v
   pub orders : length z.handed_out ≡ frame_count v
   pub cleared : length z.cleared ≡ frame_count v
   pub frames : FramesFit z.frames.states v

@@ -2,7 +2,7 @@
 
 ghost use Rattle.std.specs.Prelude.{◌≡◌, Some, IsSome, IsTrue, IfOk};
 ghost use Rattle.frame_core.specs.History.{page_at};
-ghost use Rattle.state_core.specs.Lawful.{IsValidZone};
+ghost use Rattle.state_core.specs.Valid.{IsValidZone};
 ghost use Rattle.state_core.specs.Access.{placement_refusal, value_at, loaded, stored};
 ghost use Rattle.state_core.specs.Isolating.{has_room_for_two, has_serial};
 ghost use Rattle.std.specs.Result.{result_err};
@@ -62,7 +62,7 @@ impl<const W: usize> ZoneTables<W> {
         requires frame { placement_at self.old address ≡ Some (At frame) }
         ensures value { result ≡ value_at self.old address word.entry }
         ensures step { self.new ≡ loaded self.old client address word.entry }
-        ensures lawful { IsValidZone self.new }
+        ensures valid { IsValidZone self.new }
     {
         let value = self.words.load(frame, word);
         self.history.note(Record::Load {
@@ -86,7 +86,7 @@ impl<const W: usize> ZoneTables<W> {
         requires room { IsTrue (has_room self.old) }
         requires frame { placement_at self.old address ≡ Some (At frame) }
         ensures step { self.new ≡ stored self.old client address word.entry value }
-        ensures lawful { IsValidZone self.new }
+        ensures valid { IsValidZone self.new }
     {
         let Some(page) = self.holder(frame) else {
             unreachable!();

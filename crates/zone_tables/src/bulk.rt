@@ -3,7 +3,7 @@
 ghost use Rattle.std.specs.Prelude.{◌≡◌, ◌+◌, ◌≤◌, length, Some, IsTrue, IfOk, OnOk};
 ghost use Rattle.std.specs.Result.{result_err};
 ghost use Rattle.state_core.specs.Bulk.{bulk_refusal, has_room_for, values_at, loaded_all, stored_all};
-ghost use Rattle.state_core.specs.Lawful.{IsValidZone};
+ghost use Rattle.state_core.specs.Valid.{IsValidZone};
 ghost use Rattle.state_core.specs.ZoneState.{placement_at};
 ghost use Rattle.state_core.specs.declared.placement.Placement.TheVariants.{At};
 
@@ -49,7 +49,7 @@ impl<const W: usize> ZoneTables<W> {
         requires frame { placement_at self.old address ≡ Some (At frame) }
         ensures values { values.new ≡ values_at self.old address from.entry (length values.old) }
         ensures step { self.new ≡ loaded_all self.old client address from.entry (length values.old) }
-        ensures lawful { IsValidZone self.new }
+        ensures valid { IsValidZone self.new }
     {
         self.words.load_words(frame, from.get() as usize, values);
         let loads = Access {
@@ -73,7 +73,7 @@ impl<const W: usize> ZoneTables<W> {
         requires room { IsTrue (has_room_for self.old (length values.now)) }
         requires frame { placement_at self.old address ≡ Some (At frame) }
         ensures step { self.new ≡ stored_all self.old client address from.entry values.now }
-        ensures lawful { IsValidZone self.new }
+        ensures valid { IsValidZone self.new }
     {
         let Some(page) = self.holder(frame) else {
             unreachable!();

@@ -5,7 +5,7 @@ ghost use Rattle.std.specs.FinMap as map;
 ghost use Rattle.std.specs.Fn.{FnOnceTakesAtMut, FnOnceReturnsAtMut};
 ghost use Rattle.state_core.specs.Contents.{contents_of, contents_from, contents_written};
 ghost use Rattle.state_core.specs.HandingOut.{is_order};
-ghost use Rattle.state_core.specs.Lawful.{IsValidZone};
+ghost use Rattle.state_core.specs.Valid.{IsValidZone};
 
 use crate::zone::ZoneTables;
 use frame_core::{FrameNo, Order};
@@ -27,7 +27,7 @@ impl<const W: usize> ZoneTables<W> {
         requires within { from + length values.old ≤ 2 ^ order * W }
         ensures values { values.new ≡ contents_from self.old first from (length values.old) }
         ensures step { self.new ≡ self.old }
-        ensures lawful { IsValidZone self.new }
+        ensures valid { IsValidZone self.new }
     {
         self.cleared.clear(&mut self.words, first, order);
         let block = self.words.block(first, order.frames());
@@ -44,7 +44,7 @@ impl<const W: usize> ZoneTables<W> {
         requires held { IsTrue (is_order (map.get self.old.handed_out first) order) }
         requires callable { FnOnceTakesAtMut F.FnOnce change (contents_of self.old first) }
         ensures changed { (words : List ℕ) × (length words ≡ 2 ^ order * self.old.page_size) × FnOnceReturnsAtMut F.FnOnce change (contents_of self.old first) result words × (self.new ≡ contents_written self.old first 0 words) }
-        ensures lawful { IsValidZone self.new }
+        ensures valid { IsValidZone self.new }
     {
         self.cleared.clear(&mut self.words, first, order);
         self.words.with_block(first, order.frames(), change)
@@ -55,7 +55,7 @@ impl<const W: usize> ZoneTables<W> {
         requires held { IsTrue (is_order (map.get self.old.handed_out first) order) }
         requires within { from + length values.now ≤ 2 ^ order * W }
         ensures step { self.new ≡ contents_written self.old first from values.now }
-        ensures lawful { IsValidZone self.new }
+        ensures valid { IsValidZone self.new }
     {
         self.cleared.clear(&mut self.words, first, order);
         self.words.store_block(first, order.frames(), from, values);

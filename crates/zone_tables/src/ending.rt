@@ -4,7 +4,7 @@ ghost use Rattle.std.specs.Prelude.{◌≡◌, ◌<◌, ◌+◌, ◌↔◌, leng
 ghost use Rattle.std.specs.FinMap as map;
 ghost use Rattle.frame_core.specs.History.{pins};
 ghost use Rattle.frame_core.specs.Moves.{out, isolated, moved, put_back};
-ghost use Rattle.state_core.specs.Lawful.{IsValidZone};
+ghost use Rattle.state_core.specs.Valid.{IsValidZone};
 ghost use Rattle.state_core.specs.Ending.{HasCause, IsSettled, is_own, moved_to_target, put_back_to_source};
 ghost use Rattle.state_core.specs.Carrying.{words_now};
 ghost use Rattle.state_core.specs.ZoneState.{is_quiet};
@@ -76,7 +76,7 @@ impl<const W: usize> ZoneTables<W> {
         requires unpinned { pins self.old.records way.now.page ≡ 0 }
         requires words { copy.now.words ≡ words_now self.old way.now.page }
         ensures step { self.new ≡ moved_to_target self.old way.now.serial way.now.page }
-        ensures lawful { IsValidZone self.new }
+        ensures valid { IsValidZone self.new }
         ensures settled { IsSettled self.old self.new way.now.page way.now.target way.now.source }
     {
         let Move {
@@ -101,7 +101,7 @@ impl<const W: usize> ZoneTables<W> {
         requires placed { map.get self.old.placement way.now.page ≡ Some (Moving way.now.serial way.now.source way.now.target) }
         requires cause { HasCause cause (pins self.old.records way.now.page) }
         ensures step { self.new ≡ put_back_to_source self.old way.now.serial way.now.page cause }
-        ensures lawful { IsValidZone self.new }
+        ensures valid { IsValidZone self.new }
         ensures settled { IsSettled self.old self.new way.now.page way.now.source way.now.target }
     {
         let Move {

@@ -3,7 +3,7 @@
 ghost use Rattle.std.specs.Prelude.{◌≡◌, IsTrue, IfSome};
 ghost use Rattle.std.specs.FinMap as map;
 ghost use Rattle.state_core.specs.HandingOut.{has_block, is_order, is_run, lowest_run, block_taken, block_given};
-ghost use Rattle.state_core.specs.Lawful.{IsValidZone};
+ghost use Rattle.state_core.specs.Valid.{IsValidZone};
 ghost use Rattle.state_core.specs.ZoneState.{has_room};
 
 use crate::zone::ZoneTables;
@@ -42,7 +42,7 @@ impl<const W: usize> ZoneTables<W> {
         requires room { IsTrue (has_room self.old) }
         requires run { IsTrue (is_run self.old order first) }
         ensures step { self.new ≡ block_taken self.old first order }
-        ensures lawful { IsValidZone self.new }
+        ensures valid { IsValidZone self.new }
     {
         self.frames.hold(first, order);
         self.handed_out.take(first, order);
@@ -58,7 +58,7 @@ impl<const W: usize> ZoneTables<W> {
         requires room { IsTrue (has_room self.old) }
         requires held { IsTrue (is_order (map.get self.old.handed_out first) order) }
         ensures step { self.new ≡ block_given self.old first order }
-        ensures lawful { IsValidZone self.new }
+        ensures valid { IsValidZone self.new }
     {
         self.frames.release(first, order);
         self.handed_out.give(first, order);

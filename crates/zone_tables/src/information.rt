@@ -1,7 +1,7 @@
 //! The counts of a zone, its journal, its tables, its frames and their words.
 
 ghost use Rattle.std.specs.Prelude.{◌≡◌, ◌+◌, length};
-ghost use Rattle.state_core.specs.Lawful.{IsValidZone};
+ghost use Rattle.state_core.specs.Valid.{IsValidZone};
 ghost use Rattle.state_core.specs.Looking.{info_of};
 ghost use Rattle.state_core.specs.ZoneState.{frame_count};
 ghost use Rattle.zone_tables.specs.Fits.{EntriesFit, FramesFit, MovableFit, WordsFit};
@@ -54,7 +54,7 @@ impl<const W: usize> ZoneTables<W> {
     pub fn journal(&self) -> &Journal
         ensures records { result.now.records ≡ self.now.records }
         ensures room { result.now.room ≡ self.now.room }
-        ensures lawful { IsValidZone self.now }
+        ensures valid { IsValidZone self.now }
     {
         self.history.journal()
     }

@@ -3,7 +3,7 @@
 ghost use Rattle.std.specs.Prelude.{◌≡◌, ◌+◌, ◌<◌, ℕ, length, IsSome, IfSome, IfNone, None, Some, true};
 ghost use Rattle.std.specs.FinMap as map;
 ghost use Rattle.frame_core.specs.Moves.{isolated, out};
-ghost use Rattle.state_core.specs.Lawful.{IsValidZone};
+ghost use Rattle.state_core.specs.Valid.{IsValidZone};
 ghost use Rattle.state_core.specs.Rounds.{round_begun};
 ghost use Rattle.state_core.specs.Carrying.{flags_of, page_now};
 ghost use Rattle.state_core.specs.Isolating.{isolate_refusal, isolated_next};
@@ -65,7 +65,7 @@ impl<const W: usize> ZoneTables<W> {
         requires accepted { isolate_refusal self.old ≡ None }
         ensures page { result ≡ record { serial = isolated self.old.records; page = page_now self.old pair.page } }
         ensures step { self.new ≡ isolated_next self.old pair }
-        ensures lawful { IsValidZone self.new }
+        ensures valid { IsValidZone self.new }
     {
         let Pair {
             page,
@@ -110,7 +110,7 @@ impl<const W: usize> ZoneTables<W> {
     /// Begins a round: sets the fingers to the ends of the zone, and notes the number of records and whether the round is calm.
     pub fn begin_round(&mut self)
         ensures step { self.new ≡ round_begun self.old }
-        ensures lawful { IsValidZone self.new }
+        ensures valid { IsValidZone self.new }
     {
         let calm = self.is_calm();
         self.fingers = self.fingers_at_ends();

@@ -2,7 +2,7 @@
 
 ghost use Rattle.std.specs.Prelude.{◌≡◌, ◌<◌, nat_lt, Some, None, IsTrue, IsSome, IfSome, is_some};
 ghost use Rattle.frame_core.specs.History.{page_at};
-ghost use Rattle.state_core.specs.Lawful.{IsValidZone};
+ghost use Rattle.state_core.specs.Valid.{IsValidZone};
 ghost use Rattle.state_core.specs.Mapping.{mapped};
 ghost use Rattle.state_core.specs.ZoneState.{frame_count, has_room, is_free, lowest_free_frame, lowest_unused_page};
 
@@ -71,7 +71,7 @@ impl<const W: usize> ZoneTables<W> {
         requires within { frame < frame_count self.old }
         ensures page { lowest_unused_page self.old ≡ Some result }
         ensures step { self.new ≡ mapped self.old client address unmovable frame }
-        ensures lawful { IsValidZone self.new }
+        ensures valid { IsValidZone self.new }
     {
         let named = address;
         let page = self.unused_page();

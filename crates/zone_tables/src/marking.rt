@@ -2,7 +2,7 @@
 
 ghost use Rattle.std.specs.Prelude.{◌≡◌, ◌<◌, nat_lt, IsTrue};
 ghost use Rattle.std.specs.FinSet as set;
-ghost use Rattle.state_core.specs.Lawful.{IsValidZone};
+ghost use Rattle.state_core.specs.Valid.{IsValidZone};
 ghost use Rattle.state_core.specs.Marking.{block_marked, block_unmarked};
 ghost use Rattle.state_core.specs.ZoneState.{has_room};
 
@@ -28,7 +28,7 @@ impl<const W: usize> ZoneTables<W> {
     pub fn mark(&mut self, block: BlockNo)
         requires room { IsTrue (has_room self.old) }
         ensures step { self.new ≡ block_marked self.old block }
-        ensures lawful { IsValidZone self.new }
+        ensures valid { IsValidZone self.new }
     {
         self.marked[block.get() as usize] = true;
         self.history.note(Record::Mark { block });
@@ -38,7 +38,7 @@ impl<const W: usize> ZoneTables<W> {
     pub fn unmark(&mut self, block: BlockNo)
         requires room { IsTrue (has_room self.old) }
         ensures step { self.new ≡ block_unmarked self.old block }
-        ensures lawful { IsValidZone self.new }
+        ensures valid { IsValidZone self.new }
     {
         self.marked[block.get() as usize] = false;
         self.history.note(Record::Unmark { block });

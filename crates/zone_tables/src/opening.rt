@@ -1,6 +1,6 @@
 ghost use Rattle.std.specs.Prelude.{◌≡◌, ◌≤◌, [], None, IfOk, IfErr};
 ghost use Rattle.frame_core.specs.Journal.{told_places};
-ghost use Rattle.state_core.specs.Lawful.{IsValidZone};
+ghost use Rattle.state_core.specs.Valid.{IsValidZone};
 ghost use Rattle.state_core.specs.Opening.{IsOpenable, IsSize, opened_told, opened_with};
 
 use crate::cleared::Cleared;
@@ -28,7 +28,7 @@ impl<const W: usize> ZoneTables<W> {
         requires size { W ≤ 65536 }
         ensures memory { IfErr result (λ error. error ≡ ZoneError.Memory) }
         ensures ok { IfOk result (λ zone. zone ≡ opened_with W number blocks places) }
-        ensures lawful { IfOk result (λ zone. IsValidZone zone) }
+        ensures valid { IfOk result (λ zone. IsValidZone zone) }
     {
         let Ok(history) = History::open(alloc, places) else {
             return Err(ZoneError::Memory);
@@ -42,7 +42,7 @@ impl<const W: usize> ZoneTables<W> {
         requires size { W ≤ 65536 }
         ensures memory { IfErr result (λ error. error ≡ ZoneError.Memory) }
         ensures ok { IfOk result (λ zone. zone ≡ opened_told W number blocks) }
-        ensures lawful { IfOk result (λ zone. IsValidZone zone) }
+        ensures valid { IfOk result (λ zone. IsValidZone zone) }
     {
         Self::with_history(alloc, number, blocks, History::told())
     }
@@ -60,7 +60,7 @@ impl<const W: usize> ZoneTables<W> {
         requires places { history.room ≤ told_places }
         ensures memory { IfErr result (λ error. error ≡ ZoneError.Memory) }
         ensures ok { IfOk result (λ zone. zone ≡ opened_with W number blocks history.room) }
-        ensures lawful { IfOk result (λ zone. IsValidZone zone) }
+        ensures valid { IfOk result (λ zone. IsValidZone zone) }
     {
         let count = 512 * blocks;
         let Ok(frames) = Frames::open(alloc, blocks) else {

@@ -3,7 +3,7 @@
 ghost use Rattle.std.specs.Prelude.{◌≡◌, ◌<◌, ℕ, true, nat_eq, not, ◌&&◌, Some, IsSome, IsTrue};
 ghost use Rattle.scan_core.specs.Frames.{holds_at};
 ghost use Rattle.frame_core.specs.History.{page_at};
-ghost use Rattle.state_core.specs.Lawful.{IsValidZone};
+ghost use Rattle.state_core.specs.Valid.{IsValidZone};
 ghost use Rattle.state_core.specs.Pinning.{pins_at, pinned, unpinned};
 ghost use Rattle.state_core.specs.ZoneState.{has_room};
 ghost use Rattle.state_core.specs.declared.placement.Placement.TheVariants.{At};
@@ -22,7 +22,7 @@ impl<const W: usize> ZoneTables<W> {
         requires named { IsSome (page_at self.old.records address) }
         requires few { pins_at self.old address < 255 }
         ensures step { self.new ≡ pinned self.old client address }
-        ensures lawful { IsValidZone self.new }
+        ensures valid { IsValidZone self.new }
     {
         let named = address;
         let page = self.page_at(&named);
@@ -38,7 +38,7 @@ impl<const W: usize> ZoneTables<W> {
         requires named { IsSome (page_at self.old.records address) }
         requires some { 0 < pins_at self.old address }
         ensures step { self.new ≡ unpinned self.old client address }
-        ensures lawful { IsValidZone self.new }
+        ensures valid { IsValidZone self.new }
     {
         let named = address;
         let page = self.page_at(&named);

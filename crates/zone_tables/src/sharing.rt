@@ -2,7 +2,7 @@
 
 ghost use Rattle.std.specs.Prelude.{◌≡◌, ◌<◌, None, Some, IsTrue};
 ghost use Rattle.frame_core.specs.History.{page_at};
-ghost use Rattle.state_core.specs.Lawful.{IsValidZone};
+ghost use Rattle.state_core.specs.Valid.{IsValidZone};
 ghost use Rattle.state_core.specs.Sharing.{maps_at, shared};
 ghost use Rattle.state_core.specs.ZoneState.{has_room, placement_at};
 ghost use Rattle.state_core.specs.declared.placement.Placement.TheVariants.{At};
@@ -18,7 +18,7 @@ impl<const W: usize> ZoneTables<W> {
         requires vacant { page_at self.old.records alias ≡ None }
         requires few { maps_at self.old address < 4 }
         ensures step { self.new ≡ shared self.old client address alias }
-        ensures lawful { IsValidZone self.new }
+        ensures valid { IsValidZone self.new }
     {
         let (named, second) = (address, alias);
         let page = self.page_at(&named);

@@ -4,7 +4,7 @@ ghost use Rattle.std.specs.Prelude.{◌≡◌, ◌≢◌, ℕ, Some, IsTrue};
 ghost use Rattle.std.specs.FinMap as map;
 ghost use Rattle.frame_core.specs.History.{page_at, maps};
 ghost use Rattle.frame_core.specs.declared.record.Record.TheVariants.{Unmap};
-ghost use Rattle.state_core.specs.Lawful.{IsValidZone};
+ghost use Rattle.state_core.specs.Valid.{IsValidZone};
 ghost use Rattle.state_core.specs.Unmapping.{unmapped, without_page};
 ghost use Rattle.state_core.specs.ZoneState.{has_room, placement_at, noted};
 ghost use Rattle.state_core.specs.declared.placement.Placement.TheVariants.{At};
@@ -19,7 +19,7 @@ impl<const W: usize> ZoneTables<W> {
         requires room { IsTrue (has_room self.old) }
         requires frame { placement_at self.old address ≡ Some (At frame) }
         ensures step { self.new ≡ unmapped self.old client address }
-        ensures lawful { IsValidZone self.new }
+        ensures valid { IsValidZone self.new }
     {
         let named = address;
         let page = self.page_at(&named);
@@ -37,7 +37,7 @@ impl<const W: usize> ZoneTables<W> {
         requires here { (frame : ℕ) × (map.get self.old.placement page ≡ Some (At frame)) }
         requires more { maps self.old.records page ≢ 1 }
         ensures step { self.new ≡ noted self.old (Unmap client address) }
-        ensures lawful { IsValidZone self.new }
+        ensures valid { IsValidZone self.new }
     {
         let named = address;
         self.tables.clear(named);
@@ -53,7 +53,7 @@ impl<const W: usize> ZoneTables<W> {
         requires here { map.get self.old.placement page ≡ Some (At frame) }
         requires last { maps self.old.records page ≡ 1 }
         ensures step { self.new ≡ without_page (noted self.old (Unmap client address)) page }
-        ensures lawful { IsValidZone self.new }
+        ensures valid { IsValidZone self.new }
     {
         let named = address;
         self.tables.clear(named);

@@ -9,7 +9,7 @@ ghost use Rattle.frame_core.specs.declared.record.Record.TheVariants.{Load, Stor
 ghost use Rattle.hand_core.specs.Told.{pair_of};
 ghost use Rattle.state_core.specs.declared.error.ZoneError.{ZoneError};
 ghost use Rattle.state_core.specs.Bulk.{bulk_refusal, stored_all};
-ghost use Rattle.state_core.specs.Lawful.{IsValidZone};
+ghost use Rattle.state_core.specs.Valid.{IsValidZone};
 ghost use Rattle.state_core.specs.ZoneState.{ZoneState};
 ghost use Rattle.zone_core.specs.ZoneIdentity.{HasIdentity};
 ghost use Rattle.client_core.specs.Bulk.{AreCalls, reading, records_each, written_all};
@@ -134,7 +134,7 @@ trait Bulk {
         zone: &mut Zone<I, M, B>,
         words: &mut [u64],
     ) -> Result<(), ZoneError>
-        requires lawful { IsValidZone zone.old }
+        requires valid { IsValidZone zone.old }
         ensures refused { result_err result ≡ bulk_refusal zone.old (access self.now).address (from self.now) (length (values self.now words.old)) }
         ensures err { OnErr result ((zone.new ≡ zone.old) × (words.new ≡ words.old)) }
         ensures accepted { OnOk result (leaves self.now words.old zone.old words.new zone.new) }
@@ -142,7 +142,7 @@ trait Bulk {
         ensures within { OnOk result (from self.now + length (values self.now words.new) ≤ 65536) }
         ensures count { OnOk result (length (values self.now words.new) ≡ length (values self.now words.old)) }
         ensures identity { HasIdentity zone.old.number zone.old.blocks zone.new }
-        ensures lawful { IsValidZone zone.new };
+        ensures valid { IsValidZone zone.new };
 }
 
 #[derive(Clone, Copy)]
@@ -267,7 +267,7 @@ fn make_all<C: Bulk, T: Receipts, K: Keeping, I: Ledger, M: Ledger, B: Ledger>(
 ) -> Result<(), ZoneError>
     requires allows { K.allows (C.access call.now).client (pair_of slip.old) }
     requires places { T.has_room receipts.old (length (C.values call.now words.old)) }
-    ensures lawful { IsValidZone room.old }
+    ensures valid { IsValidZone room.old }
     ensures refused { result_err result ≡ bulk_refusal room.old (C.access call.now).address (C.from call.now) (length (C.values call.now words.old)) }
     ensures accepted { OnOk result (C.leaves call.now words.old room.old words.new room.new) }
     ensures receipts { OnOk result (T.items receipts.new ≡ T.items receipts.old ++ records_each (access_record (C.access call.now)) (C.from call.now) (C.values call.now words.new)) }

@@ -8,7 +8,7 @@ ghost use Rattle.state_core.specs.Access.{value_at};
 ghost use Rattle.state_core.specs.Calls.{refusal_of, answer_of, after, is_access};
 ghost use Rattle.state_core.specs.Clear.{IsClear};
 ghost use Rattle.state_core.specs.HandingOut.{is_run, lowest_run};
-ghost use Rattle.state_core.specs.Lawful.{IsValidZone};
+ghost use Rattle.state_core.specs.Valid.{IsValidZone};
 ghost use Rattle.state_core.specs.Pairs.{HaveMet};
 ghost use Rattle.state_core.specs.ZoneState.{lowest_free_frame, lowest_unused_page};
 ghost use Rattle.state_core.specs.declared.call.ZoneCall.TheVariants as call;
@@ -29,7 +29,7 @@ impl<const W: usize> BareZone<W> {
         // A load or a store doesn't make a pair.
         ensures met { OnOk result (IsTrue (is_access call.entry) → HaveMet self.old → HaveMet self.new) }
         ensures identity { HasIdentity self.old.number self.old.blocks self.new }
-        ensures lawful { IsValidZone self.new }
+        ensures valid { IsValidZone self.new }
     {
         match call {
             Call::Map { address, unmovable } => {

@@ -5,7 +5,7 @@ ghost use Rattle.std.specs.Result.{result_err};
 ghost use Rattle.frame_core.specs.Moves.{out};
 ghost use Rattle.state_core.specs.Ending.{is_own, IsOwnCopy, Ends, ended_as, committed, put_back_to_source};
 ghost use Rattle.state_core.specs.Isolating.{isolate_refusal, next_answer, next_state, Scans};
-ghost use Rattle.state_core.specs.Lawful.{IsValidZone};
+ghost use Rattle.state_core.specs.Valid.{IsValidZone};
 ghost use Rattle.state_core.specs.Packed.{IsPacked};
 ghost use Rattle.state_core.specs.Pairs.{HaveMet, is_calm, next_pair};
 ghost use Rattle.state_core.specs.Rounds.{round_begun};
@@ -25,7 +25,7 @@ impl<const W: usize> BareZone<W> {
         ensures zone { self.new ≡ round_begun self.old }
         ensures quiet { is_quiet self.new ≡ is_calm self.old }
         ensures identity { HasIdentity self.old.number self.old.blocks self.new }
-        ensures lawful { IsValidZone self.new }
+        ensures valid { IsValidZone self.new }
     {
         self.tables.begin_round();
     }
@@ -48,7 +48,7 @@ impl<const W: usize> BareZone<W> {
         // A page is never given the highest serial.
         ensures followed { IfOk result IsFollowed }
         ensures identity { HasIdentity self.old.number self.old.blocks self.new }
-        ensures lawful { IsValidZone self.new }
+        ensures valid { IsValidZone self.new }
     {
         if !self.tables.has_room_for_two() || !self.tables.has_serial() {
             return Err(ZoneError::JournalFull);
@@ -76,7 +76,7 @@ impl<const W: usize> BareZone<W> {
         ensures met { OnOk result (is_quiet self.old ≡ true → HaveMet self.old → HaveMet self.new) }
         ensures once { OnOk result (is_own self.new copied.entry ≡ false) }
         ensures identity { HasIdentity self.old.number self.old.blocks self.new }
-        ensures lawful { IsValidZone self.new }
+        ensures valid { IsValidZone self.new }
     {
         let Some(way) = self.tables.find_move(copied.serial(), copied.page()) else {
             return Err(Stranger(copied));
@@ -102,7 +102,7 @@ impl<const W: usize> BareZone<W> {
         ensures settled { OnOk result (Ends self.old self.new isolated.entry Ended.Back) }
         ensures once { OnOk result (is_own self.new isolated.entry ≡ false) }
         ensures identity { HasIdentity self.old.number self.old.blocks self.new }
-        ensures lawful { IsValidZone self.new }
+        ensures valid { IsValidZone self.new }
     {
         let Some(way) = self.tables.find_move(isolated.serial(), isolated.page()) else {
             return Err(Stranger(isolated));

@@ -7,7 +7,7 @@ ghost use Rattle.std.specs.Result.{result_err};
 ghost use Rattle.state_core.specs.Bulk.{bulk_refusal, values_at, loaded_all, stored_all};
 ghost use Rattle.state_core.specs.Contents.{contents_refusal, contents_of, contents_from, contents_written};
 ghost use Rattle.state_core.specs.HandingOut.{is_order};
-ghost use Rattle.state_core.specs.Lawful.{IsValidZone};
+ghost use Rattle.state_core.specs.Valid.{IsValidZone};
 ghost use Rattle.state_core.specs.Pairs.{HaveMet};
 ghost use Rattle.zone_core.specs.ZoneIdentity.{HasIdentity};
 
@@ -35,7 +35,7 @@ impl<const W: usize> BareZone<W> {
         ensures ok { OnOk result (self.new ≡ loaded_all self.old client address from.entry (length values.old)) }
         ensures met { OnOk result (HaveMet self.old → HaveMet self.new) }
         ensures identity { HasIdentity self.old.number self.old.blocks self.new }
-        ensures lawful { IsValidZone self.new }
+        ensures valid { IsValidZone self.new }
     {
         let frame = self.tables.bulk_frame(&address, from, values.len())?;
         self.tables.read_words(client, address, frame, from, values);
@@ -59,7 +59,7 @@ impl<const W: usize> BareZone<W> {
         ensures ok { OnOk result (self.new ≡ stored_all self.old client address from.entry values.now) }
         ensures met { OnOk result (HaveMet self.old → HaveMet self.new) }
         ensures identity { HasIdentity self.old.number self.old.blocks self.new }
-        ensures lawful { IsValidZone self.new }
+        ensures valid { IsValidZone self.new }
     {
         let frame = self.tables.bulk_frame(&address, from, values.len())?;
         self.tables
@@ -90,7 +90,7 @@ impl<const W: usize> BareZone<W> {
         ensures ok { OnOk result (self.new ≡ self.old) }
         ensures met { OnOk result (HaveMet self.old → HaveMet self.new) }
         ensures identity { HasIdentity self.old.number self.old.blocks self.new }
-        ensures lawful { IsValidZone self.new }
+        ensures valid { IsValidZone self.new }
     {
         self.can_reach(first, order, from, values.len())?;
         self.tables.read_block(first, order, from, values);
@@ -113,7 +113,7 @@ impl<const W: usize> BareZone<W> {
         ensures ok { OnOk result (self.new ≡ contents_written self.old first from values.now) }
         ensures met { OnOk result (HaveMet self.old → HaveMet self.new) }
         ensures identity { HasIdentity self.old.number self.old.blocks self.new }
-        ensures lawful { IsValidZone self.new }
+        ensures valid { IsValidZone self.new }
     {
         self.can_reach(first, order, from, values.len())?;
         self.tables.write_block(first, order, from, values);
@@ -136,7 +136,7 @@ impl<const W: usize> BareZone<W> {
         ensures ok { IfOk result (λ answer. (words : List ℕ) × (length words ≡ 2 ^ order * self.old.page_size) × FnOnceReturnsAtMut F.FnOnce change (contents_of self.old first) answer words × (self.new ≡ contents_written self.old first 0 words)) }
         ensures met { OnOk result (HaveMet self.old → HaveMet self.new) }
         ensures identity { HasIdentity self.old.number self.old.blocks self.new }
-        ensures lawful { IsValidZone self.new }
+        ensures valid { IsValidZone self.new }
     {
         self.can_reach(first, order, 0, 0)?;
         Ok(self.tables.with_block(first, order, change))

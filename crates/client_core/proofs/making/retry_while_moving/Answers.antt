@@ -6,11 +6,11 @@ use Rattle.client_core.proofs.making.retry_while_moving.Goals as goal
 pub returns-in_default-clause-made : goal.returns-in_default-clause-made
 returns-in_default-clause-made g c =
     let kept = c.make_kept in
-    let is = made c.args.call c.deref_mut.result.now kept.ensures.lawful kept.result kept.ensures.refused kept.ensures.answer in
+    let is = made c.args.call c.deref_mut.result.now kept.ensures.valid kept.result kept.ensures.refused kept.ensures.answer in
     search (rules, is)
 
 pub returns-in_default-clause-refused : goal.returns-in_default-clause-refused
 returns-in_default-clause-refused g c =
     let kept = c.make_kept in
-    let is = refused (refusal_of c.args.call) c.deref_mut.result.now kept.ensures.lawful kept.result kept.ensures.refused in
+    let is = refused (refusal_of c.args.call) c.deref_mut.result.now kept.ensures.valid kept.result kept.ensures.refused in
     search (rules, is)

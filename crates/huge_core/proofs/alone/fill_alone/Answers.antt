@@ -9,7 +9,7 @@ loop-order-init g c = record {
   got = c.requires.got;
   filled = λ ran none. refl;
   rest = λ rest. rest;
-  lawful = λ more. absurd (omega arith);
+  valid = λ more. absurd (omega arith);
   identity = (refl, refl);
 }
 
@@ -28,7 +28,7 @@ loop-order-preserved g c =
       got = grind (arith, common_steps);
       filled = filled_more order c.args.n was.zone now huge (sym {a = None} took.refused) took.lowest took.ok c.args.zone.now
           c.args.got.now.items was.got.items c.push.new.self.items (omega arith) c.push.ensures.items was.invariant.filled;
-      rest = λ rest. rest_block was.zone now huge.frame order took.ok took.lawful (was.invariant.rest rest);
-      lawful = λ more. took.lawful;
+      rest = λ rest. rest_block was.zone now huge.frame order took.ok took.valid (was.invariant.rest rest);
+      valid = λ more. took.valid;
       identity = search rules;
     }

@@ -1,7 +1,7 @@
 use Rattle.std.proofs.Common.{◌<◌, ◌≤◌, ◌-◌, All}
 use Rattle.arrayvec.specs.ArrayVec.{array_vec_len}
 use Rattle.zone_core.specs.Alone.{IsAtRest}
-use Rattle.state_core.specs.Lawful.{IsValidZone}
+use Rattle.state_core.specs.Valid.{IsValidZone}
 use Rattle.zone_core.specs.ZoneIdentity.{HasIdentity}
 use Rattle.huge_core.specs.ByHand.{HasFilled}
 use Rattle.huge_core.specs.Reserving.{IsGot}
@@ -13,7 +13,7 @@ invariant-loop-order g l = record {
   got : All (IsGot l.order) l.got.items;
   filled : HasFilled l.order l.n l.fn.zone l.zone l.fn.got.items l.got.items;
   rest : IsAtRest l.fn.zone → IsAtRest l.zone;
-  lawful : array_vec_len l.fn.got < array_vec_len l.got → IsValidZone l.zone;
+  valid : array_vec_len l.fn.got < array_vec_len l.got → IsValidZone l.zone;
   identity : HasIdentity l.fn.zone.number l.fn.zone.blocks l.zone;
 }
 

@@ -6,7 +6,7 @@ use Rattle.huge_core.specs.Huge.{IsRefused}
 use Rattle.huge_core.proofs.ByHand.{begun_by_hand, filled_by_hand, ran_by_hand, round_moves, round_idles}
 use Rattle.huge_core.proofs.Refused.{refused_by, refused_no_block}
 use Rattle.huge_core.proofs.Running.{not_begun, run_on, stopped, idled}
-use Rattle.huge_core.proofs.StoppedByHand.{lawful_kept, wanting, stopped_enough, stopped_full, stopped_rounds, stopped_refused, stopped_idle}
+use Rattle.huge_core.proofs.StoppedByHand.{valid_kept, wanting, stopped_enough, stopped_full, stopped_rounds, stopped_refused, stopped_idle}
 use Rattle.huge_core.proofs.alone.reserve_alone.Goals as goal
 use Rattle.huge_core.proofs.alone.reserve_alone.Goals.{in_default, in-Err+in-JournalFull, in-Err+in_default-error+then-rounds-collector, in-Err+in_default-error+else-rounds-collector+in-Ok+then-round-eq0, in-Err+in_default-error+else-rounds-collector+in-Err-result}
 
@@ -41,20 +41,20 @@ loop-error-preserved g c =
       fewer = err.err;
       got = filled.ensures.got;
       running = run_on collector scan was.seats.scan run.new.seats.scan ends was.seats.ends run.new.seats.ends was.rounds round
-          was.invariant.running c.if-rounds-collector.false (refused_by now order zone.NoBlock filled.ensures.lawful none)
+          was.invariant.running c.if-rounds-collector.false (refused_by now order zone.NoBlock filled.ensures.valid none)
           is_round c.if-round-eq0.false;
       hand = λ rest.
           let here = filled_by_hand order c.args.n start was.zone now was.got.items was.rounds got
           filled.ensures.filled filled.ensures.rest (was.invariant.hand rest) in
           ran_by_hand order c.args.n start now run.result.0 got was.rounds filled.ensures.low filled.ensures.high err.err none
           (round_moves now round count none_back is_round.sum c.if-round-eq0.false)
-          (rw c.in-Ok.is at run.ensures.exact) run.ensures.kept.lawful here;
+          (rw c.in-Ok.is at run.ensures.exact) run.ensures.kept.valid here;
       identity = search rules;
     }
 
 pub returns-clause-kept : goal.returns-clause-kept
 returns-clause-kept g c =
-    let kept = lawful_kept c.fill_alone.new.zone c.fill_alone.ensures.lawful in
+    let kept = valid_kept c.fill_alone.new.zone c.fill_alone.ensures.valid in
     elim c.match-fill_alone.branch [
       | in_default w ↦ rw w.zone-is kept
       | in-Err+in-JournalFull w ↦ rw w.zone-is kept
@@ -115,29 +115,29 @@ returns-clause-rounds g c =
     let was = c.loop-error in
     let running = was.invariant.running in
     let now = c.fill_alone.new.zone in
-    let lawful = c.fill_alone.ensures.lawful in
+    let valid = c.fill_alone.ensures.valid in
     elim c.match-fill_alone.branch [
       | in_default w ↦ rw (w.seats-is, w.rounds-is, w.stop-is)
           (stopped collector scan was.seats.scan was.seats.scan ends was.seats.ends was.seats.ends _ running (refl, refl)
           (λ rounds is moved. moved))
       | in-Err+in-JournalFull w ↦ rw (w.seats-is, w.rounds-is, w.stop-is)
-          (let full = refused_by now order w.in-Err.error lawful w.in-Err.ensures.refused in
+          (let full = refused_by now order w.in-Err.error valid w.in-Err.ensures.refused in
           stopped collector scan was.seats.scan was.seats.scan ends was.seats.ends was.seats.ends _ running (refl, refl)
           (λ rounds is moved. inr (moved, subst (IsRefused order) w.in-JournalFull.is full)))
       | in-Err+in_default-error+then-rounds-collector w ↦ rw (w.seats-is, w.rounds-is, w.stop-is)
           (let none = refused_no_block now order w.in-Err.error w.in-Err.ensures.refused w.in_default-error.not-JournalFull in
           stopped collector scan was.seats.scan was.seats.scan ends was.seats.ends was.seats.ends _ running (refl, refl)
-          (λ rounds is moved. (moved, sym is ∙ w.if-rounds-collector.true, refused_by now order zone.NoBlock lawful none)))
+          (λ rounds is moved. (moved, sym is ∙ w.if-rounds-collector.true, refused_by now order zone.NoBlock valid none)))
       | in-Err+in_default-error+else-rounds-collector+in-Ok+then-round-eq0 w ↦ rw (w.seats-is, w.rounds-is, w.stop-is)
           (let none = refused_no_block now order w.in-Err.error w.in-Err.ensures.refused w.in_default-error.not-JournalFull in
           let run = w.compact_alone-after in
           idled collector scan was.seats.scan run.new.seats.scan ends was.seats.ends run.new.seats.ends _ was.rounds w.in-Ok.round
-          running w.if-rounds-collector.false (refused_by now order zone.NoBlock lawful none) refl
+          running w.if-rounds-collector.false (refused_by now order zone.NoBlock valid none) refl
           (rw w.in-Ok.is at run.ensures.round) w.if-round-eq0.true w.idle_stop-stop.ensures.met w.idle_stop-stop.ensures.full)
       | in-Err+in_default-error+else-rounds-collector+in-Err-result w ↦ rw (w.seats-is, w.rounds-is, w.stop-is)
           (let none = refused_no_block now order w.in-Err.error w.in-Err.ensures.refused w.in_default-error.not-JournalFull in
           let run = w.compact_alone-after in
           stopped collector scan was.seats.scan run.new.seats.scan ends was.seats.ends run.new.seats.ends _ running
           (rw w.in-Err-result.is at run.ensures.early)
-          (λ rounds is moved. (moved, refused_by now order zone.NoBlock lawful none)))
+          (λ rounds is moved. (moved, refused_by now order zone.NoBlock valid none)))
     ]

@@ -1,6 +1,6 @@
 use Rattle.std.proofs.Common.{◌≡◌, ◌+◌, ◌≤◌, ◌↔◌, sym, subst, ◌∙◌, ap, IsOk, IfOk}
 use Rattle.frame_core.specs.Moves.{isolated}
-use Rattle.state_core.specs.Lawful.{IsValidZone}
+use Rattle.state_core.specs.Valid.{IsValidZone}
 use Rattle.state_core.specs.ZoneState.{ZoneState}
 use Rattle.zone_core.specs.Seats.{ScanSeat, EndSeat, IsAudited}
 use Rattle.round_core.specs.Rounds.{IsBroken}
@@ -35,7 +35,7 @@ module _ (g : Over) (c : After-audit-2 g) where
       subst (λ (w : ZoneState). IfOk ok (IsByHand c.args.zone w)) (sym after.same)
       (subst (λ (z : ZoneState). IfOk ok (IsByHand z c.compact_shared-zone.result.0)) c.audit.ensures.same
       (result_by_hand c.audit.new.self c.compact_shared-zone.result.0 c.audit.new.scan c.compact_shared-zone.new.seats.scan c.audit.new.ends c.compact_shared-zone.new.seats.ends
-      c.audit.result c.audit-2.result c.audit.ensures.lawful run.kept.lawful run.keeps told found counted after.exact after.ok after.serial
+      c.audit.result c.audit-2.result c.audit.ensures.valid run.kept.valid run.keeps told found counted after.exact after.ok after.serial
       ok run.stops run.none_back run.round run.early))
 
   -- or it wasn't begun
@@ -48,7 +48,7 @@ module _ (g : Over) (c : After-audit-2 g) where
       subst (λ (w : ZoneState). IsSame c.args.zone w) (sym after.same)
       (subst (λ (z : ZoneState). IsSame z c.compact_shared-zone.result.0) c.audit.ensures.same
       (same_unbegun c.audit.new.self c.compact_shared-zone.result.0 c.audit.new.scan c.compact_shared-zone.new.seats.scan c.audit.new.ends c.compact_shared-zone.new.seats.ends
-      c.audit.result c.audit-2.result c.audit.ensures.lawful run.kept.lawful run.keeps told found counted after.exact after.ok after.serial
+      c.audit.result c.audit-2.result c.audit.ensures.valid run.kept.valid run.keeps told found counted after.exact after.ok after.serial
       whole (run.early.same rounds).0))
 
 pub returns-clause-exact : goal.returns-clause-exact
@@ -65,7 +65,7 @@ returns-clause-stopped g c = if_stopped c.args.zone c.audit-2.new.self c.compact
 
 pub returns-clause-packed : goal.returns-clause-packed
 returns-clause-packed g c =
-    let law = subst IsValidZone c.audit.ensures.same c.audit.ensures.lawful in
+    let law = subst IsValidZone c.audit.ensures.same c.audit.ensures.valid in
     if_packed c.args.zone c.audit-2.new.self law c.compact_shared-zone.result.1 (by_hand_then g c)
 
 pub returns-clause-unbegun : goal.returns-clause-unbegun

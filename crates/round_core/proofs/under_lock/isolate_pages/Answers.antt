@@ -43,10 +43,10 @@ loop-zone-preserved g c =
       count = omega (arith, count, counted, longer);
       rounds = ap (λ (s : ScanSeat). s.rounds) seat ∙ old.rounds;
       identity = search rules;
-      lawful = c.in-Ok-Page.ensures.lawful;
-      keeps = subst g.K.Keeping.keeps_scanning (sym (c.in-Ok-Page.ensures.ok ∙ stepped zone c.in-Ok-Page.ensures.refused)) (g.K.Keeping.scans zone old.lawful old.keeps);
+      valid = c.in-Ok-Page.ensures.valid;
+      keeps = subst g.K.Keeping.keeps_scanning (sym (c.in-Ok-Page.ensures.ok ∙ stepped zone c.in-Ok-Page.ensures.refused)) (g.K.Keeping.scans zone old.valid old.keeps);
       clients = ap (λ (z : ZoneState). g.K.Keeping.told z.records) (c.in-Ok-Page.ensures.ok ∙ stepped zone c.in-Ok-Page.ensures.refused)
-          ∙ scan_tells_none g.K.Keeping.told g.K.Keeping.tells_none zone old.lawful ∙ old.clients;
+          ∙ scan_tells_none g.K.Keeping.told g.K.Keeping.tells_none zone old.valid ∙ old.clients;
       told = ap (λ (z : ZoneState). isolated z.records) c.in-Ok-Page.ensures.ok ∙ grown zone (next_pair zone) p (sym c.in-Ok-Page.field-0-is ∙ c.in-Ok-Page.ensures.answer) ∙ ap (λ n. n + 1) old.told ∙ sym count;
       room = c.push_back_reserved.ensures.capacity ∙ old.room;
     }
@@ -66,4 +66,4 @@ returns-in-Ok-Met-clause-stops g c =
     let met = sym c.in-Ok-Met.field-0-is ∙ c.in-Ok-Met.ensures.answer in
     let seat = c.in-Ok-Met.ensures.seat ∙ ap (seat_noted c.loop-zone.scan) c.in-Ok-Met.field-0-is in
     subst (λ n. g.K.Keeping.stops_at n Stopped.Met) (old.told ∙ sym (ap (λ (s : ScanSeat). s.count) seat))
-    (subst (λ refusal. g.K.Keeping.stops_at (isolated zone.records) (stop_for refusal)) (sym refused) (g.K.Keeping.stops zone old.lawful old.keeps (met_stops zone refused met)))
+    (subst (λ refusal. g.K.Keeping.stops_at (isolated zone.records) (stop_for refusal)) (sym refused) (g.K.Keeping.stops zone old.valid old.keeps (met_stops zone refused met)))

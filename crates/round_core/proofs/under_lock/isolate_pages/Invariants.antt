@@ -1,7 +1,7 @@
 use Rattle.std.proofs.Common.{◌≡◌, ◌+◌, ◌-◌, length}
 use Rattle.std.specs.VecDeque.{deque_capacity}
 use Rattle.frame_core.specs.Moves.{isolated}
-use Rattle.state_core.specs.Lawful.{IsValidZone}
+use Rattle.state_core.specs.Valid.{IsValidZone}
 use Rattle.frame_core.specs.Serials.{HasSerialsFrom}
 use Rattle.zone_core.specs.ZoneIdentity.{HasIdentity}
 use Rattle.round_core.proofs.under_lock.isolate_pages.Given as goal
@@ -12,7 +12,7 @@ invariant-loop-zone g l = record {
   count : l.scan.count ≡ l.fn.scan.count + length l.pages.items;
   rounds : l.scan.rounds ≡ l.fn.scan.rounds;
   identity : HasIdentity l.fn.zone.number l.fn.zone.blocks l.zone;
-  lawful : IsValidZone l.zone;
+  valid : IsValidZone l.zone;
   keeps : g.K.Keeping.keeps_scanning l.zone;
   clients : g.K.Keeping.told l.zone.records ≡ g.K.Keeping.told l.fn.zone.records;
   told : isolated l.zone.records ≡ l.scan.count;

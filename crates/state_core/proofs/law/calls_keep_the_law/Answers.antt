@@ -1,8 +1,8 @@
-use Rattle.state_core.proofs.Calls.{call_lawful, call_shape, call_answered, call_recorded, call_took}
+use Rattle.state_core.proofs.Calls.{call_valid, call_shape, call_answered, call_recorded, call_took}
 use Rattle.state_core.proofs.law.calls_keep_the_law.Goals as goal
 
-pub returns-clause-lawful : goal.returns-clause-lawful
-returns-clause-lawful c = call_lawful
+pub returns-clause-valid : goal.returns-clause-valid
+returns-clause-valid c = call_valid
 
 pub returns-clause-identity : goal.returns-clause-identity
 returns-clause-identity c = call_shape

@@ -7,7 +7,7 @@ use Rattle.zone_core.specs.Outcome.{IsSame}
 use Rattle.zone_core.proofs.Packed.{packed_exact}
 use Rattle.state_core.specs.Ending.{IsOwnCopy, moved_to_target}
 use Rattle.state_core.specs.Isolating.{isolated_next, next_state}
-use Rattle.state_core.specs.Lawful.{IsValidZone}
+use Rattle.state_core.specs.Valid.{IsValidZone}
 use Rattle.state_core.specs.Pairs.{next_pair}
 use Rattle.state_core.specs.Rounds.{round_begun}
 use Rattle.state_core.specs.ZoneState.{ZoneState}
@@ -19,7 +19,7 @@ use Rattle.zone_core.proofs.one_thread.compact.Goals as goal
 
 pub loop-page-init : goal.loop-page-init
 loop-page-init g c =
-    let rest : IsAtRest c.args.zone.now = record { lawful = subst IsValidZone c.audit.ensures.same c.audit.ensures.lawful; none_out = c.in_ok-audit.ensures.ok.none_out } in
+    let rest : IsAtRest c.args.zone.now = record { valid = subst IsValidZone c.audit.ensures.same c.audit.ensures.valid; none_out = c.in_ok-audit.ensures.ok.none_out } in
     let begun : c.begin_round.new.self ≡ round_begun c.args.zone.now = c.begin_round.ensures.zone ∙ ap round_begun c.audit.ensures.same in
     let count = ap (λ (s : ScanSeat). s.count) c.begin_round.ensures.seat in
     let count_old = ap (λ (s : ScanSeat). s.count) c.audit.ensures.seats.0 in
@@ -55,7 +55,7 @@ loop-page-preserved g c =
     let moved = ap (λ (s : EndSeat). s.moved) c.carry.ensures.ends in
     record {
       between = subst (IsBetween start) (sym moved_is)
-          (between_moved start z before.between is.pair (sym c.in-Ok-Page.ensures.refused) is.found (subst IsValidZone moved_is c.carry.ensures.lawful));
+          (between_moved start z before.between is.pair (sym c.in-Ok-Page.ensures.refused) is.found (subst IsValidZone moved_is c.carry.ensures.valid));
       count = count ∙ ap (λ (n : ℕ). n + 1) before.count ∙ sym (ap (λ (w : ZoneState). isolated w.records) moved_is);
       rounds = ap (λ (s : ScanSeat). s.rounds) seat ∙ before.rounds;
       moved = omega (arith, count, moved, before.moved);
@@ -82,7 +82,7 @@ returns-in-Ok-Met-clause-packed g c met calm =
     let z = c.loop-page.zone in
     let between = c.loop-page.invariant.between in
     let none = pair_scanned z _ (sym c.in-Ok-Met.ensures.refused) (none_scanned z (next_pair z) (sym c.in-Ok-Met.field-0-is ∙ c.in-Ok-Met.ensures.answer)) in
-    packed_exact c.args.zone.now c.isolate_next.new.self between.rest.lawful calm
+    packed_exact c.args.zone.now c.isolate_next.new.self between.rest.valid calm
     (sym (refusal_is c.args.zone.now z between none) ∙ sym c.in-Ok-Met.ensures.refused)
     (returns-in-Ok-Met-clause-exact g c)
 

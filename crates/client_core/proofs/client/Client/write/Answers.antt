@@ -19,4 +19,4 @@ returns-clause-accepted g c =
     let is : c.self.inside.number ≡ c.args.self.now.number = search rules in
     let made = c.in_ok-all_once_there.ensures.accepted in
     subst (λ (number : ℕ). IsAccepted (λ zone. bulk_refusal zone c.args.address c.args.from (length c.args.values.now)) (leaving (λ zone. stored_all zone number c.args.address c.args.from c.args.values.now)) tt) is
-    record { zone = made.zone; lawful = made.lawful; accepted = made.accepted; zone_new = made.zone_new; left = made.left }
+    record { zone = made.zone; valid = made.valid; accepted = made.accepted; zone_new = made.zone_new; left = made.left }

@@ -14,7 +14,7 @@ returns-in_default-clause-accepted g c =
     let leaves = g.C.Bulk.leaves c.args.call.now in
     let is = subst (λ (words : List ℕ). OnOk made.result (IsAccepted (refusal words) (leaves words) made.new.words)) c.loop.invariant.words
     (accepted (refusal c.loop.words) (leaves c.loop.words) made.new.words c.deref_mut.result.now made.new.room
-    made.ensures.lawful made.result made.ensures.refused made.ensures.accepted) in
+    made.ensures.valid made.result made.ensures.refused made.ensures.accepted) in
     search (rules, is)
 
 pub returns-in_default-clause-refused : goal.returns-in_default-clause-refused
@@ -23,5 +23,5 @@ returns-in_default-clause-refused g c =
     let call = c.args.call.now in
     let refusal = λ (words : List ℕ) (zone : ZoneState). bulk_refusal zone (g.C.Bulk.access call).address (g.C.Bulk.from call) (length (g.C.Bulk.values call words)) in
     let is = subst (λ (words : List ℕ). IfErr made.result (IsRefused (refusal words))) c.loop.invariant.words
-    (refused (refusal c.loop.words) c.deref_mut.result.now made.ensures.lawful made.result made.ensures.refused) in
+    (refused (refusal c.loop.words) c.deref_mut.result.now made.ensures.valid made.result made.ensures.refused) in
     search (rules, is)

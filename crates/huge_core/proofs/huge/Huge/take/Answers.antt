@@ -11,5 +11,5 @@ returns-clause-handed_out g c =
       lowest = taken.first;
       taken = taken.ok;
       clear = taken.clear;
-      lawful = taken.lawful;
+      valid = taken.valid;
     }

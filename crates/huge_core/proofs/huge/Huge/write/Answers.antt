@@ -12,5 +12,5 @@ returns-clause-refused g c =
 pub returns-clause-ok : goal.returns-clause-ok
 returns-clause-ok g c =
     subst (λ (huge : Huge). OnOk c.write_block.result (IsWritten huge c.args.from c.args.values.now)) c.self.view_is
-    (written c.behind-room.inside.zone c.write_block.new.self _ c.args.from c.args.values.now c.write_block.ensures.lawful
+    (written c.behind-room.inside.zone c.write_block.new.self _ c.args.from c.args.values.now c.write_block.ensures.valid
     c.write_block.result c.write_block.ensures.refused c.write_block.ensures.ok)

@@ -16,7 +16,7 @@ seat_is g c = c.finish_in.ensures.seat ∙ ap (λ (f : Finished). seat_ended c.s
 pub finish_in-requires : goal.finish_in-requires
 finish_in-requires g c =
     let z = c.self.inside in
-    (search rules, (search rules, (c.self.invariant.orderly.lawful, own_in_hand z.zone z.scan z.ends z.is_open c.in-Some.copy z.waiting.items z.hands.held c.args.hand (deque_capacity z.waiting) c.in-Some.ensures.number.0 c.in-Some.ensures.number.1 (sym c.in-Some.ensures.copy) c.self.invariant)))
+    (search rules, (search rules, (c.self.invariant.orderly.valid, own_in_hand z.zone z.scan z.ends z.is_open c.in-Some.copy z.waiting.items z.hands.held c.args.hand (deque_capacity z.waiting) c.in-Some.ensures.number.0 c.in-Some.ensures.number.1 (sym c.in-Some.ensures.copy) c.self.invariant)))
 
 pub invariant_of-self-2 : goal.invariant_of-self-2
 invariant_of-self-2 g c =

@@ -7,4 +7,4 @@ pub invariant_of-self : goal.invariant_of-self
 invariant_of-self g c =
     let z = c.self.inside in
     carried_call z.zone c.load.new.self z.scan z.ends z.is_open z.waiting.items z.hands.held (deque_capacity z.waiting) c.self.invariant
-    g.row.W (Load c.args.address c.args.word) c.args.client c.load.result c.load.ensures.lawful c.load.ensures.refused c.load.ensures.err c.load.ensures.ok
+    g.row.W (Load c.args.address c.args.word) c.args.client c.load.result c.load.ensures.valid c.load.ensures.refused c.load.ensures.err c.load.ensures.ok

@@ -6,4 +6,4 @@ pub invariant_of-self : goal.invariant_of-self
 invariant_of-self g c =
     let z = c.self.inside in
     carried_call z.zone c.make.new.self z.scan z.ends z.is_open z.waiting.items z.hands.held (deque_capacity z.waiting) c.self.invariant
-    g.row.W c.args.call c.args.client c.make.result c.make.ensures.lawful c.make.ensures.refused c.make.ensures.err c.make.ensures.ok
+    g.row.W c.args.call c.args.client c.make.result c.make.ensures.valid c.make.ensures.refused c.make.ensures.err c.make.ensures.ok

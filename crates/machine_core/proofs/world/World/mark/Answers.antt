@@ -7,4 +7,4 @@ pub invariant_of-self : goal.invariant_of-self
 invariant_of-self g c =
     let z = c.self.inside in
     carried_call z.zone c.mark.new.self z.scan z.ends z.is_open z.waiting.items z.hands.held (deque_capacity z.waiting) c.self.invariant
-    g.row.W (Mark c.args.block) 0 c.mark.result c.mark.ensures.lawful c.mark.ensures.refused c.mark.ensures.err c.mark.ensures.ok
+    g.row.W (Mark c.args.block) 0 c.mark.result c.mark.ensures.valid c.mark.ensures.refused c.mark.ensures.err c.mark.ensures.ok

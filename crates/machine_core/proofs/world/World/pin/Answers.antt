@@ -7,4 +7,4 @@ pub invariant_of-self : goal.invariant_of-self
 invariant_of-self g c =
     let z = c.self.inside in
     carried_call z.zone c.pin.new.self z.scan z.ends z.is_open z.waiting.items z.hands.held (deque_capacity z.waiting) c.self.invariant
-    g.row.W (Pin c.args.address) c.args.client c.pin.result c.pin.ensures.lawful c.pin.ensures.refused c.pin.ensures.err c.pin.ensures.ok
+    g.row.W (Pin c.args.address) c.args.client c.pin.result c.pin.ensures.valid c.pin.ensures.refused c.pin.ensures.err c.pin.ensures.ok

@@ -18,7 +18,7 @@ put_all_back_in-count-requires g c =
       (
         search rules,
         (
-          c.self.invariant.orderly.lawful,
+          c.self.invariant.orderly.valid,
           (
             c.self.invariant.waiting,
             (

@@ -7,4 +7,4 @@ pub invariant_of-self : goal.invariant_of-self
 invariant_of-self g c =
     let z = c.self.inside in
     carried_call z.zone c.store.new.self z.scan z.ends z.is_open z.waiting.items z.hands.held (deque_capacity z.waiting) c.self.invariant
-    g.row.W (Store c.args.address c.args.word c.args.value) c.args.client c.store.result c.store.ensures.lawful c.store.ensures.refused c.store.ensures.err c.store.ensures.ok
+    g.row.W (Store c.args.address c.args.word c.args.value) c.args.client c.store.result c.store.ensures.valid c.store.ensures.refused c.store.ensures.err c.store.ensures.ok

@@ -7,4 +7,4 @@ pub invariant_of-self : goal.invariant_of-self
 invariant_of-self g c =
     let z = c.self.inside in
     carried_taken z.zone c.take_huge.new.self z.scan z.ends z.is_open z.waiting.items z.hands.held (deque_capacity z.waiting) c.self.invariant
-    (λ block. 512 * block) 9 c.take_huge.result c.take_huge.ensures.lawful c.take_huge.ensures.err c.take_huge.ensures.ok
+    (λ block. 512 * block) 9 c.take_huge.result c.take_huge.ensures.valid c.take_huge.ensures.err c.take_huge.ensures.ok

@@ -7,4 +7,4 @@ pub invariant_of-self : goal.invariant_of-self
 invariant_of-self g c =
     let z = c.self.inside in
     carried_call z.zone c.unmark.new.self z.scan z.ends z.is_open z.waiting.items z.hands.held (deque_capacity z.waiting) c.self.invariant
-    g.row.W (Unmark c.args.block) 0 c.unmark.result c.unmark.ensures.lawful c.unmark.ensures.refused c.unmark.ensures.err c.unmark.ensures.ok
+    g.row.W (Unmark c.args.block) 0 c.unmark.result c.unmark.ensures.valid c.unmark.ensures.refused c.unmark.ensures.err c.unmark.ensures.ok

@@ -6,7 +6,7 @@ pub invariant_of-self : goal.invariant_of-self
 invariant_of-self g c =
     let z = c.self.inside in
     carried_written z.zone c.write.new.self z.scan z.ends z.is_open z.waiting.items z.hands.held (deque_capacity z.waiting) c.self.invariant
-    c.args.client c.args.address c.args.from c.args.values.now c.write.result c.write.ensures.lawful c.write.ensures.refused c.write.ensures.err c.write.ensures.ok
+    c.args.client c.args.address c.args.from c.args.values.now c.write.result c.write.ensures.valid c.write.ensures.refused c.write.ensures.err c.write.ensures.ok
 
 pub returns-clause-orderly : goal.returns-clause-orderly
 returns-clause-orderly g c = (invariant_of-self g c).orderly

@@ -1,7 +1,7 @@
 use Rattle.std.proofs.Common.{◌≡◌, ◌∙◌, ap, length, subst, sym, arith}
 use Rattle.frame_core.specs.Moves.{out}
 use Rattle.state_core.specs.declared.information.Info.{Info}
-use Rattle.state_core.specs.Lawful.{IsValidZone}
+use Rattle.state_core.specs.Valid.{IsValidZone}
 use Rattle.state_core.specs.Looking.{info_of}
 use Rattle.state_core.proofs.Filled.{all_whole, packed_order}
 use Rattle.state_core.proofs.Placements.{whole_best, runs_best, placed_now}

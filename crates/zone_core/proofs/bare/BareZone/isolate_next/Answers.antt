@@ -5,7 +5,7 @@ use Rattle.frame_core.specs.History.{page_at}
 use Rattle.frame_core.specs.Page.{IsolatedPage}
 use Rattle.state_core.specs.declared.placement.Placement.TheVariants.{Moving}
 use Rattle.state_core.specs.Isolating.{isolated_next}
-use Rattle.state_core.specs.Lawful.{IsValidZone}
+use Rattle.state_core.specs.Valid.{IsValidZone}
 use Rattle.state_core.specs.Pairs.{IsPair, HaveMet}
 use Rattle.state_core.specs.ZoneState.{ZoneState}
 use Rattle.state_core.proofs.Entries.{get_insert_same, get_insert_other}
@@ -15,7 +15,7 @@ use Rattle.zone_core.proofs.bare.BareZone.isolate_next.Goals as goal
 pub returns-clause-followed : goal.returns-clause-followed
 returns-clause-followed g c =
     let serial = ap (λ (p : IsolatedPage). p.serial) c.isolate-page.ensures.page in
-    let law : IsValidZone (isolated_next c.self.inside.tables c.in-Some.pair) = subst IsValidZone c.isolate-page.ensures.step c.isolate-page.ensures.lawful in
+    let law : IsValidZone (isolated_next c.self.inside.tables c.in-Some.pair) = subst IsValidZone c.isolate-page.ensures.step c.isolate-page.ensures.valid in
     omega (arith, serial, law.journal.serials)
 
 pub returns-clause-pair : goal.returns-clause-pair

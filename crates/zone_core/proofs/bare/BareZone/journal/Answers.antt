@@ -1,5 +1,5 @@
 use Rattle.std.proofs.Common.{subst}
-use Rattle.state_core.specs.Lawful.{IsValidZone}
+use Rattle.state_core.specs.Valid.{IsValidZone}
 use Rattle.state_core.proofs.HandingOut.{blocks_are_clear}
 use Rattle.zone_core.proofs.bare.BareZone.journal.Goals as goal
 

@@ -1,6 +1,6 @@
 use Rattle.std.proofs.Common.{◌∙◌, ap, subst, sym}
 use Rattle.std.specs.Prelude.{◌&&◌}
-use Rattle.state_core.specs.Lawful.{IsValidZone}
+use Rattle.state_core.specs.Valid.{IsValidZone}
 use Rattle.state_core.specs.ZoneState.{keeps_quiet, is_quiet}
 use Rattle.state_core.proofs.Quiet.{quiet_noted}
 use Rattle.zone_core.proofs.bare.BareZone.quiet.Goals as goal

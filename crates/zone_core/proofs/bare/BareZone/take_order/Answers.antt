@@ -7,5 +7,5 @@ use Rattle.zone_core.proofs.bare.BareZone.take_order.Goals as goal
 
 pub returns-clause-clear : goal.returns-clause-clear
 returns-clause-clear g c =
-    blocks_are_clear _ c.hand_out.ensures.lawful c.in-Some.first c.args.order
+    blocks_are_clear _ c.hand_out.ensures.valid c.in-Some.first c.args.order
     (ap (λ (v : ZoneState). map.get v.handed_out c.in-Some.first) c.hand_out.ensures.step ∙ get_insert_same _ c.in-Some.first c.in-Some.first c.args.order refl)

@@ -14,5 +14,5 @@ invariant_of-self-in-Ok-Met g c =
     let marked = c.note.ensures.book ∙ ap (λ (s : ScanSeat). scan_amount s.count (Some answered.Met)) c.tell.ensures.seat in (
       booked_met seat.count seat.last c.isolate_next-answer.result is left.answer left.ok left.pair c.self.invariant.0 c.tell.ensures.total marked,
       c.self.invariant.1,
-      left.lawful,
+      left.valid,
     )

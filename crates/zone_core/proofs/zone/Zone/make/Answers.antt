@@ -9,9 +9,9 @@ invariant_of-self g c =
       err = c.make.ensures.err;
       ok = c.make.ensures.ok;
       identity = c.make.ensures.identity;
-      lawful = c.make.ensures.lawful;
+      valid = c.make.ensures.valid;
     } in
-    (booked_made made c.self.invariant.2 c.self.invariant.0, c.self.invariant.1, made.lawful)
+    (booked_made made c.self.invariant.2 c.self.invariant.0, c.self.invariant.1, made.valid)
 
 pub returns-clause-met : goal.returns-clause-met
 returns-clause-met g c = rw (← c.self.view_is) c.make.ensures.met

@@ -9,7 +9,7 @@ invariant_of-self g c =
       either_way (AreBooks _ _ _) c.read.result (first_left _ _ c.read.result left.err) left.ok c.self.invariant.0
           (booked_loaded_all c.args.client c.self.inside.bare c.args.address c.args.from (length c.args.values.now) c.self.invariant.2.fingers.begun c.self.invariant.0),
       c.self.invariant.1,
-      left.lawful,
+      left.valid,
     )
 
 pub returns-clause-met : goal.returns-clause-met

@@ -8,7 +8,7 @@ invariant_of-self g c =
       either_way (AreBooks _ _ _) c.write.result left.err left.ok c.self.invariant.0
           (booked_stored_all c.args.client c.self.inside.bare c.args.address c.args.from c.args.values.now c.self.invariant.2.fingers.begun c.self.invariant.0),
       c.self.invariant.1,
-      left.lawful,
+      left.valid,
     )
 
 pub returns-clause-met : goal.returns-clause-met

@@ -19,7 +19,7 @@ use Rattle.state_core.specs.Ending.{IsSettled, target_of, moved_to_target}
 use Rattle.zone_tables.specs.Contents.{contents_at}
 use Rattle.zone_tables.specs.Sound.{IsSound, state_of}
 use Rattle.zone_tables.specs.Tabulated.{tabulated}
-use Rattle.state_core.specs.Lawful.{IsValidZone}
+use Rattle.state_core.specs.Valid.{IsValidZone}
 use Rattle.state_core.specs.ZoneState.{ZoneState, takes_up, is_held}
 use Rattle.state_core.proofs.Facts.{not_none}
 use Rattle.state_core.proofs.Settled.{can_move_on, moved_recorded, frames_apart, source_within, target_in, swept_if_moved}
@@ -33,24 +33,24 @@ use Rattle.zone_tables.proofs.zone.ZoneTables.arrive.Goals.{After-note}
 pub arrive-requires : goal.arrive-requires
 arrive-requires g c =
     let sound : IsSound c.self.inside c.args.self.now = subst (IsSound c.self.inside) c.self.view_is c.self.invariant in
-    some_out c.self.inside.moves c.args.self.now.records sound.moves sound.lawful.journal.well_ended
-    (some_on_the_way c.args.self.now c.args.way.now.page c.args.way.now.serial c.args.way.now.source c.args.way.now.target sound.lawful c.requires.placed)
+    some_out c.self.inside.moves c.args.self.now.records sound.moves sound.valid.journal.well_ended
+    (some_on_the_way c.args.self.now c.args.way.now.page c.args.way.now.serial c.args.way.now.source c.args.way.now.target sound.valid c.requires.placed)
 
 pub leave-requires : goal.leave-requires
 leave-requires g c =
     let sound : IsSound c.self.inside c.args.self.now = subst (IsSound c.self.inside) c.self.view_is c.self.invariant in
-    source_on_way c.args.self.now c.args.way.now.page c.args.way.now.serial c.args.way.now.source c.args.way.now.target sound.lawful c.requires.placed c.self.inside.frames.states sound.frames
+    source_on_way c.args.self.now c.args.way.now.page c.args.way.now.serial c.args.way.now.source c.args.way.now.target sound.valid c.requires.placed c.self.inside.frames.states sound.frames
 
 pub settle-requires : goal.settle-requires
 settle-requires g c =
     let sound : IsSound c.self.inside c.args.self.now = subst (IsSound c.self.inside) c.self.view_is c.self.invariant in
-    still_on_way c.self.inside.frames c.leave.new.self c.args.way.now.target c.args.way.now.source (λ e. frames_apart c.args.self.now c.args.way.now.page c.args.way.now.serial c.args.way.now.source c.args.way.now.target sound.lawful c.requires.placed (sym e)) c.leave.ensures.state
-    (target_on_way c.args.self.now c.args.way.now.page c.args.way.now.serial c.args.way.now.source c.args.way.now.target sound.lawful c.requires.placed c.self.inside.frames.states sound.frames)
+    still_on_way c.self.inside.frames c.leave.new.self c.args.way.now.target c.args.way.now.source (λ e. frames_apart c.args.self.now c.args.way.now.page c.args.way.now.serial c.args.way.now.source c.args.way.now.target sound.valid c.requires.placed (sym e)) c.leave.ensures.state
+    (target_on_way c.args.self.now c.args.way.now.page c.args.way.now.serial c.args.way.now.source c.args.way.now.target sound.valid c.requires.placed c.self.inside.frames.states sound.frames)
 
 pub write_in-requires : goal.write_in-requires
 write_in-requires g c =
     let sound : IsSound c.self.inside c.args.self.now = subst (IsSound c.self.inside) c.self.view_is c.self.invariant in
-    let within = target_in c.args.self.now c.args.way.now.page c.args.way.now.serial c.args.way.now.source c.args.way.now.target sound.lawful c.requires.placed in
+    let within = target_in c.args.self.now c.args.way.now.page c.args.way.now.serial c.args.way.now.source c.args.way.now.target sound.valid c.requires.placed in
     omega (arith, within, sound.words.count)
 
 pub place-requires : goal.place-requires
@@ -59,7 +59,7 @@ place-requires g c = ap is_some (placement_seen c.self.inside c.args.self.now c.
 pub note-requires : goal.note-requires
 note-requires g c =
     let sound : IsSound c.self.inside c.args.self.now = subst (IsSound c.self.inside) c.self.view_is c.self.invariant in
-    let room = ending_room c.args.self.now c.args.way.now.page c.args.way.now.serial c.args.way.now.source c.args.way.now.target sound.lawful c.requires.placed in
+    let room = ending_room c.args.self.now c.args.way.now.page c.args.way.now.serial c.args.way.now.source c.args.way.now.target sound.valid c.requires.placed in
     omega (arith, room, ap (λ (v : ZoneState). v.room) c.self.view_is)
 
 -- the fields after the call
@@ -86,7 +86,7 @@ settling {g = g} c =
     let v = c.args.self.now in
     let way = c.args.way.now in
     let sound : IsSound z v = subst (IsSound z) c.self.view_is c.self.invariant in
-    let law = sound.lawful in
+    let law = sound.valid in
     let at = c.requires.placed in
     let source_in = source_within v way.page way.serial way.source way.target law at in
     let target_here = target_in v way.page way.serial way.source way.target law at in
@@ -142,29 +142,29 @@ returns-clause-settled g c =
     let v = c.args.self.now in
     let sound : IsSound c.self.inside v = subst (IsSound c.self.inside) c.self.view_is c.self.invariant in
     subst (λ (u : ZoneState). IsSettled v u way.page way.target way.source) (sym (settle_view c.self.inside (after c) v way.page _ _ _ _ _ _ (settling c)))
-    (moved_settled v way.page way.serial way.source way.target sound.lawful c.requires.placed)
+    (moved_settled v way.page way.serial way.source way.target sound.valid c.requires.placed)
 
-pub returns-clause-lawful : goal.returns-clause-lawful
-returns-clause-lawful g c = (invariant_of-self g c).lawful
+pub returns-clause-valid : goal.returns-clause-valid
+returns-clause-valid g c = (invariant_of-self g c).valid
 
 pub to_present-requires-clause-source_within : goal.to_present-requires-clause-source_within
 to_present-requires-clause-source_within g c =
     let sound : IsSound c.self.inside c.args.self.now = subst (IsSound c.self.inside) c.self.view_is c.self.invariant in
-    let within = source_within c.args.self.now c.args.way.now.page c.args.way.now.serial c.args.way.now.source c.args.way.now.target sound.lawful c.requires.placed in
+    let within = source_within c.args.self.now c.args.way.now.page c.args.way.now.serial c.args.way.now.source c.args.way.now.target sound.valid c.requires.placed in
     omega (arith, within, sound.tables)
 
 pub to_present-requires-clause-within : goal.to_present-requires-clause-within
 to_present-requires-clause-within g c =
     let sound : IsSound c.self.inside c.args.self.now = subst (IsSound c.self.inside) c.self.view_is c.self.invariant in
-    let within = target_in c.args.self.now c.args.way.now.page c.args.way.now.serial c.args.way.now.source c.args.way.now.target sound.lawful c.requires.placed in
+    let within = target_in c.args.self.now c.args.way.now.page c.args.way.now.serial c.args.way.now.source c.args.way.now.target sound.valid c.requires.placed in
     omega (arith, within, sound.tables)
 
 pub to_present-requires-clause-left : goal.to_present-requires-clause-left
 to_present-requires-clause-left g c =
     let sound : IsSound c.self.inside c.args.self.now = subst (IsSound c.self.inside) c.self.view_is c.self.invariant in
-    all_left c.self.inside.tables.entries c.args.self.now sound.entries sound.lawful c.args.way.now.page c.args.way.now.serial c.args.way.now.source c.args.way.now.target c.requires.placed
+    all_left c.self.inside.tables.entries c.args.self.now sound.entries sound.valid c.args.way.now.page c.args.way.now.serial c.args.way.now.source c.args.way.now.target c.requires.placed
 
 pub to_present-requires-clause-unnamed : goal.to_present-requires-clause-unnamed
 to_present-requires-clause-unnamed g c =
     let sound : IsSound c.self.inside c.args.self.now = subst (IsSound c.self.inside) c.self.view_is c.self.invariant in
-    target_unnamed c.self.inside.tables.entries c.args.self.now sound.entries sound.lawful c.args.way.now.page c.args.way.now.serial c.args.way.now.source c.args.way.now.target c.requires.placed
+    target_unnamed c.self.inside.tables.entries c.args.self.now sound.entries sound.valid c.args.way.now.page c.args.way.now.serial c.args.way.now.source c.args.way.now.target c.requires.placed

@@ -20,5 +20,5 @@ invariant_of-self g c =
     (subst (λ (history : History). S (record z { fingers = record { migrate = 0; free = 512 * z.blocks }; history = history })) (sym begun)
     (begun_sound z (state_of z) c.self.invariant start refl (c.is_calm-calm.ensures ∙ ap is_calm (sym c.self.view_is))))
 
-pub returns-clause-lawful : goal.returns-clause-lawful
-returns-clause-lawful g c = (invariant_of-self g c).lawful
+pub returns-clause-valid : goal.returns-clause-valid
+returns-clause-valid g c = (invariant_of-self g c).valid

@@ -24,9 +24,9 @@ places z v view invariant left out_now is counted =
     let sound : IsSound z v = subst (IsSound z) view invariant in
     record {
       left_is = is ∙ ap (λ (u : ZoneState). u.room) view;
-      out_is = out_is z.moves v.records sound.moves sound.lawful.journal.well_ended out_now counted;
+      out_is = out_is z.moves v.records sound.moves sound.valid.journal.well_ended out_now counted;
       size = ap (λ (u : ZoneState). u.page_size) view;
-      enough = sound.lawful.journal.room_left;
+      enough = sound.valid.journal.room_left;
     }
 
 pub overflow_sub-places : goal.overflow_sub-places

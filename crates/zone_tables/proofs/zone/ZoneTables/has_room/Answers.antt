@@ -8,6 +8,6 @@ use Rattle.zone_tables.proofs.zone.ZoneTables.has_room.Goals as goal
 pub returns : goal.returns
 returns g c =
     let sound : IsSound c.self.inside c.args.self.now = subst (IsSound c.self.inside) c.self.view_is c.self.invariant in
-    let out = c.from.ensures ∙ out_is c.self.inside.moves c.args.self.now.records sound.moves sound.lawful.journal.well_ended c.out.result c.out.ensures in
+    let out = c.from.ensures ∙ out_is c.self.inside.moves c.args.self.now.records sound.moves sound.valid.journal.well_ended c.out.result c.out.ensures in
     let room = c.room.ensures ∙ ap (λ (v : ZoneState). v.room) c.self.view_is in
     λ i. nat_lt (out i) (room i)

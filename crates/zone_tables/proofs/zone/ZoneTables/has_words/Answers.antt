@@ -10,7 +10,7 @@ use Rattle.zone_tables.proofs.zone.ZoneTables.has_words.Goals as goal
 pub same-requires : goal.same-requires
 same-requires g c =
     let sound : IsSound c.self.inside c.args.self.now = subst (IsSound c.self.inside) c.self.view_is c.self.invariant in
-    let within = frame_within c.args.self.now sound.lawful c.args.way.now.page
+    let within = frame_within c.args.self.now sound.valid c.args.way.now.page
     (Moving c.args.way.now.serial c.args.way.now.source c.args.way.now.target) c.requires in
     omega (arith, within, sound.words.count)
 
@@ -18,6 +18,6 @@ pub returns : goal.returns
 returns g c =
     let sound : IsSound c.self.inside c.args.self.now = subst (IsSound c.self.inside) c.self.view_is c.self.invariant in
     let seen : words_of c.self.inside.words c.args.way.now.source ≡ words_now c.args.self.now c.args.way.now.page =
-    words_seen c.self.inside.words c.args.self.now sound.words sound.lawful c.args.way.now.page
+    words_seen c.self.inside.words c.args.self.now sound.words sound.valid c.args.way.now.page
     (Moving c.args.way.now.serial c.args.way.now.source c.args.way.now.target) c.requires in
     (λ same. sym (c.same.ensures.0 same) ∙ seen, λ same. c.same.ensures.1 (seen ∙ sym same))

@@ -12,7 +12,7 @@ state-requires g c =
 pub returns-in-Holds-clause-holder : goal.returns-in-Holds-clause-holder
 returns-in-Holds-clause-holder g c =
     let sound : IsSound c.self.inside c.args.self.now = subst (IsSound c.self.inside) c.self.view_is c.self.invariant in
-    sym (holder_at c.args.self.now sound.lawful c.in-Holds.page c.args.frame
+    sym (holder_at c.args.self.now sound.valid c.in-Holds.page c.args.frame
     (holds_seen c.self.inside.frames.states c.args.self.now sound.frames c.args.frame c.in-Holds.page c.state.result c.requires c.state.ensures c.in-Holds.is))
 
 pub returns-in-Holds-clause-here : goal.returns-in-Holds-clause-here

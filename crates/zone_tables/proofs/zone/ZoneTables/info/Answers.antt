@@ -13,7 +13,7 @@ counts c =
     let free = c.free.ensures ∙ free_counted c.self.inside.frames.states c.args.self.now sound.frames in
     let whole = c.whole_blocks.ensures ∙ whole_counted c.self.inside.frames.states c.args.self.now sound.frames in
     let pages = c.in_use.ensures ∙ in_use_seen c.self.inside c.args.self.now c.self.view_is sound.notes.count in
-    let moving = out_is c.self.inside.moves c.args.self.now.records sound.moves sound.lawful.journal.well_ended c.out.result c.out.ensures in
+    let moving = out_is c.self.inside.moves c.args.self.now.records sound.moves sound.valid.journal.well_ended c.out.result c.out.ensures in
     let huge = c.blocks-2.ensures ∙ blocks_seen c.self.inside c.args.self.now c.self.view_is sound.orders in
     let held = c.frames.ensures ∙ held_seen c.self.inside c.args.self.now c.self.view_is sound.orders in
     λ i. record { free = free i; pages = pages i; moving = moving i; huge = huge i; whole = whole i; held = held i }
@@ -24,4 +24,4 @@ returns-clause-counts g c = counts c
 pub returns-clause-sum : goal.returns-clause-sum
 returns-clause-sum g c =
     let sound : IsSound c.self.inside c.args.self.now = subst (IsSound c.self.inside) c.self.view_is c.self.invariant in
-    (λ i. (counts c i).free + (counts c i).pages + (counts c i).moving + (counts c i).held) ∙ sound.lawful.sum
+    (λ i. (counts c i).free + (counts c i).pages + (counts c i).moving + (counts c i).held) ∙ sound.valid.sum

@@ -46,13 +46,13 @@ to_target-requires g c =
     let to = c.requires.pair.to in
     let low = to.low in
     still_free c.self.inside.frames c.to_source.new.self c.args.pair.target c.args.pair.source (Source c.isolate-serial.result) (λ e. absurd (omega arith)) c.to_source.ensures.state
-    (free_seen c.self.inside.frames.states c.args.self.now sound.frames c.args.pair.target (target_within c.args.self.now c.args.pair sound.lawful c.requires.pair) ∙ to.free)
+    (free_seen c.self.inside.frames.states c.args.self.now sound.frames c.args.pair.target (target_within c.args.self.now c.args.pair sound.valid c.requires.pair) ∙ to.free)
 
 pub isolate-serial-requires-clause-within : goal.isolate-serial-requires-clause-within
 isolate-serial-requires-clause-within g c =
     let sound : IsSound c.self.inside c.args.self.now = subst (IsSound c.self.inside) c.self.view_is c.self.invariant in
-    let at = (can_isolate c.args.self.now c.args.pair sound.lawful c.requires.pair).at in
-    omega (arith, frame_within c.args.self.now sound.lawful c.args.pair.page (At c.args.pair.source) at, sound.sources.count)
+    let at = (can_isolate c.args.self.now c.args.pair sound.valid c.requires.pair).at in
+    omega (arith, frame_within c.args.self.now sound.valid c.args.pair.page (At c.args.pair.source) at, sound.sources.count)
 
 pub isolate-serial-requires-clause-serial_left : goal.isolate-serial-requires-clause-serial_left
 isolate-serial-requires-clause-serial_left g c =
@@ -62,7 +62,7 @@ isolate-serial-requires-clause-serial_left g c =
 pub place-requires : goal.place-requires
 place-requires g c =
     let sound : IsSound c.self.inside c.args.self.now = subst (IsSound c.self.inside) c.self.view_is c.self.invariant in
-    ap is_some (placement_seen c.self.inside c.args.self.now c.self.view_is c.args.pair.page ∙ (can_isolate c.args.self.now c.args.pair sound.lawful c.requires.pair).at)
+    ap is_some (placement_seen c.self.inside c.args.self.now c.self.view_is c.args.pair.page ∙ (can_isolate c.args.self.now c.args.pair sound.valid c.requires.pair).at)
 
 -- the note of the page after it was isolated
 abbrev noted : {g : Over} → After-read_out-carried g → PageNote
@@ -71,7 +71,7 @@ noted c = get_or c.self.inside.notes c.args.pair.page unused_note
 note_is : {g : Over} (c : After-read_out-carried g) → slice_get c.self.inside.notes c.args.pair.page ≡ Some (noted c)
 note_is c =
     let sound : IsSound c.self.inside c.args.self.now = subst (IsSound c.self.inside) c.self.view_is c.self.invariant in
-    let used = not_none _ (At c.args.pair.source) (can_isolate c.args.self.now c.args.pair sound.lawful c.requires.pair).at in
+    let used = not_none _ (At c.args.pair.source) (can_isolate c.args.self.now c.args.pair sound.valid c.requires.pair).at in
     slice_get-get_or c.self.inside.notes c.args.pair.page unused_note (note_within c.self.inside c.args.self.now sound c.args.pair.page used)
 
 -- the fields after the call
@@ -91,7 +91,7 @@ settling c =
     let v = c.args.self.now in
     let pair = c.args.pair in
     let sound : IsSound z v = subst (IsSound z) c.self.view_is c.self.invariant in
-    let law = sound.lawful in
+    let law = sound.valid in
     let is = c.requires.pair in
     let left = room_and_serial v c.requires.accepted in
     let room = left.0 in
@@ -141,13 +141,13 @@ invariant_of-self g c =
 pub returns-clause-step : goal.returns-clause-step
 returns-clause-step g c = settle_view c.self.inside (after c.before) c.args.self.now c.args.pair.page _ _ _ _ _ _ (settling c.before)
 
-pub returns-clause-lawful : goal.returns-clause-lawful
-returns-clause-lawful g c = (invariant_of-self g c).lawful
+pub returns-clause-valid : goal.returns-clause-valid
+returns-clause-valid g c = (invariant_of-self g c).valid
 
 pub to_migration-requires-clause-within : goal.to_migration-requires-clause-within
 to_migration-requires-clause-within g c =
     let sound : IsSound c.self.inside c.args.self.now = subst (IsSound c.self.inside) c.self.view_is c.self.invariant in
-    let within = target_within c.args.self.now c.args.pair sound.lawful c.requires.pair in
+    let within = target_within c.args.self.now c.args.pair sound.valid c.requires.pair in
     let low = c.requires.pair.to.low in
     omega (arith, within, low, sound.tables)
 
@@ -155,26 +155,26 @@ pub to_migration-requires-clause-fresh : goal.to_migration-requires-clause-fresh
 to_migration-requires-clause-fresh g c =
     let sound : IsSound c.self.inside c.args.self.now = subst (IsSound c.self.inside) c.self.view_is c.self.invariant in
     let serial : c.isolate-serial.result ≡ isolated c.args.self.now.records = c.isolate-serial.ensures.serial ∙ sound.moves.isolated in
-    λ a source range e. fresh_serial c.self.inside.tables.entries c.args.self.now sound.entries sound.lawful a source range (e ∙ ap (λ (n : ℕ). Migration n source) serial)
+    λ a source range e. fresh_serial c.self.inside.tables.entries c.args.self.now sound.entries sound.valid a source range (e ∙ ap (λ (n : ℕ). Migration n source) serial)
 
 pub to_migration-requires-clause-resting : goal.to_migration-requires-clause-resting
 to_migration-requires-clause-resting g c =
     let sound : IsSound c.self.inside c.args.self.now = subst (IsSound c.self.inside) c.self.view_is c.self.invariant in
-    let at = (can_isolate c.args.self.now c.args.pair sound.lawful c.requires.pair).at in
-    page_rests c.self.inside.tables.entries c.args.self.now sound.entries sound.lawful c.args.pair.page c.args.pair.source at
+    let at = (can_isolate c.args.self.now c.args.pair sound.valid c.requires.pair).at in
+    page_rests c.self.inside.tables.entries c.args.self.now sound.entries sound.valid c.args.pair.page c.args.pair.source at
 
 pub read_out-carried-requires : goal.read_out-carried-requires
 read_out-carried-requires g c =
     let sound : IsSound c.self.inside c.args.self.now = subst (IsSound c.self.inside) c.self.view_is c.self.invariant in
-    let at = (can_isolate c.args.self.now c.args.pair sound.lawful c.requires.pair).at in
-    omega (arith, frame_within c.args.self.now sound.lawful c.args.pair.page (At c.args.pair.source) at, sound.words.count)
+    let at = (can_isolate c.args.self.now c.args.pair sound.valid c.requires.pair).at in
+    omega (arith, frame_within c.args.self.now sound.valid c.args.pair.page (At c.args.pair.source) at, sound.words.count)
 
 pub returns-clause-page : goal.returns-clause-page
 returns-clause-page g c =
     let sound : IsSound c.self.inside c.args.self.now = subst (IsSound c.self.inside) c.self.view_is c.self.invariant in
-    let at = (can_isolate c.args.self.now c.args.pair sound.lawful c.requires.pair).at in
+    let at = (can_isolate c.args.self.now c.args.pair sound.valid c.requires.pair).at in
     let serial = c.isolate-serial.ensures.serial ∙ sound.moves.isolated in
     let zone = ap (λ (u : ZoneState). u.number) c.self.view_is in
-    let words = words_seen c.self.inside.words c.args.self.now sound.words sound.lawful c.args.pair.page (At c.args.pair.source) at in
+    let words = words_seen c.self.inside.words c.args.self.now sound.words sound.valid c.args.pair.page (At c.args.pair.source) at in
     let page = c.read_out-carried.ensures ∙ (λ i. record { zone = zone i; number = c.args.pair.page; flags = c.flags_of-flags.ensures i; words = words i }) in
     λ i. record { serial = (c.new.ensures.serial ∙ serial) i; page = (c.new.ensures.page ∙ page) i }

@@ -19,7 +19,7 @@ holder-requires g c =
     let at = present_is (placement_at c.args.self.now c.args.address.now) c.in-Present.frame
     (sym (sound.entries.each c.args.address.now c.entry.ensures.range) ∙ sym c.entry.ensures.value ∙ c.in-Present.is) in
     let page = page_named c.args.self.now c.args.address.now (At c.in-Present.frame) at in
-    (omega arith, frame_within c.args.self.now sound.lawful page.0 (At c.in-Present.frame) page.2)
+    (omega arith, frame_within c.args.self.now sound.valid page.0 (At c.in-Present.frame) page.2)
 
 pub returns-in-Present : goal.returns-in-Present
 returns-in-Present g c =
@@ -27,7 +27,7 @@ returns-in-Present g c =
     let at = present_is (placement_at c.args.self.now c.args.address.now) c.in-Present.frame
     (sym (sound.entries.each c.args.address.now c.entry.ensures.range) ∙ sym c.entry.ensures.value ∙ c.in-Present.is) in
     let page = page_named c.args.self.now c.args.address.now (At c.in-Present.frame) at in
-    let is = c.holder.ensures.holder ∙ holder_at c.args.self.now sound.lawful page.0 c.in-Present.frame page.2 in
+    let is = c.holder.ensures.holder ∙ holder_at c.args.self.now sound.valid page.0 c.in-Present.frame page.2 in
     record { page = is ∙ sym page.1; in_use = named_so c.holder.result _ page.0 is (not_none _ (At c.in-Present.frame) page.2) }
 
 pub page_from-requires : goal.page_from-requires
@@ -37,7 +37,7 @@ page_from-requires g c =
     (sym (sound.entries.each c.args.address.now c.entry.ensures.range) ∙ sym c.entry.ensures.value ∙ c.in-Migration.is) in
     let way = Moving c.in-Migration.serial c.in-Migration.source at.0 in
     let page = page_named c.args.self.now c.args.address.now way at.1 in
-    omega (arith, frame_within c.args.self.now sound.lawful page.0 way page.2, sound.sources.count)
+    omega (arith, frame_within c.args.self.now sound.valid page.0 way page.2, sound.sources.count)
 
 pub returns-in-Migration : goal.returns-in-Migration
 returns-in-Migration g c =

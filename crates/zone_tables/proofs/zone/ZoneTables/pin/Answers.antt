@@ -41,8 +41,8 @@ invariant_of-self g c = (noting_holds _ _ _ _ _ _ _ _ _ (known c) c.revise.new.s
 pub returns-clause-step : goal.returns-clause-step
 returns-clause-step g c = (noting_holds _ _ _ _ _ _ _ _ _ (known c) c.revise.new.self (c.revise.ensures ∙ ap (slice_set c.self.inside.notes c.page_at-page.result) c.with_pin-note.ensures)).1
 
-pub returns-clause-lawful : goal.returns-clause-lawful
-returns-clause-lawful g c = (invariant_of-self g c).lawful
+pub returns-clause-valid : goal.returns-clause-valid
+returns-clause-valid g c = (invariant_of-self g c).valid
 
 pub revise-requires-clause-used : goal.revise-requires-clause-used
 revise-requires-clause-used g c =

@@ -23,7 +23,7 @@ can c =
     let sound : IsSound c.self.inside c.args.self.now = subst (IsSound c.self.inside) c.self.view_is c.self.invariant in
     let unused = unused_is c.args.self.now c.unused_page-page.result c.unused_page-page.ensures in
     record {
-      lawful = sound.lawful;
+      valid = sound.valid;
       spare = spare c.args.self.now c.requires.room;
       range = c.set.ensures.range;
       vacant = c.requires.vacant;
@@ -87,8 +87,8 @@ returns-clause-step g c =
     ap state_of (same c) ∙ view c
     ∙ ap (λ (page : ℕ). placed c.args.self.now c.args.client c.args.address c.args.unmovable page c.args.frame) (sym (ap (λ o. unwrap_or o 0) c.unused_page-page.ensures))
 
-pub returns-clause-lawful : goal.returns-clause-lawful
-returns-clause-lawful g c = (invariant_of-self g c).lawful
+pub returns-clause-valid : goal.returns-clause-valid
+returns-clause-valid g c = (invariant_of-self g c).valid
 
 pub set-requires-clause-within : goal.set-requires-clause-within
 set-requires-clause-within g c =
@@ -98,9 +98,9 @@ set-requires-clause-within g c =
 pub set-requires-clause-room : goal.set-requires-clause-room
 set-requires-clause-room g c =
     let sound : IsSound c.self.inside c.args.self.now = subst (IsSound c.self.inside) c.self.view_is c.self.invariant in
-    omega (arith, count_none c.self.inside.tables.entries c.args.self.now sound.entries sound.lawful c.args.frame (not_used _ _ c.requires.free))
+    omega (arith, count_none c.self.inside.tables.entries c.args.self.now sound.entries sound.valid c.args.frame (not_used _ _ c.requires.free))
 
 pub set-requires-clause-resting : goal.set-requires-clause-resting
 set-requires-clause-resting g c =
     let sound : IsSound c.self.inside c.args.self.now = subst (IsSound c.self.inside) c.self.view_is c.self.invariant in
-    none_left c.self.inside.tables.entries c.args.self.now sound.entries sound.lawful c.args.frame (not_used _ _ c.requires.free)
+    none_left c.self.inside.tables.entries c.args.self.now sound.entries sound.valid c.args.frame (not_used _ _ c.requires.free)

@@ -16,7 +16,7 @@ pub load-value-requires : goal.load-value-requires
 load-value-requires g c =
     let sound : IsSound c.self.inside c.args.self.now = subst (IsSound c.self.inside) c.self.view_is c.self.invariant in
     let page = page_named c.args.self.now c.args.address (At c.args.frame) c.requires.frame in
-    let within = frame_within c.args.self.now sound.lawful page.0 (At c.args.frame) page.2 in
+    let within = frame_within c.args.self.now sound.valid page.0 (At c.args.frame) page.2 in
     omega (arith, within, sound.words.count)
 
 value_is : {g : Over} (c : After-note g) → c.load-value.result ≡ value_at c.args.self.now c.args.address c.args.word
@@ -41,5 +41,5 @@ returns-clause-value g c = value_is c
 pub returns-clause-step : goal.returns-clause-step
 returns-clause-step g c = view c
 
-pub returns-clause-lawful : goal.returns-clause-lawful
-returns-clause-lawful g c = (invariant_of-self g c).lawful
+pub returns-clause-valid : goal.returns-clause-valid
+returns-clause-valid g c = (invariant_of-self g c).valid

@@ -56,5 +56,5 @@ returns-clause-values g c = values_are c
 pub returns-clause-step : goal.returns-clause-step
 returns-clause-step g c = view c
 
-pub returns-clause-lawful : goal.returns-clause-lawful
-returns-clause-lawful g c = (sound c).lawful
+pub returns-clause-valid : goal.returns-clause-valid
+returns-clause-valid g c = (sound c).valid

@@ -25,7 +25,7 @@ can : {g : Over} (c : After-note g) → CanShare c.args.self.now c.args.address 
 can c =
     let sound : IsSound c.self.inside c.args.self.now = subst (IsSound c.self.inside) c.self.view_is c.self.invariant in
     record {
-      lawful = sound.lawful;
+      valid = sound.valid;
       spare = spare c.args.self.now c.requires.room;
       named = c.page_at-page.ensures.named;
       at = page_stands c.args.self.now c.args.address (At c.args.frame) c.page_at-page.result c.page_at-page.ensures.named c.requires.frame;
@@ -45,20 +45,20 @@ invariant_of-self g c = (noting_holds _ _ _ _ _ _ _ _ _ (known c) c.revise.new.s
 pub returns-clause-step : goal.returns-clause-step
 returns-clause-step g c = (noting_holds _ _ _ _ _ _ _ _ _ (known c) c.revise.new.self (c.revise.ensures ∙ ap (slice_set c.self.inside.notes c.page_at-page.result) c.with_address.ensures)).1
 
-pub returns-clause-lawful : goal.returns-clause-lawful
-returns-clause-lawful g c = (invariant_of-self g c).lawful
+pub returns-clause-valid : goal.returns-clause-valid
+returns-clause-valid g c = (invariant_of-self g c).valid
 
 pub set-requires-clause-within : goal.set-requires-clause-within
 set-requires-clause-within g c =
     let sound : IsSound c.self.inside c.args.self.now = subst (IsSound c.self.inside) c.self.view_is c.self.invariant in
     let at = page_stands c.args.self.now c.args.address (At c.args.frame) c.page_at-page.result c.page_at-page.ensures.named c.requires.frame in
-    omega (arith, frame_within c.args.self.now sound.lawful c.page_at-page.result (At c.args.frame) at, sound.tables)
+    omega (arith, frame_within c.args.self.now sound.valid c.page_at-page.result (At c.args.frame) at, sound.tables)
 
 pub set-requires-clause-room : goal.set-requires-clause-room
 set-requires-clause-room g c =
     let sound : IsSound c.self.inside c.args.self.now = subst (IsSound c.self.inside) c.self.view_is c.self.invariant in
     let at = page_stands c.args.self.now c.args.address (At c.args.frame) c.page_at-page.result c.page_at-page.ensures.named c.requires.frame in
-    omega (arith, c.requires.few, ap (λ (o : Option ℕ). maps c.args.self.now.records (unwrap_or o 0)) c.page_at-page.ensures.named, count_names c.self.inside.tables.entries c.args.self.now sound.entries sound.lawful c.page_at-page.result c.args.frame at)
+    omega (arith, c.requires.few, ap (λ (o : Option ℕ). maps c.args.self.now.records (unwrap_or o 0)) c.page_at-page.ensures.named, count_names c.self.inside.tables.entries c.args.self.now sound.entries sound.valid c.page_at-page.result c.args.frame at)
 
 pub revise-requires-clause-used : goal.revise-requires-clause-used
 revise-requires-clause-used g c =
@@ -74,4 +74,4 @@ pub set-requires-clause-resting : goal.set-requires-clause-resting
 set-requires-clause-resting g c =
     let sound : IsSound c.self.inside c.args.self.now = subst (IsSound c.self.inside) c.self.view_is c.self.invariant in
     let at = page_stands c.args.self.now c.args.address (At c.args.frame) c.page_at-page.result c.page_at-page.ensures.named c.requires.frame in
-    page_rests c.self.inside.tables.entries c.args.self.now sound.entries sound.lawful c.page_at-page.result c.args.frame at
+    page_rests c.self.inside.tables.entries c.args.self.now sound.entries sound.valid c.page_at-page.result c.args.frame at

@@ -27,7 +27,7 @@ returns-then-get-eq1-clause-step g c =
     let at = page_stands c.args.self.now c.args.address (At c.args.frame) c.page_at-page.result c.page_at-page.ensures.named c.requires.frame in
     c.unmap_last.ensures.step
     ∙ sym (unmapped_last c.args.self.now c.args.client c.args.address c.page_at-page.result c.args.frame
-    (record { lawful = sound.lawful; spare = spare c.args.self.now c.requires.room; named = c.page_at-page.ensures.named; at = at }) (sym seen.fits.maps ∙ c.if-get-eq1.true))
+    (record { valid = sound.valid; spare = spare c.args.self.now c.requires.room; named = c.page_at-page.ensures.named; at = at }) (sym seen.fits.maps ∙ c.if-get-eq1.true))
 
 pub returns-else-get-eq1-clause-step : goal.returns-else-get-eq1-clause-step
 returns-else-get-eq1-clause-step g c =
@@ -36,4 +36,4 @@ returns-else-get-eq1-clause-step g c =
     let at = page_stands c.args.self.now c.args.address (At c.args.frame) c.page_at-page.result c.page_at-page.ensures.named c.requires.frame in
     c.unmap_one.ensures.step
     ∙ sym (unmapped_still c.args.self.now c.args.client c.args.address c.page_at-page.result c.args.frame
-    (record { lawful = sound.lawful; spare = spare c.args.self.now c.requires.room; named = c.page_at-page.ensures.named; at = at }) (λ one. c.if-get-eq1.false (seen.fits.maps ∙ one)))
+    (record { valid = sound.valid; spare = spare c.args.self.now c.requires.room; named = c.page_at-page.ensures.named; at = at }) (λ one. c.if-get-eq1.false (seen.fits.maps ∙ one)))

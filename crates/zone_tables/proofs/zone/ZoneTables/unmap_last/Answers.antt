@@ -20,7 +20,7 @@ unmapping c =
     record {
       sound = sound;
       view = c.self.view_is;
-      can = record { lawful = sound.lawful; spare = spare c.args.self.now c.requires.room; named = c.requires.named; at = c.requires.here };
+      can = record { valid = sound.valid; spare = spare c.args.self.now c.requires.room; named = c.requires.named; at = c.requires.here };
       changes = c.clear.ensures.cleared;
       frames_same = c.clear.ensures.frames;
       history_is = c.note.ensures;
@@ -32,5 +32,5 @@ invariant_of-self g c = (last_holds _ _ _ _ _ _ _ _ (unmapping c) c.requires.las
 pub returns-clause-step : goal.returns-clause-step
 returns-clause-step g c = (last_holds _ _ _ _ _ _ _ _ (unmapping c) c.requires.last c.empty.new.self c.put.new.self c.empty.ensures.state (c.put.ensures ∙ ap (slice_set c.self.inside.notes c.args.page) c.unused.ensures)).1
 
-pub returns-clause-lawful : goal.returns-clause-lawful
-returns-clause-lawful g c = (invariant_of-self g c).lawful
+pub returns-clause-valid : goal.returns-clause-valid
+returns-clause-valid g c = (invariant_of-self g c).valid

@@ -17,7 +17,7 @@ without_address-requires g c =
     let sound : IsSound c.self.inside c.args.self.now = subst (IsSound c.self.inside) c.self.view_is c.self.invariant in
     let used = not_none _ (At c.requires.here.0) c.requires.here.1 in
     let seen = note_seen c.self.inside c.args.self.now c.self.view_is sound c.args.page used c.get-note.result c.get-note.ensures in
-    omega (arith, seen.fits.maps, (sound.lawful.agrees.in_use c.args.page used).0)
+    omega (arith, seen.fits.maps, (sound.valid.agrees.in_use c.args.page used).0)
 
 unmapping : {g : Over} (c : After-note g) → Unmapping c.self.inside c.args.self.now c.args.client c.args.address c.args.page c.requires.here.0 c.clear.new.self c.note.new.self
 unmapping c =
@@ -25,7 +25,7 @@ unmapping c =
     record {
       sound = sound;
       view = c.self.view_is;
-      can = record { lawful = sound.lawful; spare = spare c.args.self.now c.requires.room; named = c.requires.named; at = c.requires.here.1 };
+      can = record { valid = sound.valid; spare = spare c.args.self.now c.requires.room; named = c.requires.named; at = c.requires.here.1 };
       changes = c.clear.ensures.cleared;
       frames_same = c.clear.ensures.frames;
       history_is = c.note.ensures;
@@ -40,8 +40,8 @@ invariant_of-self g c = (noting_holds _ _ _ _ _ _ _ _ _ (known c) c.revise.new.s
 pub returns-clause-step : goal.returns-clause-step
 returns-clause-step g c = (noting_holds _ _ _ _ _ _ _ _ _ (known c) c.revise.new.self (c.revise.ensures ∙ ap (slice_set c.self.inside.notes c.args.page) c.without_address.ensures)).1
 
-pub returns-clause-lawful : goal.returns-clause-lawful
-returns-clause-lawful g c = (invariant_of-self g c).lawful
+pub returns-clause-valid : goal.returns-clause-valid
+returns-clause-valid g c = (invariant_of-self g c).valid
 
 pub revise-requires-clause-used : goal.revise-requires-clause-used
 revise-requires-clause-used g c =

@@ -43,7 +43,7 @@ module _ (g : Over) (c : After-with_block g) where
 
   written : HasBlock c.self.inside.words c.with_block.new.self c.args.first (2 ^ c.args.order) (put_from (contents_of c.args.self.now c.args.first) 0 left)
   written =
-      let same : length left ≡ length (contents_of c.args.self.now c.args.first) = many ∙ sym (length_contents c.args.self.now sound.lawful c.args.first c.args.order at) in
+      let same : length left ≡ length (contents_of c.args.self.now c.args.first) = many ∙ sym (length_contents c.args.self.now sound.valid c.args.first c.args.order at) in
       subst (HasBlock c.self.inside.words c.with_block.new.self c.args.first (2 ^ c.args.order)) (sym (put_whole (contents_of c.args.self.now c.args.first) left same))
       (written_again c.clear.ensures.words (subst (λ (n : ℕ). HasBlock c.clear.new.words c.with_block.new.self c.args.first n left) c.frames.ensures.value c.with_block.ensures.changed.3))
 
@@ -63,5 +63,5 @@ returns-clause-changed g c =
       write_view c.self.inside c.args.self.now (sound g c) c.self.view_is c.args.first c.args.order (at g c) _ c.clear.ensures.noted _ 0 (left g c) (written g c),
     )
 
-pub returns-clause-lawful : goal.returns-clause-lawful
-returns-clause-lawful g c = (invariant_of-self g c).lawful
+pub returns-clause-valid : goal.returns-clause-valid
+returns-clause-valid g c = (invariant_of-self g c).valid

@@ -52,5 +52,5 @@ invariant_of-result g c = let P : ZoneState → Type 0 = λ v. IsSound (new_zone
 pub returns-clause-ok : goal.returns-clause-ok
 returns-clause-ok g c = view c
 
-pub returns-clause-lawful : goal.returns-clause-lawful
-returns-clause-lawful g c = (invariant_of-result g c).lawful
+pub returns-clause-valid : goal.returns-clause-valid
+returns-clause-valid g c = (invariant_of-result g c).valid

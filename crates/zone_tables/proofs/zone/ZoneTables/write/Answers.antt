@@ -23,13 +23,13 @@ same_page o p q e f = cc
 pub holder-requires : goal.holder-requires
 holder-requires g c =
     let is = resident c.self.inside c.args.self.now (subst (IsSound c.self.inside) c.self.view_is c.self.invariant) c.args.address c.args.frame c.requires.frame in
-    (omega arith, frame_within c.args.self.now (subst (IsSound c.self.inside) c.self.view_is c.self.invariant).lawful is.page (At c.args.frame) is.at)
+    (omega arith, frame_within c.args.self.now (subst (IsSound c.self.inside) c.self.view_is c.self.invariant).valid is.page (At c.args.frame) is.at)
 
 pub unreachable-requires : goal.unreachable-requires
 unreachable-requires g c =
     let sound : IsSound c.self.inside c.args.self.now = subst (IsSound c.self.inside) c.self.view_is c.self.invariant in
     let is = resident c.self.inside c.args.self.now sound c.args.address c.args.frame c.requires.frame in
-    c.in_default.not-Some is.page (c.holder.ensures.holder ∙ holder_at c.args.self.now sound.lawful is.page c.args.frame is.at)
+    c.in_default.not-Some is.page (c.holder.ensures.holder ∙ holder_at c.args.self.now sound.valid is.page c.args.frame is.at)
 
 pub store-requires : goal.store-requires
 store-requires g c =
@@ -40,14 +40,14 @@ pub get-note-requires : goal.get-note-requires
 get-note-requires g c =
     let is = resident c.self.inside c.args.self.now (subst (IsSound c.self.inside) c.self.view_is c.self.invariant) c.args.address c.args.frame c.requires.frame in
     let sound : IsSound c.self.inside c.args.self.now = subst (IsSound c.self.inside) c.self.view_is c.self.invariant in
-    let page : is.page ≡ c.in-Some.page = same_page _ _ _ (holder_at c.args.self.now sound.lawful is.page c.args.frame is.at) (sym c.holder.ensures.holder ∙ c.in-Some.is) in
+    let page : is.page ≡ c.in-Some.page = same_page _ _ _ (holder_at c.args.self.now sound.valid is.page c.args.frame is.at) (sym c.holder.ensures.holder ∙ c.in-Some.is) in
     omega (arith, is.note_within, page)
 
 storing : {g : Over} (c : After-note g) → Storing c.self.inside c.args.self.now c.args.client c.args.address c.in-Some.page c.args.frame c.args.word c.args.value c.get-note.result c.note.new.self
 storing c =
     let sound : IsSound c.self.inside c.args.self.now = subst (IsSound c.self.inside) c.self.view_is c.self.invariant in
     let is = resident c.self.inside c.args.self.now sound c.args.address c.args.frame c.requires.frame in
-    let page : is.page ≡ c.in-Some.page = same_page _ _ _ (holder_at c.args.self.now sound.lawful is.page c.args.frame is.at) (sym c.holder.ensures.holder ∙ c.in-Some.is) in
+    let page : is.page ≡ c.in-Some.page = same_page _ _ _ (holder_at c.args.self.now sound.valid is.page c.args.frame is.at) (sym c.holder.ensures.holder ∙ c.in-Some.is) in
     record {
       sound = sound;
       view = c.self.view_is;
@@ -82,14 +82,14 @@ invariant_of-self g c =
 pub returns-clause-step : goal.returns-clause-step
 returns-clause-step g c = view c
 
-pub returns-clause-lawful : goal.returns-clause-lawful
-returns-clause-lawful g c = (invariant_of-self g c).lawful
+pub returns-clause-valid : goal.returns-clause-valid
+returns-clause-valid g c = (invariant_of-self g c).valid
 
 pub revise-requires-clause-used : goal.revise-requires-clause-used
 revise-requires-clause-used g c =
     let is = resident c.self.inside c.args.self.now (subst (IsSound c.self.inside) c.self.view_is c.self.invariant) c.args.address c.args.frame c.requires.frame in
     let sound : IsSound c.self.inside c.args.self.now = subst (IsSound c.self.inside) c.self.view_is c.self.invariant in
-    let page : is.page ≡ c.in-Some.page = same_page _ _ _ (holder_at c.args.self.now sound.lawful is.page c.args.frame is.at) (sym c.holder.ensures.holder ∙ c.in-Some.is) in
+    let page : is.page ≡ c.in-Some.page = same_page _ _ _ (holder_at c.args.self.now sound.valid is.page c.args.frame is.at) (sym c.holder.ensures.holder ∙ c.in-Some.is) in
     let used = not_none _ (At c.args.frame) (ap (map.get c.args.self.now.placement) (sym page) ∙ is.at) in
     ap is_some (placement_seen c.self.inside c.args.self.now c.self.view_is c.in-Some.page) ∙ used
 
@@ -97,7 +97,7 @@ pub revise-requires-clause-stays : goal.revise-requires-clause-stays
 revise-requires-clause-stays g c =
     let is = resident c.self.inside c.args.self.now (subst (IsSound c.self.inside) c.self.view_is c.self.invariant) c.args.address c.args.frame c.requires.frame in
     let sound : IsSound c.self.inside c.args.self.now = subst (IsSound c.self.inside) c.self.view_is c.self.invariant in
-    let page : is.page ≡ c.in-Some.page = same_page _ _ _ (holder_at c.args.self.now sound.lawful is.page c.args.frame is.at) (sym c.holder.ensures.holder ∙ c.in-Some.is) in
+    let page : is.page ≡ c.in-Some.page = same_page _ _ _ (holder_at c.args.self.now sound.valid is.page c.args.frame is.at) (sym c.holder.ensures.holder ∙ c.in-Some.is) in
     let used = not_none _ (At c.args.frame) (ap (map.get c.args.self.now.placement) (sym page) ∙ is.at) in
     let seen = note_seen c.self.inside c.args.self.now c.self.view_is sound c.in-Some.page used c.get-note.result c.get-note.ensures in
     ap (λ (n : PageNote). is_some n.placement) c.stored.ensures ∙ ap is_some seen.placement ∙ used

@@ -34,5 +34,5 @@ pub returns-clause-step : goal.returns-clause-step
 returns-clause-step g c =
     write_view c.self.inside c.args.self.now (sound_before c) c.self.view_is c.args.first c.args.order (order_held _ c.args.order c.requires.held) _ c.clear.ensures.noted _ c.args.from c.args.values.now (written c)
 
-pub returns-clause-lawful : goal.returns-clause-lawful
-returns-clause-lawful g c = (invariant_of-self g c).lawful
+pub returns-clause-valid : goal.returns-clause-valid
+returns-clause-valid g c = (invariant_of-self g c).valid

@@ -1,4 +1,4 @@
--- A page is isolated, and its move ends: the zone stays lawful, and swept while its latest round is quiet.
+-- A page is isolated, and its move ends: the zone stays valid, and swept while its latest round is quiet.
 use Rattle.std.proofs.Common.{◌≡◌, ℕ, ◌+◌, subst, sym, ap, refl, arith, Some, None}
 use Rattle.std.specs.FinMap as map
 use Rattle.frame_core.specs.declared.record.Cause.{Cause}
@@ -10,24 +10,24 @@ use Rattle.state_core.specs.declared.round.Pair.{Pair}
 use Rattle.state_core.specs.Carrying.{relocated}
 use Rattle.state_core.specs.Ending.{moved_to_target, put_back_to_source, source_of, target_of, HasCause}
 use Rattle.state_core.specs.Isolating.{isolate_refusal, isolated_next}
-use Rattle.state_core.specs.Lawful.{IsValidZone}
+use Rattle.state_core.specs.Valid.{IsValidZone}
 use Rattle.state_core.specs.Pairs.{IsPair}
 use Rattle.state_core.specs.Swept.{SweptIfQuiet}
 use Rattle.state_core.specs.ZoneState.{ZoneState}
 use Rattle.state_core.proofs.Ending.{can_move_on, moved_recorded, can_go_back, back_recorded}
 use Rattle.state_core.proofs.Facts.{room_and_serial}
 use Rattle.state_core.proofs.Isolating.{can_isolate, isolate_recorded}
-use Rattle.state_core.proofs.Moving.{lawful_settled}
+use Rattle.state_core.proofs.Moving.{valid_settled}
 use Rattle.state_core.proofs.Quiet.{quiet_before, swept_ended}
 use Rattle.state_core.proofs.Sweeping.{swept_isolated, swept_arrived}
 
 pub swept_if_isolated : (v : ZoneState) (pair : Pair) → IsValidZone v → IsPair v pair.page pair.source pair.target → SweptIfQuiet (isolated_next v pair)
 swept_if_isolated v pair law is quiet = swept_isolated v pair law (law.fingers.swept (quiet_before v (Isolate (isolated v.records) pair.page) law refl quiet)) is
 
-pub lawful_isolated : (v : ZoneState) (pair : Pair) → IsValidZone v → IsPair v pair.page pair.source pair.target → isolate_refusal v ≡ None → IsValidZone (isolated_next v pair)
-lawful_isolated v pair law is accepted =
+pub valid_isolated : (v : ZoneState) (pair : Pair) → IsValidZone v → IsPair v pair.page pair.source pair.target → isolate_refusal v ≡ None → IsValidZone (isolated_next v pair)
+valid_isolated v pair law is accepted =
     let left = room_and_serial v accepted in
-    lawful_settled (can_isolate v pair law is) (Isolate (isolated v.records) pair.page) (isolate_recorded v pair law is left.0 left.1) (pair.source + 1) pair.target
+    valid_settled (can_isolate v pair law is) (Isolate (isolated v.records) pair.page) (isolate_recorded v pair law is left.0 left.1) (pair.source + 1) pair.target
     (let low = is.to.low in let high = is.to.high in let fingers = law.fingers.ordered.1 in (omega arith, omega arith))
     (swept_if_isolated v pair law is)
 
@@ -38,12 +38,12 @@ module _ (v : ZoneState) (page serial source target : ℕ) (law : IsValidZone v)
   pub swept_if_put_back : (cause : Cause) → SweptIfQuiet (relocated v (Back serial cause) page (At source))
   swept_if_put_back cause = swept_ended v (relocated v (Back serial cause) page (At source)) (Back serial cause) law refl refl refl
 
-pub lawful_moved : (v : ZoneState) (serial page source target : ℕ) → IsValidZone v → map.get v.placement page ≡ Some (Moving serial source target) → pins v.records page ≡ 0 → IsValidZone (moved_to_target v serial page)
-lawful_moved v serial page source target law at none =
+pub valid_moved : (v : ZoneState) (serial page source target : ℕ) → IsValidZone v → map.get v.placement page ≡ Some (Moving serial source target) → pins v.records page ≡ 0 → IsValidZone (moved_to_target v serial page)
+valid_moved v serial page source target law at none =
     subst (λ (frame : ℕ). IsValidZone (relocated v (Moved serial) page (At frame))) (sym (ap target_of at))
-    (lawful_settled (can_move_on v page serial source target law at) (Moved serial) (moved_recorded v page serial source target law at none) v.migrate v.free law.fingers.ordered (swept_if_moved v page serial source target law at))
+    (valid_settled (can_move_on v page serial source target law at) (Moved serial) (moved_recorded v page serial source target law at none) v.migrate v.free law.fingers.ordered (swept_if_moved v page serial source target law at))
 
-pub lawful_put_back : (v : ZoneState) (serial page source target : ℕ) (cause : Cause) → IsValidZone v → map.get v.placement page ≡ Some (Moving serial source target) → HasCause cause (pins v.records page) → IsValidZone (put_back_to_source v serial page cause)
-lawful_put_back v serial page source target cause law at has =
+pub valid_put_back : (v : ZoneState) (serial page source target : ℕ) (cause : Cause) → IsValidZone v → map.get v.placement page ≡ Some (Moving serial source target) → HasCause cause (pins v.records page) → IsValidZone (put_back_to_source v serial page cause)
+valid_put_back v serial page source target cause law at has =
     subst (λ (frame : ℕ). IsValidZone (relocated v (Back serial cause) page (At frame))) (sym (ap source_of at))
-    (lawful_settled (can_go_back v page serial source target law at) (Back serial cause) (back_recorded v page serial source target law at cause has) v.migrate v.free law.fingers.ordered (swept_if_put_back v page serial source target law at cause))
+    (valid_settled (can_go_back v page serial source target law at) (Back serial cause) (back_recorded v page serial source target law at cause has) v.migrate v.free law.fingers.ordered (swept_if_put_back v page serial source target law at cause))
