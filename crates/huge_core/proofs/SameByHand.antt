@@ -9,7 +9,7 @@ use Rattle.zone_core.specs.Alone.{IsAtRest}
 use Rattle.zone_core.specs.ByHand.{all_isolated, by_hand}
 use Rattle.zone_core.specs.Outcome.{Outcome, IsSame}
 use Rattle.zone_core.proofs.Calls.{take_agrees, run_agrees, taken_agrees}
-use Rattle.zone_core.proofs.Rounds.{by_hand_agrees}
+use Rattle.zone_core.proofs.RoundsKept.{by_hand_agrees}
 use Rattle.round_core.specs.Rounds.{stop_for, stop_by_hand}
 use Rattle.state_core.specs.declared.error.ZoneError.{ZoneError}
 use Rattle.state_core.specs.declared.error.ZoneError.TheVariants.{JournalFull as JournalIsFull, NoBlock as NoBlockIsFree}

@@ -8,7 +8,7 @@ pub mod Moves
 mod OneThread
 pub mod Packed
 pub mod Records
-pub mod Rounds
+pub mod RoundsKept
 pub mod Same
 pub mod Scanner
 pub mod Scanning

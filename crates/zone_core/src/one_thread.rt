@@ -11,9 +11,9 @@ ghost use Rattle.zone_core.specs.Seats.{audit_refusal};
 ghost use Rattle.zone_core.specs.OneThread.{last_by_hand};
 
 use crate::seats::{Answered, EndSeat, Seats};
-use crate::state_core::{Next, ZoneError};
 use crate::zone::Zone as ZoneOf;
 use frame_core::IsolatedOf;
+use state_core::{Next, ZoneError};
 use std::sync::ledger::Ledger;
 
 /// Runs one round on the thread that calls, and tells why its scanner stopped: `Met`, or `JournalFull`. No other thread is

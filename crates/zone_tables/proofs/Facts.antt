@@ -1,5 +1,5 @@
 -- What is known of a zone that is sound.
-use Rattle.std.proofs.Common.{◌≡◌, ℕ, List, ap, ◌∙◌}
+use Rattle.std.proofs.Common.{◌≡◌, ℕ, List, ap, subst, ◌∙◌}
 use Rattle.std.specs.Prelude.{Option, Some, slice_get}
 use Rattle.std.specs.FinMap as map
 use Rattle.frame_core.specs.declared.state.FrameState.{FrameState}
@@ -10,9 +10,13 @@ use Rattle.zone_tables.specs.declared.zone.ZoneTables.TheInside.{Inside}
 use Rattle.state_core.specs.declared.placement.Placement.{Placement}
 use Rattle.state_core.specs.declared.placement.Placement.TheVariants.{At}
 use Rattle.zone_tables.specs.Fits.{state_by, FramesFit}
-use Rattle.zone_tables.specs.Sound.{state_of}
+use Rattle.zone_tables.specs.Sound.{state_of, IsSound}
 use Rattle.state_core.specs.ZoneState.{ZoneState, noted}
 use Rattle.state_core.proofs.Facts.{chosen}
+
+-- a zone is sound in the state that is seen of it
+pub is_sound : {W : ℕ} {z : Inside W} {v : ZoneState} → state_of z ≡ v → IsSound z (state_of z) → IsSound z v
+is_sound {W} {z} view sound = subst (IsSound z) view sound
 
 -- the frame of a page that isn't moving holds the page
 pub held_by : (frames : List FrameState) (v : ZoneState) → FramesFit frames v → (page frame : ℕ) → map.get v.placement page ≡ Some (At frame) → slice_get frames frame ≡ Some (Holds page)

@@ -1,11 +1,13 @@
 -- The move of a page ends: how each table changes.
-use Rattle.std.proofs.Common.{◌≡◌, ◌≢◌, ℕ, ◌<◌, Bool, true, false, List, length, ◌⊎◌, inl, inr, refl, sym, ap, ◌∙◌, arith}
+use Rattle.std.proofs.Common.{◌≡◌, ◌≢◌, ℕ, ◌+◌, ◌<◌, Bool, true, false, List, length, ◌⊎◌, inl, inr, refl, sym, ap, ◌∙◌, arith}
 use Rattle.std.specs.FinMap as map
 use Rattle.std.specs.Prelude.{Some, None, slice_get, slice_set, nat_eq, ◌||◌, if◌then◌else◌}
-use Rattle.std.proofs.lemmas.Bool.{eq-eqb, ne_eqb}
+use Rattle.std.proofs.lemmas.Bool.{eq-eqb, ne_eqb, or_right}
 use Rattle.std.proofs.lemmas.Bool.Decides.{eqb_tells}
 use Rattle.std.proofs.lemmas.List.{length-set}
 use Rattle.frame_core.proofs.Lists.{slice_get_set_same, slice_get_set_other}
+use Rattle.frame_core.specs.Address.{InRange}
+use Rattle.frame_core.specs.declared.place.Address.{Address}
 use Rattle.frame_core.specs.declared.state.FrameState.{FrameState}
 use Rattle.frame_core.specs.declared.state.FrameState.TheVariants.{Free, Holds, Source, Target}
 use Rattle.frame_core.specs.declared.record.Cause.{Cause}
@@ -14,15 +16,21 @@ use Rattle.scan_core.specs.Frames.{Frames, free_at, is_free_state, is_way_state,
 use Rattle.frame_core.specs.Words.{words_of, with_words}
 use Rattle.frame_core.specs.Moves.{out}
 use Rattle.state_core.specs.declared.placement.Placement.TheVariants.{At, Moving}
-use Rattle.zone_tables.specs.Fits.{state_by, FramesFit, WordsFit}
-use Rattle.state_core.specs.Valid.{IsValidZone}
+use Rattle.table_core.specs.declared.entry.Entry.TheVariants.{Migration}
+use Rattle.table_core.specs.Tables.{entry_at, is_listed}
+use Rattle.zone_tables.specs.declared.zone.ZoneTables.TheInside.{Inside}
+use Rattle.zone_tables.specs.Sound.{IsSound, state_of}
+use Rattle.zone_tables.specs.Fits.{state_by, WordsFit}
 use Rattle.state_core.specs.Carrying.{relocated}
 use Rattle.state_core.specs.Ending.{IsSettled}
-use Rattle.state_core.specs.ZoneState.{ZoneState, frame_count}
+use Rattle.state_core.specs.ZoneState.{ZoneState, frame_count, takes_up, is_held}
 use Rattle.zone_tables.proofs.LoadsAndStores.{words_set_same, words_set_other}
 use Rattle.state_core.proofs.Facts.{chosen}
 use Rattle.state_core.proofs.Placed.{untrue}
-use Rattle.state_core.proofs.Settled.{can_move_on, can_go_back, frames_apart, moved_source, back_target, target_in, out_fewer, at_page, at_other}
+use Rattle.state_core.proofs.Settled.{can_move_on, can_go_back, frames_apart, moved_source, back_target, source_within, target_in, out_fewer, at_page, at_other}
+use Rattle.zone_tables.proofs.Facts.{is_sound}
+use Rattle.zone_tables.proofs.ListedAddresses.{all_left, target_unnamed}
+use Rattle.zone_tables.proofs.OutAndEnded.{some_out}
 use Rattle.zone_tables.proofs.Relocation.{FramesSettled, MovableSettled, WordsSettled}
 
 differs : (g x : ℕ) → nat_eq g x ≡ false → g ≢ x
@@ -111,40 +119,85 @@ kept_movable movable can noted kept within is = record {
   kept = λ g gone. slice_get_set_other movable kept g noted (differs g kept gone);
 }
 
-module _ (v : ZoneState) (page serial source target : ℕ) (law : IsValidZone v) (at : map.get v.placement page ≡ Some (Moving serial source target)) where
-  pub some_on_the_way : 0 < length (out v.records)
-  some_on_the_way = omega (arith, out_fewer v page serial source target law at)
+-- one frame of a moving page is still noted as such after the other was freed
+still_on_way : (f a : Frames) (kept left : ℕ) → kept ≢ left → a ≡ record f { states = slice_set f.states left Free } → way_at f.states kept ≡ true → way_at a.states kept ≡ true
+still_on_way f a kept left apart now way = ap (λ (fs : Frames). way_at fs.states kept) now ∙ ap is_way_state (slice_get_set_other f.states left kept Free apart) ∙ way
 
-  pub ending_room : 0 < v.room
-  ending_room = let left = law.journal.room_left in omega (arith, out_fewer v page serial source target law at)
+-- what is known of a moving page before its move ends
+module _ {W : ℕ} {z : Inside W} {v : ZoneState} (view : state_of z ≡ v) (invariant : IsSound z (state_of z)) (page : ℕ) {serial source target : ℕ} (at : map.get v.placement page ≡ Some (Moving serial source target)) where
+  sound : IsSound z v
+  sound = is_sound view invariant
 
-  -- the source and the target of a moving page are noted as such
-  pub source_on_way : (frames : List FrameState) → FramesFit frames v → way_at frames source ≡ true
-  source_on_way frames fit = ap is_way_state (fit.of_page page source (Source serial) (ap (λ o. state_by page o source) at ∙ chosen source _ _))
+  two_frames : source ≢ target
+  two_frames = frames_apart v page serial source target sound.valid at
 
-  pub target_on_way : (frames : List FrameState) → FramesFit frames v → way_at frames target ≡ true
-  target_on_way frames fit =
-      let apart = frames_apart v page serial source target law at in
-      ap is_way_state (fit.of_page page target (Target serial) (ap (λ o. state_by page o target) at ∙ ap (λ b. if b then Some (Source serial) else if nat_eq target target then Some (Target serial) else None) (ne_eqb target source (λ e. apart (sym e))) ∙ chosen target _ _))
+  source_in : source < frame_count v
+  source_in = source_within v page serial source target sound.valid at
+
+  target_inside : target < frame_count v
+  target_inside = target_in v page serial source target sound.valid at
+
+  fewer_out : 0 < length (out v.records)
+  fewer_out = omega (arith, out_fewer v page serial source target sound.valid at)
+
+  pub some_on_the_way : z.moves.moved + z.moves.back < z.moves.isolated
+  some_on_the_way = some_out z.moves v.records sound.moves sound.valid.journal.well_ended fewer_out
+
+  pub ending_room : 0 < z.history.room
+  ending_room = let left = sound.valid.journal.room_left in omega (arith, fewer_out, ap (λ (u : ZoneState). u.room) view)
+
+  -- the two frames are in the tables
+  pub source_listed : source < z.tables.frames
+  source_listed = omega (arith, source_in, sound.tables)
+
+  pub target_listed : target < z.tables.frames
+  target_listed = omega (arith, target_inside, sound.tables)
+
+  pub target_row : target < length z.words
+  target_row = omega (arith, target_inside, sound.words.count)
+
+  -- the source and the target of a moving page are noted as such, and one still is after the other was freed
+  pub source_on_way : way_at z.frames.states source ≡ true
+  source_on_way = ap is_way_state (sound.frames.of_page page source (Source serial) (ap (λ o. state_by page o source) at ∙ chosen source _ _))
+
+  pub target_on_way : way_at z.frames.states target ≡ true
+  target_on_way = ap is_way_state (sound.frames.of_page page target (Target serial) (ap (λ o. state_by page o target) at ∙ ap (λ b. if b then Some (Source serial) else if nat_eq target target then Some (Target serial) else None) (ne_eqb target source (λ e. two_frames (sym e))) ∙ chosen target _ _))
+
+  pub source_still : (freed : Frames) → freed ≡ record z.frames { states = slice_set z.frames.states target Free } → way_at freed.states source ≡ true
+  source_still freed is = still_on_way z.frames freed source target two_frames is source_on_way
+
+  pub target_still : (freed : Frames) → freed ≡ record z.frames { states = slice_set z.frames.states source Free } → way_at freed.states target ≡ true
+  target_still freed is = still_on_way z.frames freed target source (λ e. two_frames (sym e)) is target_on_way
+
+  -- each address that is listed under the source names the page, and none is listed under the target
+  pub source_left : (a : Address) → InRange a → is_listed (entry_at z.tables.entries a) source ≡ true → entry_at z.tables.entries a ≡ Migration serial source
+  source_left = all_left z.tables.entries v sound.entries sound.valid page serial source target at
+
+  pub target_left : target ≢ source → (a : Address) → InRange a → is_listed (entry_at z.tables.entries a) target ≡ false
+  target_left = target_unnamed z.tables.entries v sound.entries sound.valid page serial source target at
+
+  -- no block that is handed out has the target
+  pub target_unheld : is_held v target ≡ false
+  target_unheld = sound.valid.pages.clear page target (ap (λ o. takes_up o target) at ∙ or_right (nat_eq target source) (nat_eq target target) (eq-eqb target target refl))
 
   -- what a move or a put back leaves of the page
   pub moved_settled : IsSettled v (relocated v (Moved serial) page (At target)) page target source
   moved_settled = record {
-    here = at_page v page (Moving serial source target) (At target) (can_move_on v page serial source target law at) (Moved serial);
-    freed = moved_source v page serial source target law at (Moved serial);
+    here = at_page v page (Moving serial source target) (At target) (can_move_on v page serial source target sound.valid at) (Moved serial);
+    freed = moved_source v page serial source target sound.valid at (Moved serial);
     flags = refl;
     words = refl;
-    others = at_other v page (Moving serial source target) (At target) (can_move_on v page serial source target law at) (Moved serial);
+    others = at_other v page (Moving serial source target) (At target) (can_move_on v page serial source target sound.valid at) (Moved serial);
     names = λ address. refl;
   }
 
   pub back_settled : (cause : Cause) → IsSettled v (relocated v (Back serial cause) page (At source)) page source target
   back_settled cause = record {
-    here = at_page v page (Moving serial source target) (At source) (can_go_back v page serial source target law at) (Back serial cause);
-    freed = back_target v page serial source target law at (Back serial cause);
+    here = at_page v page (Moving serial source target) (At source) (can_go_back v page serial source target sound.valid at) (Back serial cause);
+    freed = back_target v page serial source target sound.valid at (Back serial cause);
     flags = refl;
     words = refl;
-    others = at_other v page (Moving serial source target) (At source) (can_go_back v page serial source target law at) (Back serial cause);
+    others = at_other v page (Moving serial source target) (At source) (can_go_back v page serial source target sound.valid at) (Back serial cause);
     names = λ address. refl;
   }
 
@@ -155,10 +208,6 @@ two_puts f a b i j x y first second = second ∙ ap (λ (fs : Frames). record fs
 -- a page's move ends in one of its frames, and the other is free
 pub left_settled : (f a b : Frames) (kept left page : ℕ) (can : Bool) → a ≡ record f { states = slice_set f.states left Free } → b ≡ record { states = slice_set a.states kept (Holds page); movable = slice_set a.movable kept can } → b ≡ record { states = slice_set (slice_set f.states left Free) kept (Holds page); movable = slice_set f.movable kept can }
 left_settled f a b kept left page can first second = second ∙ ap (λ (fs : Frames). record { states = slice_set fs.states kept (Holds page); movable = slice_set fs.movable kept can }) first
-
--- one frame of a moving page is still noted as such after the other was freed
-pub still_on_way : (f a : Frames) (kept left : ℕ) → kept ≢ left → a ≡ record f { states = slice_set f.states left Free } → way_at f.states kept ≡ true → way_at a.states kept ≡ true
-still_on_way f a kept left apart now way = ap (λ (fs : Frames). way_at fs.states kept) now ∙ ap is_way_state (slice_get_set_other f.states left kept Free apart) ∙ way
 
 -- a free frame is still free after another one changed its state
 pub still_free : (f a : Frames) (frame other : ℕ) (state : FrameState) → frame ≢ other → a ≡ record f { states = slice_set f.states other state } → free_at f.states frame ≡ true → free_at a.states frame ≡ true

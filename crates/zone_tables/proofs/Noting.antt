@@ -62,7 +62,7 @@ stays v w page before after placement blocks size handed_out = record {
   handed_out = handed_out;
 }
 
-module _ {W : ℕ} (z : Inside W) (v : ZoneState) (page : ℕ) (entry : Record) (note changed : PageNote) (frames : Frames) (tables : Tables) (history : History) (known : Noting z v page entry note changed frames tables history) where
+module _ {W : ℕ} {z : Inside W} {v : ZoneState} {page : ℕ} {entry : Record} {note changed : PageNote} {frames : Frames} {tables : Tables} {history : History} (known : Noting z v page entry note changed frames tables history) where
   leaves : LeavesOthers v (noted v entry) page
   leaves = record { last = λ q w ne. known.only.last q w; dirty = λ q ne. known.only.dirty q; pins = known.only.pins; maps = known.only.maps }
 

@@ -6,7 +6,7 @@ use Rattle.std.specs.FinSet as set
 use Rattle.frame_core.specs.declared.place.Address.{Address}
 use Rattle.frame_core.specs.declared.record.Record.{Record}
 use Rattle.frame_core.specs.declared.record.Record.TheVariants.{Pin, Unpin}
-use Rattle.frame_core.specs.History.{page_at, pins}
+use Rattle.frame_core.specs.History.{page_at, maps, pins}
 use Rattle.frame_core.specs.Moves.{out}
 use Rattle.scan_core.specs.Frames.{Frames}
 use Rattle.state_core.specs.declared.placement.Placement.{Placement}
@@ -15,11 +15,11 @@ use Rattle.state_core.specs.ZoneState.{ZoneState, noted}
 use Rattle.state_core.proofs.Pinning.{pins_one_more, pins_one_less, pinned_others, unpinned_others, valid_pinned, valid_unpinned}
 use Rattle.zone_tables.specs.declared.note.PageNote.{PageNote}
 use Rattle.zone_tables.specs.declared.zone.ZoneTables.TheInside.{Inside}
-use Rattle.zone_tables.specs.Fits.{MovableFit}
+use Rattle.zone_tables.specs.Fits.{EntriesFit, MovableFit, MovesFit}
 use Rattle.zone_tables.specs.History.{History, told}
 use Rattle.zone_tables.specs.Notes.{can_move_by, movable_at, movable_by}
 use Rattle.zone_tables.specs.Sound.{state_of, IsSound}
-use Rattle.zone_tables.proofs.Noting.{Noting, stays}
+use Rattle.zone_tables.proofs.Noting.{Noting, NotesOnly, stays}
 use Rattle.zone_tables.proofs.Placement.{movable_said}
 use Rattle.zone_tables.proofs.Tables.{note_seen}
 
@@ -27,7 +27,7 @@ module _ {W : ℕ} (z : Inside W) (v : ZoneState) (sound : IsSound z v) (view : 
   -- the frame of the page says whether the page may be taken from it
   said_so : (entry : Record) → IsValidZone (noted v entry) → (count : ℕ) → count ≡ pins (entry ∷ v.records) page → ((q : ℕ) → q ≢ page → pins (entry ∷ v.records) q ≡ pins v.records q) → (frames : Frames) → frames ≡ record z.frames { movable = movable_by z.frames.movable (record note { pins = count }) } → MovableFit frames.movable (noted v entry)
   said_so entry valid count is others frames frames_are =
-      let seen = note_seen z v view sound page used note note_is in
+      let seen = note_seen view sound used note_is in
       let can : Bool = can_move_by (record note { pins = count }) in
       subst (λ (fs : Frames). MovableFit fs.movable (noted v entry)) (sym frames_are)
       (subst (λ (o : Option Placement). MovableFit (movable_at z.frames.movable o can) (noted v entry)) (sym seen.placement)
@@ -35,49 +35,37 @@ module _ {W : ℕ} (z : Inside W) (v : ZoneState) (sound : IsSound z v) (view : 
       (λ i. nat_eq (is i) 0 && not (seen.unmovable i))
       (λ q ne. ap (λ n. nat_eq n 0 && not (set.contains v.unmovable q)) (others q ne))))
 
+  -- a page gets another number of pins, and nothing else of it changes
+  noting_pins : (entry : Record) (count : ℕ) (frames : Frames) (history : History) → IsValidZone (noted v entry) → NotesOnly v entry page → maps (entry ∷ v.records) page ≡ maps v.records page → MovesFit z.moves (entry ∷ v.records) → EntriesFit z.tables.entries (noted v entry)
+      → count ≡ pins (entry ∷ v.records) page → frames ≡ record z.frames { movable = movable_by z.frames.movable (record note { pins = count }) } → history ≡ told z.history entry → Noting z v page entry note (record note { pins = count }) frames z.tables history
+  noting_pins entry count frames history valid only maps_same moves entries is frames_are history_is =
+      let before = (note_seen view sound used note_is).fits in
+      record {
+        sound = sound;
+        view = view;
+        valid = valid;
+        only = only;
+        moves = moves;
+        note_is = note_is;
+        placed = refl;
+        unmovable = refl;
+        fits = record { dirty = before.dirty ∙ sym (only.dirty page); pins = is; maps = before.maps ∙ sym maps_same };
+        states = ap (λ (fs : Frames). fs.states) frames_are;
+        movable = said_so entry valid count is only.pins frames frames_are;
+        entries = entries;
+        frames_same = refl;
+        history_is = history_is;
+      }
+
   module _ (client : ℕ) (address : Address) (named : page_at v.records address ≡ Some page) (spare : length (out v.records) < v.room) (frames : Frames) (history : History) where
     pub pinning : pins v.records page < 255 → frames ≡ record z.frames { movable = movable_by z.frames.movable (record note { pins = note.pins + 1 }) } → history ≡ told z.history (Pin client address) → Noting z v page (Pin client address) note (record note { pins = note.pins + 1 }) frames z.tables history
-    pinning few frames_are history_is =
-        let before = (note_seen z v view sound page used note note_is).fits in
-        let valid = valid_pinned v client address page named sound.valid spare few in
-        let others = pinned_others v client address page named in
-        let more : note.pins + 1 ≡ pins (Pin client address ∷ v.records) page = omega (arith, before.pins, pins_one_more v client address page named) in
-        record {
-          sound = sound;
-          view = view;
-          valid = valid;
-          only = record { last = λ q w. refl; dirty = λ q. refl; pins = others; maps = λ q ne. refl };
-          moves = record { isolated = sound.moves.isolated; moved = sound.moves.moved; back = sound.moves.back };
-          note_is = note_is;
-          placed = refl;
-          unmovable = refl;
-          fits = record { dirty = before.dirty; pins = more; maps = before.maps };
-          states = ap (λ (fs : Frames). fs.states) frames_are;
-          movable = said_so (Pin client address) valid (note.pins + 1) more others frames frames_are;
-          entries = record { each = sound.entries.each };
-          frames_same = refl;
-          history_is = history_is;
-        }
+    pinning few = noting_pins (Pin client address) (note.pins + 1) frames history (valid_pinned v client address page named sound.valid spare few)
+        (record { last = λ q w. refl; dirty = λ q. refl; pins = pinned_others v client address page named; maps = λ q ne. refl }) refl
+        (record { isolated = sound.moves.isolated; moved = sound.moves.moved; back = sound.moves.back }) (record { each = sound.entries.each })
+        (omega (arith, (note_seen view sound used note_is).fits.pins, pins_one_more v client address page named))
 
     pub unpinning : frames ≡ record z.frames { movable = movable_by z.frames.movable (record note { pins = note.pins - 1 }) } → history ≡ told z.history (Unpin client address) → Noting z v page (Unpin client address) note (record note { pins = note.pins - 1 }) frames z.tables history
-    unpinning frames_are history_is =
-        let before = (note_seen z v view sound page used note note_is).fits in
-        let valid = valid_unpinned v client address page named sound.valid spare in
-        let others = unpinned_others v client address page named in
-        let less : note.pins - 1 ≡ pins (Unpin client address ∷ v.records) page = ap (λ n. n - 1) before.pins ∙ sym (pins_one_less v client address page named) in
-        record {
-          sound = sound;
-          view = view;
-          valid = valid;
-          only = record { last = λ q w. refl; dirty = λ q. refl; pins = others; maps = λ q ne. refl };
-          moves = record { isolated = sound.moves.isolated; moved = sound.moves.moved; back = sound.moves.back };
-          note_is = note_is;
-          placed = refl;
-          unmovable = refl;
-          fits = record { dirty = before.dirty; pins = less; maps = before.maps };
-          states = ap (λ (fs : Frames). fs.states) frames_are;
-          movable = said_so (Unpin client address) valid (note.pins - 1) less others frames frames_are;
-          entries = record { each = sound.entries.each };
-          frames_same = refl;
-          history_is = history_is;
-        }
+    unpinning = noting_pins (Unpin client address) (note.pins - 1) frames history (valid_unpinned v client address page named sound.valid spare)
+        (record { last = λ q w. refl; dirty = λ q. refl; pins = unpinned_others v client address page named; maps = λ q ne. refl }) refl
+        (record { isolated = sound.moves.isolated; moved = sound.moves.moved; back = sound.moves.back }) (record { each = sound.entries.each })
+        (ap (λ n. n - 1) (note_seen view sound used note_is).fits.pins ∙ sym (pins_one_less v client address page named))

@@ -121,14 +121,10 @@ pub record Settling {W : ℕ} (z changed : Inside W) (v : ZoneState) (page : ℕ
   pub history : changed.history ≡ told z.history entry
   -- what stayed as it was
   pub frames_same : changed.tables.frames ≡ z.tables.frames
-  pub number_same : changed.number ≡ z.number
-  pub blocks_same : changed.blocks ≡ z.blocks
-  pub marked_same : changed.marked ≡ z.marked
-  pub handed_out_same : changed.handed_out ≡ z.handed_out
-  pub cleared_same : changed.cleared ≡ z.cleared
+  pub rest_same : record changed { frames = z.frames; tables = z.tables; words = z.words; notes = z.notes; moves = z.moves; fingers = z.fingers; history = z.history } ≡ z
   pub contents_same : held_contents changed ≡ held_contents z
 
-module _ {W : ℕ} (z changed : Inside W) (v : ZoneState) (page : ℕ) (old new : Placement) (entry : Record) (note : PageNote) (migrate free : ℕ) (known : Settling z changed v page old new entry note migrate free) where
+module _ {W : ℕ} {z changed : Inside W} {v : ZoneState} {page : ℕ} {old new : Placement} {entry : Record} {note : PageNote} {migrate free : ℕ} (known : Settling z changed v page old new entry note migrate free) where
   abbrev after : ZoneState
   after = record (relocated v entry page new) { migrate = migrate; free = free }
 
@@ -184,8 +180,8 @@ module _ {W : ℕ} (z changed : Inside W) (v : ZoneState) (page : ℕ) (old new 
       let entries = entries_settled v page old new known.can entry known.recorded z.tables.entries changed.tables.entries sound.entries known.tables in
       record {
         valid = gets.after;
-        orders = ap length known.handed_out_same ∙ sound.orders;
-        cleared = ap length known.cleared_same ∙ sound.cleared;
+        orders = ap (λ (y : Inside W). length y.handed_out) known.rest_same ∙ sound.orders;
+        cleared = ap (λ (y : Inside W). length y.cleared) known.rest_same ∙ sound.cleared;
         tables = known.frames_same ∙ sound.tables;
         frames = frames_fit v after page (Some old) (Some new) gets z.frames.states changed.frames.states sound.frames known.frames;
         movable = movable_fit v after page (Some old) (Some new) gets z.frames.movable changed.frames.movable (can_move v page) sound.movable known.movable (sym (can_still page)) (λ q ne. can_still q);
@@ -212,14 +208,14 @@ module _ {W : ℕ} (z changed : Inside W) (v : ZoneState) (page : ℕ) (old new 
   settle_view =
       let here : state_of changed ≡ record (relocated (state_of z) entry page new) { migrate = migrate; free = free } =
       λ i. record {
-        number = known.number_same i;
-        blocks = known.blocks_same i;
+        number = (known.rest_same i).number;
+        blocks = (known.rest_same i).blocks;
         page_size = W;
         records = (known.history i).records;
         room = (known.history i).room;
         unmovable = unmovable_new i;
-        marked = gathered (true_at (known.marked_same i)) 8;
-        handed_out = tabulated (order_of (known.handed_out_same i)) (length (known.handed_out_same i));
+        marked = gathered (true_at (known.rest_same i).marked) 8;
+        handed_out = tabulated (order_of (known.rest_same i).handed_out) (length (known.rest_same i).handed_out);
         contents = known.contents_same i;
         placement = placement_new i;
         migrate = (known.fingers_are i).migrate;
@@ -227,3 +223,7 @@ module _ {W : ℕ} (z changed : Inside W) (v : ZoneState) (page : ℕ) (old new 
         round = (known.history i).round;
       } in
       here ∙ ap (λ (u : ZoneState). record (relocated u entry page new) { migrate = migrate; free = free }) known.view
+
+  -- the zone is sound in the state that is seen of it then
+  pub settle_invariant : IsSound changed (state_of changed)
+  settle_invariant = subst (IsSound changed) (sym settle_view) settle_sound

@@ -23,7 +23,7 @@ use Rattle.zone_tables.proofs.Tables.{note_seen}
 
 pub sharing : {W : ℕ} (z : Inside W) (v : ZoneState) → IsSound z v → state_of z ≡ v → (client : ℕ) (address alias : Address) (page frame : ℕ) → CanShare v address alias page frame → (note : PageNote) (tables : Tables) (history : History) → slice_get z.notes page ≡ Some note → ChangesOnly z.tables.entries tables.entries alias (Present frame) → tables.frames ≡ z.tables.frames → history ≡ told z.history (Share client address alias) → Noting z v page (Share client address alias) note (record note { maps = note.maps + 1 }) z.frames tables history
 sharing z v sound view client address alias page frame can note tables history note_is changes frames_same history_is =
-    let before = (note_seen z v view sound page (not_none _ (At frame) can.at) note note_is).fits in
+    let before = (note_seen view sound (not_none _ (At frame) can.at) note_is).fits in
     let next = shared v client address alias in
     let spare = can.spare in
     record {

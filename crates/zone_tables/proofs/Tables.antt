@@ -90,9 +90,8 @@ if_placed : (a b : Bool) → a ≡ true → (a && b) ≡ b
 if_placed true b e = refl
 if_placed false b e = cc
 
-pub note_seen : {W : ℕ} (z : Inside W) (v : ZoneState) → state_of z ≡ v → IsSound z v → (page : ℕ) →
-    IsSome (map.get v.placement page) → (note : PageNote) → slice_get z.notes page ≡ Some note → Noted z v page note
-note_seen z v view sound page used note at =
+pub note_seen : {W : ℕ} {z : Inside W} {v : ZoneState} → state_of z ≡ v → IsSound z v → {page : ℕ} → IsSome (map.get v.placement page) → {note : PageNote} → slice_get z.notes page ≡ Some note → Noted z v page note
+note_seen {W} {z} {v} view sound {page} used {note} at =
     let placed : note.placement ≡ map.get v.placement page = sym (ap placement_in at) ∙ placement_seen z v view page in
     let some : is_some note.placement ≡ true = ap is_some placed ∙ used in
     record {

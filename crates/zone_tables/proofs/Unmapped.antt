@@ -61,7 +61,7 @@ module _ {W : ℕ} (z : Inside W) (v : ZoneState) (client : ℕ) (address : Addr
   pub unmapping_one : maps v.records page ≢ 1 → (note : PageNote) → slice_get z.notes page ≡ Some note → Noting z v page (Unmap client address) note (record note { maps = note.maps - 1 }) z.frames tables history
   unmapping_one more note note_is =
       let sound = known.sound in
-      let before = (note_seen z v known.view sound page (not_none _ (At frame) can.at) note note_is).fits in
+      let before = (note_seen known.view sound (not_none _ (At frame) can.at) note_is).fits in
       let spare = can.spare in
       record {
         sound = sound;

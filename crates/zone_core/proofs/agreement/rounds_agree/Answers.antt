@@ -1,4 +1,4 @@
-use Rattle.zone_core.proofs.Rounds.{by_hand_agrees}
+use Rattle.zone_core.proofs.RoundsKept.{by_hand_agrees}
 use Rattle.zone_core.proofs.agreement.rounds_agree.Goals as goal
 
 pub returns : goal.returns

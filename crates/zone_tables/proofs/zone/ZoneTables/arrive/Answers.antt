@@ -1,66 +1,48 @@
 use Rattle.std.proofs.Common.{◌≡◌, ◌∙◌, ◌+◌, ◌∷◌, ℕ, List, refl, ap, subst, sym, arith}
-use Rattle.std.specs.Prelude.{Some, is_some, length, nat_eq, slice_set, false}
-use Rattle.std.specs.FinMap as map
-use Rattle.std.proofs.lemmas.Bool.{eq-eqb, or_right}
+use Rattle.std.specs.Prelude.{Some, is_some, length, slice_set}
 use Rattle.frame_core.specs.declared.state.FrameState.TheVariants.{Free, Holds}
 use Rattle.frame_core.specs.declared.record.Record.TheVariants.{Moved}
 use Rattle.scan_core.specs.Frames.{Frames}
 use Rattle.state_core.specs.Pairs.{can_move}
+use Rattle.zone_tables.proofs.Facts.{is_sound}
 use Rattle.zone_tables.proofs.Tables.{placement_seen, words_seen, note_seen, movable_seen}
-use Rattle.zone_tables.proofs.ListedAddresses.{all_left, target_unnamed}
 use Rattle.zone_tables.specs.Fits.{MovesFit}
 use Rattle.zone_tables.specs.Moves.{Moves}
 use Rattle.zone_tables.proofs.HeldWords.{contents_kept}
-use Rattle.zone_tables.proofs.OutAndEnded.{some_out}
 use Rattle.zone_tables.specs.declared.zone.ZoneTables.TheInside.{Inside}
 use Rattle.state_core.specs.declared.placement.Placement.TheVariants.{At, Moving}
 use Rattle.state_core.specs.Carrying.{relocated}
 use Rattle.state_core.specs.Ending.{IsSettled, target_of, moved_to_target}
 use Rattle.zone_tables.specs.Contents.{contents_at}
-use Rattle.zone_tables.specs.Sound.{IsSound, state_of}
+use Rattle.zone_tables.specs.Sound.{state_of}
 use Rattle.zone_tables.specs.Tabulated.{tabulated}
-use Rattle.state_core.specs.Valid.{IsValidZone}
-use Rattle.state_core.specs.ZoneState.{ZoneState, takes_up, is_held}
+use Rattle.state_core.specs.ZoneState.{ZoneState}
 use Rattle.state_core.proofs.Facts.{not_none}
 use Rattle.state_core.proofs.Settled.{can_move_on, moved_recorded, frames_apart, source_within, target_in, swept_if_moved}
-use Rattle.zone_tables.proofs.MoveEnds.{moved_frames, moved_words, kept_movable, left_settled, still_on_way, source_on_way, target_on_way, moved_settled, some_on_the_way, ending_room}
+use Rattle.zone_tables.proofs.MoveEnds.{moved_frames, moved_words, kept_movable, left_settled, target_still, source_on_way, source_left, source_listed, target_left, target_listed, target_row, target_unheld, moved_settled, some_on_the_way, ending_room}
 use Rattle.zone_tables.proofs.Placement.{SourcesPlaced}
-use Rattle.zone_tables.proofs.Relocation.{Settling, FramesSettled, MovableSettled, WordsSettled, settle_sound, settle_view}
+use Rattle.zone_tables.proofs.Relocation.{Settling, FramesSettled, MovableSettled, WordsSettled, settle_invariant, settle_view}
 use Rattle.zone_tables.proofs.zone.ZoneTables.arrive.Given.{Over}
 use Rattle.zone_tables.proofs.zone.ZoneTables.arrive.Goals as goal
 use Rattle.zone_tables.proofs.zone.ZoneTables.arrive.Goals.{After-note}
 
 pub arrive-requires : goal.arrive-requires
-arrive-requires g c =
-    let sound : IsSound c.self.inside c.args.self.now = subst (IsSound c.self.inside) c.self.view_is c.self.invariant in
-    some_out c.self.inside.moves c.args.self.now.records sound.moves sound.valid.journal.well_ended
-    (some_on_the_way c.args.self.now c.args.way.now.page c.args.way.now.serial c.args.way.now.source c.args.way.now.target sound.valid c.requires.placed)
+arrive-requires g c = some_on_the_way c.self.view_is c.self.invariant c.args.way.now.page c.requires.placed
 
 pub leave-requires : goal.leave-requires
-leave-requires g c =
-    let sound : IsSound c.self.inside c.args.self.now = subst (IsSound c.self.inside) c.self.view_is c.self.invariant in
-    source_on_way c.args.self.now c.args.way.now.page c.args.way.now.serial c.args.way.now.source c.args.way.now.target sound.valid c.requires.placed c.self.inside.frames.states sound.frames
+leave-requires g c = source_on_way c.self.view_is c.self.invariant c.args.way.now.page c.requires.placed
 
 pub settle-requires : goal.settle-requires
-settle-requires g c =
-    let sound : IsSound c.self.inside c.args.self.now = subst (IsSound c.self.inside) c.self.view_is c.self.invariant in
-    still_on_way c.self.inside.frames c.leave.new.self c.args.way.now.target c.args.way.now.source (λ e. frames_apart c.args.self.now c.args.way.now.page c.args.way.now.serial c.args.way.now.source c.args.way.now.target sound.valid c.requires.placed (sym e)) c.leave.ensures.state
-    (target_on_way c.args.self.now c.args.way.now.page c.args.way.now.serial c.args.way.now.source c.args.way.now.target sound.valid c.requires.placed c.self.inside.frames.states sound.frames)
+settle-requires g c = target_still c.self.view_is c.self.invariant c.args.way.now.page c.requires.placed c.leave.new.self c.leave.ensures.state
 
 pub write_in-requires : goal.write_in-requires
-write_in-requires g c =
-    let sound : IsSound c.self.inside c.args.self.now = subst (IsSound c.self.inside) c.self.view_is c.self.invariant in
-    let within = target_in c.args.self.now c.args.way.now.page c.args.way.now.serial c.args.way.now.source c.args.way.now.target sound.valid c.requires.placed in
-    omega (arith, within, sound.words.count)
+write_in-requires g c = omega (arith, target_row c.self.view_is c.self.invariant c.args.way.now.page c.requires.placed)
 
 pub place-requires : goal.place-requires
 place-requires g c = ap is_some (placement_seen c.self.inside c.args.self.now c.self.view_is c.args.way.now.page ∙ c.requires.placed)
 
 pub note-requires : goal.note-requires
-note-requires g c =
-    let sound : IsSound c.self.inside c.args.self.now = subst (IsSound c.self.inside) c.self.view_is c.self.invariant in
-    let room = ending_room c.args.self.now c.args.way.now.page c.args.way.now.serial c.args.way.now.source c.args.way.now.target sound.valid c.requires.placed in
-    omega (arith, room, ap (λ (v : ZoneState). v.room) c.self.view_is)
+note-requires g c = ending_room c.self.view_is c.self.invariant c.args.way.now.page c.requires.placed
 
 -- the fields after the call
 abbrev after : {g : Over} → After-note g → Inside g.row.W
@@ -76,16 +58,12 @@ after c = record c.self.inside {
 frames_are : {g : Over} (c : After-note g) → c.settle.new.self ≡ record { states = slice_set (slice_set c.self.inside.frames.states c.args.way.now.source Free) c.args.way.now.target (Holds c.args.way.now.page); movable = slice_set c.self.inside.frames.movable c.args.way.now.target c.can_move.result }
 frames_are c = left_settled c.self.inside.frames c.leave.new.self c.settle.new.self _ _ _ _ c.leave.ensures.state c.settle.ensures.page
 
-target_unheld : (v : ZoneState) (page serial source target : ℕ) → IsValidZone v → map.get v.placement page ≡ Some (Moving serial source target) → is_held v target ≡ false
-target_unheld v page serial source target law at =
-    law.pages.clear page target (ap (λ o. takes_up o target) at ∙ or_right (nat_eq target source) (nat_eq target target) (eq-eqb target target refl))
-
 settling : {g : Over} (c : After-note g) → Settling c.self.inside (after c) c.args.self.now c.args.way.now.page (Moving c.args.way.now.serial c.args.way.now.source c.args.way.now.target) (At c.args.way.now.target) (Moved c.args.way.now.serial) c.get-note.result c.args.self.now.migrate c.args.self.now.free
 settling {g = g} c =
     let z = c.self.inside in
     let v = c.args.self.now in
     let way = c.args.way.now in
-    let sound : IsSound z v = subst (IsSound z) c.self.view_is c.self.invariant in
+    let sound = is_sound c.self.view_is c.self.invariant in
     let law = sound.valid in
     let at = c.requires.placed in
     let source_in = source_within v way.page way.serial way.source way.target law at in
@@ -95,13 +73,13 @@ settling {g = g} c =
       view = c.self.view_is;
       can = can_move_on v way.page way.serial way.source way.target law at;
       recorded = moved_recorded v way.page way.serial way.source way.target law at c.requires.unpinned;
-      spare = ending_room v way.page way.serial way.source way.target law at;
+      spare = omega (arith, ending_room c.self.view_is c.self.invariant c.args.way.now.page c.requires.placed, ap (λ (u : ZoneState). u.room) c.self.view_is);
       note_is = c.get-note.ensures;
       frames = subst (λ (fs : Frames). FramesSettled z.frames.states fs.states way.page (Moving way.serial way.source way.target) (At way.target)) (sym (frames_are c))
           (moved_frames z.frames.states way.page way.serial way.source way.target (frames_apart v way.page way.serial way.source way.target law at) (omega (arith, source_in, sound.frames.count)) (omega (arith, target_here, sound.frames.count)));
       movable = subst (λ (fs : Frames). MovableSettled z.frames.movable fs.movable (can_move v way.page) (At way.target)) (sym (frames_are c))
           (kept_movable z.frames.movable (can_move v way.page) c.can_move.result way.target (omega (arith, target_here, sound.movable.count))
-          (c.can_move.ensures ∙ movable_seen z v way.page c.get-note.result (note_seen z v c.self.view_is sound way.page (not_none _ (Moving way.serial way.source way.target) at) c.get-note.result c.get-note.ensures)));
+          (c.can_move.ensures ∙ movable_seen z v way.page c.get-note.result (note_seen c.self.view_is sound (not_none _ (Moving way.serial way.source way.target) at) c.get-note.ensures)));
       tables = c.to_present.ensures.replaced;
       words = subst (λ (rows : List (List ℕ)). WordsSettled v.page_size z.words rows (Moving way.serial way.source way.target) (At way.target)) (sym c.write_in.ensures.written)
           (moved_words z.words c.args.copy.now.words way.serial way.source way.target (omega (arith, target_here, sound.words.count)) (c.requires.words ∙ sym (words_seen z.words v sound.words law way.page (Moving way.serial way.source way.target) at)) (c.write_in.ensures.size ∙ ap (λ (u : ZoneState). u.page_size) c.self.view_is));
@@ -114,24 +92,18 @@ settling {g = g} c =
       swept = swept_if_moved v way.page way.serial way.source way.target law at;
       history = c.note.ensures;
       frames_same = c.to_present.ensures.frames;
-      number_same = refl;
-      blocks_same = refl;
-      marked_same = refl;
-      handed_out_same = refl;
-      cleared_same = refl;
+      rest_same = refl;
       contents_same = ap (λ (rows : List (List ℕ)). tabulated (contents_at g.row.W rows z.cleared z.handed_out) (length z.handed_out)) c.write_in.ensures.written
-          ∙ contents_kept z v sound c.self.view_is way.target c.args.copy.now.words (target_unheld v way.page way.serial way.source way.target law at);
+          ∙ contents_kept z v sound c.self.view_is way.target c.args.copy.now.words (target_unheld c.self.view_is c.self.invariant c.args.way.now.page c.requires.placed);
     }
 
 view : {g : Over} (c : After-note g) → state_of (after c) ≡ moved_to_target c.args.self.now c.args.way.now.serial c.args.way.now.page
 view c =
-    settle_view c.self.inside (after c) c.args.self.now c.args.way.now.page _ _ _ _ _ _ (settling c)
+    settle_view (settling c)
     ∙ ap (λ (frame : ℕ). relocated c.args.self.now (Moved c.args.way.now.serial) c.args.way.now.page (At frame)) (sym (ap target_of c.requires.placed))
 
 pub invariant_of-self : goal.invariant_of-self
-invariant_of-self g c =
-    subst (IsSound (after c)) (sym (settle_view c.self.inside (after c) c.args.self.now c.args.way.now.page _ _ _ _ _ _ (settling c)))
-    (settle_sound c.self.inside (after c) c.args.self.now c.args.way.now.page _ _ _ _ _ _ (settling c))
+invariant_of-self g c = settle_invariant (settling c)
 
 pub returns-clause-step : goal.returns-clause-step
 returns-clause-step g c = view c
@@ -140,31 +112,20 @@ pub returns-clause-settled : goal.returns-clause-settled
 returns-clause-settled g c =
     let way = c.args.way.now in
     let v = c.args.self.now in
-    let sound : IsSound c.self.inside v = subst (IsSound c.self.inside) c.self.view_is c.self.invariant in
-    subst (λ (u : ZoneState). IsSettled v u way.page way.target way.source) (sym (settle_view c.self.inside (after c) v way.page _ _ _ _ _ _ (settling c)))
-    (moved_settled v way.page way.serial way.source way.target sound.valid c.requires.placed)
+    subst (λ (u : ZoneState). IsSettled v u way.page way.target way.source) (sym (settle_view (settling c)))
+    (moved_settled c.self.view_is c.self.invariant c.args.way.now.page c.requires.placed)
 
 pub returns-clause-valid : goal.returns-clause-valid
 returns-clause-valid g c = (invariant_of-self g c).valid
 
 pub to_present-requires-clause-source_within : goal.to_present-requires-clause-source_within
-to_present-requires-clause-source_within g c =
-    let sound : IsSound c.self.inside c.args.self.now = subst (IsSound c.self.inside) c.self.view_is c.self.invariant in
-    let within = source_within c.args.self.now c.args.way.now.page c.args.way.now.serial c.args.way.now.source c.args.way.now.target sound.valid c.requires.placed in
-    omega (arith, within, sound.tables)
+to_present-requires-clause-source_within g c = source_listed c.self.view_is c.self.invariant c.args.way.now.page c.requires.placed
 
 pub to_present-requires-clause-within : goal.to_present-requires-clause-within
-to_present-requires-clause-within g c =
-    let sound : IsSound c.self.inside c.args.self.now = subst (IsSound c.self.inside) c.self.view_is c.self.invariant in
-    let within = target_in c.args.self.now c.args.way.now.page c.args.way.now.serial c.args.way.now.source c.args.way.now.target sound.valid c.requires.placed in
-    omega (arith, within, sound.tables)
+to_present-requires-clause-within g c = target_listed c.self.view_is c.self.invariant c.args.way.now.page c.requires.placed
 
 pub to_present-requires-clause-left : goal.to_present-requires-clause-left
-to_present-requires-clause-left g c =
-    let sound : IsSound c.self.inside c.args.self.now = subst (IsSound c.self.inside) c.self.view_is c.self.invariant in
-    all_left c.self.inside.tables.entries c.args.self.now sound.entries sound.valid c.args.way.now.page c.args.way.now.serial c.args.way.now.source c.args.way.now.target c.requires.placed
+to_present-requires-clause-left g c = source_left c.self.view_is c.self.invariant c.args.way.now.page c.requires.placed
 
 pub to_present-requires-clause-unnamed : goal.to_present-requires-clause-unnamed
-to_present-requires-clause-unnamed g c =
-    let sound : IsSound c.self.inside c.args.self.now = subst (IsSound c.self.inside) c.self.view_is c.self.invariant in
-    target_unnamed c.self.inside.tables.entries c.args.self.now sound.entries sound.valid c.args.way.now.page c.args.way.now.serial c.args.way.now.source c.args.way.now.target c.requires.placed
+to_present-requires-clause-unnamed g c = target_left c.self.view_is c.self.invariant c.args.way.now.page c.requires.placed

@@ -1,4 +1,4 @@
-use Rattle.std.proofs.Common.{◌≡◌, ℕ, suc, ◌+◌, ◌<◌, ◌≤◌, true, length, inl, inr, not, cond, sym, ap, subst, ◌∙◌, arith, Some, OnOk}
+use Rattle.std.proofs.Common.{◌≡◌, ℕ, suc, ◌+◌, ◌<◌, ◌≤◌, true, length, inl, inr, not, cond, sym, ap, ◌∙◌, arith, Some, OnOk}
 use Rattle.std.specs.Prelude.{Result, Ok, Err}
 use Rattle.std.proofs.lemmas.Bool.Decides.{leb_tells}
 use Rattle.frame_core.specs.declared.place.Address.{Address}
@@ -9,6 +9,7 @@ use Rattle.state_core.specs.Bulk.{bulk_refusal, has_room_for}
 use Rattle.state_core.specs.ZoneState.{ZoneState, placement_at}
 use Rattle.zone_tables.specs.declared.zone.ZoneTables.TheInside.{Inside}
 use Rattle.zone_tables.specs.Sound.{IsSound, state_of}
+use Rattle.zone_tables.proofs.Facts.{is_sound}
 use Rattle.zone_tables.proofs.OutAndEnded.{out_is}
 use Rattle.zone_tables.proofs.zone.ZoneTables.bulk_frame.Goals as goal
 
@@ -21,7 +22,7 @@ record Places (W : ℕ) (v : ZoneState) (left out_now : ℕ) : Type 0 where
 
 places : {W : ℕ} (z : Inside W) (v : ZoneState) → state_of z ≡ v → IsSound z (state_of z) → (left out_now : ℕ) → left ≡ z.history.room → out_now + z.moves.moved + z.moves.back ≡ z.moves.isolated → Places W v left out_now
 places z v view invariant left out_now is counted =
-    let sound : IsSound z v = subst (IsSound z) view invariant in
+    let sound = is_sound view invariant in
     record {
       left_is = is ∙ ap (λ (u : ZoneState). u.room) view;
       out_is = out_is z.moves v.records sound.moves sound.valid.journal.well_ended out_now counted;

@@ -1,8 +1,8 @@
-use Rattle.std.proofs.Common.{◌≡◌, ◌∙◌, ℕ, ◌<◌, subst, sym}
+use Rattle.std.proofs.Common.{◌≡◌, ◌∙◌, ℕ, ◌<◌, sym}
 use Rattle.std.specs.Prelude.{Option, Some, None, IfSome, IsTrue}
 use Rattle.frame_core.proofs.Searches.{lowest_some}
 use Rattle.state_core.specs.ZoneState.{ZoneState, is_free, frame_count, lowest_free_frame}
-use Rattle.zone_tables.specs.Sound.{IsSound}
+use Rattle.zone_tables.proofs.Facts.{is_sound}
 use Rattle.zone_tables.proofs.SearchesAndCounts.{lowest_free_seen}
 use Rattle.zone_tables.proofs.zone.ZoneTables.find_free.Goals as goal
 
@@ -16,15 +16,12 @@ within_if v (Some frame) e = (lowest_some (is_free v) (frame_count v) frame (sym
 
 pub returns-clause-lowest : goal.returns-clause-lowest
 returns-clause-lowest g c =
-    let sound : IsSound c.self.inside c.args.self.now = subst (IsSound c.self.inside) c.self.view_is c.self.invariant in
-    c.lowest_free.ensures.lowest ∙ lowest_free_seen c.self.inside.frames.states c.args.self.now sound.frames
+    c.lowest_free.ensures.lowest ∙ lowest_free_seen c.self.inside.frames.states c.args.self.now (is_sound c.self.view_is c.self.invariant).frames
 
 pub returns-clause-free : goal.returns-clause-free
 returns-clause-free g c =
-    let sound : IsSound c.self.inside c.args.self.now = subst (IsSound c.self.inside) c.self.view_is c.self.invariant in
-    free_if c.args.self.now c.lowest_free.result (c.lowest_free.ensures.lowest ∙ lowest_free_seen c.self.inside.frames.states c.args.self.now sound.frames)
+    free_if c.args.self.now c.lowest_free.result (c.lowest_free.ensures.lowest ∙ lowest_free_seen c.self.inside.frames.states c.args.self.now (is_sound c.self.view_is c.self.invariant).frames)
 
 pub returns-clause-within : goal.returns-clause-within
 returns-clause-within g c =
-    let sound : IsSound c.self.inside c.args.self.now = subst (IsSound c.self.inside) c.self.view_is c.self.invariant in
-    within_if c.args.self.now c.lowest_free.result (c.lowest_free.ensures.lowest ∙ lowest_free_seen c.self.inside.frames.states c.args.self.now sound.frames)
+    within_if c.args.self.now c.lowest_free.result (c.lowest_free.ensures.lowest ∙ lowest_free_seen c.self.inside.frames.states c.args.self.now (is_sound c.self.view_is c.self.invariant).frames)

@@ -4,51 +4,39 @@ use Rattle.frame_core.specs.declared.state.FrameState.TheVariants.{Free, Holds}
 use Rattle.frame_core.specs.declared.record.Record.TheVariants.{Back}
 use Rattle.scan_core.specs.Frames.{Frames}
 use Rattle.state_core.specs.Pairs.{can_move}
+use Rattle.zone_tables.proofs.Facts.{is_sound}
 use Rattle.zone_tables.proofs.Tables.{placement_seen, note_seen, movable_seen}
-use Rattle.zone_tables.proofs.ListedAddresses.{all_left}
 use Rattle.zone_tables.specs.Fits.{MovesFit}
 use Rattle.zone_tables.specs.Moves.{Moves}
-use Rattle.zone_tables.proofs.OutAndEnded.{some_out}
 use Rattle.zone_tables.specs.declared.zone.ZoneTables.TheInside.{Inside}
 use Rattle.state_core.specs.declared.placement.Placement.TheVariants.{At, Moving}
 use Rattle.state_core.specs.Carrying.{relocated}
 use Rattle.state_core.specs.Ending.{IsSettled, source_of, put_back_to_source}
-use Rattle.zone_tables.specs.Sound.{IsSound, state_of}
+use Rattle.zone_tables.specs.Sound.{state_of}
 use Rattle.state_core.specs.ZoneState.{ZoneState}
 use Rattle.state_core.proofs.Facts.{not_none}
 use Rattle.state_core.proofs.Settled.{can_go_back, back_recorded, frames_apart, source_within, target_in, swept_if_put_back}
-use Rattle.zone_tables.proofs.MoveEnds.{back_frames, back_words, kept_movable, left_settled, still_on_way, source_on_way, target_on_way, back_settled, some_on_the_way, ending_room}
+use Rattle.zone_tables.proofs.MoveEnds.{back_frames, back_words, kept_movable, left_settled, source_still, target_on_way, source_left, source_listed, back_settled, some_on_the_way, ending_room}
 use Rattle.zone_tables.proofs.Placement.{SourcesPlaced}
-use Rattle.zone_tables.proofs.Relocation.{Settling, FramesSettled, MovableSettled, settle_sound, settle_view}
+use Rattle.zone_tables.proofs.Relocation.{Settling, FramesSettled, MovableSettled, settle_invariant, settle_view}
 use Rattle.zone_tables.proofs.zone.ZoneTables.go_back.Given.{Over}
 use Rattle.zone_tables.proofs.zone.ZoneTables.go_back.Goals as goal
 use Rattle.zone_tables.proofs.zone.ZoneTables.go_back.Goals.{After-note}
 
 pub go_back-requires : goal.go_back-requires
-go_back-requires g c =
-    let sound : IsSound c.self.inside c.args.self.now = subst (IsSound c.self.inside) c.self.view_is c.self.invariant in
-    some_out c.self.inside.moves c.args.self.now.records sound.moves sound.valid.journal.well_ended
-    (some_on_the_way c.args.self.now c.args.way.now.page c.args.way.now.serial c.args.way.now.source c.args.way.now.target sound.valid c.requires.placed)
+go_back-requires g c = some_on_the_way c.self.view_is c.self.invariant c.args.way.now.page c.requires.placed
 
 pub leave-requires : goal.leave-requires
-leave-requires g c =
-    let sound : IsSound c.self.inside c.args.self.now = subst (IsSound c.self.inside) c.self.view_is c.self.invariant in
-    target_on_way c.args.self.now c.args.way.now.page c.args.way.now.serial c.args.way.now.source c.args.way.now.target sound.valid c.requires.placed c.self.inside.frames.states sound.frames
+leave-requires g c = target_on_way c.self.view_is c.self.invariant c.args.way.now.page c.requires.placed
 
 pub settle-requires : goal.settle-requires
-settle-requires g c =
-    let sound : IsSound c.self.inside c.args.self.now = subst (IsSound c.self.inside) c.self.view_is c.self.invariant in
-    still_on_way c.self.inside.frames c.leave.new.self c.args.way.now.source c.args.way.now.target (frames_apart c.args.self.now c.args.way.now.page c.args.way.now.serial c.args.way.now.source c.args.way.now.target sound.valid c.requires.placed) c.leave.ensures.state
-    (source_on_way c.args.self.now c.args.way.now.page c.args.way.now.serial c.args.way.now.source c.args.way.now.target sound.valid c.requires.placed c.self.inside.frames.states sound.frames)
+settle-requires g c = source_still c.self.view_is c.self.invariant c.args.way.now.page c.requires.placed c.leave.new.self c.leave.ensures.state
 
 pub place-requires : goal.place-requires
 place-requires g c = ap is_some (placement_seen c.self.inside c.args.self.now c.self.view_is c.args.way.now.page ∙ c.requires.placed)
 
 pub note-requires : goal.note-requires
-note-requires g c =
-    let sound : IsSound c.self.inside c.args.self.now = subst (IsSound c.self.inside) c.self.view_is c.self.invariant in
-    let room = ending_room c.args.self.now c.args.way.now.page c.args.way.now.serial c.args.way.now.source c.args.way.now.target sound.valid c.requires.placed in
-    omega (arith, room, ap (λ (v : ZoneState). v.room) c.self.view_is)
+note-requires g c = ending_room c.self.view_is c.self.invariant c.args.way.now.page c.requires.placed
 
 -- the fields after the call
 abbrev after : {g : Over} → After-note g → Inside g.row.W
@@ -68,7 +56,7 @@ settling c =
     let z = c.self.inside in
     let v = c.args.self.now in
     let way = c.args.way.now in
-    let sound : IsSound z v = subst (IsSound z) c.self.view_is c.self.invariant in
+    let sound = is_sound c.self.view_is c.self.invariant in
     let law = sound.valid in
     let at = c.requires.placed in
     let source_in = source_within v way.page way.serial way.source way.target law at in
@@ -78,13 +66,13 @@ settling c =
       view = c.self.view_is;
       can = can_go_back v way.page way.serial way.source way.target law at;
       recorded = back_recorded v way.page way.serial way.source way.target law at c.args.cause c.requires.cause;
-      spare = ending_room v way.page way.serial way.source way.target law at;
+      spare = omega (arith, ending_room c.self.view_is c.self.invariant c.args.way.now.page c.requires.placed, ap (λ (u : ZoneState). u.room) c.self.view_is);
       note_is = c.get-note.ensures;
       frames = subst (λ (fs : Frames). FramesSettled z.frames.states fs.states way.page (Moving way.serial way.source way.target) (At way.source)) (sym (frames_are c))
           (back_frames z.frames.states way.page way.serial way.source way.target (frames_apart v way.page way.serial way.source way.target law at) (omega (arith, source_in, sound.frames.count)) (omega (arith, target_here, sound.frames.count)));
       movable = subst (λ (fs : Frames). MovableSettled z.frames.movable fs.movable (can_move v way.page) (At way.source)) (sym (frames_are c))
           (kept_movable z.frames.movable (can_move v way.page) c.can_move.result way.source (omega (arith, source_in, sound.movable.count))
-          (c.can_move.ensures ∙ movable_seen z v way.page c.get-note.result (note_seen z v c.self.view_is sound way.page (not_none _ (Moving way.serial way.source way.target) at) c.get-note.result c.get-note.ensures)));
+          (c.can_move.ensures ∙ movable_seen z v way.page c.get-note.result (note_seen c.self.view_is sound (not_none _ (Moving way.serial way.source way.target) at) c.get-note.ensures)));
       tables = c.to_present.ensures.replaced;
       words = back_words z.words v sound.words way.serial way.source way.target source_in;
       notes = c.place.ensures c.get-note.result c.get-note.ensures;
@@ -96,23 +84,17 @@ settling c =
       swept = swept_if_put_back v way.page way.serial way.source way.target law at c.args.cause;
       history = c.note.ensures;
       frames_same = c.to_present.ensures.frames;
-      number_same = refl;
-      blocks_same = refl;
-      marked_same = refl;
-      handed_out_same = refl;
-      cleared_same = refl;
+      rest_same = refl;
       contents_same = refl;
     }
 
 view : {g : Over} (c : After-note g) → state_of (after c) ≡ put_back_to_source c.args.self.now c.args.way.now.serial c.args.way.now.page c.args.cause
 view c =
-    settle_view c.self.inside (after c) c.args.self.now c.args.way.now.page _ _ _ _ _ _ (settling c)
+    settle_view (settling c)
     ∙ ap (λ (frame : ℕ). relocated c.args.self.now (Back c.args.way.now.serial c.args.cause) c.args.way.now.page (At frame)) (sym (ap source_of c.requires.placed))
 
 pub invariant_of-self : goal.invariant_of-self
-invariant_of-self g c =
-    subst (IsSound (after c)) (sym (settle_view c.self.inside (after c) c.args.self.now c.args.way.now.page _ _ _ _ _ _ (settling c)))
-    (settle_sound c.self.inside (after c) c.args.self.now c.args.way.now.page _ _ _ _ _ _ (settling c))
+invariant_of-self g c = settle_invariant (settling c)
 
 pub returns-clause-step : goal.returns-clause-step
 returns-clause-step g c = view c
@@ -121,26 +103,17 @@ pub returns-clause-settled : goal.returns-clause-settled
 returns-clause-settled g c =
     let way = c.args.way.now in
     let v = c.args.self.now in
-    let sound : IsSound c.self.inside v = subst (IsSound c.self.inside) c.self.view_is c.self.invariant in
-    subst (λ (u : ZoneState). IsSettled v u way.page way.source way.target) (sym (settle_view c.self.inside (after c) v way.page _ _ _ _ _ _ (settling c)))
-    (back_settled v way.page way.serial way.source way.target sound.valid c.requires.placed c.args.cause)
+    subst (λ (u : ZoneState). IsSettled v u way.page way.source way.target) (sym (settle_view (settling c)))
+    (back_settled c.self.view_is c.self.invariant c.args.way.now.page c.requires.placed c.args.cause)
 
 pub returns-clause-valid : goal.returns-clause-valid
 returns-clause-valid g c = (invariant_of-self g c).valid
 
 pub to_present-requires-clause-source_within : goal.to_present-requires-clause-source_within
-to_present-requires-clause-source_within g c =
-    let sound : IsSound c.self.inside c.args.self.now = subst (IsSound c.self.inside) c.self.view_is c.self.invariant in
-    let within = source_within c.args.self.now c.args.way.now.page c.args.way.now.serial c.args.way.now.source c.args.way.now.target sound.valid c.requires.placed in
-    omega (arith, within, sound.tables)
+to_present-requires-clause-source_within g c = source_listed c.self.view_is c.self.invariant c.args.way.now.page c.requires.placed
 
 pub to_present-requires-clause-within : goal.to_present-requires-clause-within
-to_present-requires-clause-within g c =
-    let sound : IsSound c.self.inside c.args.self.now = subst (IsSound c.self.inside) c.self.view_is c.self.invariant in
-    let within = source_within c.args.self.now c.args.way.now.page c.args.way.now.serial c.args.way.now.source c.args.way.now.target sound.valid c.requires.placed in
-    omega (arith, within, sound.tables)
+to_present-requires-clause-within g c = source_listed c.self.view_is c.self.invariant c.args.way.now.page c.requires.placed
 
 pub to_present-requires-clause-left : goal.to_present-requires-clause-left
-to_present-requires-clause-left g c =
-    let sound : IsSound c.self.inside c.args.self.now = subst (IsSound c.self.inside) c.self.view_is c.self.invariant in
-    all_left c.self.inside.tables.entries c.args.self.now sound.entries sound.valid c.args.way.now.page c.args.way.now.serial c.args.way.now.source c.args.way.now.target c.requires.placed
+to_present-requires-clause-left g c = source_left c.self.view_is c.self.invariant c.args.way.now.page c.requires.placed

@@ -7,6 +7,7 @@ use Rattle.state_core.specs.HandingOut.{block_taken}
 use Rattle.state_core.proofs.Facts.{spare}
 use Rattle.zone_tables.specs.declared.zone.ZoneTables.TheInside.{Inside}
 use Rattle.zone_tables.specs.Sound.{IsSound, state_of}
+use Rattle.zone_tables.proofs.Facts.{is_sound}
 use Rattle.zone_tables.proofs.BlockFrames as blocks
 use Rattle.zone_tables.proofs.zone.ZoneTables.hand_out.Given.{Over}
 use Rattle.zone_tables.proofs.zone.ZoneTables.hand_out.Goals as goal
@@ -14,13 +15,11 @@ use Rattle.zone_tables.proofs.zone.ZoneTables.hand_out.Goals.{After-note}
 
 pub hold-requires : goal.hold-requires
 hold-requires g c =
-    let sound : IsSound c.self.inside c.args.self.now = subst (IsSound c.self.inside) c.self.view_is c.self.invariant in
-    blocks.run_seen c.self.inside.frames.states c.args.self.now sound.frames c.args.order c.args.first ∙ c.requires.run
+    blocks.run_seen c.self.inside.frames.states c.args.self.now (is_sound c.self.view_is c.self.invariant).frames c.args.order c.args.first ∙ c.requires.run
 
 pub take-requires-clause-clear : goal.take-requires-clause-clear
 take-requires-clause-clear g c =
-    let sound : IsSound c.self.inside c.args.self.now = subst (IsSound c.self.inside) c.self.view_is c.self.invariant in
-    blocks.take_clear c.self.inside c.args.self.now sound c.self.view_is c.args.first c.args.order c.requires.run
+    blocks.take_clear c.self.inside c.args.self.now (is_sound c.self.view_is c.self.invariant) c.self.view_is c.args.first c.args.order c.requires.run
 
 -- the fields after the call, given its frames and its list of blocks
 abbrev after : {g : Over} → After-note g → Frames → List (Option ℕ) → List Bool → Inside g.row.W
@@ -31,15 +30,13 @@ same c = λ i. after c (c.hold.ensures i) (c.take.ensures.set i) (c.hand_out.ens
 
 view : {g : Over} (c : After-note g) → state_of (after c (record c.self.inside.frames { states = with_run c.self.inside.frames.states c.args.first (2 ^ c.args.order) Huge }) (slice_set c.self.inside.handed_out c.args.first (Some c.args.order)) (slice_set c.self.inside.cleared c.args.first false)) ≡ block_taken c.args.self.now c.args.first c.args.order
 view c =
-    let sound : IsSound c.self.inside c.args.self.now = subst (IsSound c.self.inside) c.self.view_is c.self.invariant in
-    blocks.take_view c.self.inside c.args.self.now sound c.self.view_is c.args.first c.args.order c.requires.run c.note.new.self c.note.ensures
+    blocks.take_view c.self.inside c.args.self.now (is_sound c.self.view_is c.self.invariant) c.self.view_is c.args.first c.args.order c.requires.run c.note.new.self c.note.ensures
 
 pub invariant_of-self : goal.invariant_of-self
 invariant_of-self g c =
     let S : Inside g.row.W → Type 0 = λ z. IsSound z (state_of z) in
-    let sound : IsSound c.self.inside c.args.self.now = subst (IsSound c.self.inside) c.self.view_is c.self.invariant in
     let ideal = after c (record c.self.inside.frames { states = with_run c.self.inside.frames.states c.args.first (2 ^ c.args.order) Huge }) (slice_set c.self.inside.handed_out c.args.first (Some c.args.order)) (slice_set c.self.inside.cleared c.args.first false) in
-    subst S (sym (same c)) (subst (IsSound ideal) (sym (view c)) (blocks.take_sound c.self.inside c.args.self.now sound c.self.view_is c.args.first c.args.order c.requires.run (spare c.args.self.now c.requires.room) c.take.ensures.low c.take.ensures.high c.note.new.self))
+    subst S (sym (same c)) (subst (IsSound ideal) (sym (view c)) (blocks.take_sound c.self.inside c.args.self.now (is_sound c.self.view_is c.self.invariant) c.self.view_is c.args.first c.args.order c.requires.run (spare c.args.self.now c.requires.room) c.take.ensures.low c.take.ensures.high c.note.new.self))
 
 pub returns-clause-step : goal.returns-clause-step
 returns-clause-step g c = ap state_of (same c) ∙ view c

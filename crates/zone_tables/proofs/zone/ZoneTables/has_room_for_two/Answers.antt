@@ -1,18 +1,18 @@
-use Rattle.std.proofs.Common.{◌∙◌, ◌+◌, ap, subst, arith}
+use Rattle.std.proofs.Common.{◌∙◌, ◌+◌, ap, arith}
 use Rattle.std.specs.Prelude.{nat_lt}
 use Rattle.state_core.specs.ZoneState.{ZoneState}
-use Rattle.zone_tables.specs.Sound.{IsSound}
+use Rattle.zone_tables.proofs.Facts.{is_sound}
 use Rattle.zone_tables.proofs.OutAndEnded.{out_is}
 use Rattle.zone_tables.proofs.zone.ZoneTables.has_room_for_two.Goals as goal
 
 pub overflow_add-result : goal.overflow_add-result
 overflow_add-result g c =
-    let sound : IsSound c.self.inside c.args.self.now = subst (IsSound c.self.inside) c.self.view_is c.self.invariant in
+    let sound = is_sound c.self.view_is c.self.invariant in
     omega (arith, out_is c.self.inside.moves c.args.self.now.records sound.moves sound.valid.journal.well_ended c.out.result c.out.ensures, sound.valid.sum, sound.valid.size.1)
 
 pub returns : goal.returns
 returns g c =
-    let sound : IsSound c.self.inside c.args.self.now = subst (IsSound c.self.inside) c.self.view_is c.self.invariant in
+    let sound = is_sound c.self.view_is c.self.invariant in
     let out = c.from.ensures ∙ out_is c.self.inside.moves c.args.self.now.records sound.moves sound.valid.journal.well_ended c.out.result c.out.ensures in
     let room = c.room.ensures ∙ ap (λ (v : ZoneState). v.room) c.self.view_is in
     λ i. nat_lt (out i + 1) (room i)

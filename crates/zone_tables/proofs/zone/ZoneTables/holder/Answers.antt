@@ -1,29 +1,26 @@
-use Rattle.std.proofs.Common.{subst, sym, arith}
-use Rattle.zone_tables.specs.Sound.{IsSound}
+use Rattle.std.proofs.Common.{sym, arith}
+use Rattle.zone_tables.proofs.Facts.{is_sound}
 use Rattle.zone_tables.proofs.Tables.{holds_seen, none_seen}
 use Rattle.state_core.proofs.Holding.{holder_at}
 use Rattle.zone_tables.proofs.zone.ZoneTables.holder.Goals as goal
 
 pub state-requires : goal.state-requires
 state-requires g c =
-    let sound : IsSound c.self.inside c.args.self.now = subst (IsSound c.self.inside) c.self.view_is c.self.invariant in
-    omega (arith, c.requires, sound.frames.count)
+    omega (arith, c.requires, (is_sound c.self.view_is c.self.invariant).frames.count)
 
 pub returns-in-Holds-clause-holder : goal.returns-in-Holds-clause-holder
 returns-in-Holds-clause-holder g c =
-    let sound : IsSound c.self.inside c.args.self.now = subst (IsSound c.self.inside) c.self.view_is c.self.invariant in
+    let sound = is_sound c.self.view_is c.self.invariant in
     sym (holder_at c.args.self.now sound.valid c.in-Holds.page c.args.frame
     (holds_seen c.self.inside.frames.states c.args.self.now sound.frames c.args.frame c.in-Holds.page c.state.result c.requires c.state.ensures c.in-Holds.is))
 
 pub returns-in-Holds-clause-here : goal.returns-in-Holds-clause-here
 returns-in-Holds-clause-here g c =
-    let sound : IsSound c.self.inside c.args.self.now = subst (IsSound c.self.inside) c.self.view_is c.self.invariant in
-    holds_seen c.self.inside.frames.states c.args.self.now sound.frames c.args.frame c.in-Holds.page c.state.result c.requires c.state.ensures c.in-Holds.is
+    holds_seen c.self.inside.frames.states c.args.self.now (is_sound c.self.view_is c.self.invariant).frames c.args.frame c.in-Holds.page c.state.result c.requires c.state.ensures c.in-Holds.is
 
 pub returns-in_default : goal.returns-in_default
 returns-in_default g c =
-    let sound : IsSound c.self.inside c.args.self.now = subst (IsSound c.self.inside) c.self.view_is c.self.invariant in
     record {
-      holder = sym (none_seen c.self.inside.frames.states c.args.self.now sound.frames c.args.frame c.state.result c.state.ensures c.in_default.not-Holds);
+      holder = sym (none_seen c.self.inside.frames.states c.args.self.now (is_sound c.self.view_is c.self.invariant).frames c.args.frame c.state.result c.state.ensures c.in_default.not-Holds);
       here = tt;
     }

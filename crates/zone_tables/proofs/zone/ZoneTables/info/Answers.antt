@@ -1,6 +1,6 @@
-use Rattle.std.proofs.Common.{◌≡◌, ◌∙◌, ◌+◌, subst}
+use Rattle.std.proofs.Common.{◌≡◌, ◌∙◌, ◌+◌}
 use Rattle.state_core.specs.Looking.{info_of}
-use Rattle.zone_tables.specs.Sound.{IsSound}
+use Rattle.zone_tables.proofs.Facts.{is_sound}
 use Rattle.zone_tables.proofs.SearchesAndCounts.{free_counted, whole_counted, in_use_seen, blocks_seen, held_seen}
 use Rattle.zone_tables.proofs.OutAndEnded.{out_is}
 use Rattle.zone_tables.proofs.zone.ZoneTables.info.Given.{Over}
@@ -9,7 +9,7 @@ use Rattle.zone_tables.proofs.zone.ZoneTables.info.Goals.{After-frames}
 
 counts : {g : Over} (c : After-frames g) → record { free = c.free.result; pages = c.in_use.result; moving = c.out.result; huge = c.blocks-2.result; whole = c.whole_blocks.result; held = c.frames.result } ≡ info_of c.args.self.now
 counts c =
-    let sound : IsSound c.self.inside c.args.self.now = subst (IsSound c.self.inside) c.self.view_is c.self.invariant in
+    let sound = is_sound c.self.view_is c.self.invariant in
     let free = c.free.ensures ∙ free_counted c.self.inside.frames.states c.args.self.now sound.frames in
     let whole = c.whole_blocks.ensures ∙ whole_counted c.self.inside.frames.states c.args.self.now sound.frames in
     let pages = c.in_use.ensures ∙ in_use_seen c.self.inside c.args.self.now c.self.view_is sound.notes.count in
@@ -23,5 +23,4 @@ returns-clause-counts g c = counts c
 
 pub returns-clause-sum : goal.returns-clause-sum
 returns-clause-sum g c =
-    let sound : IsSound c.self.inside c.args.self.now = subst (IsSound c.self.inside) c.self.view_is c.self.invariant in
-    (λ i. (counts c i).free + (counts c i).pages + (counts c i).moving + (counts c i).held) ∙ sound.valid.sum
+    (λ i. (counts c i).free + (counts c i).pages + (counts c i).moving + (counts c i).held) ∙ (is_sound c.self.view_is c.self.invariant).valid.sum

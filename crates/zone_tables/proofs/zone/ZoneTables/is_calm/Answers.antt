@@ -1,11 +1,11 @@
-use Rattle.std.proofs.Common.{◌∙◌, inl, inr, not, length, ap, subst, sym}
+use Rattle.std.proofs.Common.{◌∙◌, inl, inr, not, length, ap, sym}
 use Rattle.std.specs.Prelude.{nat_eq, ◌&&◌}
 use Rattle.std.proofs.lemmas.Bool.Decides.{eqb_tells}
 use Rattle.frame_core.specs.Below.{some_below}
 use Rattle.frame_core.specs.Moves.{out as out_now}
 use Rattle.state_core.specs.Pairs.{is_stuck}
 use Rattle.state_core.specs.ZoneState.{frame_count}
-use Rattle.zone_tables.specs.Sound.{IsSound}
+use Rattle.zone_tables.proofs.Facts.{is_sound}
 use Rattle.zone_tables.proofs.Scanning.{any_stuck_seen}
 use Rattle.zone_tables.proofs.Tables.{mark_seen}
 use Rattle.zone_tables.proofs.OutAndEnded.{out_is}
@@ -13,7 +13,7 @@ use Rattle.zone_tables.proofs.zone.ZoneTables.is_calm.Goals as goal
 
 pub returns-then-out-eq0 : goal.returns-then-out-eq0
 returns-then-out-eq0 g c =
-    let sound : IsSound c.self.inside c.args.self.now = subst (IsSound c.self.inside) c.self.view_is c.self.invariant in
+    let sound = is_sound c.self.view_is c.self.invariant in
     let out = out_is c.self.inside.moves c.args.self.now.records sound.moves sound.valid.journal.well_ended c.out.result c.out.ensures in
     let stuck = c.is_any_stuck.ensures ∙ any_stuck_seen c.args.self.now sound.valid c.self.inside.frames.states c.self.inside.frames.movable c.self.inside.marked sound.frames sound.movable (mark_seen c.self.inside c.args.self.now c.self.view_is) in
     elim (eqb_tells (length (out_now c.args.self.now.records)) 0) [
@@ -23,7 +23,7 @@ returns-then-out-eq0 g c =
 
 pub returns-else-out-eq0 : goal.returns-else-out-eq0
 returns-else-out-eq0 g c =
-    let sound : IsSound c.self.inside c.args.self.now = subst (IsSound c.self.inside) c.self.view_is c.self.invariant in
+    let sound = is_sound c.self.view_is c.self.invariant in
     let out = out_is c.self.inside.moves c.args.self.now.records sound.moves sound.valid.journal.well_ended c.out.result c.out.ensures in
     elim (eqb_tells (length (out_now c.args.self.now.records)) 0) [
       | inl none ↦ absurd (c.if-out-eq0.false (out ∙ none.1))

@@ -9,7 +9,7 @@ use Rattle.table_core.specs.Tables.{Replaces}
 use Rattle.zone_tables.specs.declared.zone.ZoneTables.TheInside.{Inside}
 use Rattle.state_core.specs.declared.placement.Placement.TheVariants.{At, Moving}
 use Rattle.scan_core.specs.Frames.{Frames, is_holding_state}
-use Rattle.zone_tables.proofs.Facts.{held_by}
+use Rattle.zone_tables.proofs.Facts.{held_by, is_sound}
 use Rattle.zone_tables.proofs.MoveEnds.{still_free, two_puts}
 use Rattle.zone_tables.proofs.SearchesAndCounts.{free_seen}
 use Rattle.state_core.specs.Pairs.{can_move}
@@ -22,18 +22,17 @@ use Rattle.state_core.proofs.Facts.{frame_within, not_none, room_and_serial}
 use Rattle.zone_tables.proofs.Tables.{placement_seen, note_within, words_seen}
 use Rattle.zone_tables.specs.Notes.{unused_note}
 use Rattle.zone_tables.specs.declared.note.PageNote.{PageNote}
-use Rattle.zone_tables.specs.Sound.{IsSound}
 use Rattle.zone_tables.proofs.Isolation.{isolated_frames, isolated_words, isolated_movable, isolated_sources}
 use Rattle.state_core.proofs.Settled.{can_isolate, isolate_recorded, target_within, swept_if_isolated}
 use Rattle.zone_tables.proofs.Placement.{SourcesPlaced}
-use Rattle.zone_tables.proofs.Relocation.{Settling, FramesSettled, MovableSettled, settle_sound, settle_view}
+use Rattle.zone_tables.proofs.Relocation.{Settling, FramesSettled, MovableSettled, settle_invariant, settle_view}
 use Rattle.zone_tables.proofs.zone.ZoneTables.isolate.Given.{Over}
 use Rattle.zone_tables.proofs.zone.ZoneTables.isolate.Goals as goal
 use Rattle.zone_tables.proofs.zone.ZoneTables.isolate.Goals.{After-read_out-carried}
 
 pub to_source-requires : goal.to_source-requires
 to_source-requires g c =
-    let sound : IsSound c.self.inside c.args.self.now = subst (IsSound c.self.inside) c.self.view_is c.self.invariant in
+    let sound = is_sound c.self.view_is c.self.invariant in
     let from = c.requires.pair.from in
     record {
       page = ap is_holding_state (held_by c.self.inside.frames.states c.args.self.now sound.frames c.args.pair.page c.args.pair.source from.here);
@@ -42,7 +41,7 @@ to_source-requires g c =
 
 pub to_target-requires : goal.to_target-requires
 to_target-requires g c =
-    let sound : IsSound c.self.inside c.args.self.now = subst (IsSound c.self.inside) c.self.view_is c.self.invariant in
+    let sound = is_sound c.self.view_is c.self.invariant in
     let to = c.requires.pair.to in
     let low = to.low in
     still_free c.self.inside.frames c.to_source.new.self c.args.pair.target c.args.pair.source (Source c.isolate-serial.result) (λ e. absurd (omega arith)) c.to_source.ensures.state
@@ -50,19 +49,17 @@ to_target-requires g c =
 
 pub isolate-serial-requires-clause-within : goal.isolate-serial-requires-clause-within
 isolate-serial-requires-clause-within g c =
-    let sound : IsSound c.self.inside c.args.self.now = subst (IsSound c.self.inside) c.self.view_is c.self.invariant in
+    let sound = is_sound c.self.view_is c.self.invariant in
     let at = (can_isolate c.args.self.now c.args.pair sound.valid c.requires.pair).at in
     omega (arith, frame_within c.args.self.now sound.valid c.args.pair.page (At c.args.pair.source) at, sound.sources.count)
 
 pub isolate-serial-requires-clause-serial_left : goal.isolate-serial-requires-clause-serial_left
 isolate-serial-requires-clause-serial_left g c =
-    let sound : IsSound c.self.inside c.args.self.now = subst (IsSound c.self.inside) c.self.view_is c.self.invariant in
-    omega (arith, (room_and_serial c.args.self.now c.requires.accepted).1, sound.moves.isolated)
+    omega (arith, (room_and_serial c.args.self.now c.requires.accepted).1, (is_sound c.self.view_is c.self.invariant).moves.isolated)
 
 pub place-requires : goal.place-requires
 place-requires g c =
-    let sound : IsSound c.self.inside c.args.self.now = subst (IsSound c.self.inside) c.self.view_is c.self.invariant in
-    ap is_some (placement_seen c.self.inside c.args.self.now c.self.view_is c.args.pair.page ∙ (can_isolate c.args.self.now c.args.pair sound.valid c.requires.pair).at)
+    ap is_some (placement_seen c.self.inside c.args.self.now c.self.view_is c.args.pair.page ∙ (can_isolate c.args.self.now c.args.pair (is_sound c.self.view_is c.self.invariant).valid c.requires.pair).at)
 
 -- the note of the page after it was isolated
 abbrev noted : {g : Over} → After-read_out-carried g → PageNote
@@ -70,7 +67,7 @@ noted c = get_or c.self.inside.notes c.args.pair.page unused_note
 
 note_is : {g : Over} (c : After-read_out-carried g) → slice_get c.self.inside.notes c.args.pair.page ≡ Some (noted c)
 note_is c =
-    let sound : IsSound c.self.inside c.args.self.now = subst (IsSound c.self.inside) c.self.view_is c.self.invariant in
+    let sound = is_sound c.self.view_is c.self.invariant in
     let used = not_none _ (At c.args.pair.source) (can_isolate c.args.self.now c.args.pair sound.valid c.requires.pair).at in
     slice_get-get_or c.self.inside.notes c.args.pair.page unused_note (note_within c.self.inside c.args.self.now sound c.args.pair.page used)
 
@@ -90,7 +87,7 @@ settling c =
     let z = c.self.inside in
     let v = c.args.self.now in
     let pair = c.args.pair in
-    let sound : IsSound z v = subst (IsSound z) c.self.view_is c.self.invariant in
+    let sound = is_sound c.self.view_is c.self.invariant in
     let law = sound.valid in
     let is = c.requires.pair in
     let left = room_and_serial v c.requires.accepted in
@@ -125,53 +122,47 @@ settling c =
       swept = swept_if_isolated v pair law is;
       history = c.note.ensures ∙ ap (λ (n : ℕ). told z.history (Isolate n pair.page)) serial;
       frames_same = c.to_migration.ensures.frames;
-      number_same = refl;
-      blocks_same = refl;
-      marked_same = refl;
-      handed_out_same = refl;
-      cleared_same = refl;
+      rest_same = refl;
       contents_same = refl;
     }
 
 pub invariant_of-self : goal.invariant_of-self
-invariant_of-self g c =
-    subst (IsSound (after c.before)) (sym (settle_view c.self.inside (after c.before) c.args.self.now c.args.pair.page _ _ _ _ _ _ (settling c.before)))
-    (settle_sound c.self.inside (after c.before) c.args.self.now c.args.pair.page _ _ _ _ _ _ (settling c.before))
+invariant_of-self g c = settle_invariant (settling c.before)
 
 pub returns-clause-step : goal.returns-clause-step
-returns-clause-step g c = settle_view c.self.inside (after c.before) c.args.self.now c.args.pair.page _ _ _ _ _ _ (settling c.before)
+returns-clause-step g c = settle_view (settling c.before)
 
 pub returns-clause-valid : goal.returns-clause-valid
 returns-clause-valid g c = (invariant_of-self g c).valid
 
 pub to_migration-requires-clause-within : goal.to_migration-requires-clause-within
 to_migration-requires-clause-within g c =
-    let sound : IsSound c.self.inside c.args.self.now = subst (IsSound c.self.inside) c.self.view_is c.self.invariant in
+    let sound = is_sound c.self.view_is c.self.invariant in
     let within = target_within c.args.self.now c.args.pair sound.valid c.requires.pair in
     let low = c.requires.pair.to.low in
     omega (arith, within, low, sound.tables)
 
 pub to_migration-requires-clause-fresh : goal.to_migration-requires-clause-fresh
 to_migration-requires-clause-fresh g c =
-    let sound : IsSound c.self.inside c.args.self.now = subst (IsSound c.self.inside) c.self.view_is c.self.invariant in
+    let sound = is_sound c.self.view_is c.self.invariant in
     let serial : c.isolate-serial.result ≡ isolated c.args.self.now.records = c.isolate-serial.ensures.serial ∙ sound.moves.isolated in
     λ a source range e. fresh_serial c.self.inside.tables.entries c.args.self.now sound.entries sound.valid a source range (e ∙ ap (λ (n : ℕ). Migration n source) serial)
 
 pub to_migration-requires-clause-resting : goal.to_migration-requires-clause-resting
 to_migration-requires-clause-resting g c =
-    let sound : IsSound c.self.inside c.args.self.now = subst (IsSound c.self.inside) c.self.view_is c.self.invariant in
+    let sound = is_sound c.self.view_is c.self.invariant in
     let at = (can_isolate c.args.self.now c.args.pair sound.valid c.requires.pair).at in
     page_rests c.self.inside.tables.entries c.args.self.now sound.entries sound.valid c.args.pair.page c.args.pair.source at
 
 pub read_out-carried-requires : goal.read_out-carried-requires
 read_out-carried-requires g c =
-    let sound : IsSound c.self.inside c.args.self.now = subst (IsSound c.self.inside) c.self.view_is c.self.invariant in
+    let sound = is_sound c.self.view_is c.self.invariant in
     let at = (can_isolate c.args.self.now c.args.pair sound.valid c.requires.pair).at in
     omega (arith, frame_within c.args.self.now sound.valid c.args.pair.page (At c.args.pair.source) at, sound.words.count)
 
 pub returns-clause-page : goal.returns-clause-page
 returns-clause-page g c =
-    let sound : IsSound c.self.inside c.args.self.now = subst (IsSound c.self.inside) c.self.view_is c.self.invariant in
+    let sound = is_sound c.self.view_is c.self.invariant in
     let at = (can_isolate c.args.self.now c.args.pair sound.valid c.requires.pair).at in
     let serial = c.isolate-serial.ensures.serial ∙ sound.moves.isolated in
     let zone = ap (λ (u : ZoneState). u.number) c.self.view_is in

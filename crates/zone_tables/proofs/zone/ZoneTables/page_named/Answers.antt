@@ -2,8 +2,8 @@ use Rattle.std.proofs.Common.{◌≡◌, ◌∙◌, ℕ, ap, subst, sym, arith}
 use Rattle.std.specs.Prelude.{Option, Some, IfSome}
 use Rattle.std.specs.FinMap as map
 use Rattle.state_core.specs.declared.placement.Placement.TheVariants.{At, Moving}
-use Rattle.zone_tables.specs.Sound.{IsSound}
 use Rattle.state_core.specs.ZoneState.{placement_at}
+use Rattle.zone_tables.proofs.Facts.{is_sound}
 use Rattle.zone_tables.proofs.LoadsAndStores.{present_is}
 use Rattle.state_core.proofs.Facts.{page_named, frame_within, not_none}
 use Rattle.state_core.proofs.Holding.{holder_at}
@@ -15,7 +15,7 @@ named_so o P page is holds = subst (λ (o : Option ℕ). IfSome o P) (sym is) ho
 
 pub holder-requires : goal.holder-requires
 holder-requires g c =
-    let sound : IsSound c.self.inside c.args.self.now = subst (IsSound c.self.inside) c.self.view_is c.self.invariant in
+    let sound = is_sound c.self.view_is c.self.invariant in
     let at = present_is (placement_at c.args.self.now c.args.address.now) c.in-Present.frame
     (sym (sound.entries.each c.args.address.now c.entry.ensures.range) ∙ sym c.entry.ensures.value ∙ c.in-Present.is) in
     let page = page_named c.args.self.now c.args.address.now (At c.in-Present.frame) at in
@@ -23,7 +23,7 @@ holder-requires g c =
 
 pub returns-in-Present : goal.returns-in-Present
 returns-in-Present g c =
-    let sound : IsSound c.self.inside c.args.self.now = subst (IsSound c.self.inside) c.self.view_is c.self.invariant in
+    let sound = is_sound c.self.view_is c.self.invariant in
     let at = present_is (placement_at c.args.self.now c.args.address.now) c.in-Present.frame
     (sym (sound.entries.each c.args.address.now c.entry.ensures.range) ∙ sym c.entry.ensures.value ∙ c.in-Present.is) in
     let page = page_named c.args.self.now c.args.address.now (At c.in-Present.frame) at in
@@ -32,7 +32,7 @@ returns-in-Present g c =
 
 pub page_from-requires : goal.page_from-requires
 page_from-requires g c =
-    let sound : IsSound c.self.inside c.args.self.now = subst (IsSound c.self.inside) c.self.view_is c.self.invariant in
+    let sound = is_sound c.self.view_is c.self.invariant in
     let at = migration_is (placement_at c.args.self.now c.args.address.now) c.in-Migration.serial c.in-Migration.source
     (sym (sound.entries.each c.args.address.now c.entry.ensures.range) ∙ sym c.entry.ensures.value ∙ c.in-Migration.is) in
     let way = Moving c.in-Migration.serial c.in-Migration.source at.0 in
@@ -41,7 +41,7 @@ page_from-requires g c =
 
 pub returns-in-Migration : goal.returns-in-Migration
 returns-in-Migration g c =
-    let sound : IsSound c.self.inside c.args.self.now = subst (IsSound c.self.inside) c.self.view_is c.self.invariant in
+    let sound = is_sound c.self.view_is c.self.invariant in
     let at = migration_is (placement_at c.args.self.now c.args.address.now) c.in-Migration.serial c.in-Migration.source
     (sym (sound.entries.each c.args.address.now c.entry.ensures.range) ∙ sym c.entry.ensures.value ∙ c.in-Migration.is) in
     let way = Moving c.in-Migration.serial c.in-Migration.source at.0 in

@@ -1,4 +1,4 @@
-use Rattle.std.proofs.Common.{◌∙◌, ℕ, ◌+◌, ap, subst, sym, arith}
+use Rattle.std.proofs.Common.{◌∙◌, ℕ, ◌+◌, ap, sym, arith}
 use Rattle.std.specs.Prelude.{Option, slice_set, unwrap_or, is_some}
 use Rattle.frame_core.specs.declared.record.Record.TheVariants.{Pin}
 use Rattle.frame_core.specs.History.{pins}
@@ -6,8 +6,7 @@ use Rattle.state_core.proofs.Facts.{spare}
 use Rattle.zone_tables.specs.declared.note.PageNote.{PageNote}
 use Rattle.zone_tables.specs.Notes.{movable_by}
 use Rattle.scan_core.specs.Frames.{is_holding_state}
-use Rattle.zone_tables.specs.Sound.{IsSound}
-use Rattle.zone_tables.proofs.Facts.{held_by}
+use Rattle.zone_tables.proofs.Facts.{held_by, is_sound}
 use Rattle.zone_tables.proofs.Noting.{Noting, noting_holds}
 use Rattle.zone_tables.proofs.Pinned.{pinning}
 use Rattle.zone_tables.proofs.Tables.{note_seen, placement_seen}
@@ -17,29 +16,28 @@ use Rattle.zone_tables.proofs.zone.ZoneTables.pin.Goals.{After-note}
 
 pub with_pin-note-requires : goal.with_pin-note-requires
 with_pin-note-requires g c =
-    let sound : IsSound c.self.inside c.args.self.now = subst (IsSound c.self.inside) c.self.view_is c.self.invariant in
-    let seen = note_seen c.self.inside c.args.self.now c.self.view_is sound c.page_at-page.result c.page_at-page.ensures.in_use c.get.result c.get.ensures in
+    let seen = note_seen c.self.view_is (is_sound c.self.view_is c.self.invariant) c.page_at-page.ensures.in_use c.get.ensures in
     omega (arith, c.requires.few, ap (λ (o : Option ℕ). pins c.args.self.now.records (unwrap_or o 0)) c.page_at-page.ensures.named, seen.fits.pins)
 
 pub say_movable-requires : goal.say_movable-requires
 say_movable-requires g c frame at =
-    let sound : IsSound c.self.inside c.args.self.now = subst (IsSound c.self.inside) c.self.view_is c.self.invariant in
-    let seen = note_seen c.self.inside c.args.self.now c.self.view_is sound c.page_at-page.result c.page_at-page.ensures.in_use c.get.result c.get.ensures in
+    let sound = is_sound c.self.view_is c.self.invariant in
+    let seen = note_seen c.self.view_is sound c.page_at-page.ensures.in_use c.get.ensures in
     ap is_holding_state (held_by c.self.inside.frames.states c.args.self.now sound.frames c.page_at-page.result frame (sym seen.placement ∙ sym (ap (λ (n : PageNote). n.placement) c.with_pin-note.ensures) ∙ at))
 
 known : {g : Over} (c : After-note g) → Noting c.self.inside c.args.self.now c.page_at-page.result (Pin c.args.client c.args.address) c.get.result (record c.get.result { pins = c.get.result.pins + 1 }) c.say_movable.new.frames c.self.inside.tables c.note.new.self
 known c =
-    pinning c.self.inside c.args.self.now (subst (IsSound c.self.inside) c.self.view_is c.self.invariant) c.self.view_is c.page_at-page.result c.page_at-page.ensures.in_use c.get.result c.get.ensures
+    pinning c.self.inside c.args.self.now (is_sound c.self.view_is c.self.invariant) c.self.view_is c.page_at-page.result c.page_at-page.ensures.in_use c.get.result c.get.ensures
     c.args.client c.args.address c.page_at-page.ensures.named (spare c.args.self.now c.requires.room) c.say_movable.new.frames c.note.new.self
     (omega (arith, c.requires.few, ap (λ (o : Option ℕ). pins c.args.self.now.records (unwrap_or o 0)) c.page_at-page.ensures.named))
     (c.say_movable.ensures ∙ ap (λ (n : PageNote). record c.self.inside.frames { movable = movable_by c.self.inside.frames.movable n }) c.with_pin-note.ensures)
     c.note.ensures
 
 pub invariant_of-self : goal.invariant_of-self
-invariant_of-self g c = (noting_holds _ _ _ _ _ _ _ _ _ (known c) c.revise.new.self (c.revise.ensures ∙ ap (slice_set c.self.inside.notes c.page_at-page.result) c.with_pin-note.ensures)).0
+invariant_of-self g c = (noting_holds (known c) c.revise.new.self (c.revise.ensures ∙ ap (slice_set c.self.inside.notes c.page_at-page.result) c.with_pin-note.ensures)).0
 
 pub returns-clause-step : goal.returns-clause-step
-returns-clause-step g c = (noting_holds _ _ _ _ _ _ _ _ _ (known c) c.revise.new.self (c.revise.ensures ∙ ap (slice_set c.self.inside.notes c.page_at-page.result) c.with_pin-note.ensures)).1
+returns-clause-step g c = (noting_holds (known c) c.revise.new.self (c.revise.ensures ∙ ap (slice_set c.self.inside.notes c.page_at-page.result) c.with_pin-note.ensures)).1
 
 pub returns-clause-valid : goal.returns-clause-valid
 returns-clause-valid g c = (invariant_of-self g c).valid
@@ -50,6 +48,5 @@ revise-requires-clause-used g c =
 
 pub revise-requires-clause-stays : goal.revise-requires-clause-stays
 revise-requires-clause-stays g c =
-    let sound : IsSound c.self.inside c.args.self.now = subst (IsSound c.self.inside) c.self.view_is c.self.invariant in
-    let seen = note_seen c.self.inside c.args.self.now c.self.view_is sound c.page_at-page.result c.page_at-page.ensures.in_use c.get.result c.get.ensures in
+    let seen = note_seen c.self.view_is (is_sound c.self.view_is c.self.invariant) c.page_at-page.ensures.in_use c.get.ensures in
     ap (λ (n : PageNote). is_some n.placement) c.with_pin-note.ensures ∙ ap is_some seen.placement ∙ c.page_at-page.ensures.in_use

@@ -7,6 +7,7 @@ use Rattle.state_core.specs.Mapping.{placed}
 use Rattle.state_core.proofs.Facts.{spare}
 use Rattle.state_core.proofs.Finding.{some_lowest, unused_is}
 use Rattle.state_core.proofs.Placed.{CanPlace}
+use Rattle.zone_tables.proofs.Facts.{is_sound}
 use Rattle.zone_tables.proofs.FreshPage.{Placing, fresh_note, after_place, place_view, place_sound}
 use Rattle.zone_tables.proofs.ListedAddresses.{count_none, none_left, not_used}
 use Rattle.zone_tables.proofs.SearchesAndCounts.{free_seen}
@@ -20,10 +21,9 @@ unused_page-page-requires g c = (omega arith, some_lowest c.args.self.now c.args
 
 can : {g : Over} (c : After-note g) → CanPlace c.args.self.now c.args.address c.unused_page-page.result c.args.frame
 can c =
-    let sound : IsSound c.self.inside c.args.self.now = subst (IsSound c.self.inside) c.self.view_is c.self.invariant in
     let unused = unused_is c.args.self.now c.unused_page-page.result c.unused_page-page.ensures in
     record {
-      valid = sound.valid;
+      valid = (is_sound c.self.view_is c.self.invariant).valid;
       spare = spare c.args.self.now c.requires.room;
       range = c.set.ensures.range;
       vacant = c.requires.vacant;
@@ -35,18 +35,16 @@ can c =
 
 pub fill-requires : goal.fill-requires
 fill-requires g c =
-    let sound : IsSound c.self.inside c.args.self.now = subst (IsSound c.self.inside) c.self.view_is c.self.invariant in
-    free_seen c.self.inside.frames.states c.args.self.now sound.frames c.args.frame c.requires.within ∙ c.requires.free
+    free_seen c.self.inside.frames.states c.args.self.now (is_sound c.self.view_is c.self.invariant).frames c.args.frame c.requires.within ∙ c.requires.free
 
 pub put-requires : goal.put-requires
 put-requires g c =
-    let sound : IsSound c.self.inside c.args.self.now = subst (IsSound c.self.inside) c.self.view_is c.self.invariant in
     let unused = unused_is c.args.self.now c.unused_page-page.result c.unused_page-page.ensures in
-    omega (arith, unused.0, sound.notes.count)
+    omega (arith, unused.0, (is_sound c.self.view_is c.self.invariant).notes.count)
 
 placing : {g : Over} (c : After-note g) → Placing c.self.inside c.args.self.now c.args.client c.args.address c.args.unmovable c.unused_page-page.result c.args.frame c.set.new.self c.note.new.self
 placing c =
-    let sound : IsSound c.self.inside c.args.self.now = subst (IsSound c.self.inside) c.self.view_is c.self.invariant in
+    let sound = is_sound c.self.view_is c.self.invariant in
     let unused = unused_is c.args.self.now c.unused_page-page.result c.unused_page-page.ensures in
     record {
       sound = sound;
@@ -92,15 +90,14 @@ returns-clause-valid g c = (invariant_of-self g c).valid
 
 pub set-requires-clause-within : goal.set-requires-clause-within
 set-requires-clause-within g c =
-    let sound : IsSound c.self.inside c.args.self.now = subst (IsSound c.self.inside) c.self.view_is c.self.invariant in
-    omega (arith, c.requires.within, sound.tables)
+    omega (arith, c.requires.within, (is_sound c.self.view_is c.self.invariant).tables)
 
 pub set-requires-clause-room : goal.set-requires-clause-room
 set-requires-clause-room g c =
-    let sound : IsSound c.self.inside c.args.self.now = subst (IsSound c.self.inside) c.self.view_is c.self.invariant in
+    let sound = is_sound c.self.view_is c.self.invariant in
     omega (arith, count_none c.self.inside.tables.entries c.args.self.now sound.entries sound.valid c.args.frame (not_used _ _ c.requires.free))
 
 pub set-requires-clause-resting : goal.set-requires-clause-resting
 set-requires-clause-resting g c =
-    let sound : IsSound c.self.inside c.args.self.now = subst (IsSound c.self.inside) c.self.view_is c.self.invariant in
+    let sound = is_sound c.self.view_is c.self.invariant in
     none_left c.self.inside.tables.entries c.args.self.now sound.entries sound.valid c.args.frame (not_used _ _ c.requires.free)

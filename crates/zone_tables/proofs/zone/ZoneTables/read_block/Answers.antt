@@ -2,6 +2,7 @@ use Rattle.std.proofs.Common.{◌≡◌, ℕ, ◌+◌, ◌-◌, List, length, ta
 use Rattle.state_core.specs.ZoneState.{ZoneState}
 use Rattle.frame_core.specs.Words.{block_words}
 use Rattle.zone_tables.specs.Sound.{IsSound}
+use Rattle.zone_tables.proofs.Facts.{is_sound}
 use Rattle.zone_tables.proofs.BlockFrames.{order_held}
 use Rattle.zone_tables.proofs.BlockWords.{rows_sized, words_read, read_view, read_sound}
 use Rattle.zone_tables.proofs.zone.ZoneTables.read_block.Goals as goal
@@ -9,7 +10,7 @@ use Rattle.zone_tables.proofs.zone.ZoneTables.read_block.Goals as goal
 pub invariant_of-self : goal.invariant_of-self
 invariant_of-self g c =
     let v = c.args.self.now in
-    let sound : IsSound c.self.inside v = subst (IsSound c.self.inside) c.self.view_is c.self.invariant in
+    let sound = is_sound c.self.view_is c.self.invariant in
     let at = order_held _ c.args.order c.requires.held in
     let sized = c.clear.ensures.sized (rows_sized c.self.inside.words v g.row.W sound.words (sym (ap (λ (u : ZoneState). u.page_size) c.self.view_is))) in
     subst (IsSound _) (sym (read_view c.self.inside v sound c.self.view_is c.args.first c.args.order at _ c.clear.ensures.noted _ c.clear.ensures.words))
@@ -18,7 +19,7 @@ invariant_of-self g c =
 pub returns-clause-values : goal.returns-clause-values
 returns-clause-values g c =
     let v = c.args.self.now in
-    let sound : IsSound c.self.inside v = subst (IsSound c.self.inside) c.self.view_is c.self.invariant in
+    let sound = is_sound c.self.view_is c.self.invariant in
     let at = order_held _ c.args.order c.requires.held in
     let count : c.args.from + length c.args.values.now - c.args.from ≡ length c.args.values.now = omega arith in
     let block = c.block-block.ensures.words ∙ ap (block_words c.clear.new.words c.args.first) c.frames.ensures.value
@@ -30,7 +31,7 @@ returns-clause-values g c =
 pub returns-clause-step : goal.returns-clause-step
 returns-clause-step g c =
     let v = c.args.self.now in
-    let sound : IsSound c.self.inside v = subst (IsSound c.self.inside) c.self.view_is c.self.invariant in
+    let sound = is_sound c.self.view_is c.self.invariant in
     read_view c.self.inside v sound c.self.view_is c.args.first c.args.order (order_held _ c.args.order c.requires.held) _ c.clear.ensures.noted _ c.clear.ensures.words
 
 pub returns-clause-valid : goal.returns-clause-valid

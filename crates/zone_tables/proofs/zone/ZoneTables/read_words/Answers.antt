@@ -4,6 +4,7 @@ use Rattle.state_core.specs.Bulk.{values_at, loaded_all}
 use Rattle.state_core.specs.ZoneState.{ZoneState}
 use Rattle.zone_tables.specs.History.{History, told_loads}
 use Rattle.zone_tables.specs.Sound.{IsSound, state_of}
+use Rattle.zone_tables.proofs.Facts.{is_sound}
 use Rattle.zone_tables.proofs.LoadsAndStores.{resident}
 use Rattle.zone_tables.proofs.WordsAtOnce.{Reading, loads_sound, loads_view, words_read}
 use Rattle.zone_tables.proofs.zone.ZoneTables.read_words.Given.{Over}
@@ -12,7 +13,7 @@ use Rattle.zone_tables.proofs.zone.ZoneTables.read_words.Goals.{After-note_each}
 
 pub load_words-requires : goal.load_words-requires
 load_words-requires g c =
-    let is = resident c.self.inside c.args.self.now (subst (IsSound c.self.inside) c.self.view_is c.self.invariant) c.args.address c.args.frame c.requires.frame in
+    let is = resident c.self.inside c.args.self.now (is_sound c.self.view_is c.self.invariant) c.args.address c.args.frame c.requires.frame in
     (omega arith, (is.row_within, omega (arith, c.get.ensures.value, c.requires.within)))
 
 module _ {g : Over} (c : After-note_each g) where
@@ -21,7 +22,7 @@ module _ {g : Over} (c : After-note_each g) where
 
   reading : Reading c.self.inside c.args.self.now c.args.address c.args.frame count
   reading = record {
-    sound = subst (IsSound c.self.inside) c.self.view_is c.self.invariant;
+    sound = is_sound c.self.view_is c.self.invariant;
     view = c.self.view_is;
     room = leb-true _ _ c.requires.room;
     at = c.requires.frame;

@@ -1,11 +1,11 @@
-use Rattle.std.proofs.Common.{◌∙◌, ℕ, ◌+◌, ap, subst, arith}
+use Rattle.std.proofs.Common.{◌∙◌, ℕ, ◌+◌, ap, arith}
 use Rattle.std.specs.Prelude.{Option, slice_set, unwrap_or, is_some}
 use Rattle.frame_core.specs.declared.record.Record.TheVariants.{Share}
 use Rattle.frame_core.specs.History.{maps}
 use Rattle.state_core.specs.declared.placement.Placement.TheVariants.{At}
 use Rattle.state_core.proofs.Facts.{frame_within, page_stands, spare}
 use Rattle.state_core.proofs.Sharing.{CanShare}
-use Rattle.zone_tables.specs.Sound.{IsSound}
+use Rattle.zone_tables.proofs.Facts.{is_sound}
 use Rattle.zone_tables.proofs.ListedAddresses.{count_names, page_rests}
 use Rattle.zone_tables.proofs.Noting.{Noting, noting_holds}
 use Rattle.zone_tables.proofs.Shared.{sharing}
@@ -17,15 +17,13 @@ use Rattle.zone_tables.proofs.zone.ZoneTables.share.Goals.{After-note}
 
 pub with_address-requires : goal.with_address-requires
 with_address-requires g c =
-    let sound : IsSound c.self.inside c.args.self.now = subst (IsSound c.self.inside) c.self.view_is c.self.invariant in
-    let seen = note_seen c.self.inside c.args.self.now c.self.view_is sound c.page_at-page.result c.page_at-page.ensures.in_use c.get-note.result c.get-note.ensures in
+    let seen = note_seen c.self.view_is (is_sound c.self.view_is c.self.invariant) c.page_at-page.ensures.in_use c.get-note.ensures in
     omega (arith, c.requires.few, ap (λ (o : Option ℕ). maps c.args.self.now.records (unwrap_or o 0)) c.page_at-page.ensures.named, seen.fits.maps)
 
 can : {g : Over} (c : After-note g) → CanShare c.args.self.now c.args.address c.args.alias c.page_at-page.result c.args.frame
 can c =
-    let sound : IsSound c.self.inside c.args.self.now = subst (IsSound c.self.inside) c.self.view_is c.self.invariant in
     record {
-      valid = sound.valid;
+      valid = (is_sound c.self.view_is c.self.invariant).valid;
       spare = spare c.args.self.now c.requires.room;
       named = c.page_at-page.ensures.named;
       at = page_stands c.args.self.now c.args.address (At c.args.frame) c.page_at-page.result c.page_at-page.ensures.named c.requires.frame;
@@ -36,27 +34,27 @@ can c =
 
 known : {g : Over} (c : After-note g) → Noting c.self.inside c.args.self.now c.page_at-page.result (Share c.args.client c.args.address c.args.alias) c.get-note.result (record c.get-note.result { maps = c.get-note.result.maps + 1 }) c.self.inside.frames c.set.new.self c.note.new.self
 known c =
-    sharing c.self.inside c.args.self.now (subst (IsSound c.self.inside) c.self.view_is c.self.invariant) c.self.view_is c.args.client c.args.address c.args.alias c.page_at-page.result c.args.frame (can c)
+    sharing c.self.inside c.args.self.now (is_sound c.self.view_is c.self.invariant) c.self.view_is c.args.client c.args.address c.args.alias c.page_at-page.result c.args.frame (can c)
     c.get-note.result c.set.new.self c.note.new.self c.get-note.ensures c.set.ensures.set c.set.ensures.frames c.note.ensures
 
 pub invariant_of-self : goal.invariant_of-self
-invariant_of-self g c = (noting_holds _ _ _ _ _ _ _ _ _ (known c) c.revise.new.self (c.revise.ensures ∙ ap (slice_set c.self.inside.notes c.page_at-page.result) c.with_address.ensures)).0
+invariant_of-self g c = (noting_holds (known c) c.revise.new.self (c.revise.ensures ∙ ap (slice_set c.self.inside.notes c.page_at-page.result) c.with_address.ensures)).0
 
 pub returns-clause-step : goal.returns-clause-step
-returns-clause-step g c = (noting_holds _ _ _ _ _ _ _ _ _ (known c) c.revise.new.self (c.revise.ensures ∙ ap (slice_set c.self.inside.notes c.page_at-page.result) c.with_address.ensures)).1
+returns-clause-step g c = (noting_holds (known c) c.revise.new.self (c.revise.ensures ∙ ap (slice_set c.self.inside.notes c.page_at-page.result) c.with_address.ensures)).1
 
 pub returns-clause-valid : goal.returns-clause-valid
 returns-clause-valid g c = (invariant_of-self g c).valid
 
 pub set-requires-clause-within : goal.set-requires-clause-within
 set-requires-clause-within g c =
-    let sound : IsSound c.self.inside c.args.self.now = subst (IsSound c.self.inside) c.self.view_is c.self.invariant in
+    let sound = is_sound c.self.view_is c.self.invariant in
     let at = page_stands c.args.self.now c.args.address (At c.args.frame) c.page_at-page.result c.page_at-page.ensures.named c.requires.frame in
     omega (arith, frame_within c.args.self.now sound.valid c.page_at-page.result (At c.args.frame) at, sound.tables)
 
 pub set-requires-clause-room : goal.set-requires-clause-room
 set-requires-clause-room g c =
-    let sound : IsSound c.self.inside c.args.self.now = subst (IsSound c.self.inside) c.self.view_is c.self.invariant in
+    let sound = is_sound c.self.view_is c.self.invariant in
     let at = page_stands c.args.self.now c.args.address (At c.args.frame) c.page_at-page.result c.page_at-page.ensures.named c.requires.frame in
     omega (arith, c.requires.few, ap (λ (o : Option ℕ). maps c.args.self.now.records (unwrap_or o 0)) c.page_at-page.ensures.named, count_names c.self.inside.tables.entries c.args.self.now sound.entries sound.valid c.page_at-page.result c.args.frame at)
 
@@ -66,12 +64,11 @@ revise-requires-clause-used g c =
 
 pub revise-requires-clause-stays : goal.revise-requires-clause-stays
 revise-requires-clause-stays g c =
-    let sound : IsSound c.self.inside c.args.self.now = subst (IsSound c.self.inside) c.self.view_is c.self.invariant in
-    let seen = note_seen c.self.inside c.args.self.now c.self.view_is sound c.page_at-page.result c.page_at-page.ensures.in_use c.get-note.result c.get-note.ensures in
+    let seen = note_seen c.self.view_is (is_sound c.self.view_is c.self.invariant) c.page_at-page.ensures.in_use c.get-note.ensures in
     ap (λ (n : PageNote). is_some n.placement) c.with_address.ensures ∙ ap is_some seen.placement ∙ c.page_at-page.ensures.in_use
 
 pub set-requires-clause-resting : goal.set-requires-clause-resting
 set-requires-clause-resting g c =
-    let sound : IsSound c.self.inside c.args.self.now = subst (IsSound c.self.inside) c.self.view_is c.self.invariant in
+    let sound = is_sound c.self.view_is c.self.invariant in
     let at = page_stands c.args.self.now c.args.address (At c.args.frame) c.page_at-page.result c.page_at-page.ensures.named c.requires.frame in
     page_rests c.self.inside.tables.entries c.args.self.now sound.entries sound.valid c.page_at-page.result c.args.frame at

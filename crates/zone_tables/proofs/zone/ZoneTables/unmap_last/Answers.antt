@@ -1,9 +1,8 @@
-use Rattle.std.proofs.Common.{◌∙◌, ap, subst}
+use Rattle.std.proofs.Common.{◌∙◌, ap}
 use Rattle.std.specs.Prelude.{slice_set}
 use Rattle.state_core.proofs.Facts.{spare}
 use Rattle.scan_core.specs.Frames.{is_holding_state}
-use Rattle.zone_tables.specs.Sound.{IsSound}
-use Rattle.zone_tables.proofs.Facts.{held_by}
+use Rattle.zone_tables.proofs.Facts.{held_by, is_sound}
 use Rattle.zone_tables.proofs.Unmapped.{Unmapping, last_holds}
 use Rattle.zone_tables.proofs.zone.ZoneTables.unmap_last.Given.{Over}
 use Rattle.zone_tables.proofs.zone.ZoneTables.unmap_last.Goals as goal
@@ -11,12 +10,11 @@ use Rattle.zone_tables.proofs.zone.ZoneTables.unmap_last.Goals.{After-note}
 
 pub empty-requires : goal.empty-requires
 empty-requires g c =
-    let sound : IsSound c.self.inside c.args.self.now = subst (IsSound c.self.inside) c.self.view_is c.self.invariant in
-    ap is_holding_state (held_by c.self.inside.frames.states c.args.self.now sound.frames c.args.page c.args.frame c.requires.here)
+    ap is_holding_state (held_by c.self.inside.frames.states c.args.self.now (is_sound c.self.view_is c.self.invariant).frames c.args.page c.args.frame c.requires.here)
 
 unmapping : {g : Over} (c : After-note g) → Unmapping c.self.inside c.args.self.now c.args.client c.args.address c.args.page c.args.frame c.clear.new.self c.note.new.self
 unmapping c =
-    let sound : IsSound c.self.inside c.args.self.now = subst (IsSound c.self.inside) c.self.view_is c.self.invariant in
+    let sound = is_sound c.self.view_is c.self.invariant in
     record {
       sound = sound;
       view = c.self.view_is;

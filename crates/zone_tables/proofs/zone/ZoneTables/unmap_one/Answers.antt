@@ -1,9 +1,9 @@
-use Rattle.std.proofs.Common.{◌∙◌, ◌-◌, ap, subst, arith}
+use Rattle.std.proofs.Common.{◌∙◌, ◌-◌, ap, arith}
 use Rattle.std.specs.Prelude.{slice_set, is_some}
 use Rattle.frame_core.specs.declared.record.Record.TheVariants.{Unmap}
 use Rattle.state_core.specs.declared.placement.Placement.TheVariants.{At}
 use Rattle.state_core.proofs.Facts.{not_none, spare}
-use Rattle.zone_tables.specs.Sound.{IsSound}
+use Rattle.zone_tables.proofs.Facts.{is_sound}
 use Rattle.zone_tables.proofs.Noting.{Noting, noting_holds}
 use Rattle.zone_tables.proofs.Unmapped.{Unmapping, unmapping_one}
 use Rattle.zone_tables.proofs.Tables.{note_seen, placement_seen}
@@ -14,14 +14,14 @@ use Rattle.zone_tables.proofs.zone.ZoneTables.unmap_one.Goals.{After-note}
 
 pub without_address-requires : goal.without_address-requires
 without_address-requires g c =
-    let sound : IsSound c.self.inside c.args.self.now = subst (IsSound c.self.inside) c.self.view_is c.self.invariant in
+    let sound = is_sound c.self.view_is c.self.invariant in
     let used = not_none _ (At c.requires.here.0) c.requires.here.1 in
-    let seen = note_seen c.self.inside c.args.self.now c.self.view_is sound c.args.page used c.get-note.result c.get-note.ensures in
+    let seen = note_seen c.self.view_is sound used c.get-note.ensures in
     omega (arith, seen.fits.maps, (sound.valid.agrees.in_use c.args.page used).0)
 
 unmapping : {g : Over} (c : After-note g) → Unmapping c.self.inside c.args.self.now c.args.client c.args.address c.args.page c.requires.here.0 c.clear.new.self c.note.new.self
 unmapping c =
-    let sound : IsSound c.self.inside c.args.self.now = subst (IsSound c.self.inside) c.self.view_is c.self.invariant in
+    let sound = is_sound c.self.view_is c.self.invariant in
     record {
       sound = sound;
       view = c.self.view_is;
@@ -35,10 +35,10 @@ known : {g : Over} (c : After-note g) → Noting c.self.inside c.args.self.now c
 known c = unmapping_one _ _ _ _ _ _ _ _ (unmapping c) c.requires.more c.get-note.result c.get-note.ensures
 
 pub invariant_of-self : goal.invariant_of-self
-invariant_of-self g c = (noting_holds _ _ _ _ _ _ _ _ _ (known c) c.revise.new.self (c.revise.ensures ∙ ap (slice_set c.self.inside.notes c.args.page) c.without_address.ensures)).0
+invariant_of-self g c = (noting_holds (known c) c.revise.new.self (c.revise.ensures ∙ ap (slice_set c.self.inside.notes c.args.page) c.without_address.ensures)).0
 
 pub returns-clause-step : goal.returns-clause-step
-returns-clause-step g c = (noting_holds _ _ _ _ _ _ _ _ _ (known c) c.revise.new.self (c.revise.ensures ∙ ap (slice_set c.self.inside.notes c.args.page) c.without_address.ensures)).1
+returns-clause-step g c = (noting_holds (known c) c.revise.new.self (c.revise.ensures ∙ ap (slice_set c.self.inside.notes c.args.page) c.without_address.ensures)).1
 
 pub returns-clause-valid : goal.returns-clause-valid
 returns-clause-valid g c = (invariant_of-self g c).valid
@@ -50,7 +50,6 @@ revise-requires-clause-used g c =
 
 pub revise-requires-clause-stays : goal.revise-requires-clause-stays
 revise-requires-clause-stays g c =
-    let sound : IsSound c.self.inside c.args.self.now = subst (IsSound c.self.inside) c.self.view_is c.self.invariant in
     let used = not_none _ (At c.requires.here.0) c.requires.here.1 in
-    let seen = note_seen c.self.inside c.args.self.now c.self.view_is sound c.args.page used c.get-note.result c.get-note.ensures in
+    let seen = note_seen c.self.view_is (is_sound c.self.view_is c.self.invariant) used c.get-note.ensures in
     ap (λ (n : PageNote). is_some n.placement) c.without_address.ensures ∙ ap is_some seen.placement ∙ used

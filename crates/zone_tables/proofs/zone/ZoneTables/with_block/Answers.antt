@@ -7,6 +7,7 @@ use Rattle.state_core.specs.ZoneState.{ZoneState}
 use Rattle.state_core.proofs.Contents.{length_contents}
 use Rattle.frame_core.specs.Words.{block_words, HasBlock, put_from}
 use Rattle.zone_tables.specs.Sound.{IsSound}
+use Rattle.zone_tables.proofs.Facts.{is_sound}
 use Rattle.zone_tables.proofs.BlockFrames.{order_held}
 use Rattle.zone_tables.proofs.BlockWords.{put_whole, words_read, write_view, write_sound}
 use Rattle.zone_tables.proofs.HeldWords.{written_again}
@@ -16,7 +17,7 @@ use Rattle.zone_tables.proofs.zone.ZoneTables.with_block.Goals.{After-frames, Af
 
 module _ (g : Over) (c : After-frames g) where
   sound_before : IsSound c.self.inside c.args.self.now
-  sound_before = subst (IsSound c.self.inside) c.self.view_is c.self.invariant
+  sound_before = is_sound c.self.view_is c.self.invariant
 
   -- the closure is shown the words of the block
   shown : block_words c.clear.new.words c.args.first c.frames.result ≡ contents_of c.args.self.now c.args.first
@@ -33,7 +34,7 @@ module _ (g : Over) (c : After-with_block g) where
   left = c.with_block.ensures.changed.0
 
   sound : IsSound c.self.inside c.args.self.now
-  sound = subst (IsSound c.self.inside) c.self.view_is c.self.invariant
+  sound = is_sound c.self.view_is c.self.invariant
 
   at : map.get c.args.self.now.handed_out c.args.first ≡ Some c.args.order
   at = order_held _ c.args.order c.requires.held

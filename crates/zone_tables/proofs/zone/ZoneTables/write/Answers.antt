@@ -8,6 +8,7 @@ use Rattle.state_core.specs.Access.{stored}
 use Rattle.zone_tables.specs.History.{told}
 use Rattle.frame_core.specs.declared.record.Record.TheVariants.{Store}
 use Rattle.state_core.specs.ZoneState.{ZoneState}
+use Rattle.zone_tables.proofs.Facts.{is_sound}
 use Rattle.zone_tables.proofs.LoadsAndStores.{Storing, resident, store_view, store_sound}
 use Rattle.state_core.proofs.Facts.{spare, frame_within, not_none}
 use Rattle.state_core.proofs.Holding.{holder_at}
@@ -22,30 +23,29 @@ same_page o p q e f = cc
 
 pub holder-requires : goal.holder-requires
 holder-requires g c =
-    let is = resident c.self.inside c.args.self.now (subst (IsSound c.self.inside) c.self.view_is c.self.invariant) c.args.address c.args.frame c.requires.frame in
-    (omega arith, frame_within c.args.self.now (subst (IsSound c.self.inside) c.self.view_is c.self.invariant).valid is.page (At c.args.frame) is.at)
+    let is = resident c.self.inside c.args.self.now (is_sound c.self.view_is c.self.invariant) c.args.address c.args.frame c.requires.frame in
+    (omega arith, frame_within c.args.self.now (is_sound c.self.view_is c.self.invariant).valid is.page (At c.args.frame) is.at)
 
 pub unreachable-requires : goal.unreachable-requires
 unreachable-requires g c =
-    let sound : IsSound c.self.inside c.args.self.now = subst (IsSound c.self.inside) c.self.view_is c.self.invariant in
+    let sound = is_sound c.self.view_is c.self.invariant in
     let is = resident c.self.inside c.args.self.now sound c.args.address c.args.frame c.requires.frame in
     c.in_default.not-Some is.page (c.holder.ensures.holder ∙ holder_at c.args.self.now sound.valid is.page c.args.frame is.at)
 
 pub store-requires : goal.store-requires
 store-requires g c =
-    let is = resident c.self.inside c.args.self.now (subst (IsSound c.self.inside) c.self.view_is c.self.invariant) c.args.address c.args.frame c.requires.frame in
+    let is = resident c.self.inside c.args.self.now (is_sound c.self.view_is c.self.invariant) c.args.address c.args.frame c.requires.frame in
     (omega arith, (omega arith, is.row_within))
 
 pub get-note-requires : goal.get-note-requires
 get-note-requires g c =
-    let is = resident c.self.inside c.args.self.now (subst (IsSound c.self.inside) c.self.view_is c.self.invariant) c.args.address c.args.frame c.requires.frame in
-    let sound : IsSound c.self.inside c.args.self.now = subst (IsSound c.self.inside) c.self.view_is c.self.invariant in
-    let page : is.page ≡ c.in-Some.page = same_page _ _ _ (holder_at c.args.self.now sound.valid is.page c.args.frame is.at) (sym c.holder.ensures.holder ∙ c.in-Some.is) in
+    let is = resident c.self.inside c.args.self.now (is_sound c.self.view_is c.self.invariant) c.args.address c.args.frame c.requires.frame in
+    let page : is.page ≡ c.in-Some.page = same_page _ _ _ (holder_at c.args.self.now (is_sound c.self.view_is c.self.invariant).valid is.page c.args.frame is.at) (sym c.holder.ensures.holder ∙ c.in-Some.is) in
     omega (arith, is.note_within, page)
 
 storing : {g : Over} (c : After-note g) → Storing c.self.inside c.args.self.now c.args.client c.args.address c.in-Some.page c.args.frame c.args.word c.args.value c.get-note.result c.note.new.self
 storing c =
-    let sound : IsSound c.self.inside c.args.self.now = subst (IsSound c.self.inside) c.self.view_is c.self.invariant in
+    let sound = is_sound c.self.view_is c.self.invariant in
     let is = resident c.self.inside c.args.self.now sound c.args.address c.args.frame c.requires.frame in
     let page : is.page ≡ c.in-Some.page = same_page _ _ _ (holder_at c.args.self.now sound.valid is.page c.args.frame is.at) (sym c.holder.ensures.holder ∙ c.in-Some.is) in
     record {
@@ -87,17 +87,16 @@ returns-clause-valid g c = (invariant_of-self g c).valid
 
 pub revise-requires-clause-used : goal.revise-requires-clause-used
 revise-requires-clause-used g c =
-    let is = resident c.self.inside c.args.self.now (subst (IsSound c.self.inside) c.self.view_is c.self.invariant) c.args.address c.args.frame c.requires.frame in
-    let sound : IsSound c.self.inside c.args.self.now = subst (IsSound c.self.inside) c.self.view_is c.self.invariant in
-    let page : is.page ≡ c.in-Some.page = same_page _ _ _ (holder_at c.args.self.now sound.valid is.page c.args.frame is.at) (sym c.holder.ensures.holder ∙ c.in-Some.is) in
+    let is = resident c.self.inside c.args.self.now (is_sound c.self.view_is c.self.invariant) c.args.address c.args.frame c.requires.frame in
+    let page : is.page ≡ c.in-Some.page = same_page _ _ _ (holder_at c.args.self.now (is_sound c.self.view_is c.self.invariant).valid is.page c.args.frame is.at) (sym c.holder.ensures.holder ∙ c.in-Some.is) in
     let used = not_none _ (At c.args.frame) (ap (map.get c.args.self.now.placement) (sym page) ∙ is.at) in
     ap is_some (placement_seen c.self.inside c.args.self.now c.self.view_is c.in-Some.page) ∙ used
 
 pub revise-requires-clause-stays : goal.revise-requires-clause-stays
 revise-requires-clause-stays g c =
-    let is = resident c.self.inside c.args.self.now (subst (IsSound c.self.inside) c.self.view_is c.self.invariant) c.args.address c.args.frame c.requires.frame in
-    let sound : IsSound c.self.inside c.args.self.now = subst (IsSound c.self.inside) c.self.view_is c.self.invariant in
+    let is = resident c.self.inside c.args.self.now (is_sound c.self.view_is c.self.invariant) c.args.address c.args.frame c.requires.frame in
+    let sound = is_sound c.self.view_is c.self.invariant in
     let page : is.page ≡ c.in-Some.page = same_page _ _ _ (holder_at c.args.self.now sound.valid is.page c.args.frame is.at) (sym c.holder.ensures.holder ∙ c.in-Some.is) in
     let used = not_none _ (At c.args.frame) (ap (map.get c.args.self.now.placement) (sym page) ∙ is.at) in
-    let seen = note_seen c.self.inside c.args.self.now c.self.view_is sound c.in-Some.page used c.get-note.result c.get-note.ensures in
+    let seen = note_seen c.self.view_is sound used c.get-note.ensures in
     ap (λ (n : PageNote). is_some n.placement) c.stored.ensures ∙ ap is_some seen.placement ∙ used

@@ -3,6 +3,7 @@ use Rattle.state_core.specs.Contents.{contents_of}
 use Rattle.state_core.specs.ZoneState.{ZoneState}
 use Rattle.frame_core.specs.Words.{block_words, HasBlock, put_from}
 use Rattle.zone_tables.specs.Sound.{IsSound}
+use Rattle.zone_tables.proofs.Facts.{is_sound}
 use Rattle.zone_tables.proofs.BlockFrames.{order_held}
 use Rattle.zone_tables.proofs.BlockWords.{words_read, write_view, write_sound}
 use Rattle.zone_tables.proofs.HeldWords.{written_again}
@@ -12,7 +13,7 @@ use Rattle.zone_tables.proofs.zone.ZoneTables.write_block.Goals.{After-store_blo
 
 module _ {g : Over} (c : After-store_block g) where
   sound_before : IsSound c.self.inside c.args.self.now
-  sound_before = subst (IsSound c.self.inside) c.self.view_is c.self.invariant
+  sound_before = is_sound c.self.view_is c.self.invariant
 
   -- the words of the block after the call
   written : HasBlock c.self.inside.words c.store_block.new.self c.args.first (2 ^ c.args.order) (put_from (contents_of c.args.self.now c.args.first) c.args.from c.args.values.now)

@@ -12,6 +12,7 @@ use Rattle.zone_tables.specs.declared.note.PageNote.{PageNote}
 use Rattle.zone_tables.specs.declared.zone.ZoneTables.TheInside.{Inside}
 use Rattle.zone_tables.specs.History.{History, told_stores}
 use Rattle.zone_tables.specs.Sound.{IsSound, state_of}
+use Rattle.zone_tables.proofs.Facts.{is_sound}
 use Rattle.zone_tables.proofs.LoadsAndStores.{resident}
 use Rattle.zone_tables.proofs.Tables.{placement_seen, note_seen}
 use Rattle.zone_tables.proofs.WordsAtOnce.{Writing, after_stores, stores_sound, stores_view}
@@ -23,35 +24,35 @@ same_page : (o : Option ℕ) (p q : ℕ) → o ≡ Some p → o ≡ Some q → p
 same_page o p q e f = cc
 
 pub returns-then-is_empty-clause-valid : goal.returns-then-is_empty-clause-valid
-returns-then-is_empty-clause-valid g c = (subst (IsSound c.self.inside) c.self.view_is c.self.invariant).valid
+returns-then-is_empty-clause-valid g c = (is_sound c.self.view_is c.self.invariant).valid
 
 pub holder-requires : goal.holder-requires
 holder-requires g c =
-    let sound : IsSound c.self.inside c.args.self.now = subst (IsSound c.self.inside) c.self.view_is c.self.invariant in
+    let sound = is_sound c.self.view_is c.self.invariant in
     let is = resident c.self.inside c.args.self.now sound c.args.address c.args.frame c.requires.frame in
     (omega arith, frame_within c.args.self.now sound.valid is.page (At c.args.frame) is.at)
 
 pub unreachable-requires : goal.unreachable-requires
 unreachable-requires g c =
-    let sound : IsSound c.self.inside c.args.self.now = subst (IsSound c.self.inside) c.self.view_is c.self.invariant in
+    let sound = is_sound c.self.view_is c.self.invariant in
     let is = resident c.self.inside c.args.self.now sound c.args.address c.args.frame c.requires.frame in
     c.in_default.not-Some is.page (c.holder.ensures.holder ∙ holder_at c.args.self.now sound.valid is.page c.args.frame is.at)
 
 pub store_words-requires : goal.store_words-requires
 store_words-requires g c =
-    let is = resident c.self.inside c.args.self.now (subst (IsSound c.self.inside) c.self.view_is c.self.invariant) c.args.address c.args.frame c.requires.frame in
+    let is = resident c.self.inside c.args.self.now (is_sound c.self.view_is c.self.invariant) c.args.address c.args.frame c.requires.frame in
     (omega arith, (is.row_within, omega (arith, c.get.ensures.value, c.requires.within)))
 
 pub get-note-requires : goal.get-note-requires
 get-note-requires g c =
-    let sound : IsSound c.self.inside c.args.self.now = subst (IsSound c.self.inside) c.self.view_is c.self.invariant in
+    let sound = is_sound c.self.view_is c.self.invariant in
     let is = resident c.self.inside c.args.self.now sound c.args.address c.args.frame c.requires.frame in
     let page : is.page ≡ c.in-Some.page = same_page _ _ _ (holder_at c.args.self.now sound.valid is.page c.args.frame is.at) (sym c.holder.ensures.holder ∙ c.in-Some.is) in
     omega (arith, is.note_within, page)
 
 pub revise-requires-clause-used : goal.revise-requires-clause-used
 revise-requires-clause-used g c =
-    let sound : IsSound c.self.inside c.args.self.now = subst (IsSound c.self.inside) c.self.view_is c.self.invariant in
+    let sound = is_sound c.self.view_is c.self.invariant in
     let is = resident c.self.inside c.args.self.now sound c.args.address c.args.frame c.requires.frame in
     let page : is.page ≡ c.in-Some.page = same_page _ _ _ (holder_at c.args.self.now sound.valid is.page c.args.frame is.at) (sym c.holder.ensures.holder ∙ c.in-Some.is) in
     let used = not_none _ (At c.args.frame) (ap (map.get c.args.self.now.placement) (sym page) ∙ is.at) in
@@ -59,17 +60,17 @@ revise-requires-clause-used g c =
 
 pub revise-requires-clause-stays : goal.revise-requires-clause-stays
 revise-requires-clause-stays g c =
-    let sound : IsSound c.self.inside c.args.self.now = subst (IsSound c.self.inside) c.self.view_is c.self.invariant in
+    let sound = is_sound c.self.view_is c.self.invariant in
     let is = resident c.self.inside c.args.self.now sound c.args.address c.args.frame c.requires.frame in
     let page : is.page ≡ c.in-Some.page = same_page _ _ _ (holder_at c.args.self.now sound.valid is.page c.args.frame is.at) (sym c.holder.ensures.holder ∙ c.in-Some.is) in
     let used = not_none _ (At c.args.frame) (ap (map.get c.args.self.now.placement) (sym page) ∙ is.at) in
-    let seen = note_seen c.self.inside c.args.self.now c.self.view_is sound c.in-Some.page used c.get-note.result c.get-note.ensures in
+    let seen = note_seen c.self.view_is sound used c.get-note.ensures in
     ap (λ (n : PageNote). is_some n.placement) c.stored.ensures ∙ ap is_some seen.placement ∙ used
 
 module _ {g : Over} (c : After-note_each g) where
   writing : Writing c.self.inside c.args.self.now c.args.address c.in-Some.page c.args.frame c.args.from c.get-note.result (length c.args.values.now)
   writing =
-      let sound : IsSound c.self.inside c.args.self.now = subst (IsSound c.self.inside) c.self.view_is c.self.invariant in
+      let sound = is_sound c.self.view_is c.self.invariant in
       let is = resident c.self.inside c.args.self.now sound c.args.address c.args.frame c.requires.frame in
       let page : is.page ≡ c.in-Some.page = same_page _ _ _ (holder_at c.args.self.now sound.valid is.page c.args.frame is.at) (sym c.holder.ensures.holder ∙ c.in-Some.is) in
       record {
