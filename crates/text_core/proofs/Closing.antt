@@ -9,11 +9,11 @@ use Rattle.text_core.specs.Script.{StopsIn, Answer, IsBeginning, Numbered, comma
 use Rattle.text_core.specs.Runs.{Rule, Asking, IsAsking, IsEnded, IsStopped, IsUnread}
 use Rattle.text_core.specs.ReplyBuffer.{ReplyBuffer, Owes, empty}
 use Rattle.text_core.specs.Reply.{newlines}
-use Rattle.text_core.specs.ScriptRunner.{ScriptRunner, BreaksOff, EndsBy, Finishes, HasClosed, HasEnded, StopsBy, HasFault, HasRead, begun}
+use Rattle.text_core.specs.ScriptRunner.{ScriptRunner, BreaksOff, EndsBy, Finishes, HasClosed, HasEnded, StopsBy, HasFault, HasRead, PlaysOn, ReadsOn, begun}
 use Rattle.text_core.proofs.Waiting.{owes_empty, owes_none}
 use Rattle.text_core.proofs.Newlines.{newlines-append}
 use Rattle.text_core.proofs.Beginnings.{commands_begin}
-use Rattle.text_core.proofs.Reading.{begins_of}
+use Rattle.text_core.proofs.Reading.{begins_of, ended, well}
 use Rattle.text_core.proofs.Inputs.{begins_end, ends_stop, read_clean}
 
 pub begun_read : {S : Type 0} (may : Rule S) (start : S) (s : ScriptRunner S) (first : Option (List ℕ)) → s ≡ begun start → HasRead may start s [] first first
@@ -61,16 +61,6 @@ flushed may asks start Read s input e left left_new first mid after other h flus
 flushed may asks start Write s input e left left_new first mid after other h flushes = absurd (other refl)
 flushed may asks start Memory s input e left left_new first mid after other h flushes = record { before = h.before; begins = h.begins; asking = h.asking; written = flushes h.begins.answers first h.owes }
 
--- a flush stopped after some bytes were read
-pub read_stops : {S : Type 0} (may : Rule S) (start : S) (s : ScriptRunner S) (past : List ℕ) (first mid after : Option (List ℕ)) (at : ℕ) → HasRead may start s past first mid → FlushStops s mid after at → (rest : List ℕ) → IsStopped may start (past ++ rest) first after at
-read_stops may start s past first mid after at r stops rest = record {
-  before = r.before;
-  later = commands_from s.reading s.line (parts_of (s.held ++ rest));
-  order = ap (λ (p : List ℕ). commands_of (p ++ rest)) r.split ∙ ap commands_of (append_assoc r.whole s.held rest) ∙ r.commands (s.held ++ rest);
-  begins = begins_of may start s past first mid r;
-  stops = stops r.answers first r.owes;
-}
-
 fault_stopped : {S : Type 0} (may : Rule S) (start : S) (s : ScriptRunner S) (past : List ℕ) (e : RunError) (first mid after : Option (List ℕ)) (at : ℕ) → HasFault may start s past e first mid → FlushStops s mid after at → (rest : List ℕ) → IsStopped may start (past ++ rest) first after at
 fault_stopped may start s past e first mid after at h stops rest = record {
   before = h.before;
@@ -81,7 +71,7 @@ fault_stopped may start s past e first mid after at h stops rest = record {
 }
 
 -- a flush stopped after another fault
-pub ended_stops : {S : Type 0} (may : Rule S) (asks : Asking S) (start : S) (f : Fault) (s : ScriptRunner S) (past : List ℕ) (e : RunError) (first mid after : Option (List ℕ)) (at : ℕ) → f ≢ Write → EndsBy may asks start f s past e first mid → FlushStops s mid after at → (rest : List ℕ) → IsStopped may start (past ++ rest) first after at
+ended_stops : {S : Type 0} (may : Rule S) (asks : Asking S) (start : S) (f : Fault) (s : ScriptRunner S) (past : List ℕ) (e : RunError) (first mid after : Option (List ℕ)) (at : ℕ) → f ≢ Write → EndsBy may asks start f s past e first mid → FlushStops s mid after at → (rest : List ℕ) → IsStopped may start (past ++ rest) first after at
 ended_stops may asks start Syntax s past e first mid after at other h stops rest = fault_stopped may start s past e first mid after at h stops rest
 ended_stops may asks start LongLine s past e first mid after at other h stops rest = fault_stopped may start s past e first mid after at h stops rest
 ended_stops may asks start Read s past e first mid after at other h stops rest = absurd h
@@ -102,24 +92,6 @@ written_out s now none = λ answers first owes.
     let O : ReplyBuffer → Type 0 = λ box. Owes box answers first now in
     owes_none empty answers first now now (subst O none owes) (Appends-nil now)
 
--- the replies to what was read were written
-pub read_flushed : {S : Type 0} (may : Rule S) (start : S) (s : ScriptRunner S) (past : List ℕ) (first mid after : Option (List ℕ)) → HasRead may start s past first mid → Flushes s mid after → HasRead may start (record s { box = empty }) past first after
-read_flushed may start s past first mid after r flushes = record {
-  whole = r.whole;
-  split = r.split;
-  unbroken = r.unbroken;
-  short = r.short;
-  line = r.line;
-  before = r.before;
-  commands = r.commands;
-  fault = r.fault;
-  reading = r.reading;
-  answers = r.answers;
-  replied = r.replied;
-  replies = r.replies;
-  owes = owes_empty r.answers first after (flushes r.answers first r.owes);
-}
-
 module _ {S : Type 0} (may : Rule S) (asks : Asking S) (start : S) (s : ScriptRunner S) (past : List ℕ) (first mid after : Option (List ℕ)) where
   -- reading a piece never ends with the fault of a read
   no_read : (f : Fault) (e : RunError) → EndsBy may asks start f s past e first mid → f ≢ Read
@@ -135,17 +107,67 @@ module _ {S : Type 0} (may : Rule S) (asks : Asking S) (start : S) (s : ScriptRu
       flushed may asks start f s (past ++ rest) e left left_new first mid after other (ends_stop may asks start f s past rest (past ++ rest) e left left_new first mid refl h) flushes
 
   -- a fault ended the run, and all replies before it were written
-  pub closed : (e : RunError) → e.fault ≢ Write → HasEnded may asks start s past e first mid → Flushes s mid after → HasClosed may asks start past e first after
+  closed : (e : RunError) → e.fault ≢ Write → HasEnded may asks start s past e first mid → Flushes s mid after → HasClosed may asks start past e first after
   closed e other h flushes = record { heard = no_read e.fault e h; ends = closed_by e.fault e other h flushes }
 
 -- a reply wasn't taken whole
-pub closed_in : {S : Type 0} (may : Rule S) (asks : Asking S) (start : S) (past : List ℕ) (e : RunError) (first now : Option (List ℕ)) → e.fault ≡ Write → ((rest : List ℕ) → IsStopped may start (past ++ rest) first now e.line) → HasClosed may asks start past e first now
+closed_in : {S : Type 0} (may : Rule S) (asks : Asking S) (start : S) (past : List ℕ) (e : RunError) (first now : Option (List ℕ)) → e.fault ≡ Write → ((rest : List ℕ) → IsStopped may start (past ++ rest) first now e.line) → HasClosed may asks start past e first now
 closed_in may asks start past e first now is stops = record {
   heard = λ read. not_write e.fault read is;
   ends = λ rest left left_new. let E : Fault → Type 0 = λ f. IsEnded may asks start f (past ++ rest) e left left_new first now in subst E (sym is) (stops rest);
 } where
   not_write : (f : Fault) → f ≡ Read → f ≡ Write → ⊥
   not_write f read write = cc
+
+-- some bytes were read, up to the replies that wait
+module _ {S : Type 0} (may : Rule S) (asks : Asking S) (s mid : ScriptRunner S) (bytes : List ℕ) (now between after : Option (List ℕ)) where
+  -- the replies were written
+  pub plays_flushed : ReadsOn may asks s mid bytes now between well → Flushes mid between after → PlaysOn may asks s (record mid { box = empty }) bytes now after well
+  plays_flushed reads flushes start past first before =
+      let r = reads start past first before in
+      record {
+        whole = r.whole;
+        split = r.split;
+        unbroken = r.unbroken;
+        short = r.short;
+        line = r.line;
+        before = r.before;
+        commands = r.commands;
+        fault = r.fault;
+        reading = r.reading;
+        answers = r.answers;
+        replied = r.replied;
+        replies = r.replies;
+        owes = owes_empty r.answers first after (flushes r.answers first r.owes);
+      }
+
+  module _ (t : ScriptRunner S) (e : RunError) where
+    -- a reply wasn't taken whole
+    pub plays_stopped : e.fault ≡ Write → ReadsOn may asks s mid bytes now between well → FlushStops mid between after e.line → PlaysOn may asks s t bytes now after (ended e)
+    plays_stopped is reads stops start past first before =
+        let r = reads start past first before in
+        closed_in may asks start (past ++ bytes) e first after is (λ rest. record {
+          before = r.before;
+          later = commands_from mid.reading mid.line (parts_of (mid.held ++ rest));
+          order = ap (λ (p : List ℕ). commands_of (p ++ rest)) r.split ∙ ap commands_of (append_assoc r.whole mid.held rest) ∙ r.commands (mid.held ++ rest);
+          begins = begins_of may start mid (past ++ bytes) first between r;
+          stops = stops r.answers first r.owes;
+        })
+
+    -- it wasn't while these bytes were read
+    pub plays_cut : e.fault ≡ Write → ReadsOn may asks s mid bytes now after (ended e) → PlaysOn may asks s t bytes now after (ended e)
+    plays_cut is reads start past first before =
+        let E : Fault → Type 0 = λ f. EndsBy may asks start f mid (past ++ bytes) e first after in
+        closed_in may asks start (past ++ bytes) e first after is (subst E is (reads start past first before))
+
+    -- another fault ended the run, and the replies were written, or one of them wasn't taken whole
+    module _ (other : e.fault ≢ Write) (reads : ReadsOn may asks s mid bytes now between (ended e)) where
+      pub plays_closed : Flushes mid between after → PlaysOn may asks s t bytes now after (ended e)
+      plays_closed flushes start past first before = closed may asks start mid (past ++ bytes) first between after e other (reads start past first before) flushes
+
+      pub plays_late : (late : RunError) → late.fault ≡ Write → FlushStops mid between after late.line → PlaysOn may asks s t bytes now after (ended late)
+      plays_late late is stops start past first before =
+          closed_in may asks start (past ++ bytes) late first after is (ended_stops may asks start e.fault mid (past ++ bytes) e first between after late.line other (reads start past first before) stops)
 
 -- a read failed, or too many didn't come to the end, and no reply waits
 pub breaks_off_written : {S : Type 0} (may : Rule S) (asks : Asking S) (start : S) (s : ScriptRunner S) (past input : List ℕ) (e : RunError) (left left_new first now : Option (List ℕ)) → s.box ≡ empty → e ≡ record { fault = Read; line = s.line } → Consumes left left_new past → HasRead may start s past first now → IsEnded may asks start e.fault input e left left_new first now

@@ -11,7 +11,7 @@ use Rattle.text_core.specs.FaultNumber.{fault_of_line}
 use Rattle.text_core.specs.Line.{line_of}
 use Rattle.text_core.specs.ReplyBuffer.{ReplyBuffer, Owes}
 use Rattle.text_core.specs.Reply.{newlines}
-use Rattle.text_core.specs.ScriptRunner.{ScriptRunner, EndsBy, HasEnded, HasRead, HasFault, HasNoMemory}
+use Rattle.text_core.specs.ScriptRunner.{ScriptRunner, EndsBy, HasEnded, HasRead, HasFault, ReadsCommand, ReadsLine, ReadsOn, ReadsTo}
 use Rattle.text_core.proofs.Lines.{commands_by, fault_by, reading_by, commands-line, commands-long, fault-line, fault-long, reading-line}
 use Rattle.text_core.proofs.Newlines.{newlines-append}
 
@@ -47,101 +47,65 @@ line_next : {S : Type 0} (may : Rule S) (start : S) (s : ScriptRunner S) (past t
 line_next may start s past text first now r e none =
     omega (arith, r.line, ap newlines (whole_is may start s past first now r e), newlines-append past (text ++ 10 ∷ []), newlines-append text (10 ∷ []), none)
 
-module _ {S : Type 0} (may : Rule S) (start : S) (s : ScriptRunner S) (past text : List ℕ) (first now : Option (List ℕ)) (r : HasRead may start s past first now) (begins : s.held ≡ []) (none : newlines text ≡ 0) where
+ended_wrong : {S : Type 0} (may : Rule S) (asks : Asking S) (start : S) (s : ScriptRunner S) (past : List ℕ) (error : ScriptError) (fault : Fault) (line : ℕ) (first now : Option (List ℕ)) → fault ≡ fault_of_line error → HasFault may start s past (record { fault = fault_of_line error; line = line }) first now → HasEnded may asks start s past (record { fault = fault; line = line }) first now
+ended_wrong may asks start s past of_line.Syntax fault line first now is h = let E : Fault → Type 0 = λ f. HasEnded may asks start s past (record { fault = f; line = line }) first now in subst E (sym is) h
+ended_wrong may asks start s past of_line.LongLine fault line first now is h = let E : Fault → Type 0 = λ f. HasEnded may asks start s past (record { fault = f; line = line }) first now in subst E (sym is) h
+
+-- all went well
+abbrev pub well : Result (Unit {0}) RunError
+well = Ok tt
+
+-- the run ended with this error
+abbrev pub ended : RunError → Result (Unit {0}) RunError
+ended e = Err e
+
+module _ {S : Type 0} (may : Rule S) (asks : Asking S) (s : ScriptRunner S) (text : List ℕ) (now : Option (List ℕ)) (begins : s.held ≡ []) where
   abbrev here : Result Came Fault
   here = line_comes s.reading s.line text
 
-  commands_line : (rest : List ℕ) → commands_of ((past ++ (text ++ 10 ∷ [])) ++ rest) ≡ r.before ++ commands_by s.reading s.line here (parts_of rest)
-  commands_line rest =
-      ap commands_of (joined past text rest) ∙ commands_next may start s past first now r begins (text ++ 10 ∷ rest)
-      ∙ ap (λ (cs : List Numbered). r.before ++ cs) (commands-line s.reading s.line text rest none)
+  module _ (none : newlines text ≡ 0) (start : S) (past : List ℕ) (first : Option (List ℕ)) (r : HasRead may start s past first now) where
+    commands_line : (rest : List ℕ) → commands_of ((past ++ (text ++ 10 ∷ [])) ++ rest) ≡ r.before ++ commands_by s.reading s.line here (parts_of rest)
+    commands_line rest =
+        ap commands_of (joined past text rest) ∙ commands_next may start s past first now r begins (text ++ 10 ∷ rest)
+        ∙ ap (λ (cs : List Numbered). r.before ++ cs) (commands-line s.reading s.line text rest none)
 
-  fault_line : (rest : List ℕ) → fault_of ((past ++ (text ++ 10 ∷ [])) ++ rest) ≡ fault_by s.reading s.line here (parts_of rest)
-  fault_line rest = ap fault_of (joined past text rest) ∙ fault_next may start s past first now r begins (text ++ 10 ∷ rest) ∙ fault-line s.reading s.line text rest none
+    fault_line : (rest : List ℕ) → fault_of ((past ++ (text ++ 10 ∷ [])) ++ rest) ≡ fault_by s.reading s.line here (parts_of rest)
+    fault_line rest = ap fault_of (joined past text rest) ∙ fault_next may start s past first now r begins (text ++ 10 ∷ rest) ∙ fault-line s.reading s.line text rest none
 
-  reading_line : (rest : List ℕ) → reading_of ((past ++ (text ++ 10 ∷ [])) ++ rest) ≡ reading_by s.reading s.line here (parts_of rest)
-  reading_line rest = ap reading_of (joined past text rest) ∙ reading_next may start s past first now r begins (text ++ 10 ∷ rest) ∙ reading-line s.reading s.line text rest none
+    reading_line : (rest : List ℕ) → reading_of ((past ++ (text ++ 10 ∷ [])) ++ rest) ≡ reading_by s.reading s.line here (parts_of rest)
+    reading_line rest = ap reading_of (joined past text rest) ∙ reading_next may start s past first now r begins (text ++ 10 ∷ rest) ∙ reading-line s.reading s.line text rest none
 
   -- a line that ends no command: it is skipped, or begins a block, or is a client line
-  pub read_on : (reading : Reading) → here ≡ Ok (record { ended = None; reading = reading }) → HasRead may start (record s { reading = reading; line = s.line + 1 }) (past ++ (text ++ 10 ∷ [])) first now
-  read_on reading is = record {
+  pub read_on : (reading : Reading) → here ≡ Ok (record { ended = None; reading = reading }) → ReadsLine may asks s (record s { reading = reading; line = s.line + 1 }) text now now well
+  read_on reading is none start past first r = record {
     whole = past ++ (text ++ 10 ∷ []);
     split = sym (append-nil _) ∙ ap (λ (h : List ℕ). (past ++ (text ++ 10 ∷ [])) ++ h) (sym begins);
     unbroken = r.unbroken;
     short = r.short;
     line = line_next may start s past text first now r begins none;
     before = r.before;
-    commands = λ rest. commands_line rest ∙ ap (λ l. r.before ++ commands_by s.reading s.line l (parts_of rest)) is;
-    fault = λ rest. fault_line rest ∙ ap (λ l. fault_by s.reading s.line l (parts_of rest)) is;
-    reading = λ rest. reading_line rest ∙ ap (λ l. reading_by s.reading s.line l (parts_of rest)) is;
+    commands = λ rest. commands_line none start past first r rest ∙ ap (λ l. r.before ++ commands_by s.reading s.line l (parts_of rest)) is;
+    fault = λ rest. fault_line none start past first r rest ∙ ap (λ l. fault_by s.reading s.line l (parts_of rest)) is;
+    reading = λ rest. reading_line none start past first r rest ∙ ap (λ l. reading_by s.reading s.line l (parts_of rest)) is;
     answers = r.answers;
     replied = r.replied;
     replies = r.replies;
     owes = r.owes;
   }
 
-  -- a line that ends a command, which is answered
-  module _ (command : Numbered) (reading : Reading) (is : here ≡ Ok (record { ended = Some command; reading = reading })) where
-    commands_ended : (rest : List ℕ) → commands_of ((past ++ (text ++ 10 ∷ [])) ++ rest) ≡ r.before ++ command ∷ commands_from reading (s.line + 1) (parts_of rest)
-    commands_ended rest = commands_line rest ∙ ap (λ l. r.before ++ commands_by s.reading s.line l (parts_of rest)) is
-
-    pub read_answered : (answers : List Answer) (machine : S) (box : ReplyBuffer) (after : Option (List ℕ)) → may s.machine command answers machine
-        → ((before : List Answer) (first : Option (List ℕ)) → Owes s.box before first now → Owes box (before ++ answers) first after)
-        → HasRead may start (record { reading = reading; machine = machine; held = s.held; line = s.line + 1; replies = s.replies + length answers; box = box }) (past ++ (text ++ 10 ∷ [])) first after
-    read_answered answers machine box after told posts = record {
-      whole = past ++ (text ++ 10 ∷ []);
-      split = sym (append-nil _) ∙ ap (λ (h : List ℕ). (past ++ (text ++ 10 ∷ [])) ++ h) (sym begins);
-      unbroken = r.unbroken;
-      short = r.short;
-      line = line_next may start s past text first now r begins none;
-      before = r.before ++ command ∷ [];
-      commands = λ rest. commands_ended rest ∙ sym (append_assoc r.before (command ∷ []) _);
-      fault = λ rest. fault_line rest ∙ ap (λ l. fault_by s.reading s.line l (parts_of rest)) is;
-      reading = λ rest. reading_line rest ∙ ap (λ l. reading_by s.reading s.line l (parts_of rest)) is;
-      answers = r.answers ++ answers;
-      replied = replied_more may start s.machine machine r.before r.answers command answers r.replied told;
-      replies = omega (arith, r.replies, length-append r.answers answers);
-      owes = posts r.answers first r.owes;
-    }
-
-    -- there is no memory for the command
-    pub read_lacking : (asks : Asking S) (t : ScriptRunner S) (line : ℕ) → line ≡ command.line → t.box ≡ s.box → asks s.machine command.command → HasNoMemory may asks start t (past ++ (text ++ 10 ∷ [])) line first now
-    read_lacking asks t line at box asking = record {
-      before = r.before;
-      begins = begins_of may start s past first now r;
-      asking = λ rest. inl (record {
-        command = command;
-        later = commands_from reading (s.line + 1) (parts_of rest);
-        order = commands_ended rest;
-        asking = asking;
-        at = at;
-      });
-      owes = (let O : ReplyBuffer → Type 0 = λ b. Owes b r.answers first now in subst O (sym box) r.owes);
-    }
-
-    -- a writer stopped in the command's answers, or in those before
-    pub read_stopped : (answers : List Answer) (machine : S) (after : Option (List ℕ)) (at : ℕ) (rest : List ℕ) → may s.machine command answers machine → StopsIn (r.answers ++ answers) first after at → IsStopped may start ((past ++ (text ++ 10 ∷ [])) ++ rest) first after at
-    read_stopped answers machine after at rest told stops = record {
-      before = r.before ++ command ∷ [];
-      later = commands_from reading (s.line + 1) (parts_of rest);
-      order = commands_ended rest ∙ sym (append_assoc r.before (command ∷ []) _);
-      begins = record { answers = r.answers ++ answers; after = machine; replied = replied_more may start s.machine machine r.before r.answers command answers r.replied told };
-      stops = stops;
-    }
-
   -- a line that is wrong
-  pub read_wrong : (t : ScriptRunner S) (fault : Fault) → t.box ≡ s.box → here ≡ Err fault → HasFault may start t (past ++ (text ++ 10 ∷ [])) (record { fault = fault; line = s.line }) first now
-  read_wrong t fault box is = record {
+  pub read_wrong : (t : ScriptRunner S) (error : ScriptError) (fault : Fault) → t.box ≡ s.box → fault ≡ fault_of_line error → here ≡ Err (fault_of_line error) → ReadsLine may asks s t text now now (ended (record { fault = fault; line = s.line }))
+  read_wrong t error fault box of is none start past first r = ended_wrong may asks start t (past ++ (text ++ 10 ∷ [])) error fault s.line first now of (record {
     before = r.before;
-    commands = λ rest. commands_line rest ∙ ap (λ l. r.before ++ commands_by s.reading s.line l (parts_of rest)) is ∙ append-nil r.before;
-    fault = λ rest. fault_line rest ∙ ap (λ l. fault_by s.reading s.line l (parts_of rest)) is;
+    commands = λ rest. commands_line none start past first r rest ∙ ap (λ l. r.before ++ commands_by s.reading s.line l (parts_of rest)) is ∙ append-nil r.before;
+    fault = λ rest. fault_line none start past first r rest ∙ ap (λ l. fault_by s.reading s.line l (parts_of rest)) is;
     begins = begins_of may start s past first now r;
     owes = (let O : ReplyBuffer → Type 0 = λ b. Owes b r.answers first now in subst O (sym box) r.owes);
-  }
+  })
 
   -- a line that begins a block for which there is no memory
-  pub read_unbegun : (asks : Asking S) (t : ScriptRunner S) (line : ℕ) → line ≡ s.line → t.box ≡ s.box → s.reading.block ≡ None → BeginsBlock (line_of s.reading.profile text) → HasNoMemory may asks start t (past ++ (text ++ 10 ∷ [])) line first now
-  read_unbegun asks t line at box outside during =
+  pub read_unbegun : (t : ScriptRunner S) → t.box ≡ s.box → s.reading.block ≡ None → BeginsBlock (line_of s.reading.profile text) → ReadsLine may asks s t text now now (ended (record { fault = Memory; line = s.line }))
+  read_unbegun t box outside during none start past first r =
       let at_end : past ++ [] ≡ past = append-nil past in
       let read : reading_of past ≡ s.reading = ap reading_of (sym at_end) ∙ reading_next may start s past first now r begins [] in
       let D : Reading → Type 0 = λ q. BeginsBlock (line_of q.profile text) in
@@ -158,14 +122,70 @@ module _ {S : Type 0} (may : Rule S) (start : S) (s : ScriptRunner S) (past text
           commands = ap commands_of (sym at_end) ∙ commands_next may start s past first now r begins [] ∙ append-nil r.before;
           one_line = none;
           during = subst D (sym read) during;
-          at = (let n : line ≡ newlines past + 1 = omega (arith, at, r.line, ap newlines (whole_is may start s past first now r begins)) in n);
+          at = (let n : s.line ≡ newlines past + 1 = omega (arith, r.line, ap newlines (whole_is may start s past first now r begins)) in n);
         });
         owes = subst O (sym box) r.owes;
       }
 
-pub ended_wrong : {S : Type 0} (may : Rule S) (asks : Asking S) (start : S) (s : ScriptRunner S) (past : List ℕ) (error : ScriptError) (fault : Fault) (line : ℕ) (first now : Option (List ℕ)) → fault ≡ fault_of_line error → HasFault may start s past (record { fault = fault_of_line error; line = line }) first now → HasEnded may asks start s past (record { fault = fault; line = line }) first now
-ended_wrong may asks start s past of_line.Syntax fault line first now is h = let E : Fault → Type 0 = λ f. HasEnded may asks start s past (record { fault = f; line = line }) first now in subst E (sym is) h
-ended_wrong may asks start s past of_line.LongLine fault line first now is h = let E : Fault → Type 0 = λ f. HasEnded may asks start s past (record { fault = f; line = line }) first now in subst E (sym is) h
+-- a line that ends a command
+module _ {S : Type 0} (may : Rule S) (asks : Asking S) (command : Numbered) (s : ScriptRunner S) (now : Option (List ℕ)) (begins : s.held ≡ []) where
+  abbrev at : Reading → ScriptRunner S
+  at reading = record s { reading = reading }
+
+  module _ (reading : Reading) (text : List ℕ) (is : line_comes reading s.line text ≡ Ok (record { ended = Some command; reading = s.reading })) (none : newlines text ≡ 0)
+      (start : S) (past : List ℕ) (first : Option (List ℕ)) (r : HasRead may start (at reading) past first now) where
+    commands_ended : (rest : List ℕ) → commands_of ((past ++ (text ++ 10 ∷ [])) ++ rest) ≡ r.before ++ command ∷ commands_from s.reading (s.line + 1) (parts_of rest)
+    commands_ended rest = commands_line may asks (at reading) text now begins none start past first r rest ∙ ap (λ l. r.before ++ commands_by reading s.line l (parts_of rest)) is
+
+  -- it is answered
+  pub read_answered : (answers : List Answer) (machine : S) (t : ScriptRunner S) (after : Option (List ℕ)) → may s.machine command answers machine
+      → t ≡ record s { machine = machine; line = s.line + 1; replies = t.replies; box = t.box } → t.replies ≡ s.replies + length answers
+      → ((before : List Answer) (first : Option (List ℕ)) → Owes s.box before first now → Owes t.box (before ++ answers) first after)
+      → ReadsCommand may asks command s t now after well
+  read_answered answers machine t after told so counted posts reading text is none start past first r =
+      let R : ScriptRunner S → Type 0 = λ t. HasRead may start t (past ++ (text ++ 10 ∷ [])) first after in
+      subst R (sym so) (record {
+        whole = past ++ (text ++ 10 ∷ []);
+        split = sym (append-nil _) ∙ ap (λ (h : List ℕ). (past ++ (text ++ 10 ∷ [])) ++ h) (sym begins);
+        unbroken = r.unbroken;
+        short = r.short;
+        line = line_next may start (at reading) past text first now r begins none;
+        before = r.before ++ command ∷ [];
+        commands = λ rest. commands_ended reading text is none start past first r rest ∙ sym (append_assoc r.before (command ∷ []) _);
+        fault = λ rest. fault_line may asks (at reading) text now begins none start past first r rest ∙ ap (λ l. fault_by reading s.line l (parts_of rest)) is;
+        reading = λ rest. reading_line may asks (at reading) text now begins none start past first r rest ∙ ap (λ l. reading_by reading s.line l (parts_of rest)) is;
+        answers = r.answers ++ answers;
+        replied = replied_more may start s.machine machine r.before r.answers command answers r.replied told;
+        replies = omega (arith, r.replies, counted, length-append r.answers answers);
+        owes = posts r.answers first r.owes;
+      })
+
+  -- there is no memory for it
+  pub read_lacking : (t : ScriptRunner S) (line : ℕ) → line ≡ command.line → t.box ≡ s.box → asks s.machine command.command → ReadsCommand may asks command s t now now (ended (record { fault = Memory; line = line }))
+  read_lacking t line at box asking reading text is none start past first r = record {
+    before = r.before;
+    begins = record { answers = r.answers; after = s.machine; replied = r.replied };
+    asking = λ rest. inl (record {
+      command = command;
+      later = commands_from s.reading (s.line + 1) (parts_of rest);
+      order = commands_ended reading text is none start past first r rest;
+      asking = asking;
+      at = at;
+    });
+    owes = (let O : ReplyBuffer → Type 0 = λ b. Owes b r.answers first now in subst O (sym box) r.owes);
+  }
+
+  -- a writer stopped in its answers, or in those before
+  pub read_stopped : (answers : List Answer) (machine : S) (t : ScriptRunner S) (after : Option (List ℕ)) (line : ℕ) → may s.machine command answers machine
+      → ((before : List Answer) (first : Option (List ℕ)) → Owes s.box before first now → StopsIn (before ++ answers) first after line)
+      → ReadsCommand may asks command s t now after (ended (record { fault = Write; line = line }))
+  read_stopped answers machine t after line told stops reading text is none start past first r rest = record {
+    before = r.before ++ command ∷ [];
+    later = commands_from s.reading (s.line + 1) (parts_of rest);
+    order = commands_ended reading text is none start past first r rest ∙ sym (append_assoc r.before (command ∷ []) _);
+    begins = record { answers = r.answers ++ answers; after = machine; replied = replied_more may start s.machine machine r.before r.answers command answers r.replied told };
+    stops = stops r.answers first r.owes;
+  }
 
 -- the beginning of a line, which was held, is taken out
 pub read_taken_out : {S : Type 0} (may : Rule S) (start : S) (s : ScriptRunner S) (past : List ℕ) (first now : Option (List ℕ)) → (r : HasRead may start s past first now) → HasRead may start (record s { held = [] }) r.whole first now
@@ -192,8 +212,8 @@ past_line may start s past text first now r =
     ∙ ap (λ (p : List ℕ). p ++ (text ++ 10 ∷ [])) (sym r.split)
 
 -- a part of a line is held
-pub read_held : {S : Type 0} (may : Rule S) (start : S) (s : ScriptRunner S) (past text : List ℕ) (first now : Option (List ℕ)) → HasRead may start s past first now → newlines text ≡ 0 → length (s.held ++ text) ≤ 200 → HasRead may start (record s { held = s.held ++ text }) (past ++ text) first now
-read_held may start s past text first now r none short = record {
+pub read_held : {S : Type 0} (may : Rule S) (asks : Asking S) (s : ScriptRunner S) (text : List ℕ) (now : Option (List ℕ)) → newlines text ≡ 0 → length (s.held ++ text) ≤ 200 → ReadsOn may asks s (record s { held = s.held ++ text }) text now now well
+read_held may asks s text now none short start past first r = record {
   whole = r.whole;
   split = ap (λ (p : List ℕ). p ++ text) r.split ∙ append_assoc r.whole s.held text;
   unbroken = omega (arith, newlines-append s.held text, r.unbroken, none);
@@ -210,8 +230,8 @@ read_held may start s past text first now r none short = record {
 }
 
 -- a line that has begun is too long
-pub read_long : {S : Type 0} (may : Rule S) (start : S) (s : ScriptRunner S) (past text : List ℕ) (first now : Option (List ℕ)) → HasRead may start s past first now → newlines text ≡ 0 → 200 < length (s.held ++ text) → HasFault may start s (past ++ text) (record { fault = LongLine; line = s.line }) first now
-read_long may start s past text first now r none long =
+pub read_long : {S : Type 0} (may : Rule S) (asks : Asking S) (s : ScriptRunner S) (text : List ℕ) (now : Option (List ℕ)) → newlines text ≡ 0 → 200 < length (s.held ++ text) → ReadsOn may asks s s text now now (ended (record { fault = LongLine; line = s.line }))
+read_long may asks s text now none long start past first r =
     let unbroken : newlines (s.held ++ text) ≡ 0 = omega (arith, newlines-append s.held text, r.unbroken, none) in
     let at : (rest : List ℕ) → (past ++ text) ++ rest ≡ r.whole ++ ((s.held ++ text) ++ rest) = λ rest.
     append_assoc past text rest ∙ ap (λ (p : List ℕ). p ++ (text ++ rest)) r.split ∙ append_assoc r.whole s.held (text ++ rest)
@@ -246,35 +266,33 @@ ends_more may asks start Memory s past more e first now h = record {
   owes = h.owes;
 }
 
+-- no more bytes
+pub reads_none : {S : Type 0} (may : Rule S) (asks : Asking S) (s : ScriptRunner S) (now : Option (List ℕ)) → ReadsOn may asks s s [] now now well
+reads_none may asks s now start past first r = let R : List ℕ → Type 0 = λ p. HasRead may start s p first now in subst R (sym (append-nil past)) r
+
+-- some bytes, and then others
+pub reads_then : {S T : Type 0} (may : Rule S) (asks : Asking S) (s mid t : ScriptRunner S) (bytes more : List ℕ) (now between after : Option (List ℕ)) (result : Result T RunError)
+    → ReadsOn may asks s mid bytes now between well → ReadsOn may asks mid t more between after result → ReadsOn may asks s t (bytes ++ more) now after result
+reads_then may asks s mid t bytes more now between after result reads then start past first r =
+    let R : List ℕ → Type 0 = λ p. ReadsTo may asks start t p result first after in
+    subst R (append_assoc past bytes more) (then start (past ++ bytes) first (reads start past first r))
+
 -- what ended the reading of some bytes ended it whatever follows them
-pub ended_more : {S : Type 0} (may : Rule S) (asks : Asking S) (start : S) (s : ScriptRunner S) (past more : List ℕ) (e : RunError) (first now : Option (List ℕ)) → HasEnded may asks start s past e first now → HasEnded may asks start s (past ++ more) e first now
-ended_more may asks start s past more e first now h = ends_more may asks start e.fault s past more e first now h
+pub reads_more : {S : Type 0} (may : Rule S) (asks : Asking S) (s t : ScriptRunner S) (bytes more : List ℕ) (now after : Option (List ℕ)) (e : RunError)
+    → ReadsOn may asks s t bytes now after (ended e) → ReadsOn may asks s t (bytes ++ more) now after (ended e)
+reads_more may asks s t bytes more now after e reads start past first r =
+    let E : List ℕ → Type 0 = λ p. HasEnded may asks start t p e first after in
+    subst E (append_assoc past bytes more) (ends_more may asks start e.fault t (past ++ bytes) more e first after (reads start past first r))
 
 -- the end of a line that is too long
-pub read_long_line : {S : Type 0} (may : Rule S) (start : S) (s : ScriptRunner S) (past text : List ℕ) (first now : Option (List ℕ)) → HasRead may start s past first now → newlines text ≡ 0 → 200 < length s.held + length text → HasFault may start s (past ++ (text ++ 10 ∷ [])) (record { fault = LongLine; line = s.line }) first now
-read_long_line may start s past text first now r none long =
-    let F : List ℕ → Type 0 = λ p. HasFault may start s p (record { fault = LongLine; line = s.line }) first now in
-    subst F (append_assoc past text (10 ∷ [])) (fault_more may start s (past ++ text) (10 ∷ []) _ first now (read_long may start s past text first now r none (omega (arith, length-append s.held text, long))))
+pub read_long_line : {S : Type 0} (may : Rule S) (asks : Asking S) (s : ScriptRunner S) (text : List ℕ) (now : Option (List ℕ)) → newlines text ≡ 0 → 200 < length s.held + length text → ReadsOn may asks s s (text ++ 10 ∷ []) now now (ended (record { fault = LongLine; line = s.line }))
+read_long_line may asks s text now none long = reads_more may asks s s text (10 ∷ []) now now (record { fault = LongLine; line = s.line }) (read_long may asks s text now none (omega (arith, length-append s.held text, long)))
 
 -- a line whose first part was held is read as a whole
-pub taken_line : {S : Type 0} (may : Rule S) (start : S) (s : ScriptRunner S) (past text : List ℕ) (first now : Option (List ℕ)) (after : Option (List ℕ)) (s' : ScriptRunner S) (none_held line : List ℕ) → HasRead may start s past first now → newlines text ≡ 0 → none_held ≡ [] → line ≡ s.held ++ text
-    → ((past : List ℕ) (first : Option (List ℕ)) → newlines line ≡ 0 → HasRead may start (record s { held = none_held }) past first now → HasRead may start s' (past ++ (line ++ 10 ∷ [])) first after)
-    → HasRead may start s' (past ++ (text ++ 10 ∷ [])) first after
-taken_line may start s past text first now after s' none_held line r none empty is takes =
+pub taken_line : {S T : Type 0} (may : Rule S) (asks : Asking S) (s t : ScriptRunner S) (text none_held line : List ℕ) (now after : Option (List ℕ)) (result : Result T RunError) → newlines text ≡ 0 → none_held ≡ [] → line ≡ s.held ++ text
+    → ReadsLine may asks (record s { held = none_held }) t line now after result → ReadsOn may asks s t (text ++ 10 ∷ []) now after result
+taken_line may asks s t text none_held line now after result none empty is takes start past first r =
     let H : List ℕ → Type 0 = λ h. HasRead may start (record s { held = h }) r.whole first now in
     let unbroken : newlines line ≡ 0 = omega (arith, ap newlines is, newlines-append s.held text, r.unbroken, none) in
-    let P : List ℕ → Type 0 = λ p. HasRead may start s' p first after in
-    subst P (ap (λ (t : List ℕ). r.whole ++ (t ++ 10 ∷ [])) is ∙ past_line may start s past text first now r) (takes r.whole first unbroken (subst H (sym empty) (read_taken_out may start s past first now r)))
-
-pub taken_line_ended : {S : Type 0} (may : Rule S) (asks : Asking S) (start : S) (s : ScriptRunner S) (past text : List ℕ) (first now : Option (List ℕ)) (after : Option (List ℕ)) (s' : ScriptRunner S) (e : RunError) (none_held line : List ℕ) → HasRead may start s past first now → newlines text ≡ 0 → none_held ≡ [] → line ≡ s.held ++ text
-    → ((past : List ℕ) (first : Option (List ℕ)) → newlines line ≡ 0 → HasRead may start (record s { held = none_held }) past first now → HasEnded may asks start s' (past ++ (line ++ 10 ∷ [])) e first after)
-    → HasEnded may asks start s' (past ++ (text ++ 10 ∷ [])) e first after
-taken_line_ended may asks start s past text first now after s' e none_held line r none empty is takes =
-    let H : List ℕ → Type 0 = λ h. HasRead may start (record s { held = h }) r.whole first now in
-    let unbroken : newlines line ≡ 0 = omega (arith, ap newlines is, newlines-append s.held text, r.unbroken, none) in
-    let P : List ℕ → Type 0 = λ p. HasEnded may asks start s' p e first after in
-    subst P (ap (λ (t : List ℕ). r.whole ++ (t ++ 10 ∷ [])) is ∙ past_line may start s past text first now r) (takes r.whole first unbroken (subst H (sym empty) (read_taken_out may start s past first now r)))
-
--- a line and what stands after it in a piece
-pub piece_joined : (past done text later : List ℕ) → ((past ++ done) ++ (text ++ 10 ∷ [])) ++ later ≡ past ++ (done ++ (text ++ 10 ∷ later))
-piece_joined past done text later = joined (past ++ done) text later ∙ append_assoc past done (text ++ 10 ∷ later)
+    let R : List ℕ → Type 0 = λ p. ReadsTo may asks start t p result first after in
+    subst R (ap (λ (t : List ℕ). r.whole ++ (t ++ 10 ∷ [])) is ∙ past_line may start s past text first now r) (takes unbroken start r.whole first (subst H (sym empty) (read_taken_out may start s past first now r)))

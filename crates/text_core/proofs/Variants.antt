@@ -14,6 +14,11 @@ pub both_err : {T E : Type 0} (r : Result T E) (P Q : E → Type 0) → IfErr r 
 both_err (Ok x) P Q p q = tt
 both_err (Err e) P Q p q = (p, q)
 
+-- what holds of a result by what is known where it is Ok, and where it is Err
+pub by_result : {T E : Type 0} (F : Result T E → Type 0) {P : Type 0} {Q : E → Type 0} (r : Result T E) → OnOk r P → IfErr r Q → ((x : T) → P → F (Ok x)) → ((e : E) → Q e → F (Err e)) → F r
+by_result F (Ok x) p q ok err = ok x p
+by_result F (Err e) p q ok err = err e q
+
 pub not_true : IsTrue false → ⊥
 not_true t = cc
 

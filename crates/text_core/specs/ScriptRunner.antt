@@ -1,5 +1,5 @@
 -- What contracts see of a script that is being read.
-use Rattle.std.specs.Prelude.{◌≡◌, ◌≢◌, ℕ, ◌+◌, ◌≤◌, ◌⊎◌, List, [], ◌∷◌, ◌++◌, length, Option, Some}
+use Rattle.std.specs.Prelude.{◌≡◌, ◌≢◌, ℕ, ◌+◌, ◌≤◌, ◌⊎◌, List, [], ◌∷◌, ◌++◌, length, MatchResult, Option, Some, Result, Ok}
 use Rattle.std.specs.Io.KnownBytes.{Consumes}
 use Rattle.state_core.specs.declared.call.ZoneCall.{ZoneCall}
 use Rattle.text_core.specs.declared.profile.Profile.TheVariants.{Untold}
@@ -9,7 +9,7 @@ use Rattle.text_core.specs.declared.fault.Fault.TheVariants.{Syntax, LongLine, R
 use Rattle.text_core.specs.declared.fault.RunError.{RunError}
 use Rattle.text_core.specs.ReplyBuffer.{ReplyBuffer, Owes, empty}
 use Rattle.text_core.specs.Runs.{Rule, Asking, Begins, IsAsking, IsEnded, IsStopped, Replied}
-use Rattle.text_core.specs.Script.{Answer, Block, IsBeginning, Numbered, Reading, by, commands_from, commands_of, fault_from, fault_of, parts_of, reading_from, reading_of, within}
+use Rattle.text_core.specs.Script.{Answer, Block, IsBeginning, Numbered, Reading, by, commands_from, commands_of, fault_from, fault_of, line_comes, parts_of, reading_from, reading_of, within}
 
 -- a script that is being read: how the next line is read, the machine, the line that has begun, its number, the number of replies
 -- so far, and the replies that wait
@@ -81,6 +81,24 @@ EndsBy may asks start Memory s past e first now = HasNoMemory may asks start s p
 abbrev pub HasEnded : {S : Type 0} → Rule S → Asking S → S → ScriptRunner S → List ℕ → RunError → (first now : Option (List ℕ)) → Type 0
 HasEnded may asks start s past e first now = EndsBy may asks start e.fault s past e first now
 
+-- these bytes were read, or the reading of them ended with this error
+abbrev pub ReadsTo : {S T : Type 0} → Rule S → Asking S → S → ScriptRunner S → List ℕ → Result T RunError → (first now : Option (List ℕ)) → Type 0
+ReadsTo may asks start s past result first now = MatchResult result (λ _. HasRead may start s past first now) (λ e. HasEnded may asks start s past e first now)
+
+-- what a part of a run did with these further bytes: whatever was read before, they were read too, or the run ended with this error
+abbrev pub ReadsOn : {S T : Type 0} → Rule S → Asking S → (s s_new : ScriptRunner S) → List ℕ → (now after : Option (List ℕ)) → Result T RunError → Type 0
+ReadsOn {S} may asks s s_new bytes now after result =
+    (start : S) (past : List ℕ) (first : Option (List ℕ)) → HasRead may start s past first now → ReadsTo may asks start s_new (past ++ bytes) result first after
+
+-- what it did with a whole line: this text and the newline that ends it
+abbrev pub ReadsLine : {S T : Type 0} → Rule S → Asking S → (s s_new : ScriptRunner S) → List ℕ → (now after : Option (List ℕ)) → Result T RunError → Type 0
+ReadsLine may asks s s_new text now after result = newlines text ≡ 0 → ReadsOn may asks s s_new (text ++ 10 ∷ []) now after result
+
+-- what it did with any line that ends this command, and after which the next line is read as this script says
+abbrev pub ReadsCommand : {S T : Type 0} → Rule S → Asking S → Numbered → (s s_new : ScriptRunner S) → (now after : Option (List ℕ)) → Result T RunError → Type 0
+ReadsCommand may asks command s s_new now after result = (reading : Reading) (text : List ℕ)
+    → line_comes reading s.line text ≡ Ok (record { ended = Some command; reading = s.reading }) → ReadsLine may asks (record s { reading = reading }) s_new text now after result
+
 -- the first fault of the input is this one, or there is none, and the replies were written or wait
 pub record Finishes {S : Type 0} (may : Rule S) (start : S) (s : ScriptRunner S) (input : List ℕ) (found : Option RunError) (first now : Option (List ℕ)) : Type 0 where
   pub fault : fault_of input ≡ found
@@ -113,3 +131,8 @@ StopsBy may asks start Memory s input e left left_new first now = FindsNoMemory 
 pub record HasClosed {S : Type 0} (may : Rule S) (asks : Asking S) (start : S) (past : List ℕ) (e : RunError) (first now : Option (List ℕ)) : Type 0 where
   pub heard : e.fault ≢ Read
   pub ends : (rest : List ℕ) (left left_new : Option (List ℕ)) → IsEnded may asks start e.fault (past ++ rest) e left left_new first now
+
+-- what a part of a run did that read these further bytes, and wrote the replies to all that was read or ended the run
+abbrev pub PlaysOn : {S T : Type 0} → Rule S → Asking S → (s s_new : ScriptRunner S) → List ℕ → (now after : Option (List ℕ)) → Result T RunError → Type 0
+PlaysOn {S} may asks s s_new bytes now after result = (start : S) (past : List ℕ) (first : Option (List ℕ)) → HasRead may start s past first now
+    → MatchResult result (λ _. HasRead may start s_new (past ++ bytes) first after) (λ e. HasClosed may asks start (past ++ bytes) e first after)

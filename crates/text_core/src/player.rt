@@ -1,10 +1,10 @@
 ghost use Rattle.std.specs.Prelude.{◌≡◌, ℕ, ◌+◌, ◌*◌, ◌^◌, ◌<◌, ◌≤◌, [], ◌∷◌, ◌++◌, List, Option, option_map, length, false, Some, None, Ok, IfNone, IfSome, IfErr, IfOk, IsTrue, OnErr, OnOk};
 ghost use Rattle.text_core.specs.Reply.{newlines};
 ghost use Rattle.std.specs.Io.KnownBytes.{Appends};
-ghost use Rattle.text_core.specs.Script.{StopsIn, Answer, Reading, command_in_block, command_of_line, fault_of, line_comes, texts};
+ghost use Rattle.text_core.specs.Script.{StopsIn, Answer, command_in_block, command_of_line, fault_of, texts};
 ghost use Rattle.text_core.specs.Runs.{IsEnded, IsTotal};
 ghost use Rattle.text_core.specs.ReplyBuffer.{Owes, empty};
-ghost use Rattle.text_core.specs.ScriptRunner.{Finishes, HasClosed, HasEnded, HasRead, begun, block_begun, in_block, noted};
+ghost use Rattle.text_core.specs.ScriptRunner.{Finishes, HasRead, PlaysOn, ReadsCommand, ReadsLine, ReadsOn, begun, block_begun, in_block, noted};
 ghost use Rattle.text_core.specs.Streams.{CannotReadOn};
 
 use crate::answer::{Answer, Answers};
@@ -74,12 +74,7 @@ impl<A: Respond> ScriptRunner<A> {
         requires begins { self.old.held ≡ [] }
         // So few lines that the number of their replies, at most 1,001 for each line, fits 64 bits.
         requires room { self.old.line + 1 < 2 ^ 53 }
-        ensures ok { OnOk result ((start : A) (past : List ℕ) (first : Option (List ℕ))
-            → newlines text.now ≡ 0 → HasRead A.may start self.old past first (W.contents writer.old)
-            → HasRead A.may start self.new (past ++ (text.now ++ 10 ∷ [])) first (W.contents writer.new)) }
-        ensures err { IfErr result (λ error. (start : A) (past : List ℕ) (first : Option (List ℕ))
-            → newlines text.now ≡ 0 → HasRead A.may start self.old past first (W.contents writer.old)
-            → HasEnded A.may A.asks start self.new (past ++ (text.now ++ 10 ∷ [])) error first (W.contents writer.new)) }
+        ensures reads { ReadsLine A.may A.asks self.old self.new text.now (W.contents writer.old) (W.contents writer.new) result }
         ensures stuck { IfErr result (λ error. error.fault ≡ Fault.Write → IsTrue (W.stuck writer.new)) }
         ensures line { OnOk result (self.new.line ≡ self.old.line + 1) }
         ensures held { OnOk result (self.new.held ≡ []) }
@@ -95,12 +90,7 @@ impl<A: Respond> ScriptRunner<A> {
         requires begins { self.old.held ≡ [] }
         requires outside { self.old.reading.block ≡ None }
         requires room { self.old.line + 1 < 2 ^ 53 }
-        ensures ok { OnOk result ((start : A) (past : List ℕ) (first : Option (List ℕ))
-            → newlines text.now ≡ 0 → HasRead A.may start self.old past first (W.contents writer.old)
-            → HasRead A.may start self.new (past ++ (text.now ++ 10 ∷ [])) first (W.contents writer.new)) }
-        ensures err { IfErr result (λ error. (start : A) (past : List ℕ) (first : Option (List ℕ))
-            → newlines text.now ≡ 0 → HasRead A.may start self.old past first (W.contents writer.old)
-            → HasEnded A.may A.asks start self.new (past ++ (text.now ++ 10 ∷ [])) error first (W.contents writer.new)) }
+        ensures reads { ReadsLine A.may A.asks self.old self.new text.now (W.contents writer.old) (W.contents writer.new) result }
         ensures stuck { IfErr result (λ error. error.fault ≡ Fault.Write → IsTrue (W.stuck writer.new)) }
         ensures line { OnOk result (self.new.line ≡ self.old.line + 1) }
         ensures held { OnOk result (self.new.held ≡ []) }
@@ -157,12 +147,7 @@ impl<A: Respond> ScriptRunner<A> {
         requires begins { self.old.held ≡ [] }
         requires outside { self.old.reading.block ≡ None }
         requires room { self.old.line + 1 < 2 ^ 53 }
-        ensures ok { OnOk result ((start : A) (past : List ℕ) (first : Option (List ℕ))
-            → newlines text.now ≡ 0 → HasRead A.may start (in_block block self.old) past first (W.contents writer.old)
-            → HasRead A.may start self.new (past ++ (text.now ++ 10 ∷ [])) first (W.contents writer.new)) }
-        ensures err { IfErr result (λ error. (start : A) (past : List ℕ) (first : Option (List ℕ))
-            → newlines text.now ≡ 0 → HasRead A.may start (in_block block self.old) past first (W.contents writer.old)
-            → HasEnded A.may A.asks start self.new (past ++ (text.now ++ 10 ∷ [])) error first (W.contents writer.new)) }
+        ensures reads { ReadsLine A.may A.asks (in_block block self.old) self.new text.now (W.contents writer.old) (W.contents writer.new) result }
         ensures stuck { IfErr result (λ error. error.fault ≡ Fault.Write → IsTrue (W.stuck writer.new)) }
         ensures line { OnOk result (self.new.line ≡ self.old.line + 1) }
         ensures held { OnOk result (self.new.held ≡ []) }
@@ -209,14 +194,7 @@ impl<A: Respond> ScriptRunner<A> {
         requires begins { self.old.held ≡ [] }
         requires outside { self.old.reading.block ≡ None }
         requires room { self.old.line + 1 < 2 ^ 53 }
-        ensures ok { OnOk result ((start : A) (reading : Reading) (text past : List ℕ) (first : Option (List ℕ))
-            → line_comes reading self.old.line text ≡ Ok (record { ended = Some (command_of_line self.old.line command); reading = self.old.reading }) → newlines text ≡ 0
-            → HasRead A.may start (record self.old { reading = reading }) past first (W.contents writer.old)
-            → HasRead A.may start self.new (past ++ (text ++ 10 ∷ [])) first (W.contents writer.new)) }
-        ensures err { IfErr result (λ error. (start : A) (reading : Reading) (text past : List ℕ) (first : Option (List ℕ))
-            → line_comes reading self.old.line text ≡ Ok (record { ended = Some (command_of_line self.old.line command); reading = self.old.reading }) → newlines text ≡ 0
-            → HasRead A.may start (record self.old { reading = reading }) past first (W.contents writer.old)
-            → HasEnded A.may A.asks start self.new (past ++ (text ++ 10 ∷ [])) error first (W.contents writer.new)) }
+        ensures reads { ReadsCommand A.may A.asks (command_of_line self.old.line command) self.old self.new (W.contents writer.old) (W.contents writer.new) result }
         ensures stuck { IfErr result (λ error. error.fault ≡ Fault.Write → IsTrue (W.stuck writer.new)) }
         ensures line { OnOk result (self.new.line ≡ self.old.line + 1) }
         ensures held { OnOk result (self.new.held ≡ []) }
@@ -244,14 +222,7 @@ impl<A: Respond> ScriptRunner<A> {
         requires begins { self.old.held ≡ [] }
         requires outside { self.old.reading.block ≡ None }
         requires room { self.old.line + 1 < 2 ^ 53 }
-        ensures ok { OnOk result ((start : A) (reading : Reading) (text past : List ℕ) (first : Option (List ℕ))
-            → line_comes reading self.old.line text ≡ Ok (record { ended = Some (command_in_block block); reading = self.old.reading }) → newlines text ≡ 0
-            → HasRead A.may start (record self.old { reading = reading }) past first (W.contents writer.old)
-            → HasRead A.may start self.new (past ++ (text ++ 10 ∷ [])) first (W.contents writer.new)) }
-        ensures err { IfErr result (λ error. (start : A) (reading : Reading) (text past : List ℕ) (first : Option (List ℕ))
-            → line_comes reading self.old.line text ≡ Ok (record { ended = Some (command_in_block block); reading = self.old.reading }) → newlines text ≡ 0
-            → HasRead A.may start (record self.old { reading = reading }) past first (W.contents writer.old)
-            → HasEnded A.may A.asks start self.new (past ++ (text ++ 10 ∷ [])) error first (W.contents writer.new)) }
+        ensures reads { ReadsCommand A.may A.asks (command_in_block block) self.old self.new (W.contents writer.old) (W.contents writer.new) result }
         ensures stuck { IfErr result (λ error. error.fault ≡ Fault.Write → IsTrue (W.stuck writer.new)) }
         ensures line { OnOk result (self.new.line ≡ self.old.line + 1) }
         ensures held { OnOk result (self.new.held ≡ []) }
@@ -314,12 +285,7 @@ impl<A: Respond> ScriptRunner<A> {
     fn end_line<W: Output>(&mut self, writer: &mut W, text: &[u8]) -> Result<(), RunError>
         requires unbroken { newlines text.now ≡ 0 }
         requires room { self.old.line + 1 < 2 ^ 53 }
-        ensures ok { OnOk result ((start : A) (past : List ℕ) (first : Option (List ℕ))
-            → HasRead A.may start self.old past first (W.contents writer.old)
-            → HasRead A.may start self.new (past ++ (text.now ++ 10 ∷ [])) first (W.contents writer.new)) }
-        ensures err { IfErr result (λ error. (start : A) (past : List ℕ) (first : Option (List ℕ))
-            → HasRead A.may start self.old past first (W.contents writer.old)
-            → HasEnded A.may A.asks start self.new (past ++ (text.now ++ 10 ∷ [])) error first (W.contents writer.new)) }
+        ensures reads { ReadsOn A.may A.asks self.old self.new (text.now ++ 10 ∷ []) (W.contents writer.old) (W.contents writer.new) result }
         ensures stuck { IfErr result (λ error. error.fault ≡ Fault.Write → IsTrue (W.stuck writer.new)) }
         ensures line { OnOk result (self.new.line ≡ self.old.line + 1) }
     {
@@ -340,10 +306,7 @@ impl<A: Respond> ScriptRunner<A> {
     /// Holds a part of a line, whose end is yet to come.
     fn hold(&mut self, text: &[u8]) -> Result<(), RunError>
         requires { newlines text.now ≡ 0 }
-        ensures ok { OnOk result ((start : A) (past : List ℕ) (first now : Option (List ℕ))
-            → HasRead A.may start self.old past first now → HasRead A.may start self.new (past ++ text.now) first now) }
-        ensures err { IfErr result (λ error. (start : A) (past : List ℕ) (first now : Option (List ℕ))
-            → HasRead A.may start self.old past first now → HasEnded A.may A.asks start self.new (past ++ text.now) error first now) }
+        ensures reads { (now : Option (List ℕ)) → ReadsOn A.may A.asks self.old self.new text.now now now result }
         ensures fault { IfErr result (λ error. error.fault ≡ Fault.LongLine) }
         ensures line { self.new.line ≡ self.old.line }
     {
@@ -360,12 +323,7 @@ impl<A: Respond> ScriptRunner<A> {
     /// Reads bytes of a script.
     fn take_piece<W: Output>(&mut self, writer: &mut W, piece: &[u8]) -> Result<(), RunError>
         requires { self.old.line + length piece.now < 2 ^ 53 }
-        ensures ok { OnOk result ((start : A) (past : List ℕ) (first : Option (List ℕ))
-            → HasRead A.may start self.old past first (W.contents writer.old)
-            → HasRead A.may start self.new (past ++ piece.now) first (W.contents writer.new)) }
-        ensures err { IfErr result (λ error. (start : A) (past : List ℕ) (first : Option (List ℕ))
-            → HasRead A.may start self.old past first (W.contents writer.old)
-            → HasEnded A.may A.asks start self.new (past ++ piece.now) error first (W.contents writer.new)) }
+        ensures reads { ReadsOn A.may A.asks self.old self.new piece.now (W.contents writer.old) (W.contents writer.new) result }
         ensures stuck { IfErr result (λ error. error.fault ≡ Fault.Write → IsTrue (W.stuck writer.new)) }
         ensures line { OnOk result (self.new.line ≤ self.old.line + length piece.now) }
     {
@@ -380,12 +338,7 @@ impl<A: Respond> ScriptRunner<A> {
     /// Reads bytes of a script, and writes the replies to them.
     fn play<W: Output>(&mut self, writer: &mut W, piece: &[u8]) -> Result<(), RunError>
         requires { self.old.line + length piece.now < 2 ^ 53 }
-        ensures ok { OnOk result ((start : A) (past : List ℕ) (first : Option (List ℕ))
-            → HasRead A.may start self.old past first (W.contents writer.old)
-            → HasRead A.may start self.new (past ++ piece.now) first (W.contents writer.new)) }
-        ensures err { IfErr result (λ error. (start : A) (past : List ℕ) (first : Option (List ℕ))
-            → HasRead A.may start self.old past first (W.contents writer.old)
-            → HasClosed A.may A.asks start (past ++ piece.now) error first (W.contents writer.new)) }
+        ensures plays { PlaysOn A.may A.asks self.old self.new piece.now (W.contents writer.old) (W.contents writer.new) result }
         ensures stuck { IfErr result (λ error. error.fault ≡ Fault.Write → IsTrue (W.stuck writer.new)) }
         ensures line { OnOk result (self.new.line ≤ self.old.line + length piece.now) }
         ensures empty { OnOk result (self.new.box ≡ empty) }

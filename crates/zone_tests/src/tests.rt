@@ -1,21 +1,22 @@
-ghost use Rattle.std.specs.Prelude.{◌≡◌};
+ghost use Rattle.std.specs.Prelude.{◌≡◌, ◌≤◌};
 
+mod calls;
 mod contents;
 mod counts;
 mod draws;
 mod lists;
 mod moving;
-mod opened;
 mod refusals;
 mod sizes;
-mod steps;
+mod trial;
 mod values;
 mod walks;
 mod world;
+mod zone;
 
-use frame_core::{Address, BlockNo, ClientNo, FrameNo, HandNo, Order, SpaceNo, VPage, WordNo};
+use calls::Name;
+use frame_core::{Address, BlockNo, ClientNo, FrameNo, HandNo, Order, SpaceNo, VPage, WordOf};
 use std::process::Abort;
-use steps::Name;
 
 fn client(rt: &impl Abort) -> ClientNo {
     ClientNo::new(2).expect(rt, "a client")
@@ -28,8 +29,10 @@ fn address(rt: &impl Abort, name: Name) -> Address {
     Address { space, vpage }
 }
 
-fn word(rt: &impl Abort, number: u32) -> WordNo {
-    WordNo::new(number).expect(rt, "a word")
+fn word<const W: usize>(rt: &impl Abort, number: u32) -> WordOf<W>
+    requires { W ≤ 65536 }
+{
+    WordOf::new(number).expect(rt, "a word")
 }
 
 fn frame(rt: &impl Abort, number: u32) -> FrameNo

@@ -2,25 +2,25 @@
 
 ghost use Rattle.std.specs.Prelude.{◌≡◌, ◌<◌, ◌≤◌, length};
 
+use super::calls::{Answer, looked};
 use super::lists::Listed;
-use super::steps::{Answer, looked};
 use super::{frame, order};
-use frame_core::{FrameNo, FrameState, PageNo, Record, Serial};
+use frame_core::{FrameNo, FrameState, Journal, PageNo, Record, Serial};
 use scan_core::Frames;
 use std::process::Abort;
 use std::sync::ledger::Ledger;
 use table_core::Entry;
-use zone_core::{Info, Zone};
+use zone_core::{Info, ZoneOf};
 
 /// The counts that a zone tells, the sets of its frames, and the newest page's number are what walks find.
-pub fn assert_counts<I: Ledger, M: Ledger, B: Ledger>(
+pub fn assert_counts(
     rt: &(impl Abort + AllocGlobal),
-    zone: &Zone<I, M, B>,
+    frames: &Frames,
+    journal: &Journal,
+    told: Info,
 ) {
-    let frames = zone.frames();
     let states = states(rt, frames);
-    let records = zone.journal().kept().expect(rt, "a kept journal");
-    let told = zone.info();
+    let records = journal.kept().expect(rt, "a kept journal");
     assert_told(rt, told, &states);
     assert!(rt; told.huge as usize == blocks_out(records));
     assert!(rt; (frames.free(), frames.whole_blocks()) == (told.free, told.whole));
@@ -188,9 +188,9 @@ fn isolated_page(records: &[Record], under: Serial) -> Option<PageNo> {
 }
 
 /// What is told of the page that a frame holds, or that left it, is what its entries and its frame say.
-pub fn assert_pages<I: Ledger, M: Ledger, B: Ledger>(
+pub fn assert_pages<const W: usize, I: Ledger, M: Ledger, B: Ledger>(
     rt: &impl Abort,
-    zone: &Zone<I, M, B>,
+    zone: &ZoneOf<W, I, M, B>,
     lists: &[Listed],
 ) {
     for number in 0..zone.frames().len() {

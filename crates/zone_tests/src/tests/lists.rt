@@ -5,10 +5,9 @@ ghost use Rattle.std.specs.Prelude.{◌≡◌, ◌<◌, ◌≤◌, length};
 use super::{address, frame};
 use arrayvec::ArrayVec;
 use frame_core::{Address, FrameNo, FrameState};
+use scan_core::Frames;
 use std::process::Abort;
-use std::sync::ledger::Ledger;
 use table_core::{Entry, Tables};
-use zone_core::Zone;
 
 /// The entry that names a frame, or the page that left it, and the addresses that have this entry.
 #[derive(Drop)]
@@ -70,14 +69,12 @@ fn frame_of(entry: &Entry) -> Option<FrameNo> {
 }
 
 /// The list that is kept for each frame is the one that the walk found.
-pub fn assert_lists<I: Ledger, M: Ledger, B: Ledger>(
-    rt: &impl Abort,
-    zone: &Zone<I, M, B>,
-    lists: &[Listed],
-) {
-    for number in 0..zone.frames().len() {
+pub fn assert_lists(rt: &impl Abort, tables: &Tables, frames: &Frames, lists: &[Listed])
+    requires { length frames.now.states ≡ tables.now.frames }
+{
+    for number in 0..frames.len() {
         let list = lists.get(number as usize).expect(rt, "a list");
-        assert_list(rt, zone.tables(), frame(rt, number), list);
+        assert_list(rt, tables, frame(rt, number), list);
     }
 }
 
@@ -94,10 +91,12 @@ fn assert_list(rt: &impl Abort, tables: &Tables, frame: FrameNo, list: &Listed)
 }
 
 /// The list of each frame in use is what a walk for this frame or serial finds.
-pub fn assert_walks<I: Ledger, M: Ledger, B: Ledger>(rt: &impl Abort, zone: &Zone<I, M, B>) {
-    for number in 0..zone.frames().len() {
+pub fn assert_each_walk(rt: &impl Abort, tables: &Tables, frames: &Frames)
+    requires { length frames.now.states ≡ tables.now.frames }
+{
+    for number in 0..frames.len() {
         let frame = frame(rt, number);
-        assert_walk(rt, zone.tables(), frame, zone.frames().state(frame));
+        assert_walk(rt, tables, frame, frames.state(frame));
     }
 }
 

@@ -1,111 +1,210 @@
+//! A world that was just opened, and the steps that tests make with it.
+
+ghost use Rattle.std.specs.Prelude.{◌≤◌};
 ghost use Rattle.zone_core.specs.Books.{AreFor};
 
-use super::steps::{Answer, Name, Step, blocked, done, framed, looked, refused, valued};
-use super::{address, block, client, frame, hand, order, word};
-use bitflags::Flags;
-use frame_core::{PageFlags, ZoneNo};
-use machine_core::{Scanned, World};
-use std::marker::Brand;
+mod methods;
+
+use super::calls::{
+    Answer, Call, Name, PAGE, blocked, done, looked, read_as, told, unread, value_of,
+};
+use super::draws::Draws;
+use super::trial::{Case, Size, Trial, tries};
+use super::walks::{assert_kept, assert_walks};
+use super::{address, block, client, hand, word};
+use frame_core::{Record, ZoneNo};
+use machine_core::{Scanned, WorldError, WorldOf};
 use std::process::Abort;
 use std::sync::ledger::Ledger;
-use zone_core::{Blanks, Ended, Zone};
+use zone_core::{Blanks, ZoneOf};
 
-/// World 3, which was just opened.
-#[derive(Drop)]
-pub struct OpenWorld<I: Ledger, N: Ledger, M: Ledger, B: Ledger> {
-    world: World<I, N, M, B>,
+/// A step with a world.
+#[derive(Clone, Copy)]
+pub enum Step<'a> {
+    Call(Call),
+    Look(Name),
+    TakeHuge,
+    GiveHuge(u32),
+    /// Writes words of the page that `PAGE` names, from the first on.
+    Write(&'a [u64]),
+    /// Reads words of this page, from the first on, which have to be these.
+    Read(&'a [u64]),
+    /// Loads these words one by one.
+    Load(&'a [u64]),
+    Scan,
+    /// By this hand, as the next two.
+    Take(u32),
+    Copy(u32),
+    Finish(u32),
+    Shut,
+    /// How many records the journal has.
+    Journal,
+    /// The record with this number, which has to be that of a load.
+    Record(usize),
 }
 
-impl<I: Ledger, N: Ledger, M: Ledger, B: Ledger> OpenWorld<I, N, M, B> {
+/// A step with its answer.
+pub type Row<'a> = (Step<'a>, Answer);
+
+/// How calls of clients are made.
+#[derive(Clone, Copy)]
+pub enum Way {
+    /// By the methods of their names.
+    Method,
+    /// The same, and after each step what the zone keeps is what walks find.
+    MethodBesideWalks,
+    /// As values.
+    Value,
+}
+
+/// World 3.
+#[derive(Drop)]
+pub struct OpenWorld<const W: usize, I: Ledger, N: Ledger, M: Ledger, B: Ledger> {
+    world: WorldOf<W, I, N, M, B>,
+}
+
+impl<const W: usize, I: Ledger, N: Ledger, M: Ledger, B: Ledger> OpenWorld<W, I, N, M, B> {
     /// So many pageblocks, and so many places in the journal.
     pub fn of(rt: &(impl Abort + AllocGlobal), blocks: u32, places: u32, blanks: Blanks) -> Self
         requires blanks { AreFor blanks I.name I.parts N.name N.parts M.name M.parts B.name B.parts }
+        requires size { W ≤ 65536 }
     {
         let number = ZoneNo::new(3).expect(rt, "a zone");
-        let world = World::<I, N, M, B>::open(rt.alloc(), number, blocks, places, blanks).expect(
-            rt, "a world",
-        );
+        let opened = WorldOf::<W, I, N, M, B>::open(rt.alloc(), number, blocks, places, blanks);
+        let world = opened.expect(rt, "a world");
         OpenWorld { world }
     }
 
-    pub fn zone(&self) -> &Zone<I, M, B> {
+    fn zone(&self) -> &ZoneOf<W, I, M, B> {
         self.world.zone()
     }
 
-    pub fn make(&mut self, rt: &impl Abort, step: Step) -> Answer {
-        match step {
-            Step::Map(name) => self.map(rt, name),
-            Step::MapUnmovable(name) => self.map_unmovable(rt, name),
-            Step::MapAt(name, number) => self.map_at(rt, name, number),
-            Step::Share(name, alias) => self.share(rt, name, alias),
-            Step::Unmap(name) => done(self.world.unmap(client(rt), address(rt, name))),
-            Step::Load(name, number) => self.load(rt, name, number),
-            Step::Store(name, number, value) => self.store(rt, name, number, value),
-            Step::Pin(name) => done(self.world.pin(client(rt), address(rt, name))),
-            Step::Unpin(name) => done(self.world.unpin(client(rt), address(rt, name))),
-            Step::Look(name) => looked(self.zone().look(address(rt, name))),
-            _ => self.make_of_blocks(rt, step),
+    pub fn undergoes(mut self, rt: &(impl Abort + AllocGlobal), case: &Case)
+        requires { W ≤ 65536 }
+    {
+        match case.trial {
+            Trial::World(way, rows) => self.plays(rt, way, case.name, rows),
+            Trial::Drawn => self.plays_draws(rt),
+            Trial::ComesApart => self.comes_apart(rt),
+            Trial::Zone(_) => panic!(rt; "a zone has no world"),
         }
     }
 
-    /// Calls that name no address.
-    fn make_of_blocks(&mut self, rt: &impl Abort, step: Step) -> Answer {
+    fn plays(&mut self, rt: &(impl Abort + AllocGlobal), way: Way, name: &str, rows: &[Row])
+        requires { W ≤ 65536 }
+    {
+        for (number, row) in rows.iter().enumerate() {
+            let (step, want) = *row;
+            let answer = self.make(rt, way, step);
+            assert!(rt; answer == want, "{name}, step {number}");
+            if let Way::MethodBesideWalks = way {
+                assert_kept(rt, self.zone());
+                assert_walks(rt, self.zone());
+            }
+        }
+    }
+
+    /// Makes 2,000 calls that are drawn. More than a fifth of them is accepted, each with its record.
+    fn plays_draws(&mut self, rt: &(impl Abort + AllocGlobal))
+        requires { W ≤ 65536 }
+    {
+        let mut draws = Draws::new();
+        for _ in 0..2000 {
+            self.make(rt, Way::Method, draws.step());
+            assert_kept(rt, self.zone());
+        }
+        assert!(rt; self.zone().journal().len() > 400);
+    }
+
+    /// A world is handed back as it was where its round is open, and comes apart once it is shut.
+    fn comes_apart(mut self, rt: &impl Abort) {
+        assert!(rt; self.scan() == Answer::Met);
+        let Err(world) = self.world.split() else {
+            panic!(rt; "a world whose round is open comes apart");
+        };
+        assert!(rt; world.is_open());
+        let mut opened = OpenWorld { world };
+        assert!(rt; opened.shut() == Answer::Shut(0));
+        assert!(rt; opened.world.split().is_ok());
+    }
+
+    fn make(&mut self, rt: &(impl Abort + AllocGlobal), way: Way, step: Step) -> Answer
+        requires { W ≤ 65536 }
+    {
         match step {
-            Step::TakeOrder(number) => framed(self.world.take_order(order(rt, number))),
-            Step::GiveOrder(first, number) => self.give_order(rt, first, number),
+            Step::Call(call) => match way {
+                Way::Value => self.by_value(rt, call),
+                _ => self.by_method(rt, call),
+            },
+            Step::Look(name) => looked(self.zone().look(address(rt, name))),
             Step::TakeHuge => blocked(self.world.take_huge()),
             Step::GiveHuge(number) => done(self.world.give_huge(block(rt, number))),
-            Step::Mark(number) => done(self.world.mark(block(rt, number))),
-            Step::Unmark(number) => done(self.world.unmark(block(rt, number))),
+            Step::Write(values) => self.write(rt, values),
+            Step::Read(want) => self.read(rt, want),
+            Step::Load(want) => self.load_each(rt, want),
             Step::Scan => self.scan(),
             Step::Take(number) => self.take(rt, number),
             Step::Copy(number) => self.copy(rt, number),
             Step::Finish(number) => self.finish(rt, number),
-            _ => self.shut(),
+            Step::Shut => self.shut(),
+            Step::Journal => Answer::Value(self.zone().journal().len()),
+            Step::Record(number) => self.record(rt, number),
         }
     }
 
-    fn map(&mut self, rt: &impl Abort, name: Name) -> Answer {
-        let flags = PageFlags::empty();
-        framed(self.world.map(client(rt), address(rt, name), flags))
+    fn by_value(&mut self, rt: &impl Abort, call: Call) -> Answer
+        requires { W ≤ 65536 }
+    {
+        let answer = self.world.make(client(rt), value_of(rt, call));
+        told(call, answer)
     }
 
-    fn map_unmovable(&mut self, rt: &impl Abort, name: Name) -> Answer {
-        let flags = PageFlags::UNMOVABLE;
-        framed(self.world.map(client(rt), address(rt, name), flags))
-    }
-
-    fn map_at(&mut self, rt: &impl Abort, name: Name, number: u32) -> Answer {
-        let frame = frame(rt, number);
+    fn write(&mut self, rt: &impl Abort, values: &[u64]) -> Answer
+        requires { W ≤ 65536 }
+    {
+        let first = word(rt, 0);
         done(
             self.world
-                .map_at(client(rt), address(rt, name), PageFlags::empty(), frame),
+                .write(client(rt), address(rt, PAGE), first, values),
         )
     }
 
-    fn share(&mut self, rt: &impl Abort, name: Name, alias: Name) -> Answer {
-        done(
-            self.world
-                .share(client(rt), address(rt, name), address(rt, alias)),
-        )
+    fn read(&mut self, rt: &(impl Abort + AllocGlobal), want: &[u64]) -> Answer
+        requires { W ≤ 65536 }
+    {
+        let first = word(rt, 0);
+        let mut words = unread(rt, want.len());
+        let answer = self
+            .world
+            .read(client(rt), address(rt, PAGE), first, &mut words);
+        read_as(rt, answer, &words, want)
     }
 
-    fn load(&mut self, rt: &impl Abort, name: Name, number: u32) -> Answer {
-        valued(
-            self.world
-                .load(client(rt), address(rt, name), word(rt, number)),
-        )
+    fn load_each(&mut self, rt: &impl Abort, want: &[u64]) -> Answer
+        requires { W ≤ 65536 }
+    {
+        for (number, value) in (0..512).zip(want) {
+            let loaded = self.by_method(rt, Call::Load(PAGE, number));
+            assert!(rt; loaded == Answer::Value(*value), "word {number}");
+        }
+        Answer::Done
     }
 
-    fn store(&mut self, rt: &impl Abort, name: Name, number: u32, value: u64) -> Answer {
-        done(
-            self.world
-                .store(client(rt), address(rt, name), word(rt, number), value),
-        )
-    }
-
-    fn give_order(&mut self, rt: &impl Abort, first: u32, number: u32) -> Answer {
-        done(self.world.give_order(frame(rt, first), order(rt, number)))
+    fn record(&self, rt: &impl Abort, number: usize) -> Answer {
+        let records = self.zone().journal().kept().expect(rt, "a kept journal");
+        let Some(
+            Record::Load {
+                client,
+                address,
+                word,
+                value,
+            },
+        ) = records.get(number)
+        else {
+            panic!(rt; "no load");
+        };
+        let name = (address.space.get(), address.vpage.get());
+        Answer::Loaded(client.get(), name, *word, *value)
     }
 
     fn scan(&mut self) -> Answer {
@@ -132,10 +231,7 @@ impl<I: Ledger, N: Ledger, M: Ledger, B: Ledger> OpenWorld<I, N, M, B> {
 
     fn finish(&mut self, rt: &impl Abort, number: u32) -> Answer {
         match self.world.finish(hand(rt, number)) {
-            Ok(finished) => match finished.ended {
-                Ended::Moved => Answer::Moved(finished.serial),
-                Ended::Back => Answer::Back(finished.serial),
-            },
+            Ok(finished) => Answer::Finished(finished.serial, finished.ended),
             Err(error) => refused(error),
         }
     }
@@ -148,25 +244,21 @@ impl<I: Ledger, N: Ledger, M: Ledger, B: Ledger> OpenWorld<I, N, M, B> {
     }
 }
 
-/// A world is handed back as it was where its round is open, and comes apart once it is shut.
-fn comes_apart<I: Ledger, N: Ledger, M: Ledger, B: Ledger>(
-    rt: &(impl Abort + AllocGlobal),
-    blanks: Blanks,
-)
-    requires blanks { AreFor blanks I.name I.parts N.name N.parts M.name M.parts B.name B.parts }
-{
-    let opened = OpenWorld::<I, N, M, B>::of(rt, 1, 64, blanks);
-    let mut world = opened.world;
-    assert!(rt; world.scan() == Ok(Scanned::Met));
-    let Err(mut world) = world.split() else {
-        panic!(rt; "a world whose round is open comes apart");
-    };
-    assert!(rt; world.is_open());
-    assert!(rt; world.shut() == Ok(0));
-    assert!(rt; world.split().is_ok());
+fn refused(error: WorldError) -> Answer {
+    match error {
+        WorldError::Zone(error) => Answer::Refused(error),
+        WorldError::Hand => Answer::NotInHand,
+    }
 }
 
 #[test]
 fn a_world_comes_apart_at_rest(rt: HostRuntime) {
-    comes_apart::<Brand, Brand, Brand, Brand>(&rt, Blanks::new());
+    let case = Case {
+        name: "a world comes apart",
+        size: Size::Eight,
+        blocks: 1,
+        places: 64,
+        trial: Trial::ComesApart,
+    };
+    tries(&rt, &case);
 }

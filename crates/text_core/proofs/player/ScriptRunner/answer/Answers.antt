@@ -1,38 +1,22 @@
-use Rattle.std.proofs.Common.{◌≡◌, ◌+◌, ◌++◌, ◌∷◌, [], ℕ, Some, Ok, ap, sym, subst, refl, ◌∙◌}
-use Rattle.text_core.specs.ScriptRunner.{ScriptRunner, HasRead}
-use Rattle.text_core.specs.Script.{command_of_line, line_comes}
+use Rattle.std.proofs.Common.{◌∷◌, [], ap, refl, ◌∙◌}
+use Rattle.text_core.specs.ScriptRunner.{ScriptRunner}
+use Rattle.text_core.specs.Script.{command_of_line}
 use Rattle.text_core.proofs.Reading.{read_answered, read_lacking, read_stopped}
 use Rattle.text_core.proofs.player.ScriptRunner.answer.Goals as goal
 
-pub returns-in_default-clause-err : goal.returns-in_default-clause-err
-returns-in_default-clause-err g c = λ start reading text past first is none read.
-    let now = g.W.Write.contents c.args.writer.now in
-    let R : ScriptRunner _ → Type 0 = λ s. HasRead g.A.Respond.may start (record s { reading = reading }) past first now in
-    let I : ScriptRunner _ → Type 0 = λ s. line_comes reading s.line text ≡ Ok (record { ended = Some (command_of_line s.line c.args.command); reading = s.reading }) in
+pub returns-in_default-clause-reads : goal.returns-in_default-clause-reads
+returns-in_default-clause-reads g c =
     let begins = ap (λ (s : ScriptRunner _). s.held) c.self.view_is ∙ c.requires.begins in
-    read_lacking g.A.Respond.may start _ past text first now (subst R (sym c.self.view_is) read) begins none (command_of_line c.self.inside.line c.args.command) _ (subst I (sym c.self.view_is) is)
-    g.A.Respond.asks _ c.self.inside.line refl refl c.in_default.ensures.memory
+    rw (← c.self.view_is) (read_lacking g.A.Respond.may g.A.Respond.asks (command_of_line c.self.inside.line c.args.command) _ _ begins _ c.self.inside.line refl refl c.in_default.ensures.memory)
 
-pub returns-in-Err-clause-err : goal.returns-in-Err-clause-err
-returns-in-Err-clause-err g c = λ start reading text past first is none read rest.
-    let now = g.W.Write.contents c.args.writer.now in
-    let R : ScriptRunner _ → Type 0 = λ s. HasRead g.A.Respond.may start (record s { reading = reading }) past first now in
-    let I : ScriptRunner _ → Type 0 = λ s. line_comes reading s.line text ≡ Ok (record { ended = Some (command_of_line s.line c.args.command); reading = s.reading }) in
-    let r = subst R (sym c.self.view_is) read in
+pub returns-in-Err-clause-reads : goal.returns-in-Err-clause-reads
+returns-in-Err-clause-reads g c =
     let begins = ap (λ (s : ScriptRunner _). s.held) c.self.view_is ∙ c.requires.begins in
-    read_stopped g.A.Respond.may start _ past text first now r begins none (command_of_line c.self.inside.line c.args.command) _ (subst I (sym c.self.view_is) is)
-    (record { line = c.self.inside.line; reply = c.respond.new.reply } ∷ []) c.respond.new.self (g.W.Write.contents c.post.new.writer) c.in-Err.line rest (c.in-Ok.ensures.ok c.self.inside.line)
-    (c.in-Err.ensures.err r.answers first r.owes)
+    rw (← c.self.view_is) (read_stopped g.A.Respond.may g.A.Respond.asks (command_of_line c.self.inside.line c.args.command) _ _ begins
+    (record { line = c.self.inside.line; reply = c.respond.new.reply } ∷ []) c.respond.new.self c.post.new.self _ c.in-Err.line (c.in-Ok.ensures.ok c.self.inside.line) c.in-Err.ensures.err)
 
-pub returns-clause-ok : goal.returns-clause-ok
-returns-clause-ok g c = λ start reading text past first is none read.
-    let now = g.W.Write.contents c.args.writer.now in
-    let after = g.W.Write.contents c.post.new.writer in
-    let R : ScriptRunner _ → Type 0 = λ s. HasRead g.A.Respond.may start (record s { reading = reading }) past first now in
-    let I : ScriptRunner _ → Type 0 = λ s. line_comes reading s.line text ≡ Ok (record { ended = Some (command_of_line s.line c.args.command); reading = s.reading }) in
+pub returns-clause-reads : goal.returns-clause-reads
+returns-clause-reads g c =
     let begins = ap (λ (s : ScriptRunner _). s.held) c.self.view_is ∙ c.requires.begins in
-    let counted : ℕ → ScriptRunner _ = λ n. record c.post.new.self { replies = n } in
-    let A : ScriptRunner _ → Type 0 = λ s. HasRead g.A.Respond.may start s (past ++ (text ++ 10 ∷ [])) first after in
-    subst A (ap (λ (s : ScriptRunner _). record s { replies = c.self.inside.replies + 1 }) (sym c.post.ensures.same) ∙ ap counted (sym c.in_default-post.ensures.replies))
-    (read_answered g.A.Respond.may start _ past text first now (subst R (sym c.self.view_is) read) begins none (command_of_line c.self.inside.line c.args.command) _ (subst I (sym c.self.view_is) is)
-    (record { line = c.self.inside.line; reply = c.respond.new.reply } ∷ []) c.respond.new.self c.post.new.self.box after (c.in-Ok.ensures.ok c.self.inside.line) c.in_default-post.ensures.ok)
+    rw (← c.self.view_is) (read_answered g.A.Respond.may g.A.Respond.asks (command_of_line c.self.inside.line c.args.command) _ _ begins
+    (record { line = c.self.inside.line; reply = c.respond.new.reply } ∷ []) c.respond.new.self c.post.new.self _ (c.in-Ok.ensures.ok c.self.inside.line) c.post.ensures.same c.in_default-post.ensures.replies c.in_default-post.ensures.ok)

@@ -79,7 +79,7 @@ returns-in_err-play-in-Ok-clause-err g c =
     rw (p.1, p.2) (if_known left _ (λ input known.
     let rest = consumed left after input (past.0 ++ piece) known (Consumes-trans left mid after past.0 piece past.1 c.in-Ok.ensures.bytes.0) in
     let E : List ℕ → Type 0 = λ i. IsEnded g.A.Respond.may g.A.Respond.asks start e.fault i e left after first now in
-    subst E (sym rest.2) ((c.in_err-play-in-Ok.ensures.err start past.0 first past.2).ends rest.0 left after)))
+    subst E (sym rest.2) ((c.in_err-play-in-Ok.ensures.plays start past.0 first past.2).ends rest.0 left after)))
 
 pub returns-in_err-play-in-Ok-clause-few : goal.returns-in_err-play-in-Ok-clause-few
 returns-in_err-play-in-Ok-clause-few g c = (let counted = c.in-Ok.ensures.reads.1 (omega (arith, c.in-Ok.count-test)) in omega (arith, counted, c.loop.invariant.few, c.loop-test.true))
@@ -88,7 +88,7 @@ pub returns-in_err-play-in-Ok-clause-unread : goal.returns-in_err-play-in-Ok-cla
 returns-in_err-play-in-Ok-clause-unread g c =
     let p = err_from_is_err_and c.from_residual.result c.from_residual.ensures.1 in
     let past = c.loop.invariant.past in
-    rw (p.1, p.2) (λ is. absurd ((c.in_err-play-in-Ok.ensures.err c.args.self.now.machine past.0 (g.W.Write.contents c.args.writer.now) past.2).heard is))
+    rw (p.1, p.2) (λ is. absurd ((c.in_err-play-in-Ok.ensures.plays c.args.self.now.machine past.0 (g.W.Write.contents c.args.writer.now) past.2).heard is))
 
 pub loop-preserved : goal.loop-preserved
 loop-preserved g c =
@@ -104,7 +104,7 @@ loop-preserved g c =
       past = (
         past.0 ++ piece,
         Consumes-trans _ _ _ past.0 piece past.1 c.in-Ok.ensures.bytes.0,
-        c.in_ok-play-in-Ok.ensures.ok c.args.self.now.machine past.0 (g.W.Write.contents c.args.writer.now) past.2,
+        c.in_ok-play-in-Ok.ensures.plays c.args.self.now.machine past.0 (g.W.Write.contents c.args.writer.now) past.2,
         (let n : length piece ≡ c.in-Ok.count = length-take-le c.in-Ok.count c.read_noted.new.buffer c.in-Ok.ensures.bound.0 in omega (arith, length-append past.0 piece, n, past.3, some)),
       );
     }

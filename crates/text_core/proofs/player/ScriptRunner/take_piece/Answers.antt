@@ -1,28 +1,22 @@
-use Rattle.std.proofs.Common.{◌++◌, ◌∷◌, [], List, ℕ, length, length-append, append_assoc, append-nil, refl, ap, sym, subst, ◌∙◌, arith}
-use Rattle.std.proofs.lemmas.Result.{MatchResult-weaker, on_ok_weaker, err_from_is_err_and}
-use Rattle.text_core.specs.declared.fault.RunError.{RunError}
-use Rattle.text_core.specs.ScriptRunner.{HasEnded, HasRead}
-use Rattle.text_core.proofs.Reading.{ended_more, joined, piece_joined}
+use Rattle.std.proofs.Common.{◌≡◌, ◌++◌, ◌∷◌, [], List, ℕ, length, length-append, refl, ap, sym, ◌∙◌, arith}
+use Rattle.std.proofs.lemmas.Result.{err_from_is_err_and}
+use Rattle.text_core.proofs.Reading.{ended, joined, well, reads_more, reads_none, reads_then}
 use Rattle.text_core.proofs.player.ScriptRunner.take_piece.Goals as goal
 
 pub loop-text-init : goal.loop-text-init
-loop-text-init g c = record {
-  line = omega arith;
-  done = ([], refl, λ start past first read. let R : List ℕ → Type 0 = λ p. HasRead g.A.Respond.may start c.args.self.now p first (g.W.Write.contents c.args.writer.now) in subst R (sym (append-nil past)) read);
-}
+loop-text-init g c = record { line = omega arith; done = ([], refl, reads_none g.A.Respond.may g.A.Respond.asks c.args.self.now (g.W.Write.contents c.args.writer.now)) }
 
-pub returns-in_err-end_line-clause-err : goal.returns-in_err-end_line-clause-err
-returns-in_err-end_line-clause-err g c =
+-- the piece is what was read, a line, and what stands after it
+piece_is : (piece done rest text after : List ℕ) → piece ≡ done ++ rest → rest ≡ text ++ 10 ∷ after → piece ≡ (done ++ (text ++ 10 ∷ [])) ++ after
+piece_is piece done rest text after is parts = is ∙ ap (λ (r : List ℕ). done ++ r) parts ∙ sym (joined done text after)
+
+pub returns-in_err-end_line-clause-reads : goal.returns-in_err-end_line-clause-reads
+returns-in_err-end_line-clause-reads g c =
     let p = err_from_is_err_and c.from_residual.result c.from_residual.ensures.1 in
-    rw (p.1, p.2) (λ start past first read.
     let done = c.loop-text.invariant.done in
-    let text = c.in-Some.text.now in
-    let after = c.in-Some.after.now in
-    let e = c.in_err-end_line.field-0.0 in
-    let now = g.W.Write.contents c.end_line.new.writer in
-    let E : List ℕ → Type 0 = λ p. HasEnded g.A.Respond.may g.A.Respond.asks start c.end_line.new.self p e first now in
-    subst E (piece_joined past done.0 text after ∙ ap (λ (p : List ℕ). past ++ p) (ap (λ (r : List ℕ). done.0 ++ r) (sym c.in-Some.ensures.parts) ∙ sym done.1))
-    (ended_more g.A.Respond.may g.A.Respond.asks start c.end_line.new.self _ after e first now (c.in_err-end_line.ensures.err start (past ++ done.0) first (done.2 start past first read))))
+    let is = piece_is c.args.piece.now done.0 _ c.in-Some.text.now c.in-Some.after.now done.1 c.in-Some.ensures.parts in
+    rw (p.1, p.2, is) (reads_more g.A.Respond.may g.A.Respond.asks c.args.self.now c.end_line.new.self _ c.in-Some.after.now _ _ c.in_err-end_line.field-0.0
+    (reads_then g.A.Respond.may g.A.Respond.asks c.args.self.now c.loop-text.self c.end_line.new.self done.0 (c.in-Some.text.now ++ 10 ∷ []) (g.W.Write.contents c.args.writer.now) (g.W.Write.contents c.loop-text.writer) (g.W.Write.contents c.end_line.new.writer) (ended c.in_err-end_line.field-0.0) done.2 c.in_err-end_line.ensures.reads))
 
 pub loop-text-preserved : goal.loop-text-preserved
 loop-text-preserved g c =
@@ -33,23 +27,12 @@ loop-text-preserved g c =
       line = omega (arith, c.in_ok-end_line.ensures.line, c.loop-text.invariant.line, ap length c.in-Some.ensures.parts, length-append text (10 ∷ after));
       done = (
         done.0 ++ (text ++ 10 ∷ []),
-        done.1 ∙ ap (λ (r : List ℕ). done.0 ++ r) c.in-Some.ensures.parts ∙ sym (joined done.0 text after),
-        λ start past first read.
-            let R : List ℕ → Type 0 = λ p. HasRead g.A.Respond.may start c.end_line.new.self p first (g.W.Write.contents c.end_line.new.writer) in
-            subst R (append_assoc past done.0 (text ++ 10 ∷ [])) (c.in_ok-end_line.ensures.ok start (past ++ done.0) first (done.2 start past first read)),
+        piece_is c.args.piece.now done.0 _ text after done.1 c.in-Some.ensures.parts,
+        reads_then g.A.Respond.may g.A.Respond.asks c.args.self.now c.loop-text.self c.end_line.new.self done.0 (text ++ 10 ∷ []) (g.W.Write.contents c.args.writer.now) (g.W.Write.contents c.loop-text.writer) (g.W.Write.contents c.end_line.new.writer) well done.2 c.in_ok-end_line.ensures.reads,
       );
     }
 
-pub returns-clause-ok : goal.returns-clause-ok
-returns-clause-ok g c = on_ok_weaker c.hold.result (λ holds start past first read.
+pub returns-clause-reads : goal.returns-clause-reads
+returns-clause-reads g c =
     let done = c.loop-text.invariant.done in
-    let now = g.W.Write.contents c.loop-text.writer in
-    let R : List ℕ → Type 0 = λ p. HasRead g.A.Respond.may start c.hold.new.self p first now in
-    subst R (append_assoc past done.0 c.loop-text.rest.now ∙ ap (λ (p : List ℕ). past ++ p) (sym done.1)) (holds start (past ++ done.0) first now (done.2 start past first read))) c.hold.ensures.ok
-
-pub returns-clause-err : goal.returns-clause-err
-returns-clause-err g c = MatchResult-weaker c.hold.result c.hold.ensures.err (λ _ u. u) (λ (e : RunError) holds start past first read.
-    let done = c.loop-text.invariant.done in
-    let now = g.W.Write.contents c.loop-text.writer in
-    let E : List ℕ → Type 0 = λ p. HasEnded g.A.Respond.may g.A.Respond.asks start c.hold.new.self p e first now in
-    subst E (append_assoc past done.0 c.loop-text.rest.now ∙ ap (λ (p : List ℕ). past ++ p) (sym done.1)) (holds start (past ++ done.0) first now (done.2 start past first read)))
+    rw done.1 (reads_then g.A.Respond.may g.A.Respond.asks c.args.self.now c.loop-text.self c.hold.new.self done.0 _ (g.W.Write.contents c.args.writer.now) (g.W.Write.contents c.loop-text.writer) (g.W.Write.contents c.loop-text.writer) c.hold.result done.2 (c.hold.ensures.reads _))

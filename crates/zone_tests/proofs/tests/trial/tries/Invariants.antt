@@ -1,4 +1,4 @@
-use Rattle.zone_tests.proofs.tests.opened.tries.Given as goal
+use Rattle.zone_tests.proofs.tests.trial.tries.Given as goal
 
 abbrev pub ghosts-tries_in-I-Ledger : goal.ghosts-tries_in-I-Ledger
 ghosts-tries_in-I-Ledger g a = record { name = a.blanks.isolated.name; parts = a.blanks.isolated.parts }

@@ -1,0 +1,230 @@
+//! Calls of clients with plain numbers, and answers to them, for tables of tests.
+
+ghost use Rattle.std.specs.Prelude.{◌≤◌};
+
+use super::{address, block, frame, order, word};
+use frame_core::{BlockNo, FrameNo, Serial};
+use std::process::Abort;
+use zone_core::{Ended, Look, ZoneAnswer, ZoneCallOf, ZoneError};
+
+/// An address: a space and a virtual page.
+pub type Name = (u32, u32);
+
+/// The address of a page that a zone has from its opening on, and that some worlds are given.
+pub const PAGE: Name = (7, 9);
+
+/// A call by client 2.
+#[derive(Clone, Copy)]
+pub enum Call {
+    Map(Name),
+    MapUnmovable(Name),
+    MapAt(Name, u32),
+    Share(Name, Name),
+    Unmap(Name),
+    Load(Name, u32),
+    Store(Name, u32, u64),
+    Pin(Name),
+    Unpin(Name),
+    /// Of a block of this order.
+    TakeOrder(u32),
+    /// Of the block with this first frame and this order.
+    GiveOrder(u32, u32),
+    Mark(u32),
+    Unmark(u32),
+}
+
+/// What a step with a zone or a world answers.
+#[derive(Clone, Copy, PartialEq, Eq)]
+pub enum Answer {
+    Done,
+    Frame(u32),
+    Block(u32),
+    Value(u64),
+    Is(bool),
+    At {
+        frame: u32,
+        dirty: bool,
+        unmovable: bool,
+        pins: u8,
+        maps: u8,
+    },
+    Moving {
+        serial: Serial,
+        pins: u8,
+        maps: u8,
+    },
+    Refused(ZoneError),
+    /// A page is isolated, under the serial after the one before.
+    Page,
+    Serial(Serial),
+    Met,
+    Ended(Ended),
+    Finished(Serial, Ended),
+    /// The page isn't the zone's, or its copy has other words. It came back, and the zone is as before.
+    Stranger,
+    /// So many pages were isolated, moved and put back.
+    Audited(u32, u32, u32),
+    /// The seat has one part only.
+    NoPart,
+    /// The round is closed, and so many pages were put back.
+    Shut(u32),
+    /// The hand doesn't hold what the call needs, or no page waits.
+    NotInHand,
+    /// The record of a load: by which client, of which word of which page, and its value.
+    Loaded(u32, Name, u16, u64),
+}
+
+/// The call as a value.
+pub fn value_of<const W: usize>(rt: &impl Abort, call: Call) -> ZoneCallOf<W>
+    requires { W ≤ 65536 }
+{
+    match call {
+        Call::Map(name) => mapping(rt, name, false),
+        Call::MapUnmovable(name) => mapping(rt, name, true),
+        Call::MapAt(name, number) => ZoneCallOf::MapAt {
+            address: address(rt, name),
+            unmovable: false,
+            frame: frame(rt, number),
+        },
+        Call::Load(name, number) => ZoneCallOf::Load {
+            address: address(rt, name),
+            word: word(rt, number),
+        },
+        Call::Store(name, number, value) => ZoneCallOf::Store {
+            address: address(rt, name),
+            word: word(rt, number),
+            value,
+        },
+        Call::Share(name, alias) => ZoneCallOf::Share {
+            address: address(rt, name),
+            alias: address(rt, alias),
+        },
+        _ => shorter_value_of(rt, call),
+    }
+}
+
+fn mapping<const W: usize>(rt: &impl Abort, name: Name, unmovable: bool) -> ZoneCallOf<W> {
+    ZoneCallOf::Map {
+        address: address(rt, name),
+        unmovable,
+    }
+}
+
+/// A call as a value that names one address alone, or none.
+fn shorter_value_of<const W: usize>(rt: &impl Abort, call: Call) -> ZoneCallOf<W> {
+    match call {
+        Call::Unmap(name) => ZoneCallOf::Unmap {
+            address: address(rt, name),
+        },
+        Call::Pin(name) => ZoneCallOf::Pin {
+            address: address(rt, name),
+        },
+        Call::Unpin(name) => ZoneCallOf::Unpin {
+            address: address(rt, name),
+        },
+        Call::TakeOrder(number) => ZoneCallOf::TakeOrder {
+            order: order(rt, number),
+        },
+        Call::GiveOrder(first, number) => ZoneCallOf::GiveOrder {
+            first: frame(rt, first),
+            order: order(rt, number),
+        },
+        Call::Mark(number) => ZoneCallOf::Mark {
+            block: block(rt, number),
+        },
+        Call::Unmark(number) => ZoneCallOf::Unmark {
+            block: block(rt, number),
+        },
+        _ => panic!(rt; "another call"),
+    }
+}
+
+/// What the method of a call answers where the call as a value was answered so.
+pub fn told(call: Call, answer: Result<ZoneAnswer, ZoneError>) -> Answer {
+    match answer {
+        Ok(ZoneAnswer::Done) => Answer::Done,
+        Ok(ZoneAnswer::Mapped { frame, .. }) => match call {
+            Call::MapAt(..) => Answer::Done,
+            _ => Answer::Frame(frame.get()),
+        },
+        Ok(ZoneAnswer::Frame(frame)) => Answer::Frame(frame.get()),
+        Ok(ZoneAnswer::Value(value)) => Answer::Value(value),
+        Err(error) => Answer::Refused(error),
+    }
+}
+
+pub fn done(answer: Result<(), ZoneError>) -> Answer {
+    match answer {
+        Ok(()) => Answer::Done,
+        Err(error) => Answer::Refused(error),
+    }
+}
+
+pub fn framed(answer: Result<FrameNo, ZoneError>) -> Answer {
+    match answer {
+        Ok(frame) => Answer::Frame(frame.get()),
+        Err(error) => Answer::Refused(error),
+    }
+}
+
+pub fn blocked(answer: Result<BlockNo, ZoneError>) -> Answer {
+    match answer {
+        Ok(block) => Answer::Block(block.get()),
+        Err(error) => Answer::Refused(error),
+    }
+}
+
+pub fn valued(answer: Result<u64, ZoneError>) -> Answer {
+    match answer {
+        Ok(value) => Answer::Value(value),
+        Err(error) => Answer::Refused(error),
+    }
+}
+
+pub fn looked(answer: Result<Look, ZoneError>) -> Answer {
+    match answer {
+        Ok(
+            Look::At {
+                frame,
+                flags,
+                pins,
+                maps,
+            },
+        ) => Answer::At {
+            frame: frame.get(),
+            dirty: flags.is_dirty(),
+            unmovable: flags.is_unmovable(),
+            pins,
+            maps,
+        },
+        Ok(Look::Moving { serial, pins, maps }) => Answer::Moving { serial, pins, maps },
+        Err(error) => Answer::Refused(error),
+    }
+}
+
+/// Room for so many words that are read, each of them 1.
+pub fn unread(rt: &(impl Abort + AllocGlobal), count: usize) -> Vec<u64> {
+    let mut words = Vec::new(rt.alloc());
+    for _ in 0..count {
+        words.push(1).expect(rt, "memory");
+    }
+    words
+}
+
+/// The words that were read are the wanted ones, or none was read where the call was refused.
+pub fn read_as(
+    rt: &impl Abort,
+    answer: Result<(), ZoneError>,
+    words: &[u64],
+    want: &[u64],
+) -> Answer {
+    match answer {
+        Ok(()) => assert!(rt; words == want, "other words are read"),
+        Err(_) => {
+            for word in words {
+                assert!(rt; *word == 1, "a refused call reads words");
+            }
+        }
+    }
+    done(answer)
+}

@@ -1,0 +1,147 @@
+//! A zone that was just opened, and the steps that tests make with it.
+
+ghost use Rattle.std.specs.Prelude.{◌≤◌};
+ghost use Rattle.zone_core.specs.Books.{AreFor};
+
+mod moves;
+mod words;
+
+use super::calls::{Answer, Call, PAGE, told, value_of};
+use super::{address, client};
+use frame_core::{IsolatedOf, Serial, ZoneNo};
+use std::process::Abort;
+use std::sync::ledger::Ledger;
+use zone_core::{Blanks, EndSeat, ScanSeat, ZoneOf};
+
+/// A block: its first frame and its order.
+pub type Block = (u32, u32);
+
+/// A step with a zone.
+#[derive(Clone, Copy)]
+pub enum Step<'a> {
+    Call(Call),
+    /// Writes words of the zone's own page, from one on.
+    Write(u32, &'a [u64]),
+    /// Reads words of this page, from one on, which have to be these.
+    Read(u32, &'a [u64]),
+    /// The same with the words of a block.
+    WriteBlock(Block, usize, &'a [u64]),
+    ReadBlock(Block, usize, &'a [u64]),
+    /// The words of a block are lent: each is given the first value where it stands, and the last one the other. Answers how many
+    /// there are.
+    Lend(Block, u64, u64),
+    /// Begins a round.
+    Round,
+    /// Begins a round and isolates its first page.
+    Isolate,
+    /// Gives a word of the isolated page another value, and answers the one before.
+    SetWord(u32, u64),
+    /// Copies the isolated page and brings the copy to the zone.
+    Commit,
+    PutBack,
+    /// Brings the zone a page of this zone number and page number under this serial, and before it a copy of the page.
+    Stranger(u32, u32, Serial),
+    /// Splits a part off the end seat.
+    Split,
+    /// The first part and the end seat change places.
+    Swap,
+    /// The part that was split off last is joined again.
+    Join,
+    Audit,
+    /// Whether the round is quiet.
+    Quiet,
+    /// How many records the journal has.
+    Journal,
+}
+
+/// Rows that are played so many times: steps, each with its answer.
+#[derive(Clone, Copy)]
+pub struct Part<'a> {
+    pub times: u32,
+    pub rows: &'a [(Step<'a>, Answer)],
+}
+
+/// Zone 3, of one pageblock with pages of so many words, and a page in its frame 0. Besides its seats, the page that is isolated, the
+/// parts that were split off the end seat, and how many pages were isolated.
+#[derive(Drop)]
+pub struct Opened<const W: usize, I: Ledger, N: Ledger, M: Ledger, B: Ledger> {
+    zone: ZoneOf<W, I, M, B>,
+    scan: ScanSeat<I, N>,
+    ends: EndSeat<M, B>,
+    page: Option<IsolatedOf<W>>,
+    parts: Vec<EndSeat<M, B>>,
+    isolated: u32,
+}
+
+impl<const W: usize, I: Ledger, N: Ledger, M: Ledger, B: Ledger> Opened<W, I, N, M, B> {
+    /// With so many places in its journal.
+    pub fn of(rt: &(impl Abort + AllocGlobal), places: u32, blanks: Blanks) -> Self
+        requires blanks { AreFor blanks I.name I.parts N.name N.parts M.name M.parts B.name B.parts }
+        requires size { W ≤ 65536 }
+    {
+        let number = ZoneNo::new(3).expect(rt, "a zone");
+        let opened = ZoneOf::<W, I, M, B>::open::<N>(rt.alloc(), number, 1, places, blanks);
+        let (zone, scan, ends) = opened.expect(rt, "a zone");
+        Opened {
+            zone,
+            scan,
+            ends,
+            page: None,
+            parts: Vec::new(rt.alloc()),
+            isolated: 0,
+        }
+    }
+
+    /// Maps its page, and plays the parts.
+    pub fn plays(&mut self, rt: &(impl Abort + AllocGlobal), name: &str, parts: &[Part])
+        requires { W ≤ 65536 }
+    {
+        assert!(rt; self.call(rt, Call::Map(PAGE)) == Answer::Frame(0));
+        for part in parts {
+            for _ in 0..part.times {
+                self.play(rt, name, part.rows);
+            }
+        }
+    }
+
+    fn play(&mut self, rt: &(impl Abort + AllocGlobal), name: &str, rows: &[(Step, Answer)])
+        requires { W ≤ 65536 }
+    {
+        for (number, row) in rows.iter().enumerate() {
+            let (step, want) = *row;
+            assert!(rt; self.make(rt, step) == want, "{name}, step {number}");
+        }
+    }
+
+    fn make(&mut self, rt: &(impl Abort + AllocGlobal), step: Step) -> Answer
+        requires { W ≤ 65536 }
+    {
+        match step {
+            Step::Call(call) => self.call(rt, call),
+            Step::Write(from, values) => self.write(rt, from, values),
+            Step::Read(from, want) => self.read(rt, from, want),
+            Step::WriteBlock(block, from, values) => self.write_block(rt, block, from, values),
+            Step::ReadBlock(block, from, want) => self.read_block(rt, block, from, want),
+            Step::Lend(block, value, last) => self.lend(rt, block, value, last),
+            Step::Round => self.begin(),
+            Step::Isolate => self.isolate(rt),
+            Step::SetWord(number, value) => self.set_word(rt, number, value),
+            Step::Commit => self.commit_page(rt),
+            Step::PutBack => self.put_page_back(rt),
+            Step::Stranger(zone, number, serial) => self.bring(rt, zone, number, serial),
+            Step::Split => self.split(rt),
+            Step::Swap => self.swap(rt),
+            Step::Join => self.join(rt),
+            Step::Audit => self.audit(),
+            Step::Quiet => Answer::Is(self.zone.quiet()),
+            Step::Journal => Answer::Value(self.zone.journal().len()),
+        }
+    }
+
+    fn call(&mut self, rt: &impl Abort, call: Call) -> Answer
+        requires { W ≤ 65536 }
+    {
+        let answer = self.zone.make(client(rt), value_of(rt, call));
+        told(call, answer)
+    }
+}
