@@ -1,24 +1,27 @@
 ghost use Rattle.std.specs.Prelude.{◌≡◌};
 ghost use Rattle.zone_core.specs.Books.{AreFor};
 
-mod ahead;
+mod beside;
 mod calls;
-mod carrying;
-mod clients;
+mod collecting;
+mod copiers;
 mod gates;
-mod kept_back;
+mod jobs;
 mod looking;
 mod opening;
-mod refused_calls;
+mod refusing;
 mod reserving;
 mod rounds;
+mod scenes;
 mod settling;
+mod tally;
 mod told;
-mod waking;
 
-use calls::{Answer, Call};
-use frame_core::{Address, ClientNo, FrameNo, SpaceNo, VPage, WordNo};
+use beside::Scene;
+use client_core::Client;
+use gates::Plan;
 use opening::Opening;
+use refusing::Table;
 use reserving::Case;
 use round_core::ZoneIdentity;
 use std::marker::Brand;
@@ -26,65 +29,29 @@ use std::process::Abort;
 use std::sync::Wait;
 use std::sync::ledger::Ledger;
 use std::thread::Threads;
-use waking::Waiting;
 use zone_core::Blanks;
-
-fn client_number(rt: &impl Abort, number: u32) -> ClientNo {
-    ClientNo::new(number).expect(rt, "a client")
-}
-
-/// The address of a virtual page in space 3.
-fn address(rt: &impl Abort, number: u32) -> Address {
-    let space = SpaceNo::new(3).expect(rt, "a space");
-    let vpage = VPage::new(number).expect(rt, "a virtual page");
-    Address { space, vpage }
-}
-
-fn frame(rt: &impl Abort, number: u32) -> FrameNo {
-    FrameNo::new(number).expect(rt, "a frame")
-}
-
-fn word(rt: &impl Abort, number: u32) -> WordNo {
-    WordNo::new(number).expect(rt, "a word")
-}
 
 /// What is tried with a zone that was just opened.
 #[derive(Clone, Copy)]
 enum Trial<'a> {
-    UsesAPageBesideAHeldOne,
-    PinsAHeldPage,
-    WaitsForAHeldPage(Call, Answer),
-    WakesBoth(Waiting, Waiting),
-    SharesAPage,
-    UsesOwnWords,
-    UsesWholePages,
-    RefusesCalls,
-    RefusesCallsWithoutRoom,
-    Runs(Run<'a>),
-}
-
-/// What is tried with rounds and collectors that run beside no client.
-#[derive(Clone, Copy)]
-enum Run<'a> {
     /// With so many copiers.
     MovesTheLowerHalf(usize),
-    /// With so many copiers, and each page of so many unmapped.
-    PacksWhatWasThinned(usize, u32),
-    /// In so many places of the journal.
-    MovesWhatThereIsRoomFor(u32),
     IsBroken,
-    HoldsOneOfTwoCopiers,
     NotesEachPage,
     /// All but one of so many copiers.
     KeepsCopiersBack(usize),
     /// With so many copiers, and room for so many pages.
     LooksAtEachPoint(usize, usize),
+    Plays(Scene<'a>),
+    /// The calls of a client, of which so many are accepted.
+    Refuses(&'a [Table], usize),
+    Settles,
+    RefusesReceipts(&'a [Client]),
+    IsToldAlone,
     Reserves(&'a Case),
     GivesBack,
-    /// With so many copiers.
-    CollectsWithEachCopier(usize),
-    /// With room for so many pages. So many pages are isolated ahead.
-    CollectsAhead(usize, u64),
+    /// With so many copiers, and room for so many pages. So many pages are isolated when the gate lets the first thread go.
+    Collects(usize, usize, Plan, u64),
 }
 
 impl<
@@ -94,27 +61,33 @@ impl<
     M: Ledger + Send + Sync,
     B: Ledger + Send + Sync,
 > Opening<K, I, N, M, B> {
-    fn undergoes<R: Threads + Wait + Abort + AllocGlobal + Sync>(&mut self, rt: &R, run: Run<'_>) {
-        match run {
-            Run::MovesTheLowerHalf(copiers) => self.moves_the_lower_half(rt, copiers),
-            Run::PacksWhatWasThinned(copiers, step) => {
-                self.packs_what_was_thinned(rt, copiers, step)
+    fn undergoes<R: Threads + Wait + Abort + AllocGlobal + Sync>(
+        &mut self,
+        rt: &R,
+        trial: Trial<'_>,
+    ) {
+        match trial {
+            Trial::MovesTheLowerHalf(copiers) => self.moves_the_lower_half(rt, copiers),
+            Trial::IsBroken => self.is_broken(rt),
+            Trial::NotesEachPage => self.notes_each_page(rt),
+            Trial::KeepsCopiersBack(copiers) => self.keeps_copiers_back(rt, copiers),
+            Trial::LooksAtEachPoint(copiers, room) => self.looks_at_each_point(rt, copiers, room),
+            Trial::Plays(scene) => self.plays(rt, scene),
+            Trial::Refuses(tables, accepted) => self.refuses(rt, tables, accepted),
+            Trial::Settles => self.settles(rt),
+            Trial::RefusesReceipts(clients) => self.refuses_receipts(rt, clients),
+            Trial::IsToldAlone => self.is_told_alone(rt),
+            Trial::Reserves(case) => self.reserves(rt, case),
+            Trial::GivesBack => self.gives_back(rt),
+            Trial::Collects(copiers, room, plan, ahead) => {
+                self.collects(rt, copiers, room, plan, ahead)
             }
-            Run::MovesWhatThereIsRoomFor(places) => self.moves_what_there_is_room_for(rt, places),
-            Run::IsBroken => self.is_broken(rt),
-            Run::HoldsOneOfTwoCopiers => self.holds_one_of_two_copiers(rt),
-            Run::NotesEachPage => self.notes_each_page(rt),
-            Run::KeepsCopiersBack(copiers) => self.keeps_copiers_back(rt, copiers),
-            Run::LooksAtEachPoint(copiers, room) => self.looks_at_each_point(rt, copiers, room),
-            Run::Reserves(case) => self.reserves(rt, case),
-            Run::GivesBack => self.gives_back(rt),
-            Run::CollectsWithEachCopier(copiers) => self.collects_with_each_copier(rt, copiers),
-            Run::CollectsAhead(room, ahead) => self.collects_ahead(rt, room, ahead),
         }
     }
 }
 
-/// Opens zone 1, of so many pageblocks and with so many places in its journal, and tries something with it.
+/// Opens zone 1, of so many pageblocks, and tries something with it. Its journal has so many places, or is told. The answer is the
+/// client that mapped its pages.
 fn tries_in<
     K: ZoneIdentity + Send + Sync,
     I: Ledger + Send + Sync,
@@ -122,41 +95,21 @@ fn tries_in<
     M: Ledger + Send + Sync,
     B: Ledger + Send + Sync,
     R: Threads + Wait + Abort + AllocGlobal + Sync,
->(rt: &R, blocks: u32, places: u32, trial: Trial<'_>, blanks: Blanks)
+>(rt: &R, blocks: u32, places: Option<u32>, trial: Trial<'_>, blanks: Blanks) -> Client
     requires identity { (K.number ≡ 1) × (K.blocks ≡ blocks) }
     requires blanks { AreFor blanks I.name I.parts N.name N.parts M.name M.parts B.name B.parts }
 {
     let mut opening = Opening::<K, I, N, M, B>::of(rt, blocks, places, blanks);
-    match trial {
-        Trial::UsesAPageBesideAHeldOne => opening.uses_a_page_beside_a_held_one(rt),
-        Trial::PinsAHeldPage => opening.pins_a_held_page(rt),
-        Trial::WaitsForAHeldPage(call, answer) => opening.waits_for_a_held_page(rt, call, answer),
-        Trial::WakesBoth(first, second) => opening.wakes_both(rt, first, second),
-        Trial::SharesAPage => opening.shares_a_page(rt),
-        Trial::UsesOwnWords => opening.uses_own_words(rt),
-        Trial::UsesWholePages => opening.uses_whole_pages(rt),
-        Trial::RefusesCalls => opening.refuses_calls(rt),
-        Trial::RefusesCallsWithoutRoom => opening.refuses_calls_without_room(rt),
-        Trial::Runs(run) => opening.undergoes(rt, run),
-    }
+    opening.undergoes(rt, trial);
+    opening.keeper
 }
 
 /// Tries something with a zone 1 that is opened for it under a name of its own.
 fn tries<R: Threads + Wait + Abort + AllocGlobal + Sync>(
     rt: &R,
     blocks: u32,
-    places: u32,
+    places: Option<u32>,
     trial: Trial<'_>,
-) {
-    tries_in::<Brand, Brand, Brand, Brand, Brand, R>(rt, blocks, places, trial, Blanks::new());
-}
-
-/// Tries rounds or a collector with a zone 1 of its own.
-fn runs<R: Threads + Wait + Abort + AllocGlobal + Sync>(
-    rt: &R,
-    blocks: u32,
-    places: u32,
-    run: Run<'_>,
-) {
-    tries(rt, blocks, places, Trial::Runs(run));
+) -> Client {
+    tries_in::<Brand, Brand, Brand, Brand, Brand, R>(rt, blocks, places, trial, Blanks::new())
 }

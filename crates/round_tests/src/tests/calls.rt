@@ -1,9 +1,8 @@
 //! Calls of a client with plain numbers, and their answers, for tables of tests.
 
-use super::{address, frame, word};
 use bitflags::Flags;
-use client_core::{Client, ClientError};
-use frame_core::{FrameNo, PageFlags};
+use client_core::{Client, ClientError, Receipts, Untold};
+use frame_core::{Address, ClientNo, FrameNo, PageFlags, SpaceNo, VPage, WordNo};
 use round_core::{SharedZone, ZoneIdentity};
 use std::process::Abort;
 use std::sync::Wait;
@@ -13,7 +12,6 @@ use zone_core::ZoneError;
 /// A call of a client. Addresses are virtual pages of one space.
 #[derive(Clone, Copy, Debug)]
 pub enum Call {
-    Map(u32),
     MapUnmovable(u32),
     MapAt(u32, u32),
     Share(u32, u32),
@@ -28,16 +26,6 @@ pub enum Call {
     Unpin(u32),
 }
 
-impl Call {
-    /// How many receipts it has where it is accepted.
-    pub fn receipts(&self) -> usize {
-        match self {
-            Call::Read(..) | Call::Write(..) => 8,
-            _ => 1,
-        }
-    }
-}
-
 /// What a call of a client answers.
 #[derive(Clone, Copy, Debug, PartialEq, Eq)]
 pub enum Answer {
@@ -49,6 +37,26 @@ pub enum Answer {
     NoMemory,
 }
 
+/// A client that has made no call.
+pub fn client_of<R: Abort + AllocGlobal>(rt: &R, number: u32) -> Client {
+    Client::new(rt.alloc(), client_number(rt, number))
+}
+
+pub fn client_number(rt: &impl Abort, number: u32) -> ClientNo {
+    ClientNo::new(number).expect(rt, "a client")
+}
+
+/// The address of a virtual page in space 3.
+fn address(rt: &impl Abort, number: u32) -> Address {
+    let space = SpaceNo::new(3).expect(rt, "a space");
+    let vpage = VPage::new(number).expect(rt, "a virtual page");
+    Address { space, vpage }
+}
+
+fn word(rt: &impl Abort, number: u32) -> WordNo {
+    WordNo::new(number).expect(rt, "a word")
+}
+
 fn refusal(error: ClientError) -> Answer {
     match error {
         ClientError::Memory => Answer::NoMemory,
@@ -56,60 +64,29 @@ fn refusal(error: ClientError) -> Answer {
     }
 }
 
-fn done(answer: Result<(), ClientError>) -> Answer {
-    match answer {
+fn done(made: Result<(), ClientError>) -> Answer {
+    match made {
         Ok(()) => Answer::Done,
         Err(error) => refusal(error),
     }
 }
 
-fn framed(answer: Result<FrameNo, ClientError>) -> Answer {
-    match answer {
-        Ok(frame) => Answer::Frame(frame.get()),
-        Err(error) => refusal(error),
-    }
-}
-
-fn valued(answer: Result<u64, ClientError>) -> Answer {
-    match answer {
-        Ok(value) => Answer::Value(value),
-        Err(error) => refusal(error),
-    }
-}
-
-/// Reads eight words, from one on.
-fn read<K: ZoneIdentity, I: Ledger, M: Ledger, B: Ledger, R: Wait + Abort>(
-    rt: &R,
-    shared: &SharedZone<K, I, M, B>,
-    client: &mut Client,
-    at: u32,
-    from: u32,
-) -> Answer {
-    let mut values = [9; 8];
-    let answer = client.read(rt, shared, address(rt, at), word(rt, from), &mut values);
-    match answer {
-        Ok(()) => Answer::Values(values),
-        Err(error) => {
-            assert!(rt; values == [9; 8]);
-            refusal(error)
-        }
-    }
-}
-
 /// Makes a call.
-pub fn made<K: ZoneIdentity, I: Ledger, M: Ledger, B: Ledger, R: Wait + Abort>(
+pub fn made<K: ZoneIdentity, I: Ledger, M: Ledger, B: Ledger, T: Receipts, R: Wait + Abort>(
     rt: &R,
     shared: &SharedZone<K, I, M, B>,
-    client: &mut Client,
+    client: &mut Client<Untold, T>,
     call: Call,
 ) -> Answer {
     match call {
-        Call::Map(at) => framed(client.map(rt, shared, address(rt, at), PageFlags::empty())),
         Call::MapUnmovable(at) => {
-            framed(client.map(rt, shared, address(rt, at), PageFlags::UNMOVABLE))
+            match client.map(rt, shared, address(rt, at), PageFlags::UNMOVABLE) {
+                Ok(frame) => Answer::Frame(frame.get()),
+                Err(error) => refusal(error),
+            }
         }
         Call::MapAt(at, number) => {
-            let frame = frame(rt, number);
+            let frame = FrameNo::new(number).expect(rt, "a frame");
             done(client.map_at(rt, shared, address(rt, at), PageFlags::empty(), frame))
         }
         Call::Share(at, alias) => {
@@ -117,15 +94,23 @@ pub fn made<K: ZoneIdentity, I: Ledger, M: Ledger, B: Ledger, R: Wait + Abort>(
         }
         Call::Unmap(at) => done(client.unmap(rt, shared, address(rt, at))),
         Call::Load(at, number) => {
-            valued(client.load(rt, shared, address(rt, at), word(rt, number)))
+            match client.load(rt, shared, address(rt, at), word(rt, number)) {
+                Ok(value) => Answer::Value(value),
+                Err(error) => refusal(error),
+            }
         }
         Call::Store(at, number, value) => {
             done(client.store(rt, shared, address(rt, at), word(rt, number), value))
         }
-        Call::Read(at, from) => read(rt, shared, client, at, from),
+        Call::Read(at, from) => {
+            let mut words = [9; 8];
+            match client.read(rt, shared, address(rt, at), word(rt, from), &mut words) {
+                Ok(()) => Answer::Values(words),
+                Err(error) => refusal(error),
+            }
+        }
         Call::Write(at, from, value) => {
-            let values = [value; 8];
-            done(client.write(rt, shared, address(rt, at), word(rt, from), &values))
+            done(client.write(rt, shared, address(rt, at), word(rt, from), &[value; 8]))
         }
         Call::Pin(at) => done(client.pin(rt, shared, address(rt, at))),
         Call::Unpin(at) => done(client.unpin(rt, shared, address(rt, at))),
@@ -133,10 +118,10 @@ pub fn made<K: ZoneIdentity, I: Ledger, M: Ledger, B: Ledger, R: Wait + Abort>(
 }
 
 /// Makes calls, one after the other, and compares their answers.
-pub fn play<K: ZoneIdentity, I: Ledger, M: Ledger, B: Ledger, R: Wait + Abort>(
+pub fn play<K: ZoneIdentity, I: Ledger, M: Ledger, B: Ledger, T: Receipts, R: Wait + Abort>(
     rt: &R,
     shared: &SharedZone<K, I, M, B>,
-    client: &mut Client,
+    client: &mut Client<Untold, T>,
     table: &[(Call, Answer)],
 ) {
     for (call, wanted) in table {

@@ -1,24 +1,14 @@
-use super::opening::{Opening, counts_of, round_of};
-use super::{Run, runs};
-use round_core::{Gate, Point, ZoneIdentity};
+use super::tally::{ByCopier, Tally};
+use round_core::{Gate, Point};
 use std::process::Abort;
-use std::sync::Wait;
 use std::sync::atomic::{AtomicU64, Ordering};
-use std::sync::ledger::Ledger;
-use std::thread::{Threads, yield_now};
+use std::thread::yield_now;
 
-const TURNS: u32 = 20_000_000;
+/// After so many turns a gate gives up, and the test fails.
+const GATE_TURNS: u32 = 1_000_000;
 
-/// Whether a number comes to be above another.
-pub fn comes_above(number: &AtomicU64, low: u64) -> bool {
-    for _turn in 0..TURNS {
-        if number.load(Ordering::SeqCst) > low {
-            return true;
-        }
-        yield_now();
-    }
-    false
-}
+/// A client, or a round that waits for clients, is more patient: threads are started meanwhile.
+pub const CLIENT_TURNS: u32 = 20_000_000;
 
 /// Lets other threads run for so many turns.
 pub fn linger(turns: u32) {
@@ -27,139 +17,182 @@ pub fn linger(turns: u32) {
     }
 }
 
-/// Holds the first copier that reaches a point until a page has ended and a client has spoken, and some turns more.
+/// At least so many pages are isolated, copied and ended, and clients have spoken so often.
+#[derive(Clone, Copy, Debug)]
+pub struct Until {
+    pub isolated: u64,
+    pub copied: u64,
+    pub ended: u64,
+    pub spoken: u64,
+}
+
+impl Until {
+    pub const NOTHING: Until = Until {
+        isolated: 0,
+        copied: 0,
+        ended: 0,
+        spoken: 0,
+    };
+
+    /// So many pages have ended.
+    pub fn ended(ended: u64) -> Until {
+        Until {
+            ended,
+            ..Until::NOTHING
+        }
+    }
+
+    /// Clients have spoken so often.
+    pub fn spoken(spoken: u64) -> Until {
+        Until {
+            spoken,
+            ..Until::NOTHING
+        }
+    }
+}
+
+/// Which threads of a round a gate holds, and until when.
+#[derive(Clone, Copy, Debug)]
+pub enum Plan {
+    HoldsNone,
+    /// The first thread that comes to a point.
+    HoldsFirst(Point, Until),
+    /// The first copier with each of its pages.
+    HoldsFirstCopier(Until),
+    /// Of so many copiers all but the last to come, each with its first of so many pages. Once all other pages have ended they are
+    /// let go, one after the other, in the order in which they came.
+    HoldsAllButTheLast(u64, u64),
+}
+
+/// Notes each step of a page, and holds threads by a plan. A thread that is let go waits some turns more, in which others could come.
 #[derive(Drop)]
-pub struct Holds {
-    point: Point,
-    pub reached: AtomicU64,
-    ended: AtomicU64,
-    pub answered: AtomicU64,
+pub struct Watch {
+    plan: Plan,
+    /// How many pages came to each point, as the thread told whose step it is.
+    pub told: Tally,
+    /// How many pages each copier took.
+    pub taken: ByCopier,
+    /// As which of the threads that are held each copier came, from 1 on.
+    pub turns: ByCopier,
+    /// How many threads came to be held.
+    came: AtomicU64,
+    spoken: AtomicU64,
+    /// How many pages were isolated when the first thread was let go.
+    ahead: AtomicU64,
     held_in_vain: AtomicU64,
 }
 
-impl Holds {
-    /// So many pages count as ended and so many clients as heard before the round begins.
-    pub fn at(point: Point, ended: u64, answered: u64) -> Holds {
-        Holds {
-            point,
-            reached: AtomicU64::new(0),
-            ended: AtomicU64::new(ended),
-            answered: AtomicU64::new(answered),
+impl Watch {
+    pub fn by(plan: Plan) -> Watch {
+        Watch {
+            plan,
+            told: Tally::none(),
+            taken: ByCopier::none(),
+            turns: ByCopier::none(),
+            came: AtomicU64::new(0),
+            spoken: AtomicU64::new(0),
+            ahead: AtomicU64::new(0),
             held_in_vain: AtomicU64::new(0),
         }
     }
 
-    fn hold(&self) {
-        if !comes_above(&self.ended, 0) || !comes_above(&self.answered, 0) {
+    /// A client tells that it waits, or that its call was answered.
+    pub fn speak(&self) {
+        self.spoken.fetch_add(1, Ordering::SeqCst);
+    }
+
+    /// Waits so many turns at most. Whether it came to what was waited for.
+    pub fn comes_to(&self, until: Until, turns: u32) -> bool {
+        for _turn in 0..turns {
+            if self.told.count(Point::Isolated) >= until.isolated
+                && self.told.count(Point::Copied) >= until.copied
+                && self.told.count(Point::Ended) >= until.ended
+                && self.spoken.load(Ordering::SeqCst) >= until.spoken
+            {
+                return true;
+            }
+            yield_now();
+        }
+        false
+    }
+
+    fn hold(&self, until: Until) {
+        if !self.comes_to(until, GATE_TURNS) {
             self.held_in_vain.store(1, Ordering::SeqCst);
         }
         linger(1000);
     }
 
-    /// What it waited for came.
+    /// One thread more came to be held. As which of them.
+    fn come(&self) -> u64 {
+        self.came.fetch_add(1, Ordering::SeqCst).saturating_add(1)
+    }
+
+    /// Holds a copier with its first page.
+    fn hold_in_turn(&self, who: usize, copiers: u64, pages: u64) {
+        let came = self.come();
+        self.turns.add(who, came);
+        let ended = if came < copiers {
+            pages.saturating_add(came).saturating_sub(copiers)
+        } else {
+            0
+        };
+        self.hold(Until::ended(ended));
+    }
+
+    /// How many pages were isolated when the first thread was let go.
+    pub fn ahead(&self) -> u64 {
+        self.ahead.load(Ordering::SeqCst)
+    }
+
+    /// Each thread that was to be held came, and none was held in vain.
     pub fn assert_let_go(&self, rt: &impl Abort) {
-        assert!(rt; self.reached.load(Ordering::SeqCst) > 0);
+        let wanted = match self.plan {
+            Plan::HoldsNone => 0,
+            Plan::HoldsFirst(..) => 1,
+            Plan::HoldsFirstCopier(_) => self.taken.numbers()[0],
+            Plan::HoldsAllButTheLast(copiers, _) => copiers,
+        };
+        assert_eq!(rt; self.came.load(Ordering::SeqCst), wanted);
         assert!(rt; self.held_in_vain.load(Ordering::SeqCst) == 0);
     }
 }
 
-impl Gate for Holds {
+/// Whether a thread with this number makes this step.
+fn makes(who: usize, point: Point) -> bool {
+    match point {
+        Point::Isolated => who == 0,
+        Point::Taken | Point::Copied => 0 < who && who < 5,
+        Point::Ended => who == 5,
+    }
+}
+
+impl Gate for Watch {
     fn at(&self, point: Point, who: usize) {
-        if point == self.point && self.reached.fetch_add(1, Ordering::SeqCst) == 0 {
-            self.hold();
+        if !makes(who, point) {
+            return;
         }
-        if point == Point::Ended && who == 5 {
-            self.ended.fetch_add(1, Ordering::SeqCst);
-        }
-    }
-}
-
-/// Notes how many pages the scanner isolated, each copier took, and the committer ended. The first copier waits with each page until
-/// 100 pages have ended, so that the copiers don't get equal shares.
-#[derive(Drop)]
-struct Notes {
-    isolated: AtomicU64,
-    first: AtomicU64,
-    second: AtomicU64,
-    third: AtomicU64,
-    fourth: AtomicU64,
-    ended: AtomicU64,
-}
-
-impl Notes {
-    fn none() -> Notes {
-        Notes {
-            isolated: AtomicU64::new(0),
-            first: AtomicU64::new(0),
-            second: AtomicU64::new(0),
-            third: AtomicU64::new(0),
-            fourth: AtomicU64::new(0),
-            ended: AtomicU64::new(0),
-        }
-    }
-}
-
-impl Gate for Notes {
-    fn at(&self, point: Point, who: usize) {
-        let note = match (point, who) {
-            (Point::Isolated, 0) => &self.isolated,
-            (Point::Taken, 1) => &self.first,
-            (Point::Taken, 2) => &self.second,
-            (Point::Taken, 3) => &self.third,
-            (Point::Taken, 4) => &self.fourth,
-            (Point::Ended, 5) => &self.ended,
-            _ => return,
+        let before = self.told.add(point);
+        let taken = if point == Point::Taken {
+            self.taken.add(who, 1)
+        } else {
+            1
         };
-        note.fetch_add(1, Ordering::SeqCst);
-        if point == Point::Taken && who == 1 {
-            let _ = comes_above(&self.ended, 99);
+        match self.plan {
+            Plan::HoldsFirst(held, until) if point == held && before == 0 => {
+                self.come();
+                self.hold(until);
+                let isolated = self.told.count(Point::Isolated);
+                self.ahead.store(isolated, Ordering::SeqCst);
+            }
+            Plan::HoldsFirstCopier(until) if point == Point::Taken && who == 1 => {
+                self.come();
+                self.hold(until);
+            }
+            Plan::HoldsAllButTheLast(copiers, pages) if taken == 0 => {
+                self.hold_in_turn(who, copiers, pages)
+            }
+            _ => {}
         }
     }
-}
-
-impl<
-    K: ZoneIdentity + Send + Sync,
-    I: Ledger + Send + Sync,
-    N: Ledger,
-    M: Ledger + Send + Sync,
-    B: Ledger + Send + Sync,
-> Opening<K, I, N, M, B> {
-    /// The first copier that took a page is held until the other one's page has ended.
-    pub fn holds_one_of_two_copiers<R: Threads + Wait + Abort + AllocGlobal + Sync>(
-        &mut self,
-        rt: &R,
-    ) {
-        self.fill(rt, 2);
-        let gate = Holds::at(Point::Taken, 0, 1);
-        let round = round_of(rt, &self.shared, &mut self.seats, 2, 2, &gate);
-        assert!(rt; counts_of(rt, round) == (0, 2, 2, 0));
-        gate.assert_let_go(rt);
-    }
-
-    /// The list of each copier has as many serials as it took pages.
-    pub fn notes_each_page<R: Threads + Wait + Abort + AllocGlobal + Sync>(&mut self, rt: &R) {
-        self.fill(rt, 512);
-        let gate = Notes::none();
-        let Ok(round) = round_of(rt, &self.shared, &mut self.seats, 4, 8, &gate) else {
-            panic!(rt; "the round is refused");
-        };
-        assert!(rt; round.count == 512);
-        let notes = [&gate.first, &gate.second, &gate.third, &gate.fourth];
-        assert!(rt; round.by_copier.len() == notes.len());
-        for (list, note) in round.by_copier.iter().zip(notes) {
-            assert!(rt; list.len() as u64 == note.load(Ordering::SeqCst));
-        }
-        assert!(rt; gate.isolated.load(Ordering::SeqCst) == 512);
-        assert!(rt; gate.ended.load(Ordering::SeqCst) == 512);
-    }
-}
-
-#[test]
-fn gate_two_copiers(rt: HostRuntime) {
-    runs(&rt, 1, 65536, Run::HoldsOneOfTwoCopiers);
-}
-
-#[test]
-fn each_list_has_what_its_copier_took(rt: HostRuntime) {
-    runs(&rt, 2, 65536, Run::NotesEachPage);
 }

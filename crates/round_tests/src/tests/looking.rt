@@ -1,52 +1,15 @@
 use super::gates::linger;
-use super::opening::{Opening, counts_of, round_of};
-use super::{Run, runs};
+use super::opening::{Opening, counts_of, tried_round};
+use super::tally::Tally;
+use super::{Trial, tries};
 use frame_core::Record;
 use round_core::{Gate, Keeping, Open, Point, SharedZone, ZoneIdentity};
 use std::process::Abort;
 use std::sync::Wait;
-use std::sync::atomic::{AtomicU64, Ordering};
 use std::sync::ledger::Ledger;
 use std::thread::Threads;
 
 const PAGES: u32 = 16;
-
-/// A number of pages for each point.
-#[derive(Drop)]
-struct Tally {
-    isolated: AtomicU64,
-    taken: AtomicU64,
-    copied: AtomicU64,
-    ended: AtomicU64,
-}
-
-impl Tally {
-    fn none() -> Tally {
-        Tally {
-            isolated: AtomicU64::new(0),
-            taken: AtomicU64::new(0),
-            copied: AtomicU64::new(0),
-            ended: AtomicU64::new(0),
-        }
-    }
-
-    fn of(&self, point: Point) -> &AtomicU64 {
-        match point {
-            Point::Isolated => &self.isolated,
-            Point::Taken => &self.taken,
-            Point::Copied => &self.copied,
-            Point::Ended => &self.ended,
-        }
-    }
-
-    fn add(&self, point: Point) {
-        self.of(point).fetch_add(1, Ordering::SeqCst);
-    }
-
-    fn count(&self, point: Point) -> u64 {
-        self.of(point).load(Ordering::SeqCst)
-    }
-}
 
 /// How many isolations and how many ends these records are of.
 fn recorded(records: &[Record]) -> (u64, u64) {
@@ -163,8 +126,8 @@ impl<
     ) {
         self.fill(rt, PAGES);
         let gate = Looks::at_each(rt, &self.shared);
-        let round = round_of(rt, &self.shared, &mut self.seats, copiers, room, &gate);
-        assert!(rt; counts_of(rt, round) == (0, PAGES, PAGES, 0));
+        let round = tried_round(rt, &self.shared, &mut self.seats, copiers, room, &gate);
+        assert!(rt; counts_of(rt, &round) == (PAGES, PAGES, 0));
         for point in [Point::Isolated, Point::Taken, Point::Copied, Point::Ended] {
             assert_eq!(rt; gate.let_go.count(point), u64::from(PAGES), "{point:?}");
         }
@@ -175,7 +138,7 @@ impl<
 fn the_gate_stands_between_two_steps_with_the_lock_free(rt: HostRuntime) {
     for copiers in [1, 2, 4] {
         for room in [1, 8] {
-            runs(&rt, 1, 99, Run::LooksAtEachPoint(copiers, room));
+            tries(&rt, 1, Some(99), Trial::LooksAtEachPoint(copiers, room));
         }
     }
 }

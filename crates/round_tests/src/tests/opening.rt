@@ -1,16 +1,17 @@
-ghost use Rattle.std.specs.Prelude.{◌≡◌};
+ghost use Rattle.std.specs.Prelude.{◌≡◌, IfOk};
 ghost use Rattle.zone_core.specs.Books.{AreFor};
+ghost use Rattle.zone_core.specs.ZoneIdentity.{HasIdentity};
 
-use super::calls::{Answer, Call, play};
-use super::client_number;
+use super::calls::{Answer, Call, client_number, client_of, play};
 use client_core::{Client, Mismatch, Unsettled, settle_clients};
 use frame_core::ZoneNo;
 use round_core::{Gate, Keeping, Open, Round, RoundError, SharedZone, ZoneIdentity, compact};
+use std::alloc::Global;
 use std::process::Abort;
 use std::sync::Wait;
 use std::sync::ledger::Ledger;
 use std::thread::Threads;
-use zone_core::{Blanks, Info, Seats, Zone};
+use zone_core::{Blanks, EndSeat, Info, ScanSeat, Seats, Zone, ZoneError};
 
 /// A shared zone with its seats, and the client that maps its pages.
 #[derive(Drop)]
@@ -23,53 +24,53 @@ where
     pub keeper: Client,
 }
 
+/// A zone with so many places in its journal, or with a journal that is told.
+fn opened<I: Ledger, N: Ledger, M: Ledger, B: Ledger>(
+    alloc: Global,
+    number: ZoneNo,
+    blocks: u32,
+    places: Option<u32>,
+    blanks: Blanks,
+) -> Result<(Zone<I, M, B>, ScanSeat<I, N>, EndSeat<M, B>), ZoneError>
+    requires blanks { AreFor blanks I.name I.parts N.name N.parts M.name M.parts B.name B.parts }
+    ensures identity { IfOk result (λ opening. HasIdentity number blocks opening.0) }
+{
+    match places {
+        Some(places) => Zone::<I, M, B>::open::<N>(alloc, number, blocks, places, blanks),
+        None => Zone::<I, M, B>::open_told::<N>(alloc, number, blocks, blanks),
+    }
+}
+
 impl<K: ZoneIdentity, I: Ledger, N: Ledger, M: Ledger, B: Ledger> Opening<K, I, N, M, B> {
-    /// Zone 1, of so many pageblocks and with so many places in its journal.
-    pub fn of<R: Abort + AllocGlobal>(rt: &R, blocks: u32, places: u32, blanks: Blanks) -> Self
+    /// Zone 1, of so many pageblocks. Its journal has so many places, or is told.
+    pub fn of<R: Abort + AllocGlobal>(
+        rt: &R,
+        blocks: u32,
+        places: Option<u32>,
+        blanks: Blanks,
+    ) -> Self
         requires identity { (K.number ≡ 1) × (K.blocks ≡ blocks) }
         requires blanks { AreFor blanks I.name I.parts N.name N.parts M.name M.parts B.name B.parts }
     {
         let number = ZoneNo::new(1).expect(rt, "a zone");
-        let opened = Zone::<I, M, B>::open::<N>(rt.alloc(), number, blocks, places, blanks);
+        let opened = opened::<I, N, M, B>(rt.alloc(), number, blocks, places, blanks);
         let (zone, scan, ends) = opened.expect(rt, "a zone");
         Opening {
             shared: SharedZone::new(zone),
             seats: Seats { scan, ends },
-            keeper: Client::new(rt.alloc(), client_number(rt, 0)),
+            keeper: client_of(rt, 0),
         }
     }
 
-    /// Makes a call of the client that maps the pages.
-    pub fn keeps<R: Wait + Abort>(&mut self, rt: &R, call: Call, answer: Answer) {
-        play(rt, &self.shared, &mut self.keeper, &[(call, answer)]);
+    /// Makes calls of the client that maps the pages.
+    pub fn keeps<R: Wait + Abort>(&mut self, rt: &R, table: &[(Call, Answer)]) {
+        play(rt, &self.shared, &mut self.keeper, table);
     }
 
     /// Virtual pages 0, 1, .. name pages in the frames 0, 1, ..
     pub fn fill<R: Wait + Abort>(&mut self, rt: &R, pages: u32) {
         for number in 0..pages {
-            self.keeps(rt, Call::MapAt(number, number), Answer::Done);
-        }
-    }
-
-    /// The last word of each page is its frame's number plus 1.
-    pub fn store_all<R: Wait + Abort>(&mut self, rt: &R, pages: u32) {
-        for number in 0..pages {
-            self.keeps(
-                rt,
-                Call::Store(number, 7, u64::from(number) + 1),
-                Answer::Done,
-            );
-        }
-    }
-
-    /// Each page has its word.
-    pub fn load_all<R: Wait + Abort>(&mut self, rt: &R, pages: u32) {
-        for number in 0..pages {
-            self.keeps(
-                rt,
-                Call::Load(number, 7),
-                Answer::Value(u64::from(number) + 1),
-            );
+            self.keeps(rt, &[(Call::MapAt(number, number), Answer::Done)]);
         }
     }
 
@@ -78,10 +79,15 @@ impl<K: ZoneIdentity, I: Ledger, N: Ledger, M: Ledger, B: Ledger> Opening<K, I, 
         let room = self.shared.lock(rt);
         (room.zone().info(), room.zone().journal().len())
     }
+
+    /// What settling these clients with the zone answers.
+    pub fn settled<R: Wait>(&self, rt: &R, clients: &[Client]) -> Result<(), Unsettled> {
+        settle_clients(self.shared.lock(rt).zone(), clients)
+    }
 }
 
 /// A round, known by its answer alone.
-pub fn round_of<
+pub fn tried_round<
     K: ZoneIdentity + Send + Sync,
     I: Ledger + Send + Sync,
     N: Ledger,
@@ -101,21 +107,12 @@ pub fn round_of<
     compact(rt, rt.alloc(), shared, seats, copiers, room, gate)
 }
 
-/// The serial of its first page, and how many pages a round isolated, moved and put back.
-pub fn counts_of(rt: &impl Abort, round: Result<Round, RoundError>) -> (u32, u32, u32, u32) {
+/// How many pages a round isolated, moved and put back.
+pub fn counts_of(rt: &impl Abort, round: &Result<Round, RoundError>) -> (u32, u32, u32) {
     match round {
-        Ok(round) => (round.base, round.count, round.moved, round.back),
+        Ok(round) => (round.count, round.moved, round.back),
         Err(error) => panic!(rt; "the round is refused: {error}"),
     }
-}
-
-/// What settling these clients with a zone answers.
-pub fn settled<K: ZoneIdentity, I: Ledger, M: Ledger, B: Ledger, R: Wait>(
-    rt: &R,
-    shared: &SharedZone<K, I, M, B>,
-    clients: &[Client],
-) -> Result<(), Unsettled> {
-    settle_clients(shared.lock(rt).zone(), clients)
 }
 
 /// The first client that differs from the journal, and the first of its receipts that does.

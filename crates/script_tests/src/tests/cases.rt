@@ -339,7 +339,7 @@ pub const CASES: [Case; 40] = [
 ];
 
 /// Runs with clients beside rounds.
-pub const CLIENTS: [Case; 15] = [
+pub const CLIENTS: [Case; 16] = [
     Case {
         name: "a client stores and loads in a page that is moved",
         arguments: &[],
@@ -445,6 +445,14 @@ pub const CLIENTS: [Case; 15] = [
         status: 0,
     },
     Case {
+        name: "a client finds no free frame in a full zone",
+        arguments: &[],
+        script: "zone 0 1\nfill 0 0 0 512\nduring 0\nmap 0 0 512\nmapat 0 0 512 0\nend\n",
+        replies: "ok\ndone=512\nrefused 6\nrefused 6\nisolated=0 moved=0 back=0 stopped=met\n",
+        faults: "",
+        status: 0,
+    },
+    Case {
         name: "a client line of another zone",
         arguments: &[],
         script: "zone 0 1\nduring 0\nload 0 0 0 0\n# the next is of zone 1\nload 1 0 0 0\nend\n",
@@ -463,7 +471,7 @@ pub const CLIENTS: [Case; 15] = [
 ];
 
 /// Runs with rounds on threads.
-pub const ROUNDS: [Case; 18] = [
+pub const ROUNDS: [Case; 22] = [
     Case {
         name: "a round moves two pages up, and a pageblock is whole",
         arguments: &[],
@@ -509,6 +517,38 @@ pub const ROUNDS: [Case; 18] = [
         arguments: &["--copiers", "4"],
         script: "zone 0 4\nfill 0 0 0 1024\nthin 0 0 0 512 2\ninfo 0\ncompact 0\ninfo 0\n",
         replies: "ok\ndone=1024\ndone=512\nfree=1536 pages=512 moving=0 huge=0 whole=2\nisolated=512 moved=512 back=0 stopped=met\nfree=1536 pages=512 moving=0 huge=0 whole=3\n",
+        faults: "",
+        status: 0,
+    },
+    Case {
+        name: "two copiers pack a zone in which every second page of the first 200 is gone",
+        arguments: &["--copiers", "2", "--capacity", "8"],
+        script: "zone 0 4\nfill 0 0 0 1024\nthin 0 0 0 100 2\ncompact 0\ninfo 0\n",
+        replies: "ok\ndone=1024\ndone=100\nisolated=924 moved=924 back=0 stopped=met\nfree=1124 pages=924 moving=0 huge=0 whole=2\n",
+        faults: "",
+        status: 0,
+    },
+    Case {
+        name: "three copiers pack a zone in which every ninth page of the first 900 is gone",
+        arguments: &["--copiers", "3", "--capacity", "8"],
+        script: "zone 0 4\nfill 0 0 0 1024\nthin 0 0 0 100 9\ncompact 0\ninfo 0\n",
+        replies: "ok\ndone=1024\ndone=100\nisolated=924 moved=924 back=0 stopped=met\nfree=1124 pages=924 moving=0 huge=0 whole=2\n",
+        faults: "",
+        status: 0,
+    },
+    Case {
+        name: "a round moves nine of ten pages, for which the journal has places",
+        arguments: &["--journal", "29"],
+        script: "zone 0 1\nfill 0 0 0 10\ncompact 0\n",
+        replies: "ok\ndone=10\nisolated=9 moved=9 back=0 stopped=journalfull\n",
+        faults: "",
+        status: 0,
+    },
+    Case {
+        name: "a round moves ten pages, and the journal has places for one more",
+        arguments: &["--journal", "32"],
+        script: "zone 0 1\nfill 0 0 0 10\ncompact 0\n",
+        replies: "ok\ndone=10\nisolated=10 moved=10 back=0 stopped=met\n",
         faults: "",
         status: 0,
     },
