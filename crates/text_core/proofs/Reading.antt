@@ -1,5 +1,5 @@
 -- A script that is read line by line.
-use Rattle.std.proofs.Common.{◌≡◌, ℕ, ◌+◌, ◌<◌, ◌≤◌, List, [], ◌∷◌, ◌++◌, length, length-append, refl, sym, ap, subst, ◌∙◌, append_assoc, append-nil, inl, inr, arith, ◌⊎◌, Option, Some, None, Result, Ok, Err}
+use Rattle.std.proofs.Common.{◌≡◌, ℕ, ◌+◌, ◌<◌, List, [], ◌∷◌, ◌++◌, length, length-append, refl, sym, ap, subst, ◌∙◌, append_assoc, append-nil, inl, inr, arith, ◌⊎◌, Option, Some, None, Result, Ok, Err}
 use Rattle.text_core.specs.declared.fault.RunError.{RunError}
 use Rattle.text_core.specs.declared.fault.Fault.{Fault}
 use Rattle.text_core.specs.declared.fault.Fault.TheVariants.{Syntax, LongLine, Read, Write, Memory}
@@ -210,24 +210,6 @@ pub past_line : {S : Type 0} (may : Rule S) (start : S) (s : ScriptRunner S) (pa
 past_line may start s past text first now r =
     ap (λ (t : List ℕ). r.whole ++ t) (append_assoc s.held text (10 ∷ [])) ∙ sym (append_assoc r.whole s.held (text ++ 10 ∷ []))
     ∙ ap (λ (p : List ℕ). p ++ (text ++ 10 ∷ [])) (sym r.split)
-
--- a part of a line is held
-pub read_held : {S : Type 0} (may : Rule S) (asks : Asking S) (s : ScriptRunner S) (text : List ℕ) (now : Option (List ℕ)) → newlines text ≡ 0 → length (s.held ++ text) ≤ 200 → ReadsOn may asks s (record s { held = s.held ++ text }) text now now well
-read_held may asks s text now none short start past first r = record {
-  whole = r.whole;
-  split = ap (λ (p : List ℕ). p ++ text) r.split ∙ append_assoc r.whole s.held text;
-  unbroken = omega (arith, newlines-append s.held text, r.unbroken, none);
-  short = short;
-  line = r.line;
-  before = r.before;
-  commands = r.commands;
-  fault = r.fault;
-  reading = r.reading;
-  answers = r.answers;
-  replied = r.replied;
-  replies = r.replies;
-  owes = r.owes;
-}
 
 -- a line that has begun is too long
 pub read_long : {S : Type 0} (may : Rule S) (asks : Asking S) (s : ScriptRunner S) (text : List ℕ) (now : Option (List ℕ)) → newlines text ≡ 0 → 200 < length (s.held ++ text) → ReadsOn may asks s s text now now (ended (record { fault = LongLine; line = s.line }))

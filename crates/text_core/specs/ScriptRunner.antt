@@ -1,5 +1,5 @@
 -- What contracts see of a script that is being read.
-use Rattle.std.specs.Prelude.{◌≡◌, ◌≢◌, ℕ, ◌+◌, ◌≤◌, ◌⊎◌, List, [], ◌∷◌, ◌++◌, length, MatchResult, Option, Some, Result, Ok}
+use Rattle.std.specs.Prelude.{◌≡◌, ◌≢◌, ℕ, ◌+◌, ◌^◌, ◌<◌, ◌≤◌, ◌⊎◌, List, [], ◌∷◌, ◌++◌, length, MatchResult, Option, Some, None, Result, Ok}
 use Rattle.std.specs.Io.KnownBytes.{Consumes}
 use Rattle.state_core.specs.declared.call.ZoneCall.{ZoneCall}
 use Rattle.text_core.specs.declared.profile.Profile.TheVariants.{Untold}
@@ -37,6 +37,12 @@ block_begun zone s = record (in_block (record { line = s.line; zone = zone; clie
 abbrev pub noted : {S : Type 0} → Block → Option (ZoneCall 8) → ScriptRunner S → ScriptRunner S
 noted block call s =
     record (in_block (record block { clients = block.clients ++ record { line = s.line; call = call } ∷ [] }) s) { line = s.line + 1 }
+
+-- a line begins that isn't read in a block, and so few lines were read that the number of their replies fits 64 bits
+pub record BeginsLine {S : Type 0} (s : ScriptRunner S) : Type 0 where
+  pub begins : s.held ≡ []
+  pub outside : s.reading.block ≡ None
+  pub room : s.line + 1 < 2 ^ 53
 
 -- these bytes were read without a fault, and the replies to their lines were written or wait
 pub record HasRead {S : Type 0} (may : Rule S) (start : S) (s : ScriptRunner S) (past : List ℕ) (first now : Option (List ℕ)) : Type 0 where

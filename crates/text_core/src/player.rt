@@ -4,7 +4,7 @@ ghost use Rattle.std.specs.Io.KnownBytes.{Appends};
 ghost use Rattle.text_core.specs.Script.{StopsIn, Answer, command_in_block, command_of_line, fault_of, texts};
 ghost use Rattle.text_core.specs.Runs.{IsEnded, IsTotal};
 ghost use Rattle.text_core.specs.ReplyBuffer.{Owes, empty};
-ghost use Rattle.text_core.specs.ScriptRunner.{Finishes, HasRead, PlaysOn, ReadsCommand, ReadsLine, ReadsOn, begun, block_begun, in_block, noted};
+ghost use Rattle.text_core.specs.ScriptRunner.{BeginsLine, Finishes, HasRead, PlaysOn, ReadsCommand, ReadsLine, ReadsOn, begun, block_begun, in_block, noted};
 ghost use Rattle.text_core.specs.Streams.{CannotReadOn};
 
 use crate::answer::{Answer, Answers};
@@ -87,9 +87,7 @@ impl<A: Respond> ScriptRunner<A> {
 
     /// Reads a whole line outside a block.
     fn take_outside<W: Output>(&mut self, writer: &mut W, text: &[u8]) -> Result<(), RunError>
-        requires begins { self.old.held ≡ [] }
-        requires outside { self.old.reading.block ≡ None }
-        requires room { self.old.line + 1 < 2 ^ 53 }
+        requires { BeginsLine self.old }
         ensures reads { ReadsLine A.may A.asks self.old self.new text.now (W.contents writer.old) (W.contents writer.new) result }
         ensures stuck { IfErr result (λ error. error.fault ≡ Fault.Write → IsTrue (W.stuck writer.new)) }
         ensures line { OnOk result (self.new.line ≡ self.old.line + 1) }
@@ -144,9 +142,7 @@ impl<A: Respond> ScriptRunner<A> {
         text: &[u8],
         block: Block,
     ) -> Result<(), RunError>
-        requires begins { self.old.held ≡ [] }
-        requires outside { self.old.reading.block ≡ None }
-        requires room { self.old.line + 1 < 2 ^ 53 }
+        requires { BeginsLine self.old }
         ensures reads { ReadsLine A.may A.asks (in_block block self.old) self.new text.now (W.contents writer.old) (W.contents writer.new) result }
         ensures stuck { IfErr result (λ error. error.fault ≡ Fault.Write → IsTrue (W.stuck writer.new)) }
         ensures line { OnOk result (self.new.line ≡ self.old.line + 1) }
@@ -191,9 +187,7 @@ impl<A: Respond> ScriptRunner<A> {
 
     /// Answers a command of one line.
     fn answer<W: Output>(&mut self, writer: &mut W, command: Command) -> Result<(), RunError>
-        requires begins { self.old.held ≡ [] }
-        requires outside { self.old.reading.block ≡ None }
-        requires room { self.old.line + 1 < 2 ^ 53 }
+        requires { BeginsLine self.old }
         ensures reads { ReadsCommand A.may A.asks (command_of_line self.old.line command) self.old self.new (W.contents writer.old) (W.contents writer.new) result }
         ensures stuck { IfErr result (λ error. error.fault ≡ Fault.Write → IsTrue (W.stuck writer.new)) }
         ensures line { OnOk result (self.new.line ≡ self.old.line + 1) }
@@ -219,9 +213,7 @@ impl<A: Respond> ScriptRunner<A> {
 
     /// Answers a block, at the line that ends it.
     fn answer_block<W: Output>(&mut self, writer: &mut W, block: Block) -> Result<(), RunError>
-        requires begins { self.old.held ≡ [] }
-        requires outside { self.old.reading.block ≡ None }
-        requires room { self.old.line + 1 < 2 ^ 53 }
+        requires { BeginsLine self.old }
         ensures reads { ReadsCommand A.may A.asks (command_in_block block) self.old self.new (W.contents writer.old) (W.contents writer.new) result }
         ensures stuck { IfErr result (λ error. error.fault ≡ Fault.Write → IsTrue (W.stuck writer.new)) }
         ensures line { OnOk result (self.new.line ≡ self.old.line + 1) }
