@@ -4,6 +4,7 @@ use Rattle.std.specs.Prelude.{◌↔◌}
 use Rattle.state_core.specs.declared.error.ZoneError.{ZoneError}
 use Rattle.state_core.specs.ZoneState.{ZoneState}
 use Rattle.zone_core.specs.Alone.{IsAtRest}
+use Rattle.zone_core.specs.declared.seats.Seats.{Seats}
 use Rattle.zone_core.specs.Seats.{ScanSeat, EndSeat, audit_refusal}
 use Rattle.zone_core.specs.ZoneIdentity.{HasIdentity}
 use Rattle.machine_core.specs.World.{WorldState}
@@ -21,7 +22,7 @@ use Rattle.text_core.specs.declared.pool.PoolBlocks.{PoolBlocks}
 use Rattle.text_core.specs.declared.reply.Reply.{Reply}
 use Rattle.text_core.specs.Pool.{pool_order, told_as}
 use Rattle.client_core.specs.Receipts.{Client}
-use Rattle.script_core.specs.WithThreads.{IsPoolOn, SettlesAt, WithThreads, left_by, pool_reply, told_of}
+use Rattle.script_core.specs.WithThreads.{IsPoolOn, IsSplit, SettlesAt, WithThreads, left_by, pool_reply, told_of}
 use Rattle.script_core.proofs.Rounds.{settles}
 
 -- the number of the block at an index, and those of the blocks after it
@@ -72,32 +73,32 @@ module _ (scan_old scan : ScanSeat) (ends_old ends : EndSeat) (refusal : Option 
         (Err error) tt early want
 
 -- a pool over the zone and the seats that a world was split into
-pub pool_done : (w : WorldState) (client : Client) (places count : ℕ) (blocks : PoolBlocks) (zone_old zone : ZoneState) (scan_old scan : ScanSeat) (ends_old ends : EndSeat)
-    (collector : Collector) (report : Report) (answer : Reply) (new : WithThreads) → zone_old ≡ w.zone → scan_old ≡ w.scan → ends_old ≡ w.ends → ends_old.parts ≡ 64
+pub pool_done : {I N M B : Type 0} (w : WorldState) (client : Client) (places count : ℕ) (blocks : PoolBlocks) (zone_old zone : ZoneState) (seats_old seats : Seats I N M B)
+    (collector : Collector) (report : Report) (answer : Reply) (new : WithThreads) → IsSplit w zone_old seats_old
     → collector.rounds ≡ 4 → collector.order ≡ pool_order blocks → LockInvariant zone → HasIdentity zone_old.number zone_old.blocks zone
     → All (IsGot collector.order) report.got.items → length report.got.items ≤ count
     → (report.stop ≡ stop.Enough) ↔ (length report.got.items ≡ count)
-    → HasRun collector scan_old scan ends_old ends report
-    → (64 ≤ ends.parts → ends.moved + ends.back ≡ scan.count → audit_refusal zone ends ≡ None)
+    → HasRun collector seats_old.scan seats.scan seats_old.ends seats.ends report
+    → (64 ≤ seats.ends.parts → seats.ends.moved + seats.ends.back ≡ seats.scan.count → audit_refusal zone seats.ends ≡ None)
     → (IsAtRest zone_old → IsReservedByHand collector count zone_old zone report)
-    → answer ≡ pool_reply blocks report → new ≡ left_by places client zone scan ends (audit_refusal zone ends) → IsPoolOn count blocks w places client answer new
-pool_done w client places count blocks zone_old zone scan_old scan ends_old ends collector report answer new same_zone same_scan same_ends whole four order kept identity got most enough ran passes exact told left =
+    → answer ≡ pool_reply blocks report → new ≡ left_by places client zone seats.scan seats.ends (audit_refusal zone seats.ends) → IsPoolOn count blocks w places client answer new
+pool_done w client places count blocks zone_old zone seats_old seats collector report answer new split four order kept identity got most enough ran passes exact told left =
     record {
       zone = zone;
       kept = kept;
-      identity = (identity.0 ∙ ap (λ (z : ZoneState). z.number) same_zone, identity.1 ∙ ap (λ (z : ZoneState). z.blocks) same_zone);
-      scan = scan;
-      ends = ends;
+      identity = (identity.0 ∙ ap (λ (z : ZoneState). z.number) split.same_zone, identity.1 ∙ ap (λ (z : ZoneState). z.blocks) split.same_zone);
+      scan = seats.scan;
+      ends = seats.ends;
       report = report;
       collector = collector;
       rounds = four;
-      ran = subst (λ s. HasRun collector s scan w.ends ends report) same_scan (subst (λ e. HasRun collector scan_old scan e ends report) same_ends ran);
+      ran = subst (λ s. HasRun collector s seats.scan w.ends seats.ends report) split.scan (subst (λ e. HasRun collector seats_old.scan seats.scan e seats.ends report) split.ends ran);
       order = order;
       got = got;
       most = most;
       enough = enough;
-      settled = pool_settles scan_old scan ends_old ends (audit_refusal zone ends) whole passes collector report ran;
-      by_hand = subst (λ z. IsAtRest z → IsReservedByHand collector count z zone report) same_zone exact;
+      settled = pool_settles seats_old.scan seats.scan seats_old.ends seats.ends (audit_refusal zone seats.ends) split.whole passes collector report ran;
+      by_hand = subst (λ z. IsAtRest z → IsReservedByHand collector count z zone report) split.same_zone exact;
       answer_is = told;
       left = left;
     }

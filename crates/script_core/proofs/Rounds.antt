@@ -7,6 +7,7 @@ use Rattle.zone_core.specs.ByHand.{by_hand}
 use Rattle.zone_core.specs.Outcome.{IsSame}
 use Rattle.state_core.specs.declared.error.ZoneError.{ZoneError}
 use Rattle.state_core.specs.ZoneState.{ZoneState}
+use Rattle.zone_core.specs.declared.seats.Seats.{Seats}
 use Rattle.zone_core.specs.Seats.{ScanSeat, EndSeat, audit_refusal}
 use Rattle.zone_core.specs.ZoneIdentity.{HasIdentity}
 use Rattle.machine_core.specs.World.{WorldState, world_closed}
@@ -23,7 +24,7 @@ use Rattle.text_core.specs.Grammar.{zone_of}
 use Rattle.client_core.specs.Receipts.{Client}
 use Rattle.text_core.specs.Script.{Answer, ClientLine, Numbered, command_of_line}
 use Rattle.machine_core.specs.OneThread.{IsStep, OneThread}
-use Rattle.script_core.specs.WithThreads.{ComesToByHand, IsBlockFor, IsNothingRun, IsReplyStep, IsRoundBeside, IsRoundOver, IsStepAt, IsStepBy, IsThreadedStep, IsTurnBeside, IsUnstarted, IsWorkOn, IsWorkStep, Settles, WithThreads, broken_reply, is_threaded, left_by}
+use Rattle.script_core.specs.WithThreads.{ComesToByHand, IsBlockFor, IsNothingRun, IsReplyStep, IsRoundBeside, IsRoundOver, IsSplit, IsStepAt, IsStepBy, IsThreadedStep, IsTurnBeside, IsUnstarted, IsWorkOn, IsWorkStep, Settles, WithThreads, broken_reply, is_threaded, left_by}
 use Rattle.machine_core.specs.OneThread.{is_at_rest, number_is_at_rest}
 
 -- a command that uses threads
@@ -134,24 +135,23 @@ came_by_hand zone zone_new scan scan_new ends ends_new (Err Broken) exact count 
 came_by_hand zone zone_new scan scan_new ends ends_new (Err (Stranger serial)) exact count none_back stopped unbegun round early = λ want. absurd want
 
 -- a round over the zone and the seats that a world was split into
-abbrev pub round_over : (w : WorldState) (zone_old zone : ZoneState) (scan_old scan : ScanSeat) (ends_old ends : EndSeat) (result : Result Round RoundError)
-    → zone_old ≡ w.zone → scan_old ≡ w.scan → ends_old ≡ w.ends → ends_old.parts ≡ 64
-    → LockInvariant zone → HasIdentity zone_old.number zone_old.blocks zone
-    → IfOk result (λ r. IsRound scan_old scan ends_old ends r) → IsRefusedEarly scan_old scan ends_old ends result
-    → (64 ≤ ends.parts → ends.moved + ends.back ≡ scan.count → audit_refusal zone ends ≡ None) → IsRoundOver w
-round_over w zone_old zone scan_old scan ends_old ends result same_zone same_scan same_ends whole kept identity round early passes =
-    let R : ScanSeat → EndSeat → Type 0 = λ s e. IfOk result (λ r. IsRound s scan e ends r) in
-    let E : ScanSeat → EndSeat → Type 0 = λ s e. IsRefusedEarly s scan e ends result in
+abbrev pub round_over : {I N M B : Type 0} (w : WorldState) (zone_old zone : ZoneState) (seats_old seats : Seats I N M B) (result : Result Round RoundError)
+    → IsSplit w zone_old seats_old → LockInvariant zone → HasIdentity zone_old.number zone_old.blocks zone
+    → IfOk result (λ r. IsRound seats_old.scan seats.scan seats_old.ends seats.ends r) → IsRefusedEarly seats_old.scan seats.scan seats_old.ends seats.ends result
+    → (64 ≤ seats.ends.parts → seats.ends.moved + seats.ends.back ≡ seats.scan.count → audit_refusal zone seats.ends ≡ None) → IsRoundOver w
+round_over w zone_old zone seats_old seats result split kept identity round early passes =
+    let R : ScanSeat → EndSeat → Type 0 = λ s e. IfOk result (λ r. IsRound s seats.scan e seats.ends r) in
+    let E : ScanSeat → EndSeat → Type 0 = λ s e. IsRefusedEarly s seats.scan e seats.ends result in
     record {
       zone = zone;
       kept = kept;
-      identity = (identity.0 ∙ ap (λ (z : ZoneState). z.number) same_zone, identity.1 ∙ ap (λ (z : ZoneState). z.blocks) same_zone);
-      scan = scan;
-      ends = ends;
+      identity = (identity.0 ∙ ap (λ (z : ZoneState). z.number) split.same_zone, identity.1 ∙ ap (λ (z : ZoneState). z.blocks) split.same_zone);
+      scan = seats.scan;
+      ends = seats.ends;
       result = result;
-      round = subst (λ s. R s w.ends) same_scan (subst (λ e. R scan_old e) same_ends round);
-      early = subst (λ s. E s w.ends) same_scan (subst (λ e. E scan_old e) same_ends early);
-      settled = settles scan_old scan ends_old ends (audit_refusal zone ends) whole passes result round early;
+      round = subst (λ s. R s w.ends) split.scan (subst (λ e. R seats_old.scan e) split.ends round);
+      early = subst (λ s. E s w.ends) split.scan (subst (λ e. E seats_old.scan e) split.ends early);
+      settled = settles seats_old.scan seats.scan seats_old.ends seats.ends (audit_refusal zone seats.ends) split.whole passes result round early;
     }
 
 -- a block is for the open zone
@@ -198,25 +198,19 @@ module _ (w : WorldState) (old given : WithThreads) (c : Numbered) (answers : Li
   block_step there whole block (inl b) = inr (record { world = w; there = there; whole = whole; block = block; ran = inl (round_beside b) })
   block_step there whole block (inr u) = inr (record { world = w; there = there; whole = whole; block = block; ran = inr (unstarted u) })
 
--- what was added to the zone that a world was split into was added to the world's zone
-pub added_to : (zone_now zone_old zone : ZoneState) (client_now client : Client) → zone_old ≡ zone_now → client ≡ client_now
-    → IsAddedBeside client.number zone_old.records zone.records → IsAddedBeside client_now.number zone_now.records zone.records
-added_to zone_now zone_old zone client_now client same_zone same_client added =
-    subst (λ (k : Client). IsAddedBeside k.number zone_now.records zone.records) same_client
-    (subst (λ (z : ZoneState). IsAddedBeside client.number z.records zone.records) same_zone added)
-
 -- nothing ran over the zone and the seats that a world was split into
-pub nothing_ran : (w : WorldState) (old new : WithThreads) (zone_old zone : ZoneState) (scan_old scan : ScanSeat) (ends_old ends : EndSeat)
-    → zone_old ≡ w.zone → scan_old ≡ w.scan → ends_old ≡ w.ends → (scan ≡ scan_old) × (ends ≡ ends_old)
+pub nothing_ran : {I N M B : Type 0} (w : WorldState) (old new : WithThreads) (zone_old zone : ZoneState) (seats_old seats : Seats I N M B)
+    → IsSplit w zone_old seats_old → (seats.scan ≡ seats_old.scan) × (seats.ends ≡ seats_old.ends)
     → (client : Client) → client ≡ old.client → IsAddedBeside client.number zone_old.records zone.records → LockInvariant zone → HasIdentity zone_old.number zone_old.blocks zone
-    → new ≡ left_by old.single.places old.client zone scan ends (audit_refusal zone ends) → IsNothingRun w old new
-nothing_ran w old new zone_old zone scan_old scan ends_old ends same_zone same_scan same_ends same client same_client added kept identity left =
-    let scans : scan ≡ w.scan = same.0 ∙ same_scan in
-    let ends_are : ends ≡ w.ends = same.1 ∙ same_ends in
+    → new ≡ left_by old.single.places old.client zone seats.scan seats.ends (audit_refusal zone seats.ends) → IsNothingRun w old new
+nothing_ran w old new zone_old zone seats_old seats split same client same_client added kept identity left =
+    let scans : seats.scan ≡ w.scan = same.0 ∙ split.scan in
+    let ends_are : seats.ends ≡ w.ends = same.1 ∙ split.ends in
     record {
       zone = zone;
-      added = added_to w.zone zone_old zone old.client client same_zone same_client added;
+      added = subst (λ (k : Client). IsAddedBeside k.number w.zone.records zone.records) same_client
+          (subst (λ (z : ZoneState). IsAddedBeside client.number z.records zone.records) split.same_zone added);
       kept = kept;
-      identity = (identity.0 ∙ ap (λ (z : ZoneState). z.number) same_zone, identity.1 ∙ ap (λ (z : ZoneState). z.blocks) same_zone);
+      identity = (identity.0 ∙ ap (λ (z : ZoneState). z.number) split.same_zone, identity.1 ∙ ap (λ (z : ZoneState). z.blocks) split.same_zone);
       left = left ∙ (λ i. left_by old.single.places old.client zone (scans i) (ends_are i) (audit_refusal zone (ends_are i)));
     }

@@ -1,9 +1,12 @@
--- What the lines of a client are answered during a round, in whatever schedule.
-use Rattle.std.specs.Prelude.{◌≡◌, ◌≢◌, ℕ, ⊤, List, [], ◌∷◌, Option, Some, None, Result, Ok, Err}
+-- What the lines of a client are answered during a round, in whatever schedule, and what a turn of it needs and comes to.
+use Rattle.std.specs.Prelude.{◌≡◌, ◌≢◌, ℕ, ◌≤◌, ⊤, List, [], ◌∷◌, Option, Some, None, MatchOption, Result, Ok, Err, IfOk, vec_len, vec_capacity}
 use Rattle.state_core.specs.declared.call.ZoneAnswer.{ZoneAnswer}
 use Rattle.state_core.specs.declared.call.ZoneCall.{ZoneCall}
 use Rattle.state_core.specs.declared.error.ZoneError.TheVariants.{Moving}
 use Rattle.state_core.specs.Calls.{refusal_of}
+use Rattle.hand_core.specs.Told.{Pair}
+use Rattle.zone_core.specs.declared.seats.Seats.{Seats}
+use Rattle.round_core.specs.Rounds.{IsRefusedEarly, IsRound}
 use Rattle.client_core.specs.declared.error.ClientError.{ClientError}
 use Rattle.client_core.specs.declared.error.ClientError.TheVariants.{Zone}
 use Rattle.client_core.specs.Calls.{HasMade, IsFailed}
@@ -13,6 +16,8 @@ use Rattle.text_core.specs.declared.reply.Reply.{Reply}
 use Rattle.text_core.specs.declared.reply.Reply.TheVariants.{Refused}
 use Rattle.machine_core.specs.Machine.{reply_for}
 use Rattle.text_core.specs.Script.{Answer, ClientLine}
+use Rattle.script_core.specs.declared.beside.ClientAndRound.{ClientAndRound}
+use Rattle.script_core.specs.declared.beside.ClientTurn.{ClientTurn}
 
 -- a call failed for want of memory, or because a zone refused it, and the client has no receipt of it
 pub record IsRefusedCall (old : Client) (call : ZoneCall 8) (error : ClientError) (new : Client) : Type 0 where
@@ -48,3 +53,22 @@ AreClientAnswers old (c ∷ clients) (a ∷ answers) new =
     (next : Client) × (a.line ≡ c.line) × IsClientReply old c.call a.reply next × AreClientAnswers next clients answers new
 AreClientAnswers old [] (a ∷ answers) new = ⊥
 AreClientAnswers old (c ∷ clients) [] new = ⊥
+
+-- no line has its answer yet, and there is room for one to each
+abbrev pub HasRoomForAnswers : {J : Type 0} → ClientTurn J → Type 0
+HasRoomForAnswers turn = (turn.answers.items ≡ []) × (vec_len turn.lines ≤ vec_capacity turn.answers)
+
+-- the client may make calls, with the slip of this pair if it has one, and there is room for the answers to its lines
+pub record MayPlay {J : Type 0} (allows : ℕ → Option Pair → Type 0) (pair : Option Pair) (turn : ClientTurn J) : Type 0 where
+  pub allowed : allows turn.client.number pair
+  pub room : HasRoomForAnswers turn
+
+-- the client's lines were answered, and the round went from the first seats to the others, or was refused early
+pub record IsRunBeside {J I N M B : Type 0} (turn : ClientTurn J) (seats seats_new : Seats I N M B) (both : ClientAndRound J) : Type 0 where
+  pub played : AreClientAnswers turn.client turn.lines.items both.answers.items both.client
+  pub round : IfOk both.round (λ r. IsRound seats.scan seats_new.scan seats.ends seats_new.ends r)
+  pub early : IsRefusedEarly seats.scan seats_new.scan seats.ends seats_new.ends both.round
+
+-- both ran, or the client's thread couldn't be started: then nothing ran, and the seats are as before
+abbrev pub RunsBeside : {J I N M B : Type 0} → ClientTurn J → (seats seats_new : Seats I N M B) → Option (ClientAndRound J) → Type 0
+RunsBeside turn seats seats_new ran = MatchOption ran ((seats_new.scan ≡ seats.scan) × (seats_new.ends ≡ seats.ends)) (IsRunBeside turn seats seats_new)

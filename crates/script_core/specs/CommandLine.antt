@@ -1,5 +1,5 @@
 -- What the words of a command line mean: clap's own account of a parse, at the options of this program.
-use Rattle.std.specs.Prelude.{◌≡◌, ℕ, Bool, true, false, List, map, Some, pos, codes, option_map, unwrap_or}
+use Rattle.std.specs.Prelude.{◌≡◌, ℕ, Bool, true, false, List, [], map, Option, Some, Result, IfOk, IfSome, pos, codes, option_map, unwrap_or}
 use Rattle.std.specs.List.{list_all, list_any}
 use Rattle.std.specs.String.{string_bytes}
 use Rattle.std.specs.Vec.Iter.{into_iter_items}
@@ -63,6 +63,10 @@ number_of words name own = unwrap_or (option_map number_told (one_of name (match
 -- the number of places that the words give to the journal
 abbrev pub journal_of : List Text → ℕ
 journal_of words = number_of words (codes "journal") 65536
+
+-- where the words give options and the status is 0, this holds of the number of places that they give to the journal, and of the script
+abbrev pub IfDone : {X Y E : Type 0} → Result (IntoIter (String X) Y) E → ℕ → Option (List ℕ) → (ℕ → List ℕ → Type 0) → Type 0
+IfDone words status script P = IfOk words (λ args. refusal_of (texts_of args) ≡ [] → status ≡ 0 → IfSome script (P (journal_of (texts_of args))))
 
 -- these are the options that the words give
 pub record IsGiven (words : List Text) (options : Options) : Type 0 where

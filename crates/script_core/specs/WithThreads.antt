@@ -7,6 +7,7 @@ use Rattle.state_core.specs.ZoneState.{ZoneState}
 use Rattle.zone_core.specs.Alone.{IsAtRest}
 use Rattle.zone_core.specs.ByHand.{by_hand}
 use Rattle.zone_core.specs.Outcome.{IsSame}
+use Rattle.zone_core.specs.declared.seats.Seats.{Seats}
 use Rattle.zone_core.specs.Seats.{ScanSeat, EndSeat, audit_refusal}
 use Rattle.zone_core.specs.ZoneIdentity.{HasIdentity}
 use Rattle.machine_core.specs.World.{WorldState, world_closed}
@@ -75,6 +76,19 @@ left_by places client zone scan ends None =
     record { single = record { places = places; world = Some (world_closed zone scan ends) }; broken = None; client = client }
 left_by places client zone scan ends (Some error) =
     record { single = single_at_first places; broken = Some zone.number; client = client }
+
+-- no zone of the machine is broken, and it gave this world away, in which no hand round is open
+pub record HasGivenAway (machine : WithThreads) (w : WorldState) : Type 0 where
+  pub given : machine.single.world ≡ None
+  pub whole : machine.broken ≡ None
+  pub closed : w.is_open ≡ false
+
+-- a world was taken apart into this zone and these seats, and the end seat is whole
+pub record IsSplit {I N M B : Type 0} (w : WorldState) (zone : ZoneState) (seats : Seats I N M B) : Type 0 where
+  pub same_zone : zone ≡ w.zone
+  pub scan : seats.scan ≡ w.scan
+  pub ends : seats.ends ≡ w.ends
+  pub whole : seats.ends.parts ≡ 64
 
 -- what came of a round over the zone of a world, in whatever schedule
 pub record IsRoundOver (w : WorldState) : Type 0 where

@@ -1,13 +1,12 @@
 //! A round during which a client makes calls.
 
-ghost use Rattle.std.specs.Prelude.{◌≡◌, ◌≤◌, [], Some, IfOk, IfSome, IfNone, vec_len, vec_capacity};
+ghost use Rattle.std.specs.Prelude.{◌≡◌, [], Some, IfSome};
 ghost use Rattle.client_core.specs.Receipts.{AreSince, IsToldBeside};
 ghost use Rattle.hand_core.specs.Told.{pair_of};
 ghost use Rattle.round_core.specs.Calls.{IsAddedBeside};
 ghost use Rattle.round_core.specs.Kept.{LockInvariant};
-ghost use Rattle.round_core.specs.Rounds.{IsRefusedEarly, IsRound};
 ghost use Rattle.zone_core.specs.ZoneIdentity.{HasIdentity};
-ghost use Rattle.script_core.specs.Clients.{AreClientAnswers, IsClientReply};
+ghost use Rattle.script_core.specs.Clients.{AreClientAnswers, HasRoomForAnswers, IsClientReply, MayPlay, RunsBeside};
 
 use client_core::{Client, Telling, Untold};
 use hand_core::{Slip, Stub};
@@ -57,17 +56,14 @@ pub(crate) fn compact_beside<
     stub: Stub,
     slip: Slip,
 ) -> (Zone<I, M, B>, Option<ClientAndRound>)
-    requires room { (turn.answers.items ≡ []) × (vec_len turn.lines ≤ vec_capacity turn.answers) }
+    requires room { HasRoomForAnswers turn }
     requires pair { (slip ≡ stub) × (stub.records ≡ []) }
     // Each record that the journal has more is of the round or of the client, and those of the client are its new receipts.
     ensures added { IsAddedBeside turn.client.number zone.records result.0.records }
     ensures told { IfSome result.1 (λ both. IsToldBeside turn.client both.client zone.records result.0.records) }
     ensures kept { LockInvariant result.0 }
     ensures identity { HasIdentity zone.number zone.blocks result.0 }
-    ensures played { IfSome result.1 (λ both. AreClientAnswers turn.client turn.lines.items both.answers.items both.client) }
-    ensures round { IfSome result.1 (λ both. IfOk both.round (λ r. IsRound seats.old.scan seats.new.scan seats.old.ends seats.new.ends r)) }
-    ensures early { IfSome result.1 (λ both. IsRefusedEarly seats.old.scan seats.new.scan seats.old.ends seats.new.ends both.round) }
-    ensures none { IfNone result.1 ((seats.new.scan ≡ seats.old.scan) × (seats.new.ends ≡ seats.old.ends)) }
+    ensures ran { RunsBeside turn seats.old seats.new result.1 }
 {
     compact_shared::<Brand, Brand, I, N, M, B, R>(rt, alloc, zone, seats, options, turn, stub, slip)
 }
@@ -95,19 +91,15 @@ fn compact_shared<
     requires identity { HasIdentity K.number K.blocks zone }
     requires keeps { K.keeps zone }
     requires begins { K.begins_at seats.old.scan.count }
-    requires allows { K.allows turn.client.number J.pair }
+    requires plays { MayPlay K.allows J.pair turn }
     requires told { K.told zone.records ≡ Some stub }
     requires slip { (J.pair ≡ Some slip.pair) × (slip.records ≡ []) }
     requires before { J.before ≡ turn.client.receipts }
-    requires room { (turn.answers.items ≡ []) × (vec_len turn.lines ≤ vec_capacity turn.answers) }
     ensures keeps { K.keeps result.0 }
     ensures told { IfSome result.1 (λ both. AreSince J.before (K.told result.0.records) both.client.receipts) }
     ensures kept { LockInvariant result.0 }
     ensures identity { HasIdentity K.number K.blocks result.0 }
-    ensures played { IfSome result.1 (λ both. AreClientAnswers turn.client turn.lines.items both.answers.items both.client) }
-    ensures round { IfSome result.1 (λ both. IfOk both.round (λ r. IsRound seats.old.scan seats.new.scan seats.old.ends seats.new.ends r)) }
-    ensures early { IfSome result.1 (λ both. IsRefusedEarly seats.old.scan seats.new.scan seats.old.ends seats.new.ends both.round) }
-    ensures none { IfNone result.1 ((seats.new.scan ≡ seats.old.scan) × (seats.new.ends ≡ seats.old.ends)) }
+    ensures ran { RunsBeside turn seats.old seats.new result.1 }
 {
     let ClientTurn {
         client,
@@ -170,12 +162,8 @@ fn in_scope<
     turn: ClientTurn<J>,
 ) -> Option<ClientAndRound<J>>
     requires begins { K.begins_at seats.old.scan.count }
-    requires allows { K.allows turn.client.number J.pair }
-    requires room { (turn.answers.items ≡ []) × (vec_len turn.lines ≤ vec_capacity turn.answers) }
-    ensures played { IfSome result (λ both. AreClientAnswers turn.client turn.lines.items both.answers.items both.client) }
-    ensures round { IfSome result (λ both. IfOk both.round (λ r. IsRound seats.old.scan seats.new.scan seats.old.ends seats.new.ends r)) }
-    ensures early { IfSome result (λ both. IsRefusedEarly seats.old.scan seats.new.scan seats.old.ends seats.new.ends both.round) }
-    ensures none { IfNone result ((seats.new.scan ≡ seats.old.scan) × (seats.new.ends ≡ seats.old.ends)) }
+    requires plays { MayPlay K.allows J.pair turn }
+    ensures ran { RunsBeside turn seats.old seats.new result }
 {
     let lent = &mut *seats;
     let (lent, both) = thread::scope(
@@ -183,12 +171,8 @@ fn in_scope<
         rt,
         move |scope| -> (&mut Seats<I, N, M, B>, Option<ClientAndRound<J>>)
             requires begins { K.begins_at lent.now.scan.count }
-            requires allows { K.allows turn.client.number J.pair }
-            requires room { (turn.answers.items ≡ []) × (vec_len turn.lines ≤ vec_capacity turn.answers) }
-            ensures played { IfSome result.1 (λ both. AreClientAnswers turn.client turn.lines.items both.answers.items both.client) }
-            ensures round { IfSome result.1 (λ both. IfOk both.round (λ r. IsRound lent.entry.now.scan result.0.now.scan lent.entry.now.ends result.0.now.ends r)) }
-            ensures early { IfSome result.1 (λ both. IsRefusedEarly lent.entry.now.scan result.0.now.scan lent.entry.now.ends result.0.now.ends both.round) }
-            ensures none { IfNone result.1 ((result.0.now.scan ≡ lent.entry.now.scan) × (result.0.now.ends ≡ lent.entry.now.ends)) }
+            requires plays { MayPlay K.allows J.pair turn }
+            ensures ran { RunsBeside turn lent.entry.now result.0.now result.1 }
             ensures lent { result.0.ghost_name ≡ lent.entry.ghost_name }
         {
             let both = run_both(scope, rt, alloc, shared, lent, options, turn);
@@ -220,12 +204,8 @@ fn run_both<
     turn: ClientTurn<J>,
 ) -> Option<ClientAndRound<J>>
     requires begins { K.begins_at seats.old.scan.count }
-    requires allows { K.allows turn.client.number J.pair }
-    requires room { (turn.answers.items ≡ []) × (vec_len turn.lines ≤ vec_capacity turn.answers) }
-    ensures played { IfSome result (λ both. AreClientAnswers turn.client turn.lines.items both.answers.items both.client) }
-    ensures round { IfSome result (λ both. IfOk both.round (λ r. IsRound seats.old.scan seats.new.scan seats.old.ends seats.new.ends r)) }
-    ensures early { IfSome result (λ both. IsRefusedEarly seats.old.scan seats.new.scan seats.old.ends seats.new.ends both.round) }
-    ensures none { IfNone result ((seats.new.scan ≡ seats.old.scan) × (seats.new.ends ≡ seats.old.ends)) }
+    requires plays { MayPlay K.allows J.pair turn }
+    ensures ran { RunsBeside turn seats.old seats.new result }
 {
     let player = start_client(scope, rt, shared, turn)?;
     let round = compact(
@@ -277,8 +257,7 @@ fn start_client<
     shared: &'e KeptZone<K, I, M, B>,
     turn: ClientTurn<J>,
 ) -> Option<PromisedHandle<ClientTurn<J>, Plays<J>>>
-    requires allows { K.allows turn.client.number J.pair }
-    requires room { (turn.answers.items ≡ []) × (vec_len turn.lines ≤ vec_capacity turn.answers) }
+    requires plays { MayPlay K.allows J.pair turn }
     ensures { IfSome result (λ player. player.promise.turn.value ≡ turn) }
 {
     let promise = Plays {
@@ -287,8 +266,7 @@ fn start_client<
     let started = scope.spawn_with(
         promise,
         move || -> ClientTurn<J>
-            requires allows { K.allows turn.client.number J.pair }
-            requires room { (turn.answers.items ≡ []) × (vec_len turn.lines ≤ vec_capacity turn.answers) }
+            requires plays { MayPlay K.allows J.pair turn }
             ensures { AreClientAnswers turn.client turn.lines.items result.answers.items result.client }
         { play_lines(rt, shared, turn) },
     );
@@ -301,8 +279,7 @@ fn play_lines<K: Keeping, J: Telling, I: Ledger, M: Ledger, B: Ledger, R: Wait>(
     shared: &KeptZone<K, I, M, B>,
     turn: ClientTurn<J>,
 ) -> ClientTurn<J>
-    requires allows { K.allows turn.client.number J.pair }
-    requires room { (turn.answers.items ≡ []) × (vec_len turn.lines ≤ vec_capacity turn.answers) }
+    requires plays { MayPlay K.allows J.pair turn }
     ensures { AreClientAnswers turn.client turn.lines.items result.answers.items result.client }
 {
     let ClientTurn {

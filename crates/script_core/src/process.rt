@@ -1,7 +1,7 @@
 ghost use Rattle.std.specs.Prelude.{◌≡◌, ◌≢◌, ◌+◌, ◌≤◌, ◌⊎◌, [], false, true, None, IfOk, IfErr, IfSome};
 ghost use Rattle.std.specs.Io.KnownBytes.{Appends, Keeps};
 ghost use Rattle.clap.specs.Words.{kind_of};
-ghost use Rattle.script_core.specs.CommandLine.{texts_of, refusal_of, journal_of, is_help, asks_help, asks_only_help};
+ghost use Rattle.script_core.specs.CommandLine.{IfDone, texts_of, refusal_of, journal_of, is_help, asks_help, asks_only_help};
 ghost use Rattle.script_core.specs.Status.{status_of};
 ghost use Rattle.script_core.specs.Stops.{LacksMemory, Stops};
 ghost use Rattle.text_core.specs.Runs.{IsAnswered};
@@ -57,19 +57,16 @@ pub fn program<R: Input, W: Output, F: Output, H: Threads + Wait + Sync>(
     ensures quiet { result ≡ 2 → Keeps (W.contents writer.old) (W.contents writer.new) }
     // At most ten million reads of the script give bytes.
     ensures few { R.reads reader.new ≤ R.reads reader.old + 10000000 }
-    // The script has no fault, and was answered; one without rounds, pools and blocks was answered as on one thread.
-    ensures whole { IfOk words (λ args. refusal_of (texts_of args) ≡ [] → result ≡ 0
-        → IfSome (R.remaining reader.old) (λ input. fault_of input ≡ None)) }
-    ensures answered { IfOk words (λ args. refusal_of (texts_of args) ≡ [] → result ≡ 0
-        → IfSome (R.remaining reader.old) (λ input. IsAnswered IsThreadedStep (threaded_at_first (journal_of (texts_of args))) input
-        (W.contents writer.old) (W.contents writer.new))) }
-    ensures replies { IfOk words (λ args. refusal_of (texts_of args) ≡ [] → result ≡ 0
-        → IfSome (R.remaining reader.old) (λ input. IsUnthreadedScript input → Appends (W.contents writer.old) (W.contents writer.new)
-        (output_of (journal_of (texts_of args)) input))) }
+    // Where the words give options and the status is 0, the script has no fault, and was answered; one without rounds, pools and
+    // blocks was answered as on one thread.
+    ensures whole { IfDone words result (R.remaining reader.old) (λ places input. fault_of input ≡ None) }
+    ensures answered { IfDone words result (R.remaining reader.old) (λ places input.
+        IsAnswered IsThreadedStep (threaded_at_first places) input (W.contents writer.old) (W.contents writer.new)) }
+    ensures replies { IfDone words result (R.remaining reader.old) (λ places input.
+        IsUnthreadedScript input → Appends (W.contents writer.old) (W.contents writer.new) (output_of places input)) }
     // One without blocks was answered as by the machine that makes its rounds by hand.
-    ensures by_hand { IfOk words (λ args. refusal_of (texts_of args) ≡ [] → result ≡ 0
-        → IfSome (R.remaining reader.old) (λ input. IsAloneScript input → IsAnswered (IsByHandStep (journal_of (texts_of args))) (To None) input
-        (W.contents writer.old) (W.contents writer.new))) }
+    ensures by_hand { IfDone words result (R.remaining reader.old) (λ places input.
+        IsAloneScript input → IsAnswered (IsByHandStep places) (To None) input (W.contents writer.old) (W.contents writer.new)) }
     // There was no memory to read the words, or the run stopped.
     ensures fault { IfOk words (λ args. result ≡ 1 → LacksMemory result (W.contents writer.old) (W.contents writer.new)
         (F.contents faults.old) (F.contents faults.new) (F.stuck faults.new) ⊎ Stops (journal_of (texts_of args))

@@ -1,4 +1,4 @@
-ghost use Rattle.std.specs.Prelude.{◌≡◌, ◌⊎◌, ◌+◌, ◌≤◌, ◌↔◌, [], false, length, None, IsOk, IfOk, OnErr, IfSome, IfNone, vec_len, vec_capacity};
+ghost use Rattle.std.specs.Prelude.{◌≡◌, ◌⊎◌, ◌+◌, ◌≤◌, ◌↔◌, [], false, length, None, IsOk, IfOk, OnErr, IfSome, IfNone};
 ghost use Rattle.std.specs.Result.{result_err};
 ghost use Rattle.round_core.specs.Kept.{LockInvariant};
 ghost use Rattle.round_core.specs.Rounds.{IsRefusedEarly, IsRound};
@@ -7,7 +7,8 @@ ghost use Rattle.zone_core.specs.Seats.{audit_refusal};
 ghost use Rattle.zone_core.specs.ZoneIdentity.{HasIdentity};
 ghost use Rattle.machine_core.specs.Refusals.{number_of};
 ghost use Rattle.text_core.specs.Script.{command_in_block};
-ghost use Rattle.script_core.specs.WithThreads.{ComesToByHand, IsBlockFor, IsNothingRun, IsPoolOn, IsRoundBeside, IsRoundOn, IsSettledReply, IsStepBy, IsThreadedStep, IsTurnBeside, IsUnstarted, broken_refusal, broken_reply, is_threaded, left_by, pool_reply, round_reply, threaded_at_first, told_of};
+ghost use Rattle.script_core.specs.Clients.{HasRoomForAnswers};
+ghost use Rattle.script_core.specs.WithThreads.{ComesToByHand, HasGivenAway, IsBlockFor, IsNothingRun, IsPoolOn, IsRoundBeside, IsRoundOn, IsSettledReply, IsSplit, IsStepBy, IsThreadedStep, IsTurnBeside, IsUnstarted, broken_refusal, broken_reply, is_threaded, left_by, pool_reply, round_reply, threaded_at_first, told_of};
 ghost use Rattle.script_core.specs.MachineByHand.{pool_stopped_as, stopped_as};
 
 use crate::alone::BaseMachine;
@@ -166,9 +167,7 @@ impl<
         alloc: Global,
         world: World<I, N, M, B>,
     ) -> Reply
-        requires given { self.old.single.world ≡ None }
-        requires whole { self.old.broken ≡ None }
-        requires closed { world.is_open ≡ false }
+        requires given { HasGivenAway self.old world }
         ensures { IsRoundOn world self.old.single.places self.old.client result self.new }
     {
         let (zone, mut seats, rest) = parts_of(world);
@@ -186,9 +185,7 @@ impl<
         world: World<I, N, M, B>,
         block: Block,
     ) -> Result<Answers, AllocError>
-        requires given { self.old.single.world ≡ None }
-        requires whole { self.old.broken ≡ None }
-        requires closed { world.is_open ≡ false }
+        requires given { HasGivenAway self.old world }
         ensures { IfOk result (λ answers. IsRoundBeside world self.old (command_in_block block) answers self.new ⊎ IsUnstarted world self.old (command_in_block block) answers self.new) }
     {
         let client = self.client.try_clone()?;
@@ -218,12 +215,10 @@ impl<
         stub: Stub,
         slip: Slip,
     ) -> Option<(Vec<Answer>, Reply)>
-        requires given { self.old.single.world ≡ None }
-        requires whole { self.old.broken ≡ None }
-        requires closed { world.is_open ≡ false }
+        requires given { HasGivenAway self.old world }
         requires client { turn.client ≡ self.old.client }
         requires pair { (slip ≡ stub) × (stub.records ≡ []) }
-        requires room { (turn.answers.items ≡ []) × (vec_len turn.lines ≤ vec_capacity turn.answers) }
+        requires room { HasRoomForAnswers turn }
         ensures played { IfSome result (λ told. IsTurnBeside world self.old.single.places turn.client turn.lines.items told.0.items told.1 self.new) }
         ensures none { IfNone result (IsNothingRun world self.old self.new) }
     {
@@ -297,9 +292,7 @@ impl<
         count: BlockCount,
         blocks: PoolBlocks,
     ) -> Reply
-        requires given { self.old.single.world ≡ None }
-        requires whole { self.old.broken ≡ None }
-        requires closed { world.is_open ≡ false }
+        requires given { HasGivenAway self.old world }
         ensures { IsPoolOn count blocks world self.old.single.places self.old.client result self.new }
     {
         let (zone, mut seats, rest) = parts_of(world);
@@ -344,10 +337,7 @@ fn parts_of<I: Ledger, N: Ledger, M: Ledger, B: Ledger>(
     world: World<I, N, M, B>,
 ) -> (Zone<I, M, B>, Seats<I, N, M, B>, Rest)
     requires closed { world.is_open ≡ false }
-    ensures zone { result.0 ≡ world.zone }
-    ensures scan { result.1.scan ≡ world.scan }
-    ensures ends { result.1.ends ≡ world.ends }
-    ensures whole { result.1.ends.parts ≡ 64 }
+    ensures split { IsSplit world result.0 result.1 }
     ensures rest { result.2 ≡ world.zone.blocks }
 {
     world.split().ok().unwrap()

@@ -142,14 +142,25 @@ fn shorter_value_of<const W: usize>(rt: &impl Abort, call: Call) -> ZoneCallOf<W
 /// What the method of a call answers where the call as a value was answered so.
 pub fn told(call: Call, answer: Result<ZoneAnswer, ZoneError>) -> Answer {
     match answer {
-        Ok(ZoneAnswer::Done) => Answer::Done,
-        Ok(ZoneAnswer::Mapped { frame, .. }) => match call {
-            Call::MapAt(..) => Answer::Done,
-            _ => Answer::Frame(frame.get()),
-        },
-        Ok(ZoneAnswer::Frame(frame)) => Answer::Frame(frame.get()),
-        Ok(ZoneAnswer::Value(value)) => Answer::Value(value),
+        Ok(answer) => shown(call, answer),
         Err(error) => Answer::Refused(error),
+    }
+}
+
+fn shown(call: Call, answer: ZoneAnswer) -> Answer {
+    match answer {
+        ZoneAnswer::Done => Answer::Done,
+        ZoneAnswer::Value(value) => Answer::Value(value),
+        ZoneAnswer::Frame(first) => Answer::Frame(first.get()),
+        ZoneAnswer::Mapped { frame, .. } => mapped(call, frame.get()),
+    }
+}
+
+/// What the method answers by which a page was mapped in this frame.
+fn mapped(call: Call, frame: u32) -> Answer {
+    match call {
+        Call::MapAt(..) => Answer::Done,
+        _ => Answer::Frame(frame),
     }
 }
 
@@ -183,22 +194,26 @@ pub fn valued(answer: Result<u64, ZoneError>) -> Answer {
 
 pub fn looked(answer: Result<Look, ZoneError>) -> Answer {
     match answer {
-        Ok(
-            Look::At {
-                frame,
-                flags,
-                pins,
-                maps,
-            },
-        ) => Answer::At {
+        Ok(look) => seen(look),
+        Err(error) => Answer::Refused(error),
+    }
+}
+
+fn seen(look: Look) -> Answer {
+    match look {
+        Look::At {
+            frame,
+            flags,
+            pins,
+            maps,
+        } => Answer::At {
             frame: frame.get(),
             dirty: flags.is_dirty(),
             unmovable: flags.is_unmovable(),
             pins,
             maps,
         },
-        Ok(Look::Moving { serial, pins, maps }) => Answer::Moving { serial, pins, maps },
-        Err(error) => Answer::Refused(error),
+        Look::Moving { serial, pins, maps } => Answer::Moving { serial, pins, maps },
     }
 }
 

@@ -107,10 +107,23 @@ fn tries_with<const W: usize, I: Ledger, N: Ledger, M: Ledger, B: Ledger>(
     requires blanks { AreFor blanks I.name I.parts N.name N.parts M.name M.parts B.name B.parts }
     requires size { W ≤ 65536 }
 {
-    if let Trial::Zone(parts) = case.trial {
-        Opened::<W, I, N, M, B>::of(rt, case.places, blanks).plays(rt, case.name, parts);
-    } else {
-        let world = OpenWorld::<W, I, N, M, B>::of(rt, case.blocks, case.places, blanks);
-        world.undergoes(rt, case);
+    match case.trial {
+        Trial::Zone(parts) => {
+            let mut opened = Opened::<W, I, N, M, B>::of(rt, case.places, blanks);
+            opened.plays(rt, case.name, parts);
+        }
+        Trial::ComesApart => world_of::<W, I, N, M, B>(rt, case, blanks).comes_apart(rt),
+        _ => world_of::<W, I, N, M, B>(rt, case, blanks).undergoes(rt, case),
     }
+}
+
+fn world_of<const W: usize, I: Ledger, N: Ledger, M: Ledger, B: Ledger>(
+    rt: &(impl Abort + AllocGlobal),
+    case: &Case,
+    blanks: Blanks,
+) -> OpenWorld<W, I, N, M, B>
+    requires blanks { AreFor blanks I.name I.parts N.name N.parts M.name M.parts B.name B.parts }
+    requires size { W ≤ 65536 }
+{
+    OpenWorld::of(rt, case.blocks, case.places, blanks)
 }

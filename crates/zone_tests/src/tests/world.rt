@@ -79,14 +79,13 @@ impl<const W: usize, I: Ledger, N: Ledger, M: Ledger, B: Ledger> OpenWorld<W, I,
         self.world.zone()
     }
 
-    pub fn undergoes(mut self, rt: &(impl Abort + AllocGlobal), case: &Case)
+    /// Plays the rows of a case, or calls that are drawn.
+    pub fn undergoes(&mut self, rt: &(impl Abort + AllocGlobal), case: &Case)
         requires { W ≤ 65536 }
     {
         match case.trial {
             Trial::World(way, rows) => self.plays(rt, way, case.name, rows),
-            Trial::Drawn => self.plays_draws(rt),
-            Trial::ComesApart => self.comes_apart(rt),
-            Trial::Zone(_) => panic!(rt; "a zone has no world"),
+            _ => self.plays_draws(rt),
         }
     }
 
@@ -117,7 +116,7 @@ impl<const W: usize, I: Ledger, N: Ledger, M: Ledger, B: Ledger> OpenWorld<W, I,
     }
 
     /// A world is handed back as it was where its round is open, and comes apart once it is shut.
-    fn comes_apart(mut self, rt: &impl Abort) {
+    pub fn comes_apart(mut self, rt: &impl Abort) {
         assert!(rt; self.scan() == Answer::Met);
         let Err(world) = self.world.split() else {
             panic!(rt; "a world whose round is open comes apart");

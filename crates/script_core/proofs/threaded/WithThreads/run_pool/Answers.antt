@@ -8,14 +8,13 @@ use Rattle.script_core.proofs.threaded.WithThreads.run_pool.Goals as goal
 
 pub returns : goal.returns
 returns g c =
-    let seats = c.reserve_alone-zone.new.seats in
     let report = c.reserve_alone-zone.result.1 in
     let collector = c.collector-collector in
     let reserved = c.reserve_alone-zone.ensures in
     pool_done c.args.world c.args.self.now.client c.args.self.now.single.places c.args.count c.args.blocks
-    c.parts_of-zone.result.0 c.reserve_alone-zone.result.0 c.parts_of-zone.result.1.scan seats.scan c.parts_of-zone.result.1.ends seats.ends
+    c.parts_of-zone.result.0 c.reserve_alone-zone.result.0 _ c.reserve_alone-zone.new.seats
     collector.result report c.pool_reply.result c.take_back.new.self
-    c.parts_of-zone.ensures.zone c.parts_of-zone.ensures.scan c.parts_of-zone.ensures.ends c.parts_of-zone.ensures.whole
+    c.parts_of-zone.ensures.split
     collector.ensures.rounds (collector.ensures.order ∙ c.order.ensures)
     reserved.kept reserved.identity reserved.got (omega (arith, reserved.most, c.get-n.ensures.value))
     (subst (λ (k : ℕ). (report.stop ≡ stop.Enough) ↔ (length report.got.items ≡ k)) c.get-n.ensures.value reserved.enough)
