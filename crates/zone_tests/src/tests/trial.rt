@@ -41,8 +41,6 @@ pub enum Trial<'a> {
     World(Way, &'a [Row<'a>]),
     /// Calls that are drawn are made with a world, and after each what the zone keeps is what walks find.
     Drawn,
-    /// A world is taken apart.
-    ComesApart,
 }
 
 /// A trial with its zone or world: pages of this size, so many pageblocks, and so many places in the journal.
@@ -107,23 +105,11 @@ fn tries_with<const W: usize, I: Ledger, N: Ledger, M: Ledger, B: Ledger>(
     requires blanks { AreFor blanks I.name I.parts N.name N.parts M.name M.parts B.name B.parts }
     requires size { W ≤ 65536 }
 {
-    match case.trial {
-        Trial::Zone(parts) => {
-            let mut opened = Opened::<W, I, N, M, B>::of(rt, case.places, blanks);
-            opened.plays(rt, case.name, parts);
-        }
-        Trial::ComesApart => world_of::<W, I, N, M, B>(rt, case, blanks).comes_apart(rt),
-        _ => world_of::<W, I, N, M, B>(rt, case, blanks).undergoes(rt, case),
+    if let Trial::Zone(parts) = case.trial {
+        let mut zone = Opened::<W, I, N, M, B>::of(rt, case.places, blanks);
+        zone.plays(rt, case.name, parts);
+    } else {
+        let mut world = OpenWorld::<W, I, N, M, B>::of(rt, case.blocks, case.places, blanks);
+        world.undergoes(rt, case);
     }
-}
-
-fn world_of<const W: usize, I: Ledger, N: Ledger, M: Ledger, B: Ledger>(
-    rt: &(impl Abort + AllocGlobal),
-    case: &Case,
-    blanks: Blanks,
-) -> OpenWorld<W, I, N, M, B>
-    requires blanks { AreFor blanks I.name I.parts N.name N.parts M.name M.parts B.name B.parts }
-    requires size { W ≤ 65536 }
-{
-    OpenWorld::of(rt, case.blocks, case.places, blanks)
 }

@@ -9,11 +9,12 @@ use super::calls::{
     Answer, Call, Name, PAGE, blocked, done, looked, read_as, told, unread, value_of,
 };
 use super::draws::Draws;
-use super::trial::{Case, Size, Trial, tries};
+use super::trial::{Case, Trial};
 use super::walks::{assert_kept, assert_walks};
 use super::{address, block, client, hand, word};
 use frame_core::{Record, ZoneNo};
 use machine_core::{Scanned, WorldError, WorldOf};
+use std::marker::Brand;
 use std::process::Abort;
 use std::sync::ledger::Ledger;
 use zone_core::{Blanks, ZoneOf};
@@ -115,18 +116,6 @@ impl<const W: usize, I: Ledger, N: Ledger, M: Ledger, B: Ledger> OpenWorld<W, I,
         assert!(rt; self.zone().journal().len() > 400);
     }
 
-    /// A world is handed back as it was where its round is open, and comes apart once it is shut.
-    pub fn comes_apart(mut self, rt: &impl Abort) {
-        assert!(rt; self.scan() == Answer::Met);
-        let Err(world) = self.world.split() else {
-            panic!(rt; "a world whose round is open comes apart");
-        };
-        assert!(rt; world.is_open());
-        let mut opened = OpenWorld { world };
-        assert!(rt; opened.shut() == Answer::Shut(0));
-        assert!(rt; opened.world.split().is_ok());
-    }
-
     fn make(&mut self, rt: &(impl Abort + AllocGlobal), way: Way, step: Step) -> Answer
         requires { W ≤ 65536 }
     {
@@ -135,9 +124,9 @@ impl<const W: usize, I: Ledger, N: Ledger, M: Ledger, B: Ledger> OpenWorld<W, I,
                 Way::Value => self.by_value(rt, call),
                 _ => self.by_method(rt, call),
             },
-            Step::Look(name) => looked(self.zone().look(address(rt, name))),
-            Step::TakeHuge => blocked(self.world.take_huge()),
-            Step::GiveHuge(number) => done(self.world.give_huge(block(rt, number))),
+            Step::Look(name) => self.look(rt, name),
+            Step::TakeHuge => self.take_huge(),
+            Step::GiveHuge(number) => self.give_huge(rt, number),
             Step::Write(values) => self.write(rt, values),
             Step::Read(want) => self.read(rt, want),
             Step::Load(want) => self.load_each(rt, want),
@@ -146,9 +135,25 @@ impl<const W: usize, I: Ledger, N: Ledger, M: Ledger, B: Ledger> OpenWorld<W, I,
             Step::Copy(number) => self.copy(rt, number),
             Step::Finish(number) => self.finish(rt, number),
             Step::Shut => self.shut(),
-            Step::Journal => Answer::Value(self.zone().journal().len()),
+            Step::Journal => self.journal(),
             Step::Record(number) => self.record(rt, number),
         }
+    }
+
+    fn look(&self, rt: &impl Abort, name: Name) -> Answer {
+        looked(self.zone().look(address(rt, name)))
+    }
+
+    fn take_huge(&mut self) -> Answer {
+        blocked(self.world.take_huge())
+    }
+
+    fn give_huge(&mut self, rt: &impl Abort, number: u32) -> Answer {
+        done(self.world.give_huge(block(rt, number)))
+    }
+
+    fn journal(&self) -> Answer {
+        Answer::Value(self.zone().journal().len())
     }
 
     fn by_value(&mut self, rt: &impl Abort, call: Call) -> Answer
@@ -250,14 +255,22 @@ fn refused(error: WorldError) -> Answer {
     }
 }
 
+/// A world is handed back as it was where its round is open, and comes apart once it is shut.
+fn comes_apart<I: Ledger, N: Ledger, M: Ledger, B: Ledger>(
+    rt: &(impl Abort + AllocGlobal),
+    blanks: Blanks,
+)
+    requires blanks { AreFor blanks I.name I.parts N.name N.parts M.name M.parts B.name B.parts }
+{
+    let mut world = OpenWorld::<8, I, N, M, B>::of(rt, 1, 64, blanks).world;
+    assert!(rt; world.scan() == Ok(Scanned::Met));
+    let mut world = world.split().err().expect(rt, "an open round");
+    assert!(rt; world.is_open());
+    assert!(rt; world.shut() == Ok(0));
+    let _parts = world.split().ok().expect(rt, "a round that is shut");
+}
+
 #[test]
 fn a_world_comes_apart_at_rest(rt: HostRuntime) {
-    let case = Case {
-        name: "a world comes apart",
-        size: Size::Eight,
-        blocks: 1,
-        places: 64,
-        trial: Trial::ComesApart,
-    };
-    tries(&rt, &case);
+    comes_apart::<Brand, Brand, Brand, Brand>(&rt, Blanks::new());
 }

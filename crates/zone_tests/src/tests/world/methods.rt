@@ -19,15 +19,15 @@ impl<const W: usize, I: Ledger, N: Ledger, M: Ledger, B: Ledger> OpenWorld<W, I,
             Call::MapUnmovable(name) => self.map_unmovable(rt, name),
             Call::MapAt(name, number) => self.map_at(rt, name, number),
             Call::Share(name, alias) => self.share(rt, name, alias),
-            Call::Unmap(name) => done(self.world.unmap(client(rt), address(rt, name))),
+            Call::Unmap(name) => self.unmap(rt, name),
             Call::Load(name, number) => self.load(rt, name, number),
             Call::Store(name, number, value) => self.store(rt, name, number, value),
-            Call::Pin(name) => done(self.world.pin(client(rt), address(rt, name))),
-            Call::Unpin(name) => done(self.world.unpin(client(rt), address(rt, name))),
-            Call::TakeOrder(number) => framed(self.world.take_order(order(rt, number))),
+            Call::Pin(name) => self.pin(rt, name),
+            Call::Unpin(name) => self.unpin(rt, name),
+            Call::TakeOrder(number) => self.take_order(rt, number),
             Call::GiveOrder(first, number) => self.give_order(rt, first, number),
-            Call::Mark(number) => done(self.world.mark(block(rt, number))),
-            Call::Unmark(number) => done(self.world.unmark(block(rt, number))),
+            Call::Mark(number) => self.mark(rt, number),
+            Call::Unmark(number) => self.unmark(rt, number),
         }
     }
 
@@ -71,5 +71,29 @@ impl<const W: usize, I: Ledger, N: Ledger, M: Ledger, B: Ledger> OpenWorld<W, I,
 
     fn give_order(&mut self, rt: &impl Abort, first: u32, number: u32) -> Answer {
         done(self.world.give_order(frame(rt, first), order(rt, number)))
+    }
+
+    fn unmap(&mut self, rt: &impl Abort, name: Name) -> Answer {
+        done(self.world.unmap(client(rt), address(rt, name)))
+    }
+
+    fn pin(&mut self, rt: &impl Abort, name: Name) -> Answer {
+        done(self.world.pin(client(rt), address(rt, name)))
+    }
+
+    fn unpin(&mut self, rt: &impl Abort, name: Name) -> Answer {
+        done(self.world.unpin(client(rt), address(rt, name)))
+    }
+
+    fn take_order(&mut self, rt: &impl Abort, number: u32) -> Answer {
+        framed(self.world.take_order(order(rt, number)))
+    }
+
+    fn mark(&mut self, rt: &impl Abort, number: u32) -> Answer {
+        done(self.world.mark(block(rt, number)))
+    }
+
+    fn unmark(&mut self, rt: &impl Abort, number: u32) -> Answer {
+        done(self.world.unmark(block(rt, number)))
     }
 }
