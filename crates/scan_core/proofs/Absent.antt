@@ -1,9 +1,10 @@
 -- Numbers that aren't in a set, and the bits of its words that aren't set.
-use Rattle.std.proofs.Common.{◌≡◌, ℕ, ◌+◌, ◌-◌, ◌*◌, ◌/◌, ◌%◌, ◌^◌, ◌<◌, ◌≤◌, Bool, true, false, not, List, length, inl, inr, refl, sym, ap, ◌∙◌, slice_index, arith, w64}
+use Rattle.std.proofs.Common.{◌≡◌, ℕ, ◌+◌, ◌-◌, ◌*◌, ◌/◌, ◌%◌, ◌^◌, ◌<◌, ◌≤◌, true, false, not, List, length, inl, inr, sym, ap, ◌∙◌, slice_index, arith, w64}
 use Rattle.std.specs.Prelude.{nat_eq}
 use Rattle.std.specs.Int.{trailing_zeros}
 use Rattle.std.specs.Ordering.{nat_cmp}
 use Rattle.std.specs.FinSet as set
+use Rattle.std.proofs.lemmas.Bool.{not-false, not-true}
 use Rattle.std.proofs.lemmas.Bool.Decides.{leb_tells}
 use Rattle.std.proofs.lemmas.Nat.{pow-add, shr_le}
 use Rattle.std.proofs.lemmas.Nat.Bits.{bit_at_above, bit_at-trailing_zeros}
@@ -12,14 +13,6 @@ use Rattle.scan_core.specs.Bits.{has_bit, has_number}
 use Rattle.scan_core.specs.NumberSet.{numbers_of}
 use Rattle.scan_core.proofs.Masking.{clash, has_bit_not, has_bit_zero}
 use Rattle.scan_core.proofs.Numbering.{member}
-
-not_true : (b : Bool) → not b ≡ true → b ≡ false
-not_true true e = cc
-not_true false e = refl
-
-not_false : (b : Bool) → not b ≡ false → b ≡ true
-not_false true e = refl
-not_false false e = cc
 
 -- the members of a set, by its words
 pub members : (words : List ℕ) (s : set.FinSet nat_cmp) → numbers_of words ≡ s → length words ≡ 64 → (n : ℕ) → set.contains s n ≡ has_number words n
@@ -50,7 +43,7 @@ module _ (words : List ℕ) (word k bits absent : ℕ) (at : bits ≡ slice_inde
   none_absent first is none n low high =
       let i = n - first in
       let same : 64 * word + (k + i) ≡ n = omega arith in
-      not_false (has_number words n)
+      not-false (has_number words n)
       (ap (λ m. not (has_number words m)) (sym same) ∙ sym (clear_at i (omega arith)) ∙ ap (λ m. has_bit m i) none ∙ has_bit_zero i)
 
   -- where one of them is unset, the lowest such number isn't a member
@@ -66,9 +59,9 @@ module _ (words : List ℕ) (word k bits absent : ℕ) (at : bits ≡ slice_inde
       ] in
       let same : 64 * word + (k + place) ≡ first + place = omega arith in (
         omega arith,
-        not_true (has_number words (first + place)) (ap (λ m. not (has_number words m)) (sym same) ∙ sym (clear_at place inside) ∙ set),
+        not-true (has_number words (first + place)) (ap (λ m. not (has_number words m)) (sym same) ∙ sym (clear_at place inside) ∙ set),
         λ n from before.
             let i = n - first in
             let here : 64 * word + (k + i) ≡ n = omega arith in
-            not_false (has_number words n) (ap (λ m. not (has_number words m)) (sym here) ∙ sym (clear_at i (omega arith)) ∙ ap (λ m. nat_eq m 1) (low.2 i (omega arith))),
+            not-false (has_number words n) (ap (λ m. not (has_number words m)) (sym here) ∙ sym (clear_at i (omega arith)) ∙ ap (λ m. nat_eq m 1) (low.2 i (omega arith))),
       )

@@ -3,7 +3,7 @@ use Rattle.std.proofs.Common.{◌≡◌, ℕ, zero, suc, ◌+◌, ◌-◌, ◌*�
 use Rattle.std.specs.Prelude.{Some, None, nat_eq, nat_lt, slice_get, slice_set, if◌then◌else◌, ◌&&◌, ◌||◌}
 use Rattle.std.specs.FinSet as set
 use Rattle.std.specs.Ordering.{nat_cmp}
-use Rattle.std.proofs.lemmas.Bool.{ne_eqb, lt-ltb, le-ltb, ltb-true, eqb-true}
+use Rattle.std.proofs.lemmas.Bool.{ne_eqb, lt-ltb, le-ltb, ltb-true, eqb-true, true_from_ne_false}
 use Rattle.std.proofs.lemmas.Bool.Decides.{eqb_tells, leb_tells}
 use Rattle.std.proofs.lemmas.Option.{get_or_from_slice_get}
 use Rattle.frame_core.specs.Below.{count_below, count_from, lowest, one_if, some_below}
@@ -17,18 +17,11 @@ use Rattle.scan_core.specs.NumberSet.{all_from, capacity, in_run}
 use Rattle.scan_core.specs.Pairs.{is_marked}
 use Rattle.frame_core.proofs.Bounds.{count_from_short}
 use Rattle.scan_core.proofs.Counting.{not_free_past}
+pub use Rattle.scan_core.proofs.Masking.{insert_if, remove_if}
 use Rattle.scan_core.proofs.Numbering.{capacity_is, member_insert, member_remove}
 use Rattle.scan_core.proofs.Orders.{run_aligned, run_within, first_of_run, runs_end}
 use Rattle.scan_core.proofs.RunCounts.{Adds, block_more, counts_more, counts_fewer}
 use Rattle.scan_core.proofs.Spanning.{all_members, same_by, both, in_run_is, is_in_run}
-
-pub insert_if : (b x m : Bool) → m ≡ true → (b || x) ≡ (if b then m else x)
-insert_if true x m e = sym e
-insert_if false x m e = refl
-
-pub remove_if : (b x m : Bool) → m ≡ false → (not b && x) ≡ (if b then m else x)
-remove_if true x m e = sym e
-remove_if false x m e = refl
 
 -- a test stays as it was where the one number that is written had that value already
 pub keep_if : (k frame : ℕ) (p : ℕ → Bool) (m : Bool) → p frame ≡ m → p k ≡ (if nat_eq k frame then m else p k)
@@ -67,11 +60,7 @@ takes_one p r frame passes each =
 pub all_pass : (p : ℕ → Bool) (first count : ℕ) → all_from p first count ≡ true → (k : ℕ) → in_run first count k ≡ true → p k ≡ true
 all_pass p first count all k inside =
     let is = in_run_is first count k inside in
-    from_test (p k) (λ e. let short = count_from_short p first count k is.0 is.1 e in let whole = eqb-true (count_from p first count) count all in omega (arith, short, whole))
-  where
-    from_test : (b : Bool) → (b ≡ false → ⊥) → b ≡ true
-    from_test true never = refl
-    from_test false never = absurd (never refl)
+    true_from_ne_false (p k) (λ e. let short = count_from_short p first count k is.0 is.1 e in let whole = eqb-true (count_from p first count) count all in omega (arith, short, whole))
 
 by_last : (p : ℕ → Bool) (n : ℕ) (b : Bool) → p n ≡ b → 0 < one_if b + count_below p n → (0 < count_below p n → (k : ℕ) × (k < n) × (p k ≡ true)) → (k : ℕ) × (k < suc n) × (p k ≡ true)
 by_last p n true at some below = (n, omega arith, at)

@@ -2,7 +2,9 @@
 use Rattle.std.proofs.Common.{◌≡◌, ℕ, zero, suc, ◌-◌, ◌*◌, ◌%◌, ◌^◌, ◌<◌, max, min, Bool, true, false, not, inl, inr, refl, sym, ap, ◌∙◌, List, length, replicate, slice_index, slice_set, eq-eqb, get_or-set_same, get_or-set_other, arith, w64}
 use Rattle.std.specs.Prelude.{nat_eq, nat_lt, ◌&&◌, ◌||◌, bit_and, bit_or, if◌then◌else◌}
 use Rattle.std.specs.Int.{bit_at, trailing_zeros}
-use Rattle.std.proofs.lemmas.Bool.{ne_eqb, ltb-true, lt-ltb}
+use Rattle.std.proofs.Math.Bool.{and-false, and_comm, or-false, or-true, or_comm}
+pub use Rattle.std.proofs.Math.Bool.{and-true as and_true}
+use Rattle.std.proofs.lemmas.Bool.{ne_eqb, ltb-false, ltb-true, lt-ltb}
 use Rattle.std.proofs.lemmas.Bool.Decides.{eqb_tells, leb_tells}
 use Rattle.std.proofs.lemmas.Nat.Bits.{bit_at-zero, bit_at_and, bit_at_or, bit_at_not, bit_at-lt, bit_at-pow_same, bit_at-pow_other, bit_at-trailing_zeros}
 use Rattle.std.proofs.lemmas.List.{get_or_past}
@@ -19,16 +21,14 @@ one_max zero zero h l = refl
 one_max zero (suc zero) h l = refl
 one_max (suc zero) zero h l = refl
 one_max (suc zero) (suc zero) h l = refl
-one_max (suc (suc m)) n h l = absurd (omega arith)
-one_max m (suc (suc n)) h l = absurd (omega arith)
+one_max _ _ h l = absurd (omega arith)
 
 one_min : (m n : ℕ) → m < 2 → n < 2 → nat_eq (min m n) 1 ≡ (nat_eq m 1 && nat_eq n 1)
 one_min zero zero h l = refl
 one_min zero (suc zero) h l = refl
 one_min (suc zero) zero h l = refl
 one_min (suc zero) (suc zero) h l = refl
-one_min (suc (suc m)) n h l = absurd (omega arith)
-one_min m (suc (suc n)) h l = absurd (omega arith)
+one_min _ _ h l = absurd (omega arith)
 
 one_less : (m : ℕ) → m < 2 → nat_eq (1 - m) 1 ≡ not (nat_eq m 1)
 one_less zero h = refl
@@ -44,26 +44,14 @@ has_bit_and a b i = ap (λ n. nat_eq n 1) (bit_at_and a b i) ∙ one_min (bit_at
 pub has_bit_not : (n i : ℕ) → n < 2 ^ 64 → i < 64 → has_bit (2 ^ 64 - 1 - n) i ≡ not (has_bit n i)
 has_bit_not n i h l = ap (λ k. nat_eq k 1) (bit_at_not w64 n i h l) ∙ one_less (bit_at n i) (bit_at-lt n i)
 
-or_swap : (a b : Bool) → (a || b) ≡ (b || a)
-or_swap true true = refl
-or_swap true false = refl
-or_swap false true = refl
-or_swap false false = refl
-
-and_not_swap : (a b : Bool) → (a && not b) ≡ (not b && a)
-and_not_swap true true = refl
-and_not_swap true false = refl
-and_not_swap false true = refl
-and_not_swap false false = refl
-
 -- the bits of a word after those of a mask were added
 pub has_bit_added : (had mask i : ℕ) → has_bit (bit_or had mask) i ≡ (has_bit mask i || has_bit had i)
-has_bit_added had mask i = has_bit_or had mask i ∙ or_swap (has_bit had i) (has_bit mask i)
+has_bit_added had mask i = has_bit_or had mask i ∙ or_comm (has_bit had i) (has_bit mask i)
 
 -- the bits of a word after those of a mask were removed
 pub has_bit_removed : (had mask i : ℕ) → mask < 2 ^ 64 → i < 64 → has_bit (bit_and had (2 ^ 64 - 1 - mask)) i ≡ (not (has_bit mask i) && has_bit had i)
 has_bit_removed had mask i fits low =
-    has_bit_and had (2 ^ 64 - 1 - mask) i ∙ ap (λ b. has_bit had i && b) (has_bit_not mask i fits low) ∙ and_not_swap (has_bit had i) (has_bit mask i)
+    has_bit_and had (2 ^ 64 - 1 - mask) i ∙ ap (λ b. has_bit had i && b) (has_bit_not mask i fits low) ∙ and_comm (has_bit had i) (not (has_bit mask i))
 
 pub has_bit_zero : (i : ℕ) → has_bit 0 i ≡ false
 has_bit_zero i = ap (λ n. nat_eq n 1) (bit_at-zero i)
@@ -80,26 +68,13 @@ has_bit_pow k i h = ap (λ n. has_bit n i) (pow_fits k h) ∙ elim (eqb_tells i 
 pub pow_below : (k : ℕ) → k < 64 → 1 * 2 ^ k % 2 ^ 64 < 2 ^ 64
 pow_below k h = let below : 2 ^ k < 2 ^ 64 = pow-lt h in omega (arith, pow_fits k h)
 
--- a word with a bit isn't empty
-pub some_bit : (word i : ℕ) → has_bit word i ≡ true → 0 < word
-some_bit zero i e = absurd (clash (has_bit 0 i) e (has_bit_zero i))
-some_bit (suc word) i e = omega arith
+pub insert_if : (b x m : Bool) → m ≡ true → (b || x) ≡ (if b then m else x)
+insert_if true x m e = sym e
+insert_if false x m e = refl
 
-pub or_true : (a : Bool) → (a || true) ≡ true
-or_true true = refl
-or_true false = refl
-
-pub or_false : (a : Bool) → (a || false) ≡ a
-or_false true = refl
-or_false false = refl
-
-pub and_true : (a : Bool) → (a && true) ≡ a
-and_true true = refl
-and_true false = refl
-
-pub and_false : (a : Bool) → (a && false) ≡ false
-and_false true = refl
-and_false false = refl
+pub remove_if : (b x m : Bool) → m ≡ false → (not b && x) ≡ (if b then m else x)
+remove_if true x m e = sym e
+remove_if false x m e = refl
 
 -- the summary after the words of a mask lost their bits
 pub unmarked : (summary words bits i : ℕ) → words < 2 ^ 64 → i < 64 → bits ≡ 0 → has_bit (bit_and summary (2 ^ 64 - 1 - words)) i ≡ (if has_bit words i then nat_lt 0 bits else has_bit summary i)
@@ -107,7 +82,7 @@ unmarked summary words bits i fits low none =
     has_bit_and summary (2 ^ 64 - 1 - words) i ∙ ap (λ b. has_bit summary i && b) (has_bit_not words i fits low) ∙ lost (has_bit summary i) (has_bit words i)
   where
     lost : (s m : Bool) → (s && not m) ≡ (if m then nat_lt 0 bits else s)
-    lost s true = and_false s ∙ ap (nat_lt 0) (sym none)
+    lost s true = and-false s ∙ ap (nat_lt 0) (sym none)
     lost s false = and_true s
 
 -- the summary after the words of a mask got bits
@@ -116,8 +91,8 @@ marked summary words bits i some =
     has_bit_or summary words i ∙ got (has_bit summary i) (has_bit words i)
   where
     got : (s m : Bool) → (s || m) ≡ (if m then nat_lt 0 bits else s)
-    got s true = or_true s ∙ sym (lt-ltb 0 bits some)
-    got s false = or_false s
+    got s true = or-true s ∙ sym (lt-ltb 0 bits some)
+    got s false = or-false s
 
 -- a summary still agrees with its words after those of a mask got new bits
 pub summed : (words new : List ℕ) (summary now bits i : ℕ) (m : Bool) → has_bit summary i ≡ nat_lt 0 (slice_index words i) → slice_index new i ≡ (if m then bits else slice_index words i) → has_bit now i ≡ (if m then nat_lt 0 bits else has_bit summary i) → has_bit now i ≡ nat_lt 0 (slice_index new i)
@@ -149,8 +124,7 @@ zeros (suc n) zero = refl
 zeros (suc n) (suc i) = zeros n i
 
 zero_not_less : (n : ℕ) → nat_lt 0 n ≡ false → n ≡ 0
-zero_not_less zero e = refl
-zero_not_less (suc n) e = absurd (clash (nat_lt 0 (suc n)) (lt-ltb 0 (suc n) (omega arith)) e)
+zero_not_less n e = omega (arith, ltb-false 0 n e)
 
 -- the lowest bit of the summary is the first word that isn't empty
 pub first_by_summary : (words : List ℕ) (summary : ℕ) → summary < 2 ^ 64 → 0 < summary → ((i : ℕ) → i < 64 → has_bit summary i ≡ nat_lt 0 (slice_index words i)) → IsFirstWord words (trailing_zeros w64 summary)

@@ -3,10 +3,11 @@ use Rattle.std.proofs.Common.{◌≡◌, ℕ, ◌<◌, ◌≤◌, Bool, true, fa
 use Rattle.std.specs.Prelude.{Option, Some, None, nat_le, nat_lt, slice_get, ◌&&◌}
 use Rattle.std.specs.FinSet as set
 use Rattle.std.specs.Ordering.{nat_cmp}
-use Rattle.std.proofs.lemmas.Bool.{ltb-true, leb-true, lt-ltb, le-leb}
+use Rattle.std.proofs.Math.Bool.{and-false}
+use Rattle.std.proofs.lemmas.Bool.{and_parts, ltb-true, leb-true, lt-ltb, le-leb, not-true}
 use Rattle.std.proofs.lemmas.Bool.Decides.{leb_tells}
 use Rattle.frame_core.specs.declared.state.FrameState.{FrameState}
-use Rattle.frame_core.specs.declared.state.FrameState.TheVariants.{Free, Holds, Huge, Source, Target}
+use Rattle.frame_core.specs.declared.state.FrameState.TheVariants.{Free}
 use Rattle.frame_core.specs.Below.{highest, lowest}
 use Rattle.frame_core.proofs.Searches.{lowest_some, lowest_before, no_lowest}
 use Rattle.scan_core.specs.declared.fingers.Fingers.{Fingers}
@@ -14,19 +15,7 @@ use Rattle.scan_core.specs.Frames.{free_at, holds_at, is_free_state, is_holding_
 use Rattle.scan_core.specs.Pairs.{IsSource, IsTarget, IsPair, is_marked, is_source, is_target, next_source, next_target}
 use Rattle.scan_core.specs.Seen.{IsTold}
 use Rattle.frame_core.proofs.Bounds.{highest_some, highest_above, no_highest}
-use Rattle.scan_core.proofs.Masking.{and_false}
-
-both : (a b : Bool) → (a && b) ≡ true → (a ≡ true) × (b ≡ true)
-both true b e = (refl, e)
-both false b e = cc
-
-is_not : (b : Bool) → not b ≡ true → b ≡ false
-is_not true e = cc
-is_not false e = refl
-
-untrue : (b : Bool) → b ≡ true → b ≡ false → ⊥
-untrue true e f = cc
-untrue false e f = cc
+use Rattle.scan_core.proofs.Masking.{clash}
 
 module _ (states : List FrameState) (movable marked : List Bool) (fingers : Fingers) where
   source_stops : (frame : ℕ) → IsSource states movable marked fingers frame → (nat_le fingers.migrate frame && is_source states movable marked frame) ≡ true
@@ -36,13 +25,13 @@ module _ (states : List FrameState) (movable marked : List Bool) (fingers : Fing
 
   stops_source : (frame : ℕ) → frame < fingers.free → (nat_le fingers.migrate frame && is_source states movable marked frame) ≡ true → IsSource states movable marked fingers frame
   stops_source frame high e =
-      let parts = both (nat_le fingers.migrate frame) (is_source states movable marked frame) e in
-      let inner = both (not (is_marked marked frame)) (holds_at states frame && true_at movable frame) parts.1 in
-      let own = both (holds_at states frame) (true_at movable frame) inner.1 in
+      let parts = and_parts (nat_le fingers.migrate frame) (is_source states movable marked frame) e in
+      let inner = and_parts (not (is_marked marked frame)) (holds_at states frame && true_at movable frame) parts.1 in
+      let own = and_parts (holds_at states frame) (true_at movable frame) inner.1 in
       record {
         holds = own.0;
         can_move = own.1;
-        unmarked = is_not (is_marked marked frame) inner.0;
+        unmarked = not-true (is_marked marked frame) inner.0;
         low = leb-true fingers.migrate frame parts.0;
         high = high;
       }
@@ -54,11 +43,11 @@ module _ (states : List FrameState) (movable marked : List Bool) (fingers : Fing
 
   stops_target : (source frame : ℕ) → frame < fingers.free → (nat_lt source frame && is_target states marked frame) ≡ true → IsTarget states marked fingers source frame
   stops_target source frame high e =
-      let parts = both (nat_lt source frame) (is_target states marked frame) e in
-      let inner = both (not (is_marked marked frame)) (free_at states frame) parts.1 in
+      let parts = and_parts (nat_lt source frame) (is_target states marked frame) e in
+      let inner = and_parts (not (is_marked marked frame)) (free_at states frame) parts.1 in
       record {
         free = inner.1;
-        unmarked = is_not (is_marked marked frame) inner.0;
+        unmarked = not-true (is_marked marked frame) inner.0;
         low = ltb-true source frame parts.0;
         high = high;
       }
@@ -66,7 +55,7 @@ module _ (states : List FrameState) (movable marked : List Bool) (fingers : Fing
   -- where no source was found there is no pair
   pub no_source : next_source states movable marked fingers ≡ None → (source target : ℕ) → IsPair states movable marked fingers source target → ⊥
   no_source none source target pair =
-      untrue _ (source_stops source pair.from) (no_lowest _ fingers.free source none pair.from.high)
+      clash _ (source_stops source pair.from) (no_lowest _ fingers.free source none pair.from.high)
 
   -- the source that was found is the lowest
   pub source_found : (source : ℕ) → next_source states movable marked fingers ≡ Some source → IsSource states movable marked fingers source
@@ -76,7 +65,7 @@ module _ (states : List FrameState) (movable marked : List Bool) (fingers : Fing
   lowest_found : (source frame : ℕ) → next_source states movable marked fingers ≡ Some source → IsSource states movable marked fingers frame → source ≤ frame
   lowest_found source frame from is = elim (leb_tells source frame) [
     | inl most ↦ most.1
-    | inr less ↦ absurd (untrue _ (source_stops frame is) (lowest_before _ fingers.free source frame from less.1))
+    | inr less ↦ absurd (clash _ (source_stops frame is) (lowest_before _ fingers.free source frame from less.1))
   ]
 
   -- where the lowest source has no target there is no pair
@@ -85,7 +74,7 @@ module _ (states : List FrameState) (movable marked : List Bool) (fingers : Fing
       let low : found ≤ source = lowest_found found source from pair.from in
       let high : source ≤ found = pair.lowest found (source_found found from) in
       let same : source ≡ found = omega arith in
-      untrue _ (ap (λ s. nat_lt s target && is_target states marked target) (sym same) ∙ target_stops source target pair.to)
+      clash _ (ap (λ s. nat_lt s target && is_target states marked target) (sym same) ∙ target_stops source target pair.to)
       (no_highest _ fingers.free target none pair.to.high)
 
   -- a source and a target that are found are the pair
@@ -98,7 +87,7 @@ module _ (states : List FrameState) (movable marked : List Bool) (fingers : Fing
         to = stops_target source target high.0 high.1;
         highest = λ frame is. elim (leb_tells frame target) [
           | inl most ↦ most.1
-          | inr more ↦ absurd (untrue _ (target_stops source frame is) (highest_above _ fingers.free target frame to more.1 is.high))
+          | inr more ↦ absurd (clash _ (target_stops source frame is) (highest_above _ fingers.free target frame to more.1 is.high))
         ];
       }
 
@@ -106,7 +95,7 @@ module _ (states : List FrameState) (movable marked : List Bool) (fingers : Fing
 pub target_between : (free : ℕ → Bool) (marked : List Bool) (fingers : Fingers) (source target : ℕ) → highest (λ frame. nat_lt source frame && (not (is_marked marked frame) && free frame)) fingers.free ≡ Some target → (source < target) × (target < fingers.free)
 target_between free marked fingers source target found =
     let at = highest_some _ fingers.free target found in
-    let parts = both (nat_lt source target) (not (is_marked marked target) && free target) at.1 in
+    let parts = and_parts (nat_lt source target) (not (is_marked marked target) && free target) at.1 in
     (ltb-true source target parts.0, at.0)
 
 -- a search in a list and a set that tell the states finds what a search in the states does
@@ -121,10 +110,7 @@ module _ (states holders : List FrameState) (free : set.FinSet nat_cmp) (movable
 pub free_holds_none : (state : Option FrameState) → is_free_state state ≡ true → is_holding_state state ≡ false
 free_holds_none None free = refl
 free_holds_none (Some Free) free = refl
-free_holds_none (Some (Holds page)) free = cc
-free_holds_none (Some (Source serial)) free = cc
-free_holds_none (Some (Target serial)) free = cc
-free_holds_none (Some Huge) free = cc
+free_holds_none _ free = cc
 
 -- a frame that is told as free holds no page in the list that tells the pages
 pub told_empty : (states holders : List FrameState) (free : set.FinSet nat_cmp) → IsTold states holders free → (frame : ℕ) → set.contains free frame ≡ true → holds_at holders frame ≡ false
@@ -134,6 +120,6 @@ told_empty states holders free told frame is = told.holds frame ∙ free_holds_n
 pub sources_passed : (holders : List FrameState) (movable marked : List Bool) (free : set.FinSet nat_cmp) (from next frame : ℕ) → ((k : ℕ) → set.contains free k ≡ true → holds_at holders k ≡ false) → ((k : ℕ) → k < next → (nat_le from k && is_source holders movable marked k) ≡ false) → ((k : ℕ) → next ≤ k → k < frame → set.contains free k ≡ true) → (k : ℕ) → k < frame → (nat_le from k && is_source holders movable marked k) ≡ false
 sources_passed holders movable marked free from next frame empty before are k below = elim (leb_tells next k) [
   | inl passed ↦ (ap (λ holds. nat_le from k && (not (is_marked marked k) && (holds && true_at movable k))) (empty k (are k passed.1 below))
-      ∙ ap (λ b. nat_le from k && b) (and_false (not (is_marked marked k))) ∙ and_false (nat_le from k))
+      ∙ ap (λ b. nat_le from k && b) (and-false (not (is_marked marked k))) ∙ and-false (nat_le from k))
   | inr earlier ↦ before k earlier.1
 ]

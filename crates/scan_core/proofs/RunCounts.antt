@@ -1,7 +1,7 @@
 -- Counts after the numbers of a run began to pass, or no longer do.
-use Rattle.std.proofs.Common.{◌≡◌, ◌≢◌, ℕ, zero, suc, ◌+◌, ◌-◌, ◌*◌, ◌/◌, ◌%◌, ◌<◌, ◌≤◌, Bool, true, false, List, inl, inr, refl, sym, ap, ◌∙◌, slice_index, length-set, arith}
+use Rattle.std.proofs.Common.{◌≡◌, ◌≢◌, ℕ, zero, suc, ◌+◌, ◌-◌, ◌*◌, ◌/◌, ◌%◌, ◌<◌, ◌≤◌, Bool, true, false, List, inl, inr, sym, ap, ◌∙◌, slice_index, length-set, arith}
 use Rattle.std.specs.Prelude.{Some, nat_eq, slice_set, ◌||◌}
-use Rattle.std.proofs.lemmas.Bool.{ne_eqb}
+use Rattle.std.proofs.lemmas.Bool.{ne_eqb, or_right}
 use Rattle.std.proofs.lemmas.Bool.Decides.{eqb_tells}
 use Rattle.std.proofs.lemmas.Option.{get_or_from_slice_get}
 use Rattle.frame_core.specs.Below.{count_below, count_from}
@@ -27,10 +27,6 @@ module _ (p : ℕ → Bool) (first : ℕ) where
     where
       not_yet : in_run first m (first + m) ≡ false
       not_yet = same_by (in_run first m (first + m)) false (λ e. let is = in_run_is first m (first + m) e in absurd (omega (arith, is.1))) (λ e. cc)
-
-      or_right : (a b : Bool) → b ≡ true → (a || b) ≡ true
-      or_right true b e = refl
-      or_right false b e = e
 
 -- r is p with the numbers of a run, none of which passes in p
 pub record Adds (p r : ℕ → Bool) (first m : ℕ) : Type 0 where

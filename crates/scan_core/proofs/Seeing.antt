@@ -2,6 +2,7 @@
 use Rattle.std.proofs.Common.{◌≡◌, ℕ, zero, suc, ◌+◌, ◌<◌, ◌≤◌, Bool, true, false, not, List, [], ◌∷◌, length, inl, inr, refl, sym, ap, ◌∙◌, arith, eq-eqb, length-set}
 use Rattle.std.specs.Prelude.{Option, Some, None, nat_eq, slice_get, slice_set, if◌then◌else◌, ◌&&◌, ◌||◌}
 use Rattle.std.proofs.lemmas.Bool.{ne_eqb}
+pub use Rattle.std.proofs.lemmas.Bool.{cond-true as taken, cond-false as skipped}
 use Rattle.std.proofs.lemmas.Bool.Decides.{eqb_tells}
 use Rattle.std.proofs.lemmas.Option.{slice_get_past}
 use Rattle.frame_core.proofs.Lists.{slice_get_set_same, slice_get_set_other}
@@ -51,12 +52,6 @@ seen_get h xs i = let e : 0 + i ≡ i = omega arith in seen_get_from h 0 xs i �
 -- where no frame is held, the states are seen as they are kept
 pub seen_none_held : (h : ℕ → Bool) (xs : List FrameState) → ((i : ℕ) → h i ≡ false) → seen_from h 0 xs ≡ xs
 seen_none_held h xs none = same_items (seen_from h 0 xs) xs (λ i. seen_get h xs i ∙ ap (λ b. seen_state b (slice_get xs i)) (none i))
-
-pub skipped : {A : Type 0} (b : Bool) (x y : A) → b ≡ false → (if b then x else y) ≡ y
-skipped b x y e = ap (λ t. if t then x else y) e
-
-pub taken : {A : Type 0} (b : Bool) (x y : A) → b ≡ true → (if b then x else y) ≡ x
-taken b x y e = ap (λ t. if t then x else y) e
 
 -- a frame that isn't held is used for something else
 pub seen_put : (h : ℕ → Bool) (kept : List FrameState) (frame : ℕ) (state : FrameState) → frame < length kept → h frame ≡ false → seen_from h 0 (slice_set kept frame state) ≡ slice_set (seen_from h 0 kept) frame state

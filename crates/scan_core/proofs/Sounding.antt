@@ -2,6 +2,7 @@
 use Rattle.std.proofs.Common.{◌≡◌, ℕ, ◌+◌, ◌-◌, ◌^◌, ◌<◌, ◌≤◌, Bool, true, false, not, List, length, inl, inr, refl, sym, ap, ◌∙◌, arith}
 use Rattle.std.specs.Prelude.{Option, Some, None, IfSome, nat_le, slice_get, ◌&&◌}
 use Rattle.std.specs.FinSet as set
+use Rattle.std.proofs.Math.Bool.{and-false}
 use Rattle.std.proofs.lemmas.Bool.{lt-leb, le-leb}
 use Rattle.std.proofs.lemmas.Bool.Decides.{leb_tells}
 use Rattle.std.proofs.lemmas.Nat.{pow_pos}
@@ -69,9 +70,6 @@ if_some_within states None free = free
 if_some_within states (Some frame) free = free_within states frame free
 
 module _ (z : Inside) (sound : IsSound z) where
-  abbrev states_of : List FrameState
-  states_of = seen z.held z.kept.items
-
   pub kept_length : length (seen z.held z.kept.items) ≡ length z.kept.items
   kept_length = length_seen (set.contains z.held) 0 z.kept.items
 
@@ -112,11 +110,7 @@ module _ (z : Inside) (sound : IsSound z) where
   stuck_past : (marked : List Bool) (k : ℕ) → length (seen z.held z.kept.items) ≤ k → is_stuck (seen z.held z.kept.items) z.movable.items marked k ≡ false
   stuck_past marked k past =
       let none = slice_get_past (seen z.held z.kept.items) k past in
-      ap (λ o. not (is_marked marked k) && is_stuck_state o (true_at z.movable.items k)) none ∙ and_none (not (is_marked marked k))
-    where
-      and_none : (a : Bool) → (a && false) ≡ false
-      and_none true = refl
-      and_none false = refl
+      ap (λ o. not (is_marked marked k) && is_stuck_state o (true_at z.movable.items k)) none ∙ and-false (not (is_marked marked k))
 
   pub stuck_by_set : (marked : List Bool) → some_below (λ frame. not (is_marked marked frame) && set.contains z.stuck frame) capacity ≡ some_below (is_stuck (seen z.held z.kept.items) z.movable.items marked) (length (seen z.held z.kept.items))
   stuck_by_set marked =

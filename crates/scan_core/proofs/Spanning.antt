@@ -3,6 +3,7 @@ use Rattle.std.proofs.Common.{◌≡◌, ◌≢◌, ℕ, zero, suc, ◌+◌, ◌
 use Rattle.std.specs.Prelude.{nat_eq, nat_le, nat_lt, ◌&&◌, ◌||◌, bit_and, if◌then◌else◌}
 use Rattle.std.specs.Int.{bit_at}
 use Rattle.std.proofs.lemmas.Bool.{ne_eqb, ltb-true, leb-true, lt-ltb, le-leb, le-ltb, lt-leb, eqb-true}
+pub use Rattle.std.proofs.lemmas.Bool.{and_parts as both}
 use Rattle.std.proofs.lemmas.Bool.Decides.{eqb_tells, leb_tells}
 use Rattle.std.proofs.lemmas.Nat.{pow-add, pow_pos, and_le_r}
 use Rattle.std.proofs.lemmas.Nat.Bits.{bit_at_and, bit_at_mask_inside, bit_at_mask_below, bit_at_mask_above, same_from_bits_below, bit_at-lt}
@@ -17,7 +18,7 @@ use Rattle.scan_core.specs.NumberSet.{all_from, in_run, numbers_of}
 use Rattle.scan_core.specs.Spans.{in_words, Spans}
 use Rattle.scan_core.specs.declared.numbers.Span.{Span}
 use Rattle.frame_core.proofs.Bounds.{count_from_short}
-use Rattle.scan_core.proofs.Masking.{has_bit_and, has_bit_zero, pow_fits}
+use Rattle.scan_core.proofs.Masking.{has_bit_and, has_bit_zero, insert_if, pow_fits, remove_if}
 use Rattle.scan_core.proofs.Numbering.{member}
 
 -- a run is some of the bits of one word, or all bits of some words
@@ -46,10 +47,6 @@ pub same_by : (a b : Bool) → (a ≡ true → b ≡ true) → (b ≡ true → a
 same_by true b to from = sym (to refl)
 same_by false true to from = from refl
 same_by false false to from = refl
-
-pub both : (a b : Bool) → (a && b) ≡ true → (a ≡ true) × (b ≡ true)
-both true b e = (refl, e)
-both false b e = cc
 
 pub in_run_is : (first count n : ℕ) → in_run first count n ≡ true → (first ≤ n) × (n < first + count)
 in_run_is first count n e = let parts = both (nat_le first n) (nat_lt n (first + count)) e in (leb-true first n parts.0, ltb-true n (first + count) parts.1)
@@ -158,20 +155,12 @@ module _ (words new : List ℕ) (s : set.FinSet nat_cmp) (first order : ℕ) (vi
   pub block_in : ((word : ℕ) → slice_index new word ≡ (if in_run (first / 64) 8 word then 18446744073709551615 else slice_index words word)) → (n : ℕ) → set.contains (numbers_of new) n ≡ (in_run first (2 ^ order) n || set.contains s n)
   block_in each n =
       block_members words new s first 18446744073709551615 true view len same in_block each (λ i low. ap (λ b. nat_eq b 1) (bit_at_mask_inside 0 64 i (omega arith) low)) n
-      ∙ put_in (in_run first 512 n) ∙ ap (λ o. in_run first (2 ^ o) n || set.contains s n) (sym last)
-    where
-      put_in : (m : Bool) → (if m then true else set.contains s n) ≡ (m || set.contains s n)
-      put_in true = refl
-      put_in false = refl
+      ∙ sym (insert_if (in_run first 512 n) (set.contains s n) true refl) ∙ ap (λ o. in_run first (2 ^ o) n || set.contains s n) (sym last)
 
   pub block_out : ((word : ℕ) → slice_index new word ≡ (if in_run (first / 64) 8 word then 0 else slice_index words word)) → (n : ℕ) → set.contains (numbers_of new) n ≡ (not (in_run first (2 ^ order) n) && set.contains s n)
   block_out each n =
       block_members words new s first 0 false view len same in_block each (λ i low. has_bit_zero i) n
-      ∙ take_out (in_run first 512 n) ∙ ap (λ o. not (in_run first (2 ^ o) n) && set.contains s n) (sym last)
-    where
-      take_out : (m : Bool) → (if m then false else set.contains s n) ≡ (not m && set.contains s n)
-      take_out true = refl
-      take_out false = refl
+      ∙ sym (remove_if (in_run first 512 n) (set.contains s n) false refl) ∙ ap (λ o. not (in_run first (2 ^ o) n) && set.contains s n) (sym last)
 
 -- a bit of the mask that a word lacks
 module _ (word mask : ℕ) where

@@ -26,12 +26,8 @@ use Rattle.scan_core.proofs.Spanning.{both}
 free_kept : (h : Bool) (o : Option FrameState) → is_free_state (seen_state h o) ≡ true → o ≡ Some Free
 free_kept true None e = cc
 free_kept true (Some x) e = cc
-free_kept false None e = cc
 free_kept false (Some Free) e = refl
-free_kept false (Some (Holds page)) e = cc
-free_kept false (Some (Source serial)) e = cc
-free_kept false (Some (Target serial)) e = cc
-free_kept false (Some Huge) e = cc
+free_kept false _ e = cc
 
 huge_held : (h : Bool) (o : Option FrameState) → is_huge_state o ≡ false → is_huge_state (seen_state h o) ≡ true → h ≡ true
 huge_held true o never e = refl
@@ -40,21 +36,14 @@ huge_held false o never e = absurd (clash (is_huge_state o) e never)
 free_not_stuck : (o : Option FrameState) (movable : Bool) → is_free_state o ≡ true → is_stuck_state o movable ≡ false
 free_not_stuck None m e = refl
 free_not_stuck (Some Free) m e = refl
-free_not_stuck (Some (Holds page)) m e = cc
-free_not_stuck (Some (Source serial)) m e = cc
-free_not_stuck (Some (Target serial)) m e = cc
-free_not_stuck (Some Huge) m e = cc
+free_not_stuck _ m e = cc
 
 huge_stuck : (o : Option FrameState) (movable : Bool) → is_huge_state o ≡ true → is_stuck_state o movable ≡ true
 huge_stuck o m e = ap (λ b. b || (is_holding_state o && not m)) e
 
 huge_not_free : (o : Option FrameState) → is_huge_state o ≡ true → is_free_state o ≡ false
-huge_not_free None e = refl
 huge_not_free (Some Free) e = cc
-huge_not_free (Some (Holds page)) e = refl
-huge_not_free (Some (Source serial)) e = refl
-huge_not_free (Some (Target serial)) e = refl
-huge_not_free (Some Huge) e = refl
+huge_not_free _ e = refl
 
 -- a test of each state, after one state was written
 written : (f : ℕ → Option FrameState → Bool) (states : List FrameState) (frame : ℕ) (state : FrameState) (p q : ℕ → Bool) (b : Bool) → frame < length states → b ≡ f frame (Some state) → ((n : ℕ) → p n ≡ f n (slice_get states n)) → ((n : ℕ) → q n ≡ (if nat_eq n frame then b else p n)) → (n : ℕ) → q n ≡ f n (slice_get (slice_set states frame state) n)
@@ -71,14 +60,6 @@ run_written f states first count state p q b within is before put n =
     cases : (c : Bool) → (if c then b else p n) ≡ f n (if c then Some state else slice_get states n)
     cases true = sym (is n)
     cases false = before n
-
-or_run : (c x : Bool) → (c || x) ≡ (if c then true else x)
-or_run true x = refl
-or_run false x = refl
-
-not_run : (c x : Bool) → (not c && x) ≡ (if c then false else x)
-not_run true x = refl
-not_run false x = refl
 
 module _ (z : Inside) (sound : IsSound z) where
   seen_length : length (seen z.held z.kept.items) ≡ length z.kept.items
@@ -138,8 +119,8 @@ module _ (z : Inside) (sound : IsSound z) where
           never_huge = sound.never_huge;
           held = λ n e. held_or (in_run first count n) (set.contains z.held n) (slice_get z.kept.items n) (sym (held_each n) ∙ e)
               (λ inside. free_kept (set.contains z.held n) (slice_get z.kept.items n) (ap is_free_state (sym (seen_get (set.contains z.held) z.kept.items n)) ∙ all n inside)) (sound.held n);
-          free = λ n. run_written (λ k o. is_free_state o) (seen z.held z.kept.items) first count Huge (set.contains z.free) (set.contains free) false there (λ k. refl) sound.free (λ k. free_each k ∙ not_run (in_run first count k) (set.contains z.free k)) n ∙ ap (λ (xs : List FrameState). free_at xs n) (sym view);
-          stuck = λ n. run_written (λ k o. is_stuck_state o (true_at z.movable.items k)) (seen z.held z.kept.items) first count Huge (set.contains z.stuck) (set.contains stuck) true there (λ k. refl) sound.stuck (λ k. stuck_each k ∙ or_run (in_run first count k) (set.contains z.stuck k)) n ∙ ap (λ (xs : List FrameState). is_stuck_state (slice_get xs n) (true_at z.movable.items n)) (sym view);
+          free = λ n. run_written (λ k o. is_free_state o) (seen z.held z.kept.items) first count Huge (set.contains z.free) (set.contains free) false there (λ k. refl) sound.free (λ k. free_each k ∙ remove_if (in_run first count k) (set.contains z.free k) false refl) n ∙ ap (λ (xs : List FrameState). free_at xs n) (sym view);
+          stuck = λ n. run_written (λ k o. is_stuck_state o (true_at z.movable.items k)) (seen z.held z.kept.items) first count Huge (set.contains z.stuck) (set.contains stuck) true there (λ k. refl) sound.stuck (λ k. stuck_each k ∙ insert_if (in_run first count k) (set.contains z.stuck k) true refl) n ∙ ap (λ (xs : List FrameState). is_stuck_state (slice_get xs n) (true_at z.movable.items n)) (sym view);
         },
         view,
       )
@@ -163,8 +144,8 @@ module _ (z : Inside) (sound : IsSound z) where
           movable = sound.movable;
           never_huge = sound.never_huge;
           held = λ n e. sound.held n (both (not (in_run first count n)) (set.contains z.held n) (sym (held_each n) ∙ e)).1;
-          free = λ n. run_written (λ k o. is_free_state o) (seen z.held z.kept.items) first count Free (set.contains z.free) (set.contains free) true there (λ k. refl) sound.free (λ k. free_each k ∙ or_run (in_run first count k) (set.contains z.free k)) n ∙ ap (λ (xs : List FrameState). free_at xs n) (sym view);
-          stuck = λ n. run_written (λ k o. is_stuck_state o (true_at z.movable.items k)) (seen z.held z.kept.items) first count Free (set.contains z.stuck) (set.contains stuck) false there (λ k. refl) sound.stuck (λ k. stuck_each k ∙ not_run (in_run first count k) (set.contains z.stuck k)) n ∙ ap (λ (xs : List FrameState). is_stuck_state (slice_get xs n) (true_at z.movable.items n)) (sym view);
+          free = λ n. run_written (λ k o. is_free_state o) (seen z.held z.kept.items) first count Free (set.contains z.free) (set.contains free) true there (λ k. refl) sound.free (λ k. free_each k ∙ insert_if (in_run first count k) (set.contains z.free k) true refl) n ∙ ap (λ (xs : List FrameState). free_at xs n) (sym view);
+          stuck = λ n. run_written (λ k o. is_stuck_state o (true_at z.movable.items k)) (seen z.held z.kept.items) first count Free (set.contains z.stuck) (set.contains stuck) false there (λ k. refl) sound.stuck (λ k. stuck_each k ∙ remove_if (in_run first count k) (set.contains z.stuck k) false refl) n ∙ ap (λ (xs : List FrameState). is_stuck_state (slice_get xs n) (true_at z.movable.items n)) (sym view);
         },
         view,
       )
@@ -193,36 +174,23 @@ module _ (z : Inside) (sound : IsSound z) where
 
 -- what one test of a state says about the others
 free_not_huge : (o : Option FrameState) → is_free_state o ≡ true → is_huge_state o ≡ false
-free_not_huge None e = refl
-free_not_huge (Some Free) e = refl
-free_not_huge (Some (Holds page)) e = refl
-free_not_huge (Some (Source serial)) e = refl
-free_not_huge (Some (Target serial)) e = refl
 free_not_huge (Some Huge) e = cc
+free_not_huge _ e = refl
 
 page_only : (o : Option FrameState) → is_holding_state o ≡ true → (is_huge_state o ≡ false) × (is_free_state o ≡ false)
-page_only None e = (refl, refl)
 page_only (Some Free) e = cc
-page_only (Some (Holds page)) e = (refl, refl)
-page_only (Some (Source serial)) e = (refl, refl)
-page_only (Some (Target serial)) e = (refl, refl)
 page_only (Some Huge) e = cc
+page_only _ e = (refl, refl)
 
 stuck_if_page : (o : Option FrameState) (movable : Bool) → is_holding_state o ≡ true → is_stuck_state o movable ≡ not movable
-stuck_if_page None m e = cc
-stuck_if_page (Some Free) m e = cc
 stuck_if_page (Some (Holds page)) m e = refl
-stuck_if_page (Some (Source serial)) m e = cc
-stuck_if_page (Some (Target serial)) m e = cc
-stuck_if_page (Some Huge) m e = cc
+stuck_if_page _ m e = cc
 
 way_only : (o : Option FrameState) (movable : Bool) → is_way_state o ≡ true → (is_huge_state o ≡ false) × (is_free_state o ≡ false) × (is_stuck_state o movable ≡ false)
-way_only None m e = (refl, refl, refl)
 way_only (Some Free) m e = cc
 way_only (Some (Holds page)) m e = cc
-way_only (Some (Source serial)) m e = (refl, refl, refl)
-way_only (Some (Target serial)) m e = (refl, refl, refl)
 way_only (Some Huge) m e = cc
+way_only _ m e = (refl, refl, refl)
 
 some_state : (f : Option FrameState → Bool) (o : Option FrameState) → f None ≡ false → f o ≡ true → (x : FrameState) × (o ≡ Some x)
 some_state f None none is = absurd (clash (f None) is none)
