@@ -110,14 +110,6 @@ any_fails p [] fails = refl
 any_fails p (x ∷ serials) fails =
     or_from (p x) _ (fails x (or_left (nat_eq x x) _ (eq-eqb x x refl))) (any_fails p serials (λ s at. fails s (or_right (nat_eq s x) _ at)))
 
-any_passes : (p : ℕ → Bool) (s : ℕ) (serials : List ℕ) → list_any (nat_eq s) serials ≡ true → p s ≡ true → list_any p serials ≡ true
-any_passes p s [] at passes = at
-any_passes p s (x ∷ serials) at passes =
-    elim (or_cases (nat_eq s x) _ at) [
-      | inl here ↦ or_left (p x) _ (ap p (sym (eqb-true s x here)) ∙ passes)
-      | inr under ↦ or_right (p x) _ (any_passes p s serials under passes)
-    ]
-
 other_page : (o : Option ℕ) (page : ℕ) → (o ≡ Some page → ⊥) → is_page o page ≡ false
 other_page None page ne = refl
 other_page (Some named) page ne = ne_eqb named page (λ same. ne (ap Some same))
@@ -125,10 +117,6 @@ other_page (Some named) page ne = ne_eqb named page (λ same. ne (ap Some same))
 -- a page isn't out where no serial that is out was given to it
 pub not_moving : (records : List Record) (page : ℕ) → ((serial : ℕ) → is_out records serial ≡ true → page_of records serial ≡ Some page → ⊥) → is_moving records page ≡ false
 not_moving records page none = any_fails (λ serial. is_page (page_of records serial) page) (out records) (λ serial at. other_page (page_of records serial) page (none serial at))
-
--- a page is out where a serial that is out was given to it
-pub is_moving_at : (records : List Record) (page serial : ℕ) → is_out records serial ≡ true → page_of records serial ≡ Some page → is_moving records page ≡ true
-is_moving_at records page serial at e = any_passes (λ s. is_page (page_of records s) page) serial (out records) at (ap (λ (o : Option ℕ). is_page o page) e ∙ eq-eqb page page refl)
 
 pub page_of_below : (records : List Record) → IsWellEnded records → (serial page : ℕ) → page_of records serial ≡ Some page → serial < isolated records
 page_of_below [] ended s page e = cc

@@ -181,63 +181,26 @@ by_last P false gone still last more = more
 
 pub call_shape : (W : ℕ) (call : ZoneCall W) (client : ℕ) (z : ZoneState) → ((after call client z).number ≡ z.number) × ((after call client z).blocks ≡ z.blocks) × ((after call client z).page_size ≡ z.page_size)
 call_shape W (Unmap address) client z = by_last (λ v. (v.number ≡ z.number) × (v.blocks ≡ z.blocks) × (v.page_size ≡ z.page_size)) (is_last z address) _ _ (refl, refl, refl) (refl, refl, refl)
-call_shape W (Map address unmovable) client z = (refl, refl, refl)
-call_shape W (MapAt address unmovable frame) client z = (refl, refl, refl)
-call_shape W (Load address word) client z = (refl, refl, refl)
-call_shape W (Store address word value) client z = (refl, refl, refl)
-call_shape W (Share address alias) client z = (refl, refl, refl)
-call_shape W (Pin address) client z = (refl, refl, refl)
-call_shape W (Unpin address) client z = (refl, refl, refl)
-call_shape W (TakeOrder order) client z = (refl, refl, refl)
-call_shape W (GiveOrder first order) client z = (refl, refl, refl)
-call_shape W (Mark block) client z = (refl, refl, refl)
-call_shape W (Unmark block) client z = (refl, refl, refl)
+call_shape W _ client z = (refl, refl, refl)
 
 -- the room that a call finds which isn't refused
 call_room : (W : ℕ) (call : ZoneCall W) (z : ZoneState) → refusal_of call z ≡ None → length (out z.records) < z.room
-call_room W (Map address unmovable) z accepted = room_passed z (passed _ _ _ accepted).0
 call_room W (MapAt address unmovable frame) z accepted = room_passed z (passed _ _ _ (passed _ _ _ accepted).1).0
-call_room W (Load address word) z accepted = room_passed z (passed _ _ _ accepted).0
-call_room W (Store address word value) z accepted = room_passed z (passed _ _ _ accepted).0
-call_room W (Share address alias) z accepted = room_passed z (passed _ _ _ accepted).0
-call_room W (Unmap address) z accepted = room_passed z (passed _ _ _ accepted).0
-call_room W (Pin address) z accepted = room_passed z (passed _ _ _ accepted).0
-call_room W (Unpin address) z accepted = room_passed z (passed _ _ _ accepted).0
-call_room W (TakeOrder order) z accepted = room_passed z (passed _ _ _ accepted).0
 call_room W (GiveOrder first order) z accepted = room_passed z (passed _ _ _ (passed _ _ _ accepted).1).0
 call_room W (Mark block) z accepted = room_passed z (passed _ _ _ (passed _ _ _ accepted).1).0
 call_room W (Unmark block) z accepted = room_passed z (passed _ _ _ (passed _ _ _ accepted).1).0
+call_room W _ z accepted = room_passed z (passed _ _ _ accepted).0
 
 -- what a call answers is an answer to it
 pub call_answered : (W : ℕ) (call : ZoneCall W) (z : ZoneState) → IsTrue (answers call (answer_of call z))
 call_answered W (Map address unmovable) z = refl
-call_answered W (MapAt address unmovable frame) z = refl
-call_answered W (Load address word) z = refl
-call_answered W (Store address word value) z = refl
-call_answered W (Share address alias) z = refl
-call_answered W (Unmap address) z = refl
-call_answered W (Pin address) z = refl
-call_answered W (Unpin address) z = refl
-call_answered W (TakeOrder order) z = refl
-call_answered W (GiveOrder first order) z = refl
-call_answered W (Mark block) z = refl
-call_answered W (Unmark block) z = refl
+call_answered W _ z = refl
 
 -- a call adds the record that it tells with its answer, and takes a place
 call_noted : (W : ℕ) (call : ZoneCall W) (client : ℕ) (z : ZoneState)
     → ((after call client z).records ≡ record_of call client (answer_of call z) ∷ z.records) × ((after call client z).room ≡ z.room - 1)
 call_noted W (Unmap address) client z = by_last (λ v. (v.records ≡ entry.Unmap client address ∷ z.records) × (v.room ≡ z.room - 1)) (is_last z address) _ _ (refl, refl) (refl, refl)
-call_noted W (Map address unmovable) client z = (refl, refl)
-call_noted W (MapAt address unmovable frame) client z = (refl, refl)
-call_noted W (Load address word) client z = (refl, refl)
-call_noted W (Store address word value) client z = (refl, refl)
-call_noted W (Share address alias) client z = (refl, refl)
-call_noted W (Pin address) client z = (refl, refl)
-call_noted W (Unpin address) client z = (refl, refl)
-call_noted W (TakeOrder order) client z = (refl, refl)
-call_noted W (GiveOrder first order) client z = (refl, refl)
-call_noted W (Mark block) client z = (refl, refl)
-call_noted W (Unmark block) client z = (refl, refl)
+call_noted W _ client z = (refl, refl)
 
 pub call_recorded : (W : ℕ) (call : ZoneCall W) (client : ℕ) (z : ZoneState) → (after call client z).records ≡ record_of call client (answer_of call z) ∷ z.records
 call_recorded W call client z = (call_noted W call client z).0

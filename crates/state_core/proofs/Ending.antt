@@ -64,29 +64,14 @@ module _ (v : ZoneState) (page serial source target : ℕ) (law : IsValidZone v)
   moved_source entry = free_left can_move_on source takes_source (ne_eqb source target frames_apart)
 
   -- after a page was put back, only its target differs in being free
-  pub back_others : (entry : Record) (g : ℕ) → g ≢ target → is_free (relocated v entry page (At source)) g ≡ is_free v g
-  back_others entry g ne = free_same can_go_back g (ap (λ b. nat_eq g source || b) (ne_eqb g target ne) ∙ or-false (nat_eq g source))
-
   pub back_target : (entry : Record) → is_free (relocated v entry page (At source)) target ≡ true
   back_target entry = free_left can_go_back target takes_target (ne_eqb target source (λ e. frames_apart (sym e)))
-
-  pub source_used : is_free v source ≡ false
-  source_used = free_old can_go_back source takes_source
-
-  pub target_used : is_free v target ≡ false
-  target_used = free_old can_go_back target takes_target
 
   pub source_within : source < frame_count v
   source_within = law.pages.within page source (ap (λ (o : Option Placement). takes_up o source) at ∙ takes_source)
 
   pub target_in : target < frame_count v
   target_in = law.pages.within page target (ap (λ (o : Option Placement). takes_up o target) at ∙ takes_target)
-
-  pub moved_more : (entry : Record) → count_below (is_free (relocated v entry page (At target))) (frame_count v) ≡ count_below (is_free v) (frame_count v) + 1
-  moved_more entry = omega (arith, free_count can_move_on)
-
-  pub back_more : (entry : Record) → count_below (is_free (relocated v entry page (At source))) (frame_count v) ≡ count_below (is_free v) (frame_count v) + 1
-  back_more entry = omega (arith, free_count can_go_back)
 
   pub out_fewer : length (without serial (out v.records)) + 1 ≡ length (out v.records)
   out_fewer = length_without v.records law.journal.well_ended serial known_out.0

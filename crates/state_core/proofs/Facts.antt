@@ -65,9 +65,3 @@ frames_differ v law p q a b at_p at_q ne same =
     ne (law.pages.apart q p (words_frame b)
     (ap (λ (o : Option Placement). takes_up o (words_frame b)) at_q ∙ takes_own b)
     (ap (λ (o : Option Placement). takes_up o (words_frame b)) at_p ∙ ap (takes_up (Some a)) same ∙ takes_own a))
-
--- no more pages were isolated than there are records
-pub isolated_most : (records : List Record) → isolated records ≤ length records
-isolated_most [] = omega arith
-isolated_most (Isolate serial page ∷ older) = omega (arith, isolated_most older)
-isolated_most (_ ∷ older) = omega (arith, isolated_most older)

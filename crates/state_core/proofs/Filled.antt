@@ -73,9 +73,6 @@ packed_order v order packed h = packed_runs (2 ^ order) (2 ^ (9 - order)) (order
 pub order_bounded : (p : ℕ → Bool) (blocks order : ℕ) → order ≤ 9 → whole_runs p (2 ^ order) ((512 * blocks) / 2 ^ order) ≤ count_below p (512 * blocks) / 2 ^ order
 order_bounded p blocks order h = runs_bounded (2 ^ order) (2 ^ (9 - order)) (order_whole order h) p blocks
 
-pub runs_bound : (v : ZoneState) (order : ℕ) → order ≤ 9 → free_runs v (2 ^ order) ≤ unmarked_free v / 2 ^ order
-runs_bound v order h = order_bounded (is_free_unmarked v) v.blocks order h
-
 -- whole pageblocks
 
 test_same : (a b : ℕ) → a ≡ b → nat_eq a 512 ≡ nat_eq b 512

@@ -27,9 +27,3 @@ pub unused_is : (v : ZoneState) (page : ℕ) → lowest_unused_page v ≡ Some p
 unused_is v page e =
     let found = lowest_some (λ q. is_none (get v.placement q)) (frame_count v) page e in
     (found.0, none_is _ (not-true _ found.1), λ q h. not-false _ (lowest_before (λ r. is_none (get v.placement r)) (frame_count v) page q e h))
-
-pub count_from_some : (p : ℕ → Bool) (first n k : ℕ) → first ≤ k → k < first + n → p k ≡ true → 0 < count_from p first n
-unfolding count_from
-count_from_some p first n k low high passes =
-    let at : first + (k - first) ≡ k = omega arith in
-    count_some (λ i. p (first + i)) n (k - first) (omega arith) (ap p at ∙ passes)

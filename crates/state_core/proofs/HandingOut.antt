@@ -306,8 +306,3 @@ lowest_whole v first e =
           let bound : block < v.blocks = omega (arith, whole.1) in
           both_ways _ (lowest_before (is_run v 9) (frame_count v) first (512 * block) e below) (whole_run v block bound passes)))),
     )
-
-pub no_whole : (v : ZoneState) → lowest_run v 9 ≡ None → lowest (is_whole v) v.blocks ≡ None
-no_whole v none = lowest_none (is_whole v) v.blocks (λ block h. false_from_ne_true _ (λ passes.
-    (let bound : 512 * block < frame_count v = omega arith in
-    both_ways _ (no_lowest (is_run v 9) (frame_count v) (512 * block) none bound) (whole_run v block h passes))))

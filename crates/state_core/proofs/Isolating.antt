@@ -49,9 +49,6 @@ module _ (v : ZoneState) (pair : Pair) (law : IsValidZone v) (is : IsPair v pair
   pub isolated_target : is_free (relocated v (Isolate serial_next pair.page) pair.page way_next) pair.target ≡ false
   isolated_target = free_new can_isolate pair.target (or_right (nat_eq pair.target pair.source) _ (eq-eqb pair.target pair.target refl))
 
-  pub isolated_fewer : count_below (is_free v) (frame_count v) ≡ count_below (is_free (relocated v (Isolate serial_next pair.page) pair.page way_next)) (frame_count v) + 1
-  isolated_fewer = omega (arith, free_count can_isolate)
-
   -- no serial that is out is of the page that is to be isolated
   at_rest : (serial : ℕ) → is_out v.records serial ≡ true → page_of v.records serial ≡ Some pair.page → ⊥
   at_rest serial e under = both_ways _ (ap (λ (o : Option Placement). is_under o serial) is.from.here) ((law.agrees.under_way pair.page serial).1 (e, under))

@@ -54,25 +54,6 @@ module _ (v : ZoneState) (client : ℕ) (address : Address) (unmovable : Bool) (
   pub at_other : (q : ℕ) → q ≢ page → map.get next.placement q ≡ map.get v.placement q
   at_other = places.at_other can_map
 
-  pub unheld_frame : is_held v frame ≡ false
-  unheld_frame = places.unheld_frame v frame can.free
-
-  pub untaken : (q : ℕ) → takes_up (map.get v.placement q) frame ≡ false
-  untaken = places.untaken v can.valid frame can.free
-
-  -- free frames and counts after a fresh page was placed
-  pub free_at_frame : is_free next frame ≡ false
-  free_at_frame = places.free_new can_map frame (eq-eqb frame frame refl)
-
-  pub free_away : (g : ℕ) → g ≢ frame → is_free next g ≡ is_free v g
-  free_away g ne = places.free_kept can_map g refl (ne_eqb g frame ne)
-
-  pub fewer_free : count_below (is_free v) (frame_count v) ≡ count_below (is_free next) (frame_count v) + 1
-  fewer_free = omega (arith, places.free_count can_map)
-
-  pub more_pages : count_below (λ p. is_some (map.get next.placement p)) (frame_count v) ≡ count_below (λ p. is_some (map.get v.placement p)) (frame_count v) + 1
-  more_pages = omega (arith, page_count can_map)
-
   -- names after a fresh page was placed
   pub named_here : (b : Address) → same_address b address ≡ true → page_at next.records b ≡ Some page
   named_here b e = cond-true (same_address b address) (Some page) (page_at v.records b) e

@@ -56,9 +56,6 @@ module _ {v : ZoneState} {page : ℕ} {old new : Placement} (can : CanSettle v p
   pub some_same : (q : ℕ) → is_some (map.get (map.insert v.placement page new) q) ≡ is_some (map.get v.placement q)
   some_same q = elim (where_is can q) [ inl here ↦ ap is_some here.2 ∙ sym (ap is_some here.1) | inr there ↦ ap is_some there.1 ]
 
-  pub same_pages : count_below (λ q. is_some (map.get (map.insert v.placement page new) q)) (frame_count v) ≡ count_below (λ q. is_some (map.get v.placement q)) (frame_count v)
-  same_pages = omega (arith, page_count can)
-
   pub valid_settled : (entry : Record) → IsRecorded v entry page new → (migrate free : ℕ) → (migrate ≤ free) × (free ≤ frame_count v) → SweptIfQuiet (record (relocated v entry page new) { migrate = migrate; free = free }) → IsValidZone (record (relocated v entry page new) { migrate = migrate; free = free })
   valid_settled entry recorded =
       let law = can.valid in

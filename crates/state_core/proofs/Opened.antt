@@ -44,9 +44,6 @@ module _ (words number blocks places : ℕ) where
   pub held_count : count_below (is_held new_zone) (frame_count new_zone) ≡ 0
   held_count = count_none (is_held new_zone) (frame_count new_zone) (λ frame h. unheld frame)
 
-  pub huge_count : count_below (λ first. is_some (map.get new_zone.handed_out first)) (frame_count new_zone) ≡ 0
-  huge_count = count_none (λ first. is_some (map.get new_zone.handed_out first)) (frame_count new_zone) (λ first h. ap is_some (no_block first))
-
   pub opened_valid : IsSize blocks → places ≤ 2 ^ 53 → IsValidZone new_zone
   opened_valid size few = record {
     size = size;

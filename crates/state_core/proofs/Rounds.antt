@@ -13,10 +13,6 @@ use Rattle.state_core.proofs.Quiet.{quiet_begun}
 pub use Rattle.state_core.proofs.Sweeping.{begun}
 use Rattle.state_core.proofs.Sweeping.{swept_begun}
 
--- one stuck frame is enough that a round isn't calm
-pub not_calm : (v : ZoneState) (frame : ℕ) → frame < frame_count v → is_stuck v frame ≡ true → false ≡ is_calm v
-not_calm v frame within stuck = sym (and_right (nat_eq (length (out v.records)) 0) _ (ap not (some_at (is_stuck v) (frame_count v) frame within stuck)))
-
 pub calm : (v : ZoneState) → length (out v.records) ≡ 0 →
     ((frame : ℕ) → frame < frame_count v → is_stuck v frame ≡ false) → true ≡ is_calm v
 calm v none free = sym (λ i. eq-eqb (length (out v.records)) 0 none i && not (none_some (is_stuck v) (frame_count v) free i))

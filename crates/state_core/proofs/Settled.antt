@@ -11,8 +11,8 @@ use Rattle.state_core.specs.ZoneState.{ZoneState, frame_count, takes_up, is_held
 use Rattle.state_core.proofs.Moving as moving
 use Rattle.state_core.proofs.Places as places
 pub use Rattle.state_core.proofs.Moving.{CanSettle, IsStill, IsRecorded, isolate_still, moved_still, back_still}
-pub use Rattle.state_core.proofs.Isolating.{target_within, can_isolate, isolated_others, isolated_target, isolated_fewer, isolate_recorded}
-pub use Rattle.state_core.proofs.Ending.{frames_apart, can_move_on, can_go_back, moved_others, moved_source, back_others, back_target, source_used, target_used, source_within, target_in, moved_more, back_more, out_fewer, moved_recorded, back_recorded}
+pub use Rattle.state_core.proofs.Isolating.{target_within, can_isolate, isolated_others, isolated_target, isolate_recorded}
+pub use Rattle.state_core.proofs.Ending.{frames_apart, can_move_on, can_go_back, moved_others, moved_source, back_target, source_within, target_in, out_fewer, moved_recorded, back_recorded}
 pub use Rattle.state_core.proofs.ValidMoves.{swept_if_isolated, swept_if_moved, swept_if_put_back, valid_isolated, valid_moved, valid_put_back}
 
 module _ (v : ZoneState) (page : ℕ) (old new : Placement) (can : CanSettle v page old new) (entry : Record) where
@@ -22,29 +22,8 @@ module _ (v : ZoneState) (page : ℕ) (old new : Placement) (can : CanSettle v p
   pub at_other : (q : ℕ) → q ≢ page → map.get (relocated v entry page new).placement q ≡ map.get v.placement q
   at_other = places.at_other can
 
-  pub some_same : (q : ℕ) → is_some (map.get (relocated v entry page new).placement q) ≡ is_some (map.get v.placement q)
-  some_same = moving.some_same can
-
-  pub same_pages : count_below (λ q. is_some (map.get (relocated v entry page new).placement q)) (frame_count v) ≡ count_below (λ q. is_some (map.get v.placement q)) (frame_count v)
-  same_pages = moving.same_pages can
-
   pub not_old : (q g : ℕ) → q ≢ page → takes_up (map.get v.placement q) g ≡ true → takes_up (Some old) g ≡ true → ⊥
   not_old = places.not_old can
-
-  pub not_new : (q g : ℕ) → q ≢ page → takes_up (map.get v.placement q) g ≡ true → takes_up (Some new) g ≡ true → ⊥
-  not_new = places.not_new can
-
-  pub new_clear : (g : ℕ) → takes_up (Some new) g ≡ true → is_held v g ≡ false
-  new_clear = places.new_clear can
-
-  pub old_clear : (g : ℕ) → takes_up (Some old) g ≡ true → is_held v g ≡ false
-  old_clear = places.old_clear can
-
-  pub free_new : (g : ℕ) → takes_up (Some new) g ≡ true → is_free (relocated v entry page new) g ≡ false
-  free_new = places.free_new can
-
-  pub free_kept : (g : ℕ) → takes_up (Some old) g ≡ false → takes_up (Some new) g ≡ false → is_free (relocated v entry page new) g ≡ is_free v g
-  free_kept = places.free_kept can
 
 pub valid_settled : (v : ZoneState) (page : ℕ) (old new : Placement) (can : CanSettle v page old new) (entry : Record) → IsRecorded v entry page new → (migrate free : ℕ) → (migrate ≤ free) × (free ≤ frame_count v) → SweptIfQuiet (record (relocated v entry page new) { migrate = migrate; free = free }) → IsValidZone (record (relocated v entry page new) { migrate = migrate; free = free })
 valid_settled v page old new can = moving.valid_settled can

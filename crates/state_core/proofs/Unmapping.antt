@@ -92,19 +92,6 @@ module _ (v : ZoneState) (client : ℕ) (address : Address) (page frame : ℕ) (
   pub can_unmap : CanChangePlace v page (Some (At frame)) None
   can_unmap = record { valid = can.valid; at = can.at; numbered = can.valid.pages.numbered page (not_none _ (At frame) can.at); takes = λ g e. cc; upward = λ serial source target e. cc }
 
-  -- after the page's last unmap, only its frame differs in being free
-  pub unmapped_others : (g : ℕ) → g ≢ frame → is_free next g ≡ is_free v g
-  unmapped_others g ne = free_kept can_unmap g (ne_eqb g frame ne) refl
-
-  pub unmapped_frame : is_free next frame ≡ true
-  unmapped_frame = free_left can_unmap frame (eq-eqb frame frame refl) refl
-
-  pub unmapped_more : count_below (is_free next) (frame_count v) ≡ count_below (is_free v) (frame_count v) + 1
-  unmapped_more = omega (arith, free_count can_unmap)
-
-  pub fewer_pages : count_below (λ q. is_some (map.get v.placement q)) (frame_count v) ≡ count_below (λ q. is_some (map.get next.placement q)) (frame_count v) + 1
-  fewer_pages = omega (arith, page_count can_unmap)
-
   still_used : (q : ℕ) → q ≢ page → IsSome (map.get v.placement q) → IsSome (map.get next.placement q)
   still_used q ne used = elim (where_is can_unmap q) [ inl here ↦ absurd (ne here.0) | inr there ↦ ap is_some there.1 ∙ used ]
 
