@@ -1,9 +1,9 @@
 -- The fields of the frames stay sound through each change.
-use Rattle.std.proofs.Common.{◌≡◌, ℕ, ◌+◌, ◌*◌, ◌<◌, ◌≤◌, Bool, true, false, not, List, length, length-set, inl, inr, refl, sym, ap, ◌∙◌, eq-eqb, replicate, arith}
-use Rattle.std.specs.Prelude.{Option, Some, None, unwrap_or, nat_eq, slice_get, slice_set, if◌then◌else◌, ◌&&◌, ◌||◌}
+use Rattle.std.proofs.Common.{◌≡◌, ℕ, ◌+◌, ◌*◌, ◌^◌, ◌<◌, ◌≤◌, Bool, true, false, not, List, length, length-set, inl, inr, refl, sym, ap, ◌∙◌, eq-eqb, replicate, arith}
+use Rattle.std.specs.Prelude.{Option, Some, None, unwrap_or, nat_eq, nat_le, slice_get, slice_set, if◌then◌else◌, ◌&&◌, ◌||◌}
 use Rattle.std.specs.FinSet as set
 use Rattle.std.specs.Ordering.{nat_cmp}
-use Rattle.std.proofs.lemmas.Bool.{ne_eqb}
+use Rattle.std.proofs.lemmas.Bool.{leb-true, ne_eqb}
 use Rattle.std.proofs.lemmas.Bool.Decides.{eqb_tells, leb_tells}
 use Rattle.std.proofs.lemmas.List.{length-replicate}
 use Rattle.std.proofs.lemmas.Option.{slice_get_past}
@@ -11,13 +11,14 @@ use Rattle.frame_core.specs.FixedVec.{FixedVec}
 use Rattle.frame_core.specs.declared.state.FrameState.{FrameState}
 use Rattle.frame_core.specs.declared.state.FrameState.TheVariants.{Free, Holds, Source, Target, Huge}
 use Rattle.frame_core.proofs.Lists.{slice_get_set_same, slice_get_set_other, slice_get_replicate}
-use Rattle.scan_core.specs.Frames.{free_at, holds_at, huge_at, true_at, way_at, is_stuck_state, is_free_state, is_holding_state, is_huge_state, is_way_state}
-use Rattle.scan_core.specs.NumberSet.{in_run}
-use Rattle.scan_core.specs.Runs.{with_run}
+use Rattle.scan_core.specs.Frames.{Frames, free_at, holds_at, huge_at, true_at, way_at, is_stuck_state, is_free_state, is_holding_state, is_huge_state, is_way_state}
+use Rattle.frame_core.specs.Order.{is_aligned}
+use Rattle.scan_core.specs.NumberSet.{all_from, in_run}
+use Rattle.scan_core.specs.Runs.{has_block, is_run, with_run}
 use Rattle.scan_core.specs.Seen.{seen}
-use Rattle.scan_core.specs.Sound.{IsSound}
+use Rattle.scan_core.specs.Sound.{frames_of, IsSound}
 use Rattle.scan_core.specs.declared.frames.Frames.TheInside.{Inside}
-use Rattle.scan_core.proofs.FrameSets.{insert_if, remove_if, keep_if}
+use Rattle.scan_core.proofs.FrameSets.{all_pass, insert_if, remove_if, keep_if}
 use Rattle.scan_core.proofs.Masking.{clash}
 use Rattle.scan_core.proofs.Numbering.{member_insert, member_remove}
 use Rattle.scan_core.proofs.Seeing.{length_seen, seen_get, seen_put, seen_held, seen_released, seen_none_held, seen_state, with_run_get, skipped, taken}
@@ -196,9 +197,41 @@ some_state : (f : Option FrameState → Bool) (o : Option FrameState) → f None
 some_state f None none is = absurd (clash (f None) is none)
 some_state f (Some x) none is = (x, refl)
 
-module _ (z : Inside) (sound : IsSound z) (frame : ℕ) where
+module _ {now : Frames} (z : Inside) (sound : IsSound z) (view : frames_of z ≡ now) (frame : ℕ) where
   abbrev was : Option FrameState
   was = slice_get (seen z.held z.kept.items) frame
+
+  pub seen_test : (f : Option FrameState → Bool) → f (slice_get now.states frame) ≡ true → f was ≡ true
+  seen_test f is = ap (λ (frames : Frames). f (slice_get frames.states frame)) view ∙ is
+
+  pub is_within : (f : Option FrameState → Bool) → f None ≡ false → f (slice_get now.states frame) ≡ true → frame < length z.kept.items
+  is_within f none is = known_within z sound f frame none (seen_test f is)
+
+  -- a free frame isn't stuck, a frame that is handed out is stuck and not free, and a page's frame isn't free
+  pub free_stuck : free_at now.states frame ≡ true → set.contains z.stuck frame ≡ false
+  free_stuck free = sound.stuck frame ∙ free_not_stuck was (true_at z.movable.items frame) (seen_test is_free_state free)
+
+  pub huge_is_stuck : huge_at now.states frame ≡ true → set.contains z.stuck frame ≡ true
+  huge_is_stuck huge = sound.stuck frame ∙ huge_stuck was (true_at z.movable.items frame) (seen_test is_huge_state huge)
+
+  pub huge_isnt_free : huge_at now.states frame ≡ true → set.contains z.free frame ≡ false
+  huge_isnt_free huge = sound.free frame ∙ huge_not_free was (seen_test is_huge_state huge)
+
+  pub page_isnt_free : holds_at now.states frame ≡ true → set.contains z.free frame ≡ false
+  page_isnt_free page = sound.free frame ∙ (page_only was (seen_test is_holding_state page)).1
+
+  -- the source or the target of a moving page isn't free, and isn't stuck
+  pub way_isnt_free : way_at now.states frame ≡ true → set.contains z.free frame ≡ false
+  way_isnt_free way = sound.free frame ∙ (way_only was (true_at z.movable.items frame) (seen_test is_way_state way)).1
+
+  pub way_isnt_stuck : way_at now.states frame ≡ true → set.contains z.stuck frame ≡ false
+  way_isnt_stuck way = sound.stuck frame ∙ (way_only was (true_at z.movable.items frame) (seen_test is_way_state way)).2
+
+  way_not_huge : way_at now.states frame ≡ true → huge_at (seen z.held z.kept.items) frame ≡ false
+  way_not_huge way = (way_only was (true_at z.movable.items frame) (seen_test is_way_state way)).0
+
+  shown : {next : Inside} (kept : List FrameState) (state : FrameState) → IsSound next × (seen z.held kept ≡ slice_set (seen z.held z.kept.items) frame state) → IsSound next × (seen z.held kept ≡ slice_set now.states frame state)
+  shown kept state put = (put.0, put.1 ∙ ap (λ (frames : Frames). slice_set frames.states frame state) view)
 
   free_inserted : (free : set.FinSet nat_cmp) → free ≡ set.insert z.free frame → (n : ℕ) → set.contains free n ≡ (if nat_eq n frame then true else set.contains z.free n)
   free_inserted free now n = ap (λ s. set.contains s n) now ∙ member_insert z.free frame n ∙ insert_if (nat_eq n frame) (set.contains z.free n) true refl
@@ -208,33 +241,32 @@ module _ (z : Inside) (sound : IsSound z) (frame : ℕ) where
 
   module _ (kept : FixedVec FrameState) (index : ℕ) (at : index ≡ frame) where
     -- a frame with a movable page becomes a source
-    pub sound_to_source : (serial : ℕ) → holds_at (seen z.held z.kept.items) frame ≡ true → true_at z.movable.items frame ≡ true → kept.items ≡ slice_set z.kept.items index (Source serial) → IsSound (record z { kept = kept }) × (seen z.held kept.items ≡ slice_set (seen z.held z.kept.items) frame (Source serial))
+    pub sound_to_source : (serial : ℕ) → holds_at now.states frame ≡ true → true_at now.movable frame ≡ true → kept.items ≡ slice_set z.kept.items index (Source serial) → IsSound (record z { kept = kept }) × (seen z.held kept.items ≡ slice_set now.states frame (Source serial))
     sound_to_source serial page movable items =
-        let only = page_only was page in
-        sound_put z sound kept z.free z.stuck frame index (Source serial) false false only.0 refl (known_within z sound is_holding_state frame refl page) at items refl refl
-        (λ n. keep_if n frame (set.contains z.free) false (sound.free frame ∙ only.1))
-        (λ n. keep_if n frame (set.contains z.stuck) false (sound.stuck frame ∙ stuck_if_page was (true_at z.movable.items frame) page ∙ ap not movable))
+        let is_movable = ap (λ (frames : Frames). true_at frames.movable frame) view ∙ movable in
+        shown _ _ (sound_put z sound kept z.free z.stuck frame index (Source serial) false false (page_only was (seen_test is_holding_state page)).0 refl (is_within is_holding_state refl page) at items refl refl
+        (λ n. keep_if n frame (set.contains z.free) false (page_isnt_free page))
+        (λ n. keep_if n frame (set.contains z.stuck) false (sound.stuck frame ∙ stuck_if_page was (true_at z.movable.items frame) (seen_test is_holding_state page) ∙ ap not is_movable)))
 
     -- a free frame becomes a target
-    pub sound_to_target : (free : set.FinSet nat_cmp) (serial : ℕ) → free_at (seen z.held z.kept.items) frame ≡ true → free ≡ set.remove z.free frame → kept.items ≡ slice_set z.kept.items index (Target serial) → IsSound (record z { kept = kept; free = free }) × (seen z.held kept.items ≡ slice_set (seen z.held z.kept.items) frame (Target serial))
+    pub sound_to_target : (free : set.FinSet nat_cmp) (serial : ℕ) → free_at now.states frame ≡ true → free ≡ set.remove z.free frame → kept.items ≡ slice_set z.kept.items index (Target serial) → IsSound (record z { kept = kept; free = free }) × (seen z.held kept.items ≡ slice_set now.states frame (Target serial))
     sound_to_target free serial is_free now items =
-        sound_put z sound kept free z.stuck frame index (Target serial) false false (free_not_huge was is_free) refl (known_within z sound is_free_state frame refl is_free) at items refl refl
+        shown _ _ (sound_put z sound kept free z.stuck frame index (Target serial) false false (free_not_huge was (seen_test is_free_state is_free)) refl (is_within is_free_state refl is_free) at items refl refl
         (free_removed free now)
-        (λ n. keep_if n frame (set.contains z.stuck) false (sound.stuck frame ∙ free_not_stuck was (true_at z.movable.items frame) is_free))
+        (λ n. keep_if n frame (set.contains z.stuck) false (free_stuck is_free)))
 
     -- the other frame of a page whose move ends is free
-    pub sound_left : (free : set.FinSet nat_cmp) → way_at (seen z.held z.kept.items) frame ≡ true → free ≡ set.insert z.free frame → kept.items ≡ slice_set z.kept.items index Free → IsSound (record z { kept = kept; free = free }) × (seen z.held kept.items ≡ slice_set (seen z.held z.kept.items) frame Free)
+    pub sound_left : (free : set.FinSet nat_cmp) → way_at now.states frame ≡ true → free ≡ set.insert z.free frame → kept.items ≡ slice_set z.kept.items index Free → IsSound (record z { kept = kept; free = free }) × (seen z.held kept.items ≡ slice_set now.states frame Free)
     sound_left free way now items =
-        let only = way_only was (true_at z.movable.items frame) way in
-        sound_put z sound kept free z.stuck frame index Free true false only.0 refl (known_within z sound is_way_state frame refl way) at items refl refl
+        shown _ _ (sound_put z sound kept free z.stuck frame index Free true false (way_not_huge way) refl (is_within is_way_state refl way) at items refl refl
         (free_inserted free now)
-        (λ n. keep_if n frame (set.contains z.stuck) false (sound.stuck frame ∙ only.2))
+        (λ n. keep_if n frame (set.contains z.stuck) false (way_isnt_stuck way)))
 
     -- the page of a frame goes out of use, and the frame is free
-    pub sound_emptied : (free stuck : set.FinSet nat_cmp) → holds_at (seen z.held z.kept.items) frame ≡ true → free ≡ set.insert z.free frame → ((n : ℕ) → set.contains stuck n ≡ (if nat_eq n frame then false else set.contains z.stuck n)) → kept.items ≡ slice_set z.kept.items index Free → IsSound (record z { kept = kept; free = free; stuck = stuck }) × (seen z.held kept.items ≡ slice_set (seen z.held z.kept.items) frame Free)
+    pub sound_emptied : (free stuck : set.FinSet nat_cmp) → holds_at now.states frame ≡ true → free ≡ set.insert z.free frame → ((n : ℕ) → set.contains stuck n ≡ (if nat_eq n frame then false else set.contains z.stuck n)) → kept.items ≡ slice_set z.kept.items index Free → IsSound (record z { kept = kept; free = free; stuck = stuck }) × (seen z.held kept.items ≡ slice_set now.states frame Free)
     sound_emptied free stuck page now put items =
-        sound_put z sound kept free stuck frame index Free true false (page_only was page).0 refl (known_within z sound is_holding_state frame refl page) at items refl refl
-        (free_inserted free now) put
+        shown _ _ (sound_put z sound kept free stuck frame index Free true false (page_only was (seen_test is_holding_state page)).0 refl (is_within is_holding_state refl page) at items refl refl
+        (free_inserted free now) put)
 
     module _ (list : FixedVec Bool) (movable : Bool) (stuck : set.FinSet nat_cmp) (list_items : list.items ≡ slice_set z.movable.items index movable) (put : (n : ℕ) → set.contains stuck n ≡ (if nat_eq n frame then not movable else set.contains z.stuck n)) where
       noted : (f : Option FrameState → Bool) → f None ≡ false → f was ≡ true → is_stuck_state was movable ≡ false → set.contains z.stuck frame ≡ false → IsSound (record z { movable = list })
@@ -248,25 +280,49 @@ module _ (z : Inside) (sound : IsSound z) (frame : ℕ) where
           ap not (sym (ap (λ (xs : List Bool). true_at xs frame) (list_items ∙ ap (λ k. slice_set z.movable.items k movable) at) ∙ ap (λ o. unwrap_or o false) (slice_get_set_same z.movable.items frame frame movable refl (omega (arith, sound.movable, within)))))
 
       -- a page's move ends in one of its two frames
-      pub sound_settled : (page : ℕ) → way_at (seen z.held z.kept.items) frame ≡ true → kept.items ≡ slice_set z.kept.items index (Holds page) → IsSound (record z { kept = kept; movable = list; stuck = stuck }) × (seen z.held kept.items ≡ slice_set (seen z.held z.kept.items) frame (Holds page))
+      pub sound_settled : (page : ℕ) → way_at now.states frame ≡ true → kept.items ≡ slice_set z.kept.items index (Holds page) → IsSound (record z { kept = kept; movable = list; stuck = stuck }) × (seen z.held kept.items ≡ slice_set now.states frame (Holds page))
       sound_settled page way items =
-          let within = known_within z sound is_way_state frame refl way in
-          let only = way_only was (true_at z.movable.items frame) way in
-          sound_put (record z { movable = list }) (noted is_way_state refl way (way_only was movable way).2 (sound.stuck frame ∙ only.2)) kept z.free stuck frame index (Holds page) false (not movable) only.0 refl within at items refl (is_noted within)
-          (λ n. keep_if n frame (set.contains z.free) false (sound.free frame ∙ only.1)) put
+          let within = is_within is_way_state refl way in
+          let seen_way = seen_test is_way_state way in
+          shown _ _ (sound_put (record z { movable = list }) (noted is_way_state refl seen_way (way_only was movable seen_way).2 (way_isnt_stuck way)) kept z.free stuck frame index (Holds page) false (not movable) (way_not_huge way) refl within at items refl (is_noted within)
+          (λ n. keep_if n frame (set.contains z.free) false (way_isnt_free way)) put)
 
       -- a page is put into a free frame
-      pub sound_filled : (free : set.FinSet nat_cmp) (page : ℕ) → free_at (seen z.held z.kept.items) frame ≡ true → free ≡ set.remove z.free frame → kept.items ≡ slice_set z.kept.items index (Holds page) → IsSound (record z { kept = kept; movable = list; free = free; stuck = stuck }) × (seen z.held kept.items ≡ slice_set (seen z.held z.kept.items) frame (Holds page))
+      pub sound_filled : (free : set.FinSet nat_cmp) (page : ℕ) → free_at now.states frame ≡ true → free ≡ set.remove z.free frame → kept.items ≡ slice_set z.kept.items index (Holds page) → IsSound (record z { kept = kept; movable = list; free = free; stuck = stuck }) × (seen z.held kept.items ≡ slice_set now.states frame (Holds page))
       sound_filled free page is_free now items =
-          let within = known_within z sound is_free_state frame refl is_free in
-          sound_put (record z { movable = list }) (noted is_free_state refl is_free (free_not_stuck was movable is_free) (sound.stuck frame ∙ free_not_stuck was (true_at z.movable.items frame) is_free)) kept free stuck frame index (Holds page) false (not movable) (free_not_huge was is_free) refl within at items refl (is_noted within)
-          (free_removed free now) put
+          let within = is_within is_free_state refl is_free in
+          let seen_free = seen_test is_free_state is_free in
+          shown _ _ (sound_put (record z { movable = list }) (noted is_free_state refl seen_free (free_not_stuck was movable seen_free) (free_stuck is_free)) kept free stuck frame index (Holds page) false (not movable) (free_not_huge was seen_free) refl within at items refl (is_noted within)
+          (free_removed free now) put)
 
     -- it is noted of a page that stays in its frame whether it may be taken from it
-    pub sound_said : (list : FixedVec Bool) (movable : Bool) (stuck : set.FinSet nat_cmp) → holds_at (seen z.held z.kept.items) frame ≡ true → list.items ≡ slice_set z.movable.items index movable → ((n : ℕ) → set.contains stuck n ≡ (if nat_eq n frame then not movable else set.contains z.stuck n)) → IsSound (record z { movable = list; stuck = stuck })
+    pub sound_said : (list : FixedVec Bool) (movable : Bool) (stuck : set.FinSet nat_cmp) → holds_at now.states frame ≡ true → list.items ≡ slice_set z.movable.items index movable → ((n : ℕ) → set.contains stuck n ≡ (if nat_eq n frame then not movable else set.contains z.stuck n)) → IsSound (record z { movable = list; stuck = stuck })
     sound_said list movable stuck page items put =
-        let some = some_state is_holding_state was refl page in
-        sound_marked z sound list stuck frame index some.0 (not movable) movable (known_within z sound is_holding_state frame refl page) at items some.1 (sym (stuck_if_page was movable page) ∙ ap (λ o. is_stuck_state o movable) some.1) put
+        let seen_page = seen_test is_holding_state page in
+        let some = some_state is_holding_state was refl seen_page in
+        sound_marked z sound list stuck frame index some.0 (not movable) movable (is_within is_holding_state refl page) at items some.1 (sym (stuck_if_page was movable seen_page) ∙ ap (λ o. is_stuck_state o movable) some.1) put
+
+-- the frames of a block are handed out or taken back
+module _ {now : Frames} (z : Inside) (sound : IsSound z) (view : frames_of z ≡ now) (first order : ℕ) where
+  block_within : has_block now.states order first ≡ true → first + 2 ^ order ≤ length z.kept.items
+  block_within here =
+      let parts = both (is_aligned order first) (nat_le (first + 2 ^ order) (length now.states)) here in
+      omega (arith, leb-true (first + 2 ^ order) (length now.states) parts.1, ap (λ (frames : Frames). length frames.states) view, seen_length z sound)
+
+  pub run_free : is_run now.states order first ≡ true → (n : ℕ) → in_run first (2 ^ order) n ≡ true → free_at now.states n ≡ true
+  run_free run = all_pass (free_at now.states) first (2 ^ order) (both (has_block now.states order first) _ run).1
+
+  pub block_held : (held free stuck : set.FinSet nat_cmp) (number : ℕ) → number ≡ first → is_run now.states order first ≡ true → ((n : ℕ) → set.contains held n ≡ (in_run number (2 ^ order) n || set.contains z.held n)) → ((n : ℕ) → set.contains free n ≡ (not (in_run first (2 ^ order) n) && set.contains z.free n)) → ((n : ℕ) → set.contains stuck n ≡ (in_run first (2 ^ order) n || set.contains z.stuck n)) → IsSound (record z { held = held; free = free; stuck = stuck }) × (seen held z.kept.items ≡ with_run now.states first (2 ^ order) Huge)
+  block_held held free stuck number at run held_each free_each stuck_each =
+      let next = sound_held z sound held free stuck first (2 ^ order) (block_within (both _ (all_from (free_at now.states) first (2 ^ order)) run).0) (λ n inside. seen_test z sound view n is_free_state (run_free run n inside))
+      (λ n. held_each n ∙ ap (λ f. in_run f (2 ^ order) n || set.contains z.held n) at) free_each stuck_each in
+      (next.0, next.1 ∙ ap (λ (frames : Frames). with_run frames.states first (2 ^ order) Huge) view)
+
+  pub block_released : (held free stuck : set.FinSet nat_cmp) (number : ℕ) → number ≡ first → has_block now.states order first ≡ true → all_from (huge_at now.states) first (2 ^ order) ≡ true → ((n : ℕ) → set.contains held n ≡ (not (in_run number (2 ^ order) n) && set.contains z.held n)) → ((n : ℕ) → set.contains free n ≡ (in_run first (2 ^ order) n || set.contains z.free n)) → ((n : ℕ) → set.contains stuck n ≡ (not (in_run first (2 ^ order) n) && set.contains z.stuck n)) → IsSound (record z { held = held; free = free; stuck = stuck }) × (seen held z.kept.items ≡ with_run now.states first (2 ^ order) Free)
+  block_released held free stuck number at here huge held_each free_each stuck_each =
+      let next = sound_released z sound held free stuck first (2 ^ order) (block_within here) (λ n inside. seen_test z sound view n is_huge_state (all_pass (huge_at now.states) first (2 ^ order) huge n inside))
+      (λ n. held_each n ∙ ap (λ f. not (in_run f (2 ^ order) n) && set.contains z.held n) at) free_each stuck_each in
+      (next.0, next.1 ∙ ap (λ (frames : Frames). with_run frames.states first (2 ^ order) Free) view)
 
 -- the frames of a zone in which all are free
 pub sound_free : (z : Inside) (blocks : ℕ) → 0 < blocks → blocks ≤ 8 → z.kept.items ≡ replicate (512 * blocks) Free → z.movable.items ≡ replicate (512 * blocks) false → z.held ≡ set.empty → z.stuck ≡ set.empty → ((n : ℕ) → set.contains z.free n ≡ free_at z.kept.items n) → IsSound z × (seen z.held z.kept.items ≡ replicate (512 * blocks) Free)
@@ -295,23 +351,3 @@ sound_free z blocks some few kept movable held stuck free =
       | inl past ↦ (ap f (slice_get_past (replicate (512 * blocks) Free) n (omega (arith, past.1, length-replicate (512 * blocks) Free))) ∙ none)
       | inr under ↦ (ap f (slice_get_replicate (512 * blocks) n Free under.1) ∙ free)
     ]
-
--- a free frame isn't stuck, and a frame that is handed out is
-pub free_stuck : (z : Inside) → IsSound z → (n : ℕ) → free_at (seen z.held z.kept.items) n ≡ true → set.contains z.stuck n ≡ false
-free_stuck z sound n free = sound.stuck n ∙ free_not_stuck (slice_get (seen z.held z.kept.items) n) (true_at z.movable.items n) free
-
-pub huge_is_stuck : (z : Inside) → IsSound z → (n : ℕ) → huge_at (seen z.held z.kept.items) n ≡ true → set.contains z.stuck n ≡ true
-huge_is_stuck z sound n huge = sound.stuck n ∙ huge_stuck (slice_get (seen z.held z.kept.items) n) (true_at z.movable.items n) huge
-
-pub huge_isnt_free : (z : Inside) → IsSound z → (n : ℕ) → huge_at (seen z.held z.kept.items) n ≡ true → set.contains z.free n ≡ false
-huge_isnt_free z sound n huge = sound.free n ∙ huge_not_free (slice_get (seen z.held z.kept.items) n) huge
-
-pub page_isnt_free : (z : Inside) → IsSound z → (n : ℕ) → holds_at (seen z.held z.kept.items) n ≡ true → set.contains z.free n ≡ false
-page_isnt_free z sound n page = sound.free n ∙ (page_only (slice_get (seen z.held z.kept.items) n) page).1
-
--- the source or the target of a moving page isn't free, and isn't stuck
-pub way_isnt_free : (z : Inside) → IsSound z → (n : ℕ) → way_at (seen z.held z.kept.items) n ≡ true → set.contains z.free n ≡ false
-way_isnt_free z sound n way = sound.free n ∙ (way_only (slice_get (seen z.held z.kept.items) n) (true_at z.movable.items n) way).1
-
-pub way_isnt_stuck : (z : Inside) → IsSound z → (n : ℕ) → way_at (seen z.held z.kept.items) n ≡ true → set.contains z.stuck n ≡ false
-way_isnt_stuck z sound n way = sound.stuck n ∙ (way_only (slice_get (seen z.held z.kept.items) n) (true_at z.movable.items n) way).2

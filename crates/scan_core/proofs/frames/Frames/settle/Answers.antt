@@ -2,36 +2,26 @@ use Rattle.std.proofs.Common.{refl, ◌∙◌, length, length-set, ap, arith}
 use Rattle.std.specs.Prelude.{slice_set}
 use Rattle.frame_core.specs.FixedVec.{with_item}
 use Rattle.frame_core.specs.declared.state.FrameState.TheVariants.{Holds}
-use Rattle.scan_core.specs.Frames.{Frames, way_at, is_way_state}
-use Rattle.scan_core.proofs.Steps.{known_within, way_isnt_stuck, sound_settled}
+use Rattle.scan_core.specs.Frames.{is_way_state}
+use Rattle.scan_core.proofs.Steps.{is_within, way_isnt_stuck, sound_settled}
 use Rattle.scan_core.proofs.frames.Frames.settle.Goals as goal
 
 pub insert_if-requires : goal.insert_if-requires
-insert_if-requires c =
-    let was = ap (λ (frames : Frames). way_at frames.states c.args.frame) c.self.view_is ∙ c.requires in
-    way_isnt_stuck c.self.inside c.self.invariant c.args.frame was
+insert_if-requires c = way_isnt_stuck c.self.inside c.self.invariant c.self.view_is c.args.frame c.requires
 
 pub index_mut-requires : goal.index_mut-requires
-index_mut-requires c =
-    let was = ap (λ (frames : Frames). way_at frames.states c.args.frame) c.self.view_is ∙ c.requires in
-    let within = known_within c.self.inside c.self.invariant is_way_state c.args.frame refl was in
-    omega (arith, within, c.self.invariant.movable, c.get-index.ensures.value)
+index_mut-requires c = omega (arith, is_within c.self.inside c.self.invariant c.self.view_is c.args.frame is_way_state refl c.requires, c.self.invariant.movable, c.get-index.ensures.value)
 
 pub index_mut-requires-2 : goal.index_mut-requires-2
-index_mut-requires-2 c =
-    let was = ap (λ (frames : Frames). way_at frames.states c.args.frame) c.self.view_is ∙ c.requires in
-    let within = known_within c.self.inside c.self.invariant is_way_state c.args.frame refl was in
-    omega (arith, within, c.get-index.ensures.value)
+index_mut-requires-2 c = omega (arith, is_within c.self.inside c.self.invariant c.self.view_is c.args.frame is_way_state refl c.requires, c.get-index.ensures.value)
 
 pub invariant_of-self : goal.invariant_of-self
 invariant_of-self c =
-    let was = ap (λ (frames : Frames). way_at frames.states c.args.frame) c.self.view_is ∙ c.requires in
-    (sound_settled c.self.inside c.self.invariant c.args.frame (with_item c.self.inside.kept c.get-index.result (Holds c.args.page)) c.get-index.result c.get-index.ensures.value (with_item c.self.inside.movable c.get-index.result c.args.can_move) c.args.can_move c.insert_if.new.self refl c.insert_if.ensures c.args.page was refl).0
+    (sound_settled c.self.inside c.self.invariant c.self.view_is c.args.frame (with_item c.self.inside.kept c.get-index.result (Holds c.args.page)) c.get-index.result c.get-index.ensures.value (with_item c.self.inside.movable c.get-index.result c.args.can_move) c.args.can_move c.insert_if.new.self refl c.insert_if.ensures c.args.page c.requires refl).0
 
 pub returns : goal.returns
 returns c =
-    let was = ap (λ (frames : Frames). way_at frames.states c.args.frame) c.self.view_is ∙ c.requires in
-    let states = (sound_settled c.self.inside c.self.invariant c.args.frame (with_item c.self.inside.kept c.get-index.result (Holds c.args.page)) c.get-index.result c.get-index.ensures.value (with_item c.self.inside.movable c.get-index.result c.args.can_move) c.args.can_move c.insert_if.new.self refl c.insert_if.ensures c.args.page was refl).1 ∙ ap (λ (frames : Frames). slice_set frames.states c.args.frame (Holds c.args.page)) c.self.view_is in
+    let states = (sound_settled c.self.inside c.self.invariant c.self.view_is c.args.frame (with_item c.self.inside.kept c.get-index.result (Holds c.args.page)) c.get-index.result c.get-index.ensures.value (with_item c.self.inside.movable c.get-index.result c.args.can_move) c.args.can_move c.insert_if.new.self refl c.insert_if.ensures c.args.page c.requires refl).1 in
     record {
       page = λ i. record { states = states i; movable = slice_set (c.self.view_is i).movable (c.get-index.ensures.value i) c.args.can_move };
       frames = ap length states ∙ length-set c.args.self.now.states c.args.frame (Holds c.args.page);
