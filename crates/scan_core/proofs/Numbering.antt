@@ -97,23 +97,22 @@ module _ (words new : List ℕ) (s : set.FinSet nat_cmp) (word mask : ℕ) (view
   other_word : (n : ℕ) → n / 64 ≢ word → has_number new n ≡ has_number words n
   other_word n away = ap (λ w. has_bit w (n % 64)) (others (n / 64) away)
 
+  -- a mask's bits are put to those of a word, and each other word stays
+  changed_members : (join : Bool → Bool → Bool) → ((x : Bool) → join false x ≡ x) → ((i : ℕ) → i < 64 → has_bit (slice_index new word) i ≡ join (has_bit mask i) (has_bit (slice_index words word) i)) → (n : ℕ) → set.contains (numbers_of new) n ≡ join (nat_eq (n / 64) word && has_bit mask (n % 64)) (set.contains s n)
+  changed_members join keeps bits n = member new (same ∙ len) n ∙ elim (eqb_tells (n / 64) word) [
+    | inl at ↦ (ap (λ k. has_bit (slice_index new k) (n % 64)) at.1 ∙ bits (n % 64) (omega arith)
+        ∙ ap (λ k. join (has_bit mask (n % 64)) (has_bit (slice_index words k) (n % 64))) (sym at.1)
+        ∙ (λ i. join (sym (eq-eqb (n / 64) word at.1) i && has_bit mask (n % 64)) (had n i)))
+    | inr away ↦ (other_word n away.1 ∙ sym (keeps (has_number words n)) ∙ (λ i. join (sym (ne_eqb (n / 64) word away.1) i && has_bit mask (n % 64)) (had n i)))
+  ]
+
   -- the numbers after a word got the bits of a mask
   pub filled_members : ((i : ℕ) → i < 64 → has_bit (slice_index new word) i ≡ (has_bit mask i || has_bit (slice_index words word) i)) → (n : ℕ) → set.contains (numbers_of new) n ≡ ((nat_eq (n / 64) word && has_bit mask (n % 64)) || set.contains s n)
-  filled_members bits n = member new (same ∙ len) n ∙ elim (eqb_tells (n / 64) word) [
-    | inl at ↦ (ap (λ k. has_bit (slice_index new k) (n % 64)) at.1 ∙ bits (n % 64) (omega arith)
-        ∙ ap (λ k. has_bit mask (n % 64) || has_bit (slice_index words k) (n % 64)) (sym at.1)
-        ∙ (λ i. (sym (eq-eqb (n / 64) word at.1) i && has_bit mask (n % 64)) || had n i))
-    | inr away ↦ (other_word n away.1 ∙ (λ i. (sym (ne_eqb (n / 64) word away.1) i && has_bit mask (n % 64)) || had n i))
-  ]
+  filled_members = changed_members (λ m x. m || x) (λ x. refl)
 
   -- the numbers after a word lost the bits of a mask
   pub cleared_members : ((i : ℕ) → i < 64 → has_bit (slice_index new word) i ≡ (not (has_bit mask i) && has_bit (slice_index words word) i)) → (n : ℕ) → set.contains (numbers_of new) n ≡ (not (nat_eq (n / 64) word && has_bit mask (n % 64)) && set.contains s n)
-  cleared_members bits n = member new (same ∙ len) n ∙ elim (eqb_tells (n / 64) word) [
-    | inl at ↦ (ap (λ k. has_bit (slice_index new k) (n % 64)) at.1 ∙ bits (n % 64) (omega arith)
-        ∙ ap (λ k. not (has_bit mask (n % 64)) && has_bit (slice_index words k) (n % 64)) (sym at.1)
-        ∙ (λ i. not (sym (eq-eqb (n / 64) word at.1) i && has_bit mask (n % 64)) && had n i))
-    | inr away ↦ (other_word n away.1 ∙ (λ i. not (sym (ne_eqb (n / 64) word away.1) i && has_bit mask (n % 64)) && had n i))
-  ]
+  cleared_members = changed_members (λ m x. not m && x) (λ x. refl)
 
 -- the set in which no bit is set
 pub no_members : (words : List ℕ) → length words ≡ 64 → ((word : ℕ) → slice_index words word ≡ 0) → numbers_of words ≡ set.empty

@@ -5,9 +5,6 @@ use Rattle.frame_core.specs.Order.{is_aligned}
 
 -- what holds at each of the seven orders holds at every order
 pub by_order : (P : ℕ → Type 0) → P 3 → P 4 → P 5 → P 6 → P 7 → P 8 → P 9 → (order : ℕ) → 3 ≤ order → order ≤ 9 → P order
-by_order P p3 p4 p5 p6 p7 p8 p9 zero h l = absurd (omega arith)
-by_order P p3 p4 p5 p6 p7 p8 p9 (suc zero) h l = absurd (omega arith)
-by_order P p3 p4 p5 p6 p7 p8 p9 (suc (suc zero)) h l = absurd (omega arith)
 by_order P p3 p4 p5 p6 p7 p8 p9 (suc (suc (suc zero))) h l = p3
 by_order P p3 p4 p5 p6 p7 p8 p9 (suc (suc (suc (suc zero)))) h l = p4
 by_order P p3 p4 p5 p6 p7 p8 p9 (suc (suc (suc (suc (suc zero))))) h l = p5
@@ -15,7 +12,7 @@ by_order P p3 p4 p5 p6 p7 p8 p9 (suc (suc (suc (suc (suc (suc zero)))))) h l = p
 by_order P p3 p4 p5 p6 p7 p8 p9 (suc (suc (suc (suc (suc (suc (suc zero))))))) h l = p7
 by_order P p3 p4 p5 p6 p7 p8 p9 (suc (suc (suc (suc (suc (suc (suc (suc zero)))))))) h l = p8
 by_order P p3 p4 p5 p6 p7 p8 p9 (suc (suc (suc (suc (suc (suc (suc (suc (suc zero))))))))) h l = p9
-by_order P p3 p4 p5 p6 p7 p8 p9 (suc (suc (suc (suc (suc (suc (suc (suc (suc (suc n)))))))))) h l = absurd (omega arith)
+by_order P p3 p4 p5 p6 p7 p8 p9 _ h l = absurd (omega arith)
 
 module _ (order : ℕ) (low : 3 ≤ order) (high : order ≤ 9) where
   pub shifted : 1 * 2 ^ order % 2 ^ 32 ≡ 2 ^ order

@@ -58,37 +58,34 @@ module _ (p r : ℕ → Bool) (first m : ℕ) (low : first < 4096) (within : fir
   block_same block away = count_from_same r p (512 * block) 512 (λ k l h. adds.each k ∙ ap (λ b. b || p k)
       (same_by (in_run first m k) false (λ e. let is = in_run_is first m k e in let at : block ≡ first / 512 = omega (arith, is) in absurd (away at)) (λ e. cc)))
 
-  pub counts_more : (count : ℕ) (blocks : List ℕ) → Counts count blocks p → Counts (count + m) (slice_set blocks (first / 512) (slice_index blocks (first / 512) + m)) r
-  counts_more count blocks counts = record {
-    all = omega (arith, counts.all, all_more);
-    len = length-set blocks (first / 512) (slice_index blocks (first / 512) + m) ∙ counts.len;
+  counted : (q : ℕ → Bool) (count : ℕ) (blocks : List ℕ) → Counts count blocks q → slice_index blocks (first / 512) ≡ count_in_block q (first / 512)
+  counted q count blocks counts = get_or_from_slice_get blocks (first / 512) _ 0 (counts.each (first / 512) (omega arith))
+
+  changed : (q w : ℕ → Bool) (count now item : ℕ) (blocks : List ℕ) → Counts count blocks q → now ≡ count_below w capacity → item ≡ count_in_block w (first / 512) → ((block : ℕ) → block ≢ first / 512 → count_in_block q block ≡ count_in_block w block) → Counts now (slice_set blocks (first / 512) item) w
+  changed q w count now item blocks counts all here away = record {
+    all = all;
+    len = length-set blocks (first / 512) item ∙ counts.len;
     each = λ block h. elim (eqb_tells block (first / 512)) [
-      | inl at ↦ (slice_get_set_same blocks (first / 512) block (slice_index blocks (first / 512) + m) at.1 (omega (arith, counts.len))
-          ∙ ap Some (omega (arith, get_or_from_slice_get blocks (first / 512) _ 0 (counts.each (first / 512) (omega arith)), block_more, ap (count_in_block r) at.1)))
-      | inr away ↦ (slice_get_set_other blocks (first / 512) block (slice_index blocks (first / 512) + m) away.1 ∙ counts.each block h ∙ ap Some (sym (block_same block away.1)))
+      | inl at ↦ (slice_get_set_same blocks (first / 512) block item at.1 (omega (arith, counts.len)) ∙ ap Some (here ∙ ap (count_in_block w) (sym at.1)))
+      | inr other ↦ (slice_get_set_other blocks (first / 512) block item other.1 ∙ counts.each block h ∙ ap Some (away block other.1))
     ];
   }
 
+  pub counts_more : (count : ℕ) (blocks : List ℕ) → Counts count blocks p → Counts (count + m) (slice_set blocks (first / 512) (slice_index blocks (first / 512) + m)) r
+  counts_more count blocks counts = changed p r count _ _ blocks counts (omega (arith, counts.all, all_more)) (omega (arith, counted p count blocks counts, block_more)) (λ block away. sym (block_same block away))
+
   pub counts_fewer : (count : ℕ) (blocks : List ℕ) → Counts count blocks r → Counts (count - m) (slice_set blocks (first / 512) (slice_index blocks (first / 512) - m)) p
-  counts_fewer count blocks counts = record {
-    all = omega (arith, counts.all, all_more);
-    len = length-set blocks (first / 512) (slice_index blocks (first / 512) - m) ∙ counts.len;
-    each = λ block h. elim (eqb_tells block (first / 512)) [
-      | inl at ↦ (slice_get_set_same blocks (first / 512) block (slice_index blocks (first / 512) - m) at.1 (omega (arith, counts.len))
-          ∙ ap Some (omega (arith, get_or_from_slice_get blocks (first / 512) _ 0 (counts.each (first / 512) (omega arith)), block_more, ap (count_in_block p) at.1)))
-      | inr away ↦ (slice_get_set_other blocks (first / 512) block (slice_index blocks (first / 512) - m) away.1 ∙ counts.each block h ∙ ap Some (block_same block away.1))
-    ];
-  }
+  counts_fewer count blocks counts = changed r p count _ _ blocks counts (omega (arith, counts.all, all_more)) (omega (arith, counted r count blocks counts, block_more)) block_same
 
   -- the counts before have room for the run
   pub room_more : (count : ℕ) (blocks : List ℕ) → Counts count blocks p → (count + m ≤ 4096) × (slice_index blocks (first / 512) + m ≤ 512)
   room_more count blocks counts = (
     omega (arith, counts.all, all_more, count_most r capacity, capacity_is),
-    omega (arith, get_or_from_slice_get blocks (first / 512) _ 0 (counts.each (first / 512) (omega arith)), block_more, count_from_most r (512 * (first / 512)) 512),
+    omega (arith, counted p count blocks counts, block_more, count_from_most r (512 * (first / 512)) 512),
   )
 
   pub room_fewer : (count : ℕ) (blocks : List ℕ) → Counts count blocks r → (m ≤ count) × (m ≤ slice_index blocks (first / 512))
   room_fewer count blocks counts = (
     omega (arith, counts.all, all_more),
-    omega (arith, get_or_from_slice_get blocks (first / 512) _ 0 (counts.each (first / 512) (omega arith)), block_more),
+    omega (arith, counted r count blocks counts, block_more),
   )

@@ -12,12 +12,12 @@ use Rattle.frame_core.specs.Order.{is_aligned}
 use Rattle.frame_core.specs.declared.state.FrameState.{FrameState}
 use Rattle.frame_core.proofs.Searches.{lowest_same, some_at, some_one}
 use Rattle.scan_core.specs.FrameSet.{all_of_block, is_run_of}
-use Rattle.scan_core.specs.Frames.{blocks_of, free_at, free_frames, holds_at, true_at, is_stuck_state, is_holding_state, is_whole}
+use Rattle.scan_core.specs.Frames.{Frames, blocks_of, free_at, free_frames, holds_at, true_at, is_stuck_state, is_holding_state, is_whole}
 use Rattle.scan_core.specs.NumberSet.{all_from, capacity}
 use Rattle.scan_core.specs.Pairs.{is_marked, is_stuck}
 use Rattle.scan_core.specs.Runs.{first_run, has_block, is_run}
 use Rattle.scan_core.specs.Seen.{seen, IsTold}
-use Rattle.scan_core.specs.Sound.{IsSound}
+use Rattle.scan_core.specs.Sound.{frames_of, IsSound}
 use Rattle.scan_core.specs.declared.frames.Frames.TheInside.{Inside}
 use Rattle.frame_core.proofs.Bounds.{count_past, lowest_past}
 use Rattle.scan_core.proofs.Counting.{not_free_past, not_whole_past}
@@ -28,11 +28,7 @@ use Rattle.scan_core.proofs.Seeing.{length_seen, seen_get, seen_state}
 use Rattle.scan_core.proofs.Spanning.{same_by, both, is_in_run}
 
 and_within : (a b c : Bool) → (c ≡ true → b ≡ true) → (a && c) ≡ ((a && b) && c)
-and_within true true true gives = refl
-and_within true false true gives = let e = gives refl in cc
-and_within true true false gives = refl
-and_within true false false gives = refl
-and_within false b c gives = refl
+and_within a b c gives = grind (arith, gives)
 
 -- a free frame stands within the list
 pub free_within : (states : List FrameState) (frame : ℕ) → free_at states frame ≡ true → frame < length states
@@ -73,6 +69,10 @@ module _ (z : Inside) (sound : IsSound z) where
   pub kept_length : length (seen z.held z.kept.items) ≡ length z.kept.items
   kept_length = length_seen (set.contains z.held) 0 z.kept.items
 
+  -- there are as many frames as contracts see
+  pub frames_kept : {now : Frames} → frames_of z ≡ now → length now.states ≡ length z.kept.items
+  frames_kept view = sym (ap (λ (frames : Frames). length frames.states) view) ∙ kept_length
+
   -- the kept list tells the pages that frames hold: a held frame is kept as free
   pub is_told : IsTold (seen z.held z.kept.items) z.kept.items z.free
   is_told = record { holds = λ n. by_held n (set.contains z.held n) refl; free = sound.free } where
@@ -96,13 +96,10 @@ module _ (z : Inside) (sound : IsSound z) where
       ap (λ (p : ℕ → Bool). lowest p capacity) free_is
       ∙ lowest_past (free_at (seen z.held z.kept.items)) (length (seen z.held z.kept.items)) capacity (omega (arith, at_most, capacity_is)) (λ k low h. not_free_past (seen z.held z.kept.items) k low)
 
-  whole_upto : (n : ℕ) → blocks_of (seen z.held z.kept.items) ≤ n → count_below (all_of_block (set.contains z.free)) n ≡ count_below (is_whole (seen z.held z.kept.items)) (blocks_of (seen z.held z.kept.items))
-  whole_upto n most =
-      ap (λ (p : ℕ → Bool). count_below (all_of_block p) n) free_is
-      ∙ count_past (is_whole (seen z.held z.kept.items)) (blocks_of (seen z.held z.kept.items)) n most (λ block low h. not_whole_past (seen z.held z.kept.items) block low)
-
   pub whole_by_set : count_below (all_of_block (set.contains z.free)) 8 ≡ count_below (is_whole (seen z.held z.kept.items)) (blocks_of (seen z.held z.kept.items))
-  whole_by_set = whole_upto 8 (omega (arith, at_most))
+  whole_by_set =
+      ap (λ (p : ℕ → Bool). count_below (all_of_block p) 8) free_is
+      ∙ count_past (is_whole (seen z.held z.kept.items)) (blocks_of (seen z.held z.kept.items)) 8 (omega (arith, at_most)) (λ block low h. not_whole_past (seen z.held z.kept.items) block low)
 
   pub first_run_by_set : (order : ℕ) → lowest (is_run_of (set.contains z.free) order) capacity ≡ first_run (seen z.held z.kept.items) order
   first_run_by_set order = ap (λ (p : ℕ → Bool). lowest (is_run_of p order) capacity) free_is ∙ first_run_is (seen z.held z.kept.items) order at_most

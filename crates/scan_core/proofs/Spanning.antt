@@ -73,18 +73,10 @@ word_more start word n low = elim (eqb_tells (n / 64) word) [
 ]
 
 or_more : (e w h x : Bool) → (((e || w) && h) || x) ≡ ((e && h) || ((w && h) || x))
-or_more true true true x = refl
-or_more true true false x = refl
-or_more true false true x = refl
-or_more true false false x = refl
-or_more false w h x = refl
+or_more e w h x = grind arith
 
 and_more : (e w h x : Bool) → (not ((e || w) && h) && x) ≡ (not (e && h) && (not (w && h) && x))
-and_more true true true x = refl
-and_more true true false x = refl
-and_more true false true x = refl
-and_more true false false x = refl
-and_more false w h x = refl
+and_more e w h x = grind arith
 
 -- the bits after one more word was filled
 pub filled_more : (start word n : ℕ) (h x : Bool) → start ≤ word → ((nat_eq (n / 64) word && h) || ((in_words start word n && h) || x)) ≡ ((in_words start (word + 1) n && h) || x)

@@ -8,13 +8,11 @@ use Rattle.scan_core.specs.Seen.{IsTold, seen}
 use Rattle.scan_core.specs.Sound.{IsSound}
 use Rattle.scan_core.specs.declared.frames.Frames.TheInside.{Inside}
 use Rattle.scan_core.proofs.Pairing.{told_empty}
-use Rattle.scan_core.proofs.Sounding.{is_told, kept_length}
+use Rattle.scan_core.proofs.Sounding.{is_told, frames_kept}
 use Rattle.scan_core.proofs.frames.Frames.next_pair.Goals as goal
 
 pub next_told-requires-clause-high : goal.next_told-requires-clause-high
-next_told-requires-clause-high c =
-    let states = ap (λ (frames : Frames). length frames.states) c.self.view_is in
-    omega (arith, c.requires.high, states, kept_length c.self.inside c.self.invariant, ap length c.deref.ensures.value)
+next_told-requires-clause-high c = omega (arith, c.requires.high, frames_kept c.self.inside c.self.invariant c.self.view_is, ap length c.deref.ensures.value)
 
 told : (z : Inside) → IsSound z → (kept : List FrameState) (numbers : set.FinSet nat_cmp) → kept ≡ z.kept.items → numbers ≡ z.free → IsTold (seen z.held z.kept.items) kept numbers
 told z sound kept numbers same free =
@@ -34,6 +32,4 @@ returns-clause-step c = c.next_told.ensures.step _ (told c.self.inside c.self.in
     ∙ ap (λ (frames : Frames). next_step frames.states frames.movable c.args.marked.now c.args.fingers.now) c.self.view_is
 
 pub returns-clause-high : goal.returns-clause-high
-returns-clause-high c =
-    let states = ap (λ (frames : Frames). length frames.states) c.self.view_is in
-    omega (arith, c.next_told.ensures.high, states, kept_length c.self.inside c.self.invariant, ap length c.deref.ensures.value)
+returns-clause-high c = omega (arith, c.next_told.ensures.high, frames_kept c.self.inside c.self.invariant c.self.view_is, ap length c.deref.ensures.value)
