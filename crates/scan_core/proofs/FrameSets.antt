@@ -4,7 +4,7 @@ use Rattle.std.specs.Prelude.{Some, None, nat_eq, nat_lt, slice_get, slice_set, 
 use Rattle.std.specs.FinSet as set
 use Rattle.std.specs.Ordering.{nat_cmp}
 use Rattle.std.proofs.lemmas.Bool.{ne_eqb, lt-ltb, le-ltb, ltb-true, eqb-true, true_from_ne_false}
-use Rattle.std.proofs.lemmas.Bool.Decides.{eqb_tells, leb_tells}
+use Rattle.std.proofs.lemmas.Bool.Decides.{eqb_tells, leb_tells, nat_tests}
 use Rattle.std.proofs.lemmas.Option.{get_or_from_slice_get}
 use Rattle.frame_core.specs.Below.{count_below, count_from, lowest, one_if, some_below}
 use Rattle.frame_core.specs.Order.{is_aligned}
@@ -25,19 +25,13 @@ use Rattle.scan_core.proofs.Spanning.{all_members, same_by, both, in_run_is, is_
 
 -- a test stays as it was where the one number that is written had that value already
 pub keep_if : (k frame : ℕ) (p : ℕ → Bool) (m : Bool) → p frame ≡ m → p k ≡ (if nat_eq k frame then m else p k)
-keep_if k frame p m is = elim (eqb_tells k frame) [
-  | inl at ↦ (ap p at.1 ∙ is ∙ sym (ap (λ b. if b then m else p k) (eq-eqb k frame at.1)))
-  | inr away ↦ sym (ap (λ b. if b then m else p k) (ne_eqb k frame away.1))
-]
+keep_if k frame p m is = grind (arith, nat_tests, is)
 
 pub one_run : (frame k : ℕ) → in_run frame 1 k ≡ nat_eq k frame
-one_run frame k = same_by (in_run frame 1 k) (nat_eq k frame)
-    (λ e. let is = in_run_is frame 1 k e in eq-eqb k frame (omega (arith, is)))
-    (λ e. let at = eqb-true k frame e in is_in_run frame 1 k (omega (arith, at)) (omega (arith, at)))
+one_run frame k = grind (arith, nat_tests)
 
 restore : (b x : Bool) → (b ≡ true → x ≡ true) → x ≡ (b || (not b && x))
-restore true x e = e refl
-restore false x e = refl
+restore b x keeps = grind (arith, keeps)
 
 -- r is p without the numbers of a run
 pub takes_run : (p r : ℕ → Bool) (first m : ℕ) → ((k : ℕ) → in_run first m k ≡ true → p k ≡ true) → ((k : ℕ) → r k ≡ (not (in_run first m k) && p k)) → Adds r p first m
@@ -196,12 +190,7 @@ module _ (p : ℕ → Bool) (order frames : ℕ) (low : 3 ≤ order) (high : ord
 
 -- the free frames of a list, put into a set one after another
 pub one_more_free : (states : List FrameState) (s t : set.FinSet nat_cmp) (i number : ℕ) (free : Bool) → number ≡ i → free_at states i ≡ free → ((n : ℕ) → set.contains s n ≡ (nat_lt n i && free_at states n)) → ((n : ℕ) → set.contains t n ≡ (if nat_eq n number then free else set.contains s n)) → (n : ℕ) → set.contains t n ≡ (nat_lt n (i + 1) && free_at states n)
-one_more_free states s t i number free at is before put n = put n ∙ ap (λ k. if nat_eq n k then free else set.contains s n) at ∙ elim (eqb_tells n i) [
-  | inl here ↦ (ap (λ b. if b then free else set.contains s n) (eq-eqb n i here.1) ∙ sym is ∙ ap (free_at states) (sym here.1)
-      ∙ sym (ap (λ b. b && free_at states n) (lt-ltb n (i + 1) (omega (arith, here.1)))))
-  | inr away ↦ (ap (λ b. if b then free else set.contains s n) (ne_eqb n i away.1) ∙ before n ∙ ap (λ b. b && free_at states n)
-      (same_by (nat_lt n i) (nat_lt n (i + 1)) (λ e. let h = ltb-true n i e in lt-ltb n (i + 1) (omega (arith, h))) (λ e. let h = ltb-true n (i + 1) e in lt-ltb n i (omega (arith, h, away.1)))))
-]
+one_more_free states s t i number free at is before put n = grind (arith, nat_tests, at, is, before n, put n)
 
 pub none_free_yet : (states : List FrameState) (s : set.FinSet nat_cmp) → s ≡ set.empty → (n : ℕ) → set.contains s n ≡ (nat_lt n 0 && free_at states n)
 none_free_yet states s none n = ap (λ t. set.contains t n) none ∙ set.contains-empty nat_cmp n ∙ sym (ap (λ b. b && free_at states n) (le-ltb n 0 (omega arith)))

@@ -5,7 +5,7 @@ use Rattle.std.specs.Int.{bit_at, trailing_zeros}
 use Rattle.std.proofs.Math.Bool.{and-false, and_comm, or-false, or-true, or_comm}
 pub use Rattle.std.proofs.Math.Bool.{and-true as and_true}
 use Rattle.std.proofs.lemmas.Bool.{ne_eqb, ltb-false, ltb-true, lt-ltb}
-use Rattle.std.proofs.lemmas.Bool.Decides.{eqb_tells, leb_tells}
+use Rattle.std.proofs.lemmas.Bool.Decides.{eqb_tells, leb_tells, nat_tests}
 use Rattle.std.proofs.lemmas.Nat.Bits.{bit_at-zero, bit_at_and, bit_at_or, bit_at_not, bit_at-lt, bit_at-pow_same, bit_at-pow_other, bit_at-trailing_zeros}
 use Rattle.std.proofs.lemmas.List.{get_or_past}
 use Rattle.std.proofs.Math.Nat.{mod-eq_of_lt}
@@ -17,23 +17,13 @@ clash true e f = cc
 clash false e f = cc
 
 one_max : (m n : ℕ) → m < 2 → n < 2 → nat_eq (max m n) 1 ≡ (nat_eq m 1 || nat_eq n 1)
-one_max zero zero h l = refl
-one_max zero (suc zero) h l = refl
-one_max (suc zero) zero h l = refl
-one_max (suc zero) (suc zero) h l = refl
-one_max _ _ h l = absurd (omega arith)
+one_max m n h l = grind (arith, nat_tests, h, l)
 
 one_min : (m n : ℕ) → m < 2 → n < 2 → nat_eq (min m n) 1 ≡ (nat_eq m 1 && nat_eq n 1)
-one_min zero zero h l = refl
-one_min zero (suc zero) h l = refl
-one_min (suc zero) zero h l = refl
-one_min (suc zero) (suc zero) h l = refl
-one_min _ _ h l = absurd (omega arith)
+one_min m n h l = grind (arith, nat_tests, h, l)
 
 one_less : (m : ℕ) → m < 2 → nat_eq (1 - m) 1 ≡ not (nat_eq m 1)
-one_less zero h = refl
-one_less (suc zero) h = refl
-one_less (suc (suc m)) h = absurd (omega arith)
+one_less m h = grind (arith, nat_tests, h)
 
 pub has_bit_or : (a b i : ℕ) → has_bit (bit_or a b) i ≡ (has_bit a i || has_bit b i)
 has_bit_or a b i = ap (λ n. nat_eq n 1) (bit_at_or a b i) ∙ one_max (bit_at a i) (bit_at b i) (bit_at-lt a i) (bit_at-lt b i)
@@ -69,12 +59,10 @@ pub pow_below : (k : ℕ) → k < 64 → 1 * 2 ^ k % 2 ^ 64 < 2 ^ 64
 pow_below k h = let below : 2 ^ k < 2 ^ 64 = pow-lt h in omega (arith, pow_fits k h)
 
 pub insert_if : (b x m : Bool) → m ≡ true → (b || x) ≡ (if b then m else x)
-insert_if true x m e = sym e
-insert_if false x m e = refl
+insert_if b x m e = grind (arith, e)
 
 pub remove_if : (b x m : Bool) → m ≡ false → (not b && x) ≡ (if b then m else x)
-remove_if true x m e = sym e
-remove_if false x m e = refl
+remove_if b x m e = grind (arith, e)
 
 -- the summary after the words of a mask lost their bits
 pub unmarked : (summary words bits i : ℕ) → words < 2 ^ 64 → i < 64 → bits ≡ 0 → has_bit (bit_and summary (2 ^ 64 - 1 - words)) i ≡ (if has_bit words i then nat_lt 0 bits else has_bit summary i)
@@ -96,8 +84,7 @@ marked summary words bits i some =
 
 -- a summary still agrees with its words after those of a mask got new bits
 pub summed : (words new : List ℕ) (summary now bits i : ℕ) (m : Bool) → has_bit summary i ≡ nat_lt 0 (slice_index words i) → slice_index new i ≡ (if m then bits else slice_index words i) → has_bit now i ≡ (if m then nat_lt 0 bits else has_bit summary i) → has_bit now i ≡ nat_lt 0 (slice_index new i)
-summed words new summary now bits i true each word is = is ∙ ap (nat_lt 0) (sym word)
-summed words new summary now bits i false each word is = is ∙ each ∙ ap (nat_lt 0) (sym word)
+summed words new summary now bits i m each word is = grind (arith, each, word, is)
 
 -- the words after one of them got new bits
 pub one_word : (words : List ℕ) (word bits i : ℕ) → word < length words → slice_index (slice_set words word bits) i ≡ (if nat_eq i word then bits else slice_index words i)

@@ -6,7 +6,7 @@ use Rattle.std.specs.Ordering.{nat_cmp}
 use Rattle.std.specs.Cmp.{nat_cmp_total, unsigned_tied}
 use Rattle.std.specs.FinSet as set
 use Rattle.std.proofs.lemmas.Bool.{ne_eqb}
-use Rattle.std.proofs.lemmas.Bool.Decides.{eqb_tells, leb_tells}
+use Rattle.std.proofs.lemmas.Bool.Decides.{eqb_tells, leb_tells, nat_tests}
 use Rattle.std.proofs.lemmas.List.{get_or_past}
 use Rattle.std.proofs.lemmas.Nat.Bits.{shr_and_one, bit_at-trailing_zeros}
 use Rattle.frame_core.specs.Below.{lowest}
@@ -66,13 +66,7 @@ pub only_bit : (number n : ℕ) → (nat_eq (n / 64) (number / 64) && has_bit (1
 only_bit number n =
     let low : number % 64 < 64 = omega arith in
     ap (λ b. nat_eq (n / 64) (number / 64) && b) (has_bit_pow (number % 64) (n % 64) low)
-    ∙ elim (eqb_tells (n / 64) (number / 64)) [
-      | inl at ↦ (ap (λ b. b && nat_eq (n % 64) (number % 64)) (eq-eqb (n / 64) (number / 64) at.1) ∙ elim (eqb_tells (n % 64) (number % 64)) [
-        | inl same ↦ (eq-eqb (n % 64) (number % 64) same.1 ∙ sym (eq-eqb n number (omega (arith, at.1, same.1))))
-        | inr other ↦ (ne_eqb (n % 64) (number % 64) other.1 ∙ sym (ne_eqb n number (λ e. other.1 (ap (λ k. k % 64) e))))
-      ])
-      | inr away ↦ (ap (λ b. b && nat_eq (n % 64) (number % 64)) (ne_eqb (n / 64) (number / 64) away.1) ∙ sym (ne_eqb n number (λ e. away.1 (ap (λ k. k / 64) e))))
-    ]
+    ∙ grind (arith, nat_tests)
 
 -- the lowest number stands in the first word that isn't empty
 pub lowest_number : (words : List ℕ) (word : ℕ) (bits : ℕ) → length words ≡ 64 → IsFirstWord words word → bits ≡ slice_index words word → bits < 2 ^ 64 → lowest (has_number words) capacity ≡ Some (64 * word + trailing_zeros w64 bits)

@@ -2,7 +2,7 @@
 use Rattle.std.proofs.Common.{◌≡◌, ◌≢◌, ℕ, zero, suc, ◌+◌, ◌-◌, ◌*◌, ◌/◌, ◌%◌, ◌<◌, ◌≤◌, Bool, true, false, List, inl, inr, sym, ap, ◌∙◌, slice_index, length-set, arith}
 use Rattle.std.specs.Prelude.{Some, nat_eq, slice_set, ◌||◌}
 use Rattle.std.proofs.lemmas.Bool.{ne_eqb, or_right}
-use Rattle.std.proofs.lemmas.Bool.Decides.{eqb_tells}
+use Rattle.std.proofs.lemmas.Bool.Decides.{eqb_tells, nat_tests}
 use Rattle.std.proofs.lemmas.Option.{get_or_from_slice_get}
 use Rattle.frame_core.specs.Below.{count_below, count_from}
 use Rattle.frame_core.proofs.Lists.{slice_get_set_same, slice_get_set_other}
@@ -41,9 +41,7 @@ module _ (p r : ℕ → Bool) (first m : ℕ) (low : first < 4096) (within : fir
   all_more = count_run p r first m capacity (omega (arith, capacity_is)) adds
 
   in_block : (k : ℕ) → in_run first m (512 * (first / 512) + k) ≡ in_run (first % 512) m k
-  in_block k = same_by _ _
-      (λ e. let is = in_run_is first m (512 * (first / 512) + k) e in is_in_run (first % 512) m k (omega (arith, is.0)) (omega (arith, is.1)))
-      (λ e. let is = in_run_is (first % 512) m k e in is_in_run first m (512 * (first / 512) + k) (omega (arith, is.0)) (omega (arith, is.1)))
+  in_block k = grind (arith, nat_tests)
 
   pub block_more : count_in_block r (first / 512) ≡ count_in_block p (first / 512) + m
   unfolding count_from

@@ -3,7 +3,7 @@ use Rattle.std.proofs.Common.{◌≡◌, ℕ, zero, suc, ◌+◌, ◌<◌, ◌�
 use Rattle.std.specs.Prelude.{Option, Some, None, nat_eq, slice_get, slice_set, if◌then◌else◌, ◌&&◌, ◌||◌}
 use Rattle.std.proofs.lemmas.Bool.{ne_eqb}
 pub use Rattle.std.proofs.lemmas.Bool.{cond-true as taken, cond-false as skipped}
-use Rattle.std.proofs.lemmas.Bool.Decides.{eqb_tells}
+use Rattle.std.proofs.lemmas.Bool.Decides.{eqb_tells, nat_tests}
 use Rattle.std.proofs.lemmas.Option.{slice_get_past}
 use Rattle.frame_core.proofs.Lists.{slice_get_set_same, slice_get_set_other}
 use Rattle.frame_core.specs.declared.state.FrameState.{FrameState}
@@ -69,13 +69,7 @@ pub run_none : (first n : ℕ) → in_run first zero n ≡ false
 run_none first n = same_by (in_run first zero n) false (λ e. let is = in_run_is first zero n e in absurd (omega (arith, is))) (λ e. cc)
 
 pub run_next : (first count n : ℕ) → in_run first (suc count) n ≡ (nat_eq n (first + count) || in_run first count n)
-run_next first count n = elim (eqb_tells n (first + count)) [
-  | inl at ↦ (is_in_run first (suc count) n (omega (arith, at.1)) (omega (arith, at.1)) ∙ sym (ap (λ b. b || in_run first count n) (eq-eqb n (first + count) at.1)))
-  | inr away ↦ (same_by (in_run first (suc count) n) (in_run first count n)
-      (λ e. let is = in_run_is first (suc count) n e in is_in_run first count n is.0 (omega (arith, is.1, away.1)))
-      (λ e. let is = in_run_is first count n e in is_in_run first (suc count) n is.0 (omega (arith, is.1)))
-      ∙ sym (ap (λ b. b || in_run first count n) (ne_eqb n (first + count) away.1)))
-]
+run_next first count n = grind (arith, nat_tests)
 
 pub length_with_run : (states : List FrameState) (first count : ℕ) (state : FrameState) → length (with_run states first count state) ≡ length states
 unfolding with_run

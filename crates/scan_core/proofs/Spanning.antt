@@ -4,7 +4,7 @@ use Rattle.std.specs.Prelude.{nat_eq, nat_le, nat_lt, ◌&&◌, ◌||◌, bit_an
 use Rattle.std.specs.Int.{bit_at}
 use Rattle.std.proofs.lemmas.Bool.{ne_eqb, ltb-true, leb-true, lt-ltb, le-leb, le-ltb, lt-leb, eqb-true}
 pub use Rattle.std.proofs.lemmas.Bool.{and_parts as both}
-use Rattle.std.proofs.lemmas.Bool.Decides.{eqb_tells, leb_tells}
+use Rattle.std.proofs.lemmas.Bool.Decides.{eqb_tells, leb_tells, nat_tests}
 use Rattle.std.proofs.lemmas.Nat.{pow-add, pow_pos, and_le_r}
 use Rattle.std.proofs.lemmas.Nat.Bits.{bit_at_and, bit_at_mask_inside, bit_at_mask_below, bit_at_mask_above, same_from_bits_below, bit_at-lt}
 use Rattle.std.proofs.Math.Nat.{mod-eq_of_lt, mod-lt, mul-sub}
@@ -44,9 +44,7 @@ pub ones_from : (count start i : ℕ) → count < 64 → start + count ≤ 64 �
 ones_from count start i few fits = ap (λ n. has_bit ((n - 1) * 2 ^ start % 2 ^ 64) i) (pow_fits count few) ∙ ones_shifted count start i fits
 
 pub same_by : (a b : Bool) → (a ≡ true → b ≡ true) → (b ≡ true → a ≡ true) → a ≡ b
-same_by true b to from = sym (to refl)
-same_by false true to from = from refl
-same_by false false to from = refl
+same_by a b to from = grind (arith, to, from)
 
 pub in_run_is : (first count n : ℕ) → in_run first count n ≡ true → (first ≤ n) × (n < first + count)
 in_run_is first count n e = let parts = both (nat_le first n) (nat_lt n (first + count)) e in (leb-true first n parts.0, ltb-true n (first + count) parts.1)
@@ -64,13 +62,7 @@ pub no_words : (start n : ℕ) → in_words start start n ≡ false
 no_words start n = same_by (in_words start start n) false (λ e. let is = in_words_is start start n e in absurd (omega (arith, is))) (λ e. cc)
 
 word_more : (start word n : ℕ) → start ≤ word → in_words start (word + 1) n ≡ (nat_eq (n / 64) word || in_words start word n)
-word_more start word n low = elim (eqb_tells (n / 64) word) [
-  | inl at ↦ (is_in_words start (word + 1) n (omega (arith, at.1)) (omega (arith, at.1)) ∙ sym (ap (λ b. b || in_words start word n) (eq-eqb (n / 64) word at.1)))
-  | inr away ↦ (same_by (in_words start (word + 1) n) (in_words start word n)
-      (λ e. let is = in_words_is start (word + 1) n e in is_in_words start word n is.0 (omega (arith, is.1, away.1)))
-      (λ e. let is = in_words_is start word n e in is_in_words start (word + 1) n is.0 (omega (arith, is.1)))
-      ∙ sym (ap (λ b. b || in_words start word n) (ne_eqb (n / 64) word away.1)))
-]
+word_more start word n low = grind (arith, nat_tests, low)
 
 or_more : (e w h x : Bool) → (((e || w) && h) || x) ≡ ((e && h) || ((w && h) || x))
 or_more e w h x = grind arith
@@ -88,20 +80,7 @@ cleared_more start word n h x low = sym (ap (λ b. not (b && h) && x) (word_more
 
 -- the numbers of a run are those of its words whose bit is one of its bits there
 run_by_words : (first count words bits n : ℕ) → SpanFits first count words bits → (in_words (first / 64) (first / 64 + words) n && in_run (first % 64) bits (n % 64)) ≡ in_run first count n
-run_by_words first count words bits n fits =
-    same_by _ (in_run first count n)
-    (λ e. let parts = both (in_words (first / 64) (first / 64 + words) n) (in_run (first % 64) bits (n % 64)) e in
-    let word = in_words_is (first / 64) (first / 64 + words) n parts.0 in
-    let bit = in_run_is (first % 64) bits (n % 64) parts.1 in
-    elim fits [
-      | inl part ↦ is_in_run first count n (omega (arith, word, bit, part)) (omega (arith, word, bit, part))
-      | inr whole ↦ is_in_run first count n (omega (arith, word, bit, whole)) (omega (arith, word, bit, whole))
-    ])
-    (λ e. let is = in_run_is first count n e in
-    elim fits [
-      | inl part ↦ (λ i. is_in_words (first / 64) (first / 64 + words) n (omega (arith, is)) (omega (arith, is, part)) i && is_in_run (first % 64) bits (n % 64) (omega (arith, is, part)) (omega (arith, is, part)) i)
-      | inr whole ↦ (λ i. is_in_words (first / 64) (first / 64 + words) n (omega (arith, is)) (omega (arith, is, whole)) i && is_in_run (first % 64) bits (n % 64) (omega (arith, is, whole)) (omega (arith, is, whole)) i)
-    ])
+run_by_words first count words bits n fits = elim fits [ inl part ↦ grind (arith, nat_tests, part) | inr whole ↦ grind (arith, nat_tests, whole) ]
 
 pub spanned : (span : Span) (first count words bits : ℕ) → first < 4096 → SpanFits first count words bits → first + count ≤ 4096 → span.start ≡ first / 64 → span.end ≡ first / 64 + words → span.mask ≡ (2 ^ bits - 1) * 2 ^ (first % 64) % 2 ^ 64 → Spans span first count
 spanned span first count words bits low fits most start end mask =
@@ -125,10 +104,7 @@ span_of_words first order at words bits ones pair is parts low aligned fits ones
 
 -- the numbers of a pageblock are those of its eight words
 block_words : (first n : ℕ) → first / 512 * 512 ≡ first → in_run (first / 64) 8 (n / 64) ≡ in_run first 512 n
-block_words first n aligned =
-    same_by (in_run (first / 64) 8 (n / 64)) (in_run first 512 n)
-    (λ e. let is = in_run_is (first / 64) 8 (n / 64) e in is_in_run first 512 n (omega (arith, is.0)) (omega (arith, is.1)))
-    (λ e. let is = in_run_is first 512 n e in is_in_run (first / 64) 8 (n / 64) (omega (arith, is.0)) (omega (arith, is.1)))
+block_words first n aligned = grind (arith, nat_tests, aligned)
 
 -- the numbers after the eight words of a pageblock were all filled or cleared
 block_members : (words new : List ℕ) (s : set.FinSet nat_cmp) (first bits : ℕ) (b : Bool) → numbers_of words ≡ s → length words ≡ 64 → length new ≡ length words → first / 512 * 512 ≡ first → ((word : ℕ) → slice_index new word ≡ (if in_run (first / 64) 8 word then bits else slice_index words word)) → ((i : ℕ) → i < 64 → has_bit bits i ≡ b) → (n : ℕ) → set.contains (numbers_of new) n ≡ (if in_run first 512 n then b else set.contains s n)
